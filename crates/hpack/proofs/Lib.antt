@@ -1,0 +1,12 @@
+pub mod Writings
+pub mod Evictions
+pub mod Lookups
+pub mod Tools
+pub mod Continuations
+pub mod Numbers
+pub mod Strings
+pub mod Fields
+pub mod Steps
+pub mod Faults
+pub mod Blocks
+pub mod Encodings

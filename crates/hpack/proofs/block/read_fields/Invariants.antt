@@ -1,0 +1,10 @@
+use Rattle.std.proofs.Common.{◌≡◌, length}
+use Rattle.hpack.specs.Block.{fields_of, list_limit}
+use Rattle.hpack.proofs.Steps.{after_front}
+use Rattle.hpack.proofs.block.read_fields.Given as goal
+
+abbrev pub invariant-fields : goal.invariant-fields
+invariant-fields l = after_front l.fields.items (fields_of l.room l.table l.left) ≡ fields_of list_limit l.fn.table l.bytes
+
+abbrev pub decreases-fields : goal.decreases-fields
+decreases-fields l = length l.left

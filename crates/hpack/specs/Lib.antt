@@ -1,0 +1,10 @@
+pub mod Header
+pub mod Results
+pub mod Integer
+pub mod StringLiteral
+pub mod StaticTable
+pub mod Table
+pub mod Representation
+pub mod Block
+pub mod Encoding
+pub mod Shown

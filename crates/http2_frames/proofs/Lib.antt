@@ -1,0 +1,10 @@
+pub mod Taking
+pub mod Fronts
+pub mod Splits
+pub mod Steps
+pub mod SettingsLists
+pub mod Written
+pub mod Divisions
+pub mod MoreBytes
+pub mod Again
+pub mod Padding

@@ -1,0 +1,45 @@
+-- What a reader of frames holds, and what that stands for.
+use Rattle.std.specs.Prelude.{◌≡◌, ℕ, ◌<◌, ◌≤◌, ◌^◌, List, [], ◌∷◌, ◌++◌, length, Option, Some, None, Result, Ok, Err}
+use Rattle.http2_frames.specs.declared.error.FrameError.{FrameError}
+use Rattle.http2_frames.specs.declared.frame.RawFrame.{RawFrame}
+use Rattle.http2_frames.specs.Wire.{Split}
+use Rattle.http2_frames.specs.Reading.{split, behind, fault_only}
+
+-- what a reader has not given yet: the preface, where it has to come still, and bytes
+pub record Unread : Type 0 where
+  pub preface : List ℕ
+  pub text : List ℕ
+
+abbrev pub unread_of : List ℕ → List ℕ → Option FrameError → Result Unread FrameError
+unread_of preface text None = Ok (record { preface = preface; text = text })
+unread_of preface text (Some e) = Err e
+
+-- the bytes that it keeps
+abbrev pub text_left : Result Unread FrameError → List ℕ
+text_left (Ok u) = u.text
+text_left (Err e) = []
+
+abbrev pub split_left : Result Unread FrameError → Split
+split_left (Ok u) = split u.preface u.text
+split_left (Err e) = fault_only e
+
+abbrev pub followed_by : Result Unread FrameError → List ℕ → Result Unread FrameError
+followed_by (Ok u) more = Ok (record { preface = u.preface; text = u.text ++ more })
+followed_by (Err e) more = Err e
+
+-- the reader has given these frames of the text, and will give the others, whatever follows
+abbrev pub StandsFor : List ℕ → Result Unread FrameError → List ℕ → List RawFrame → Type 0
+StandsFor preface reader text given = (more : List ℕ) → split preface (text ++ more) ≡ behind given (split_left (followed_by reader more))
+
+-- the frames in an answer
+abbrev pub frames_in : Result (Option RawFrame) FrameError → List RawFrame
+frames_in (Ok None) = []
+frames_in (Ok (Some f)) = f ∷ []
+frames_in (Err e) = []
+
+-- a frame as it can stand on the wire
+pub record IsFrame (f : RawFrame) : Type 0 where
+  pub kind : f.kind < 2 ^ 8
+  pub flags : f.flags < 2 ^ 8
+  pub stream : f.stream < 2 ^ 31
+  pub short : length f.payload ≤ 16384

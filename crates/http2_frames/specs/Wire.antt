@@ -1,0 +1,66 @@
+-- Frames on the wire (RFC 9113, section 4.1): which bytes are a frame, and how a text divides into frames.
+use Rattle.std.specs.Prelude.{◌≡◌, ◌≢◌, ℕ, ◌+◌, ◌%◌, ◌^◌, ◌<◌, ◌≤◌, ◌⊎◌, List, [], ◌∷◌, ◌++◌, length, Result, Ok, Err}
+use Rattle.byteorder.specs.Endian.{big_number}
+use Rattle.http2_frames.specs.declared.error.FrameError.{FrameError}
+use Rattle.http2_frames.specs.declared.error.FrameError.TheVariants.{Preface, Size}
+use Rattle.http2_frames.specs.declared.frame.RawFrame.{RawFrame}
+
+-- 24 bits of length, 8 of type, 8 of flags, a reserved bit, 31 of stream number, and the payload
+pub record IsFrameText (text : List ℕ) (f : RawFrame) : Type 0 where
+  pub size : List ℕ
+  pub number : List ℕ
+  pub parts : text ≡ size ++ f.kind ∷ f.flags ∷ number ++ f.payload
+  pub three : length size ≡ 3
+  pub sized : big_number 3 size ≡ length f.payload
+  pub four : length number ≡ 4
+  -- the reserved bit is ignored
+  pub stream : big_number 4 number % 2 ^ 31 ≡ f.stream
+  -- no more than the initial value of SETTINGS_MAX_FRAME_SIZE (section 4.2)
+  pub short : length f.payload ≤ 16384
+
+-- one frame after another, and nothing else
+abbrev pub Spells : List ℕ → List RawFrame → Type 0
+Spells text [] = text ≡ []
+Spells text (f ∷ fs) = (front : List ℕ) × (rest : List ℕ) × (text ≡ front ++ rest) × IsFrameText front f × Spells rest fs
+
+-- what a text divides into: whole frames, and then a rest or a fault
+pub record Split : Type 0 where
+  pub frames : List RawFrame
+  pub end : Result (List ℕ) FrameError
+
+-- less than a whole frame, or the head of a frame that is too long
+abbrev pub IsEnd : List ℕ → Result (List ℕ) FrameError → Type 0
+IsEnd bytes (Ok rest) = (bytes ≡ rest) × ((length bytes < 9) ⊎ (big_number 3 bytes ≤ 16384) × (length bytes < 9 + big_number 3 bytes))
+IsEnd bytes (Err e) = (e ≡ Size) × (9 ≤ length bytes) × (16384 < big_number 3 bytes)
+
+-- the text is these frames, and then its end
+pub record IsInFrames (text : List ℕ) (s : Split) : Type 0 where
+  pub front : List ℕ
+  pub rest : List ℕ
+  pub parts : text ≡ front ++ rest
+  pub frames : Spells front s.frames
+  pub end : IsEnd rest s.end
+
+-- the text goes as the preface does, and then another way
+pub record Leaves (preface text : List ℕ) : Type 0 where
+  pub same : List ℕ
+  pub wanted : ℕ
+  pub found : ℕ
+  pub rest : List ℕ
+  pub more : List ℕ
+  pub preface_is : preface ≡ same ++ wanted ∷ rest
+  pub text_is : text ≡ same ++ found ∷ more
+  pub other : found ≢ wanted
+
+-- the text is less than the preface
+pub record IsCutShort (preface text : List ℕ) : Type 0 where
+  pub next : ℕ
+  pub rest : List ℕ
+  pub preface_is : preface ≡ text ++ next ∷ rest
+
+-- how a whole received text divides behind a preface
+abbrev pub IsSplit : List ℕ → List ℕ → Split → Type 0
+IsSplit preface text s =
+    ((after : List ℕ) × (text ≡ preface ++ after) × IsInFrames after s)
+    ⊎ ((IsCutShort preface text × (s ≡ record { frames = []; end = Ok text }))
+    ⊎ (Leaves preface text × (s ≡ record { frames = []; end = Err Preface })))

@@ -1,0 +1,21 @@
+-- Header blocks (RFC 9113 section 4.3): the fragments of one HEADERS frame and the CONTINUATION frames after it.
+use Rattle.std.specs.Prelude.{ℕ, ◌+◌, ◌||◌, ◌++◌, nat_lt, Bool, List, length}
+
+pub record HeaderBlock : Type 0 where
+  pub stream : ℕ
+  -- the HEADERS frame had END_STREAM
+  pub end_stream : Bool
+  -- how many CONTINUATION frames
+  pub continuations : ℕ
+  -- all fragments, joined
+  pub fragment : List ℕ
+
+abbrev pub begun : ℕ → Bool → List ℕ → HeaderBlock
+begun stream end_stream fragment = record { stream = stream; end_stream = end_stream; continuations = 0; fragment = fragment }
+
+abbrev pub continued : List ℕ → HeaderBlock → HeaderBlock
+continued fragment b = record b { continuations = b.continuations + 1; fragment = b.fragment ++ fragment }
+
+-- more than the server takes: section 10.5.1 leaves the limits to it
+abbrev pub is_excessive : HeaderBlock → Bool
+is_excessive b = nat_lt 32 b.continuations || nat_lt 65536 (length b.fragment)

@@ -1,0 +1,3 @@
+pub mod HeaderBlock
+pub mod Decoding
+pub mod Shown

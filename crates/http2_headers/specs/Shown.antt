@@ -1,0 +1,17 @@
+-- What values of the code stand for.
+use Rattle.std.specs.Prelude.{◌≤◌, length, Option, Some, None}
+use Rattle.hpack.specs.Table.{Table}
+use Rattle.http2_headers.specs.declared.header_blocks.Fragments.{Fragments}
+use Rattle.http2_headers.specs.HeaderBlock.{HeaderBlock}
+
+abbrev pub block_shown : Fragments → HeaderBlock
+block_shown f = record { stream = f.stream; end_stream = f.end_stream; continuations = f.continuations; fragment = f.bytes.items }
+
+abbrev pub table_shown : Option (Option Table) → Option Table
+table_shown None = None
+table_shown (Some t) = t
+
+-- what is kept of a block is no more than is taken
+abbrev pub IsBounded : Option HeaderBlock → Type 0
+IsBounded None = Unit {0}
+IsBounded (Some b) = (b.continuations ≤ 32) × (length b.fragment ≤ 65536)

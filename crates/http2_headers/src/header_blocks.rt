@@ -1,0 +1,207 @@
+//! The header blocks of one connection, in the order in which they come.
+
+ghost use Rattle.std.specs.Prelude.{◌≡◌, ◌≤◌, ◌<◌, ◌+◌, ◌++◌, length, Option, Some, None, IsSome, IfSome, OnOk, OnErr, IfOk, Ok, Err, option_map};
+ghost use Rattle.hpack.specs.Block.{step};
+ghost use Rattle.http2_headers.specs.HeaderBlock.{begun, continued, is_excessive};
+ghost use Rattle.http2_headers.specs.Shown.{block_shown};
+ghost use Rattle.http2_headers.specs.Decoding.{new_state, failed_state, given, kept, given_next, kept_next, Gives, list_of};
+
+use crate::fault::H2Fault;
+use hpack::{Decoder, Headers, HpackError};
+use http2_frames::ErrorCode;
+use std::alloc::Global;
+use std::marker::Model;
+use std::mem;
+
+/// The longest block that is taken, in bytes.
+pub const MAX_BLOCK: usize = 65536;
+
+/// The most CONTINUATION frames of one block.
+pub const MAX_CONTINUATIONS: u32 = 32;
+
+/// The fields of a whole header block.
+#[derive(Drop)]
+pub struct HeaderList {
+    pub stream: u32,
+    /// The block's HEADERS frame had END_STREAM.
+    pub end_stream: bool,
+    pub fields: Headers,
+}
+
+#[derive(Drop)]
+struct Fragments {
+    stream: u32,
+    end_stream: bool,
+    continuations: u32,
+    bytes: Vec<u8>,
+}
+
+/// Reads the header blocks of a connection. After a refusal it refuses all others.
+#[derive(Drop)]
+pub struct HeaderBlocks {
+    unfinished: Option<Fragments>,
+    /// None after a refusal.
+    decoder: Option<Decoder>,
+    alloc: Global,
+}
+
+impl Model for HeaderBlocks {
+    ghost use Rattle.std.specs.Prelude.{option_map};
+    ghost use Rattle.http2_headers.specs.Decoding.{HeaderState};
+    ghost use Rattle.http2_headers.specs.Shown.{block_shown, table_shown, IsBounded};
+
+    ghost Value = { HeaderState };
+
+    ghost view = { λ h. record { unfinished = option_map block_shown h.unfinished; table = table_shown h.decoder } };
+
+    ghost invariant = { λ h. IsBounded (option_map block_shown h.unfinished) };
+}
+
+impl HeaderBlocks {
+    pub fn new(alloc: Global) -> Self
+        ensures { result ≡ new_state }
+    {
+        HeaderBlocks {
+            unfinished: None,
+            decoder: Some(Decoder::new(alloc)),
+            alloc,
+        }
+    }
+
+    /// The stream whose header block is not at its end yet.
+    pub fn unfinished_stream(&self) -> Option<u32>
+        ensures { result ≡ option_map (λ b. b.stream) self.now.unfinished }
+    {
+        match &self.unfinished {
+            Some(fragments) => Some(fragments.stream),
+            None => None,
+        }
+    }
+
+    /// Takes a HEADERS frame, with which a block begins. Its fields are there where it has END_HEADERS.
+    pub fn begin(
+        &mut self,
+        stream: u32,
+        end_stream: bool,
+        end_headers: bool,
+        fragment: &[u8],
+    ) -> Result<Option<HeaderList>, H2Fault>
+        ensures given { Gives result (given self.old.table end_headers (begun stream end_stream fragment.now)) }
+        ensures kept { OnOk result (self.new ≡ kept self.old.table end_headers (begun stream end_stream fragment.now)) }
+        ensures failed { OnErr result (self.new ≡ failed_state) }
+    {
+        let outcome = self.begin_block(stream, end_stream, end_headers, fragment);
+        if outcome.is_err() {
+            self.fail();
+        }
+        outcome
+    }
+
+    /// Takes a CONTINUATION frame of the unfinished block. Its fields are there where this has END_HEADERS.
+    pub fn go_on(
+        &mut self,
+        end_headers: bool,
+        fragment: &[u8],
+    ) -> Result<Option<HeaderList>, H2Fault>
+        ensures given { Gives result (given_next self.old.table self.old.unfinished end_headers fragment.now) }
+        ensures kept { OnOk result (self.new ≡ kept_next self.old.table self.old.unfinished end_headers fragment.now) }
+        ensures failed { OnErr result (self.new ≡ failed_state) }
+    {
+        let outcome = self.go_on_with_block(end_headers, fragment);
+        if outcome.is_err() {
+            self.fail();
+        }
+        outcome
+    }
+
+    fn fail(&mut self)
+        ensures { self.new ≡ failed_state }
+    {
+        self.unfinished = None;
+        self.decoder = None;
+    }
+
+    fn begin_block(
+        &mut self,
+        stream: u32,
+        end_stream: bool,
+        end_headers: bool,
+        fragment: &[u8],
+    ) -> Result<Option<HeaderList>, H2Fault>
+        ensures given { Gives result (given self.old.table end_headers (begun stream end_stream fragment.now)) }
+        ensures kept { OnOk result (self.new ≡ kept self.old.table end_headers (begun stream end_stream fragment.now)) }
+    {
+        self.unfinished = None;
+        if fragment.len() > MAX_BLOCK {
+            return Err(TOO_LARGE);
+        }
+        if end_headers {
+            return self.decode(stream, end_stream, fragment);
+        }
+        let bytes = Vec::from_slice(self.alloc, fragment)?;
+        self.unfinished = Some(Fragments {
+            stream,
+            end_stream,
+            continuations: 0,
+            bytes,
+        });
+        Ok(None)
+    }
+
+    fn go_on_with_block(
+        &mut self,
+        end_headers: bool,
+        fragment: &[u8],
+    ) -> Result<Option<HeaderList>, H2Fault>
+        ensures given { Gives result (given_next self.old.table self.old.unfinished end_headers fragment.now) }
+        ensures kept { OnOk result (self.new ≡ kept_next self.old.table self.old.unfinished end_headers fragment.now) }
+    {
+        let Some(mut block) = mem::replace(&mut self.unfinished, None) else {
+            return Err(OUT_OF_PLACE);
+        };
+        if block.continuations >= MAX_CONTINUATIONS
+            || fragment.len() > MAX_BLOCK - block.bytes.len()
+        {
+            return Err(TOO_LARGE);
+        }
+        block.bytes.extend_from_slice(fragment)?;
+        block.continuations += 1;
+        if end_headers {
+            return self.decode(block.stream, block.end_stream, &block.bytes);
+        }
+        self.unfinished = Some(block);
+        Ok(None)
+    }
+
+    /// Decodes a whole block.
+    fn decode(
+        &mut self,
+        stream: u32,
+        end_stream: bool,
+        bytes: &[u8],
+    ) -> Result<Option<HeaderList>, H2Fault>
+        requires { self.old.unfinished ≡ None }
+        ensures given { Gives result (list_of stream end_stream (step self.old.table bytes.now).0) }
+        ensures kept { OnOk result (self.new ≡ record { unfinished = None; table = (step self.old.table bytes.now).1 }) }
+    {
+        let Some(decoder) = &mut self.decoder else {
+            return Err(UNDECODABLE);
+        };
+        match decoder.block(bytes) {
+            Ok(fields) => Ok(Some(HeaderList {
+                stream,
+                end_stream,
+                fields,
+            })),
+            Err(HpackError::NoMemory) => Err(H2Fault::NoMemory),
+            Err(HpackError::ListTooLarge) => Err(TOO_LARGE),
+            Err(_) => Err(UNDECODABLE),
+        }
+    }
+}
+
+const OUT_OF_PLACE: H2Fault = H2Fault::Connection(ErrorCode::ProtocolError);
+
+const TOO_LARGE: H2Fault = H2Fault::Connection(ErrorCode::EnhanceYourCalm);
+
+const UNDECODABLE: H2Fault = H2Fault::Connection(ErrorCode::CompressionError);

@@ -1,0 +1,2 @@
+pub mod FieldSyntax
+pub mod Request

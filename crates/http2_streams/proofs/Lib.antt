@@ -1,0 +1,9 @@
+mod StreamLists
+mod Lists
+mod Bools
+mod Sides
+mod Received
+mod ReceivedBlocks
+mod Put
+mod Law
+mod PutLaw

@@ -1,0 +1,6 @@
+pub mod Diary
+pub mod Standing
+pub mod Rules
+pub mod StandsFor
+pub mod Sending
+pub mod Step

@@ -1,0 +1,238 @@
+-- What a received frame causes, by what the diary comes to. Sections are those of RFC 9113. The tests stand
+-- in the order in which they are made.
+use Rattle.std.specs.Prelude.{ℕ, ◌%◌, ◌^◌, ◌==◌, nat_lt, nat_le, if◌then◌else◌, Bool, true, not, ◌&&◌, ◌||◌, List, [], ◌∷◌, ◌++◌, length, map, Option, Some, None, Result, Ok, Err, pos, ◌+ℤ◌}
+use Rattle.std.specs.List.{list_any}
+use Rattle.std.specs.Option.{option_map_or, option_to_list}
+use Rattle.std.specs.Int.Signed.{lt_z}
+use Rattle.http2_flow.specs.Credit.{Credit, left}
+use Rattle.http2_frames.specs.declared.codes.frame_type.TheConstants.{SETTINGS, CONTINUATION}
+use Rattle.http2_frames.specs.declared.codes.flag.TheConstants.{ACK}
+use Rattle.http2_frames.specs.declared.codes.setting.TheConstants.{ENABLE_PUSH, INITIAL_WINDOW_SIZE, MAX_FRAME_SIZE}
+use Rattle.http2_frames.specs.declared.codes.ErrorCode.{ErrorCode}
+use Rattle.http2_frames.specs.declared.codes.ErrorCode.TheVariants.{ProtocolError, FlowControlError, StreamClosed, FrameSizeError, RefusedStream}
+use Rattle.http2_frames.specs.declared.settings.Setting.{Setting}
+use Rattle.http2_frames.specs.declared.error.FrameError.{FrameError}
+use Rattle.http2_frames.specs.declared.error.FrameError.TheVariants.{Preface, Size, NoMemory}
+use Rattle.http2_frames.specs.declared.frame.RawFrame.{RawFrame}
+use Rattle.http2_frames.specs.declared.frame.Frame.{Frame}
+use Rattle.http2_frames.specs.declared.frame.Frame.TheVariants.{Data, Headers, Priority, RstStream, Settings, PushPromise, Ping, GoAway, WindowUpdate, Continuation, Unknown}
+use Rattle.http2_frames.specs.Codes.{code_number}
+use Rattle.http2_frames.specs.Frames.{has_flag, frame_of}
+use Rattle.http2_headers.specs.HeaderBlock.{HeaderBlock, begun}
+use Rattle.http2_headers.specs.declared.header_blocks.HeaderList.{HeaderList}
+use Rattle.http2_headers.specs.Decoding.{given, given_next}
+use Rattle.http2_requests.specs.Request.{is_well_formed_request}
+use Rattle.http2_streams.specs.declared.stream.Stream.{Stream}
+use Rattle.http2_streams.specs.declared.event.Event.{Event}
+use Rattle.http2_streams.specs.declared.event.Event.TheVariants.{Nothing, Request, Content, Trailers, Cancel}
+use Rattle.http2_streams.specs.declared.event.StreamEvent.{StreamEvent}
+use Rattle.http2_streams.specs.Diary.{Entry, In, Out}
+use Rattle.http2_streams.specs.Standing.{Standing, standing}
+
+-- ---- what is known of a stream number
+
+abbrev pub number_is : ℕ → Stream → Bool
+number_is s x = x.number == s
+
+abbrev pub is_live_at : Standing → ℕ → Bool
+is_live_at v s = list_any (number_is s) v.live
+
+-- open or half-closed (local): the client may still send on it (section 5.1)
+abbrev pub receives : ℕ → Stream → Bool
+receives s x = x.number == s && not x.ended_by_client
+
+abbrev pub is_receiving : Standing → ℕ → Bool
+is_receiving v s = list_any (receives s) v.live
+
+abbrev pub is_remembered : Standing → ℕ → Bool
+is_remembered v s = list_any (λ t. t == s) v.remembered
+
+-- idle (section 5.1): not opened yet, or of the server's numbers, of which it uses none (section 5.1.1)
+abbrev pub is_idle : Standing → ℕ → Bool
+is_idle v s = nat_lt v.highest s || (s % 2 == 0 && not (s == 0))
+
+-- ---- answers
+
+-- the control frames that are put for a frame, in this order, and what the frame brings
+abbrev pub answer : Option Frame → Option Frame → Option Frame → Option Frame → Event → StreamEvent
+answer acknowledgement connection_update stream_update reset event = record {
+  acknowledgement = acknowledgement;
+  connection_update = connection_update;
+  stream_update = stream_update;
+  reset = reset;
+  event = event;
+}
+
+abbrev pub brings : Event → StreamEvent
+brings event = answer None None None None event
+
+abbrev pub nothing : StreamEvent
+nothing = brings Nothing
+
+-- a live stream that ends before both sides ended it
+abbrev pub cancelled : Standing → ℕ → Event
+cancelled v s = if is_live_at v s then Cancel s else Nothing
+
+abbrev pub reset_frame : ℕ → ErrorCode → Option Frame
+reset_frame s code = Some (RstStream s (code_number code))
+
+-- a stream error (section 5.4.2)
+abbrev pub stream_error : Standing → ℕ → ErrorCode → StreamEvent
+stream_error v s code = answer None None None (reset_frame s code) (cancelled v s)
+
+-- ---- DATA (section 6.1)
+
+-- what was received of DATA, padding counted, is given back at once (section 6.9)
+abbrev pub update : ℕ → ℕ → Option Frame
+update s n = if n == 0 then None else Some (WindowUpdate s n)
+
+abbrev pub on_data : Standing → ℕ → ℕ → Bool → List ℕ → Result StreamEvent ErrorCode
+on_data v n s end_stream content =
+    if is_idle v s then Err ProtocolError
+    else if is_receiving v s then Ok (answer None (update 0 n) (if end_stream then None else update s n) None (Content s content end_stream))
+    else if is_remembered v s then Ok (answer None (update 0 n) None None Nothing)
+    else Ok (answer None (update 0 n) None (reset_frame s StreamClosed) (cancelled v s))
+
+-- ---- HEADERS and CONTINUATION (sections 6.2 and 6.10)
+
+-- section 5.1.2: at most 100 streams at a time; section 8.1.1: malformed requests
+abbrev pub on_request : Standing → HeaderList → StreamEvent
+on_request v block =
+    if nat_le 100 (length v.live) then stream_error v block.stream RefusedStream
+    else if not (is_well_formed_request block.fields) then stream_error v block.stream ProtocolError
+    else brings (Request block.stream block.fields block.end_stream)
+
+-- section 8.1: trailers end the request
+abbrev pub on_trailers : Standing → ℕ → Bool → StreamEvent
+on_trailers v s end_stream = if end_stream then brings (Trailers s) else stream_error v s ProtocolError
+
+-- a whole block, after it was decoded
+abbrev pub on_block : Standing → HeaderList → Result StreamEvent ErrorCode
+on_block v block =
+    if block.stream % 2 == 0 then Err ProtocolError
+    else if nat_lt v.highest block.stream then Ok (on_request v block)
+    else if is_receiving v block.stream then Ok (on_trailers v block.stream block.end_stream)
+    else if is_remembered v block.stream then Ok nothing
+    else Err StreamClosed
+
+abbrev pub on_given : Standing → Result (Option HeaderList) ErrorCode → Result StreamEvent ErrorCode
+on_given v (Err code) = Err code
+on_given v (Ok None) = Ok nothing
+on_given v (Ok (Some block)) = on_block v block
+
+-- ---- SETTINGS (section 6.5)
+
+abbrev pub is_above : ℕ → Stream → Bool
+is_above size x = not (lt_z (pos size +ℤ x.window.change) (pos (2 ^ 31)))
+
+abbrev pub setting_fault : List Stream → Setting → Option ErrorCode
+setting_fault live s =
+    if s.identifier == ENABLE_PUSH && nat_lt 1 s.value then Some ProtocolError
+    else if s.identifier == MAX_FRAME_SIZE && (nat_lt s.value 16384 || nat_lt 16777215 s.value) then Some ProtocolError
+    else if s.identifier == INITIAL_WINDOW_SIZE && (nat_le (2 ^ 31) s.value || list_any (is_above s.value) live) then Some FlowControlError
+    else None
+
+-- the first, in the order of the settings
+abbrev pub settings_fault : List Stream → List Setting → Option ErrorCode
+settings_fault live [] = None
+settings_fault live (s ∷ ss) = option_map_or Some (setting_fault live s) (settings_fault live ss)
+
+abbrev pub on_settings : Standing → Bool → List Setting → Result StreamEvent ErrorCode
+on_settings v ack settings =
+    if ack then Ok nothing
+    else option_map_or Err (settings_fault v.live settings) (Ok (answer (Some (Settings true [])) None None None Nothing))
+
+-- ---- PING (section 6.7), RST_STREAM (section 6.4), WINDOW_UPDATE (section 6.9)
+
+abbrev pub on_ping : Bool → List ℕ → StreamEvent
+on_ping ack opaque_data = if ack then nothing else answer (Some (Ping true opaque_data)) None None None Nothing
+
+abbrev pub on_reset : Standing → ℕ → Result StreamEvent ErrorCode
+on_reset v s = if is_idle v s then Err ProtocolError else Ok (brings (cancelled v s))
+
+-- the window stays below 2^31 (section 6.9.1)
+abbrev pub fits : ℕ → Credit → Bool
+fits n w = lt_z (left w +ℤ pos n) (pos (2 ^ 31))
+
+abbrev pub overflows : ℕ → ℕ → Stream → Bool
+overflows s n x = x.number == s && not (fits n x.window)
+
+abbrev pub on_connection_update : Standing → ℕ → Result StreamEvent ErrorCode
+on_connection_update v n =
+    if n == 0 then Err ProtocolError
+    else if fits n v.connection_window then Ok nothing
+    else Err FlowControlError
+
+abbrev pub on_stream_update : Standing → ℕ → ℕ → Result StreamEvent ErrorCode
+on_stream_update v s n =
+    if is_idle v s then Err ProtocolError
+    else if not (is_live_at v s) then Ok nothing
+    else if n == 0 then Ok (stream_error v s ProtocolError)
+    else if list_any (overflows s n) v.live then Ok (stream_error v s FlowControlError)
+    else Ok nothing
+
+-- ---- all frames
+
+-- n is the length of the frame's payload
+abbrev pub on_content : Standing → ℕ → Frame → Result StreamEvent ErrorCode
+on_content v n (Data s end_stream bytes) = on_data v n s end_stream bytes
+on_content v n (Headers s end_stream end_headers fragment) = on_given v (given v.table end_headers (begun s end_stream fragment))
+on_content v n (Priority s priority) = Ok nothing
+on_content v n (RstStream s code) = on_reset v s
+on_content v n (Settings ack settings) = on_settings v ack settings
+on_content v n (PushPromise flags s payload) = Err ProtocolError
+on_content v n (Ping ack opaque_data) = Ok (on_ping ack opaque_data)
+on_content v n (GoAway last_stream code debug_data) = Ok nothing
+on_content v n (WindowUpdate s increment) = if s == 0 then on_connection_update v increment else on_stream_update v s increment
+on_content v n (Continuation s end_headers fragment) = on_given v (given_next v.table v.unfinished end_headers fragment)
+on_content v n (Unknown kind flags s payload) = Ok nothing
+
+-- section 3.4: the client's preface ends with a SETTINGS frame
+abbrev pub is_preface_frame : RawFrame → Bool
+is_preface_frame f = f.kind == SETTINGS && not (has_flag f ACK)
+
+-- section 6.10: the frames of a block follow each other with no other frame between them
+abbrev pub goes_on : RawFrame → HeaderBlock → Bool
+goes_on f b = f.kind == CONTINUATION && f.stream == b.stream
+
+abbrev pub in_turn : Standing → RawFrame → Bool
+in_turn v f = (v.begun || is_preface_frame f) && option_map_or (goes_on f) v.unfinished true
+
+abbrev pub on_frame_of : Standing → ℕ → Result Frame ErrorCode → Result StreamEvent ErrorCode
+on_frame_of v n (Err code) = Err code
+on_frame_of v n (Ok f) = on_content v n f
+
+-- an Err is a connection error (section 5.4.1)
+abbrev pub caused : Standing → RawFrame → Result StreamEvent ErrorCode
+caused v f = if in_turn v f then on_frame_of v (length f.payload) (frame_of f) else Err ProtocolError
+
+-- after a connection error nothing is caused
+abbrev pub answer_to : Standing → RawFrame → Result StreamEvent ErrorCode
+answer_to v f = if v.failed then Ok nothing else caused v f
+
+-- what a frame causes after a diary
+abbrev pub causes : List Entry → RawFrame → Result StreamEvent ErrorCode
+causes d f = answer_to (standing d) f
+
+-- what bytes cause that are no frame: section 3.4 for the preface, section 4.2 for the length
+abbrev pub reading_fault : FrameError → Option ErrorCode
+reading_fault Preface = Some ProtocolError
+reading_fault Size = Some FrameSizeError
+reading_fault NoMemory = None
+
+-- ---- what goes into the diary
+
+abbrev pub control_frames : StreamEvent → List Frame
+control_frames a = option_to_list a.acknowledgement ++ (option_to_list a.connection_update ++ (option_to_list a.stream_update ++ option_to_list a.reset))
+
+-- GOAWAY names the highest stream number that was opened (section 6.8)
+abbrev pub goaway : Standing → ErrorCode → Frame
+goaway v code = GoAway v.highest (code_number code) []
+
+abbrev pub frames_put : Standing → Result StreamEvent ErrorCode → List Frame
+frames_put v (Ok a) = control_frames a
+frames_put v (Err code) = goaway v code ∷ []
+
+-- a frame, and what is put for it
+abbrev pub entries_of : List Entry → RawFrame → List Entry
+entries_of d f = In f ∷ map Out (frames_put (standing d) (causes d f))

@@ -1,0 +1,41 @@
+-- What a connection's diary comes to.
+use Rattle.std.specs.Prelude.{ℕ, Bool, List, map, Option}
+use Rattle.hpack.specs.Table.{Table}
+use Rattle.http2_flow.specs.Credit.{Credit}
+use Rattle.http2_headers.specs.HeaderBlock.{HeaderBlock}
+use Rattle.http2_streams.specs.declared.stream.Stream.{Stream}
+use Rattle.http2_streams.specs.Diary.{Entry, has_failed, has_begun, highest, is_ended_by_client, is_ended_by_server, window, live, remembered, initial_window_size, connection_window, unfinished, table}
+
+pub record Standing : Type 0 where
+  pub failed : Bool
+  pub begun : Bool
+  -- the highest stream number that was opened
+  pub highest : ℕ
+  -- the live streams in rising order
+  pub live : List Stream
+  pub remembered : List ℕ
+  pub initial_window_size : ℕ
+  pub connection_window : Credit
+  pub unfinished : Option HeaderBlock
+  pub table : Option Table
+
+abbrev pub stream_at : List Entry → ℕ → Stream
+stream_at d s = record {
+  number = s;
+  ended_by_client = is_ended_by_client d s;
+  ended_by_server = is_ended_by_server d s;
+  window = window d s;
+}
+
+abbrev pub standing : List Entry → Standing
+standing d = record {
+  failed = has_failed d;
+  begun = has_begun d;
+  highest = highest d;
+  live = map (stream_at d) (live d);
+  remembered = remembered d;
+  initial_window_size = initial_window_size d;
+  connection_window = connection_window d;
+  unfinished = unfinished d;
+  table = table d;
+}

@@ -1,0 +1,17 @@
+//! The streams of an HTTP/2 connection (RFC 9113 sections 5 and 6): what each received frame causes.
+#![tactic(auto, using(std::proofs::lemmas::Int::ints))]
+
+mod event;
+mod laws;
+mod live;
+mod stream;
+mod streams;
+
+pub use event::{Event, StreamEvent};
+pub use http2_headers::H2Fault;
+pub use laws::{live_streams_rise, other_entries_change_nothing, windows_follow_from_the_diary};
+pub use stream::Stream;
+pub use streams::{MAX_STREAMS, Streams};
+
+#[cfg(test)]
+mod tests;

@@ -1,0 +1,129 @@
+//! The live streams as a list.
+
+ghost use Rattle.std.specs.Prelude.{◌≡◌, ◌≢◌, ◌<◌, ◌^◌, ◌≤◌, ◌==◌, ◌&&◌, not, true, false, filter, length, map, vec_capacity};
+ghost use Rattle.std.specs.List.{list_any};
+ghost use Rattle.http2_streams.specs.Rules.{number_is, receives, overflows, is_above};
+ghost use Rattle.http2_streams.specs.Step.{without, client_ended, server_ended, mark_client, mark_server, granted_at, spent_at, resized};
+ghost use Rattle.http2_streams.specs.Sending.{lacks};
+
+use crate::stream::Stream;
+
+pub(crate) fn is_live(live: &[Stream], number: u32) -> bool
+    ensures { result ≡ list_any (number_is number) live.now }
+{
+    live.iter().any(|stream| stream.number == number)
+}
+
+pub(crate) fn is_receiving(live: &[Stream], number: u32) -> bool
+    ensures { result ≡ list_any (receives number) live.now }
+{
+    live.iter().any(|stream| stream.is_receiving(number))
+}
+
+pub(crate) fn overflows(live: &[Stream], number: u32, increment: u32) -> bool
+    ensures { result ≡ list_any (overflows number increment) live.now }
+{
+    live.iter()
+        .any(|stream| stream.overflows(number, increment))
+}
+
+pub(crate) fn is_above_limit(live: &[Stream], initial_size: u32) -> bool
+    requires { initial_size < 2 ^ 31 }
+    ensures { result ≡ list_any (is_above initial_size) live.now }
+{
+    live.iter()
+        .any(|stream| stream.is_above_limit(initial_size))
+}
+
+pub(crate) fn remove(live: &mut Vec<Stream>, number: u32)
+    ensures list { live.new.items ≡ without number live.old.items }
+    ensures few { length live.new.items ≤ length live.old.items }
+    ensures room { vec_capacity live.new ≡ vec_capacity live.old }
+{
+    live.retain(|stream| stream.number != number);
+}
+
+pub(crate) fn end_by_client(live: &mut Vec<Stream>, number: u32)
+    ensures list { live.new.items ≡ client_ended number live.old.items }
+    ensures few { length live.new.items ≤ length live.old.items }
+    ensures room { vec_capacity live.new ≡ vec_capacity live.old }
+{
+    remove_ended_by_server(live, number);
+    mark_client(live, number);
+}
+
+fn remove_ended_by_server(live: &mut Vec<Stream>, number: u32)
+    ensures list { live.new.items ≡ filter (λ x. not (x.number == number && x.ended_by_server)) live.old.items }
+    ensures few { length live.new.items ≤ length live.old.items }
+    ensures room { vec_capacity live.new ≡ vec_capacity live.old }
+{
+    live.retain(|stream| !(stream.number == number && stream.ended_by_server));
+}
+
+fn mark_client(live: &mut [Stream], number: u32)
+    ensures { live.new ≡ map (mark_client number) live.old }
+{
+    for stream in live.iter_mut() {
+        stream.end_by_client(number);
+    }
+}
+
+pub(crate) fn end_by_server(live: &mut Vec<Stream>, number: u32)
+    ensures list { live.new.items ≡ server_ended number live.old.items }
+    ensures few { length live.new.items ≤ length live.old.items }
+    ensures room { vec_capacity live.new ≡ vec_capacity live.old }
+{
+    remove_ended_by_client(live, number);
+    mark_server(live, number);
+}
+
+fn remove_ended_by_client(live: &mut Vec<Stream>, number: u32)
+    ensures list { live.new.items ≡ filter (λ x. not (x.number == number && x.ended_by_client)) live.old.items }
+    ensures few { length live.new.items ≤ length live.old.items }
+    ensures room { vec_capacity live.new ≡ vec_capacity live.old }
+{
+    live.retain(|stream| !(stream.number == number && stream.ended_by_client));
+}
+
+fn mark_server(live: &mut [Stream], number: u32)
+    ensures { live.new ≡ map (mark_server number) live.old }
+{
+    for stream in live.iter_mut() {
+        stream.end_by_server(number);
+    }
+}
+
+pub(crate) fn grant(live: &mut [Stream], number: u32, increment: u32)
+    requires some { increment ≢ 0 }
+    requires within { list_any (overflows number increment) live.old ≡ false }
+    ensures { live.new ≡ map (granted_at number increment) live.old }
+{
+    for stream in live.iter_mut() {
+        stream.grant(number, increment);
+    }
+}
+
+pub(crate) fn lacks(live: &[Stream], number: u32, count: u32) -> bool
+    ensures { result ≡ list_any (lacks number count) live.now }
+{
+    live.iter().any(|stream| stream.lacks(number, count))
+}
+
+pub(crate) fn spend(live: &mut [Stream], number: u32, count: u32)
+    requires { list_any (lacks number count) live.old ≡ false }
+    ensures { live.new ≡ map (spent_at number count) live.old }
+{
+    for stream in live.iter_mut() {
+        stream.spend(number, count);
+    }
+}
+
+pub(crate) fn resize(live: &mut [Stream], initial_size: u32)
+    requires small { initial_size < 2 ^ 31 }
+    requires within { list_any (is_above initial_size) live.old ≡ false }
+    ensures { live.new ≡ map (resized initial_size) live.old }
+{
+    for stream in live.iter_mut() {
+        stream.resize(initial_size);
+    }
+}

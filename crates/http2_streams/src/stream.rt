@@ -1,0 +1,93 @@
+//! One live stream.
+
+ghost use Rattle.std.specs.Prelude.{◌≡◌, ◌≢◌, ◌<◌, ◌^◌, true, false, pos, ◌≤ℤ◌};
+ghost use Rattle.http2_flow.specs.Credit.{left};
+ghost use Rattle.http2_streams.specs.Rules.{number_is, receives, overflows, is_above, fits};
+ghost use Rattle.http2_streams.specs.Sending.{lacks};
+ghost use Rattle.http2_streams.specs.Step.{mark_client, mark_server, granted_at, spent_at, resized};
+
+use http2_flow::{MAX_SIZE, Window};
+
+/// A stream that is open or half-closed (RFC 9113 section 5.1).
+#[derive(Drop)]
+pub struct Stream {
+    pub number: u32,
+    /// Half-closed (remote).
+    pub ended_by_client: bool,
+    /// Half-closed (local).
+    pub ended_by_server: bool,
+    /// How much DATA may be put on it.
+    pub window: Window,
+}
+
+impl Stream {
+    pub(crate) fn is_receiving(&self, number: u32) -> bool
+        ensures { result ≡ receives number self.now }
+    {
+        self.number == number && !self.ended_by_client
+    }
+
+    /// Whether a WINDOW_UPDATE for the stream brings its window above the limit.
+    pub(crate) fn overflows(&self, number: u32, increment: u32) -> bool
+        ensures { result ≡ overflows number increment self.now }
+    {
+        self.number == number && self.window.left() + increment as i64 > MAX_SIZE as i64
+    }
+
+    pub(crate) fn is_above_limit(&self, initial_size: u32) -> bool
+        requires { initial_size < 2 ^ 31 }
+        ensures { result ≡ is_above initial_size self.now }
+    {
+        !self.window.can_shift(initial_size)
+    }
+
+    pub(crate) fn end_by_client(&mut self, number: u32)
+        ensures { self.new ≡ mark_client number self.old }
+    {
+        if self.number == number {
+            self.ended_by_client = true;
+        }
+    }
+
+    pub(crate) fn end_by_server(&mut self, number: u32)
+        ensures { self.new ≡ mark_server number self.old }
+    {
+        if self.number == number {
+            self.ended_by_server = true;
+        }
+    }
+
+    pub(crate) fn grant(&mut self, number: u32, increment: u32)
+        requires some { increment ≢ 0 }
+        requires within { overflows number increment self.old ≡ false }
+        ensures { self.new ≡ granted_at number increment self.old }
+    {
+        if self.number == number {
+            let _ = self.window.grant(increment);
+        }
+    }
+
+    /// Whether the stream's window is for fewer bytes.
+    pub(crate) fn lacks(&self, number: u32, count: u32) -> bool
+        ensures { result ≡ lacks number count self.now }
+    {
+        self.number == number && self.window.left() < count as i64
+    }
+
+    pub(crate) fn spend(&mut self, number: u32, count: u32)
+        requires { lacks number count self.old ≡ false }
+        ensures { self.new ≡ spent_at number count self.old }
+    {
+        if self.number == number {
+            let _ = self.window.spend(count);
+        }
+    }
+
+    pub(crate) fn resize(&mut self, initial_size: u32)
+        requires small { initial_size < 2 ^ 31 }
+        requires within { is_above initial_size self.old ≡ false }
+        ensures { self.new ≡ resized initial_size self.old }
+    {
+        let _ = self.window.shift(initial_size);
+    }
+}

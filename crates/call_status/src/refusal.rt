@@ -1,0 +1,82 @@
+ghost use Rattle.std.specs.Prelude.{◌≡◌, pos};
+ghost use Rattle.call_status.specs.Status.{code_of, text_of};
+
+/// Why a call, or one blob of a batch, is refused.
+#[derive(Clone, Copy, PartialEq, Eq)]
+pub enum Refusal {
+    /// The path names no method that is served.
+    UnknownMethod,
+    /// A message's flag says that it is compressed.
+    CompressedMessage,
+    /// A message is longer than 4,194,304 bytes.
+    MessageTooLarge,
+    /// The request ends inside a message.
+    MessageCutOff,
+    /// The request ends without a message.
+    NoMessage,
+    /// A method that takes one message was sent another.
+    MoreThanOneMessage,
+    /// The message does not read as the method's request.
+    MalformedMessage,
+    /// The instance name is neither empty nor the connection's own.
+    UnknownInstance,
+    /// The digest function is neither unset nor SHA-256.
+    UnsupportedDigestFunction,
+    /// The compressor is not the identity.
+    UnsupportedCompressor,
+    /// The hash is not 64 lower-case hexadecimal digits, or the size is negative.
+    BadDigest,
+    /// The blobs of a batch have more than 4,000,000 bytes together.
+    BatchTooLarge,
+    /// The bytes are not those that the digest names.
+    DigestDoesNotMatch,
+    /// A blob is longer than the instance's quota.
+    QuotaExceeded,
+    /// There is no blob of the digest.
+    BlobNotFound,
+}
+
+impl Refusal {
+    /// The gRPC status code.
+    pub fn code(self) -> i32
+        ensures { result ≡ pos (code_of self) }
+    {
+        match self {
+            Refusal::MessageTooLarge | Refusal::QuotaExceeded => 8,
+            Refusal::UnknownInstance | Refusal::BlobNotFound => 5,
+            Refusal::UnknownMethod | Refusal::CompressedMessage => 12,
+            Refusal::MessageCutOff => 13,
+            Refusal::NoMessage
+            | Refusal::MoreThanOneMessage
+            | Refusal::MalformedMessage
+            | Refusal::UnsupportedDigestFunction
+            | Refusal::UnsupportedCompressor
+            | Refusal::BadDigest
+            | Refusal::BatchTooLarge
+            | Refusal::DigestDoesNotMatch => 3,
+        }
+    }
+
+    /// The text that goes with the code, as `grpc-message`.
+    pub fn text(self) -> &'static str
+        ensures { result.now ≡ text_of self }
+    {
+        match self {
+            Refusal::UnknownMethod => "unknown method",
+            Refusal::CompressedMessage => "compressed message",
+            Refusal::MessageTooLarge => "message too large",
+            Refusal::MessageCutOff => "message cut off",
+            Refusal::NoMessage => "no message",
+            Refusal::MoreThanOneMessage => "more than one message",
+            Refusal::MalformedMessage => "malformed message",
+            Refusal::UnknownInstance => "unknown instance",
+            Refusal::UnsupportedDigestFunction => "unsupported digest function",
+            Refusal::UnsupportedCompressor => "unsupported compressor",
+            Refusal::BadDigest => "bad digest",
+            Refusal::BatchTooLarge => "batch too large",
+            Refusal::DigestDoesNotMatch => "digest does not match",
+            Refusal::QuotaExceeded => "quota exceeded",
+            Refusal::BlobNotFound => "blob not found",
+        }
+    }
+}

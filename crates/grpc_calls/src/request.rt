@@ -1,0 +1,79 @@
+//! The head of a request.
+
+ghost use Rattle.std.specs.Prelude.{◌≡◌, codes};
+ghost use Rattle.std.specs.Str.{bytes_eq};
+ghost use Rattle.std.specs.List.{list_any};
+ghost use Rattle.grpc_calls.specs.Requests.{head_of, is_grpc_type};
+ghost use Rattle.grpc_calls.specs.Responses.{response_to};
+
+use crate::method::Method;
+use crate::response::ResponseBlock;
+use call_status::Refusal;
+use hpack::{HeaderField, Headers};
+
+/// Why a request is no call.
+#[derive(Clone, Copy, PartialEq, Eq)]
+pub enum HeadFault {
+    /// Its method is not POST.
+    Method,
+    /// No content type of it begins `application/grpc`.
+    ContentType,
+    /// Its path names no method that is served.
+    Path,
+}
+
+impl HeadFault {
+    /// The whole response to such a request.
+    pub fn response(self) -> ResponseBlock
+        ensures { result ≡ response_to self }
+    {
+        match self {
+            HeadFault::Method => ResponseBlock::MethodNotAllowed,
+            HeadFault::ContentType => ResponseBlock::UnsupportedMediaType,
+            HeadFault::Path => ResponseBlock::TrailersOnly(Refusal::UnknownMethod),
+        }
+    }
+}
+
+/// The method that a request calls, or the first reason why it calls none. Other fields are not
+/// looked at.
+pub fn head(headers: &Headers) -> Result<Method, HeadFault>
+    ensures { result ≡ head_of headers.now }
+{
+    match headers.find(b":method") {
+        Some(method) if method == b"POST".as_slice() => {}
+        _ => return Err(HeadFault::Method),
+    }
+    if !has_grpc_type(headers.as_slice()) {
+        return Err(HeadFault::ContentType);
+    }
+    match headers.find(b":path") {
+        Some(path) => Method::from_path(path).ok_or(HeadFault::Path),
+        None => Err(HeadFault::Path),
+    }
+}
+
+fn is_content_type(field: &HeaderField) -> bool
+    ensures { result ≡ bytes_eq field.now.name (codes "content-type") }
+{
+    field.name() == b"content-type".as_slice()
+}
+
+fn is_grpc_type(field: &HeaderField) -> bool
+    ensures { result ≡ is_grpc_type field.now }
+{
+    is_content_type(field) && field.value().starts_with(b"application/grpc")
+}
+
+fn has_grpc_type(fields: &[HeaderField]) -> bool
+    ensures { result ≡ list_any is_grpc_type fields.now }
+{
+    let mut left = fields;
+    'fields: while let [field, rest @ ..] = left {
+        if is_grpc_type(field) {
+            return true;
+        }
+        left = rest;
+    }
+    false
+}

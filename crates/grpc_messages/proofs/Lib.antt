@@ -1,0 +1,5 @@
+pub mod Fronts
+pub mod Splits
+pub mod Steps
+pub mod Grammar
+pub mod MoreBytes

@@ -1,0 +1,251 @@
+-- What one call of a reader says of the split of the text that it stands for.
+use Rattle.std.proofs.Common.{◌≡◌, ◌≢◌, ℕ, ◌+◌, ◌<◌, ◌≤◌, inl, inr, List, [], ◌∷◌, ◌++◌, length, drop, Option, Some, None, Result, Ok, Err, IfOk, IfErr, IfNone, IfSome, IsErrOf, OnOk, OnSome, refl, sym, ap, subst, ◌∙◌, append_assoc, arith, length-append}
+use Rattle.std.proofs.lemmas.List.{append-nil, length-drop, length-take-le}
+use Rattle.grpc_messages.specs.declared.error.MessagesError.{MessagesError}
+use Rattle.grpc_messages.specs.declared.error.MessagesError.TheVariants.{Compressed, TooLarge, CutOff, NoMemory}
+use Rattle.grpc_messages.specs.Wire.{Split, ended, size_of, IsUnfinished}
+use Rattle.grpc_messages.specs.Reading.{whole_at, message_at, behind, rest_only, fault_only, split}
+use Rattle.grpc_messages.specs.Reader.{bytes_left, split_left, followed_by, StandsFor, messages_in}
+use Rattle.grpc_messages.specs.Step.{taken_by, taken, Takes, ended_by, ends_at}
+use Rattle.grpc_messages.proofs.Fronts.{fault_more, unfinished_is, IsWhole, whole_is}
+use Rattle.grpc_messages.proofs.Splits.{split_partial, split_fault, split_whole, split_whole_more}
+
+abbrev Reader : Type 0
+Reader = Result (List ℕ) MessagesError
+
+abbrev Answer : Type 0
+Answer = Result (Option (List ℕ)) MessagesError
+
+followed_twice : (v : Reader) (piece more : List ℕ) → followed_by (followed_by v piece) more ≡ followed_by v (piece ++ more)
+followed_twice (Ok bytes) piece more = ap (λ (x : List ℕ). Ok x) (append_assoc bytes piece more)
+followed_twice (Err e) piece more = refl
+
+pub stands_fed : (limit : ℕ) (v : Reader) (piece text : List ℕ) (given : List (List ℕ)) → StandsFor limit v text given → StandsFor limit (followed_by v piece) (text ++ piece) given
+stands_fed limit v piece text given stands more =
+    ap (split limit) (append_assoc text piece more) ∙ stands (piece ++ more) ∙ ap (λ (x : Reader). behind given (split_left limit x)) (sym (followed_twice v piece more))
+
+pub stands_on_ok : (limit : ℕ) (r : Result Unit MessagesError) (old : Reader) (piece : List ℕ) (new : Reader) → OnOk r (new ≡ followed_by old piece)
+    → OnOk r ((text : List ℕ) (given : List (List ℕ)) → StandsFor limit old text given → StandsFor limit new (text ++ piece) given)
+stands_on_ok limit (Ok u) old piece new e = λ text given stands.
+    subst (λ (v : Reader). StandsFor limit v (text ++ piece) given) (sym e) (stands_fed limit old piece text given stands)
+stands_on_ok limit (Err d) old piece new e = tt
+
+taken_follows : (limit : ℕ) (v : Reader) (more : List ℕ) → split_left limit (followed_by v more) ≡ behind (messages_in (taken limit v).0) (split_left limit (followed_by (taken limit v).1 more))
+taken_follows limit (Err e) more = refl
+taken_follows limit (Ok bytes) more = at_front (whole_at limit bytes) refl where
+  at_front : (w : Result (Option ℕ) MessagesError) → whole_at limit bytes ≡ w → split limit (bytes ++ more) ≡ behind (messages_in (taken_by w bytes).0) (split_left limit (followed_by (taken_by w bytes).1 more))
+  at_front (Ok None) e = refl
+  at_front (Ok (Some n)) e = split_whole_more limit bytes more n e
+  at_front (Err d) e = split_fault limit (bytes ++ more) d (fault_more limit bytes more d e)
+
+-- what the answer says of the split where no message is taken
+abbrev SaysEnd : ℕ → Reader → Answer → Reader → Type 0
+SaysEnd limit old (Ok None) new = (split_left limit old ≡ rest_only (bytes_left new)) × IsUnfinished limit (bytes_left new)
+SaysEnd limit old (Ok (Some f)) new = Unit {0}
+SaysEnd limit old (Err e) new = (split_left limit old ≡ fault_only e) × (new ≡ Err e)
+
+taken_ends : (limit : ℕ) (v : Reader) → SaysEnd limit v (taken limit v).0 (taken limit v).1
+taken_ends limit (Err e) = (refl, refl)
+taken_ends limit (Ok bytes) = at_front (whole_at limit bytes) refl where
+  at_front : (w : Result (Option ℕ) MessagesError) → whole_at limit bytes ≡ w → SaysEnd limit (Ok bytes) (taken_by w bytes).0 (taken_by w bytes).1
+  at_front (Ok None) e = (split_partial limit bytes e, unfinished_is limit bytes e)
+  at_front (Ok (Some n)) e = tt
+  at_front (Err d) e = (split_fault limit bytes d e, refl)
+
+behind_both : (gs ms : List (List ℕ)) (s : Split) → behind gs (behind ms s) ≡ behind (gs ++ ms) s
+behind_both gs ms s = ap (λ (xs : List (List ℕ)). record { messages = xs; end = s.end }) (sym (append_assoc gs ms s.messages))
+
+taken_as : (limit : ℕ) (old : Reader) (r : Answer) (new : Reader) → taken limit old ≡ (r, new) → (more : List ℕ) → split_left limit (followed_by old more) ≡ behind (messages_in r) (split_left limit (followed_by new more))
+taken_as limit old r new e more = taken_follows limit old more ∙ ap (λ (x : Answer × Reader). behind (messages_in x.0) (split_left limit (followed_by x.1 more))) e
+
+takes_follows : (limit : ℕ) (old : Reader) (r : Answer) (new : Reader) → Takes limit old r new → (more : List ℕ) → split_left limit (followed_by old more) ≡ behind (messages_in r) (split_left limit (followed_by new more))
+takes_follows limit old (Ok o) new h more = taken_as limit old (Ok o) new h more
+takes_follows limit old (Err Compressed) new h more = taken_as limit old (Err Compressed) new h more
+takes_follows limit old (Err TooLarge) new h more = taken_as limit old (Err TooLarge) new h more
+takes_follows limit old (Err CutOff) new h more = taken_as limit old (Err CutOff) new h more
+takes_follows limit old (Err NoMemory) new h more = ap (λ (v : Reader). split_left limit (followed_by v more)) (sym h.0)
+
+pub stands_after : (limit : ℕ) (old : Reader) (r : Answer) (new : Reader) → Takes limit old r new
+    → (t : List ℕ) (gs : List (List ℕ)) → StandsFor limit old t gs → StandsFor limit new t (gs ++ messages_in r)
+stands_after limit old r new h t gs stands more =
+    stands more ∙ ap (behind gs) (takes_follows limit old r new h more) ∙ behind_both gs (messages_in r) (split_left limit (followed_by new more))
+
+followed_by_none : (v : Reader) → followed_by v [] ≡ v
+followed_by_none (Ok bytes) = ap (λ (x : List ℕ). Ok x) (append-nil bytes)
+followed_by_none (Err e) = refl
+
+-- what is left now, where nothing follows
+left_now : (limit : ℕ) (v : Reader) (t : List ℕ) (gs : List (List ℕ)) → StandsFor limit v t gs → split limit t ≡ behind gs (split_left limit v)
+left_now limit v t gs stands =
+    ap (split limit) (sym (append-nil t)) ∙ stands [] ∙ ap (λ (x : Reader). behind gs (split_left limit x)) (followed_by_none v)
+
+says : (limit : ℕ) (old : Reader) (r : Answer) (new : Reader) → taken limit old ≡ (r, new) → SaysEnd limit old r new
+says limit old r new h = subst (λ (x : Answer × Reader). SaysEnd limit old x.0 x.1) h (taken_ends limit old)
+
+abbrev pub IsAllGiven : ℕ → Reader → Reader → Type 0
+IsAllGiven limit old new = (t : List ℕ) (gs : List (List ℕ)) → StandsFor limit old t gs → split limit t ≡ record { messages = gs; end = Ok (bytes_left new) }
+
+abbrev pub IsFaultOf : ℕ → Reader → MessagesError → Type 0
+IsFaultOf limit old e = (t : List ℕ) (gs : List (List ℕ)) → StandsFor limit old t gs → split limit t ≡ record { messages = gs; end = Err e }
+
+none_after : (limit : ℕ) (old : Reader) (new : Reader) → taken limit old ≡ (Ok None, new) → IsAllGiven limit old new
+none_after limit old new h t gs stands =
+    left_now limit old t gs stands ∙ ap (behind gs) (says limit old (Ok None) new h).0 ∙ ap (λ (xs : List (List ℕ)). record { messages = xs; end = Ok (bytes_left new) }) (append-nil gs)
+
+pub all_given : (limit : ℕ) (old : Reader) (r : Answer) (new : Reader) → Takes limit old r new → IfOk r (λ o. IfNone o (IsAllGiven limit old new))
+all_given limit old (Ok None) new h = none_after limit old new h
+all_given limit old (Ok (Some f)) new h = tt
+all_given limit old (Err e) new h = tt
+
+unfinished_below : (limit : ℕ) (bytes : List ℕ) → IsUnfinished limit bytes → length bytes < 5 + limit
+unfinished_below limit bytes (inl less) = omega arith
+unfinished_below limit bytes (inr h) = let small = h.1 in let less = h.2 in omega arith
+
+pub kept_is_unfinished : (limit : ℕ) (old : Reader) (r : Answer) (new : Reader) → Takes limit old r new → IfOk r (λ o. IfNone o (length (bytes_left new) < 5 + limit))
+kept_is_unfinished limit old (Ok None) new h = unfinished_below limit (bytes_left new) (says limit old (Ok None) new h).1
+kept_is_unfinished limit old (Ok (Some f)) new h = tt
+kept_is_unfinished limit old (Err e) new h = tt
+
+fault_as : (limit : ℕ) (old : Reader) (e : MessagesError) (new : Reader) → taken limit old ≡ (Err e, new) → IsFaultOf limit old e
+fault_as limit old e new h t gs stands =
+    left_now limit old t gs stands ∙ ap (behind gs) (says limit old (Err e) new h).0 ∙ ap (λ (xs : List (List ℕ)). record { messages = xs; end = Err e }) (append-nil gs)
+
+fault_after : (limit : ℕ) (old : Reader) (e : MessagesError) (new : Reader) → Takes limit old (Err e) new → e ≢ NoMemory → taken limit old ≡ (Err e, new)
+fault_after limit old Compressed new h other = h
+fault_after limit old TooLarge new h other = h
+fault_after limit old CutOff new h other = h
+fault_after limit old NoMemory new h other = absurd (other refl)
+
+pub fault_of : (limit : ℕ) (old : Reader) (r : Answer) (new : Reader) → Takes limit old r new → IfErr r (λ e. e ≢ NoMemory → IsFaultOf limit old e)
+fault_of limit old (Ok o) new h = tt
+fault_of limit old (Err e) new h = λ other. fault_as limit old e new (fault_after limit old e new h other)
+
+pub fault_kept : (limit : ℕ) (old : Reader) (r : Answer) (new : Reader) → Takes limit old r new → IfErr r (λ e. e ≢ NoMemory → new ≡ Err e)
+fault_kept limit old (Ok o) new h = tt
+fault_kept limit old (Err e) new h = λ other. (says limit old (Err e) new (fault_after limit old e new h other)).1
+
+given : (r s : Answer) (new old : Reader) (x y : Answer × Reader) → x ≡ y → x.0 ≡ s → y.0 ≡ r → r ≡ s
+given r s new old x y h p q = sym q ∙ sym (ap (λ (z : Answer × Reader). z.0) h) ∙ p
+
+repeats_as : (limit : ℕ) (e : MessagesError) (r : Answer) (new : Reader) → Takes limit (Err e) r new → r ≡ Err e
+repeats_as limit e (Ok o) new h = given (Ok o) (Err e) new (Err e) _ _ h refl refl
+repeats_as limit e (Err Compressed) new h = given (Err Compressed) (Err e) new (Err e) _ _ h refl refl
+repeats_as limit e (Err TooLarge) new h = given (Err TooLarge) (Err e) new (Err e) _ _ h refl refl
+repeats_as limit e (Err CutOff) new h = given (Err CutOff) (Err e) new (Err e) _ _ h refl refl
+repeats_as limit e (Err NoMemory) new h = absurd (h.1 refl)
+
+pub repeats : (limit : ℕ) (old : Reader) (r : Answer) (new : Reader) → Takes limit old r new → IfErr old (λ e. r ≡ Err e)
+repeats limit (Ok bytes) r new h = tt
+repeats limit (Err e) r new h = repeats_as limit e r new h
+
+-- what the answer says of the message that is given
+abbrev SaysGiven : ℕ → Reader → Answer → Reader → Type 0
+SaysGiven limit old (Ok None) new = Unit {0}
+SaysGiven limit old (Ok (Some m)) new = (length m ≤ limit) × (length (bytes_left new) < length (bytes_left old))
+SaysGiven limit old (Err e) new = Unit {0}
+
+given_at : (limit : ℕ) (bytes : List ℕ) (n : ℕ) → IsWhole limit bytes n → (length (message_at bytes) ≤ limit) × (length (drop (5 + n) bytes) < length bytes)
+given_at limit bytes n w =
+    let s = w.size in let b = w.short in let f = w.fits in
+    let first = length-drop 5 bytes in
+    let rest = length-drop (5 + n) bytes in
+    let size : length (message_at bytes) ≡ size_of bytes = length-take-le (size_of bytes) (drop 5 bytes) (omega arith) in
+    (omega arith, omega arith)
+
+taken_gives : (limit : ℕ) (v : Reader) → SaysGiven limit v (taken limit v).0 (taken limit v).1
+taken_gives limit (Err e) = tt
+taken_gives limit (Ok bytes) = at_front (whole_at limit bytes) refl where
+  at_front : (w : Result (Option ℕ) MessagesError) → whole_at limit bytes ≡ w → SaysGiven limit (Ok bytes) (taken_by w bytes).0 (taken_by w bytes).1
+  at_front (Ok None) e = tt
+  at_front (Ok (Some n)) e = given_at limit bytes n (whole_is limit bytes n e)
+  at_front (Err d) e = tt
+
+gives : (limit : ℕ) (old : Reader) (m : List ℕ) (new : Reader) → Takes limit old (Ok (Some m)) new → SaysGiven limit old (Ok (Some m)) new
+gives limit old m new h = subst (λ (x : Answer × Reader). SaysGiven limit old x.0 x.1) h (taken_gives limit old)
+
+pub given_is_short : (limit : ℕ) (old : Reader) (r : Answer) (new : Reader) → Takes limit old r new → IfOk r (λ o. IfSome o (λ m. length m ≤ limit))
+given_is_short limit old (Ok None) new h = tt
+given_is_short limit old (Ok (Some m)) new h = (gives limit old m new h).0
+given_is_short limit old (Err e) new h = tt
+
+pub less_is_left : (limit : ℕ) (old : Reader) (r : Answer) (new : Reader) → Takes limit old r new → IfOk r (λ o. OnSome o (length (bytes_left new) < length (bytes_left old)))
+less_is_left limit old (Ok None) new h = tt
+less_is_left limit old (Ok (Some m)) new h = (gives limit old m new h).1
+less_is_left limit old (Err e) new h = tt
+
+none_in_front : (fs gs : List (List ℕ)) → fs ++ gs ≡ [] → fs ≡ []
+none_in_front [] gs e = refl
+none_in_front (f ∷ fs) gs e = absurd cc
+
+pub memory_for : (limit : ℕ) (old : Reader) (r : Answer) (new : Reader) → Takes limit old r new → IsErrOf r NoMemory → (new ≡ old) × ((split_left limit old).messages ≢ [])
+memory_for limit old (Ok o) new h e = absurd cc
+memory_for limit old (Err Compressed) new h e = absurd cc
+memory_for limit old (Err TooLarge) new h e = absurd cc
+memory_for limit old (Err CutOff) new h e = absurd cc
+memory_for limit old (Err NoMemory) new h e = (
+  h.0,
+  λ none.
+      let same = ap (split_left limit) (followed_by_none old) in
+      h.1 (none_in_front _ _ (sym (ap (λ (s : Split). s.messages) (sym same ∙ taken_follows limit old [])) ∙ none)),
+)
+
+-- ---- the end of a request
+
+none_more : (gs ms : List (List ℕ)) → gs ++ ms ≡ gs → ms ≡ []
+none_more gs [] e = refl
+none_more gs (m ∷ ms) e = absurd (let len = ap (length {A = List ℕ}) e in omega (arith, length-append {A = List ℕ}))
+
+split_as : (s : Split) (ms : List (List ℕ)) (end : Result (List ℕ) MessagesError) → s.messages ≡ ms → s.end ≡ end → s ≡ record { messages = ms; end = end }
+split_as s ms end p q =
+    ap (λ (xs : List (List ℕ)). record { messages = xs; end = s.end }) p ∙ ap (λ (r : Result (List ℕ) MessagesError). record { messages = ms; end = r }) q
+
+nothing_left : (limit : ℕ) (v : Reader) (t : List ℕ) (gs : List (List ℕ)) (end : Result (List ℕ) MessagesError)
+    → StandsFor limit v t gs → split limit t ≡ record { messages = gs; end = end } → split_left limit v ≡ record { messages = []; end = end }
+nothing_left limit v t gs end stands e =
+    let now : behind gs (split_left limit v) ≡ record { messages = gs; end = end } = sym (left_now limit v t gs stands) ∙ e in
+    let none : (split_left limit v).messages ≡ [] = none_more gs _ (ap (λ (s : Split). s.messages) now) in
+    let last : (split_left limit v).end ≡ end = ap (λ (s : Split). s.end) now in
+    split_as (split_left limit v) [] end none last
+
+ended_left : (limit : ℕ) (v : Reader) (end : Result (List ℕ) MessagesError) → split_left limit v ≡ record { messages = []; end = end } → ends_at limit v ≡ ended end
+ended_left limit (Err d) end e = ap (λ (s : Split). ended s.end) e
+ended_left limit (Ok bytes) end e = at_front (whole_at limit bytes) refl where
+  none : (bs : List ℕ) → ended_by (Ok None) bs ≡ ended (Ok bs)
+  none [] = refl
+  none (b ∷ bs) = refl
+
+  at_front : (w : Result (Option ℕ) MessagesError) → whole_at limit bytes ≡ w → ended_by w bytes ≡ ended end
+  at_front (Ok None) h = none bytes ∙ ap (λ (s : Split). ended s.end) (sym (split_partial limit bytes h) ∙ e)
+  at_front (Ok (Some n)) h = let first = sym (split_whole limit bytes n h) ∙ e in let some = ap (λ (s : Split). s.messages) first in cc
+  at_front (Err d) h = ap (λ (s : Split). ended s.end) (sym (split_fault limit bytes d h) ∙ e)
+
+pub end_is : (limit : ℕ) (v : Reader) (r : Result Unit MessagesError) → r ≡ ends_at limit v → (t : List ℕ) (gs : List (List ℕ)) (end : Result (List ℕ) MessagesError)
+    → StandsFor limit v t gs → split limit t ≡ record { messages = gs; end = end } → r ≡ ended end
+end_is limit v r h t gs end stands e = h ∙ ended_left limit v end (nothing_left limit v t gs end stands e)
+
+ends_empty : (limit : ℕ) (v : Reader) → OnOk (ends_at limit v) (split_left limit v ≡ rest_only [])
+ends_empty limit (Err d) = tt
+ends_empty limit (Ok bytes) = at_front (whole_at limit bytes) refl bytes refl where
+  at_front : (w : Result (Option ℕ) MessagesError) → whole_at limit bytes ≡ w → (bs : List ℕ) → bytes ≡ bs → OnOk (ended_by w bs) (split limit bytes ≡ rest_only [])
+  at_front (Ok None) h [] e = split_partial limit bytes h ∙ ap rest_only e
+  at_front (Ok None) h (b ∷ bs) e = tt
+  at_front (Ok (Some n)) h bs e = tt
+  at_front (Err d) h bs e = tt
+
+-- while a whole message is left the request is cut off, whatever follows that message
+pub untaken : (limit : ℕ) (v : Reader) (r : Result Unit MessagesError) → r ≡ ends_at limit v → (split_left limit v).messages ≢ [] → r ≡ Err CutOff
+untaken limit (Err d) r h some = absurd (some refl)
+untaken limit (Ok bytes) r h some = h ∙ at_front (whole_at limit bytes) refl where
+  at_front : (w : Result (Option ℕ) MessagesError) → whole_at limit bytes ≡ w → ended_by w bytes ≡ Err CutOff
+  at_front (Ok None) e = absurd (some (ap (λ (s : Split). s.messages) (split_partial limit bytes e)))
+  at_front (Ok (Some n)) e = refl
+  at_front (Err d) e = absurd (some (ap (λ (s : Split). s.messages) (split_fault limit bytes d e)))
+
+on_ok : {P Q : Type 0} (r : Result Unit MessagesError) → OnOk r P → (P → Q) → OnOk r Q
+on_ok (Ok u) p f = f p
+on_ok (Err e) p f = tt
+
+pub end_is_whole : (limit : ℕ) (v : Reader) (r : Result Unit MessagesError) → r ≡ ends_at limit v
+    → OnOk r ((t : List ℕ) (gs : List (List ℕ)) → StandsFor limit v t gs → split limit t ≡ record { messages = gs; end = Ok [] })
+end_is_whole limit v r h = on_ok r (subst (λ (x : Result Unit MessagesError). OnOk x (split_left limit v ≡ rest_only [])) (sym h) (ends_empty limit v))
+    (λ empty t gs stands. left_now limit v t gs stands ∙ ap (behind gs) empty ∙ ap (λ (xs : List (List ℕ)). record { messages = xs; end = Ok [] }) (append-nil gs))

@@ -1,0 +1,5 @@
+pub mod Wire
+pub mod Reading
+pub mod Reader
+pub mod Step
+pub mod Writing

@@ -1,0 +1,55 @@
+-- Messages on the wire (gRPC over HTTP2, Length-Prefixed-Message): which bytes are a message, and how the data of a call divides into messages.
+use Rattle.std.specs.Prelude.{◌≡◌, ◌≢◌, ℕ, ◌+◌, ◌<◌, ◌≤◌, ◌⊎◌, List, [], ◌∷◌, ◌++◌, length, drop, slice_index, Result, Ok, Err}
+use Rattle.byteorder.specs.Endian.{big_number}
+use Rattle.grpc_messages.specs.declared.error.MessagesError.{MessagesError}
+use Rattle.grpc_messages.specs.declared.error.MessagesError.TheVariants.{Compressed, TooLarge, CutOff, NoMemory}
+
+-- the flag 0 (Compressed-Flag), four bytes of length (Message-Length), and the message
+pub record IsMessageText (limit : ℕ) (text message : List ℕ) : Type 0 where
+  pub size : List ℕ
+  pub parts : text ≡ (0 ∷ size) ++ message
+  pub four : length size ≡ 4
+  pub sized : big_number 4 size ≡ length message
+  pub short : length message ≤ limit
+
+-- one message after another, and nothing else
+abbrev pub Spells : ℕ → List ℕ → List (List ℕ) → Type 0
+Spells limit text [] = text ≡ []
+Spells limit text (m ∷ ms) = (front : List ℕ) × (rest : List ℕ) × (text ≡ front ++ rest) × IsMessageText limit front m × Spells limit rest ms
+
+-- the five bytes that stand before a message, read: its flag and its length
+abbrev pub flag_of : List ℕ → ℕ
+flag_of bytes = slice_index bytes 0
+
+abbrev pub size_of : List ℕ → ℕ
+size_of bytes = big_number 4 (drop 1 bytes)
+
+-- less than a whole message, of which no fault can be seen yet
+abbrev pub IsUnfinished : ℕ → List ℕ → Type 0
+IsUnfinished limit bytes = (length bytes < 5) ⊎ (flag_of bytes ≡ 0) × (size_of bytes ≤ limit) × (length bytes < 5 + size_of bytes)
+
+-- what stands behind the last whole message: an unfinished one, or the first five bytes of one that is refused
+abbrev pub IsEnd : ℕ → List ℕ → Result (List ℕ) MessagesError → Type 0
+IsEnd limit bytes (Ok rest) = (bytes ≡ rest) × IsUnfinished limit bytes
+IsEnd limit bytes (Err Compressed) = (5 ≤ length bytes) × (flag_of bytes ≢ 0)
+IsEnd limit bytes (Err TooLarge) = (5 ≤ length bytes) × (flag_of bytes ≡ 0) × (limit < size_of bytes)
+IsEnd limit bytes (Err CutOff) = ⊥
+IsEnd limit bytes (Err NoMemory) = ⊥
+
+-- what a text divides into: whole messages, and then a rest or a fault
+pub record Split : Type 0 where
+  pub messages : List (List ℕ)
+  pub end : Result (List ℕ) MessagesError
+
+pub record IsSplit (limit : ℕ) (text : List ℕ) (s : Split) : Type 0 where
+  pub front : List ℕ
+  pub rest : List ℕ
+  pub parts : text ≡ front ++ rest
+  pub messages : Spells limit front s.messages
+  pub end : IsEnd limit rest s.end
+
+-- the end of a text to which nothing more is added
+abbrev pub ended : Result (List ℕ) MessagesError → Result Unit MessagesError
+ended (Ok []) = Ok tt
+ended (Ok (b ∷ bs)) = Err CutOff
+ended (Err e) = Err e

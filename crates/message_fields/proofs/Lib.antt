@@ -1,0 +1,7 @@
+pub mod Lists
+pub mod Texts
+pub mod Submessages
+pub mod Places
+pub mod ReadAgain
+pub mod Lengths
+pub mod Fitting

@@ -1,0 +1,26 @@
+-- A list of answers, of which some were given before.
+use Rattle.std.proofs.Common.{◌≡◌, List, [], ◌∷◌, ◌++◌, Result, Ok, Err, refl, sym, ap, append_assoc}
+use Rattle.protobuf_wire.specs.Results.{◌>>=◌}
+use Rattle.message_fields.specs.declared.error.MessageError.{MessageError}
+use Rattle.message_fields.specs.Fields.{last_or}
+
+-- those that were given, and then the rest
+abbrev pub after : {B E : Type 0} → List B → Result (List B) E → Result (List B) E
+after front rest = rest >>= λ ys. Ok (front ++ ys)
+
+pub after_next : {B E : Type 0} (front : List B) (y : B) (rest : Result (List B) E) → after front (rest >>= λ ys. Ok (y ∷ ys)) ≡ after (front ++ y ∷ []) rest
+after_next front y (Ok ys) = ap (λ zs. Ok zs) (sym (append_assoc front (y ∷ []) ys))
+after_next front y (Err e) = refl
+
+pub after_none : {B E : Type 0} (rest : Result (List B) E) → after [] rest ≡ rest
+after_none (Ok ys) = refl
+after_none (Err e) = refl
+
+-- the last of what is still to come, or else the one before
+abbrev pub last_after : {B : Type 0} → B → Result (List B) MessageError → Result B MessageError
+last_after last rest = rest >>= λ ys. Ok (last_or last ys)
+
+pub last_after_next : {B : Type 0} (last y : B) (rest : Result (List B) MessageError) → last_after last (rest >>= λ ys. Ok (y ∷ ys)) ≡ last_after y rest
+unfolding last_or
+last_after_next last y (Ok ys) = refl
+last_after_next last y (Err e) = refl

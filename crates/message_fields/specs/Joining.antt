@@ -1,0 +1,32 @@
+-- What the readers of fields keep while they go over the records.
+use Rattle.std.specs.Prelude.{ℕ, ℤ, List, [], ◌∷◌, ◌++◌, map, Option, Some, None, Result, Ok, unwrap_or}
+use Rattle.std.specs.List.{concat}
+use Rattle.protobuf_wire.specs.Results.{◌>>=◌}
+use Rattle.protobuf_wire.specs.Record.{Record}
+use Rattle.message_fields.specs.declared.error.MessageError.{MessageError}
+use Rattle.message_fields.specs.Fields.{parsed, payloads, int32_of, joined_payloads}
+
+-- the records so far, and those of one more payload
+abbrev pub with_records : Option (List Record) → List ℕ → Result (List Record) MessageError
+with_records so_far payload = parsed payload >>= λ rs. Ok (unwrap_or so_far [] ++ rs)
+
+unfoldable pub joined_records : Option (List Record) → List (List ℕ) → Result (Option (List Record)) MessageError
+joined_records so_far [] = Ok so_far
+joined_records so_far (b ∷ bs) = with_records so_far b >>= λ rs. joined_records (Some rs) bs
+
+abbrev pub optional : {V : Type 0} → (List Record → Result V MessageError) → Option (List Record) → Result (Option V) MessageError
+optional value_of None = Ok None
+optional value_of (Some rs) = value_of rs >>= λ v. Ok (Some v)
+
+-- an embedded message by way of its payloads' records joined
+abbrev pub embedded_joined : {V : Type 0} → (List Record → Result V MessageError) → ℕ → List Record → Result (Option V) MessageError
+embedded_joined value_of field rs = joined_records None (payloads field rs) >>= optional value_of
+
+-- the bytes so far, and those of more payloads
+abbrev pub payloads_after : Option (List ℕ) → List (List ℕ) → Option (List ℕ)
+payloads_after None bs = joined_payloads bs
+payloads_after (Some front) bs = Some (front ++ concat bs)
+
+-- the enums so far, and those of more numbers
+abbrev pub with_numbers : List ℤ → Result (List ℕ) MessageError → Result (List ℤ) MessageError
+with_numbers so_far more = more >>= λ ns. Ok (so_far ++ map int32_of ns)

@@ -1,0 +1,12 @@
+pub use Rattle.protobuf_wire.specs.Results
+pub use Rattle.protobuf_wire.specs.Record
+pub use Rattle.protobuf_wire.specs.Reading
+pub use Rattle.protobuf_wire.specs.Shown
+pub use Rattle.protobuf_wire.specs.Spelling
+pub use Rattle.protobuf_wire.specs.Faults
+pub use Rattle.protobuf_wire.specs.Writing
+pub mod Answers
+pub mod Fields
+pub mod Parts
+pub mod Again
+pub mod Joining

@@ -1,0 +1,22 @@
+//! Fields of Protocol Buffers messages by their kinds, and messages made of them.
+#![tactic(auto)]
+
+mod error;
+mod fields;
+mod laws;
+mod message;
+mod parts;
+
+pub use error::MessageError;
+pub use fields::{
+    as_sent, fields_of, flag, int32, int64, octets, repeated_enum, repeated_string, string,
+};
+pub use laws::{a_field_is_read_again, a_message_field_is_read_again};
+pub use message::{Message, embedded, put_embedded, put_repeated, repeated};
+pub use parts::{
+    put_flag, put_int32, put_int64, put_octets, put_repeated_enum, put_repeated_string, put_string,
+};
+pub use protobuf_wire::{Content, Field, WireError, Writer};
+
+#[cfg(test)]
+mod tests;

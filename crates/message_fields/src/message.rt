@@ -1,0 +1,151 @@
+//! A message as a function of its records.
+
+ghost use Rattle.std.specs.Prelude.{◌≡◌, ◌<◌, ◌^◌, ℕ, List, [], Result, Ok, Err, Option, None, Some, map, option_map, length, ◌++◌, OnOk, OnErr};
+ghost use Rattle.protobuf_wire.specs.Writing.{text, message_field};
+ghost use Rattle.protobuf_wire.specs.Record.{Record};
+ghost use Rattle.protobuf_wire.specs.Shown.{view};
+ghost use Rattle.message_fields.specs.declared.error.MessageError.{MessageError};
+ghost use Rattle.message_fields.specs.Answers.{Means};
+ghost use Rattle.message_fields.specs.Fields.{parsed, decoded, embedded, repeated, payloads};
+ghost use Rattle.message_fields.specs.Parts.{text_for, embedded_field, repeated_field};
+ghost use Rattle.message_fields.specs.Joining.{embedded_joined};
+
+use crate::error::MessageError;
+use crate::fields::{fields_of, joined, payload_of};
+use protobuf_wire::{Field, Writer};
+use std::alloc::{AllocError, Global};
+
+/// A type of message, read from records and written as records.
+pub trait Message<'a>: Sized + Drop {
+    /// The message without where it lies in memory.
+    ghost Value: { Type 0 };
+
+    ghost shown: { Self → Value };
+
+    /// What a message's records mean.
+    ghost value_of: { List Record → Result Value MessageError };
+
+    /// The records of the canonical writing.
+    ghost records_for: { Value → List Record };
+
+    /// The message that records mean.
+    fn of_fields(alloc: Global, fields: &[Field<'a>]) -> Result<Self, MessageError>
+        ensures { Means shown result (value_of (map view fields.now)) };
+
+    /// Adds the message's records, by rising field numbers.
+    fn write(&self, writer: &mut Writer) -> Result<(), AllocError>
+        ensures { OnOk result (writer.new ≡ writer.old ++ text (records_for (shown self.now))) };
+
+    /// Adds the canonical text of the message. A refused vector is as before.
+    final fn encode_into(&self, out: &mut Vec<u8>) -> Result<(), AllocError>
+        ensures ok { OnOk result (out.new.items ≡ out.old.items ++ text_for records_for (shown self.now)) }
+        ensures err { OnErr result (out.new.items ≡ out.old.items) }
+    {
+        let mut writer = Writer::new(*out.allocator());
+        self.write(&mut writer)?;
+        out.extend_from_slice(writer.as_bytes())
+    }
+
+    /// The message that a text spells.
+    ///
+    /// All records of the text are read first, and then the fields: where both stand, the first
+    /// fault of the records is answered and not a string that is not UTF-8. Memory is taken for
+    /// the list of records and for repeated fields; strings and bytes lie in `text`.
+    final fn decode(alloc: Global, text: &'a [u8]) -> Result<Self, MessageError>
+        ensures { Means shown result (decoded value_of text.now) }
+    {
+        let fields = fields_of(alloc, text)?;
+        Self::of_fields(alloc, &fields)
+    }
+}
+
+fn one_of_joined<'a, M: Message<'a>>(
+    alloc: Global,
+    records: &[Field<'a>],
+    field: u32,
+) -> Result<Option<M>, MessageError>
+    ensures { Means (option_map M.shown) result (embedded_joined M.value_of field (map view records.now)) }
+{
+    match joined(alloc, records, field)? {
+        None => Ok(None),
+        Some(inner) => Ok(Some(M::of_fields(alloc, &inner)?)),
+    }
+}
+
+/// An embedded message, read from the concatenation of its payloads, or `None` where there are
+/// none. Each payload is well formed by itself.
+pub fn embedded<'a, M: Message<'a>>(
+    alloc: Global,
+    records: &[Field<'a>],
+    field: u32,
+) -> Result<Option<M>, MessageError>
+    ensures { Means (option_map M.shown) result (embedded M.value_of field (map view records.now)) }
+{
+    one_of_joined(alloc, records, field)
+}
+
+/// Repeated messages, in order.
+#[tactic(auto, unfolding(crate::specs::Fields::payloads, crate::specs::Fields::each_of), using(crate::proofs::Lists::after_next, crate::proofs::Lists::after_none))]
+pub fn repeated<'a, M: Message<'a>>(
+    alloc: Global,
+    records: &[Field<'a>],
+    field: u32,
+) -> Result<Vec<M>, MessageError>
+    ensures { Means (λ v. map M.shown v.items) result (repeated M.value_of field (map view records.now)) }
+{
+    let mut messages = Vec::new(alloc);
+    let mut left = records;
+    'records: while let [record, rest @ ..] = left {
+        if let Some(payload) = payload_of(record, field) {
+            messages.push(M::decode(alloc, payload)?)?;
+        }
+        left = rest;
+    }
+    Ok(messages)
+}
+
+fn put_message<'a, M: Message<'a>>(
+    writer: &mut Writer,
+    field: u32,
+    message: &M,
+) -> Result<(), AllocError>
+    requires positive { 0 < field }
+    requires small { field < 2 ^ 29 }
+    ensures { OnOk result (writer.new ≡ writer.old ++ text (message_field field (text_for M.records_for (M.shown message.now)))) }
+{
+    let mut inner = writer.empty();
+    message.write(&mut inner)?;
+    writer.message(field, inner.as_bytes())
+}
+
+/// Adds an embedded message where it is set, also one of length 0.
+pub fn put_embedded<'a, M: Message<'a>>(
+    writer: &mut Writer,
+    field: u32,
+    message: &Option<M>,
+) -> Result<(), AllocError>
+    requires positive { 0 < field }
+    requires small { field < 2 ^ 29 }
+    ensures { OnOk result (writer.new ≡ writer.old ++ text (embedded_field M.records_for field (option_map M.shown message.now))) }
+{
+    match message {
+        None => Ok(()),
+        Some(message) => put_message(writer, field, message),
+    }
+}
+
+/// Adds repeated messages, in order, also those of length 0.
+pub fn put_repeated<'a, M: Message<'a>>(
+    writer: &mut Writer,
+    field: u32,
+    messages: &[M],
+) -> Result<(), AllocError>
+    requires positive { 0 < field }
+    requires small { field < 2 ^ 29 }
+    ensures { OnOk result (writer.new ≡ writer.old ++ text (repeated_field M.records_for field (map M.shown messages.now))) }
+{
+    for message in messages {
+        put_message(writer, field, message)?;
+    }
+    Ok(())
+}

@@ -1,0 +1,82 @@
+//! Writing a field: a call for each kind of field. A default is left out.
+
+ghost use Rattle.std.specs.Prelude.{◌≡◌, ◌<◌, ◌^◌, ℕ, List, map, ◌++◌, OnOk};
+ghost use Rattle.protobuf_wire.specs.Writing.{text, bytes_field};
+ghost use Rattle.message_fields.specs.Parts.{int64_field, int32_field, flag_field, string_field, repeated_enum_field, repeated_string_field};
+
+use protobuf_wire::Writer;
+use std::alloc::AllocError;
+
+/// Adds an `int64`; a negative one takes ten bytes.
+pub fn put_int64(writer: &mut Writer, field: u32, value: i64) -> Result<(), AllocError>
+    requires positive { 0 < field }
+    requires small { field < 2 ^ 29 }
+    ensures { OnOk result (writer.new ≡ writer.old ++ text (int64_field field value)) }
+{
+    writer.varint(field, value.cast_unsigned())
+}
+
+/// Adds an `int32` or an enum; a negative one takes ten bytes, as an `int64` does.
+pub fn put_int32(writer: &mut Writer, field: u32, value: i32) -> Result<(), AllocError>
+    requires positive { 0 < field }
+    requires small { field < 2 ^ 29 }
+    ensures { OnOk result (writer.new ≡ writer.old ++ text (int32_field field value)) }
+{
+    writer.varint(field, i64::from(value).cast_unsigned())
+}
+
+/// Adds a `bool`.
+pub fn put_flag(writer: &mut Writer, field: u32, value: bool) -> Result<(), AllocError>
+    requires positive { 0 < field }
+    requires small { field < 2 ^ 29 }
+    ensures { OnOk result (writer.new ≡ writer.old ++ text (flag_field field value)) }
+{
+    writer.varint(field, u64::from(value))
+}
+
+/// Adds a `bytes`.
+pub fn put_octets(writer: &mut Writer, field: u32, value: &[u8]) -> Result<(), AllocError>
+    requires positive { 0 < field }
+    requires small { field < 2 ^ 29 }
+    ensures { OnOk result (writer.new ≡ writer.old ++ text (bytes_field field value.now)) }
+{
+    writer.bytes(field, value)
+}
+
+/// Adds a `string`.
+pub fn put_string(writer: &mut Writer, field: u32, value: &str) -> Result<(), AllocError>
+    requires positive { 0 < field }
+    requires small { field < 2 ^ 29 }
+    ensures { OnOk result (writer.new ≡ writer.old ++ text (string_field field value.now)) }
+{
+    writer.bytes(field, value.as_bytes())
+}
+
+/// Adds a `repeated string`, empty strings too.
+pub fn put_repeated_string(
+    writer: &mut Writer,
+    field: u32,
+    values: &[&str],
+) -> Result<(), AllocError>
+    requires positive { 0 < field }
+    requires small { field < 2 ^ 29 }
+    ensures { OnOk result (writer.new ≡ writer.old ++ text (repeated_string_field field (map (λ s. s.now) values.now))) }
+{
+    for value in values {
+        writer.message(field, value.as_bytes())?;
+    }
+    Ok(())
+}
+
+/// Adds a repeated enum, packed in one record.
+pub fn put_repeated_enum(writer: &mut Writer, field: u32, values: &[i32]) -> Result<(), AllocError>
+    requires positive { 0 < field }
+    requires small { field < 2 ^ 29 }
+    ensures { OnOk result (writer.new ≡ writer.old ++ text (repeated_enum_field field values.now)) }
+{
+    let mut packed = writer.empty();
+    for value in values {
+        packed.packed_number(i64::from(*value).cast_unsigned())?;
+    }
+    writer.bytes(field, packed.as_bytes())
+}

@@ -1,0 +1,9 @@
+pub mod Tools
+pub mod Items
+pub mod Varints
+pub mod Records
+pub mod Writings
+pub mod Texts
+pub mod Steps
+pub mod Refusals
+pub mod Fronts

@@ -1,0 +1,67 @@
+-- The canonical writing.
+use Rattle.std.specs.Prelude.{◌≡◌, ℕ, zero, suc, ◌+◌, ◌*◌, ◌/◌, ◌%◌, ◌^◌, ◌<◌, List, [], ◌∷◌, ◌++◌, length, nat_lt, ◌==◌, if◌then◌else◌}
+use Rattle.std.specs.List.{flat_map}
+use Rattle.protobuf_wire.specs.Record.{Value, Number, Eight, Payload, Four, Record}
+use Rattle.protobuf_wire.specs.Spelling.{wire_type}
+
+-- the shortest groups for a number, of which there are no more than the number says
+unfoldable pub groups_in : ℕ → ℕ → List ℕ
+groups_in zero n = n ∷ []
+groups_in (suc more) n = if nat_lt n 128 then n ∷ [] else (n % 128 + 128) ∷ groups_in more (n / 128)
+
+unfoldable pub varint : ℕ → List ℕ
+varint n = groups_in n n
+
+abbrev pub content_text : Value → List ℕ
+content_text (Number n) = varint n
+content_text (Eight bytes) = bytes
+content_text (Payload bytes) = varint (length bytes) ++ bytes
+content_text (Four bytes) = bytes
+
+abbrev pub record_text : Record → List ℕ
+record_text r = varint (8 * r.number + wire_type r.value) ++ content_text r.value
+
+-- a message
+abbrev pub text : List Record → List ℕ
+text rs = flat_map record_text rs
+
+-- the payload of a packed field
+abbrev pub packed_text : List ℕ → List ℕ
+packed_text ns = flat_map varint ns
+
+-- ---- the records of a field
+
+-- a number, or nothing where it is the default
+abbrev pub number_field : ℕ → ℕ → List Record
+number_field number n = if n == 0 then [] else record { number = number; value = Number n } ∷ []
+
+-- a payload, also an empty one
+abbrev pub message_field : ℕ → List ℕ → List Record
+message_field number bytes = record { number = number; value = Payload bytes } ∷ []
+
+-- a string or bytes, or nothing where it is the default
+abbrev pub bytes_field : ℕ → List ℕ → List Record
+bytes_field number bytes = if length bytes == 0 then [] else message_field number bytes
+
+-- numbers in one record, or nothing where there are none
+abbrev pub packed_field : ℕ → List ℕ → List Record
+packed_field number ns = bytes_field number (packed_text ns)
+
+-- ---- what can be written
+
+abbrev pub FitsContent : Value → Type 0
+FitsContent (Number n) = n < 2 ^ 64
+FitsContent (Eight bytes) = length bytes ≡ 8
+FitsContent (Payload bytes) = length bytes < 2 ^ 64
+FitsContent (Four bytes) = length bytes ≡ 4
+
+pub record IsWritable (r : Record) : Type 0 where
+  pub positive : 0 < r.number
+  pub small : r.number < 2 ^ 29
+  pub value : FitsContent r.value
+
+-- ---- what a refused call leaves
+
+-- a text, and perhaps more behind it
+abbrev pub BeginsWith : List ℕ → List ℕ → Type 0
+BeginsWith whole front = (rest : List ℕ) × (whole ≡ front ++ rest)

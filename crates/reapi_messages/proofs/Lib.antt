@@ -1,0 +1,6 @@
+pub mod Texts
+pub mod DigestsAgain
+pub mod FindMissingAgain
+pub mod StatusesAgain
+pub mod BatchesAgain
+pub mod CapabilitiesAgain

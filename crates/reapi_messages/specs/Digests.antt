@@ -1,0 +1,32 @@
+-- build.bazel.remote.execution.v2.Digest
+use Rattle.std.specs.Prelude.{ℕ, ℤ, List, ◌++◌, Result, Ok, ◌≡◌, true, FitsSigned}
+use Rattle.std.specs.Str.{is_utf8}
+use Rattle.std.specs.Int.{w64}
+use Rattle.message_fields.specs.declared.error.MessageError.{MessageError}
+use Rattle.message_fields.specs.Results.{◌>>=◌}
+use Rattle.message_fields.specs.Record.{Record}
+use Rattle.message_fields.specs.Fields.{string, int64}
+use Rattle.message_fields.specs.Parts.{string_field, int64_field}
+use Rattle.reapi_messages.specs.declared.digest.Digest.{Digest}
+
+-- hash 1, size_bytes 2
+pub record DigestValue : Type 0 where
+  pub hash : List ℕ
+  pub size_bytes : ℤ
+
+abbrev pub digest_shown : Digest → DigestValue
+digest_shown m = record { hash = m.hash.now; size_bytes = m.size_bytes }
+
+unfoldable pub digest_of : List Record → Result DigestValue MessageError
+digest_of rs = do
+  hash ← string 1 rs
+  Ok (record { hash = hash; size_bytes = int64 2 rs })
+
+abbrev pub digest_records : DigestValue → List Record
+digest_records v = string_field 1 v.hash ++ int64_field 2 v.size_bytes
+
+-- ---- what fits the types of the fields
+
+pub record FitsDigest (v : DigestValue) : Type 0 where
+  pub hash : is_utf8 v.hash ≡ true
+  pub size_bytes : FitsSigned w64 v.size_bytes

@@ -1,0 +1,17 @@
+pub use Rattle.protobuf_wire.specs.Results
+pub use Rattle.protobuf_wire.specs.Record
+pub use Rattle.protobuf_wire.specs.Reading
+pub use Rattle.protobuf_wire.specs.Shown
+pub use Rattle.protobuf_wire.specs.Spelling
+pub use Rattle.protobuf_wire.specs.Faults
+pub use Rattle.protobuf_wire.specs.Writing
+pub mod Errors
+pub use Rattle.message_fields.specs.Answers
+pub use Rattle.message_fields.specs.Fields
+pub use Rattle.message_fields.specs.Parts
+pub use Rattle.message_fields.specs.Again
+pub mod Digests
+pub mod FindMissing
+pub mod Statuses
+pub mod Batches
+pub mod Capabilities

@@ -1,0 +1,254 @@
+//! BatchUpdateBlobs and BatchReadBlobs of the ContentAddressableStorage service.
+
+ghost use Rattle.std.specs.Prelude.{◌≡◌};
+
+use crate::digest::Digest;
+use crate::status::Status;
+use message_fields::{
+    Field, Message, MessageError, Writer, embedded, int32, octets, put_embedded, put_int32,
+    put_octets, put_repeated, put_string, repeated, string,
+};
+use std::alloc::{AllocError, Global};
+
+/// `build.bazel.remote.execution.v2.BatchUpdateBlobsRequest.Request`.
+#[derive(Clone, Copy)]
+pub struct UpdateBlobRequest<'a> {
+    pub digest: Option<Digest<'a>>,
+    /// The field `data`.
+    pub content: &'a [u8],
+    /// A number of the enum `Compressor.Value`; 0 is IDENTITY.
+    pub compressor: i32,
+}
+
+impl<'a> Message<'a> for UpdateBlobRequest<'a> {
+    ghost use Rattle.reapi_messages.specs.Batches.{UpdateBlobRequestValue, update_blob_request_shown, update_blob_request_of, update_blob_request_records};
+
+    ghost Value = { UpdateBlobRequestValue };
+
+    ghost shown = { update_blob_request_shown };
+
+    ghost value_of = { update_blob_request_of };
+
+    ghost records_for = { update_blob_request_records };
+
+    #[tactic(auto, unfolding(crate::specs::Batches::update_blob_request_of))]
+    fn of_fields(alloc: Global, fields: &[Field<'a>]) -> Result<Self, MessageError> {
+        Ok(UpdateBlobRequest {
+            digest: embedded(alloc, fields, 1)?,
+            content: octets(fields, 2),
+            compressor: int32(fields, 3),
+        })
+    }
+
+    #[tactic(auto, using(crate::proofs::Texts::written_more))]
+    fn write(&self, writer: &mut Writer) -> Result<(), AllocError> {
+        put_embedded(writer, 1, &self.digest)?;
+        put_octets(writer, 2, self.content)?;
+        put_int32(writer, 3, self.compressor)
+    }
+}
+
+/// `build.bazel.remote.execution.v2.BatchUpdateBlobsRequest`.
+#[derive(Drop)]
+pub struct BatchUpdateBlobsRequest<'a> {
+    pub instance_name: &'a str,
+    pub requests: Vec<UpdateBlobRequest<'a>>,
+    /// A number of the enum `DigestFunction.Value`; 0 where it is not set.
+    pub digest_function: i32,
+}
+
+impl<'a> Message<'a> for BatchUpdateBlobsRequest<'a> {
+    ghost use Rattle.reapi_messages.specs.Batches.{BatchUpdateBlobsRequestValue, batch_update_blobs_request_shown, batch_update_blobs_request_of, batch_update_blobs_request_records};
+
+    ghost Value = { BatchUpdateBlobsRequestValue };
+
+    ghost shown = { batch_update_blobs_request_shown };
+
+    ghost value_of = { batch_update_blobs_request_of };
+
+    ghost records_for = { batch_update_blobs_request_records };
+
+    #[tactic(auto, unfolding(crate::specs::Batches::batch_update_blobs_request_of))]
+    fn of_fields(alloc: Global, fields: &[Field<'a>]) -> Result<Self, MessageError> {
+        Ok(BatchUpdateBlobsRequest {
+            instance_name: string(fields, 1)?,
+            requests: repeated(alloc, fields, 2)?,
+            digest_function: int32(fields, 5),
+        })
+    }
+
+    #[tactic(auto, using(crate::proofs::Texts::written_more))]
+    fn write(&self, writer: &mut Writer) -> Result<(), AllocError> {
+        put_string(writer, 1, self.instance_name)?;
+        put_repeated(writer, 2, &self.requests)?;
+        put_int32(writer, 5, self.digest_function)
+    }
+}
+
+/// `build.bazel.remote.execution.v2.BatchUpdateBlobsResponse.Response`.
+#[derive(Drop)]
+pub struct UpdateBlobResponse<'a> {
+    pub digest: Option<Digest<'a>>,
+    pub status: Option<Status<'a>>,
+}
+
+impl<'a> Message<'a> for UpdateBlobResponse<'a> {
+    ghost use Rattle.reapi_messages.specs.Batches.{UpdateBlobResponseValue, update_blob_response_shown, update_blob_response_of, update_blob_response_records};
+
+    ghost Value = { UpdateBlobResponseValue };
+
+    ghost shown = { update_blob_response_shown };
+
+    ghost value_of = { update_blob_response_of };
+
+    ghost records_for = { update_blob_response_records };
+
+    #[tactic(auto, unfolding(crate::specs::Batches::update_blob_response_of))]
+    fn of_fields(alloc: Global, fields: &[Field<'a>]) -> Result<Self, MessageError> {
+        Ok(UpdateBlobResponse {
+            digest: embedded(alloc, fields, 1)?,
+            status: embedded(alloc, fields, 2)?,
+        })
+    }
+
+    #[tactic(auto, using(crate::proofs::Texts::written_more))]
+    fn write(&self, writer: &mut Writer) -> Result<(), AllocError> {
+        put_embedded(writer, 1, &self.digest)?;
+        put_embedded(writer, 2, &self.status)
+    }
+}
+
+/// `build.bazel.remote.execution.v2.BatchUpdateBlobsResponse`.
+#[derive(Drop)]
+pub struct BatchUpdateBlobsResponse<'a> {
+    pub responses: Vec<UpdateBlobResponse<'a>>,
+}
+
+impl<'a> Message<'a> for BatchUpdateBlobsResponse<'a> {
+    ghost use Rattle.reapi_messages.specs.Batches.{BatchUpdateBlobsResponseValue, batch_update_blobs_response_shown, batch_update_blobs_response_of, batch_update_blobs_response_records};
+
+    ghost Value = { BatchUpdateBlobsResponseValue };
+
+    ghost shown = { batch_update_blobs_response_shown };
+
+    ghost value_of = { batch_update_blobs_response_of };
+
+    ghost records_for = { batch_update_blobs_response_records };
+
+    #[tactic(auto, unfolding(crate::specs::Batches::batch_update_blobs_response_of))]
+    fn of_fields(alloc: Global, fields: &[Field<'a>]) -> Result<Self, MessageError> {
+        Ok(BatchUpdateBlobsResponse {
+            responses: repeated(alloc, fields, 1)?,
+        })
+    }
+
+    #[tactic(auto, using(crate::proofs::Texts::written_more))]
+    fn write(&self, writer: &mut Writer) -> Result<(), AllocError> {
+        put_repeated(writer, 1, &self.responses)
+    }
+}
+
+/// `build.bazel.remote.execution.v2.BatchReadBlobsRequest`. The field `acceptable_compressors` is
+/// skipped.
+#[derive(Drop)]
+pub struct BatchReadBlobsRequest<'a> {
+    pub instance_name: &'a str,
+    pub digests: Vec<Digest<'a>>,
+    /// A number of the enum `DigestFunction.Value`; 0 where it is not set.
+    pub digest_function: i32,
+}
+
+impl<'a> Message<'a> for BatchReadBlobsRequest<'a> {
+    ghost use Rattle.reapi_messages.specs.Batches.{BatchReadBlobsRequestValue, batch_read_blobs_request_shown, batch_read_blobs_request_of, batch_read_blobs_request_records};
+
+    ghost Value = { BatchReadBlobsRequestValue };
+
+    ghost shown = { batch_read_blobs_request_shown };
+
+    ghost value_of = { batch_read_blobs_request_of };
+
+    ghost records_for = { batch_read_blobs_request_records };
+
+    #[tactic(auto, unfolding(crate::specs::Batches::batch_read_blobs_request_of))]
+    fn of_fields(alloc: Global, fields: &[Field<'a>]) -> Result<Self, MessageError> {
+        Ok(BatchReadBlobsRequest {
+            instance_name: string(fields, 1)?,
+            digests: repeated(alloc, fields, 2)?,
+            digest_function: int32(fields, 4),
+        })
+    }
+
+    #[tactic(auto, using(crate::proofs::Texts::written_more))]
+    fn write(&self, writer: &mut Writer) -> Result<(), AllocError> {
+        put_string(writer, 1, self.instance_name)?;
+        put_repeated(writer, 2, &self.digests)?;
+        put_int32(writer, 4, self.digest_function)
+    }
+}
+
+/// `build.bazel.remote.execution.v2.BatchReadBlobsResponse.Response`.
+#[derive(Drop)]
+pub struct ReadBlobResponse<'a> {
+    pub digest: Option<Digest<'a>>,
+    /// The field `data`.
+    pub content: &'a [u8],
+    pub status: Option<Status<'a>>,
+}
+
+impl<'a> Message<'a> for ReadBlobResponse<'a> {
+    ghost use Rattle.reapi_messages.specs.Batches.{ReadBlobResponseValue, read_blob_response_shown, read_blob_response_of, read_blob_response_records};
+
+    ghost Value = { ReadBlobResponseValue };
+
+    ghost shown = { read_blob_response_shown };
+
+    ghost value_of = { read_blob_response_of };
+
+    ghost records_for = { read_blob_response_records };
+
+    #[tactic(auto, unfolding(crate::specs::Batches::read_blob_response_of))]
+    fn of_fields(alloc: Global, fields: &[Field<'a>]) -> Result<Self, MessageError> {
+        Ok(ReadBlobResponse {
+            digest: embedded(alloc, fields, 1)?,
+            content: octets(fields, 2),
+            status: embedded(alloc, fields, 3)?,
+        })
+    }
+
+    #[tactic(auto, using(crate::proofs::Texts::written_more))]
+    fn write(&self, writer: &mut Writer) -> Result<(), AllocError> {
+        put_embedded(writer, 1, &self.digest)?;
+        put_octets(writer, 2, self.content)?;
+        put_embedded(writer, 3, &self.status)
+    }
+}
+
+/// `build.bazel.remote.execution.v2.BatchReadBlobsResponse`.
+#[derive(Drop)]
+pub struct BatchReadBlobsResponse<'a> {
+    pub responses: Vec<ReadBlobResponse<'a>>,
+}
+
+impl<'a> Message<'a> for BatchReadBlobsResponse<'a> {
+    ghost use Rattle.reapi_messages.specs.Batches.{BatchReadBlobsResponseValue, batch_read_blobs_response_shown, batch_read_blobs_response_of, batch_read_blobs_response_records};
+
+    ghost Value = { BatchReadBlobsResponseValue };
+
+    ghost shown = { batch_read_blobs_response_shown };
+
+    ghost value_of = { batch_read_blobs_response_of };
+
+    ghost records_for = { batch_read_blobs_response_records };
+
+    #[tactic(auto, unfolding(crate::specs::Batches::batch_read_blobs_response_of))]
+    fn of_fields(alloc: Global, fields: &[Field<'a>]) -> Result<Self, MessageError> {
+        Ok(BatchReadBlobsResponse {
+            responses: repeated(alloc, fields, 1)?,
+        })
+    }
+
+    #[tactic(auto, using(crate::proofs::Texts::written_more))]
+    fn write(&self, writer: &mut Writer) -> Result<(), AllocError> {
+        put_repeated(writer, 1, &self.responses)
+    }
+}

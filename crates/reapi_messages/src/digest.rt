@@ -1,0 +1,38 @@
+ghost use Rattle.std.specs.Prelude.{◌≡◌};
+
+use message_fields::{Field, Message, MessageError, Writer, int64, put_int64, put_string, string};
+use std::alloc::{AllocError, Global};
+
+/// `build.bazel.remote.execution.v2.Digest`, as it was sent: neither field is checked.
+#[derive(Clone, Copy)]
+pub struct Digest<'a> {
+    pub hash: &'a str,
+    /// In bytes.
+    pub size_bytes: i64,
+}
+
+impl<'a> Message<'a> for Digest<'a> {
+    ghost use Rattle.reapi_messages.specs.Digests.{DigestValue, digest_shown, digest_of, digest_records};
+
+    ghost Value = { DigestValue };
+
+    ghost shown = { digest_shown };
+
+    ghost value_of = { digest_of };
+
+    ghost records_for = { digest_records };
+
+    #[tactic(auto, unfolding(crate::specs::Digests::digest_of))]
+    fn of_fields(_alloc: Global, fields: &[Field<'a>]) -> Result<Self, MessageError> {
+        Ok(Digest {
+            hash: string(fields, 1)?,
+            size_bytes: int64(fields, 2),
+        })
+    }
+
+    #[tactic(auto, using(crate::proofs::Texts::written_more))]
+    fn write(&self, writer: &mut Writer) -> Result<(), AllocError> {
+        put_string(writer, 1, self.hash)?;
+        put_int64(writer, 2, self.size_bytes)
+    }
+}

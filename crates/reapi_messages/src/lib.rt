@@ -1,0 +1,34 @@
+//! Messages of the Remote Execution API, v2, and of google.rpc that it uses: read and written.
+//!
+//! Every message is a type with a `Message` impl. `decode` gives the meaning of a text, and
+//! `encode_into` adds the canonical text. Strings and bytes borrow from the text that was read.
+//! Fields have the names of the proto files, but for `data`, which is `content` here. Fields that a
+//! type does not name are skipped.
+#![tactic(auto)]
+
+mod batches;
+mod capabilities;
+mod digest;
+mod find_missing;
+mod laws;
+mod status;
+
+pub use batches::{
+    BatchReadBlobsRequest, BatchReadBlobsResponse, BatchUpdateBlobsRequest,
+    BatchUpdateBlobsResponse, ReadBlobResponse, UpdateBlobRequest, UpdateBlobResponse,
+};
+pub use capabilities::{
+    ActionCacheUpdateCapabilities, CacheCapabilities, ExecutionCapabilities,
+    GetCapabilitiesRequest, SemVer, ServerCapabilities,
+};
+pub use digest::Digest;
+pub use find_missing::{FindMissingBlobsRequest, FindMissingBlobsResponse};
+pub use laws::{
+    batch_read_blobs_is_read_again, batch_update_blobs_is_read_again, capabilities_are_read_again,
+    digests_are_read_again, find_missing_blobs_is_read_again, statuses_are_read_again,
+};
+pub use message_fields::{Field, Message, MessageError, WireError, Writer};
+pub use status::{Any, Status};
+
+#[cfg(test)]
+mod tests;

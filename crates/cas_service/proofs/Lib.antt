@@ -1,0 +1,4 @@
+mod Digests
+mod Unseen
+mod Uses
+mod Storing

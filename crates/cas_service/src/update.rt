@@ -1,0 +1,263 @@
+ghost use Rattle.std.specs.Prelude.{◌≡◌, ◌≤◌, ◌^◌, ℕ, List, map, length, option_map, OnOk, OnErr, IfOk, IsErrOf};
+ghost use Rattle.reapi_messages.specs.Digests.{digest_shown};
+ghost use Rattle.reapi_messages.specs.Batches.{update_blob_request_shown, update_blob_response_shown};
+ghost use Rattle.reapi_messages.specs.Statuses.{status_shown};
+ghost use Rattle.call_status.specs.declared.refusal.Refusal.{Refusal};
+ghost use Rattle.digest.specs.Naming.{Names};
+ghost use Rattle.quota_evict.specs.Admission.{admitted};
+ghost use Rattle.quota_evict.specs.Within.{Within};
+ghost use Rattle.cas_service.specs.declared.error.CallError.TheVariants.{Refused};
+ghost use Rattle.cas_service.specs.Answers.{Answers};
+ghost use Rattle.cas_service.specs.Changes.{MadeInPart, changed};
+ghost use Rattle.cas_service.specs.Requests.{of_batch_size};
+ghost use Rattle.cas_service.specs.Statuses.{status_of_result};
+ghost use Rattle.cas_service.specs.BatchUpdate.{blobs_sent, sent_size, known_compressor, set_digest, naming, within_quota, stored_under, update_response, update_reply, batch_update_reply, store_of, stores, batch_update_changes};
+ghost use Rattle.cas_service.specs.Shown.{blob, verdict};
+
+use crate::error::CallError;
+use crate::requests::{MOST_BATCH_BYTES, check_function, check_instance, read_digest};
+use crate::statuses::{ok_status, refused_status};
+use call_status::Refusal;
+use digest::Digest;
+use instance_view::View;
+use quota_evict::{AdmitError, admit};
+use reapi_messages as messages;
+use reapi_messages::{
+    BatchUpdateBlobsRequest, BatchUpdateBlobsResponse, Message, Status, UpdateBlobRequest,
+    UpdateBlobResponse,
+};
+use std::alloc::{AllocError, Global};
+
+/// A blob that a request sends, and the digest under which it is stored or why it is not.
+#[derive(Clone, Copy)]
+pub struct Judged<'a> {
+    pub sent: UpdateBlobRequest<'a>,
+    pub verdict: Result<Digest, Refusal>,
+}
+
+/// The blobs of a request have to have at most 4,000,000 bytes together.
+fn check_sent_size(requests: &[UpdateBlobRequest<'_>]) -> Result<(), Refusal>
+    ensures { result ≡ of_batch_size (sent_size (map update_blob_request_shown requests.now)) }
+{
+    let mut room = MOST_BATCH_BYTES;
+    let mut left = requests;
+    'blobs: while let [first, rest @ ..] = left {
+        let size = first.content.len() as u64;
+        if size > room {
+            return Err(Refusal::BatchTooLarge);
+        }
+        room -= size;
+        left = rest;
+    }
+    Ok(())
+}
+
+/// The blobs that a request sends.
+#[tactic(auto, unfolding(crate::specs::BatchUpdate::blobs_sent))]
+fn read_request<'a>(
+    alloc: Global,
+    own: &str,
+    message: &'a [u8],
+) -> Result<Vec<UpdateBlobRequest<'a>>, CallError>
+    ensures { Answers (λ requests. map update_blob_request_shown requests.items) result (blobs_sent own.now message.now) }
+{
+    let request = BatchUpdateBlobsRequest::decode(alloc, message)?;
+    check_instance(own, request.instance_name)?;
+    check_function(request.digest_function)?;
+    check_sent_size(&request.requests)?;
+    Ok(request.requests)
+}
+
+/// The compressor has to be the identity.
+fn check_compressor(compressor: i32) -> Result<(), Refusal>
+    ensures { result ≡ known_compressor compressor }
+{
+    if compressor == 0 {
+        Ok(())
+    } else {
+        Err(Refusal::UnsupportedCompressor)
+    }
+}
+
+/// The digest of a blob that is sent.
+fn read_set_digest(sent: &Option<messages::Digest<'_>>) -> Result<Digest, Refusal>
+    ensures { result ≡ set_digest (option_map digest_shown sent.now) }
+{
+    match sent {
+        Some(digest) => read_digest(digest),
+        None => Err(Refusal::BadDigest),
+    }
+}
+
+/// The digest has to name the bytes.
+fn check_naming(digest: &Digest, bytes: &[u8]) -> Result<(), Refusal>
+    ensures { result ≡ naming digest.now bytes.now }
+{
+    if digest::matches(digest, bytes) {
+        Ok(())
+    } else {
+        Err(Refusal::DigestDoesNotMatch)
+    }
+}
+
+/// A blob has to be no longer than the quota.
+fn check_quota(quota: u64, bytes: &[u8]) -> Result<(), Refusal>
+    ensures { result ≡ within_quota quota bytes.now }
+{
+    if bytes.len() as u64 > quota {
+        Err(Refusal::QuotaExceeded)
+    } else {
+        Ok(())
+    }
+}
+
+/// The digest under which a blob is stored, or why it is not.
+#[tactic(auto, unfolding(crate::specs::BatchUpdate::stored_under))]
+fn judge(quota: u64, sent: &UpdateBlobRequest<'_>) -> Result<Digest, Refusal>
+    ensures { result ≡ stored_under quota (update_blob_request_shown sent.now) }
+{
+    check_compressor(sent.compressor)?;
+    let digest = read_set_digest(&sent.digest)?;
+    check_naming(&digest, sent.content)?;
+    check_quota(quota, sent.content)?;
+    Ok(digest)
+}
+
+/// What becomes of each blob, in order.
+fn judge_all<'a>(
+    alloc: Global,
+    quota: u64,
+    requests: &[UpdateBlobRequest<'a>],
+) -> Result<Vec<Judged<'a>>, AllocError>
+    ensures blobs { IfOk result (λ judged. map blob judged.items ≡ map update_blob_request_shown requests.now) }
+    ensures verdicts { IfOk result (λ judged. map verdict judged.items ≡ map (stored_under quota) (map blob judged.items)) }
+{
+    let mut judged = Vec::new(alloc);
+    let mut left = requests;
+    'blobs: while let [first, rest @ ..] = left {
+        let verdict = judge(quota, first);
+        judged.push(Judged {
+            sent: *first,
+            verdict,
+        })?;
+        left = rest;
+    }
+    Ok(judged)
+}
+
+/// What became of a blob.
+fn status<'a>(alloc: Global, verdict: Result<Digest, Refusal>) -> Status<'a>
+    ensures { status_shown result ≡ status_of_result verdict }
+{
+    match verdict {
+        Ok(_) => ok_status(alloc),
+        Err(refusal) => refused_status(alloc, refusal),
+    }
+}
+
+/// A response to each blob, in order.
+fn responses_to<'a>(
+    alloc: Global,
+    quota: u64,
+    judged: &[Judged<'a>],
+) -> Result<Vec<UpdateBlobResponse<'a>>, AllocError>
+    requires verdicts { map verdict judged.now ≡ map (stored_under quota) (map blob judged.now) }
+    ensures { IfOk result (λ responses. map update_blob_response_shown responses.items ≡ map (update_response quota) (map blob judged.now)) }
+{
+    let mut responses = Vec::new(alloc);
+    let mut left = judged;
+    'blobs: while let [first, rest @ ..] = left {
+        responses.push(UpdateBlobResponse {
+            digest: first.sent.digest,
+            status: Some(status(alloc, first.verdict)),
+        })?;
+        left = rest;
+    }
+    Ok(responses)
+}
+
+/// The message that says what becomes of each blob.
+fn reply_to(alloc: Global, quota: u64, judged: &[Judged<'_>]) -> Result<Vec<u8>, AllocError>
+    requires verdicts { map verdict judged.now ≡ map (stored_under quota) (map blob judged.now) }
+    ensures { IfOk result (λ reply. reply.items ≡ update_reply quota (map blob judged.now)) }
+{
+    let responses = responses_to(alloc, quota, judged)?;
+    let response = BatchUpdateBlobsResponse { responses };
+    let mut reply = Vec::new(alloc);
+    response.encode_into(&mut reply)?;
+    Ok(reply)
+}
+
+/// Stores bytes that the quota allows.
+fn store(view: &mut View, quota: u64, digest: &Digest, bytes: &[u8]) -> Result<(), AllocError>
+    requires quota { quota ≤ 2 ^ 40 }
+    requires within { Within quota view.old }
+    requires named { Names digest.now bytes.now }
+    requires fits { length bytes.now ≤ quota }
+    ensures ok { OnOk result (view.new ≡ admitted quota digest.now bytes.now view.old) }
+    ensures err { OnErr result (view.new ≡ view.old) }
+    ensures within { Within quota view.new }
+{
+    match admit(view, quota, digest, bytes) {
+        Ok(()) => Ok(()),
+        Err(AdmitError::NoMemory) => Err(AllocError),
+        Err(AdmitError::TooLarge) => unreachable!(),
+    }
+}
+
+/// Stores a blob that is not refused.
+fn store_judged(view: &mut View, quota: u64, judged: &Judged<'_>) -> Result<(), AllocError>
+    requires quota { quota ≤ 2 ^ 40 }
+    requires within { Within quota view.old }
+    requires verdict { judged.now.verdict ≡ stored_under quota (blob judged.now) }
+    ensures ok { OnOk result (view.new ≡ changed quota (store_of judged.now.sent.content.now judged.now.verdict) view.old) }
+    ensures err { OnErr result (view.new ≡ view.old) }
+    ensures within { Within quota view.new }
+{
+    match judged.verdict {
+        Ok(digest) => store(view, quota, &digest, judged.sent.content),
+        Err(_) => Ok(()),
+    }
+}
+
+/// Stores the blobs that are not refused, in order, up to one for which there is no memory.
+fn store_all(view: &mut View, quota: u64, judged: &[Judged<'_>]) -> Result<(), AllocError>
+    requires quota { quota ≤ 2 ^ 40 }
+    requires within { Within quota view.old }
+    requires verdicts { map verdict judged.now ≡ map (stored_under quota) (map blob judged.now) }
+    ensures stored { OnOk result (view.new ≡ changed quota (stores quota (map blob judged.now)) view.old) }
+    ensures memory { OnErr result (MadeInPart quota (stores quota (map blob judged.now)) view.old view.new) }
+    ensures within { Within quota view.new }
+{
+    let mut left = judged;
+    'blobs: while let [first, rest @ ..] = left {
+        store_judged(view, quota, first)?;
+        left = rest;
+    }
+    Ok(())
+}
+
+/// Answers `BatchUpdateBlobs`: what became of each blob of the request, in order. The blobs that are not refused are
+/// stored, in order, within `quota` bytes. A refused call changes nothing; one that ends for want of memory may have
+/// stored the first of the blobs.
+pub fn batch_update(
+    alloc: Global,
+    own: &str,
+    quota: u64,
+    view: &mut View,
+    message: &[u8],
+) -> Result<Vec<u8>, CallError>
+    requires quota { quota ≤ 2 ^ 40 }
+    requires within { Within quota view.old }
+    ensures reply { Answers (λ reply. reply.items) result (batch_update_reply own.now quota message.now) }
+    ensures stored { OnOk result (view.new ≡ changed quota (batch_update_changes own.now quota message.now) view.old) }
+    ensures refused { (refusal : Refusal) → IsErrOf result (Refused refusal) → view.new ≡ view.old }
+    ensures memory { OnErr result (MadeInPart quota (batch_update_changes own.now quota message.now) view.old view.new) }
+    ensures within { Within quota view.new }
+{
+    let requests = read_request(alloc, own, message)?;
+    let judged = judge_all(alloc, quota, &requests)?;
+    let reply = reply_to(alloc, quota, &judged)?;
+    store_all(view, quota, &judged)?;
+    Ok(reply)
+}

@@ -1,0 +1,3 @@
+mod Digits
+pub mod Writings
+pub mod Same

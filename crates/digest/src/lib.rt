@@ -1,0 +1,156 @@
+//! Digests: what names a blob (`build.bazel.remote.execution.v2.Digest`).
+#![tactic(auto)]
+
+ghost use Rattle.std.specs.Prelude.{◌≡◌, ◌↔◌, ◌<◌, ◌^◌, ◌++◌, ℕ, List, [], length, IsTrue, IfSome, IsNone};
+ghost use Rattle.digest.specs.Naming.{Names, digest_of, same};
+ghost use Rattle.std.specs.List.{list_all};
+ghost use Rattle.hex.specs.Hex.{IsBytes};
+ghost use Rattle.digest.specs.Text as text;
+ghost use Rattle.digest.specs.Text.{IsWritten, digest_in, hash_in, unsigned_of};
+ghost use Rattle.digest.specs.Hashing.{Holds};
+
+use sha2::{Digest as Hash, Sha256};
+use std::marker::Model;
+
+/// The SHA-256 (FIPS 180-4) and the length in bytes of a blob.
+#[derive(Clone, Copy, PartialEq, Eq, Hash)]
+pub struct Digest {
+    pub hash: [u8; 32],
+    pub size: u64,
+}
+
+impl Digest {
+    /// The digest of some bytes.
+    pub fn of(bytes: &[u8]) -> Digest
+        ensures value { result ≡ digest_of bytes.now }
+        ensures names { Names result bytes.now }
+    {
+        Digest {
+            hash: Sha256::digest(bytes),
+            size: bytes.len() as u64,
+        }
+    }
+
+    /// The digest that a message writes: 64 lower-case hexadecimal digits, and a size that is not negative.
+    pub fn parse(hash: &str, size: i64) -> Option<Digest>
+        ensures value { result ≡ digest_in hash.now size }
+        ensures written { IfSome result (λ d. IsWritten d hash.now size) }
+        // Nothing else is refused.
+        ensures refused { IsNone result → (d : Digest) → length d.hash ≡ 32 → IsBytes d.hash → ¬ (IsWritten d hash.now size) }
+    {
+        read(hash, size)
+    }
+
+    /// Whether it names the empty text.
+    pub fn is_empty(&self) -> bool
+        ensures { result ≡ same self.now (digest_of []) }
+    {
+        self.size == 0 && is_same(self, &Digest::of(&[]))
+    }
+}
+
+fn is_lower_digit(c: u8) -> bool
+    ensures { result ≡ text.is_lower_digit c }
+{
+    (b'0' <= c && c <= b'9') || (b'a' <= c && c <= b'f')
+}
+
+/// Whether the bytes are lower-case hexadecimal digits.
+fn are_lower_digits(bytes: &[u8]) -> bool
+    ensures { result ≡ list_all text.is_lower_digit bytes.now }
+{
+    bytes.iter().all(|c| is_lower_digit(*c))
+}
+
+/// The bytes that 64 lower-case hexadecimal digits write.
+fn hash(digits: &str) -> Option<[u8; 32]>
+    ensures { result ≡ hash_in digits.now }
+{
+    if !are_lower_digits(digits.as_bytes()) {
+        return None;
+    }
+    let mut bytes = [0u8; 32];
+    match hex::decode_to_slice(digits, &mut bytes) {
+        Ok(()) => Some(bytes),
+        Err(_) => None,
+    }
+}
+
+fn unsigned(size: i64) -> Option<u64>
+    ensures { result ≡ unsigned_of size }
+{
+    if size < 0 {
+        return None;
+    }
+    Some(size as u64)
+}
+
+fn read(digits: &str, size: i64) -> Option<Digest>
+    ensures { result ≡ digest_in digits.now size }
+{
+    let size = unsigned(size)?;
+    let hash = hash(digits)?;
+    Some(Digest { hash, size })
+}
+
+/// Whether two digests are one.
+pub fn is_same(a: &Digest, b: &Digest) -> bool
+    ensures { result ≡ same a.now b.now }
+{
+    a == b
+}
+
+/// Whether the digest names the bytes. It takes no memory.
+pub fn matches(digest: &Digest, bytes: &[u8]) -> bool
+    ensures value { result ≡ same digest.now (digest_of bytes.now) }
+    ensures named { IsTrue result ↔ Names digest.now bytes.now }
+{
+    is_same(digest, &Digest::of(bytes))
+}
+
+/// Hashes bytes that come in pieces.
+#[derive(Drop)]
+pub struct Hasher {
+    hash: Sha256,
+    count: u64,
+}
+
+impl Model for Hasher {
+    ghost use Rattle.digest.specs.Hashing.{Hashing};
+
+    ghost Value = { Hashing };
+
+    ghost view = { λ h. record { hash = h.hash; count = h.count } };
+}
+
+impl Hasher {
+    pub fn new() -> Hasher
+        ensures { Holds result [] }
+    {
+        Hasher {
+            hash: Sha256::new(),
+            count: 0,
+        }
+    }
+
+    /// Takes the next piece.
+    pub fn update(&mut self, piece: &[u8])
+        ensures { (bytes : List ℕ) → Holds self.old bytes → Holds self.new (bytes ++ piece.now) }
+    {
+        self.hash.update(piece);
+        self.count = self.count.saturating_add(piece.len() as u64);
+    }
+
+    /// The digest of all that was given, which is not 2^64 bytes or more.
+    pub fn finish(self) -> Digest
+        ensures { (bytes : List ℕ) → Holds self bytes → length bytes < 2 ^ 64 → Names result bytes }
+    {
+        Digest {
+            hash: self.hash.finalize(),
+            size: self.count,
+        }
+    }
+}
+
+#[cfg(test)]
+mod tests;

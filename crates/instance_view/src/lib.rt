@@ -1,0 +1,9 @@
+//! The texts that an instance has, by their last use.
+#![tactic(auto)]
+
+mod view;
+
+pub use view::{MOST_ENTRIES, View};
+
+#[cfg(test)]
+mod tests;

@@ -1,0 +1,11 @@
+//! Admission of texts under an instance's quota.
+#![tactic(auto)]
+
+mod admission;
+mod laws;
+
+pub use admission::{AdmitError, MOST_QUOTA, admit};
+pub use laws::{kept_front_is_longest, no_texts_keep_limits, uses_keep_limits};
+
+#[cfg(test)]
+mod tests;

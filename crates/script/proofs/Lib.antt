@@ -1,0 +1,4 @@
+pub mod HexadecimalLemmas
+pub mod NumberLemmas
+pub mod PartsLemmas
+pub mod SplitLemmas

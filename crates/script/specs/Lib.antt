@@ -1,0 +1,3 @@
+pub mod Hexadecimal
+pub mod Number
+pub mod Parts

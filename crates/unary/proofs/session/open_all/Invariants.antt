@@ -1,0 +1,7 @@
+use Rattle.std.proofs.Common.{◌≡◌, map, take}
+use Rattle.unary_script.specs.Shown.{instance_value}
+use Rattle.unary.specs.Session.{opened}
+use Rattle.unary.proofs.session.open_all.Given as goal
+
+abbrev pub invariant-loop-instance : goal.invariant-loop-instance
+invariant-loop-instance l = l.stores.items ≡ map opened (map instance_value (take l.instance-index l.instances))

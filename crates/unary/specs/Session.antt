@@ -1,0 +1,105 @@
+-- What a script of calls prints: a line for each command, from the texts that its instance has by then.
+use Rattle.std.specs.Prelude.{ℕ, Bool, List, [], ◌∷◌, ◌++◌, length, map, codes, is_some, not, ◌&&◌, nat_lt, slice_index_or, slice_set, Result, Ok, Err, if◌then◌else◌}
+use Rattle.std.specs.Fmt.{decimal}
+use Rattle.reapi_messages.specs.Results.{◌>>=◌}
+use Rattle.script.specs.Hexadecimal.{hex_word}
+use Rattle.unary_script.specs.declared.method.Method.{Method}
+use Rattle.unary_script.specs.declared.method.Method.TheVariants.{FindMissingBlobs, BatchUpdateBlobs, BatchReadBlobs}
+use Rattle.unary_script.specs.Script.{InstanceValue, CommandValue, ScriptValue, put, call, script_of}
+use Rattle.unary_script.specs.Lines.{instance_place}
+use Rattle.call_status.specs.declared.refusal.Refusal.{Refusal}
+use Rattle.call_status.specs.Status.{code_of, text_of}
+use Rattle.digest.specs.Naming.{digest_of}
+use Rattle.instance_view.specs.Visible.{Blob, seen}
+use Rattle.quota_evict.specs.Admission.{admitted}
+use Rattle.cas_service.specs.Changes.{Change, changed}
+use Rattle.cas_service.specs.FindMissing.{find_missing_reply, find_missing_changes}
+use Rattle.cas_service.specs.BatchUpdate.{batch_update_reply, batch_update_changes}
+use Rattle.cas_service.specs.BatchRead.{batch_read_reply, batch_read_changes}
+
+-- an instance: its name, its quota in bytes, and its texts, the most recently used first
+pub record StoreValue : Type 0 where
+  pub name : List ℕ
+  pub quota : ℕ
+  pub visible : List Blob
+
+-- at first there are no texts
+abbrev pub opened : InstanceValue → StoreValue
+opened instance = record { name = instance.name; quota = instance.quota; visible = [] }
+
+-- the reply to a call, or its refusal
+abbrev pub reply_to : Method → StoreValue → List ℕ → Result (List ℕ) Refusal
+reply_to FindMissingBlobs s message = find_missing_reply s.name s.visible message
+reply_to BatchUpdateBlobs s message = batch_update_reply s.name s.quota message
+reply_to BatchReadBlobs s message = batch_read_reply s.name s.visible message
+
+-- what a call does to the texts
+abbrev pub changes_by : Method → StoreValue → List ℕ → List Change
+changes_by FindMissingBlobs s message = find_missing_changes s.name message
+changes_by BatchUpdateBlobs s message = batch_update_changes s.name s.quota message
+changes_by BatchReadBlobs s message = batch_read_changes s.name message
+
+-- `ok HEX`
+abbrev pub ok_line : List ℕ → List ℕ
+ok_line reply = codes "ok " ++ hex_word reply
+
+-- `status CODE TEXT`
+abbrev pub status_line : Refusal → List ℕ
+status_line refusal = codes "status " ++ decimal (code_of refusal) ++ codes " " ++ text_of refusal
+
+abbrev pub reply_line : Result (List ℕ) Refusal → List ℕ
+reply_line (Ok reply) = ok_line reply
+reply_line (Err refusal) = status_line refusal
+
+-- a text that is not there and is longer than the quota is refused
+abbrev pub is_refused : StoreValue → List ℕ → Bool
+is_refused s text = not (is_some (seen (digest_of text) s.visible)) && nat_lt s.quota (length text)
+
+abbrev pub put_line : Bool → List ℕ
+put_line refused = if refused then codes "refused" else codes "stored"
+
+-- a text is stored under its digest
+abbrev pub stored : List ℕ → StoreValue → StoreValue
+stored text s = record s { visible = admitted s.quota (digest_of text) text s.visible }
+
+abbrev pub called : Method → List ℕ → StoreValue → StoreValue
+called method message s = record s { visible = changed s.quota (changes_by method s message) s.visible }
+
+-- the line that a command prints
+abbrev pub line_of : CommandValue → StoreValue → List ℕ
+line_of (put place text) s = put_line (is_refused s text)
+line_of (call place method message) s = reply_line (reply_to method s message)
+
+-- the instance after a command
+abbrev pub after : CommandValue → StoreValue → StoreValue
+after (put place text) s = stored text s
+after (call place method message) s = called method message s
+
+abbrev pub nobody : StoreValue
+nobody = record { name = []; quota = 0; visible = [] }
+
+-- the instance that a command is for
+abbrev pub store_of : CommandValue → List StoreValue → StoreValue
+store_of command stores = slice_index_or stores (instance_place command) nobody
+
+-- a command leaves all instances but its own as they are
+abbrev pub stores_after : CommandValue → List StoreValue → List StoreValue
+stores_after command stores = slice_set stores (instance_place command) (after command (store_of command stores))
+
+-- the lines that commands print, one after another
+abbrev pub lines_of_commands : List CommandValue → List StoreValue → List (List ℕ)
+lines_of_commands [] stores = []
+lines_of_commands (command ∷ commands) stores = line_of command (store_of command stores) ∷ lines_of_commands commands (stores_after command stores)
+
+-- the lines that a script prints
+abbrev pub lines_of_value : ScriptValue → List (List ℕ)
+lines_of_value script = lines_of_commands script.commands (map opened script.instances)
+
+-- the lines that the script of a text prints, or the number of its first bad line
+abbrev pub lines_of_script : List ℕ → Result (List (List ℕ)) ℕ
+lines_of_script text = script_of text >>= λ script. Ok (lines_of_value script)
+
+-- lines as they are written, each with a newline at its end
+abbrev pub written : List (List ℕ) → List ℕ
+written [] = []
+written (line ∷ lines) = line ++ 10 ∷ written lines

@@ -1,0 +1,14 @@
+//! Scripts of calls: instances with texts of their own, and no connections.
+#![tactic(auto)]
+
+mod run;
+mod session;
+mod status;
+mod store;
+
+pub use run::unary;
+pub use status::Status;
+pub use store::Store;
+
+#[cfg(test)]
+mod tests;

@@ -1,0 +1,152 @@
+ghost use Rattle.std.specs.Prelude.{◌≡◌, ◌≢◌, ◌++◌, ◌<◌, ℕ, List, [], ◌∷◌, length, map, take, vec_len, OnOk, OnErr, IfOk, IfSome, Ok, Err};
+ghost use Rattle.std.specs.List.{All};
+ghost use Rattle.std.specs.Io.KnownBytes.{Appends, Keeps};
+ghost use Rattle.unary_script.specs.Shown.{command_value, script_value};
+ghost use Rattle.unary_script.specs.Lines.{instance_place, HasGoodInstances};
+ghost use Rattle.unary.specs.Session.{line_of, store_of, stores_after, lines_of_commands, lines_of_value, lines_of_script, written};
+ghost use Rattle.unary.specs.Outcome.{IsOutcome, fault_line};
+ghost use Rattle.unary.specs.Fault.{status_of_fault};
+ghost use Rattle.unary.specs.declared.status.Status.TheVariants.{Failed};
+ghost use Rattle.unary.specs.declared.run.Fault.TheVariants.{OutOfMemory};
+
+use crate::session::{answer, open_all};
+use crate::status::Status;
+use crate::store::Store;
+use std::alloc::{AllocError, AllocFailed, Global};
+use std::io::{self, ErrorKind, Read, Write};
+use unary_script::{Command, Script, ScriptFault, parse};
+
+/// Why a script was not read or not carried out to its end.
+#[derive(Clone, Copy)]
+enum Fault {
+    InputOrOutput,
+    OutOfMemory,
+}
+
+impl From<AllocError> for Fault {
+    ghost from_gives = { λ _ fault. fault ≡ OutOfMemory };
+
+    fn from(_refused: AllocError) -> Fault {
+        Fault::OutOfMemory
+    }
+}
+
+fn status(fault: Fault) -> Status
+    ensures { result ≡ status_of_fault fault }
+{
+    match fault {
+        Fault::InputOrOutput => Status::Failed,
+        Fault::OutOfMemory => Status::OutOfMemory,
+    }
+}
+
+/// Carries a command out, and writes its line.
+fn step<O: Write>(
+    alloc: Global,
+    stores: &mut [Store],
+    command: &Command,
+    output: &mut O,
+) -> Result<(), Fault>
+    requires { instance_place (command_value command.now) < length stores.old }
+    ensures line { OnOk result (Appends (O.contents output.old) (O.contents output.new) (line_of (command_value command.now) (store_of (command_value command.now) stores.old) ++ 10 ∷ [])) }
+    ensures after { OnOk result (stores.new ≡ stores_after (command_value command.now) stores.old) }
+    ensures memory { result ≡ Err OutOfMemory → Keeps (O.contents output.old) (O.contents output.new) }
+{
+    let line = answer(alloc, stores, command)?;
+    match output.write_all(&line) {
+        Ok(()) => Ok(()),
+        Err(_) => Err(Fault::InputOrOutput),
+    }
+}
+
+/// Carries the commands out, and writes their lines.
+fn play<O: Write>(
+    alloc: Global,
+    stores: &mut [Store],
+    commands: &[Command],
+    output: &mut O,
+) -> Result<(), Fault>
+    requires { All (λ command. instance_place (command_value command) < length stores.old) commands.now }
+    ensures lines { OnOk result (Appends (O.contents output.old) (O.contents output.new) (written (lines_of_commands (map command_value commands.now) stores.old))) }
+    ensures memory { result ≡ Err OutOfMemory → (count : ℕ) × Appends (O.contents output.old) (O.contents output.new) (written (take count (lines_of_commands (map command_value commands.now) stores.old))) }
+{
+    for command in commands {
+        step(alloc, stores, command, output)?;
+    }
+    Ok(())
+}
+
+/// All that is read.
+fn read<I: Read>(alloc: Global, input: &mut I) -> Result<Vec<u8>, Fault>
+    ensures { IfOk result (λ text. IfSome (I.remaining input.old) (λ all. text.items ≡ all)) }
+{
+    let mut text = Vec::new(alloc);
+    match input.read_to_end(&mut text) {
+        Ok(_) => Ok(text),
+        Err(error) => match error.kind() {
+            ErrorKind::OutOfMemory => Err(Fault::OutOfMemory),
+            _ => Err(Fault::InputOrOutput),
+        },
+    }
+}
+
+/// Carries a script out, and writes what it prints.
+fn perform<O: Write>(alloc: Global, script: &Script, output: &mut O) -> Result<(), Fault>
+    requires instances { HasGoodInstances (script_value script.now).instances }
+    requires commands { All (λ command. instance_place (command_value command) < vec_len script.now.instances) script.now.commands.items }
+    ensures lines { OnOk result (Appends (O.contents output.old) (O.contents output.new) (written (lines_of_value (script_value script.now)))) }
+    ensures memory { result ≡ Err OutOfMemory → (count : ℕ) × Appends (O.contents output.old) (O.contents output.new) (written (take count (lines_of_value (script_value script.now)))) }
+{
+    let mut stores = open_all(alloc, &script.instances)?;
+    play(alloc, &mut stores, &script.commands, output)
+}
+
+/// Reads a script, carries it out, and writes what it prints.
+fn run<I: Read, O: Write>(alloc: Global, input: &mut I, output: &mut O) -> Status
+    ensures { IfSome (I.remaining input.old) (λ text. IsOutcome (lines_of_script text) result (O.contents output.old) (O.contents output.new)) }
+{
+    let text = match read(alloc, input) {
+        Ok(text) => text,
+        Err(fault) => return status(fault),
+    };
+    let script = match parse(alloc, &text) {
+        Ok(script) => script,
+        Err(ScriptFault::BadLine(number)) => return Status::BadLine(number),
+        Err(ScriptFault::NoMemory) => return Status::OutOfMemory,
+    };
+    match perform(alloc, &script, output) {
+        Ok(()) => Status::Done,
+        Err(fault) => status(fault),
+    }
+}
+
+/// Writes the line that says why a run ended, which takes no memory.
+fn tell<E: Write>(errors: &mut E, status: Status) -> io::Result<()>
+    ensures { OnOk result (Appends (E.contents errors.old) (E.contents errors.new) (fault_line status)) }
+{
+    match status {
+        Status::Done => Ok(()),
+        Status::Failed => errors.write_all(b"remoted: input or output failed\n"),
+        Status::BadLine(number) => writeln!(errors, "remoted: bad line {number}"),
+        Status::OutOfMemory => errors.write_all(b"remoted: out of memory\n"),
+    }
+}
+
+/// Reads a script of calls, carries it out, and writes a line for each command. A fault is told in one line on
+/// `errors`. Where a line is bad, nothing is carried out.
+pub fn unary<I: Read, O: Write, E: Write>(
+    alloc: Global,
+    input: &mut I,
+    output: &mut O,
+    errors: &mut E,
+) -> Status
+    ensures outcome { IfSome (I.remaining input.old) (λ text. IsOutcome (lines_of_script text) result (O.contents output.old) (O.contents output.new)) }
+    // Where the line could not be written, the status is `Failed`.
+    ensures told { result ≢ Failed → Appends (E.contents errors.old) (E.contents errors.new) (fault_line result) }
+{
+    let status = run(alloc, input, output);
+    match tell(errors, status) {
+        Ok(()) => status,
+        Err(_) => Status::Failed,
+    }
+}

@@ -1,0 +1,709 @@
+use super::*;
+use std::io;
+use std::process::Abort;
+use std::test::*;
+
+// Runs a script, and compares what it writes with what it should.
+fn expect(
+    rt: &(impl AllocGlobal + Abort),
+    script: &[u8],
+    output: &str,
+    errors: &str,
+    status: Status,
+) -> Result<(), Fail> {
+    let mut input = script;
+    let mut written = Vec::new(rt.alloc());
+    let mut told = Vec::new(rt.alloc());
+    let ended = unary(rt.alloc(), &mut input, &mut written, &mut told);
+    assert!(rt; ended == status);
+    assert_eq!(rt; written.as_slice(), output.as_bytes());
+    assert_eq!(rt; told.as_slice(), errors.as_bytes());
+    Ok(())
+}
+
+#[test]
+fn a_missing_blob(rt: HostRuntime) -> Result<(), Fail> {
+    // A blob that is not there is missing.
+    let script =
+        "instance a 100\ncall a FindMissingBlobs 12440a406261373831366266386630316366656134313431343064653564\
+         61653232323362303033363161333936313737613963623431306666363166323030313561641003\n";
+    let output =
+        "ok 12440a4062613738313662663866303163666561343134313430646535646165323232336230303336316133393631373\
+         7613963623431306666363166323030313561641003\n";
+    expect(&rt, script.as_bytes(), output, "", Status::Done)
+}
+
+#[test]
+fn another_instance_makes_no_difference(rt: HostRuntime) -> Result<(), Fail> {
+    // What another instance has makes no difference.
+    let script =
+        "instance a 100\ninstance b 100\nput b 616263\ncall a FindMissingBlobs 12440a406261373831366266386630\
+         3163666561343134313430646535646165323232336230303336316133393631373761396362343130666636316632303031\
+         3561641003\n";
+    let output =
+        "stored\nok 12440a40626137383136626638663031636665613431343134306465356461653232323362303033363161333\
+         936313737613963623431306666363166323030313561641003\n";
+    expect(&rt, script.as_bytes(), output, "", Status::Done)
+}
+
+#[test]
+fn a_blob_that_is_there(rt: HostRuntime) -> Result<(), Fail> {
+    // A blob that is there is not missing.
+    let script =
+        "instance a 100\nput a 616263\ncall a FindMissingBlobs 12440a4062613738313662663866303163666561343134\
+         3134306465356461653232323362303033363161333936313737613963623431306666363166323030313561641003\n";
+    let output = "stored\nok -\n";
+    expect(&rt, script.as_bytes(), output, "", Status::Done)
+}
+
+#[test]
+fn a_malformed_message(rt: HostRuntime) -> Result<(), Fail> {
+    // A message that does not read.
+    let script = "instance a 100\ncall a FindMissingBlobs ff\n";
+    let output = "status 3 malformed message\n";
+    expect(&rt, script.as_bytes(), output, "", Status::Done)
+}
+
+#[test]
+fn another_instances_name(rt: HostRuntime) -> Result<(), Fail> {
+    // The name of another instance, whether there is one or not.
+    let script =
+        "instance a 100\ninstance other 100\ncall a FindMissingBlobs 0a056f74686572\ncall a FindMissingBlobs \
+         0a046e6f6e65\n";
+    let output = "status 5 unknown instance\nstatus 5 unknown instance\n";
+    expect(&rt, script.as_bytes(), output, "", Status::Done)
+}
+
+#[test]
+fn the_own_name(rt: HostRuntime) -> Result<(), Fail> {
+    // The own name is as good as none.
+    let script =
+        "instance a 100\ncall a FindMissingBlobs 0a016112440a406261373831366266386630316366656134313431343064\
+         65356461653232323362303033363161333936313737613963623431306666363166323030313561641003\n";
+    let output =
+        "ok 12440a4062613738313662663866303163666561343134313430646535646165323232336230303336316133393631373\
+         7613963623431306666363166323030313561641003\n";
+    expect(&rt, script.as_bytes(), output, "", Status::Done)
+}
+
+#[test]
+fn the_empty_blob(rt: HostRuntime) -> Result<(), Fail> {
+    // The empty blob is always there.
+    let script =
+        "instance a 100\ninstance zero 0\ncall a FindMissingBlobs 12420a4065336230633434323938666331633134396\
+         166626634633839393666623932343237616534316534363439623933346361343935393931623738353262383535\ncall \
+         zero FindMissingBlobs 12420a406533623063343432393866633163313439616662663463383939366662393234323761\
+         6534316534363439623933346361343935393931623738353262383535\nput zero -\ncall zero BatchReadBlobs 124\
+         20a4065336230633434323938666331633134396166626634633839393666623932343237616534316534363439623933346\
+         361343935393931623738353262383535\ncall zero BatchUpdateBlobs 12440a420a4065336230633434323938666331\
+         6331343961666266346338393936666239323432376165343165343634396239333463613439353939316237383532623835\
+         35\n";
+    let output =
+        "ok -\nok -\nstored\nok 0a460a420a4065336230633434323938666331633134396166626634633839393666623932343\
+         2376165343165343634396239333463613439353939316237383532623835351a00\nok 0a460a420a406533623063343432\
+         3938666331633134396166626634633839393666623932343237616534316534363439623933346361343935393931623738\
+         3532623835351200\n";
+    expect(&rt, script.as_bytes(), output, "", Status::Done)
+}
+
+#[test]
+fn a_repeated_digest(rt: HostRuntime) -> Result<(), Fail> {
+    // A digest that is asked for twice is answered twice.
+    let script =
+        "instance a 100\ncall a FindMissingBlobs 12440a406261373831366266386630316366656134313431343064653564\
+         6165323232336230303336316133393631373761396362343130666636316632303031356164100312440a40626137383136\
+         6266386630316366656134313431343064653564616532323233623030333631613339363137376139636234313066663631\
+         66323030313561641003\n";
+    let output =
+        "ok 12440a4062613738313662663866303163666561343134313430646535646165323232336230303336316133393631373\
+         761396362343130666636316632303031356164100312440a406261373831366266386630316366656134313431343064653\
+         56461653232323362303033363161333936313737613963623431306666363166323030313561641003\n";
+    expect(&rt, script.as_bytes(), output, "", Status::Done)
+}
+
+#[test]
+fn an_overlong_number(rt: HostRuntime) -> Result<(), Fail> {
+    // A size in more bytes than it needs.
+    let script =
+        "instance a 100\ncall a FindMissingBlobs 12450a406261373831366266386630316366656134313431343064653564\
+         6165323232336230303336316133393631373761396362343130666636316632303031356164108300\n";
+    let output =
+        "ok 12440a4062613738313662663866303163666561343134313430646535646165323232336230303336316133393631373\
+         7613963623431306666363166323030313561641003\n";
+    expect(&rt, script.as_bytes(), output, "", Status::Done)
+}
+
+#[test]
+fn the_oldest_goes(rt: HostRuntime) -> Result<(), Fail> {
+    // The oldest blob has to go.
+    let script =
+        "instance a 10\ncall a BatchUpdateBlobs 124c0a440a403631626535356138653266366234653137323333386264646\
+         63138346436646265653239633938383533653061303438356563656537663237623961663062341004120461616161\ncal\
+         l a BatchUpdateBlobs 124c0a440a403831636335623137303138363734623430316234326633356261303762623739653\
+         23131323339633233626666653635386461313537376533653634363837371004120462626262\ncall a BatchUpdateBlo\
+         bs 124c0a440a406236666264363735663938653261626432326434656432396664633833313530666564633438353937653\
+         93264643161376132343338316434346132373435311004120463636363\ncall a FindMissingBlobs 12440a403631626\
+         5353561386532663662346531373233333862646466313834643664626565323963393838353365306130343835656365653\
+         766323762396166306234100412440a403831636335623137303138363734623430316234326633356261303762623739653\
+         2313132333963323362666665363538646131353737653365363436383737100412440a40623666626436373566393865326\
+         1626432326434656432396664633833313530666564633438353937653932646431613761323433383164343461323734353\
+         11004\n";
+    let output =
+        "ok 0a480a440a403631626535356138653266366234653137323333386264646631383464366462656532396339383835336\
+         530613034383565636565376632376239616630623410041200\nok 0a480a440a4038316363356231373031383637346234\
+         3031623432663335626130376262373965323131323339633233626666653635386461313537376533653634363837371004\
+         1200\nok 0a480a440a406236666264363735663938653261626432326434656432396664633833313530666564633438353\
+         937653932646431613761323433383164343461323734353110041200\nok 12440a40363162653535613865326636623465\
+         3137323333386264646631383464366462656532396339383835336530613034383565636565376632376239616630623410\
+         04\n";
+    expect(&rt, script.as_bytes(), output, "", Status::Done)
+}
+
+#[test]
+fn a_use_keeps_a_blob(rt: HostRuntime) -> Result<(), Fail> {
+    // A blob that was asked for stays longer.
+    let script =
+        "instance a 10\nput a 61616161\nput a 62626262\ncall a FindMissingBlobs 12440a40363162653535613865326\
+         6366234653137323333386264646631383464366462656532396339383835336530613034383565636565376632376239616\
+         63062341004\nput a 63636363\ncall a FindMissingBlobs 12440a40363162653535613865326636623465313732333\
+         33862646466313834643664626565323963393838353365306130343835656365653766323762396166306234100412440a4\
+         0383163633562313730313836373462343031623432663335626130376262373965323131323339633233626666653635386\
+         46131353737653365363436383737100412440a4062366662643637356639386532616264323264346564323966646338333\
+         1353066656463343835393765393264643161376132343338316434346132373435311004\n";
+    let output =
+        "stored\nstored\nok -\nstored\nok 12440a4038316363356231373031383637346234303162343266333562613037626\
+         2373965323131323339633233626666653635386461313537376533653634363837371004\n";
+    expect(&rt, script.as_bytes(), output, "", Status::Done)
+}
+
+#[test]
+fn longer_than_the_quota(rt: HostRuntime) -> Result<(), Fail> {
+    // A blob longer than the quota is refused, and one as long drops all else.
+    let script =
+        "instance a 10\nput a 61616161\ncall a BatchUpdateBlobs 12530a440a40656532396562346138373235363738323\
+         73861633433396366376162666432613834396364633733373861366236333136303137623831633531643732306537100b1\
+         20b3031323334353637383930\nput a 3031323334353637383930\ncall a FindMissingBlobs 12440a4036316265353\
+         5613865326636623465313732333338626464663138346436646265653239633938383533653061303438356563656537663\
+         237623961663062341004\ncall a BatchUpdateBlobs 12520a440a4038346438393837376630643430343165666236626\
+         639316131366630323438663266643537336536616630356331396639366265646239663838326637383832100a120a30313\
+         233343536373839\ncall a FindMissingBlobs 12440a40363162653535613865326636623465313732333338626464663\
+         13834643664626565323963393838353365306130343835656365653766323762396166306234100412440a4038346438393\
+         8373766306434303431656662366266393161313666303234386632666435373365366166303563313966393662656462396\
+         63838326637383832100a\n";
+    let output =
+        "stored\nok 0a5a0a440a4065653239656234613837323536373832373861633433396366376162666432613834396364633\
+         733373861366236333136303137623831633531643732306537100b12120808120e71756f7461206578636565646564\nref\
+         used\nok -\nok 0a480a440a403834643839383737663064343034316566623662663931613136663032343866326664353\
+         7336536616630356331396639366265646239663838326637383832100a1200\nok 12440a40363162653535613865326636\
+         6234653137323333386264646631383464366462656532396339383835336530613034383565636565376632376239616630\
+         62341004\n";
+    expect(&rt, script.as_bytes(), output, "", Status::Done)
+}
+
+#[test]
+fn an_update(rt: HostRuntime) -> Result<(), Fail> {
+    // Bytes that their digest names are stored; others are not.
+    let script =
+        "instance a 100\ncall a BatchUpdateBlobs 124b0a440a40626137383136626638663031636665613431343134306465\
+         3564616532323233623030333631613339363137376139636234313066663631663230303135616410031203616263\ncall \
+         a FindMissingBlobs 12440a40626137383136626638663031636665613431343134306465356461653232323362303033\
+         363161333936313737613963623431306666363166323030313561641003\n";
+    let output =
+        "ok 0a480a440a406261373831366266386630316366656134313431343064653564616532323233623030333631613339363\
+         137376139636234313066663631663230303135616410031200\nok -\n";
+    expect(&rt, script.as_bytes(), output, "", Status::Done)
+}
+
+#[test]
+fn an_update_with_other_bytes(rt: HostRuntime) -> Result<(), Fail> {
+    // Bytes that their digest does not name.
+    let script =
+        "instance a 100\ncall a BatchUpdateBlobs 124b0a440a40626137383136626638663031636665613431343134306465\
+         3564616532323233623030333631613339363137376139636234313066663631663230303135616410031203616264\ncall \
+         a FindMissingBlobs 12440a40626137383136626638663031636665613431343134306465356461653232323362303033\
+         363161333936313737613963623431306666363166323030313561641003\n";
+    let output =
+        "ok 0a610a440a406261373831366266386630316366656134313431343064653564616532323233623030333631613339363\
+         1373761396362343130666636316632303031356164100312190803121564696765737420646f6573206e6f74206d6174636\
+         8\nok 12440a4062613738313662663866303163666561343134313430646535646165323232336230303336316133393631\
+         3737613963623431306666363166323030313561641003\n";
+    expect(&rt, script.as_bytes(), output, "", Status::Done)
+}
+
+#[test]
+fn a_read(rt: HostRuntime) -> Result<(), Fail> {
+    // A blob that is there, and one that is not.
+    let script =
+        "instance a 100\ncall a BatchReadBlobs 12440a40626137383136626638663031636665613431343134306465356461\
+         653232323362303033363161333936313737613963623431306666363166323030313561641003\nput a 616263\ncall a \
+         BatchReadBlobs 12440a406261373831366266386630316366656134313431343064653564616532323233623030333631\
+         61333936313737613963623431306666363166323030313561641003\n";
+    let output =
+        "ok 0a5a0a440a406261373831366266386630316366656134313431343064653564616532323233623030333631613339363\
+         137376139636234313066663631663230303135616410031a120805120e626c6f62206e6f7420666f756e64\nstored\nok \
+         0a4d0a440a406261373831366266386630316366656134313431343064653564616532323233623030333631613339363137\
+         3761396362343130666636316632303031356164100312036162631a00\n";
+    expect(&rt, script.as_bytes(), output, "", Status::Done)
+}
+
+#[test]
+fn repeats_in_a_batch(rt: HostRuntime) -> Result<(), Fail> {
+    // Repeats in a batch, each with its answer.
+    let script =
+        "instance a 100\ncall a BatchUpdateBlobs 124b0a440a40626137383136626638663031636665613431343134306465\
+         3564616532323233623030333631613339363137376139636234313066663631663230303135616410031203616263124b0a\
+         440a406261373831366266386630316366656134313431343064653564616532323233623030333631613339363137376139\
+         636234313066663631663230303135616410031203616263\ncall a BatchReadBlobs 12440a4062613738313662663866\
+         3031636665613431343134306465356461653232323362303033363161333936313737613963623431306666363166323030\
+         31356164100312440a4062613738313662663866303163666561343134313430646535646165323232336230303336316133\
+         3936313737613963623431306666363166323030313561641003\n";
+    let output =
+        "ok 0a480a440a406261373831366266386630316366656134313431343064653564616532323233623030333631613339363\
+         1373761396362343130666636316632303031356164100312000a480a440a406261373831366266386630316366656134313\
+         431343064653564616532323233623030333631613339363137376139636234313066663631663230303135616410031200\
+         \nok 0a4d0a440a40626137383136626638663031636665613431343134306465356461653232323362303033363161333936\
+         31373761396362343130666636316632303031356164100312036162631a000a4d0a440a4062613738313662663866303163\
+         6665613431343134306465356461653232323362303033363161333936313737613963623431306666363166323030313561\
+         64100312036162631a00\n";
+    expect(&rt, script.as_bytes(), output, "", Status::Done)
+}
+
+#[test]
+fn dropped_within_a_batch(rt: HostRuntime) -> Result<(), Fail> {
+    // A blob that a later one of the same batch drops.
+    let script =
+        "instance a 6\ncall a BatchUpdateBlobs 124c0a440a4036316265353561386532663662346531373233333862646466\
+         3138346436646265653239633938383533653061303438356563656537663237623961663062341004120461616161124c0a\
+         440a403831636335623137303138363734623430316234326633356261303762623739653231313233396332336266666536\
+         35386461313537376533653634363837371004120462626262\ncall a FindMissingBlobs 12440a403631626535356138\
+         6532663662346531373233333862646466313834643664626565323963393838353365306130343835656365653766323762\
+         396166306234100412440a403831636335623137303138363734623430316234326633356261303762623739653231313233\
+         39633233626666653635386461313537376533653634363837371004\n";
+    let output =
+        "ok 0a480a440a403631626535356138653266366234653137323333386264646631383464366462656532396339383835336\
+         5306130343835656365653766323762396166306234100412000a480a440a403831636335623137303138363734623430316\
+         234326633356261303762623739653231313233396332336266666536353864613135373765336536343638373710041200\
+         \nok 12440a403631626535356138653266366234653137323333386264646631383464366462656532396339383835336530\
+         61303438356563656537663237623961663062341004\n";
+    expect(&rt, script.as_bytes(), output, "", Status::Done)
+}
+
+#[test]
+fn quota_zero(rt: HostRuntime) -> Result<(), Fail> {
+    // A quota of 0 takes the empty blob alone.
+    let script =
+        "instance a 0\nput a 61\ncall a BatchUpdateBlobs 12490a440a406361393738313132636131626264636166616332\
+         33316233396132336463346461373836656666383134376334653732623938303737383561666565343862621001120161\n\
+         call a FindMissingBlobs 12440a4063613937383131326361316262646361666163323331623339613233646334646137\
+         3836656666383134376334653732623938303737383561666565343862621001\n";
+    let output =
+        "refused\nok 0a5a0a440a406361393738313132636131626264636166616332333162333961323364633464613738366566\
+         6638313437633465373262393830373738356166656534386262100112120808120e71756f7461206578636565646564\nok \
+         12440a406361393738313132636131626264636166616332333162333961323364633464613738366566663831343763346\
+         53732623938303737383561666565343862621001\n";
+    expect(&rt, script.as_bytes(), output, "", Status::Done)
+}
+
+#[test]
+fn digests_without_form(rt: HostRuntime) -> Result<(), Fail> {
+    // Digests that have not the form: upper case, too short, too long, no digit, no hash, a negative size, nothing.
+    let script =
+        "instance a 100\ncall a FindMissingBlobs 12440a404241373831364246384630314346454134313431343044453544\
+         41453232323342303033363141333936313737413943423431304646363146323030313541441003\ncall a FindMissing\
+         Blobs 12430a3f62613738313662663866303163666561343134313430646535646165323232336230303336316133393631\
+         37376139636234313066663631663230303135611003\ncall a FindMissingBlobs 12450a416261373831366266386630\
+         3163666561343134313430646535646165323232336230303336316133393631373761396362343130666636316632303031\
+         356164301003\ncall a FindMissingBlobs 12440a40676137383136626638663031636665613431343134306465356461\
+         653232323362303033363161333936313737613963623431306666363166323030313561641003\ncall a FindMissingBl\
+         obs 12021003\ncall a FindMissingBlobs 124d0a40626137383136626638663031636665613431343134306465356461\
+         6532323233623030333631613339363137376139636234313066663631663230303135616410ffffffffffffffffff01\nca\
+         ll a FindMissingBlobs 1200\ncall a BatchReadBlobs 12440a40424137383136424638463031434645413431343134\
+         304445354441453232323342303033363141333936313737413943423431304646363146323030313541441003\ncall a B\
+         atchReadBlobs 12430a3f626137383136626638663031636665613431343134306465356461653232323362303033363161\
+         3339363137376139636234313066663631663230303135611003\ncall a BatchReadBlobs 12450a416261373831366266\
+         3866303163666561343134313430646535646165323232336230303336316133393631373761396362343130666636316632\
+         303031356164301003\ncall a BatchReadBlobs 12440a4067613738313662663866303163666561343134313430646535\
+         6461653232323362303033363161333936313737613963623431306666363166323030313561641003\ncall a BatchRead\
+         Blobs 12021003\ncall a BatchReadBlobs 124d0a40626137383136626638663031636665613431343134306465356461\
+         6532323233623030333631613339363137376139636234313066663631663230303135616410ffffffffffffffffff01\nca\
+         ll a BatchReadBlobs 1200\n";
+    let output =
+        "status 3 bad digest\nstatus 3 bad digest\nstatus 3 bad digest\nstatus 3 bad digest\nstatus 3 bad dig\
+         est\nstatus 3 bad digest\nstatus 3 bad digest\nstatus 3 bad digest\nstatus 3 bad digest\nstatus 3 ba\
+         d digest\nstatus 3 bad digest\nstatus 3 bad digest\nstatus 3 bad digest\nstatus 3 bad digest\n";
+    expect(&rt, script.as_bytes(), output, "", Status::Done)
+}
+
+#[test]
+fn an_ill_formed_digest_in_a_batch(rt: HostRuntime) -> Result<(), Fail> {
+    // In a batch of uploads a bad digest has a status of its own, and the digest is answered as it was sent.
+    let script =
+        "instance a 100\ncall a BatchUpdateBlobs 124b0a440a40424137383136424638463031434645413431343134304445\
+         3544414532323233423030333631413339363137374139434234313046463631463230303135414410031203616263124b0a\
+         440a406261373831366266386630316366656134313431343064653564616532323233623030333631613339363137376139\
+         636234313066663631663230303135616410031203616263\ncall a BatchUpdateBlobs 12051203616263\n";
+    let output =
+        "ok 0a560a440a404241373831364246384630314346454134313431343044453544414532323233423030333631413339363\
+         13737413943423431304646363146323030313541441003120e0803120a626164206469676573740a480a440a40626137383\
+         1366266386630316366656134313431343064653564616532323233623030333631613339363137376139636234313066663\
+         631663230303135616410031200\nok 0a10120e0803120a62616420646967657374\n";
+    expect(&rt, script.as_bytes(), output, "", Status::Done)
+}
+
+#[test]
+fn unknown_functions_and_compressors(rt: HostRuntime) -> Result<(), Fail> {
+    // Digest functions other than SHA-256, and compressors.
+    let script =
+        "instance a 100\ncall a FindMissingBlobs 180212440a40626137383136626638663031636665613431343134306465\
+         356461653232323362303033363161333936313737613963623431306666363166323030313561641003\ncall a FindMis\
+         singBlobs 180112440a40626137383136626638663031636665613431343134306465356461653232323362303033363161\
+         333936313737613963623431306666363166323030313561641003\ncall a BatchReadBlobs 12440a4062613738313662\
+         6638663031636665613431343134306465356461653232323362303033363161333936313737613963623431306666363166\
+         3230303135616410032006\ncall a BatchUpdateBlobs 2803\ncall a BatchUpdateBlobs 124d0a440a406261373831\
+         3662663866303163666561343134313430646535646165323232336230303336316133393631373761396362343130666636\
+         316632303031356164100312036162631801\n";
+    let output =
+        "status 3 unsupported digest function\nok 12440a40626137383136626638663031636665613431343134306465356\
+         461653232323362303033363161333936313737613963623431306666363166323030313561641003\nstatus 3 unsuppor\
+         ted digest function\nstatus 3 unsupported digest function\nok 0a620a440a4062613738313662663866303163\
+         6665613431343134306465356461653232323362303033363161333936313737613963623431306666363166323030313561\
+         641003121a08031216756e737570706f7274656420636f6d70726573736f72\n";
+    expect(&rt, script.as_bytes(), output, "", Status::Done)
+}
+
+#[test]
+fn tests_in_their_order(rt: HostRuntime) -> Result<(), Fail> {
+    // The message is tested first, then the instance, the digest function, the digests.
+    let script =
+        "instance a 100\ncall a FindMissingBlobs 0a056f74686572180212440a404241373831364246384630314346454134\
+         31343134304445354441453232323342303033363141333936313737413943423431304646363146323030313541441003ff\
+         \ncall a FindMissingBlobs 0a056f74686572180212440a40424137383136424638463031434645413431343134304445\
+         354441453232323342303033363141333936313737413943423431304646363146323030313541441003\ncall a FindMis\
+         singBlobs 180212440a40424137383136424638463031434645413431343134304445354441453232323342303033363141\
+         333936313737413943423431304646363146323030313541441003\ncall a FindMissingBlobs 12440a40424137383136\
+         4246384630314346454134313431343044453544414532323233423030333631413339363137374139434234313046463631\
+         46323030313541441003\n";
+    let output =
+        "status 3 malformed message\nstatus 5 unknown instance\nstatus 3 unsupported digest function\nstatus \
+         3 bad digest\n";
+    expect(&rt, script.as_bytes(), output, "", Status::Done)
+}
+
+#[test]
+fn a_text_that_is_not_utf8(rt: HostRuntime) -> Result<(), Fail> {
+    // A text of the message that is not UTF-8.
+    let script = "instance a 100\ncall a FindMissingBlobs 0a01ff\n";
+    let output = "status 3 malformed message\n";
+    expect(&rt, script.as_bytes(), output, "", Status::Done)
+}
+
+#[test]
+fn sizes_of_a_batch(rt: HostRuntime) -> Result<(), Fail> {
+    // Stated sizes of 4,000,000 bytes together are served, and not one more.
+    let script =
+        "instance a 100\ncall a BatchReadBlobs 12470a40626137383136626638663031636665613431343134306465356461\
+         6532323233623030333631613339363137376139636234313066663631663230303135616410fd91f40112440a4062613738\
+         3136626638663031636665613431343134306465356461653232323362303033363161333936313737613963623431306666\
+         363166323030313561641003\ncall a BatchReadBlobs 12470a4062613738313662663866303163666561343134313430\
+         64653564616532323233623030333631613339363137376139636234313066663631663230303135616410fe91f40112440a\
+         4062613738313662663866303163666561343134313430646535646165323232336230303336316133393631373761396362\
+         3431306666363166323030313561641003\ncall a BatchReadBlobs 124c0a406261373831366266386630316366656134\
+         313431343064653564616532323233623030333631613339363137376139636234313066663631663230303135616410ffff\
+         ffffffffffff7f124c0a40626137383136626638663031636665613431343134306465356461653232323362303033363161\
+         3339363137376139636234313066663631663230303135616410ffffffffffffffff7f124c0a406261373831366266386630\
+         3163666561343134313430646535646165323232336230303336316133393631373761396362343130666636316632303031\
+         35616410ffffffffffffffff7f\n";
+    let output =
+        "ok 0a5d0a470a406261373831366266386630316366656134313431343064653564616532323233623030333631613339363\
+         137376139636234313066663631663230303135616410fd91f4011a120805120e626c6f62206e6f7420666f756e640a5a0a4\
+         40a4062613738313662663866303163666561343134313430646535646165323232336230303336316133393631373761396\
+         36234313066663631663230303135616410031a120805120e626c6f62206e6f7420666f756e64\nstatus 3 batch too la\
+         rge\nstatus 3 batch too large\n";
+    expect(&rt, script.as_bytes(), output, "", Status::Done)
+}
+
+#[test]
+fn nothing(rt: HostRuntime) -> Result<(), Fail> {
+    // An empty script.
+    let script = "";
+    let output = "";
+    expect(&rt, script.as_bytes(), output, "", Status::Done)
+}
+
+#[test]
+fn empty_lines(rt: HostRuntime) -> Result<(), Fail> {
+    // Empty lines are passed over.
+    let script = "\ninstance a 1\n\nput a -\n\n";
+    let output = "stored\n";
+    expect(&rt, script.as_bytes(), output, "", Status::Done)
+}
+
+#[test]
+fn bad_an_unknown_word(rt: HostRuntime) -> Result<(), Fail> {
+    // an unknown word
+    let script = "frob a 1\n";
+    let output = "";
+    expect(
+        &rt,
+        script.as_bytes(),
+        output,
+        "remoted: bad line 1\n",
+        Status::BadLine(1),
+    )
+}
+
+#[test]
+fn bad_an_unknown_instance(rt: HostRuntime) -> Result<(), Fail> {
+    // an unknown instance
+    let script = "instance a 100\nput b 00\n";
+    let output = "";
+    expect(
+        &rt,
+        script.as_bytes(),
+        output,
+        "remoted: bad line 2\n",
+        Status::BadLine(2),
+    )
+}
+
+#[test]
+fn bad_an_unknown_method(rt: HostRuntime) -> Result<(), Fail> {
+    // an unknown method
+    let script = "instance a 100\nput a 00\ncall a GetTree -\n";
+    let output = "";
+    expect(
+        &rt,
+        script.as_bytes(),
+        output,
+        "remoted: bad line 3\n",
+        Status::BadLine(3),
+    )
+}
+
+#[test]
+fn bad_odd_hexadecimal(rt: HostRuntime) -> Result<(), Fail> {
+    // odd hexadecimal
+    let script = "instance a 100\nput a 0\n";
+    let output = "";
+    expect(
+        &rt,
+        script.as_bytes(),
+        output,
+        "remoted: bad line 2\n",
+        Status::BadLine(2),
+    )
+}
+
+#[test]
+fn bad_upper_case_hexadecimal(rt: HostRuntime) -> Result<(), Fail> {
+    // upper case hexadecimal
+    let script = "instance a 100\nput a 0A\n";
+    let output = "";
+    expect(
+        &rt,
+        script.as_bytes(),
+        output,
+        "remoted: bad line 2\n",
+        Status::BadLine(2),
+    )
+}
+
+#[test]
+fn bad_a_large_quota(rt: HostRuntime) -> Result<(), Fail> {
+    // a large quota
+    let script = "instance a 1099511627776\ninstance b 1099511627777\n";
+    let output = "";
+    expect(
+        &rt,
+        script.as_bytes(),
+        output,
+        "remoted: bad line 2\n",
+        Status::BadLine(2),
+    )
+}
+
+#[test]
+fn bad_a_bad_name(rt: HostRuntime) -> Result<(), Fail> {
+    // a bad name
+    let script = "instance A 1\n";
+    let output = "";
+    expect(
+        &rt,
+        script.as_bytes(),
+        output,
+        "remoted: bad line 1\n",
+        Status::BadLine(1),
+    )
+}
+
+#[test]
+fn bad_a_name_of_a_resource(rt: HostRuntime) -> Result<(), Fail> {
+    // a name of a resource
+    let script = "instance blobs 1\n";
+    let output = "";
+    expect(
+        &rt,
+        script.as_bytes(),
+        output,
+        "remoted: bad line 1\n",
+        Status::BadLine(1),
+    )
+}
+
+#[test]
+fn bad_a_repeated_name(rt: HostRuntime) -> Result<(), Fail> {
+    // a repeated name
+    let script = "\ninstance a 1\ninstance a 2\n";
+    let output = "";
+    expect(
+        &rt,
+        script.as_bytes(),
+        output,
+        "remoted: bad line 3\n",
+        Status::BadLine(3),
+    )
+}
+
+#[test]
+fn bad_a_late_instance(rt: HostRuntime) -> Result<(), Fail> {
+    // a late instance
+    let script = "instance a 100\nput a -\ninstance b 100\n";
+    let output = "";
+    expect(
+        &rt,
+        script.as_bytes(),
+        output,
+        "remoted: bad line 3\n",
+        Status::BadLine(3),
+    )
+}
+
+#[test]
+fn bad_two_spaces(rt: HostRuntime) -> Result<(), Fail> {
+    // two spaces
+    let script = "instance a 100\nput  a -\n";
+    let output = "";
+    expect(
+        &rt,
+        script.as_bytes(),
+        output,
+        "remoted: bad line 2\n",
+        Status::BadLine(2),
+    )
+}
+
+#[test]
+fn bad_a_word_too_many(rt: HostRuntime) -> Result<(), Fail> {
+    // a word too many
+    let script = "instance a 100\nput a - -\n";
+    let output = "";
+    expect(
+        &rt,
+        script.as_bytes(),
+        output,
+        "remoted: bad line 2\n",
+        Status::BadLine(2),
+    )
+}
+
+#[test]
+fn bad_a_carriage_return(rt: HostRuntime) -> Result<(), Fail> {
+    // a carriage return
+    let script = "instance a 1\r\n";
+    let output = "";
+    expect(
+        &rt,
+        script.as_bytes(),
+        output,
+        "remoted: bad line 1\n",
+        Status::BadLine(1),
+    )
+}
+
+#[test]
+fn no_newline_at_the_end(rt: HostRuntime) -> Result<(), Fail> {
+    expect(&rt, b"instance a 1\nput a -", "stored\n", "", Status::Done)
+}
+
+// A call of BatchUpdateBlobs with one blob of zeros, in so many digits, whose digest is left out.
+fn large_update(
+    rt: &impl AllocGlobal,
+    digits: usize,
+    length_hex: &str,
+    request_hex: &str,
+) -> Result<Vec<u8>, Fail> {
+    let mut script = Vec::new(rt.alloc());
+    script.extend_from_slice(b"instance a 10000000\ncall a BatchUpdateBlobs 12")?;
+    script.extend_from_slice(request_hex.as_bytes())?;
+    script.extend_from_slice(b"12")?;
+    script.extend_from_slice(length_hex.as_bytes())?;
+    let zeros = vec![in rt.alloc(); b'0'; digits]?;
+    script.extend_from_slice(&zeros)?;
+    script.push(b'\n')?;
+    Ok(script)
+}
+
+#[test]
+fn a_batch_as_large_as_may_be(rt: HostRuntime) -> Result<(), Fail> {
+    // The request has 4,000,005 bytes: a tag, four bytes of length and the content.
+    let script = large_update(&rt, 8_000_000, "8092f401", "8592f401")?;
+    let output = "ok 0a10120e0803120a62616420646967657374\n";
+    expect(&rt, &script, output, "", Status::Done)
+}
+
+#[test]
+fn a_batch_that_is_too_large(rt: HostRuntime) -> Result<(), Fail> {
+    let script = large_update(&rt, 8_000_002, "8192f401", "8692f401")?;
+    expect(&rt, &script, "status 3 batch too large\n", "", Status::Done)
+}
+
+/// A reader, and a writer, that always fail.
+#[derive(Drop)]
+struct Broken;
+
+impl io::Read for Broken {
+    fn read(&mut self, _buffer: &mut [u8]) -> io::Result<usize> {
+        Err(io::Error::from(io::ErrorKind::Other))
+    }
+}
+
+impl io::Write for Broken {
+    fn write(&mut self, _buffer: &[u8]) -> io::Result<usize> {
+        Err(io::Error::from(io::ErrorKind::Other))
+    }
+
+    fn flush(&mut self) -> io::Result<()> {
+        Ok(())
+    }
+}
+
+#[test]
+fn reading_fails(rt: HostRuntime) -> Result<(), Fail> {
+    let mut written = Vec::new(rt.alloc());
+    let mut told = Vec::new(rt.alloc());
+    let ended = unary(rt.alloc(), &mut Broken, &mut written, &mut told);
+    assert!(rt; ended == Status::Failed);
+    assert_eq!(rt; ended.code(), 1);
+    assert!(rt; written.is_empty());
+    assert_eq!(rt;
+        told.as_slice(),
+        b"remoted: input or output failed\n".as_slice()
+    );
+    Ok(())
+}
+
+#[test]
+fn writing_fails(rt: HostRuntime) -> Result<(), Fail> {
+    let mut input = b"instance a 1\nput a -\n".as_slice();
+    let mut told = Vec::new(rt.alloc());
+    let ended = unary(rt.alloc(), &mut input, &mut Broken, &mut told);
+    assert!(rt; ended == Status::Failed);
+    assert_eq!(rt;
+        told.as_slice(),
+        b"remoted: input or output failed\n".as_slice()
+    );
+    let mut bad = b"frob\n".as_slice();
+    let mut written = Vec::new(rt.alloc());
+    assert!(rt; unary(rt.alloc(), &mut bad, &mut written, &mut Broken) == Status::Failed);
+    Ok(())
+}

@@ -1,0 +1,4 @@
+pub mod Lines
+pub mod Method
+pub mod Script
+pub mod Shown

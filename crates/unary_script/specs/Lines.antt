@@ -1,0 +1,89 @@
+-- Which lines are good, which is the first bad one, and what a script has, in words of their own.
+use Rattle.std.specs.Prelude.{◌≡◌, ◌≢◌, ℕ, ◌+◌, ◌<◌, ◌≤◌, ◌⊎◌, List, [], ◌∷◌, ◌++◌, length, codes, Some, None}
+use Rattle.std.specs.List.{All, AllPairs, join_with_byte}
+use Rattle.script.specs.Hexadecimal.{IsBytes, hex_word}
+use Rattle.script.specs.Number.{decimal_of}
+use Rattle.instance_config.specs.Instance.{IsInstanceName, quota_limit}
+use Rattle.unary_script.specs.declared.method.Method.{Method}
+use Rattle.unary_script.specs.Method.{method_name}
+use Rattle.unary_script.specs.Script.{InstanceValue, CommandValue, ScriptValue, put, call, after_line, empty_script, place_of, with_command, with_instance}
+
+-- ---- good lines
+
+-- the words with one space between each two
+abbrev pub spaced : List (List ℕ) → List ℕ
+spaced words = join_with_byte 32 words
+
+-- `instance NAME QUOTA`, before any command: one more instance, of a good name that no other has
+pub record IsInstanceLine (before : ScriptValue) (line : List ℕ) (after : ScriptValue) : Type 0 where
+  pub name : List ℕ
+  pub digits : List ℕ
+  pub quota : ℕ
+  pub form : line ≡ spaced (codes "instance" ∷ name ∷ digits ∷ [])
+  pub number : decimal_of digits ≡ Some quota
+  pub first : before.commands ≡ []
+  pub good_name : IsInstanceName name
+  pub good_quota : quota ≤ quota_limit
+  pub new_name : All (λ other. name ≢ other.name) before.instances
+  pub adds : after ≡ with_instance before (record { name = name; quota = quota })
+
+-- `put NAME HEX`: bytes are put into the instance of that name
+pub record IsPutLine (before : ScriptValue) (line : List ℕ) (after : ScriptValue) : Type 0 where
+  pub name : List ℕ
+  pub place : ℕ
+  pub content : List ℕ
+  pub form : line ≡ spaced (codes "put" ∷ name ∷ hex_word content ∷ [])
+  pub bytes : IsBytes content
+  pub known : place_of before.instances name ≡ Some place
+  pub adds : after ≡ with_command before (put place content)
+
+-- `call NAME METHOD HEX`: a method of the instance of that name is called with the bytes of a message
+pub record IsCallLine (before : ScriptValue) (line : List ℕ) (after : ScriptValue) : Type 0 where
+  pub name : List ℕ
+  pub place : ℕ
+  pub method : Method
+  pub message : List ℕ
+  pub form : line ≡ spaced (codes "call" ∷ name ∷ method_name method ∷ hex_word message ∷ [])
+  pub bytes : IsBytes message
+  pub known : place_of before.instances name ≡ Some place
+  pub adds : after ≡ with_command before (call place method message)
+
+-- a line that leads from one script to the next: an empty one, which adds nothing, or one of these
+abbrev pub IsGoodLine : ScriptValue → List ℕ → ScriptValue → Type 0
+IsGoodLine before line after =
+    ((line ≡ []) × (after ≡ before)) ⊎ (IsInstanceLine before line after ⊎ (IsPutLine before line after ⊎ IsCallLine before line after))
+
+-- ---- the first bad line
+
+-- the lines lead, one after the other, from a script to a longer one
+abbrev pub Leads : ScriptValue → List (List ℕ) → ScriptValue → Type 0
+Leads from [] to = from ≡ to
+Leads from (line ∷ lines) to = (next : ScriptValue) × (after_line from line ≡ Some next) × Leads next lines to
+
+-- the line of that number, counted from 1, is bad after the lines before it, and those are good
+pub record IsFirstBadLine (lines : List (List ℕ)) (number : ℕ) : Type 0 where
+  pub front : List (List ℕ)
+  pub line : List ℕ
+  pub back : List (List ℕ)
+  pub script : ScriptValue
+  pub whole : lines ≡ front ++ line ∷ back
+  pub place : number ≡ length front + 1
+  pub good : Leads empty_script front script
+  pub bad : after_line script line ≡ None
+
+-- ---- what a script has
+
+-- the place of the instance that a command is for
+abbrev pub instance_place : CommandValue → ℕ
+instance_place (put place content) = place
+instance_place (call place method message) = place
+
+-- every command is for an instance of the script
+abbrev pub KnowsInstances : ScriptValue → Type 0
+KnowsInstances script = All (λ command. instance_place command < length script.instances) script.commands
+
+-- each instance has a good name, at most the greatest quota, and no name that an earlier one has
+pub record HasGoodInstances (instances : List InstanceValue) : Type 0 where
+  pub names : All (λ instance. IsInstanceName instance.name) instances
+  pub quotas : All (λ instance. instance.quota ≤ quota_limit) instances
+  pub distinct : AllPairs (λ earlier later. later.name ≢ earlier.name) instances

@@ -1,6 +1,7 @@
 //! The command line of `remoted`.
 #![tactic(auto)]
 
+use clap::error::ErrorKind;
 use clap::{Arg, ArgAction, ArgMatches, Command, Error};
 use std::alloc::{AllocError, Global};
 
@@ -39,10 +40,29 @@ fn requested<'a>(matches: &ArgMatches<'a>) -> Task<'a> {
     }
 }
 
-/// What the words of a command line ask for. The error has the text and the status for whoever wrote them, and is
-/// also how `--help` and `--version` are answered.
-pub fn parse<'a>(alloc: Global, words: &'a [String]) -> Result<Task<'a>, Error> {
+/// Why the words of a command line ask for nothing.
+#[derive(Drop)]
+pub enum CommandLineError {
+    /// A request for memory was refused.
+    NoMemory,
+    /// There is a text and a status for whoever wrote them: a mistake, or the answer to `--help` or `--version`.
+    Answered(Error),
+}
+
+impl From<AllocError> for CommandLineError {
+    fn from(_refused: AllocError) -> CommandLineError {
+        CommandLineError::NoMemory
+    }
+}
+
+/// What the words of a command line ask for.
+pub fn parse<'a>(alloc: Global, words: &'a [String]) -> Result<Task<'a>, CommandLineError> {
     let command = command(alloc)?;
-    let matches = command.try_get_matches_from(words)?;
-    Ok(requested(&matches))
+    match command.try_get_matches_from(words) {
+        Ok(matches) => Ok(requested(&matches)),
+        Err(error) => match error.kind() {
+            ErrorKind::OutOfMemory => Err(CommandLineError::NoMemory),
+            _ => Err(CommandLineError::Answered(error)),
+        },
+    }
 }

@@ -1,7 +1,7 @@
 //! The program `remoted`.
 #![tactic(auto)]
 
-use command_line::{Task, parse};
+use command_line::{CommandLineError, Task, parse};
 use std::fs;
 use std::io::{self, BufWriter, ErrorKind, Write};
 use std::process::ExitCode;
@@ -40,7 +40,8 @@ fn status(rt: &HostRuntime) -> io::Result<u8> {
         Ok(Task::Unary { file: None }) => {
             unary(rt.alloc(), &mut rt.stdin(), &mut output, &mut errors).code()
         }
-        Err(error) => {
+        Err(CommandLineError::NoMemory) => return Err(io::Error::from(ErrorKind::OutOfMemory)),
+        Err(CommandLineError::Answered(error)) => {
             error.print(rt)?;
             error.exit_code() as u8
         }

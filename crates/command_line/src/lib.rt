@@ -1,42 +1,192 @@
 //! The command line of `remoted`.
 #![tactic(auto)]
 
+ghost use Rattle.std.specs.Prelude.{◌≡◌, ◌≢◌, ◌⊎◌, ℕ, List, Some, false, map, string_bytes, IfOk, IfErr, IfSome, option_map};
+ghost use Rattle.clap.specs.Words.{app_of, first_of, found_of, kind_of, rows_of, rule_of, shape_of, subcommand_rows_of};
+ghost use Rattle.clap.specs.declared.builder.command.Command.TheViews.{out-Command as fields_of};
+ghost use Rattle.clap.specs.declared.error.kind.ErrorKind.TheVariants.{DisplayHelp, DisplayVersion};
+ghost use Rattle.command_line.specs.CommandLine.{command_line, file, long_option, number_of, port, send, want, turns, unary_command, replay_command, probe_command, probe_of, task_by, task_of};
+ghost use Rattle.command_line.specs.Shown.{task_value, asked, IsFaultOf, IsFrom};
+
 use clap::error::ErrorKind;
-use clap::{Arg, ArgAction, ArgMatches, Command, Error};
+use clap::{Arg, ArgAction, ArgMatches, Command, Error, value_parser};
 use std::alloc::{AllocError, Global};
 
 /// What the program is asked for.
 #[derive(Clone, Copy)]
 pub enum Task<'a> {
     /// Carries out a script of calls: a file's, or that of standard input.
-    Unary { file: Option<&'a str> },
+    Unary {
+        file: Option<&'a str>,
+    },
+    /// Carries out the script of events of a file.
+    Replay {
+        file: &'a str,
+    },
+    /// Sends the bytes of a file to a port of this host, and prints the first `want` that come back,
+    /// in at most that many turns.
+    Probe {
+        port: u16,
+        send: &'a str,
+        want: u64,
+        turns: u64,
+    },
 }
 
-fn unary<'a>(alloc: Global) -> Result<Command<'a>, AllocError> {
-    let file = Arg::new(alloc, "FILE")
-        .help("The script: lines `instance NAME QUOTA`, `put NAME HEX` and `call NAME METHOD HEX`")
+fn file<'a>(alloc: Global, help: &'a str) -> Arg<'a>
+    ensures rule { rule_of result ≡ file }
+    ensures local { result.global ≡ false }
+{
+    Arg::new(alloc, "FILE")
+        .help(help)
         .required(true)
-        .action(ArgAction::Set);
+        .action(ArgAction::Set)
+}
+
+fn long_option<'a>(alloc: Global, name: &'a str, value: &'a str) -> Arg<'a>
+    ensures rule { rule_of result ≡ long_option name.entry.now }
+    ensures local { result.global ≡ false }
+{
+    Arg::new(alloc, name)
+        .long(name)
+        .value_name(value)
+        .action(ArgAction::Set)
+}
+
+fn unary<'a>(alloc: Global) -> Result<Command<'a>, AllocError>
+    ensures shape { IfOk result (λ c. shape_of c ≡ unary_command) }
+    ensures local { IfOk result (λ c. (fields_of c).has_globals ≡ false) }
+{
+    let file = file(
+        alloc,
+        "The script: lines `instance NAME QUOTA`, `put NAME HEX` and `call NAME METHOD HEX`",
+    );
     Command::new(alloc, "unary")
         .about("Carry out a script of calls on instances of its own, without connections")
         .arg(file)
 }
 
-fn command<'a>(alloc: Global) -> Result<Command<'a>, AllocError> {
+fn replay<'a>(alloc: Global) -> Result<Command<'a>, AllocError>
+    ensures shape { IfOk result (λ c. shape_of c ≡ replay_command) }
+    ensures local { IfOk result (λ c. (fields_of c).has_globals ≡ false) }
+{
+    let file = file(
+        alloc,
+        "The script: lines `instance NAME QUOTA SLOTS`, and then one line for each event",
+    );
+    Command::new(alloc, "replay")
+        .about("Carry out a script of events on a server of its own, and print what it sends")
+        .arg(file)
+}
+
+fn port<'a>(alloc: Global) -> Arg<'a>
+    ensures rule { rule_of result ≡ port }
+    ensures local { result.global ≡ false }
+{
+    long_option(alloc, "port", "P")
+        .help("The port of 127.0.0.1 to connect to")
+        .required(true)
+        .value_parser(value_parser!(u16).range(1..))
+}
+
+fn send<'a>(alloc: Global) -> Arg<'a>
+    ensures rule { rule_of result ≡ send }
+    ensures local { result.global ≡ false }
+{
+    long_option(alloc, "send", "FILE")
+        .help("The file whose bytes are sent")
+        .required(true)
+}
+
+fn want<'a>(alloc: Global) -> Arg<'a>
+    ensures rule { rule_of result ≡ want }
+    ensures local { result.global ≡ false }
+{
+    long_option(alloc, "want", "N")
+        .help("How many bytes to wait for")
+        .required(true)
+        .value_parser(value_parser!(u64).range(..=i64::MAX))
+}
+
+fn turns<'a>(alloc: Global) -> Arg<'a>
+    ensures rule { rule_of result ≡ turns }
+    ensures local { result.global ≡ false }
+{
+    long_option(alloc, "turns", "T")
+        .help("How many turns to take at most")
+        .value_parser(value_parser!(u64).range(..=i64::MAX))
+        .default_value("1000000000")
+}
+
+fn probe<'a>(alloc: Global) -> Result<Command<'a>, AllocError>
+    ensures shape { IfOk result (λ c. shape_of c ≡ probe_command) }
+    ensures local { IfOk result (λ c. (fields_of c).has_globals ≡ false) }
+{
+    Command::new(alloc, "probe")
+        .about("Send a file's bytes to a server, and print the first bytes that come back")
+        .arg(port(alloc))?
+        .arg(send(alloc))?
+        .arg(want(alloc))?
+        .arg(turns(alloc))
+}
+
+fn command<'a>(alloc: Global) -> Result<Command<'a>, AllocError>
+    ensures { IfOk result (λ c. app_of c ≡ command_line) }
+{
     Command::new(alloc, "remoted")
         .version("0.1.0")
         .about(
             "A remote build cache for Bazel. Without a command it carries out the script on standard input",
         )
-        .subcommand(unary(alloc)?)
+        .subcommand(unary(alloc)?)?
+        .subcommand(replay(alloc)?)?
+        .subcommand(probe(alloc)?)
 }
 
-fn requested<'a>(matches: &ArgMatches<'a>) -> Task<'a> {
+fn text<'a>(found: &ArgMatches<'a>, name: &str) -> Option<&'a str>
+    ensures { option_map (λ text. text.now) result ≡ first_of name.now (rows_of (found_of found.now)) }
+{
+    found.get_str(name)
+}
+
+fn number(found: &ArgMatches<'_>, name: &str) -> Option<u64>
+    ensures { IfSome result (λ number. number_of name.now (rows_of (found_of found.now)) ≡ Some number) }
+{
+    found.get_one::<u64>(name)
+}
+
+fn requested_probe<'a>(found: &ArgMatches<'a>) -> Option<Task<'a>>
+    ensures { IfSome result (λ task. probe_of (rows_of (found_of found.now)) ≡ Some (task_value task)) }
+{
+    let port = number(found, "port")?;
+    Some(Task::Probe {
+        port: u16::try_from(port).ok()?,
+        send: text(found, "send")?,
+        want: number(found, "want")?,
+        turns: number(found, "turns")?,
+    })
+}
+
+fn requested_by<'a>(name: &str, found: &ArgMatches<'a>) -> Option<Task<'a>>
+    ensures { IfSome result (λ task. task_by name.now (rows_of (found_of found.now)) ≡ Some (task_value task)) }
+{
+    match name {
+        "unary" => Some(Task::Unary {
+            file: Some(text(found, "FILE")?),
+        }),
+        "replay" => Some(Task::Replay {
+            file: text(found, "FILE")?,
+        }),
+        _ => requested_probe(found),
+    }
+}
+
+fn requested<'a>(matches: &ArgMatches<'a>) -> Option<Task<'a>>
+    ensures { IfSome result (λ task. task_of (subcommand_rows_of matches.now) ≡ Some (task_value task)) }
+{
     match matches.subcommand() {
-        Some((_, found)) => Task::Unary {
-            file: found.get_str("FILE"),
-        },
-        None => Task::Unary { file: None },
+        Some((name, found)) => requested_by(name, found),
+        None => Some(Task::Unary { file: None }),
     }
 }
 
@@ -50,19 +200,59 @@ pub enum CommandLineError {
 }
 
 impl From<AllocError> for CommandLineError {
+    ghost use Rattle.command_line.specs.declared.CommandLineError.{CommandLineError};
+
+    ghost from_gives = { λ _ fault. fault ≡ CommandLineError.NoMemory };
+
     fn from(_refused: AllocError) -> CommandLineError {
         CommandLineError::NoMemory
     }
 }
 
-/// What the words of a command line ask for.
-pub fn parse<'a>(alloc: Global, words: &'a [String]) -> Result<Task<'a>, CommandLineError> {
-    let command = command(alloc)?;
-    match command.try_get_matches_from(words) {
-        Ok(matches) => Ok(requested(&matches)),
-        Err(error) => match error.kind() {
-            ErrorKind::OutOfMemory => Err(CommandLineError::NoMemory),
-            _ => Err(CommandLineError::Answered(error)),
-        },
+impl From<Error> for CommandLineError {
+    ghost from_gives = { IsFrom };
+
+    fn from(error: Error) -> CommandLineError {
+        match error.kind() {
+            ErrorKind::OutOfMemory => CommandLineError::NoMemory,
+            _ => CommandLineError::Answered(error),
+        }
     }
 }
+
+fn missing(command: &mut Command<'_>) -> CommandLineError
+    ensures { (words : List (List ℕ)) → IsFaultOf words result }
+{
+    match command.error(ErrorKind::MissingRequiredArgument, "an argument is missing") {
+        Ok(error) => CommandLineError::from(error),
+        Err(_) => CommandLineError::NoMemory,
+    }
+}
+
+/// What the words of a command line ask for.
+pub fn parse<'a>(alloc: Global, words: &'a [String]) -> Result<Task<'a>, CommandLineError>
+    ensures task { IfOk result (λ task. asked (map string_bytes words.entry.now) ≡ Some (task_value task)) }
+    ensures fault { IfErr result (IsFaultOf (map string_bytes words.entry.now)) }
+{
+    let mut command = command(alloc)?;
+    let matches = match command.try_get_matches_from_mut(words) {
+        Ok(matches) => matches,
+        Err(error) => return Err(CommandLineError::from(error)),
+    };
+    match requested(&matches) {
+        Some(task) => Ok(task),
+        None => Err(missing(&mut command)),
+    }
+}
+
+/// The status with which the program ends once an error was printed: 0 after help and the version, and 2 after a
+/// mistake.
+pub fn status(error: &Error) -> u8
+    ensures shown { (kind_of error.now ≡ DisplayHelp) ⊎ (kind_of error.now ≡ DisplayVersion) → result ≡ 0 }
+    ensures mistake { (kind_of error.now ≢ DisplayHelp) → (kind_of error.now ≢ DisplayVersion) → result ≡ 2 }
+{
+    error.exit_code() as u8
+}
+
+#[cfg(test)]
+mod tests;

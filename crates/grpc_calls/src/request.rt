@@ -6,8 +6,8 @@ ghost use Rattle.std.specs.List.{list_any};
 ghost use Rattle.grpc_calls.specs.Requests.{head_of, is_grpc_type};
 ghost use Rattle.grpc_calls.specs.Responses.{response_to};
 
-use crate::method::Method;
 use crate::response::ResponseBlock;
+use call_methods::Method;
 use call_status::Refusal;
 use hpack::{HeaderField, Headers};
 

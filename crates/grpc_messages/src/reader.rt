@@ -1,6 +1,6 @@
 //! Received bytes, cut anywhere, back into messages.
 
-ghost use Rattle.std.specs.Prelude.{◌≡◌, ◌≢◌, ◌+◌, ◌++◌, ◌<◌, ◌≤◌, [], drop, length, List, ℕ, Ok, Err, IfOk, IfErr, IfNone, IfSome, OnOk, OnErr, OnSome, IsErrOf, IsOk, Result};
+ghost use Rattle.std.specs.Prelude.{◌≡◌, ◌≢◌, ◌↔◌, IsTrue, ◌+◌, ◌++◌, ◌<◌, ◌≤◌, [], drop, length, List, ℕ, Ok, Err, IfOk, IfErr, IfNone, IfSome, OnOk, OnErr, OnSome, IsErrOf, IsOk, Result};
 ghost use Rattle.grpc_messages.specs.declared.error.MessagesError.{MessagesError};
 ghost use Rattle.grpc_messages.specs.Wire.{ended, size_of};
 ghost use Rattle.grpc_messages.specs.Reading.{split, whole_at, message_at};
@@ -149,6 +149,14 @@ impl Messages {
         self.finish()
     }
 
+    /// Whether each byte that was fed belongs to a message that was given. A reader that refused
+    /// keeps none.
+    pub fn is_empty(&self) -> bool
+        ensures { IsTrue result ↔ bytes_left self.now ≡ [] }
+    {
+        self.refusal.is_some() || self.given == self.received.len()
+    }
+
     fn finish(&mut self) -> Result<(), MessagesError>
         ensures answer { result ≡ ends_at MESSAGE_LIMIT self.old }
         ensures after { self.new ≡ after_end result self.old }
@@ -199,6 +207,7 @@ fn whole_at(bytes: &[u8]) -> Result<Option<usize>, MessagesError>
 fn message_at(alloc: Global, bytes: &[u8], size: usize) -> Result<Message, AllocError>
     requires size { size ≡ size_of bytes.now }
     requires whole { 5 + size ≤ length bytes.now }
+    requires short { size ≤ MESSAGE_LIMIT }
     ensures { IfOk result (λ message. message ≡ message_at bytes.now) }
 {
     let mut message = Vec::with_capacity(alloc, size)?;

@@ -25,6 +25,7 @@ fn bytes_that_come_one_by_one(rt: HostRuntime) -> Result<(), Fail> {
     }
     assert_eq!(rt; lengths.as_slice(), [70, 0].as_slice());
     assert!(rt; matches!(messages.next(), Ok(None)));
+    assert!(rt; messages.is_empty());
     assert!(rt; messages.end().is_ok());
     Ok(())
 }
@@ -40,6 +41,7 @@ fn messages_that_come_in_one_piece(rt: HostRuntime) -> Result<(), Fail> {
     messages.feed(&whole)?;
     let first = messages.next()?.ok_or("a message")?;
     assert_eq!(rt; first.as_slice(), QUESTION);
+    assert!(rt; !messages.is_empty());
     let second = messages.next()?.ok_or("a message")?;
     assert!(rt; second.as_slice().is_empty());
     assert!(rt; matches!(messages.next(), Ok(None)));

@@ -94,7 +94,7 @@ lawful_answer rs ss a lawful idle =
 
 -- ---- the answers of the rules
 
-abbrev OkThen : {A : Type 0} → (A → Type 0) → Result A ErrorCode → Type 0
+abbrev pub OkThen : {A : Type 0} → (A → Type 0) → Result A ErrorCode → Type 0
 OkThen P (Ok a) = P a
 OkThen P (Err code) = Unit {0}
 
@@ -323,7 +323,7 @@ none_received : (fs : List Frame) → filter_map frame_in (map Out fs) ≡ []
 none_received [] = refl
 none_received (f ∷ fs) = none_received fs
 
-all_sent : (fs : List Frame) → filter_map frame_out (map Out fs) ≡ fs
+pub all_sent : (fs : List Frame) → filter_map frame_out (map Out fs) ≡ fs
 all_sent [] = refl
 all_sent (f ∷ fs) = ap (λ xs. f ∷ xs) (all_sent fs)
 
@@ -381,11 +381,11 @@ pub cond_is_true : {A : Type 0} (b : Bool) (x y : A) → b ≡ true → cond b x
 cond_is_true true x y h = refl
 cond_is_true false x y h = cc
 
-cond_is_false : {A : Type 0} (b : Bool) (x y : A) → b ≡ false → cond b x y ≡ y
+pub cond_is_false : {A : Type 0} (b : Bool) (x y : A) → b ≡ false → cond b x y ≡ y
 cond_is_false true x y h = cc
 cond_is_false false x y h = refl
 
-at_law : (d : List Entry) (f : RawFrame) (a : StreamEvent) → has_failed d ≡ false → IsIdle d → causes d f ≡ Ok a → StandsFor (step_by (standing d) f a) (d ++ entries_of d f)
+pub at_law : (d : List Entry) (f : RawFrame) (a : StreamEvent) → has_failed d ≡ false → IsIdle d → causes d f ≡ Ok a → StandsFor (step_by (standing d) f a) (d ++ entries_of d f)
 at_law d f a fine idle h =
     let caused-is : caused (standing d) f ≡ Ok a = sym (cond_is_false (has_failed d) (Ok nothing) (caused (standing d) f) fine) ∙ h in
     let there = turn_law d f a (in_turn (standing d) f) idle caused-is in

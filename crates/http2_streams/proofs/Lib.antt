@@ -6,4 +6,8 @@ mod Received
 mod ReceivedBlocks
 mod Put
 mod Law
-mod PutLaw
+mod Events
+pub mod PutLaw
+pub mod LiveLaw
+pub mod EventLaw
+pub mod ControlLaw

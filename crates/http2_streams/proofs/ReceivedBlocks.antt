@@ -98,7 +98,7 @@ numbers_more rs b = map-append stream_of (blocks_in rs).finished (b ∷ [])
 table_more : (rs : List Frame) (b : HeaderBlock) → fold table_after (Some new_table) ((blocks_in rs).finished ++ b ∷ []) ≡ table_after (fold table_after (Some new_table) (blocks_in rs).finished) b
 table_more rs b = fold_push table_after (Some new_table) (blocks_in rs).finished b
 
-top_more : (rs : List Frame) (b : HeaderBlock) → fold max 0 (map stream_of ((blocks_in rs).finished ++ b ∷ [])) ≡ max (top rs) b.stream
+pub top_more : (rs : List Frame) (b : HeaderBlock) → fold max 0 (map stream_of ((blocks_in rs).finished ++ b ∷ [])) ≡ max (top rs) b.stream
 top_more rs b = ap (λ xs. fold max 0 xs) (numbers_more rs b) ∙ fold_push max 0 (numbers rs) b.stream
 
 -- its stream is opened by it

@@ -18,7 +18,8 @@ use crate::live;
 use crate::stream::Stream;
 use http2_flow::{FlowError, INITIAL_SIZE, MAX_SIZE, Window};
 use http2_frames::{
-    ErrorCode, Frame, Octets, RawFrame, Setting, SettingsList, flag, frame_type, interpret, setting,
+    ErrorCode, Frame, MAX_FRAME_SIZE, Octets, RawFrame, Setting, SettingsList, flag, frame_type,
+    interpret, setting,
 };
 use http2_headers::{H2Fault, HeaderBlocks, HeaderList};
 use std::alloc::{AllocError, Global};
@@ -29,9 +30,6 @@ pub const MAX_STREAMS: usize = 100;
 
 /// How many streams that the server reset are remembered.
 pub const MAX_REMEMBERED: usize = 128;
-
-/// The longest payload of a frame, in bytes (SETTINGS_MAX_FRAME_SIZE, RFC 9113 section 4.2).
-pub const MAX_FRAME_SIZE: usize = 16384;
 
 /// The streams of one connection, as the server sees them.
 #[derive(Drop)]
@@ -172,8 +170,7 @@ impl Streams {
     /// is not live any more; nothing else of it has.
     pub fn fail(&mut self)
         ensures stands { (d : List Entry) → has_failed d ≡ true → StandsFor self.new d }
-        ensures live { self.new.live ≡ self.old.live }
-        ensures highest { self.new.highest ≡ self.old.highest }
+        ensures rest { self.new ≡ record self.old { failed = true } }
     {
         self.failed = true;
     }

@@ -6,7 +6,7 @@ fn a_file_that_cannot_be_read(rt: HostRuntime) -> Result<(), Fail> {
     for file in ["no/such/file", "."] {
         let mut output = Vec::new(rt.alloc());
         let mut errors = Vec::new(rt.alloc());
-        let status = carry_out_file(&rt, file, &mut output, &mut errors)?;
+        let status = unary_of_file(&rt, file, &mut output, &mut errors)?;
         assert_eq!(rt; status, 1);
         assert!(rt; output.is_empty());
         let told = format!(in rt.alloc(); "remoted: cannot read {file}\n")?;
@@ -25,7 +25,7 @@ fn the_script_of_a_file(rt: HostRuntime) -> Result<(), Fail> {
     )?;
     let mut output = Vec::new(rt.alloc());
     let mut errors = Vec::new(rt.alloc());
-    let status = carry_out_file(&rt, file, &mut output, &mut errors)?;
+    let status = unary_of_file(&rt, file, &mut output, &mut errors)?;
     fs::remove_file(&rt, file)?;
     assert_eq!(rt; status, 0);
     assert_eq!(rt; output.as_slice(), b"stored\nrefused\n".as_slice());

@@ -1,0 +1,2 @@
+mod Matched
+mod Faults

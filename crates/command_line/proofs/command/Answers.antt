@@ -1,0 +1,14 @@
+use Rattle.std.proofs.Common.{◌≡◌, ◌∙◌, ap, ap₂, codes}
+use Rattle.std.proofs.lemmas.Result.{IfOk-weaker}
+use Rattle.clap.specs.Words.{app_of, new_app, with_subcommand}
+use Rattle.clap.specs.Simple.{app_of_fields}
+use Rattle.command_line.specs.CommandLine.{with_version}
+use Rattle.command_line.proofs.command.Goals as goal
+
+pub returns : goal.returns
+returns c =
+    let named : app_of c.about.result ≡ with_version (new_app (codes "remoted")) =
+    ap app_of_fields c.about.ensures ∙ ap app_of_fields c.version.ensures ∙ ap with_version c.new.ensures.app in
+    let first = c.in_ok-subcommand.ensures.shape c.in_ok-unary.ensures.local ∙ ap₂ with_subcommand named c.in_ok-unary.ensures.shape in
+    let second = c.in_ok-subcommand-2.ensures.shape c.in_ok-replay.ensures.local ∙ ap₂ with_subcommand first c.in_ok-replay.ensures.shape in
+    IfOk-weaker c.subcommand-3.result _ _ (λ m h. h.shape c.in_ok-probe.ensures.local ∙ ap₂ with_subcommand second c.in_ok-probe.ensures.shape) c.subcommand-3.ensures

@@ -1,0 +1,83 @@
+-- The command line as `clap` reads it, and what its words ask for.
+use Rattle.std.specs.Prelude.{ℕ, pos, true, List, [], ◌∷◌, Option, Some, None, codes, if◌then◌else◌, option_map, option_and_then}
+use Rattle.std.specs.Str.{bytes_eq}
+use Rattle.std.specs.Str.Parse.{digits_value, without_leading_plus}
+use Rattle.clap.specs.Words.{App, Row, Rule, Shape, Text, first_of, new_app, new_rule, one_of, with_rule, with_subcommand}
+use Rattle.clap.specs.declared.builder.action.ArgAction.TheVariants.{Set}
+use Rattle.clap.specs.declared.builder.value_parser.ValueParser.{ValueParser}
+use Rattle.clap.specs.declared.builder.value_parser.ValueParser.TheVariants.{Signed, Unsigned}
+
+-- ---- what there is
+
+-- a file that has to be named
+abbrev pub file : Rule
+file = record (new_rule (codes "FILE")) { required = true; action = Some Set }
+
+-- `--name VALUE`
+abbrev pub long_option : Text → Rule
+long_option name = record (new_rule name) { long = Some name; value_names = 1; action = Some Set }
+
+-- a whole number from 0 to 2^63 - 1
+abbrev pub count : ValueParser
+count = Unsigned 0 9223372036854775807
+
+abbrev pub port : Rule
+port = record (long_option (codes "port")) { required = true; parser = Some (Signed (pos 1) (pos 65535)) }
+
+abbrev pub send : Rule
+send = record (long_option (codes "send")) { required = true }
+
+abbrev pub want : Rule
+want = record (long_option (codes "want")) { required = true; parser = Some count }
+
+abbrev pub turns : Rule
+turns = record (long_option (codes "turns")) { parser = Some count; defaults = codes "1000000000" ∷ [] }
+
+abbrev pub unary_command : Shape
+unary_command = (with_rule (new_app (codes "unary")) file).top
+
+abbrev pub replay_command : Shape
+replay_command = (with_rule (new_app (codes "replay")) file).top
+
+abbrev pub probe_command : Shape
+probe_command = (with_rule (with_rule (with_rule (with_rule (new_app (codes "probe")) port) send) want) turns).top
+
+-- a command that tells its version
+abbrev pub with_version : App → App
+with_version a = record a { top = record a.top { has_version = true } }
+
+-- the program, its version and its three commands
+abbrev pub command_line : App
+command_line = with_subcommand (with_subcommand (with_subcommand (with_version (new_app (codes "remoted"))) unary_command) replay_command) probe_command
+
+-- ---- what is asked for
+
+pub data TaskValue : Type 0 where
+  -- the script of calls of a file, or of standard input
+  unary : Option Text → TaskValue
+  -- the script of events of a file
+  replay : Text → TaskValue
+  -- to send a file's bytes to a port, and to wait for so many, for so many turns
+  probe : (port : ℕ) (send : Text) (want turns : ℕ) → TaskValue
+
+-- the number that was given under a name
+abbrev pub number_of : Text → List Row → Option ℕ
+number_of name given = option_map (λ text. digits_value 10 (without_leading_plus text)) (one_of name given)
+
+abbrev pub probe_of : List Row → Option TaskValue
+probe_of given =
+    option_and_then (λ port. option_and_then (λ send. option_and_then (λ want.
+    option_map (λ turns. probe port send want turns) (number_of (codes "turns") given))
+    (number_of (codes "want") given)) (first_of (codes "send") given)) (number_of (codes "port") given)
+
+-- what a command of this name asks for, with what was given to it
+abbrev pub task_by : Text → List Row → Option TaskValue
+task_by name given =
+    if bytes_eq name (codes "unary") then option_map (λ file. unary (Some file)) (first_of (codes "FILE") given)
+    else (if bytes_eq name (codes "replay") then option_map (λ file. replay file) (first_of (codes "FILE") given)
+    else probe_of given)
+
+-- what the command that the words name asks for; where they name none, it is the script on standard input
+abbrev pub task_of : Option (Text × List Row) → Option TaskValue
+task_of None = Some (unary None)
+task_of (Some (name, given)) = task_by name given

@@ -1,0 +1,31 @@
+-- Tasks and faults as clauses see them.
+use Rattle.std.specs.Prelude.{◌≡◌, ◌≢◌, ⊤, List, ◌∷◌, option_map, Option}
+use Rattle.clap.specs.Words.{Text, kind_of, subcommand_of}
+use Rattle.clap.specs.Faults.{fault_of}
+use Rattle.clap.specs.Kinds.{IsAmong}
+use Rattle.clap.specs.declared.error.Error.{Error}
+use Rattle.clap.specs.declared.error.kind.ErrorKind.TheVariants.{MissingRequiredArgument, OutOfMemory}
+use Rattle.command_line.specs.declared.Task.{Task}
+use Rattle.command_line.specs.declared.Task.TheVariants as task
+use Rattle.command_line.specs.declared.CommandLineError.{CommandLineError}
+use Rattle.command_line.specs.declared.CommandLineError.TheVariants.{NoMemory, Answered}
+use Rattle.command_line.specs.CommandLine.{TaskValue, unary, replay, probe, command_line, task_of}
+
+abbrev pub task_value : Task → TaskValue
+task_value (task.Unary file) = unary (option_map (λ f. f.now) file)
+task_value (task.Replay file) = replay file.now
+task_value (task.Probe port send want turns) = probe port send.now want turns
+
+-- what the words of a command line ask for
+abbrev pub asked : List Text → Option TaskValue
+asked words = task_of (subcommand_of command_line words)
+
+-- the text is for one of the faults that these words have, or for an argument that is missing
+abbrev pub IsFaultOf : List Text → CommandLineError → Type 0
+IsFaultOf words NoMemory = ⊤
+IsFaultOf words (Answered error) = IsAmong (kind_of error) (MissingRequiredArgument ∷ fault_of command_line words)
+
+-- an error of `clap` as the crate's own: it is kept, but for want of memory
+abbrev pub IsFrom : Error → CommandLineError → Type 0
+IsFrom error NoMemory = kind_of error ≡ OutOfMemory
+IsFrom error (Answered kept) = (kept ≡ error) × (kind_of error ≢ OutOfMemory)

@@ -1,0 +1,147 @@
+-- What a frame whose answer fits leaves.
+use Rattle.std.proofs.Common.{◌≡◌, ℕ, List, [], ◌∷◌, ◌++◌, length, refl, ap, ◌∙◌, sym, subst, append_assoc, inl, inr}
+use Rattle.std.specs.Prelude.{Bool, true, false, map, cond, ◌==◌, ◌&&◌, ◌||◌, Result, Ok, Err}
+use Rattle.std.specs.List.{list_any}
+use Rattle.std.proofs.lemmas.Bool.{cases_Bool}
+use Rattle.std.proofs.lemmas.List.Elements.{filter_map-append}
+use Rattle.http2_frames.specs.declared.codes.ErrorCode.{ErrorCode}
+use Rattle.http2_frames.specs.declared.codes.ErrorCode.TheVariants.{EnhanceYourCalm}
+use Rattle.http2_frames.specs.declared.frame.RawFrame.{RawFrame}
+use Rattle.http2_frames.specs.declared.frame.Frame.{Frame}
+use Rattle.http2_frames.specs.declared.frame.Frame.TheVariants.{Data, Headers, Priority, RstStream, Settings, PushPromise, Ping, GoAway, WindowUpdate, Continuation, Unknown}
+use Rattle.http2_frames.specs.declared.reader.TheConstants.{CLIENT_PREFACE}
+use Rattle.http2_frames.specs.Reader.{StandsFor as IsReader}
+use Rattle.http2_streams.specs.declared.event.StreamEvent.{StreamEvent}
+use Rattle.http2_streams.specs.Diary.{Entry, In, Out, sent, frame_out, has_failed, is_goaway, is_live, opened, highest}
+use Rattle.http2_streams.specs.Standing.{Standing, standing}
+use Rattle.http2_streams.specs.StandsFor.{StandsFor as AreStreams}
+use Rattle.http2_streams.specs.Rules.{causes, control_frames, frames_put, entries_of}
+use Rattle.grpc_sending.specs.Bytes.{untaken}
+use Rattle.grpc_sending.specs.StandsFor.{Sending, StandsFor as IsSending}
+use Rattle.grpc_sending.proofs.Diaries.{append-nil}
+use Rattle.grpc_sending.proofs.Received.{frame_heard}
+use Rattle.conn_core.specs.Received.{raw_received, raw_in, Outcome, outcome, outcome_of, entries, fault, fitting, all_fit}
+use Rattle.conn_core.specs.Past.{Past}
+use Rattle.conn_core.specs.StandsFor.{Present}
+use Rattle.conn_core.specs.Step.{AreCalls, ChangesStreams, HasBrought, after_frame}
+use Rattle.conn_core.specs.Putting.{Puts, IsAnswered, is_answer, are_answers}
+use Rattle.conn_core.proofs.Events.{raw_out}
+use Rattle.conn_core.proofs.Pumps.{failed_same}
+use Rattle.conn_core.proofs.Putting.{fitting_all, with_sending}
+use Rattle.http2_streams.proofs.EventLaw.{live_after_frame, event_on_stream}
+use Rattle.http2_streams.proofs.LiveLaw.{listed_is_live, live_falls}
+use Rattle.conn_core.proofs.StreamsLaws.{answers_are, in_live}
+use Rattle.conn_core.proofs.Opened.{call_opened, idle}
+
+-- ---- what a frame comes to
+
+abbrev pub good : StreamEvent → Outcome
+good a = record { put = control_frames a; event = a.event; fails = false }
+
+abbrev pub cut : ℕ → ℕ → StreamEvent → Outcome
+cut n h a = fault (fitting n (control_frames a)) h EnhanceYourCalm
+
+pub outcome_good : (d : List Entry) (f : RawFrame) (a : StreamEvent) → causes d f ≡ Ok a → all_fit (untaken d) (control_frames a) ≡ true → outcome d f ≡ good a
+outcome_good d f a h fit = ap (λ (r : Result StreamEvent ErrorCode). outcome_of (untaken d) (highest d) (highest (d ++ In f ∷ [])) r) h ∙ ap (λ b. cond b (good a) (cut (untaken d) (highest (d ++ In f ∷ [])) a)) fit
+
+pub outcome_cut : (d : List Entry) (f : RawFrame) (a : StreamEvent) → causes d f ≡ Ok a → all_fit (untaken d) (control_frames a) ≡ false → outcome d f ≡ cut (untaken d) (highest (d ++ In f ∷ [])) a
+outcome_cut d f a h fit = ap (λ (r : Result StreamEvent ErrorCode). outcome_of (untaken d) (highest d) (highest (d ++ In f ∷ [])) r) h ∙ ap (λ b. cond b (good a) (cut (untaken d) (highest (d ++ In f ∷ [])) a)) fit
+
+pub outcome_fault : (d : List Entry) (f : RawFrame) (code : ErrorCode) → causes d f ≡ Err code → outcome d f ≡ fault [] (highest d) code
+outcome_fault d f code h = ap (λ (r : Result StreamEvent ErrorCode). outcome_of (untaken d) (highest d) (highest (d ++ In f ∷ [])) r) h
+
+-- ---- a frame and what is put for it
+
+pub in_front : (d : List Entry) (f : RawFrame) (fs : List Frame) → d ++ In f ∷ map Out fs ≡ (d ++ In f ∷ []) ++ map Out fs
+in_front d f fs = sym (append_assoc d (In f ∷ []) (map Out fs))
+
+sent_in : (d : List Entry) (f : RawFrame) → sent (d ++ In f ∷ []) ≡ sent d
+sent_in d f = filter_map-append frame_out d (In f ∷ []) ∙ append-nil (sent d)
+
+no_goaway : (f : Frame) → is_answer f ≡ true → is_goaway f ≡ false
+no_goaway (GoAway s c b) h = cc
+no_goaway (Data s e b) h = refl
+no_goaway (Headers s e x b) h = refl
+no_goaway (Priority s p) h = refl
+no_goaway (RstStream s c) h = refl
+no_goaway (Settings a ss) h = refl
+no_goaway (PushPromise f s p) h = refl
+no_goaway (Ping a o) h = refl
+no_goaway (WindowUpdate s n) h = refl
+no_goaway (Continuation s x b) h = refl
+no_goaway (Unknown k f s p) h = refl
+
+pub answers_quiet : (fs : List Frame) → are_answers fs ≡ true → list_any is_goaway fs ≡ false
+answers_quiet [] h = refl
+answers_quiet (f ∷ fs) h = elim (cases_Bool (is_answer f)) [
+  | inl is ↦
+      let h' : are_answers fs ≡ true = rw is at h in
+      ap (λ b. b || list_any is_goaway fs) (no_goaway f is) ∙ answers_quiet fs h'
+  | inr other ↦ let no : false ≡ true = rw other at h in cc
+]
+
+pub failed_after : (d : List Entry) (f : RawFrame) (fs : List Frame) → list_any is_goaway fs ≡ false → has_failed (d ++ In f ∷ map Out fs) ≡ has_failed d
+failed_after d f fs quiet = ap has_failed (in_front d f fs) ∙ failed_same (d ++ In f ∷ []) fs quiet ∙ ap (λ (gs : List Frame). list_any is_goaway gs) (sent_in d f)
+
+pub raw_after : (d : List Entry) (f : RawFrame) (fs : List Frame) → raw_received (d ++ In f ∷ map Out fs) ≡ raw_received d ++ f ∷ []
+raw_after d f fs = ap raw_received (in_front d f fs) ∙ raw_out (d ++ In f ∷ []) fs ∙ filter_map-append raw_in d (In f ∷ [])
+
+pub entries_caused : (d : List Entry) (f : RawFrame) (a : StreamEvent) → causes d f ≡ Ok a → entries_of d f ≡ In f ∷ map Out (control_frames a)
+entries_caused d f a h = ap (λ (r : Result StreamEvent ErrorCode). In f ∷ map Out (frames_put (standing d) r)) h
+
+-- ---- the streams
+
+both : (a b : Bool) → a ≡ true → b ≡ true → (a && b) ≡ true
+both true b h k = k
+both false b h k = cc
+
+pub changes : (u : Standing) (d : List Entry) (f : RawFrame) (a : StreamEvent) → AreStreams u d → has_failed d ≡ false → causes d f ≡ Ok a → ChangesStreams d (d ++ entries_of d f) a.event
+changes u d f a at fine h = record {
+  streams = live_after_frame u d f a at fine h;
+  falls = λ s lives. live_falls d (entries_of d f) s lives;
+  event = event_on_stream d f a h;
+  idle = λ s above. idle d s above;
+  begun = λ s call lives. in_live d s ∙ both (list_any (λ t. t == s) (opened d)) (is_live d s) (call_opened d s call) lives;
+  opened = λ s member. let l = listed_is_live d s member in (l.1, l.0);
+}
+
+-- ---- all of it
+
+kept_calls : (v : Present) (w : Sending) (d : List Entry) → AreCalls v d → AreCalls (with_sending v w) d
+kept_calls v w d h = record { calls = h.calls; order = h.order }
+
+has_brought : (v : Present) (p : Past) (f : RawFrame) (a : StreamEvent) (w : Sending) → IsAnswered v p f a → all_fit (untaken p.diary) (control_frames a) ≡ true → IsSending w (p.diary ++ In f ∷ map Out (control_frames a)) p.owed → HasBrought (with_sending v w) p f a.event
+has_brought v p f a w h fit sending =
+    let o : outcome p.diary f ≡ good a = outcome_good p.diary f a h.causes fit in
+    let es : entries p.diary f ≡ In f ∷ map Out (control_frames a) = ap (λ (x : Outcome). In f ∷ map Out x.put) o in
+    let is : after_frame p f ≡ p.diary ++ In f ∷ map Out (control_frames a) = ap (λ (xs : List Entry). p.diary ++ xs) es in
+    let same : p.diary ++ entries_of p.diary f ≡ after_frame p f = ap (λ (xs : List Entry). p.diary ++ xs) (entries_caused p.diary f a h.causes) ∙ sym is in
+    record {
+      ended = h.ended;
+      is_event = ap (λ (x : Outcome). x.event) o;
+      fits = ap (λ (x : Outcome). x.fails) o;
+      lives = ap has_failed is ∙ failed_after p.diary f (control_frames a) (answers_quiet (control_frames a) (answers_are p.diary f a h.causes)) ∙ h.lives;
+      reader = subst (λ (rs : List RawFrame). IsReader CLIENT_PREFACE.now v.reader p.text rs) (sym (ap raw_received is ∙ raw_after p.diary f (control_frames a))) h.reader;
+      streams = subst (λ (x : List Entry). AreStreams v.streams x) same h.streams;
+      sending = subst (λ (x : List Entry). IsSending w x p.owed) (sym is) sending;
+      due = h.due;
+      calls = kept_calls v w p.diary h.calls;
+      change = subst (λ (x : List Entry). ChangesStreams p.diary x a.event) same (changes h.before p.diary f a h.stood h.lives h.causes);
+    }
+
+pub fits_of : (v : Present) (p : Past) (f : RawFrame) (a : StreamEvent) (w : Present) (b : Bool) → IsAnswered v p f a → Puts v (control_frames a) b w → all_fit (untaken p.diary) (control_frames a) ≡ b
+fits_of v p f a w b h puts = ap (λ n. all_fit n (control_frames a)) (sym (ap length h.sending.pending)) ∙ sym puts.all
+
+-- what was put stands behind the frame
+pub put_behind : (v : Present) (p : Past) (f : RawFrame) (a : StreamEvent) (w : Present) (b : Bool) → IsAnswered v p f a → Puts v (control_frames a) b w → IsSending w.sending (p.diary ++ In f ∷ map Out (fitting (untaken p.diary) (control_frames a))) p.owed
+put_behind v p f a w b h puts =
+    let n : length v.sending.pending ≡ untaken p.diary = ap length h.sending.pending in
+    let there = puts.sending (p.diary ++ In f ∷ []) p.owed (frame_heard v.sending p.diary p.owed f h.sending) in
+    let there' : IsSending w.sending ((p.diary ++ In f ∷ []) ++ map Out (fitting (untaken p.diary) (control_frames a))) p.owed = subst (λ (m : ℕ). IsSending w.sending ((p.diary ++ In f ∷ []) ++ map Out (fitting m (control_frames a))) p.owed) n there in
+    subst (λ (x : List Entry). IsSending w.sending x p.owed) (sym (in_front p.diary f (fitting (untaken p.diary) (control_frames a)))) there'
+
+pub answered_fits : (v w : Present) (p : Past) (f : RawFrame) (a : StreamEvent) → IsAnswered v p f a → Puts v (control_frames a) true w → HasBrought w p f a.event
+answered_fits v w p f a h puts =
+    let fit = fits_of v p f a w true h puts in
+    let sending : IsSending w.sending (p.diary ++ In f ∷ map Out (control_frames a)) p.owed = subst (λ (fs : List Frame). IsSending w.sending (p.diary ++ In f ∷ map Out fs) p.owed) (fitting_all (untaken p.diary) (control_frames a) fit) (put_behind v p f a w true h puts) in
+    subst (λ (y : Present). HasBrought y p f a.event) (sym puts.rest) (has_brought v p f a w.sending h fit sending)

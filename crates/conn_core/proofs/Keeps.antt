@@ -1,0 +1,164 @@
+-- What the calls that bring nothing leave stands for the past after them.
+use Rattle.std.proofs.Common.{◌≡◌, ℕ, List, [], ◌∷◌, ◌++◌, refl, ap, ◌∙◌, sym, subst, append_assoc}
+use Rattle.std.specs.Prelude.{Bool, true, false, map, filter, fold, ◌&&◌, ◌||◌, not, Option, Some, None, Result, Ok, Err, OnOk, OnErr, IfErr}
+use Rattle.std.specs.List.{list_any, flat_map}
+use Rattle.std.proofs.lemmas.List.Elements.{filter_map-append}
+use Rattle.http2_frames.specs.declared.reader.TheConstants.{CLIENT_PREFACE}
+use Rattle.http2_frames.specs.declared.error.FrameError.{FrameError}
+use Rattle.http2_frames.specs.declared.error.FrameError.TheVariants.{NoMemory}
+use Rattle.http2_frames.specs.declared.settings.Setting.{Setting}
+use Rattle.http2_frames.specs.declared.frame.Frame.TheVariants.{Settings}
+use Rattle.http2_frames.specs.declared.frame.Frame.{Frame}
+use Rattle.http2_frames.specs.declared.frame.RawFrame.{RawFrame}
+use Rattle.http2_frames.specs.Reader.{Unread, StandsFor as IsReader}
+use Rattle.http2_frames.specs.Reading.{split}
+use Rattle.http2_streams.specs.declared.event.Event.{Event}
+use Rattle.http2_streams.specs.Diary.{Entry, Out, Took, sent, received, frame_in, frame_out, has_failed, is_goaway, is_live, live, resets, data_ends, block_ends, ends, rising, stream_of, blocks_after, no_blocks}
+use Rattle.http2_streams.specs.Standing.{Standing}
+use Rattle.http2_streams.specs.StandsFor.{StandsFor as AreStreams}
+use Rattle.http2_streams.proofs.PutLaw.{no_matter}
+use Rattle.grpc_messages.specs.declared.error.MessagesError.{MessagesError}
+use Rattle.grpc_sending.specs.Owed.{Item, Owed}
+use Rattle.grpc_sending.specs.StandsFor.{Sending, StandsFor as IsSending, owed_more}
+use Rattle.grpc_sending.proofs.Diaries.{append-nil}
+use Rattle.conn_core.specs.declared.call.Call.{Call}
+use Rattle.conn_core.specs.declared.event.CallEvent.{CallEvent}
+use Rattle.conn_core.specs.Received.{raw_received}
+use Rattle.conn_core.specs.Calls.{events, begins_call, content_on, text, messages_of}
+use Rattle.conn_core.specs.Past.{Past, greeting, opening, with_item, with_taken}
+use Rattle.conn_core.specs.StandsFor.{Present, StandsFor, IsAlive, IsCall, call_on, among, stream_of as call_stream}
+use Rattle.conn_core.proofs.Events.{events_took, raw_took}
+
+-- ---- an item
+
+pub item_kept : (v : Present) (w : Sending) (p : Past) (s : ℕ) (item : Item) → StandsFor v p → IsSending w p.diary (owed_more p.diary p.owed s item) → StandsFor (record { reader = v.reader; streams = v.streams; sending = w; calls = v.calls; due = v.due; ended = v.ended }) (with_item p s item)
+item_kept v w p s item st sending = record {
+  ended = st.ended;
+  streams = st.streams;
+  sending = sending;
+  due = st.due;
+  alive = λ alive. let a = st.alive alive in record { reader = a.reader; calls = a.calls; order = a.order };
+}
+
+pub item_by : {T E : Type 0} (r : Result T E) (v old : Present) (w : Sending) (s : ℕ) (item : Item) → v ≡ old →
+    OnOk r ((d : List Entry) (os : List Owed) → AreStreams v.streams d → IsSending v.sending d os → IsSending w d (owed_more d os s item)) →
+    OnOk r ((p : Past) → StandsFor old p → StandsFor (record { reader = v.reader; streams = v.streams; sending = w; calls = v.calls; due = v.due; ended = v.ended }) (with_item p s item))
+item_by (Err e) v old w s item is h = tt
+item_by (Ok x) v old w s item is h = λ p st0.
+    let st : StandsFor v p = subst (λ (y : Present). StandsFor y p) (sym is) st0 in
+    item_kept v w p s item st (h p.diary p.owed st.streams st.sending)
+
+-- ---- bytes that were taken
+
+took_sent : (d : List Entry) (n : ℕ) → sent (d ++ Took n ∷ []) ≡ sent d
+took_sent d n = filter_map-append frame_out d (Took n ∷ []) ∙ append-nil (sent d)
+
+took_received : (d : List Entry) (n : ℕ) → received (d ++ Took n ∷ []) ≡ received d
+took_received d n = filter_map-append frame_in d (Took n ∷ []) ∙ append-nil (received d)
+
+abbrev lives_by : List Frame → List Frame → ℕ → Bool
+lives_by rs ss s = not (list_any (resets s) rs || list_any (resets s) ss) && not ((list_any (data_ends s) rs || list_any (block_ends s) (fold blocks_after no_blocks rs).finished) && list_any (ends s) ss)
+
+abbrev live_by : List Frame → List Frame → List ℕ
+live_by rs ss = filter (lives_by rs ss) (rising 0 (map stream_of (fold blocks_after no_blocks rs).finished))
+
+-- two diaries that received, put and brought the same
+pub record IsSame (d e : List Entry) : Type 0 where
+  pub received : received e ≡ received d
+  pub sent : sent e ≡ sent d
+  pub events : events e ≡ events d
+  pub raw : raw_received e ≡ raw_received d
+
+same_live : (d e : List Entry) (s : ℕ) → IsSame d e → is_live e s ≡ is_live d s
+same_live d e s h = ap (λ (rs : List Frame). lives_by rs (sent e) s) h.received ∙ ap (λ (ss : List Frame). lives_by (received d) ss s) h.sent
+
+same_lives : (d e : List Entry) → IsSame d e → live e ≡ live d
+same_lives d e h = ap (λ (rs : List Frame). live_by rs (sent e)) h.received ∙ ap (λ (ss : List Frame). live_by (received d) ss) h.sent
+
+pub same_call : (d e : List Entry) (s : ℕ) (o : Option (Result (List ℕ) MessagesError)) → events e ≡ events d → IsCall d s o → IsCall e s o
+same_call d e s None h call = ap (λ (es : List Event). list_any (begins_call s) es) h ∙ call
+same_call d e s (Some m) h call = (
+  ap (λ (es : List Event). list_any (begins_call s) es) h ∙ call.0,
+  call.1 ∙ ap (λ (es : List Event). (messages_of (flat_map (content_on s) es)).end) (sym h),
+)
+
+abbrev calls_by : List Event → List ℕ → List ℕ
+calls_by es ss = filter (λ s. list_any (begins_call s) es) ss
+
+pub same_alive : (v : Present) (w : Sending) (p q : Past) → q.text ≡ p.text → IsSame p.diary q.diary → IsAlive v p → IsAlive (record { reader = v.reader; streams = v.streams; sending = w; calls = v.calls; due = v.due; ended = v.ended }) q
+same_alive v w p q text_is h a = record {
+  reader = subst (λ (t : List ℕ). IsReader CLIENT_PREFACE.now v.reader t (raw_received q.diary)) (sym text_is) (subst (λ (fs : List RawFrame). IsReader CLIENT_PREFACE.now v.reader p.text fs) (sym h.raw) a.reader);
+  calls = λ s lives. same_call p.diary q.diary s (call_on s v.calls) h.events (a.calls s (sym (same_live p.diary q.diary s h) ∙ lives));
+  order = ap (λ (ss : List ℕ). among ss (map call_stream v.calls)) (same_lives p.diary q.diary h) ∙ a.order ∙ ap (λ (es : List Event). calls_by es (live p.diary)) (sym h.events) ∙ ap (calls_by (events q.diary)) (sym (same_lives p.diary q.diary h));
+}
+
+took_same : (d : List Entry) (n : ℕ) → IsSame d (d ++ Took n ∷ [])
+took_same d n = record { received = took_received d n; sent = took_sent d n; events = events_took d n; raw = raw_took d n }
+
+pub took_kept : (v : Present) (w : Sending) (p : Past) (n : ℕ) → StandsFor v p → IsSending w (p.diary ++ Took n ∷ []) p.owed → StandsFor (record { reader = v.reader; streams = v.streams; sending = w; calls = v.calls; due = v.due; ended = v.ended }) (with_taken p n)
+took_kept v w p n st sending = record {
+  ended = st.ended ∙ ap (λ (ss : List Frame). list_any is_goaway ss) (sym (took_sent p.diary n));
+  streams = no_matter v.streams p.diary (Took n) tt st.streams;
+  sending = sending;
+  due = st.due;
+  alive = λ alive. same_alive v w p (with_taken p n) refl (took_same p.diary n) (st.alive (ap (λ (ss : List Frame). list_any is_goaway ss) (sym (took_sent p.diary n)) ∙ alive));
+}
+
+pub took_by : (v old : Present) (w : Sending) (n : ℕ) → v ≡ old → ((d : List Entry) (os : List Owed) → IsSending v.sending d os → IsSending w (d ++ Took n ∷ []) os) → (p : Past) → StandsFor old p → StandsFor (record { reader = v.reader; streams = v.streams; sending = w; calls = v.calls; due = v.due; ended = v.ended }) (with_taken p n)
+took_by v old w n is h p st0 =
+    let st : StandsFor v p = subst (λ (y : Present). StandsFor y p) (sym is) st0 in
+    took_kept v w p n st (h p.diary p.owed st.sending)
+
+-- ---- a new connection
+
+pub new_stands : (reader : Result Unread FrameError) (streams : Standing) (w : Sending) → IsReader CLIENT_PREFACE.now reader [] [] → AreStreams streams [] → IsSending w (greeting ∷ []) [] → StandsFor (record { reader = reader; streams = streams; sending = w; calls = []; due = []; ended = false }) opening
+new_stands reader streams w read at sending = record {
+  ended = refl;
+  streams = no_matter streams [] greeting tt at;
+  sending = sending;
+  due = refl;
+  alive = λ alive. record { reader = read; calls = λ s lives. refl; order = refl };
+}
+
+-- ---- more bytes
+
+pub more_kept : (v : Present) (r : Result Unread FrameError) (p : Past) (piece : List ℕ) → StandsFor v p → (has_failed p.diary ≡ false → IsReader CLIENT_PREFACE.now r (p.text ++ piece) (raw_received p.diary)) → StandsFor (record { reader = r; streams = v.streams; sending = v.sending; calls = v.calls; due = v.due; ended = v.ended }) (record p { text = p.text ++ piece })
+more_kept v r p piece st read = record {
+  ended = st.ended;
+  streams = st.streams;
+  sending = st.sending;
+  due = st.due;
+  alive = λ alive. let a = st.alive alive in record { reader = read alive; calls = a.calls; order = a.order };
+}
+
+-- a reader that refused goes on to refuse
+pub refused_more : (preface text piece : List ℕ) (given : List RawFrame) (e : FrameError) → IsReader preface (Err e) text given → IsReader preface (Err e) (text ++ piece) given
+refused_more preface text piece given e h = λ more. ap (split preface) (append_assoc text piece more) ∙ h (piece ++ more)
+
+pub new_by : (reader : Result Unread FrameError) (streams : Standing) (w : Sending) (calls : List Call) (due : List CallEvent) (ss : List Setting) → calls ≡ [] → due ≡ [] → ss ≡ record { identifier = 3; value = 100 } ∷ [] → IsReader CLIENT_PREFACE.now reader [] [] → AreStreams streams [] → IsSending w (Out (Settings false ss) ∷ []) [] → StandsFor (record { reader = reader; streams = streams; sending = w; calls = calls; due = due; ended = false }) opening
+new_by reader streams w calls due ss none none' settings read at sending =
+    let f : List Call → List CallEvent → Present = λ cs es. record { reader = reader; streams = streams; sending = w; calls = cs; due = es; ended = false } in
+    let s : IsSending w (greeting ∷ []) [] = subst (λ (xs : List Setting). IsSending w (Out (Settings false xs) ∷ []) []) settings sending in
+    subst (λ (cs : List Call). StandsFor (f cs due) opening) (sym none) (subst (λ (es : List CallEvent). StandsFor (f [] es) opening) (sym none') (new_stands reader streams w read at s))
+
+pub fed : (r : Result Unit FrameError) (old new : Result Unread FrameError) (preface text piece : List ℕ) (given : List RawFrame) → OnOk r ((p t : List ℕ) (g : List RawFrame) → IsReader p old t g → IsReader p new (t ++ piece) g) → OnErr r (new ≡ old) → IfErr r (λ fault. (fault ≡ NoMemory → ⊥) → old ≡ Err fault) → (r ≡ Err NoMemory → ⊥) → IsReader preface old text given → IsReader preface new (text ++ piece) given
+fed (Ok u) old new preface text piece given ok err refused memory h = ok preface text given h
+fed (Err e) old new preface text piece given ok err refused memory h =
+    let is : old ≡ Err e = refused (λ k. memory (ap Err k)) in
+    let h' : IsReader preface (Err e) text given = subst (λ (o : Result Unread FrameError). IsReader preface o text given) is h in
+    subst (λ (o : Result Unread FrameError). IsReader preface o (text ++ piece) given) (sym (err ∙ is)) (refused_more preface text piece given e h')
+
+pub fed_by : (v old : Present) (r : Result Unit FrameError) (new : Result Unread FrameError) (piece : List ℕ) → v ≡ old → OnOk r ((p t : List ℕ) (g : List RawFrame) → IsReader p v.reader t g → IsReader p new (t ++ piece) g) → OnErr r (new ≡ v.reader) → IfErr r (λ fault. (fault ≡ NoMemory → ⊥) → v.reader ≡ Err fault) → (r ≡ Err NoMemory → ⊥) → (p : Past) → StandsFor old p → StandsFor (record { reader = new; streams = v.streams; sending = v.sending; calls = v.calls; due = v.due; ended = v.ended }) (record p { text = p.text ++ piece })
+fed_by v old r new piece is ok err refused memory p st0 =
+    let st : StandsFor v p = subst (λ (y : Present). StandsFor y p) (sym is) st0 in
+    more_kept v new p piece st (λ alive. fed r v.reader new CLIENT_PREFACE.now p.text piece (raw_received p.diary) ok err refused memory (st.alive alive).reader)
+
+pub fed_ended : (v old : Present) (piece : List ℕ) → v ≡ old → v.ended ≡ true → (p : Past) → StandsFor old p → StandsFor v (record p { text = p.text ++ piece })
+fed_ended v old piece is ended p st0 =
+    let st : StandsFor v p = subst (λ (y : Present). StandsFor y p) (sym is) st0 in
+    let failed : has_failed p.diary ≡ true = sym st.ended ∙ ended in
+    more_kept v v.reader p piece st (λ alive. let no : true ≡ false = sym failed ∙ alive in absurd (let z : ⊥ = cc in z))
+
+pub fed_ok : {T E : Type 0} (o : Result T E) (v old : Present) (r : Result Unit FrameError) (new : Result Unread FrameError) (piece : List ℕ) → v ≡ old → OnOk r ((p t : List ℕ) (g : List RawFrame) → IsReader p v.reader t g → IsReader p new (t ++ piece) g) → OnErr r (new ≡ v.reader) → IfErr r (λ fault. (fault ≡ NoMemory → ⊥) → v.reader ≡ Err fault) → OnOk o (r ≡ Err NoMemory → ⊥) → OnOk o ((p : Past) → StandsFor old p → StandsFor (record { reader = new; streams = v.streams; sending = v.sending; calls = v.calls; due = v.due; ended = v.ended }) (record p { text = p.text ++ piece }))
+fed_ok (Err e) v old r new piece is ok err refused memory = tt
+fed_ok (Ok x) v old r new piece is ok err refused memory = fed_by v old r new piece is ok err refused memory

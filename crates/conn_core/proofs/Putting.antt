@@ -1,0 +1,183 @@
+-- What the control frames leave that are put for a frame.
+use Rattle.std.proofs.Common.{◌≡◌, ℕ, ◌+◌, ◌≤◌, List, [], ◌∷◌, ◌++◌, length, refl, ap, ◌∙◌, sym, subst, append_assoc, arith, length-append, inl, inr}
+use Rattle.std.specs.Prelude.{Bool, true, false, map, IsTrue, ◌↔◌}
+use Rattle.std.specs.Option.{option_to_list}
+use Rattle.std.specs.List.{flat_map}
+use Rattle.std.proofs.lemmas.Bool.{cases_Bool, leb-true, le-leb}
+use Rattle.std.proofs.lemmas.List.{map-append}
+use Rattle.std.proofs.lemmas.Grind.{flat_map-append}
+use Rattle.http2_frames.specs.declared.frame.Frame.{Frame}
+use Rattle.http2_frames.specs.Writing.{text_of, raw_of}
+use Rattle.http2_streams.specs.Diary.{Entry, Out}
+use Rattle.http2_streams.specs.declared.event.StreamEvent.{StreamEvent}
+use Rattle.http2_streams.specs.Rules.{control_frames}
+use Rattle.grpc_sending.specs.Owed.{Owed}
+use Rattle.grpc_sending.specs.StandsFor.{Sending, StandsFor as IsSending}
+use Rattle.grpc_sending.proofs.Diaries.{append-nil, text_length}
+use Rattle.conn_core.specs.Received.{fits, fitting, all_fit}
+use Rattle.conn_core.specs.StandsFor.{Present}
+use Rattle.conn_core.specs.Putting.{Puts, is_answer, are_answers}
+
+-- ---- the frames that fit, of two lists
+
+abbrev after : ℕ → List Frame → ℕ
+after n fs = n + length (flat_map text_of fs)
+
+all_fit-append : (n : ℕ) (fs gs : List Frame) → all_fit n fs ≡ true → all_fit n (fs ++ gs) ≡ all_fit (after n fs) gs
+all_fit-append n [] gs h = ap (λ m. all_fit m gs) (omega arith)
+all_fit-append n (f ∷ fs) gs h = elim (cases_Bool (fits n f)) [
+  | inl here ↦
+      let h' : all_fit (n + length (text_of f)) fs ≡ true = rw here at h in
+      let e : after (n + length (text_of f)) fs ≡ after n (f ∷ fs) = omega (arith, length-append (text_of f) (flat_map text_of fs)) in
+      rw here (all_fit-append (n + length (text_of f)) fs gs h' ∙ ap (λ m. all_fit m gs) e)
+  | inr short ↦ let no : false ≡ true = rw short at h in cc
+]
+
+none_more : (n : ℕ) (fs gs : List Frame) → all_fit n fs ≡ false → (all_fit n (fs ++ gs) ≡ false) × (fitting n (fs ++ gs) ≡ fitting n fs)
+none_more n [] gs h = cc
+none_more n (f ∷ fs) gs h = elim (cases_Bool (fits n f)) [
+  | inl here ↦
+      let h' : all_fit (n + length (text_of f)) fs ≡ false = rw here at h in
+      let e = none_more (n + length (text_of f)) fs gs h' in
+      rw here (e.0, ap (λ (xs : List Frame). f ∷ xs) e.1)
+  | inr short ↦ rw short (refl, refl)
+]
+
+pub fitting_all : (n : ℕ) (fs : List Frame) → all_fit n fs ≡ true → fitting n fs ≡ fs
+fitting_all n [] h = refl
+fitting_all n (f ∷ fs) h = elim (cases_Bool (fits n f)) [
+  | inl here ↦ let h' : all_fit (n + length (text_of f)) fs ≡ true = rw here at h in rw here (ap (λ (xs : List Frame). f ∷ xs) (fitting_all (n + length (text_of f)) fs h'))
+  | inr short ↦ let no : false ≡ true = rw short at h in cc
+]
+
+fitting-append : (n : ℕ) (fs gs : List Frame) → all_fit n fs ≡ true → fitting n (fs ++ gs) ≡ fs ++ fitting (after n fs) gs
+fitting-append n [] gs h = ap (λ m. fitting m gs) (omega arith)
+fitting-append n (f ∷ fs) gs h = elim (cases_Bool (fits n f)) [
+  | inl here ↦
+      let h' : all_fit (n + length (text_of f)) fs ≡ true = rw here at h in
+      let e : after (n + length (text_of f)) fs ≡ after n (f ∷ fs) = omega (arith, length-append (text_of f) (flat_map text_of fs)) in
+      rw here (ap (λ (xs : List Frame). f ∷ xs) (fitting-append (n + length (text_of f)) fs gs h' ∙ ap (λ m. fs ++ fitting m gs) e))
+  | inr short ↦ let no : false ≡ true = rw short at h in cc
+]
+
+-- ---- one frame after another
+
+abbrev pub with_sending : Present → Sending → Present
+with_sending v w = record { reader = v.reader; streams = v.streams; sending = w; calls = v.calls; due = v.due; ended = v.ended }
+
+pub puts_none : (v : Present) → Puts v [] true v
+puts_none v = record {
+  all = refl;
+  sending = λ d os st. subst (λ (e : List Entry). IsSending v.sending e os) (sym (append-nil d)) st;
+  size = omega arith;
+  rest = refl;
+}
+
+pub puts_more : (v w x : Present) (fs gs : List Frame) (all : Bool) → Puts v fs true w → Puts w gs all x → Puts v (fs ++ gs) all x
+puts_more v w x fs gs all a b =
+    let n : ℕ = length v.sending.pending in
+    let fit : all_fit (length v.sending.pending) fs ≡ true = sym a.all in
+    let whole : fitting (length v.sending.pending) fs ≡ fs = fitting_all (length v.sending.pending) fs fit in
+    let size : length w.sending.pending ≡ after (length v.sending.pending) fs = a.size ∙ ap (λ (xs : List Frame). length v.sending.pending + length (flat_map text_of xs)) whole in
+    let joined : fitting (length v.sending.pending) (fs ++ gs) ≡ fs ++ fitting (length w.sending.pending) gs = fitting-append (length v.sending.pending) fs gs fit ∙ ap (λ m. fs ++ fitting m gs) (sym size) in
+    record {
+      all = b.all ∙ ap (λ m. all_fit m gs) size ∙ sym (all_fit-append (length v.sending.pending) fs gs fit);
+      sending = λ d os st.
+          let one : IsSending w.sending (d ++ map Out fs) os = subst (λ (xs : List Frame). IsSending w.sending (d ++ map Out xs) os) whole (a.sending d os st) in
+          let two = b.sending (d ++ map Out fs) os one in
+          let e : (d ++ map Out fs) ++ map Out (fitting (length w.sending.pending) gs) ≡ d ++ map Out (fitting (length v.sending.pending) (fs ++ gs)) =
+          append_assoc d (map Out fs) (map Out (fitting (length w.sending.pending) gs)) ∙ ap (λ (es : List Entry). d ++ es) (sym (map-append Out fs (fitting (length w.sending.pending) gs))) ∙ ap (λ (xs : List Frame). d ++ map Out xs) (sym joined) in
+          subst (λ (e : List Entry). IsSending x.sending e os) e two;
+      size = omega (arith, b.size, size, ap (λ (xs : List Frame). length (flat_map text_of xs)) joined, ap length (flat_map-append text_of fs (fitting (length w.sending.pending) gs)), length-append (flat_map text_of fs) (flat_map text_of (fitting (length w.sending.pending) gs)));
+      rest = b.rest ∙ ap (λ (y : Present). with_sending y x.sending) a.rest;
+    }
+
+pub puts_short : (v w : Present) (fs gs : List Frame) → Puts v fs false w → Puts v (fs ++ gs) false w
+puts_short v w fs gs a =
+    let e = none_more (length v.sending.pending) fs gs (sym a.all) in
+    record {
+      all = sym e.0;
+      sending = λ d os st. subst (λ (xs : List Frame). IsSending w.sending (d ++ map Out xs) os) (sym e.1) (a.sending d os st);
+      size = a.size ∙ ap (λ (xs : List Frame). length v.sending.pending + length (flat_map text_of xs)) (sym e.1);
+      rest = a.rest;
+    }
+
+-- ---- one frame
+
+pub fits_is : (n : ℕ) (f : Frame) (b : Bool) → (IsTrue b ↔ ((n + (9 + length (raw_of f).payload)) ≤ 131055)) → fits n f ≡ b
+fits_is n f true h = le-leb (n + length (text_of f)) 131055 (let few = h.0 refl in omega (arith, few, text_length (raw_of f)))
+fits_is n f false h = elim (cases_Bool (fits n f)) [
+  | inl few ↦
+      let small : (n + length (text_of f)) ≤ 131055 = leb-true (n + length (text_of f)) 131055 few in
+      let no : false ≡ true = h.1 (omega (arith, small, text_length (raw_of f))) in
+      absurd (let z : ⊥ = cc in z)
+  | inr many ↦ many
+]
+
+pub puts_one : (v old : Present) (w : Sending) (f : Frame) (b : Bool) → v ≡ old → b ≡ true → (IsTrue b ↔ ((length v.sending.pending + (9 + length (raw_of f).payload)) ≤ 131055)) → ((d : List Entry) (os : List Owed) → IsSending v.sending d os → IsSending w (d ++ Out f ∷ []) os) → length w.pending ≡ length v.sending.pending + (9 + length (raw_of f).payload) → Puts old (f ∷ []) true (with_sending v w)
+puts_one v old w f b is room-is room stands size =
+    let fit : fits (length v.sending.pending) f ≡ true = fits_is (length v.sending.pending) f b room ∙ room-is in
+    let one : fitting (length v.sending.pending) (f ∷ []) ≡ f ∷ [] = rw fit refl in
+    subst (λ (y : Present). Puts y (f ∷ []) true (with_sending v w)) is (record {
+      all = sym (rw fit refl);
+      sending = λ d os st. subst (λ (xs : List Frame). IsSending w (d ++ map Out xs) os) (sym one) (stands d os st);
+      size = omega (arith, size, ap (λ (xs : List Frame). length (flat_map text_of xs)) one, ap length (append-nil (text_of f)), text_length (raw_of f));
+      rest = refl;
+    })
+
+pub puts_not : (v old : Present) (f : Frame) (b : Bool) → v ≡ old → b ≡ false → (IsTrue b ↔ ((length v.sending.pending + (9 + length (raw_of f).payload)) ≤ 131055)) → Puts old (f ∷ []) false v
+puts_not v old f b is room-is room =
+    let fit : fits (length v.sending.pending) f ≡ false = fits_is (length v.sending.pending) f b room ∙ room-is in
+    let none : fitting (length v.sending.pending) (f ∷ []) ≡ [] = rw fit refl in
+    subst (λ (y : Present). Puts y (f ∷ []) false v) is (record {
+      all = sym (rw fit refl);
+      sending = λ d os st. subst (λ (xs : List Frame). IsSending v.sending (d ++ map Out xs) os) (sym none) (subst (λ (e : List Entry). IsSending v.sending e os) (sym (append-nil d)) st);
+      size = omega (arith, ap (λ (xs : List Frame). length (flat_map text_of xs)) none);
+      rest = refl;
+    })
+
+-- ---- the four of an answer
+
+are_parts : (fs gs : List Frame) → are_answers (fs ++ gs) ≡ true → (are_answers fs ≡ true) × (are_answers gs ≡ true)
+are_parts [] gs h = (refl, h)
+are_parts (f ∷ fs) gs h = elim (cases_Bool (is_answer f)) [
+  | inl is ↦ let h' : are_answers (fs ++ gs) ≡ true = rw is at h in let p = are_parts fs gs h' in rw is (p.0, p.1)
+  | inr other ↦ let no : false ≡ true = rw other at h in cc
+]
+
+abbrev pub PutsIf : Present → List Frame → Bool → Present → Type 0
+PutsIf v fs b w = are_answers fs ≡ true → Puts v fs b w
+
+pub puts_next : (v w x : Present) (fs gs : List Frame) (b c : Bool) → b ≡ true → PutsIf v fs b w → PutsIf w gs c x → PutsIf v (fs ++ gs) c x
+puts_next v w x fs gs true c is one two h = let p = are_parts fs gs h in puts_more v w x fs gs c (one p.0) (two p.1)
+puts_next v w x fs gs false c is one two h = cc
+
+pub puts_stop : (v w : Present) (fs gs : List Frame) (b : Bool) → b ≡ false → PutsIf v fs b w → PutsIf v (fs ++ gs) false w
+puts_stop v w fs gs true is one h = cc
+puts_stop v w fs gs false is one h = puts_short v w fs gs (one (are_parts fs gs h).0)
+
+abbrev first : StreamEvent → List Frame
+first a = option_to_list a.acknowledgement
+
+abbrev second : StreamEvent → List Frame
+second a = option_to_list a.connection_update
+
+abbrev third : StreamEvent → List Frame
+third a = option_to_list a.stream_update
+
+abbrev fourth : StreamEvent → List Frame
+fourth a = option_to_list a.reset
+
+pub stops_first : (a : StreamEvent) (v w : Present) (b : Bool) → b ≡ false → PutsIf v (first a) b w → PutsIf v (control_frames a) false w
+stops_first a v w b is one = puts_stop v w (first a) (second a ++ (third a ++ fourth a)) b is one
+
+pub stops_second : (a : StreamEvent) (v w x : Present) (b c : Bool) → b ≡ true → c ≡ false → PutsIf v (first a) b w → PutsIf w (second a) c x → PutsIf v (control_frames a) false x
+stops_second a v w x b c is stops one two = puts_next v w x (first a) (second a ++ (third a ++ fourth a)) b false is one (puts_stop w x (second a) (third a ++ fourth a) c stops two)
+
+pub stops_third : (a : StreamEvent) (v w x y : Present) (b c d : Bool) → b ≡ true → c ≡ true → d ≡ false → PutsIf v (first a) b w → PutsIf w (second a) c x → PutsIf x (third a) d y → PutsIf v (control_frames a) false y
+stops_third a v w x y b c d is is' stops one two three =
+    puts_next v w y (first a) (second a ++ (third a ++ fourth a)) b false is one (puts_next w x y (second a) (third a ++ fourth a) c false is' two (puts_stop x y (third a) (fourth a) d stops three))
+
+pub comes_to_end : (a : StreamEvent) (v w x y z : Present) (b c d e : Bool) → b ≡ true → c ≡ true → d ≡ true → PutsIf v (first a) b w → PutsIf w (second a) c x → PutsIf x (third a) d y → PutsIf y (fourth a) e z → PutsIf v (control_frames a) e z
+comes_to_end a v w x y z b c d e is is' is'' one two three four =
+    puts_next v w z (first a) (second a ++ (third a ++ fourth a)) b e is one (puts_next w x z (second a) (third a ++ fourth a) c e is' two (puts_next x y z (third a) (fourth a) d e is'' three four))

@@ -1,0 +1,135 @@
+-- What of the laws of http2_streams is used here, in the words of this crate.
+use Rattle.std.proofs.Common.{◌≡◌, ◌≢◌, ℕ, ◌<◌, ◌≤◌, List, [], ◌∷◌, ◌++◌, refl, ap, ◌∙◌, sym, subst, arith, inl, inr}
+use Rattle.std.specs.Prelude.{Bool, true, false, ◌==◌, ◌&&◌, ◌⊎◌, nat_lt, max, fold, map, Ok}
+use Rattle.std.specs.List.{list_any, AllByRecursion}
+use Rattle.std.proofs.lemmas.Bool.{cases_Bool, ltb-true, ltb-false, eqb-true}
+use Rattle.std.proofs.lemmas.Bool.Decides.{nat_tests}
+use Rattle.std.proofs.lemmas.List.{map-append}
+use Rattle.std.proofs.lemmas.List.Elements.{filter_map-append}
+use Rattle.std.proofs.lemmas.List.Sums.{fold-append}
+use Rattle.hpack.specs.Header.{Header}
+use Rattle.http2_frames.specs.declared.frame.RawFrame.{RawFrame}
+use Rattle.http2_frames.specs.declared.frame.Frame.{Frame}
+use Rattle.http2_frames.specs.declared.frame.Frame.TheVariants.{Data, Headers, Priority, RstStream, Settings, PushPromise, Ping, GoAway, WindowUpdate, Continuation, Unknown}
+use Rattle.http2_headers.specs.HeaderBlock.{HeaderBlock}
+use Rattle.http2_streams.specs.declared.event.Event.{Event}
+use Rattle.http2_streams.specs.declared.event.Event.TheVariants.{Request}
+use Rattle.http2_streams.specs.declared.event.StreamEvent.{StreamEvent}
+use Rattle.http2_streams.specs.Diary.{Entry, In, frame_in, received, Blocks, blocks_after, no_blocks, blocks, stream_of, rising, live, is_live, opened, highest}
+use Rattle.http2_streams.specs.Standing.{standing}
+use Rattle.http2_streams.specs.Rules.{causes, control_frames}
+use Rattle.http2_streams.specs.LiveStreams.{IsOnItsStream}
+use Rattle.http2_streams.specs.ControlAnswers.{IsAnswer}
+use Rattle.http2_streams.proofs.EventLaw.{event_on_stream, request_is_highest}
+use Rattle.http2_streams.proofs.LiveLaw.{blocks_stay}
+use Rattle.http2_streams.proofs.ControlLaw.{answers_are_control}
+use Rattle.conn_core.specs.Putting.{is_answer, are_answers}
+use Rattle.conn_core.proofs.Pumps.{any_kept}
+
+-- ---- answers
+
+is_one : (f : Frame) → IsAnswer f → is_answer f ≡ true
+is_one (Settings a []) h = refl
+is_one (Settings a (x ∷ xs)) h = let none = h.1 in cc
+is_one (Ping a o) h = ap (λ (n : ℕ). n == 8) h.1
+is_one (WindowUpdate s n) h = refl
+is_one (RstStream s c) h = refl
+is_one (Data s e b) h = absurd h
+is_one (Headers s e x b) h = absurd h
+is_one (Priority s p) h = absurd h
+is_one (PushPromise f s p) h = absurd h
+is_one (GoAway s c b) h = absurd h
+is_one (Continuation s x b) h = absurd h
+is_one (Unknown k f s p) h = absurd h
+
+are_all : (fs : List Frame) → AllByRecursion IsAnswer fs → are_answers fs ≡ true
+are_all [] h = refl
+are_all (f ∷ fs) h = let is : is_answer f ≡ true = is_one f h.0 in rw is (are_all fs h.1)
+
+pub answers_are : (d : List Entry) (f : RawFrame) (a : StreamEvent) → causes d f ≡ Ok a → are_answers (control_frames a) ≡ true
+answers_are d f a h = are_all (control_frames a) (answers_are_control (standing d) f a h)
+
+pub in_live : (d : List Entry) (s : ℕ) → list_any (λ t. t == s) (live d) ≡ (list_any (λ t. t == s) (opened d) && is_live d s)
+in_live d s = any_kept (is_live d) s (opened d)
+
+-- ---- what was opened
+
+rising-append : (m : ℕ) (xs ys : List ℕ) → rising m (xs ++ ys) ≡ rising m xs ++ rising (fold max m xs) ys
+rising-append m [] ys = refl
+rising-append m (x ∷ xs) ys = elim (cases_Bool (nat_lt m x)) [
+  | inl higher ↦
+      let above : m < x = ltb-true m x higher in
+      let e : max m x ≡ x = omega (arith, above) in
+      rw (higher, e) (ap (λ (zs : List ℕ). x ∷ zs) (rising-append x xs ys))
+  | inr lower ↦
+      let below : x ≤ m = ltb-false m x lower in
+      let e : max m x ≡ m = omega (arith, below) in
+      rw (lower, e) (rising-append m xs ys)
+]
+
+pub opened_more : (d es : List Entry) → (more : List ℕ) × (opened (d ++ es) ≡ opened d ++ more)
+opened_more d es =
+    let old : Blocks = fold blocks_after no_blocks (received d) in
+    let b = blocks_stay (fold blocks_after no_blocks (received d)) (received es) in
+    let finished : blocks (d ++ es) ≡ blocks d ++ b.0 =
+    ap (λ (rs : List Frame). (fold blocks_after no_blocks rs).finished) (filter_map-append frame_in d es) ∙ ap (λ (x : Blocks). x.finished) (fold-append blocks_after no_blocks (received d) (received es)) ∙ b.1 in
+    (rising (fold max 0 (map stream_of (blocks d))) (map stream_of b.0), ap (λ (bs : List HeaderBlock). rising 0 (map stream_of bs)) finished ∙ ap (rising 0) (map-append stream_of (blocks d) b.0) ∙ rising-append 0 (map stream_of (blocks d)) (map stream_of b.0))
+
+max_from : (n : ℕ) (xs : List ℕ) → n ≤ fold max n xs
+max_from n [] = omega arith
+max_from n (x ∷ xs) = omega (arith, max_from (max n x) xs)
+
+any_head : (x s : ℕ) (xs : List ℕ) → list_any (λ t. t == s) (x ∷ xs) ≡ true → (x ≡ s) ⊎ (list_any (λ t. t == s) xs ≡ true)
+any_head x s xs h = elim (cases_Bool (x == s)) [
+  | inl same ↦ inl (eqb-true x s same)
+  | inr other ↦ let h' : list_any (λ t. t == s) xs ≡ true = rw other at h in inr h'
+]
+
+rising_low : (m : ℕ) (xs : List ℕ) (s : ℕ) → list_any (λ t. t == s) (rising m xs) ≡ true → s ≤ fold max m xs
+rising_low m [] s h = absurd (let no : false ≡ true = h in let z : ⊥ = cc in z)
+rising_low m (x ∷ xs) s h = elim (cases_Bool (nat_lt m x)) [
+  | inl higher ↦
+      let above : m < x = ltb-true m x higher in
+      let e : max m x ≡ x = omega (arith, above) in
+      let h' : list_any (λ t. t == s) (x ∷ rising x xs) ≡ true = rw higher at h in
+      let low : s ≤ fold max x xs = elim (any_head x s (rising x xs) h') [
+        | inl same ↦ omega (arith, same, max_from x xs)
+        | inr later ↦ rising_low x xs s later
+      ] in
+      rw e low
+  | inr lower ↦
+      let below : x ≤ m = ltb-false m x lower in
+      let e : max m x ≡ m = omega (arith, below) in
+      let h' : list_any (λ t. t == s) (rising m xs) ≡ true = rw lower at h in
+      rw e (rising_low m xs s h')
+]
+
+pub opened_low : (d : List Entry) (s : ℕ) → list_any (λ t. t == s) (opened d) ≡ true → s ≤ highest d
+opened_low d s h = rising_low 0 (map stream_of (blocks d)) s h
+
+-- the highest of all numbers is one that rises
+top_rises : (m : ℕ) (xs : List ℕ) (s : ℕ) → m < s → fold max m xs ≡ s → list_any (λ t. t == s) (rising m xs) ≡ true
+top_rises m [] s above is = absurd (let same : m ≡ s = is in omega (arith, above, same))
+top_rises m (x ∷ xs) s above is = elim (cases_Bool (nat_lt m x)) [
+  | inl higher ↦
+      let more : m < x = ltb-true m x higher in
+      let e : max m x ≡ x = omega (arith, more) in
+      let is' : fold max x xs ≡ s = rw e at is in
+      elim (cases_Bool (x == s)) [
+        | inl same ↦ rw (higher, same) refl
+        | inr other ↦
+            let low : x ≤ s = omega (arith, is', max_from x xs) in
+            let apart : x ≢ s = λ same. let no : (x == s) ≡ true = grind (arith, nat_tests) in let bad : true ≡ false = sym no ∙ other in cc in
+            rw (higher, other) (top_rises x xs s (omega (arith, low, apart)) is')
+      ]
+  | inr lower ↦
+      let below : x ≤ m = ltb-false m x lower in
+      let e : max m x ≡ m = omega (arith, below) in
+      let is' : fold max m xs ≡ s = rw e at is in
+      rw lower (top_rises m xs s above is')
+]
+
+pub request_opened : (d : List Entry) (f : RawFrame) (a : StreamEvent) (s : ℕ) (fields : List Header) (end_stream : Bool) → causes d f ≡ Ok a → a.event ≡ Request s fields end_stream → list_any (λ t. t == s) (opened (d ++ In f ∷ [])) ≡ true
+request_opened d f a s fields end_stream h is =
+    let above : highest d < s = subst (λ (e : Event). IsOnItsStream d e) is (event_on_stream d f a h) in
+    top_rises 0 (map stream_of (blocks (d ++ In f ∷ []))) s (omega (arith, above)) (request_is_highest d f a s fields end_stream h is)

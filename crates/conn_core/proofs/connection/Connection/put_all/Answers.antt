@@ -1,0 +1,14 @@
+use Rattle.conn_core.proofs.Putting.{stops_first, stops_second, stops_third, comes_to_end}
+use Rattle.conn_core.proofs.connection.Connection.put_all.Goals as goal
+
+pub returns-then-not-put_one-clause-puts : goal.returns-then-not-put_one-clause-puts
+returns-then-not-put_one-clause-puts c = stops_first c.args.answer.now c.args.self.now c.put_one.new.self c.put_one.result c.if-not-put_one.true c.put_one.ensures.puts
+
+pub returns-then-not-put_one-2-clause-puts : goal.returns-then-not-put_one-2-clause-puts
+returns-then-not-put_one-2-clause-puts c = stops_second c.args.answer.now c.args.self.now c.put_one.new.self c.put_one-2.new.self c.put_one.result c.put_one-2.result c.if-not-put_one.false c.if-not-put_one-2.true c.put_one.ensures.puts c.put_one-2.ensures.puts
+
+pub returns-then-not-put_one-3-clause-puts : goal.returns-then-not-put_one-3-clause-puts
+returns-then-not-put_one-3-clause-puts c = stops_third c.args.answer.now c.args.self.now c.put_one.new.self c.put_one-2.new.self c.put_one-3.new.self c.put_one.result c.put_one-2.result c.put_one-3.result c.if-not-put_one.false c.if-not-put_one-2.false c.if-not-put_one-3.true c.put_one.ensures.puts c.put_one-2.ensures.puts c.put_one-3.ensures.puts
+
+pub returns-clause-puts : goal.returns-clause-puts
+returns-clause-puts c = comes_to_end c.args.answer.now c.args.self.now c.put_one.new.self c.put_one-2.new.self c.put_one-3.new.self c.put_one-4.new.self c.put_one.result c.put_one-2.result c.put_one-3.result c.put_one-4.result c.if-not-put_one.false c.if-not-put_one-2.false c.if-not-put_one-3.false c.put_one.ensures.puts c.put_one-2.ensures.puts c.put_one-3.ensures.puts c.put_one-4.ensures.puts

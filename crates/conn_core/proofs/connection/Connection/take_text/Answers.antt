@@ -1,0 +1,5 @@
+use Rattle.conn_core.proofs.Bring.{content_by}
+use Rattle.conn_core.proofs.connection.Connection.take_text.Goals as goal
+
+pub returns-clause-stands : goal.returns-clause-stands
+returns-clause-stands c = content_by c.take_more.result (record { reader = c.self.inside.reader; streams = c.self.inside.streams; sending = c.self.inside.sender; calls = c.self.inside.calls.items; due = c.self.inside.due.items; ended = c.self.inside.ended }) c.args.self.now c.take_more.new.calls.items c.take_more.new.due.items c.args.stream c.args.content.now c.args.end_stream c.self.view_is c.take_more.ensures

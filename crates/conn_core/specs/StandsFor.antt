@@ -1,0 +1,101 @@
+-- What is kept of a connection stands for its past.
+use Rattle.std.specs.Prelude.{◌≡◌, ◌==◌, ◌+◌, ℕ, if◌then◌else◌, Bool, true, false, List, [], ◌∷◌, ◌++◌, length, map, filter, Option, Some, None, Result, Ok, Err, ◌⊎◌}
+use Rattle.std.specs.List.{list_any}
+use Rattle.http2_frames.specs.declared.reader.TheConstants.{CLIENT_PREFACE}
+use Rattle.http2_frames.specs.declared.codes.ErrorCode.{ErrorCode}
+use Rattle.http2_frames.specs.declared.error.FrameError.{FrameError}
+use Rattle.http2_frames.specs.declared.frame.RawFrame.{RawFrame}
+use Rattle.http2_frames.specs.Reading.{split}
+use Rattle.http2_frames.specs.Reader.{Unread, StandsFor as IsReader, text_left}
+use Rattle.http2_streams.specs.Diary.{Entry, live, is_live, has_failed}
+use Rattle.http2_streams.specs.declared.stream.Stream.{Stream}
+use Rattle.http2_streams.specs.Rules.{reading_fault, number_is}
+use Rattle.http2_streams.specs.Standing.{Standing}
+use Rattle.http2_streams.specs.StandsFor.{StandsFor as AreStreams}
+use Rattle.grpc_messages.specs.declared.error.MessagesError.{MessagesError}
+use Rattle.grpc_sending.specs.StandsFor.{Sending, StandsFor as IsSending}
+use Rattle.conn_core.specs.declared.call.Call.{Call}
+use Rattle.conn_core.specs.declared.event.CallEvent.{CallEvent}
+use Rattle.conn_core.specs.Received.{raw_received}
+use Rattle.conn_core.specs.Calls.{is_call, text, messages_of}
+use Rattle.conn_core.specs.Past.{Past, with_frame, with_fault}
+
+pub record Present : Type 0 where
+  pub reader : Result Unread FrameError
+  pub streams : Standing
+  pub sending : Sending
+  -- the calls on live streams, in rising order, perhaps with some whose stream is closed
+  pub calls : List Call
+  -- the events of calls that were not given out
+  pub due : List CallEvent
+  -- an error of the connection was met
+  pub ended : Bool
+
+-- what is kept of the text of the call on stream s: what stands behind the whole messages
+abbrev pub call_on : ℕ → List Call → Option (Result (List ℕ) MessagesError)
+call_on s [] = None
+call_on s (c ∷ cs) = if c.stream == s then Some c.messages else call_on s cs
+
+abbrev pub IsCall : List Entry → ℕ → Option (Result (List ℕ) MessagesError) → Type 0
+IsCall d s None = is_call d s ≡ false
+IsCall d s (Some messages) = (is_call d s ≡ true) × (messages ≡ (messages_of (text d s)).end)
+
+abbrev pub stream_of : Call → ℕ
+stream_of c = c.stream
+
+-- what is still to be read, as a measure
+abbrev pub unread : Present → ℕ
+unread v = if v.ended then 0 else 1 + length (text_left v.reader)
+
+-- those that are among these
+abbrev pub among : List ℕ → List ℕ → List ℕ
+among ss ts = filter (λ t. list_any (λ s. s == t) ss) ts
+
+-- what is kept while no error of the connection was met
+pub record IsAlive (v : Present) (p : Past) : Type 0 where
+  pub reader : IsReader CLIENT_PREFACE.now v.reader p.text (raw_received p.diary)
+  pub calls : (s : ℕ) → is_live p.diary s ≡ true → IsCall p.diary s (call_on s v.calls)
+  pub order : among (live p.diary) (map stream_of v.calls) ≡ filter (is_call p.diary) (live p.diary)
+
+-- the streams of the calls on live streams
+abbrev pub live_numbers : List Stream → List Call → List ℕ
+live_numbers live cs = filter (λ s. list_any (number_is s) live) (map stream_of cs)
+
+-- the calls that are given up with the connection; after an error of it none is left
+abbrev pub live_calls : Present → List ℕ
+live_calls v = if v.ended then [] else live_numbers v.streams.live v.calls
+
+pub record StandsFor (v : Present) (p : Past) : Type 0 where
+  pub ended : v.ended ≡ has_failed p.diary
+  pub streams : AreStreams v.streams p.diary
+  pub sending : IsSending v.sending p.diary p.owed
+  pub due : v.due ≡ p.due
+  pub alive : has_failed p.diary ≡ false → IsAlive v p
+
+-- ---- one step through the received bytes
+
+-- the frame that comes next of the text
+abbrev pub IsNextFrame : Past → RawFrame → Type 0
+IsNextFrame p f = (later : List RawFrame) × ((split CLIENT_PREFACE.now p.text).frames ≡ raw_received p.diary ++ f ∷ later)
+
+-- no frame is left, but a fault
+pub record IsNextFault (p : Past) (e : FrameError) (code : ErrorCode) : Type 0 where
+  pub read : split CLIENT_PREFACE.now p.text ≡ record { frames = raw_received p.diary; end = Err e }
+  pub fault : reading_fault e ≡ Some code
+
+-- no frame is left, and the rest is no whole one
+abbrev pub IsRead : Past → Type 0
+IsRead p = (rest : List ℕ) × (split CLIENT_PREFACE.now p.text ≡ record { frames = raw_received p.diary; end = Ok rest })
+
+abbrev pub Taken : Present → Past → Type 0
+Taken v p = ((f : RawFrame) × IsNextFrame p f × StandsFor v (with_frame p f)) ⊎ ((e : FrameError) × (code : ErrorCode) × IsNextFault p e code × StandsFor v (with_fault p e code))
+
+-- an event that was due was given out
+abbrev pub Popped : Past → Option CallEvent → Present → Type 0
+Popped p (Some event) v = (rest : List CallEvent) × (p.due ≡ event ∷ rest) × StandsFor v (record p { due = rest })
+Popped p None v = (p.due ≡ []) × StandsFor v p
+
+-- a step through the received bytes was made, or none is left
+abbrev pub FrameRead : Past → Bool → Present → Type 0
+FrameRead p true v = (has_failed p.diary ≡ false) × Taken v p
+FrameRead p false v = ((has_failed p.diary ≡ true) ⊎ IsRead p) × StandsFor v p

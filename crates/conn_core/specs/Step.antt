@@ -1,0 +1,59 @@
+-- The parts of one step through the received bytes. For the code alone: no public contract speaks of them.
+use Rattle.std.specs.Prelude.{◌≡◌, ◌<◌, ◌≤◌, ◌==◌, ℕ, true, false, List, [], ◌∷◌, ◌++◌, length, map, filter}
+use Rattle.std.specs.List.{list_any}
+use Rattle.http2_frames.specs.declared.frame.RawFrame.{RawFrame}
+use Rattle.http2_frames.specs.declared.reader.TheConstants.{CLIENT_PREFACE}
+use Rattle.http2_frames.specs.Reader.{StandsFor as IsReader}
+use Rattle.http2_streams.specs.declared.event.Event.{Event}
+use Rattle.http2_streams.specs.Diary.{Entry, live, is_live, has_failed, highest}
+use Rattle.http2_streams.specs.LiveStreams.{IsOnItsStream, live_after}
+use Rattle.http2_streams.specs.StandsFor.{StandsFor as AreStreams}
+use Rattle.grpc_sending.specs.StandsFor.{StandsFor as IsSending}
+use Rattle.conn_core.specs.Received.{raw_received, outcome, entries}
+use Rattle.conn_core.specs.Calls.{is_call, text}
+use Rattle.conn_core.specs.Past.{Past}
+use Rattle.conn_core.specs.StandsFor.{Present, IsCall, call_on, among, stream_of}
+
+-- what is kept of the calls, by the diary before the frame
+pub record AreCalls (v : Present) (d : List Entry) : Type 0 where
+  pub calls : (s : ℕ) → is_live d s ≡ true → IsCall d s (call_on s v.calls)
+  pub order : among (live d) (map stream_of v.calls) ≡ filter (is_call d) (live d)
+
+-- the frame was read, and nothing else was done yet
+pub record IsTaking (v : Present) (p : Past) (f : RawFrame) : Type 0 where
+  pub ended : v.ended ≡ false
+  pub lives : has_failed p.diary ≡ false
+  pub short : length f.payload ≤ 16384
+  pub reader : IsReader CLIENT_PREFACE.now v.reader p.text (raw_received p.diary ++ f ∷ [])
+  pub streams : AreStreams v.streams p.diary
+  pub sending : IsSending v.sending p.diary p.owed
+  pub due : v.due ≡ p.due
+  pub calls : AreCalls v p.diary
+
+abbrev pub after_frame : Past → RawFrame → List Entry
+after_frame p f = p.diary ++ entries p.diary f
+
+-- what the frame did to the streams
+pub record ChangesStreams (d e : List Entry) (brought : Event) : Type 0 where
+  pub streams : live e ≡ live_after d brought
+  pub falls : (s : ℕ) → is_live e s ≡ true → is_live d s ≡ true
+  pub event : IsOnItsStream d brought
+  -- nothing was received on a stream that was not opened
+  pub idle : (s : ℕ) → highest d < s → (is_call d s ≡ false) × (text d s ≡ [])
+  -- a call on a stream that nothing closed is among the live ones
+  pub begun : (s : ℕ) → is_call d s ≡ true → is_live d s ≡ true → list_any (λ t. t == s) (live d) ≡ true
+  -- numbers of live streams are at most the highest
+  pub opened : (s : ℕ) → list_any (λ t. t == s) (live d) ≡ true → (s ≤ highest d) × (is_live d s ≡ true)
+
+-- the answers of the frame were put, all of them, and it brought this; calls are as before
+pub record HasBrought (v : Present) (p : Past) (f : RawFrame) (event : Event) : Type 0 where
+  pub ended : v.ended ≡ false
+  pub is_event : (outcome p.diary f).event ≡ event
+  pub fits : (outcome p.diary f).fails ≡ false
+  pub lives : has_failed (after_frame p f) ≡ false
+  pub reader : IsReader CLIENT_PREFACE.now v.reader p.text (raw_received (after_frame p f))
+  pub streams : AreStreams v.streams (after_frame p f)
+  pub sending : IsSending v.sending (after_frame p f) p.owed
+  pub due : v.due ≡ p.due
+  pub calls : AreCalls v p.diary
+  pub change : ChangesStreams p.diary (after_frame p f) event

@@ -1,0 +1,425 @@
+//! One connection.
+
+ghost use Rattle.std.specs.Prelude.{◌≡◌, ◌≢◌, ◌≤◌, ◌<◌, ◌^◌, ◌++◌, ◌∷◌, ◌==◌, [], map, true, false, option_to_list, IsTrue, IfOk, OnOk, OnSome, Err, length, take, drop};
+ghost use Rattle.http2_frames.specs.Writing.{raw_of};
+ghost use Rattle.grpc_sending.specs.Step.{IsControl};
+ghost use Rattle.http2_frames.specs.declared.error.FrameError.{FrameError};
+ghost use Rattle.grpc_sending.specs.Owed.{Headed, Message};
+ghost use Rattle.conn_core.specs.Past.{Past, opening, with_item, with_taken, with_pumped, with_frame};
+ghost use Rattle.conn_core.specs.StandsFor.{StandsFor, Popped, FrameRead, unread, live_calls, stream_of};
+ghost use Rattle.conn_core.specs.Step.{IsTaking, HasBrought};
+ghost use Rattle.conn_core.specs.Received.{goaway};
+ghost use Rattle.conn_core.specs.Putting.{Puts, Fails, IsAnswered, is_answer, are_answers, is_ending, ended_calls};
+ghost use Rattle.http2_streams.specs.Rules.{control_frames};
+ghost use Rattle.http2_streams.specs.LiveStreams.{named};
+ghost use Rattle.http2_frames.specs.declared.frame.RawFrame.{RawFrame};
+ghost use Rattle.http2_streams.specs.declared.event.Event.TheVariants.{Request, Content, Trailers, Cancel};
+
+use crate::call::{Call, begin_call, cancel_call, is_live, pop_live_call, take_more};
+use crate::event::CallEvent;
+use grpc_calls::{ResponseBlock, head};
+use grpc_sending::Sender;
+use hpack::Headers;
+use http2_frames::{
+    ErrorCode, Frame, FrameError, FrameReader, Octets, RawFrame, SettingsList, setting,
+};
+use http2_streams::{Event, H2Fault, Stream, StreamEvent, Streams};
+use std::alloc::{AllocError, Global};
+use std::collections::VecDeque;
+use std::marker::Model;
+
+/// SETTINGS_MAX_CONCURRENT_STREAMS is 100 (RFC 9113 section 6.5.2), as in a payload.
+const MAX_CONCURRENT_STREAMS: &[u8] = b"\x00\x03\x00\x00\x00\x64";
+
+/// One connection of the server. After a refusal of memory it is to be dropped.
+#[derive(Drop)]
+pub struct Connection {
+    reader: FrameReader,
+    streams: Streams,
+    sender: Sender,
+    /// The calls on live streams, in the order in which they began.
+    calls: Vec<Call>,
+    /// Events that were not given out yet.
+    due: VecDeque<CallEvent>,
+    /// An error of the connection was met.
+    ended: bool,
+}
+
+impl Model for Connection {
+    ghost use Rattle.std.specs.Prelude.{◌≡◌, ◌≤◌, false, length};
+    ghost use Rattle.conn_core.specs.StandsFor.{Present};
+
+    ghost Value = { Present };
+
+    ghost view = { λ c. record { reader = c.reader; streams = c.streams; sending = c.sender; calls = c.calls.items; due = c.due.items; ended = c.ended } };
+
+    // There is always room for GOAWAY.
+    ghost invariant = { λ c. c.ended ≡ false → length c.sender.pending ≤ 131055 };
+}
+
+impl Connection {
+    /// A connection that puts the server's SETTINGS. Takes the room for all bytes that are ever put.
+    pub fn new(alloc: Global) -> Result<Connection, AllocError>
+        ensures { IfOk result (λ c. StandsFor c opening) }
+    {
+        let mut sender = Sender::new(alloc)?;
+        sender.put_control(&Frame::Settings {
+            ack: false,
+            settings: SettingsList::new(MAX_CONCURRENT_STREAMS),
+        });
+        Ok(Connection {
+            reader: FrameReader::new(alloc),
+            streams: Streams::new(alloc)?,
+            sender,
+            calls: Vec::new(alloc),
+            due: VecDeque::new(alloc),
+            ended: false,
+        })
+    }
+
+    /// Takes received bytes. After an error of the connection they are ignored.
+    pub fn feed(&mut self, piece: &[u8]) -> Result<(), AllocError>
+        ensures { OnOk result ((p : Past) → StandsFor self.old p → StandsFor self.new (record p { text = p.text ++ piece.now })) }
+    {
+        if self.ended {
+            return Ok(());
+        }
+        memory_alone(self.reader.feed(piece))
+    }
+
+    /// Gives the next event of a call that is due.
+    pub fn pop_event(&mut self) -> Option<CallEvent>
+        ensures event { (p : Past) → StandsFor self.old p → Popped p result self.new }
+        ensures fewer { OnSome result (length self.new.due < length self.old.due) }
+        ensures rest { self.new ≡ record self.old { due = self.new.due } }
+    {
+        self.due.pop_front()
+    }
+
+    /// Takes the next whole frame, or the fault of bytes that are none, and says whether there was one. Nothing
+    /// follows an error of the connection.
+    pub fn read_frame(&mut self) -> Result<bool, AllocError>
+        ensures frame { IfOk result (λ read. (p : Past) → StandsFor self.old p → FrameRead p read self.new) }
+        ensures fewer { IfOk result (λ read. IsTrue read → unread self.new < unread self.old) }
+    {
+        if self.ended {
+            return Ok(false);
+        }
+        match self.reader.next() {
+            Ok(None) => Ok(false),
+            Ok(Some(frame)) => {
+                self.take_frame(&frame)?;
+                Ok(true)
+            }
+            Err(FrameError::Preface) => {
+                self.fail(ErrorCode::ProtocolError, None)?;
+                Ok(true)
+            }
+            Err(FrameError::Size) => {
+                self.fail(ErrorCode::FrameSizeError, None)?;
+                Ok(true)
+            }
+            Err(FrameError::NoMemory) => Err(AllocError),
+        }
+    }
+
+    /// Owes a header block to the stream, where it is live.
+    pub fn owe_block(&mut self, stream: u32, block: ResponseBlock) -> Result<(), AllocError>
+        ensures stands { OnOk result ((p : Past) → StandsFor self.old p → StandsFor self.new (with_item p stream (Headed block))) }
+        ensures rest { self.new ≡ record self.old { sending = self.new.sending } }
+    {
+        self.sender.owe_block(&self.streams, stream, block)
+    }
+
+    /// Owes a message to the stream, where it is live.
+    pub fn owe_message(&mut self, stream: u32, message: &[u8]) -> Result<(), AllocError>
+        requires { length message.now < 2 ^ 32 }
+        ensures stands { OnOk result ((p : Past) → StandsFor self.old p → StandsFor self.new (with_item p stream (Message message.now))) }
+        ensures rest { self.new ≡ record self.old { sending = self.new.sending } }
+    {
+        self.sender.owe_message(&self.streams, stream, message)
+    }
+
+    /// The peer took so many of the pending bytes.
+    pub fn took(&mut self, count: usize)
+        requires { count ≤ length self.old.sending.pending }
+        ensures stands { (p : Past) → StandsFor self.old p → StandsFor self.new (with_taken p count) }
+        ensures rest { self.new ≡ record self.old { sending = self.new.sending } }
+    {
+        self.sender.took(count);
+    }
+
+    /// Puts all that can be put.
+    pub fn pump(&mut self)
+        ensures stands { (p : Past) → StandsFor self.old p → StandsFor self.new (with_pumped p) }
+        ensures rest { self.new ≡ record self.old { streams = self.new.streams; sending = self.new.sending } }
+    {
+        self.sender.pump(&mut self.streams);
+    }
+
+    /// The bytes that were put and not taken.
+    pub fn pending(&self) -> &[u8]
+        ensures { result.now ≡ self.now.sending.pending }
+    {
+        self.sender.pending()
+    }
+
+    /// Whether an error of the connection was met and GOAWAY put.
+    pub fn ended(&self) -> bool
+        ensures { result ≡ self.now.ended }
+    {
+        self.ended
+    }
+
+    /// Gives up the first of the calls on live streams, and gives its stream. After an error of the connection
+    /// there is none.
+    pub fn pop_call(&mut self) -> Option<u32>
+        ensures first { option_to_list result ≡ take 1 (live_calls self.old) }
+        ensures rest { live_calls self.new ≡ drop 1 (live_calls self.old) }
+        ensures fewer { OnSome result (length self.new.calls < length self.old.calls) }
+    {
+        if self.ended {
+            return None;
+        }
+        pop_live_call(&mut self.calls, self.streams.live())
+    }
+
+    fn take_frame(&mut self, frame: &RawFrame) -> Result<(), AllocError>
+        requires alive { self.old.ended ≡ false }
+        requires short { length frame.now.payload ≤ 16384 }
+        ensures stands { OnOk result ((p : Past) → IsTaking self.old p frame.now → StandsFor self.new (with_frame p frame.now)) }
+        ensures reader { OnOk result (self.new.reader ≡ self.old.reader) }
+    {
+        match self.streams.on_frame(frame) {
+            Ok(answer) => self.take_answer(answer),
+            Err(H2Fault::Connection(code)) => self.fail(code, None),
+            Err(H2Fault::NoMemory) => Err(AllocError),
+        }
+    }
+
+    /// Puts the answer to a frame, and acts on what it brought. An answer that does not fit is an error of the
+    /// connection.
+    fn take_answer(&mut self, answer: StreamEvent<'_>) -> Result<(), AllocError>
+        requires { self.old.ended ≡ false }
+        ensures stands { OnOk result ((p : Past) (f : RawFrame) → IsAnswered self.old p f answer.entry → StandsFor self.new (with_frame p f)) }
+        ensures reader { OnOk result (self.new.reader ≡ self.old.reader) }
+    {
+        if !self.put_all(&answer) {
+            return self.fail(ErrorCode::EnhanceYourCalm, named(&answer.event));
+        }
+        self.bring(answer.event)
+    }
+
+    /// Acts on what a frame brought, whose answers were put.
+    fn bring(&mut self, event: Event<'_>) -> Result<(), AllocError>
+        ensures stands { OnOk result ((p : Past) (f : RawFrame) → HasBrought self.old p f event.entry → StandsFor self.new (with_frame p f)) }
+        ensures rest { OnOk result (self.new ≡ record self.old { sending = self.new.sending; calls = self.new.calls; due = self.new.due }) }
+    {
+        match event {
+            Event::Nothing => Ok(()),
+            Event::Request {
+                stream,
+                fields,
+                end_stream,
+            } => self.begin(stream, &fields, end_stream),
+            Event::Content {
+                stream,
+                content,
+                end_stream,
+            } => self.take_text(stream, content.as_slice(), end_stream),
+            Event::Trailers { stream } => self.take_trailers(stream),
+            Event::Cancel { stream } => self.cancel(stream),
+        }
+    }
+
+    /// Puts the control frames of an answer, up to the first for which there is no room.
+    fn put_all(&mut self, answer: &StreamEvent<'_>) -> bool
+        ensures puts { are_answers (control_frames answer.now) ≡ true → Puts self.old (control_frames answer.now) result self.new }
+        ensures rest { self.new ≡ record self.old { sending = self.new.sending } }
+    {
+        if !self.put_one(&answer.acknowledgement) {
+            return false;
+        }
+        if !self.put_one(&answer.connection_update) {
+            return false;
+        }
+        if !self.put_one(&answer.stream_update) {
+            return false;
+        }
+        self.put_one(&answer.reset)
+    }
+
+    fn put_one(&mut self, frame: &Option<Frame<'_>>) -> bool
+        ensures puts { are_answers (option_to_list frame.now) ≡ true → Puts self.old (option_to_list frame.now) result self.new }
+        ensures rest { self.new ≡ record self.old { sending = self.new.sending } }
+    {
+        match frame {
+            None => true,
+            Some(frame) => self.put_answer(frame),
+        }
+    }
+
+    fn put_answer(&mut self, frame: &Frame<'_>) -> bool
+        ensures puts { is_answer frame.now ≡ true → Puts self.old (frame.now ∷ []) result self.new }
+        ensures rest { self.new ≡ record self.old { sending = self.new.sending } }
+    {
+        if !is_answer(frame) {
+            return true;
+        }
+        if !self.sender.has_room(frame) {
+            return false;
+        }
+        self.sender.put_control(frame);
+        true
+    }
+
+    /// A request came: a call begins, or the answer to what is no call is owed.
+    fn begin(&mut self, stream: u32, fields: &Headers, end_stream: bool) -> Result<(), AllocError>
+        ensures stands { OnOk result ((p : Past) (f : RawFrame) → HasBrought self.old p f (Request stream fields.now end_stream) → StandsFor self.new (with_frame p f)) }
+        ensures rest { OnOk result (self.new ≡ record self.old { sending = self.new.sending; calls = self.new.calls; due = self.new.due }) }
+    {
+        match head(fields) {
+            Ok(method) => begin_call(
+                &mut self.calls,
+                self.streams.live(),
+                stream,
+                method,
+                end_stream,
+                &mut self.due,
+            ),
+            Err(fault) => self
+                .sender
+                .owe_block(&self.streams, stream, fault.response()),
+        }
+    }
+
+    fn take_text(&mut self, stream: u32, content: &[u8], end_stream: bool) -> Result<(), AllocError>
+        ensures stands { OnOk result ((p : Past) (f : RawFrame) → HasBrought self.old p f (Content stream content.now end_stream) → StandsFor self.new (with_frame p f)) }
+        ensures rest { OnOk result (self.new ≡ record self.old { sending = self.new.sending; calls = self.new.calls; due = self.new.due }) }
+    {
+        take_more(&mut self.calls, stream, content, end_stream, &mut self.due)
+    }
+
+    /// Trailers end the request.
+    fn take_trailers(&mut self, stream: u32) -> Result<(), AllocError>
+        ensures stands { OnOk result ((p : Past) (f : RawFrame) → HasBrought self.old p f (Trailers stream) → StandsFor self.new (with_frame p f)) }
+        ensures rest { OnOk result (self.new ≡ record self.old { sending = self.new.sending; calls = self.new.calls; due = self.new.due }) }
+    {
+        take_more(&mut self.calls, stream, b"", true, &mut self.due)
+    }
+
+    fn cancel(&mut self, stream: u32) -> Result<(), AllocError>
+        ensures stands { OnOk result ((p : Past) (f : RawFrame) → HasBrought self.old p f (Cancel stream) → StandsFor self.new (with_frame p f)) }
+        ensures rest { OnOk result (self.new ≡ record self.old { sending = self.new.sending; calls = self.new.calls; due = self.new.due }) }
+    {
+        self.sender.forget(stream);
+        cancel_call(&mut self.calls, stream, &mut self.due)
+    }
+
+    /// An error of the connection: GOAWAY is put, and the calls on live streams end, with one that was reset in
+    /// vain.
+    fn fail(&mut self, code: ErrorCode, reset: Option<u32>) -> Result<(), AllocError>
+        requires { self.old.ended ≡ false }
+        ensures fails { OnOk result (Fails self.old code reset self.new) }
+        ensures reader { OnOk result (self.new.reader ≡ self.old.reader) }
+    {
+        self.ended = true;
+        self.sender
+            .put_control(&goaway(self.streams.highest(), code));
+        end_calls(&self.calls, self.streams.live(), reset, &mut self.due)?;
+        self.streams.fail();
+        self.sender.forget_all();
+        self.calls.clear();
+        Ok(())
+    }
+}
+
+fn goaway(last_stream: u32, code: ErrorCode) -> Frame<'static>
+    ensures { result ≡ goaway last_stream code }
+{
+    Frame::GoAway {
+        last_stream,
+        error_code: code.number(),
+        debug_data: Octets::new(b""),
+    }
+}
+
+/// Appends the end of each call on a live stream, and on one that was reset in vain.
+fn end_calls(
+    calls: &[Call],
+    live: &[Stream],
+    reset: Option<u32>,
+    due: &mut VecDeque<CallEvent>,
+) -> Result<(), AllocError>
+    ensures { OnOk result (due.new.items ≡ due.old.items ++ ended_calls live.now reset (map stream_of calls.now)) }
+{
+    for call in calls {
+        end_call(call.stream, live, reset, due)?;
+    }
+    Ok(())
+}
+
+fn end_call(
+    stream: u32,
+    live: &[Stream],
+    reset: Option<u32>,
+    due: &mut VecDeque<CallEvent>,
+) -> Result<(), AllocError>
+    ensures { OnOk result (due.new.items ≡ due.old.items ++ ended_calls live.now reset (stream ∷ [])) }
+{
+    if !is_ending(live, reset, stream) {
+        return Ok(());
+    }
+    due.push_back(CallEvent::Cancel { stream })?;
+    Ok(())
+}
+
+fn is_ending(live: &[Stream], reset: Option<u32>, stream: u32) -> bool
+    ensures { result ≡ is_ending live.now reset stream }
+{
+    is_live(live, stream) || reset == Some(stream)
+}
+
+/// The stream that an event names.
+fn named(event: &Event<'_>) -> Option<u32>
+    ensures { result ≡ named event.now }
+{
+    match event {
+        Event::Nothing => None,
+        Event::Request { stream, .. }
+        | Event::Content { stream, .. }
+        | Event::Trailers { stream }
+        | Event::Cancel { stream } => Some(*stream),
+    }
+}
+
+/// A control frame that answers one.
+fn is_answer(frame: &Frame<'_>) -> bool
+    ensures answer { result ≡ is_answer frame.now }
+    ensures control { IsTrue result → IsControl frame.now }
+    ensures short { IsTrue result → length (raw_of frame.now).payload ≤ 16384 }
+{
+    match frame {
+        Frame::WindowUpdate { .. } | Frame::RstStream { .. } => true,
+        Frame::Ping { opaque_data, .. } => has_eight(opaque_data),
+        Frame::Settings { settings, .. } => settings.len() == 0,
+        _ => false,
+    }
+}
+
+/// A PING has eight bytes (RFC 9113 section 6.7).
+fn has_eight(opaque_data: &[u8]) -> bool
+    ensures { result ≡ (length opaque_data.now == 8) }
+{
+    opaque_data.len() == 8
+}
+
+/// A fault that was met before is told where the bytes are read.
+fn memory_alone(outcome: Result<(), FrameError>) -> Result<(), AllocError>
+    ensures { OnOk result (outcome ≢ Err FrameError.NoMemory) }
+{
+    match outcome {
+        Err(FrameError::NoMemory) => Err(AllocError),
+        _ => Ok(()),
+    }
+}

@@ -1,0 +1,15 @@
+//! One connection of the server: from the bytes that a client sends to the events of its calls, and from what
+//! calls are answered to the bytes that are sent.
+#![tactic(auto, using(std::proofs::lemmas::Int::ints))]
+
+mod call;
+mod connection;
+mod event;
+mod laws;
+
+pub use connection::Connection;
+pub use event::CallEvent;
+pub use laws::calls_on_live_streams;
+
+#[cfg(test)]
+mod tests;

@@ -1,0 +1,12 @@
+pub mod Options
+pub mod Diaries
+pub mod Pumps
+pub mod Entries
+pub mod Turns
+pub mod Queues
+pub mod Pushes
+pub mod Takes
+pub mod Rounds
+pub mod Pumping
+pub mod Settles
+pub mod Received

@@ -1,0 +1,7 @@
+use Rattle.std.proofs.Common.{◌≡◌, take, drop, ◌++◌}
+use Rattle.std.specs.Prelude.{map}
+use Rattle.grpc_sending.specs.Step.{without_first_at}
+use Rattle.grpc_sending.proofs.queue.remove_each_first.Given as goal
+
+abbrev pub invariant-loop-queue : goal.invariant-loop-queue
+invariant-loop-queue l = l.queues ≡ map (without_first_at l.stream) (take l.queue-index l.fn.queues) ++ drop l.queue-index l.fn.queues

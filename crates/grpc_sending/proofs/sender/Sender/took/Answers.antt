@@ -1,0 +1,5 @@
+use Rattle.grpc_sending.proofs.Takes.{took_by}
+use Rattle.grpc_sending.proofs.sender.Sender.took.Goals as goal
+
+pub returns-clause-stands : goal.returns-clause-stands
+returns-clause-stands c = took_by (record { pending = c.self.inside.buffer; position = c.self.inside.position; queues = c.self.inside.queues.items }) c.args.self.now c.args.count c.take_off.new.self c.self.view_is c.requires c.take_off.ensures

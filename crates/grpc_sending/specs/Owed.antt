@@ -1,0 +1,52 @@
+-- What is owed to the streams of a connection, and how much of it was put.
+use Rattle.std.specs.Prelude.{ℕ, ◌==◌, nat_lt, if◌then◌else◌, List, [], ◌∷◌, length, map, fold, drop}
+use Rattle.std.specs.List.{flat_map}
+use Rattle.http2_frames.specs.declared.frame.Frame.{Frame}
+use Rattle.http2_frames.specs.declared.frame.Frame.TheVariants.{Data, Headers}
+use Rattle.http2_streams.specs.Diary.{Entry, sent}
+use Rattle.grpc_messages.specs.Writing.{framed}
+use Rattle.grpc_calls.specs.declared.response.ResponseBlock.{ResponseBlock}
+use Rattle.grpc_sending.specs.declared.piece.Piece.{Piece}
+use Rattle.grpc_sending.specs.declared.piece.Piece.TheVariants.{Block, Part}
+
+-- an item of a response: a header block, or a message
+pub data Item : Type 0 where
+  Headed : ResponseBlock → Item
+  Message : List ℕ → Item
+
+-- an item that was given to a stream
+pub record Owed : Type 0 where
+  pub stream : ℕ
+  pub item : Item
+
+abbrev pub item_on : ℕ → Owed → List Item
+item_on s o = if o.stream == s then o.item ∷ [] else []
+
+-- all items that a stream was ever given, in order
+abbrev pub owed_on : ℕ → List Owed → List Item
+owed_on s os = flat_map (item_on s) os
+
+-- an item as it is to be put: a header block, or the bytes of a message with its prefix
+abbrev pub piece_of : Item → Piece
+piece_of (Headed block) = Block block
+piece_of (Message message) = Part (framed message)
+
+-- n bytes of the message in front
+abbrev pub without_front : ℕ → List Piece → List Piece
+without_front n [] = []
+without_front n (Block block ∷ ps) = Block block ∷ ps
+without_front n (Part bytes ∷ ps) = if nat_lt n (length bytes) then Part (drop n bytes) ∷ ps else ps
+
+-- what a frame leaves of what is to be put on stream s: HEADERS puts a block, DATA a part of a message
+abbrev pub put_by : ℕ → List Piece → Frame → List Piece
+put_by s ps (Headers t end_stream end_headers fragment) = if t == s then drop 1 ps else ps
+put_by s ps (Data t end_stream bytes) = if t == s then without_front (length bytes) ps else ps
+put_by s ps _ = ps
+
+-- what frames leave of these pieces
+abbrev pub left_by : List Frame → ℕ → List Piece → List Piece
+left_by fs s ps = fold (put_by s) ps fs
+
+-- what is owed to stream s and was not put
+abbrev pub left_on : List Entry → List Owed → ℕ → List Piece
+left_on d os s = left_by (sent d) s (map piece_of (owed_on s os))

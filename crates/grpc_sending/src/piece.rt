@@ -1,0 +1,165 @@
+//! What is to be put of an item of a response.
+
+ghost use Rattle.std.specs.Prelude.{◌≡◌, ◌≤◌, ◌<◌, ◌^◌, ◌∷◌, List, true, false, IfOk, length, drop};
+ghost use Rattle.hpack.specs.Encoding.{block_text};
+ghost use Rattle.hpack.specs.declared.encoder.Position.TheVariants.{Later};
+ghost use Rattle.grpc_calls.specs.Responses.{fields_of, is_last};
+ghost use Rattle.grpc_messages.specs.Writing.{framed};
+ghost use Rattle.grpc_sending.specs.declared.piece.Piece.{Piece};
+ghost use Rattle.grpc_sending.specs.Owed.{without_front};
+
+use grpc_calls::ResponseBlock;
+use grpc_messages::write_message;
+use hpack::Position;
+use std::alloc::{AllocError, Global};
+use std::marker::Model;
+
+/// A header block, and its text where it is not the first of its connection.
+#[derive(Drop)]
+pub(crate) struct EncodedBlock {
+    block: ResponseBlock,
+    text: Vec<u8>,
+}
+
+impl Model for EncodedBlock {
+    ghost use Rattle.std.specs.Prelude.{◌≡◌};
+    ghost use Rattle.hpack.specs.Encoding.{block_text};
+    ghost use Rattle.hpack.specs.declared.encoder.Position.TheVariants.{Later};
+    ghost use Rattle.grpc_calls.specs.declared.response.ResponseBlock.{ResponseBlock};
+    ghost use Rattle.grpc_calls.specs.Responses.{fields_of};
+
+    ghost Value = { ResponseBlock };
+
+    ghost view = { λ e. e.block };
+
+    ghost invariant = { λ e. e.text.items ≡ block_text Later (fields_of e.block) };
+}
+
+impl EncodedBlock {
+    pub(crate) fn new(alloc: Global, block: ResponseBlock) -> Result<EncodedBlock, AllocError>
+        ensures { IfOk result (λ e. e ≡ block) }
+    {
+        let mut text = Vec::new(alloc);
+        block.encode_into(Position::Later, &mut text)?;
+        Ok(EncodedBlock { block, text })
+    }
+
+    pub(crate) fn as_text(&self) -> BlockText<'_>
+        ensures { result ≡ self.now }
+    {
+        BlockText {
+            block: self.block,
+            text: self.text.as_slice(),
+        }
+    }
+}
+
+/// An encoded header block that is held elsewhere.
+#[derive(Drop)]
+pub(crate) struct BlockText<'a> {
+    block: ResponseBlock,
+    text: &'a [u8],
+}
+
+impl<'a> Model for BlockText<'a> {
+    ghost use Rattle.std.specs.Prelude.{◌≡◌};
+    ghost use Rattle.hpack.specs.Encoding.{block_text};
+    ghost use Rattle.hpack.specs.declared.encoder.Position.TheVariants.{Later};
+    ghost use Rattle.grpc_calls.specs.declared.response.ResponseBlock.{ResponseBlock};
+    ghost use Rattle.grpc_calls.specs.Responses.{fields_of};
+
+    ghost Value = { ResponseBlock };
+
+    ghost view = { λ b. b.block };
+
+    ghost invariant = { λ b. b.text.now ≡ block_text Later (fields_of b.block) };
+}
+
+impl<'a> BlockText<'a> {
+    pub(crate) fn is_last(&self) -> bool
+        ensures { result ≡ is_last self.now }
+    {
+        self.block.is_last()
+    }
+
+    pub(crate) fn as_slice(&self) -> &'a [u8]
+        ensures text { result.now ≡ block_text Later (fields_of self.now) }
+        ensures short { length result.now ≤ 128 }
+    {
+        self.text
+    }
+}
+
+/// The bytes of a framed message that are still to be put.
+#[derive(Drop)]
+pub(crate) struct FramedMessage {
+    text: Vec<u8>,
+    put: usize,
+}
+
+impl Model for FramedMessage {
+    ghost use Rattle.std.specs.Prelude.{ℕ, List, drop, ◌≤◌, length};
+
+    ghost Value = { List ℕ };
+
+    ghost view = { λ m. drop m.put m.text.items };
+
+    ghost invariant = { λ m. m.put ≤ length m.text.items };
+}
+
+impl FramedMessage {
+    pub(crate) fn new(alloc: Global, message: &[u8]) -> Result<FramedMessage, AllocError>
+        requires { length message.now < 2 ^ 32 }
+        ensures { IfOk result (λ m. m ≡ framed message.now) }
+    {
+        let mut text = Vec::new(alloc);
+        write_message(&mut text, message)?;
+        Ok(FramedMessage { text, put: 0 })
+    }
+
+    pub(crate) fn as_slice(&self) -> &[u8]
+        ensures { result.now ≡ self.now }
+    {
+        &self.text[self.put..]
+    }
+
+    pub(crate) fn len(&self) -> usize
+        ensures { result ≡ length self.now }
+    {
+        self.text.len() - self.put
+    }
+
+    /// The first bytes were put.
+    pub(crate) fn take_off(&mut self, count: usize)
+        requires { count ≤ length self.old }
+        ensures { self.new ≡ drop count self.old }
+    {
+        self.put += count;
+    }
+}
+
+/// A header block, or the rest of a framed message.
+#[derive(Drop)]
+pub(crate) enum Piece {
+    Block(EncodedBlock),
+    Part(FramedMessage),
+}
+
+impl Piece {
+    /// The first bytes were put. Says whether they were the last ones.
+    pub(crate) fn take_off(&mut self, count: usize) -> bool
+        ensures whole { result ≡ true → (ps : List Piece) → without_front count (self.old ∷ ps) ≡ ps }
+        ensures part { result ≡ false → (ps : List Piece) → without_front count (self.old ∷ ps) ≡ self.new ∷ ps }
+    {
+        match self {
+            Piece::Block(_) => false,
+            Piece::Part(message) => {
+                if count >= message.len() {
+                    return true;
+                }
+                message.take_off(count);
+                false
+            }
+        }
+    }
+}

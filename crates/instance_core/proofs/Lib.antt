@@ -1,0 +1,5 @@
+mod Entries
+mod Parts
+mod Sizes
+mod Short
+mod Events

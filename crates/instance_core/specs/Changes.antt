@@ -1,0 +1,30 @@
+-- What an event does to an instance: a list of changes, one after another.
+use Rattle.std.specs.Prelude.{◌≡◌, List, [], ◌∷◌, ◌++◌}
+use Rattle.cas_service.specs.Changes as Texts
+use Rattle.instance_core.specs.declared.event.CallId.{CallId}
+use Rattle.instance_core.specs.Calls.{CallValue, with_call, without_call}
+use Rattle.instance_core.specs.State.{InstanceState}
+
+pub data Change : Type 0 where
+  -- a use of a text, or an admission
+  Text : Texts.Change → Change
+  -- a call begins, or goes on with what is kept of it
+  Goes : CallId → CallValue → Change
+  -- a call ends
+  Ends : CallId → Change
+
+abbrev pub change_made : Change → InstanceState → InstanceState
+change_made (Text c) s = record s { visible = Texts.change_made s.quota c s.visible }
+change_made (Goes id call) s = record s { calls = with_call id call s.calls }
+change_made (Ends id) s = record s { calls = without_call id s.calls }
+
+abbrev pub changed : List Change → InstanceState → InstanceState
+changed [] s = s
+changed (c ∷ cs) s = changed cs (change_made c s)
+
+-- a front of the changes was made
+pub record MadeInPart (changes : List Change) (old new : InstanceState) : Type 0 where
+  pub made : List Change
+  pub left : List Change
+  pub front : changes ≡ made ++ left
+  pub so_far : new ≡ changed made old

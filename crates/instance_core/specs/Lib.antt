@@ -1,0 +1,7 @@
+pub mod Calls
+pub mod State
+pub mod Capabilities
+pub mod Methods
+pub mod Changes
+pub mod Answer
+pub mod Shown

@@ -1,0 +1,33 @@
+-- What each method answers to the one message of its request, and what it does to the texts.
+use Rattle.std.specs.Prelude.{ℕ, Bool, true, false, List, [], Result, Err}
+use Rattle.call_methods.specs.declared.method.Method.{Method}
+use Rattle.call_methods.specs.declared.method.Method.TheVariants.{FindMissingBlobs, BatchUpdateBlobs, BatchReadBlobs, GetCapabilities}
+use Rattle.call_status.specs.declared.refusal.Refusal.{Refusal}
+use Rattle.call_status.specs.declared.refusal.Refusal.TheVariants.{UnknownMethod}
+use Rattle.cas_service.specs.Changes as Texts
+use Rattle.cas_service.specs.FindMissing.{find_missing_reply, find_missing_changes}
+use Rattle.cas_service.specs.BatchUpdate.{batch_update_reply, batch_update_changes}
+use Rattle.cas_service.specs.BatchRead.{batch_read_reply, batch_read_changes}
+use Rattle.instance_core.specs.State.{InstanceState}
+use Rattle.instance_core.specs.Capabilities.{get_capabilities_reply}
+
+abbrev pub is_served : Method → Bool
+is_served FindMissingBlobs = true
+is_served BatchUpdateBlobs = true
+is_served BatchReadBlobs = true
+is_served GetCapabilities = true
+is_served _ = false
+
+-- the reply's message, or the refusal
+abbrev pub reply_to : Method → InstanceState → List ℕ → Result (List ℕ) Refusal
+reply_to FindMissingBlobs s message = find_missing_reply s.name s.visible message
+reply_to BatchUpdateBlobs s message = batch_update_reply s.name s.quota message
+reply_to BatchReadBlobs s message = batch_read_reply s.name s.visible message
+reply_to GetCapabilities s message = get_capabilities_reply s.name s.slots message
+reply_to _ s message = Err UnknownMethod
+
+abbrev pub text_changes : Method → InstanceState → List ℕ → List Texts.Change
+text_changes FindMissingBlobs s message = find_missing_changes s.name message
+text_changes BatchUpdateBlobs s message = batch_update_changes s.name s.quota message
+text_changes BatchReadBlobs s message = batch_read_changes s.name message
+text_changes _ s message = []

@@ -1,0 +1,27 @@
+-- An instance: its name, its quota in bytes, how many actions it may run at once, its texts (the most recently used
+-- first) and its calls in course.
+use Rattle.std.specs.Prelude.{ℕ, ◌≤◌, ◌^◌, List, []}
+use Rattle.std.specs.List.{IsDistinct}
+use Rattle.std.specs.Map.{keys_of}
+use Rattle.instance_view.specs.Visible.{Blob}
+use Rattle.quota_evict.specs.Within.{Within}
+use Rattle.instance_core.specs.Calls.{Calls, same_call, KeepShort}
+
+pub record InstanceState : Type 0 where
+  pub name : List ℕ
+  pub quota : ℕ
+  pub slots : ℕ
+  pub visible : List Blob
+  pub calls : Calls
+
+-- at first there are no texts and no calls
+abbrev pub opened : List ℕ → ℕ → ℕ → InstanceState
+opened name quota slots = record { name = name; quota = quota; slots = slots; visible = []; calls = [] }
+
+-- the limits that an instance keeps
+pub record WithinLimits (s : InstanceState) : Type 0 where
+  pub quota : s.quota ≤ 2 ^ 40
+  pub texts : Within s.quota s.visible
+  -- no call stands twice
+  pub calls : IsDistinct same_call (keys_of s.calls)
+  pub messages : KeepShort s.calls

@@ -1,0 +1,100 @@
+//! What each method answers to the one message of its request.
+
+ghost use Rattle.std.specs.Prelude.{◌≡◌, ◌≤◌, ◌^◌, [], ◌∷◌, map, IfOk, OnOk, OnErr};
+ghost use Rattle.quota_evict.specs.Within.{Within};
+ghost use Rattle.cas_service.specs.Answers.{Answers};
+ghost use Rattle.cas_service.specs.Changes.{MadeInPart, changed};
+ghost use Rattle.instance_core.specs.Calls.{Calls};
+ghost use Rattle.instance_core.specs.Methods.{is_served, reply_to, text_changes};
+ghost use Rattle.instance_core.specs.Answer.{reply_with};
+ghost use Rattle.instance_core.specs.Shown.{IfAnswered, state_of, outcome_shown, reply_shown};
+
+use crate::capabilities::get_capabilities;
+use crate::event::{CallId, Outcome, Reply};
+use call_methods::Method;
+use call_status::Refusal;
+use cas_service::{CallError, batch_read, batch_update, find_missing};
+use instance_view::View;
+use std::alloc::{AllocError, Global};
+
+/// What an instance is configured as.
+#[derive(Drop)]
+pub struct Settings {
+    pub name: String,
+    pub quota: u64,
+    pub slots: u32,
+}
+
+/// Whether calls of the method are served.
+pub fn is_served(method: Method) -> bool
+    ensures { result ≡ is_served method }
+{
+    matches!(
+        method,
+        Method::FindMissingBlobs
+            | Method::BatchUpdateBlobs
+            | Method::BatchReadBlobs
+            | Method::GetCapabilities
+    )
+}
+
+/// The method's own answer.
+fn reply_to(
+    alloc: Global,
+    settings: &Settings,
+    view: &mut View,
+    method: Method,
+    message: &[u8],
+) -> Result<Vec<u8>, CallError>
+    requires quota { settings.now.quota ≤ 2 ^ 40 }
+    requires within { Within settings.now.quota view.old }
+    ensures reply { (calls : Calls) → Answers (λ reply. reply.items) result (reply_to method (state_of settings.now view.old calls) message.now) }
+    ensures changed { (calls : Calls) → IfAnswered result (view.new ≡ changed settings.now.quota (text_changes method (state_of settings.now view.old calls) message.now) view.old) }
+    ensures memory { (calls : Calls) → OnErr result (MadeInPart settings.now.quota (text_changes method (state_of settings.now view.old calls) message.now) view.old view.new) }
+    ensures within { Within settings.now.quota view.new }
+{
+    match method {
+        Method::FindMissingBlobs => find_missing(alloc, &settings.name, view, message),
+        Method::BatchUpdateBlobs => {
+            batch_update(alloc, &settings.name, settings.quota, view, message)
+        }
+        Method::BatchReadBlobs => batch_read(alloc, &settings.name, view, message),
+        Method::GetCapabilities => {
+            get_capabilities(alloc, &settings.name, settings.slots, message)
+        }
+        _ => Err(CallError::Refused(Refusal::UnknownMethod)),
+    }
+}
+
+/// The one reply to a call.
+pub fn reply_with(alloc: Global, call: CallId, outcome: Outcome) -> Result<Vec<Reply>, AllocError>
+    ensures { IfOk result (λ replies. map reply_shown replies.items ≡ reply_with call (outcome_shown outcome)) }
+{
+    let mut replies = Vec::new(alloc);
+    replies.push(Reply { call, outcome })?;
+    Ok(replies)
+}
+
+/// Answers a call by the one message of its request.
+pub fn answer_request(
+    alloc: Global,
+    settings: &Settings,
+    view: &mut View,
+    call: CallId,
+    method: Method,
+    message: &[u8],
+) -> Result<Vec<Reply>, AllocError>
+    requires quota { settings.now.quota ≤ 2 ^ 40 }
+    requires within { Within settings.now.quota view.old }
+    ensures replies { (calls : Calls) → IfOk result (λ replies. map reply_shown replies.items ≡ reply_with call (reply_to method (state_of settings.now view.old calls) message.now)) }
+    ensures changed { (calls : Calls) → OnOk result (view.new ≡ changed settings.now.quota (text_changes method (state_of settings.now view.old calls) message.now) view.old) }
+    ensures memory { (calls : Calls) → OnErr result (MadeInPart settings.now.quota (text_changes method (state_of settings.now view.old calls) message.now) view.old view.new) }
+    ensures within { Within settings.now.quota view.new }
+{
+    let outcome = match reply_to(alloc, settings, view, method, message) {
+        Ok(reply) => Outcome::Message(reply),
+        Err(CallError::Refused(refusal)) => Outcome::Refused(refusal),
+        Err(CallError::NoMemory) => return Err(AllocError),
+    };
+    reply_with(alloc, call, outcome)
+}

@@ -1,0 +1,100 @@
+//! How a run of the program ends: its status, the line that says why, and the reading of a whole input.
+#![tactic(auto)]
+
+ghost use Rattle.std.specs.Prelude.{◌≡◌, OnOk, IfOk, IfSome};
+ghost use Rattle.std.specs.Io.KnownBytes.{Appends};
+ghost use Rattle.program_status.specs.Status.{code_of, fault_line, status_of_fault};
+
+#[cfg(test)]
+mod tests;
+
+use std::alloc::{AllocError, Global};
+use std::io::{self, ErrorKind, Read, Write};
+
+/// How a run ended.
+#[derive(Clone, Copy, PartialEq, Eq)]
+pub enum Status {
+    /// All that was asked for was done.
+    Done,
+    /// Reading or writing failed.
+    Failed,
+    /// The line of this number, counted from 1, is the first that is bad. Nothing was carried out.
+    BadLine(u64),
+    /// No more than so many bytes came, which is fewer than were waited for.
+    TooFew(u64),
+    /// A request for memory was refused.
+    OutOfMemory,
+}
+
+impl Status {
+    /// The number with which the program ends.
+    pub fn code(self) -> u8
+        ensures { result ≡ code_of self }
+    {
+        match self {
+            Status::Done => 0,
+            Status::Failed => 1,
+            Status::BadLine(_) => 3,
+            Status::TooFew(_) => 4,
+            Status::OutOfMemory => 5,
+        }
+    }
+
+    /// Writes the line that says why a run ended, if it was not done. That takes no memory.
+    pub fn tell<E: Write>(self, errors: &mut E) -> io::Result<()>
+        ensures { OnOk result (Appends (E.contents errors.old) (E.contents errors.new) (fault_line self)) }
+    {
+        match self {
+            Status::Done => Ok(()),
+            Status::Failed => errors.write_all(b"remoted: input or output failed\n"),
+            Status::BadLine(number) => writeln!(errors, "remoted: bad line {number}"),
+            Status::TooFew(count) => writeln!(errors, "remoted: {count} bytes came"),
+            Status::OutOfMemory => errors.write_all(b"remoted: out of memory\n"),
+        }
+    }
+}
+
+/// Why a run was not carried out to its end.
+#[derive(Clone, Copy, PartialEq, Eq)]
+pub enum Fault {
+    /// Reading or writing failed.
+    InputOrOutput,
+    /// A request for memory was refused.
+    OutOfMemory,
+}
+
+impl Fault {
+    /// The status of a run that ended so.
+    pub fn status(self) -> Status
+        ensures { result ≡ status_of_fault self }
+    {
+        match self {
+            Fault::InputOrOutput => Status::Failed,
+            Fault::OutOfMemory => Status::OutOfMemory,
+        }
+    }
+}
+
+impl From<AllocError> for Fault {
+    ghost use Rattle.program_status.specs.declared.Fault.{Fault};
+
+    ghost from_gives = { λ _ fault. fault ≡ Fault.OutOfMemory };
+
+    fn from(_refused: AllocError) -> Fault {
+        Fault::OutOfMemory
+    }
+}
+
+/// All that is read.
+pub fn read_all<I: Read>(alloc: Global, input: &mut I) -> Result<Vec<u8>, Fault>
+    ensures { IfOk result (λ text. IfSome (I.remaining input.old) (λ all. text.items ≡ all)) }
+{
+    let mut text = Vec::new(alloc);
+    match input.read_to_end(&mut text) {
+        Ok(_) => Ok(text),
+        Err(error) => match error.kind() {
+            ErrorKind::OutOfMemory => Err(Fault::OutOfMemory),
+            _ => Err(Fault::InputOrOutput),
+        },
+    }
+}

@@ -1,0 +1,47 @@
+-- What a script of events prints: the outputs of its instances, each alone, and then the events of no instance.
+use Rattle.std.specs.Prelude.{ℕ, zero, suc, ◌+◌, List, [], ◌∷◌, ◌++◌, length, Result, Ok, Err}
+use Rattle.served_instance.specs.declared.refusal.EventRefusal.{EventRefusal}
+use Rattle.served_instance.specs.Codes.{code_of}
+use Rattle.run_record.specs.Outputs.{OutputValue}
+use Rattle.server_core.specs.Lone.{lone, strays}
+use Rattle.server_events.specs.Configs.{ConfigValue}
+use Rattle.server_events.specs.Events.{EventValue}
+use Rattle.replay_lines.specs.Lines.{sent_line, refusal_line, stray_line}
+use Rattle.replay_script.specs.Script.{ScriptValue, script_of}
+
+-- what an instance put on its connections, in order of opening
+abbrev pub sent_lines : ℕ → List (ℕ × List ℕ) → List ℕ
+sent_lines instance [] = []
+sent_lines instance (sent ∷ rest) = sent_line instance sent.0 sent.1 ++ sent_lines instance rest
+
+-- the events that an instance refused, in order
+abbrev pub refusal_lines : ℕ → List (ℕ × EventRefusal) → List ℕ
+refusal_lines instance [] = []
+refusal_lines instance (refused ∷ rest) = refusal_line instance refused.0 (code_of refused.1) ++ refusal_lines instance rest
+
+-- what came of an instance's events
+abbrev pub output_lines : ℕ → OutputValue → List ℕ
+output_lines instance output = sent_lines instance output.sent ++ refusal_lines instance output.refusals
+
+-- the events of no instance, in order
+abbrev pub stray_lines : List ℕ → List ℕ
+stray_lines [] = []
+stray_lines (place ∷ rest) = stray_line place ++ stray_lines rest
+
+-- what came of each of so many instances from this number on: each gives what it would give alone
+abbrev pub lone_lines : List ConfigValue → List EventValue → ℕ → ℕ → List ℕ
+lone_lines configs events instance zero = []
+lone_lines configs events instance (suc count) =
+    output_lines instance (lone configs instance events) ++ lone_lines configs events (instance + 1) count
+
+-- what a script prints
+abbrev pub printed : ScriptValue → List ℕ
+printed script = lone_lines script.configs script.events 0 (length script.configs) ++ stray_lines (strays script.configs script.events)
+
+abbrev pub printed_of : Result ScriptValue ℕ → Result (List ℕ) ℕ
+printed_of (Ok script) = Ok (printed script)
+printed_of (Err number) = Err number
+
+-- what the script of a text prints, or the number of its first bad line
+abbrev pub printed_by : List ℕ → Result (List ℕ) ℕ
+printed_by text = printed_of (script_of text)

@@ -1,0 +1,78 @@
+//! A script, from its text to the status.
+ghost use Rattle.std.specs.Prelude.{◌≡◌, ◌≢◌, Ok, None, map, IfOk, IfErr, IfSome};
+ghost use Rattle.std.specs.Io.KnownBytes.{Appends};
+ghost use Rattle.program_status.specs.Status.{fault_line};
+ghost use Rattle.program_status.specs.declared.Status.TheVariants.{Failed};
+ghost use Rattle.replay.specs.Printed.{printed, printed_by};
+ghost use Rattle.replay.specs.Outcome.{IsFault, IsOutcome};
+ghost use Rattle.replay_script.specs.Shown.{script_value};
+ghost use Rattle.server_events.specs.Configs.{config_fault};
+ghost use Rattle.server_events.specs.Shown.{config_value};
+
+use crate::lines::lines;
+use program_status::{Status, read_all};
+use replay_script::{ReplayScript, ScriptFault, parse};
+use server_core::run;
+use server_events::Configs;
+use std::alloc::{AllocError, Global};
+use std::io::{Read, Write};
+
+/// Runs a script, and gives what it prints.
+fn carry_out(alloc: Global, script: ReplayScript) -> Result<Vec<u8>, AllocError>
+    requires { config_fault (map config_value script.configs.items) ≡ None }
+    ensures { IfOk result (λ text. text.items ≡ printed (script_value script)) }
+{
+    let configs = Configs::new(script.configs).unwrap();
+    let outputs = run(alloc, &configs, &script.events)?;
+    lines(alloc, &outputs)
+}
+
+/// What the script of a text prints.
+fn replayed(alloc: Global, text: &[u8]) -> Result<Vec<u8>, ScriptFault>
+    ensures printed { IfOk result (λ lines. printed_by text.now ≡ Ok lines.items) }
+    ensures fault { IfErr result (IsFault (printed_by text.now)) }
+{
+    let script = parse(alloc, text)?;
+    match carry_out(alloc, script) {
+        Ok(lines) => Ok(lines),
+        Err(_) => Err(ScriptFault::NoMemory),
+    }
+}
+
+fn perform<I: Read, O: Write>(alloc: Global, input: &mut I, output: &mut O) -> Status
+    ensures { IfSome (I.remaining input.old) (λ text. IsOutcome (printed_by text) result (O.contents output.old) (O.contents output.new)) }
+{
+    let text = match read_all(alloc, input) {
+        Ok(text) => text,
+        Err(fault) => return fault.status(),
+    };
+    let lines = match replayed(alloc, &text) {
+        Ok(lines) => lines,
+        Err(ScriptFault::BadLine(number)) => return Status::BadLine(number),
+        Err(ScriptFault::NoMemory) => return Status::OutOfMemory,
+    };
+    match output.write_all(&lines) {
+        Ok(()) => Status::Done,
+        Err(_) => Status::Failed,
+    }
+}
+
+/// Reads a script of events, runs it on a server of its own, and writes what each instance sent on its
+/// connections and refused, and which events were no instance's. A fault is told in one line on `errors`.
+/// Where a line is bad, nothing is carried out.
+pub fn replay<I: Read, O: Write, E: Write>(
+    alloc: Global,
+    input: &mut I,
+    output: &mut O,
+    errors: &mut E,
+) -> Status
+    ensures outcome { IfSome (I.remaining input.old) (λ text. IsOutcome (printed_by text) result (O.contents output.old) (O.contents output.new)) }
+    // Where the line could not be written, the status is `Failed`.
+    ensures told { result ≢ Failed → Appends (E.contents errors.old) (E.contents errors.new) (fault_line result) }
+{
+    let status = perform(alloc, input, output);
+    match status.tell(errors) {
+        Ok(()) => status,
+        Err(_) => Status::Failed,
+    }
+}

@@ -1,0 +1,9 @@
+pub mod ConfigLemmas
+pub mod EventForms
+pub mod FileForms
+pub mod FirstLemmas
+pub mod LineForms
+pub mod LineLemmas
+pub mod NumberForms
+pub mod OutputLemmas
+pub mod Somes

@@ -1,0 +1,5 @@
+mod Growth
+mod Changes
+mod Fronts
+mod Noted
+mod Places

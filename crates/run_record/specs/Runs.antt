@@ -1,0 +1,35 @@
+-- The run of one instance by itself: event after event, and what comes of them.
+use Rattle.std.specs.Prelude.{ℕ, ◌+◌, List, [], ◌∷◌, ◌++◌, fold, Option, Some, None}
+use Rattle.server_events.specs.Configs.{ConfigValue}
+use Rattle.server_events.specs.Events.{EventValue}
+use Rattle.served_instance.specs.declared.refusal.EventRefusal.{EventRefusal}
+use Rattle.served_instance.specs.Lone.{Lone, start, all_sent}
+use Rattle.served_instance.specs.Refusals.{refusal_of, lone_step}
+use Rattle.run_record.specs.Outputs.{OutputValue}
+
+pub record Run : Type 0 where
+  pub lone : Lone
+  -- how many events there were
+  pub count : ℕ
+  -- the places of those that were refused, from 1, and why
+  pub refusals : List (ℕ × EventRefusal)
+
+abbrev pub begun : ConfigValue → Run
+begun config = record { lone = start config.name config.quota config.slots; count = 0; refusals = [] }
+
+abbrev pub refused_at : ℕ → Option EventRefusal → List (ℕ × EventRefusal)
+refused_at place None = []
+refused_at place (Some refusal) = (place, refusal) ∷ []
+
+abbrev pub run_step : Run → EventValue → Run
+run_step r e = record {
+  lone = lone_step e r.lone;
+  count = r.count + 1;
+  refusals = r.refusals ++ refused_at (r.count + 1) (refusal_of e r.lone);
+}
+
+abbrev pub run_of : ConfigValue → List EventValue → Run
+run_of config events = fold run_step (begun config) events
+
+abbrev pub output_of : Run → OutputValue
+output_of r = record { sent = all_sent r.lone; refusals = r.refusals }

@@ -1,0 +1,10 @@
+pub mod Places
+pub mod Opens
+pub mod Serves
+pub mod Refuses
+pub mod Changes
+pub mod Commutes
+pub mod Frames
+pub mod Leads
+pub mod Gives
+pub mod Closes

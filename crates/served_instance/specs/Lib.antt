@@ -1,0 +1,9 @@
+pub mod Connections
+pub mod Calls
+pub mod Codes
+pub mod Lone
+pub mod Refusals
+pub mod StandsFor
+pub mod Shown
+pub mod Present
+pub mod Acts

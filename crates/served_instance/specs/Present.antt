@@ -1,0 +1,44 @@
+-- Which events are refused, by what is kept.
+use Rattle.std.specs.Prelude.{ℕ, ◌≤◌, ◌==◌, Bool, nat_le, nat_lt, if◌then◌else◌, List, length, Option, Some, None}
+use Rattle.std.specs.Option.{is_some, option_map_or}
+use Rattle.conn_core.specs.StandsFor.{Present}
+use Rattle.server_events.specs.Events.{EventValue, WhatValue, opened, received, took, closed, tick, ended}
+use Rattle.served_instance.specs.declared.open_connection.OpenConnection.{OpenConnection}
+use Rattle.served_instance.specs.declared.refusal.EventRefusal.{EventRefusal}
+use Rattle.served_instance.specs.declared.refusal.EventRefusal.TheVariants.{TimeWentBack, ConnectionExists, TooManyConnections, NoSuchConnection, TookTooMuch, NoSuchJob}
+use Rattle.served_instance.specs.Refusals.{connection_limit}
+use Rattle.served_instance.specs.StandsFor.{Served, ServedState, connection_at}
+
+abbrev pub is_numbered : ℕ → OpenConnection → Bool
+is_numbered c kept = kept.number == c
+
+abbrev pub unless_kept : ℕ → List Served → Option EventRefusal
+unless_kept c vs = option_map_or (λ v. None) (connection_at c vs) (Some NoSuchConnection)
+
+abbrev pub refusal_to_open : ℕ → List Served → Option EventRefusal
+refusal_to_open c vs =
+    if is_some (connection_at c vs) then Some ConnectionExists
+    else if nat_le connection_limit (length vs) then Some TooManyConnections
+    else None
+
+abbrev pub unless_more : ℕ → Present → Option EventRefusal
+unless_more n v = if nat_lt (length v.sending.pending) n then Some TookTooMuch else None
+
+abbrev pub refusal_to_take : ℕ → ℕ → List Served → Option EventRefusal
+refusal_to_take c n vs = option_map_or (unless_more n) (connection_at c vs) (Some NoSuchConnection)
+
+abbrev pub refusal_by_what : WhatValue → List Served → Option EventRefusal
+refusal_by_what (opened c) vs = refusal_to_open c vs
+refusal_by_what (received c bytes) vs = unless_kept c vs
+refusal_by_what (took c n) vs = refusal_to_take c n vs
+refusal_by_what (closed c) vs = unless_kept c vs
+refusal_by_what tick vs = None
+refusal_by_what (ended job outcome) vs = Some NoSuchJob
+
+abbrev pub refusal_by : EventValue → ServedState → Option EventRefusal
+refusal_by e v = if nat_lt e.moment v.moment then Some TimeWentBack else refusal_by_what e.what v.connections
+
+-- no more than waits
+abbrev pub CanTake : ℕ → Option Present → Type 0
+CanTake n None = Unit {0}
+CanTake n (Some v) = n ≤ length v.sending.pending

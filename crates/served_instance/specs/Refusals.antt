@@ -1,0 +1,47 @@
+-- Which events an instance refuses, and why: the first of these reasons, in their order.
+use Rattle.std.specs.Prelude.{◌≡◌, ℕ, nat_le, nat_lt, if◌then◌else◌, length, Option, Some, None, Result, Ok, Err}
+use Rattle.std.specs.Option.{is_some, option_map_or}
+use Rattle.grpc_sending.specs.Bytes.{untaken}
+use Rattle.server_events.specs.Events.{EventValue, WhatValue, opened, received, took, closed, tick, ended}
+use Rattle.served_instance.specs.declared.refusal.EventRefusal.{EventRefusal}
+use Rattle.served_instance.specs.declared.refusal.EventRefusal.TheVariants.{TimeWentBack, ConnectionExists, TooManyConnections, NoSuchConnection, TookTooMuch, NoSuchJob, NoMemory}
+use Rattle.served_instance.specs.Connections.{open_ones, open_at}
+use Rattle.served_instance.specs.Lone.{Lone, accepted}
+
+-- the most connections that an instance has open at a time
+abbrev pub connection_limit : ℕ
+connection_limit = 64
+
+abbrev pub unless_open : ℕ → Lone → Option EventRefusal
+unless_open c l = option_map_or (λ p. None) (open_at c l.connections) (Some NoSuchConnection)
+
+abbrev pub refusal_of_what : WhatValue → Lone → Option EventRefusal
+refusal_of_what (opened c) l =
+    if is_some (open_at c l.connections) then Some ConnectionExists
+    else if nat_le connection_limit (length (open_ones l.connections)) then Some TooManyConnections
+    else None
+refusal_of_what (received c bytes) l = unless_open c l
+-- more than was put and not taken yet
+refusal_of_what (took c n) l = option_map_or (λ p. if nat_lt (untaken p.diary) n then Some TookTooMuch else None) (open_at c l.connections) (Some NoSuchConnection)
+refusal_of_what (closed c) l = unless_open c l
+refusal_of_what tick l = None
+-- no action runs
+refusal_of_what (ended job outcome) l = Some NoSuchJob
+
+-- time does not go back
+abbrev pub refusal_of : EventValue → Lone → Option EventRefusal
+refusal_of e l = if nat_lt e.moment l.moment then Some TimeWentBack else refusal_of_what e.what l
+
+-- a refused event changes nothing
+abbrev pub stepped : EventValue → Lone → Option EventRefusal → Lone
+stepped e l None = accepted e l
+stepped e l (Some refusal) = l
+
+abbrev pub lone_step : EventValue → Lone → Lone
+lone_step e l = stepped e l (refusal_of e l)
+
+-- an event is refused for its reason, where there is one; and for want of memory only where there is none
+abbrev pub IsOutcome : {A : Type 0} → Result A EventRefusal → Option EventRefusal → Type 0
+IsOutcome (Ok x) reason = reason ≡ None
+IsOutcome (Err NoMemory) reason = reason ≡ None
+IsOutcome (Err refusal) reason = reason ≡ Some refusal

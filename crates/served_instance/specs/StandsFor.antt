@@ -1,0 +1,46 @@
+-- What is kept of an instance stands for all that happened to it by itself.
+use Rattle.std.specs.Prelude.{◌≡◌, ◌≤◌, ◌==◌, ℕ, if◌then◌else◌, List, [], ◌∷◌, length, Option, Some, None}
+use Rattle.std.specs.List.{AllByRecursion}
+use Rattle.grpc_sending.specs.Settled.{IsSettled}
+use Rattle.conn_core.specs.StandsFor.{Present, StandsFor as IsConnection}
+use Rattle.instance_core.specs.State.{InstanceState, WithinLimits}
+use Rattle.served_instance.specs.Connections.{LoneConnection, open_ones}
+use Rattle.served_instance.specs.Lone.{Lone}
+use Rattle.served_instance.specs.Refusals.{connection_limit}
+
+-- an open connection and its number
+pub record Served : Type 0 where
+  pub number : ℕ
+  pub connection : Present
+
+pub record ServedState : Type 0 where
+  pub state : InstanceState
+  pub moment : ℕ
+  -- the open connections, in order of opening
+  pub connections : List Served
+
+abbrev pub AreServed : List Served → List LoneConnection → Type 0
+AreServed [] [] = Unit {0}
+AreServed (v ∷ vs) (k ∷ ks) = (v.number ≡ k.number) × IsConnection v.connection k.past × AreServed vs ks
+AreServed vs ks = ⊥
+
+pub record StandsFor (v : ServedState) (l : Lone) : Type 0 where
+  pub state : v.state ≡ l.state
+  pub moment : v.moment ≡ l.moment
+  pub connections : AreServed v.connections (open_ones l.connections)
+
+-- the limits that a served instance keeps
+pub record IsWithin (v : ServedState) : Type 0 where
+  pub instance : WithinLimits v.state
+  pub connections : length v.connections ≤ connection_limit
+
+-- nothing more can be put on an open connection
+abbrev pub IsSettledConnection : LoneConnection → Type 0
+IsSettledConnection k = IsSettled k.past.diary k.past.owed
+
+abbrev pub AreSettled : Lone → Type 0
+AreSettled l = AllByRecursion IsSettledConnection (open_ones l.connections)
+
+abbrev pub connection_at : ℕ → List Served → Option Present
+connection_at c [] = None
+connection_at c (v ∷ vs) = if v.number == c then Some v.connection else connection_at c vs

@@ -1,0 +1,129 @@
+//! What happens to the calls on an instance's connections.
+
+ghost use Rattle.std.specs.Prelude.{◌≡◌, ◌<◌, ◌≤◌, false, IsTrue, IfOk, OnOk, length};
+ghost use Rattle.instance_core.specs.Calls.{IsShortEvent};
+ghost use Rattle.instance_core.specs.Shown.{event_shown};
+ghost use Rattle.instance_core.specs.State.{WithinLimits};
+ghost use Rattle.served_instance.specs.Acts.{Acts, LeadsOn, Keeps, kept_at, unread_at, rest_read, cancels_of};
+ghost use Rattle.served_instance.specs.Lone.{Lone, happened, all_happened, due_happened, bytes_came, was_closed};
+
+use crate::open_connection::{OpenConnection, feed, find, pop_event, read_frame};
+use crate::replies::{call_event_on, give_all};
+use conn_core::Connection;
+use instance_core::{CallEvent, CallId, Instance};
+use std::alloc::{AllocError, Global};
+
+/// Something happens to a call: the instance answers.
+fn happen(
+    alloc: Global,
+    instance: &mut Instance,
+    connections: &mut [OpenConnection],
+    event: CallEvent,
+) -> Result<(), AllocError>
+    requires short { IsShortEvent (event_shown event) }
+    ensures happened { OnOk result (Acts instance.old connections.old instance.new connections.new (happened (event_shown event))) }
+    ensures rest { OnOk result (Keeps connections.old connections.new) }
+    ensures within { WithinLimits instance.new }
+{
+    let replies = instance.call_event(alloc, event)?;
+    give_all(connections, &replies)
+}
+
+/// What is due on the connection happens.
+fn give_due(
+    alloc: Global,
+    instance: &mut Instance,
+    connections: &mut [OpenConnection],
+    number: u32,
+) -> Result<(), AllocError>
+    requires within { WithinLimits instance.old }
+    ensures due { OnOk result (Acts instance.old connections.old instance.new connections.new (due_happened number)) }
+    ensures unread { OnOk result (unread_at number connections.new ≡ unread_at number connections.old) }
+    ensures within { WithinLimits instance.new }
+{
+    'events: while let Some(event) = pop_event(connections, number) {
+        happen(alloc, instance, connections, call_event_on(number, event))?;
+    }
+    Ok(())
+}
+
+/// Reads the next whole frame of the connection, if there is one, and gives the instance what it brings to calls.
+fn read_next(
+    alloc: Global,
+    instance: &mut Instance,
+    connections: &mut [OpenConnection],
+    number: u32,
+) -> Result<bool, AllocError>
+    requires within { WithinLimits instance.old }
+    ensures reads { OnOk result (LeadsOn instance.old connections.old instance.new connections.new (rest_read number) (rest_read number)) }
+    ensures ends { IfOk result (λ more. more ≡ false → Acts instance.old connections.old instance.new connections.new (rest_read number)) }
+    ensures fewer { IfOk result (λ more. IsTrue more → unread_at number connections.new < unread_at number connections.old) }
+    ensures within { WithinLimits instance.new }
+{
+    if read_frame(connections, number)? {
+        give_due(alloc, instance, connections, number)?;
+        Ok(true)
+    } else {
+        Ok(false)
+    }
+}
+
+/// Reads all whole frames, and gives the instance what each brings to calls before the next is read.
+pub(crate) fn receive(
+    alloc: Global,
+    instance: &mut Instance,
+    connections: &mut [OpenConnection],
+    number: u32,
+    bytes: &[u8],
+) -> Result<(), AllocError>
+    requires within { WithinLimits instance.old }
+    ensures came { OnOk result (Acts instance.old connections.old instance.new connections.new (bytes_came number bytes.now)) }
+    ensures within { WithinLimits instance.new }
+{
+    feed(connections, number, bytes)?;
+    'frames: while read_next(alloc, instance, connections, number)? {}
+    Ok(())
+}
+
+/// The connection goes, and each of its calls is given up.
+pub(crate) fn close(
+    alloc: Global,
+    instance: &mut Instance,
+    connections: &mut Vec<OpenConnection>,
+    number: u32,
+) -> Result<(), AllocError>
+    requires within { WithinLimits instance.old }
+    ensures closed { OnOk result (Acts instance.old connections.old.items instance.new connections.new.items (was_closed number)) }
+    ensures fewer { length connections.new.items ≤ length connections.old.items }
+    ensures within { WithinLimits instance.new }
+{
+    match find(connections, number) {
+        None => Ok(()),
+        Some(place) => {
+            let closed = connections.remove(place);
+            give_up(alloc, instance, connections, number, closed.connection)
+        }
+    }
+}
+
+/// Each call of the closed connection is given up.
+fn give_up(
+    alloc: Global,
+    instance: &mut Instance,
+    connections: &mut [OpenConnection],
+    number: u32,
+    mut closed: Connection,
+) -> Result<(), AllocError>
+    requires within { WithinLimits instance.old }
+    ensures cancelled { OnOk result (Acts instance.old connections.old instance.new connections.new (all_happened number (cancels_of closed))) }
+    ensures within { WithinLimits instance.new }
+{
+    'calls: while let Some(stream) = closed.pop_call() {
+        let call = CallId {
+            connection: number,
+            stream,
+        };
+        happen(alloc, instance, connections, CallEvent::Cancel(call))?;
+    }
+    Ok(())
+}

@@ -1,0 +1,222 @@
+//! One instance and its connections.
+
+ghost use Rattle.std.specs.Prelude.{◌≡◌, ◌≢◌, ◌≤◌, ◌<◌, ◌^◌, List, None, length, map, Option, option_map, string_bytes, IfOk, OnOk, IfErr};
+ghost use Rattle.server_events.specs.Shown.{event_value, what_value};
+ghost use Rattle.grpc_sending.specs.Bytes.{pending};
+ghost use Rattle.http2_streams.specs.Diary.{has_failed};
+ghost use Rattle.conn_core.specs.Past.{Past, with_pumped};
+ghost use Rattle.served_instance.specs.Connections.{LoneConnection, open_at, open_ones, at_all_open};
+ghost use Rattle.served_instance.specs.Lone.{Lone, start, acted, was_opened, pumped_all};
+ghost use Rattle.served_instance.specs.Refusals.{refusal_of, lone_step, IsOutcome};
+ghost use Rattle.served_instance.specs.StandsFor.{StandsFor, IsWithin, AreServed, AreSettled};
+ghost use Rattle.served_instance.specs.Present.{refusal_by, refusal_by_what, refusal_to_open, unless_kept, refusal_to_take};
+ghost use Rattle.served_instance.specs.Shown.{served};
+ghost use Rattle.served_instance.specs.Acts.{Acts};
+ghost use Rattle.instance_core.specs.State.{InstanceState, WithinLimits};
+
+use crate::calls::{close, receive};
+use crate::open_connection::{OpenConnection, connection_at, take};
+use crate::refusal::EventRefusal;
+use conn_core::Connection;
+use instance_core::Instance;
+use server_events::{Event, InstanceConfig, What};
+use std::alloc::{AllocError, Global};
+use std::marker::Model;
+
+/// The most connections that an instance has open at a time.
+pub const CONNECTION_LIMIT: usize = 64;
+
+/// An instance with its open connections.
+#[derive(Drop)]
+pub struct ServedInstance {
+    instance: Instance,
+    /// In order of opening.
+    connections: Vec<OpenConnection>,
+    /// Of the last event that was accepted, in milliseconds.
+    moment: u64,
+}
+
+impl Model for ServedInstance {
+    ghost use Rattle.std.specs.Prelude.{◌≤◌, map, length};
+    ghost use Rattle.instance_core.specs.State.{WithinLimits};
+    ghost use Rattle.served_instance.specs.StandsFor.{ServedState};
+    ghost use Rattle.served_instance.specs.Shown.{served};
+
+    ghost Value = { ServedState };
+
+    ghost view = { λ s. record { state = s.instance; moment = s.moment; connections = map served s.connections.items } };
+
+    ghost invariant = { λ s. WithinLimits s.instance × (length s.connections.items ≤ 64) };
+}
+
+impl ServedInstance {
+    /// An instance that nothing has happened to.
+    pub fn new(alloc: Global, config: &InstanceConfig) -> Result<ServedInstance, AllocError>
+        requires quota { config.now.quota ≤ 2 ^ 40 }
+        ensures stands { IfOk result (λ served. StandsFor served (start (string_bytes config.now.name) config.now.quota config.now.slots)) }
+        ensures within { IfOk result (λ served. IsWithin served) }
+    {
+        Ok(ServedInstance {
+            instance: Instance::new(alloc, &config.name, config.quota, config.slots)?,
+            connections: Vec::new(alloc),
+            moment: 0,
+        })
+    }
+
+    /// Takes an event: it is refused for the first reason that stands, and then nothing is changed; or it is carried
+    /// out to its end, and all that can be put on open connections is put. After a refusal of memory the instance
+    /// is to be dropped.
+    pub fn step(&mut self, event: &Event) -> Result<(), EventRefusal>
+        ensures outcome { (l : Lone) → StandsFor self.old l → IsOutcome result (refusal_of (event_value event.now) l) }
+        ensures stands { (l : Lone) → StandsFor self.old l → (result ≢ Err EventRefusal.NoMemory) → StandsFor self.new (lone_step (event_value event.now) l) }
+        ensures here { result ≢ Err EventRefusal.NoSuchInstance }
+        ensures refused { IfErr result (λ refusal. refusal ≢ EventRefusal.NoMemory → self.new ≡ self.old) }
+        ensures settled { OnOk result ((l : Lone) → StandsFor self.old l → AreSettled (lone_step (event_value event.now) l)) }
+        ensures within { IsWithin self.new }
+    {
+        if let Some(refusal) = self.refusal(event) {
+            return Err(refusal);
+        }
+        self.moment = event.moment;
+        let alloc = *self.connections.allocator();
+        match act(
+            alloc,
+            &mut self.instance,
+            &mut self.connections,
+            &event.what,
+        ) {
+            Err(_) => Err(EventRefusal::NoMemory),
+            Ok(()) => {
+                self.pump();
+                Ok(())
+            }
+        }
+    }
+
+    /// The bytes that were put on an open connection and not taken.
+    pub fn pending(&self, connection: u32) -> Option<&[u8]>
+        ensures { (l : Lone) → StandsFor self.now l → option_map (λ bytes. bytes.now) result ≡ option_map (λ p. pending p.diary) (open_at connection l.connections) }
+    {
+        match connection_at(&self.connections, connection) {
+            None => None,
+            Some(kept) => Some(kept.pending()),
+        }
+    }
+
+    /// Whether an error of an open connection was met.
+    pub fn ended(&self, connection: u32) -> Option<bool>
+        ensures { (l : Lone) → StandsFor self.now l → result ≡ option_map (λ p. has_failed p.diary) (open_at connection l.connections) }
+    {
+        match connection_at(&self.connections, connection) {
+            None => None,
+            Some(kept) => Some(kept.ended()),
+        }
+    }
+
+    /// Why the event is refused, if it is.
+    fn refusal(&self, event: &Event) -> Option<EventRefusal>
+        ensures refusal { result ≡ refusal_by (event_value event.now) self.now }
+        ensures within { IsWithin self.now }
+    {
+        if event.moment < self.moment {
+            return Some(EventRefusal::TimeWentBack);
+        }
+        let connections = &self.connections;
+        match &event.what {
+            What::Open(number) => refusal_to_open(connections, *number),
+            What::Bytes(number, _) | What::Closed(number) => unless_open(connections, *number),
+            What::Took(number, count) => refusal_to_take(connections, *number, *count),
+            What::Tick => None,
+            What::Outcome(..) => Some(EventRefusal::NoSuchJob),
+        }
+    }
+
+    /// Puts all that can be put, on each open connection.
+    fn pump(&mut self)
+        ensures stands { (l : Lone) → StandsFor self.old l → StandsFor self.new (pumped_all l) }
+        ensures within { IsWithin self.new }
+    {
+        pump_all(&mut self.connections);
+    }
+}
+
+/// Does what the event asks for.
+fn act(
+    alloc: Global,
+    instance: &mut Instance,
+    connections: &mut Vec<OpenConnection>,
+    what: &What,
+) -> Result<(), AllocError>
+    requires accepted { refusal_by_what (what_value what.now) (map served connections.old.items) ≡ None }
+    requires within { WithinLimits instance.old }
+    requires few { length connections.old.items ≤ 64 }
+    ensures acted { OnOk result (Acts instance.old connections.old.items instance.new connections.new.items (acted (what_value what.now))) }
+    ensures within { WithinLimits instance.new }
+    ensures few { length connections.new.items ≤ 64 }
+{
+    match what {
+        What::Open(number) => open(alloc, connections, *number),
+        What::Bytes(number, bytes) => receive(alloc, instance, connections, *number, bytes),
+        What::Took(number, count) => {
+            take(connections, *number, *count as usize);
+            Ok(())
+        }
+        What::Closed(number) => close(alloc, instance, connections, *number),
+        What::Tick | What::Outcome(..) => Ok(()),
+    }
+}
+
+/// The connection opens.
+fn open(alloc: Global, connections: &mut Vec<OpenConnection>, number: u32) -> Result<(), AllocError>
+    requires few { length connections.old.items < 64 }
+    ensures opened { OnOk result ((s : InstanceState) → Acts s connections.old.items s connections.new.items (was_opened number)) }
+    ensures few { length connections.new.items ≤ 64 }
+{
+    let connection = Connection::new(alloc)?;
+    connections.push(OpenConnection { number, connection })?;
+    Ok(())
+}
+
+/// Puts all that can be put, on each connection.
+fn pump_all(connections: &mut [OpenConnection])
+    ensures stands { (ks : List LoneConnection) → AreServed (map served connections.old) (open_ones ks) → AreServed (map served connections.new) (open_ones (at_all_open with_pumped ks)) }
+    ensures count { length connections.new ≡ length connections.old }
+{
+    for kept in connections.iter_mut() {
+        kept.connection.pump();
+    }
+}
+
+/// Why a connection of this number is not opened.
+fn refusal_to_open(connections: &[OpenConnection], number: u32) -> Option<EventRefusal>
+    ensures { result ≡ refusal_to_open number (map served connections.now) }
+{
+    if connection_at(connections, number).is_some() {
+        Some(EventRefusal::ConnectionExists)
+    } else if connections.len() >= CONNECTION_LIMIT {
+        Some(EventRefusal::TooManyConnections)
+    } else {
+        None
+    }
+}
+
+/// The connection has to be open.
+fn unless_open(connections: &[OpenConnection], number: u32) -> Option<EventRefusal>
+    ensures { result ≡ unless_kept number (map served connections.now) }
+{
+    match connection_at(connections, number) {
+        Some(_) => None,
+        None => Some(EventRefusal::NoSuchConnection),
+    }
+}
+
+/// No more can be taken than waits.
+fn refusal_to_take(connections: &[OpenConnection], number: u32, count: u32) -> Option<EventRefusal>
+    ensures { result ≡ refusal_to_take number count (map served connections.now) }
+{
+    match connection_at(connections, number) {
+        None => Some(EventRefusal::NoSuchConnection),
+        Some(kept) if (count as usize) > kept.pending().len() => Some(EventRefusal::TookTooMuch),
+        Some(_) => None,
+    }
+}

@@ -1,0 +1,15 @@
+//! One instance of the server with its connections: from what happens to it to the bytes that wait for its
+//! clients.
+#![tactic(auto)]
+
+mod calls;
+mod instance;
+mod open_connection;
+mod refusal;
+mod replies;
+
+pub use instance::{CONNECTION_LIMIT, ServedInstance};
+pub use refusal::EventRefusal;
+
+#[cfg(test)]
+mod tests;

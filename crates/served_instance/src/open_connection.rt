@@ -1,0 +1,89 @@
+//! The open connections of an instance, by their numbers.
+
+ghost use Rattle.std.specs.Prelude.{◌≡◌, ◌++◌, ◌<◌, ◌≤◌, false, None, map, option_map, position, IfOk, OnOk, length};
+ghost use Rattle.std.specs.Option.{option_map_or};
+ghost use Rattle.conn_core.specs.Past.{Past, with_taken};
+ghost use Rattle.served_instance.specs.Acts.{Changed, Takes, Pops, ReadsFrame, kept_at};
+ghost use Rattle.served_instance.specs.Shown.{served};
+ghost use Rattle.served_instance.specs.Present.{is_numbered, CanTake};
+ghost use Rattle.served_instance.specs.StandsFor.{connection_at};
+
+use conn_core::{CallEvent, Connection};
+use std::alloc::AllocError;
+
+/// An open connection and its number.
+#[derive(Drop)]
+pub(crate) struct OpenConnection {
+    pub(crate) number: u32,
+    pub(crate) connection: Connection,
+}
+
+/// The place of the connection of this number.
+pub(crate) fn find(connections: &[OpenConnection], number: u32) -> Option<usize>
+    ensures { result ≡ position (is_numbered number) connections.now }
+{
+    connections.iter().position(|kept| kept.number == number)
+}
+
+/// The connection of this number.
+pub(crate) fn connection_at<'a>(
+    connections: &'a [OpenConnection],
+    number: u32,
+) -> Option<&'a Connection>
+    ensures { option_map (λ connection. connection.now) result ≡ connection_at number (map served connections.now) }
+{
+    match find(connections, number) {
+        None => None,
+        Some(place) => Some(&connections[place].connection),
+    }
+}
+
+/// Takes bytes that were received on the connection.
+pub(crate) fn feed(
+    connections: &mut [OpenConnection],
+    number: u32,
+    bytes: &[u8],
+) -> Result<(), AllocError>
+    ensures { OnOk result (Changed number connections.old connections.new (Takes (λ p. record p { text = p.text ++ bytes.now }))) }
+{
+    match find(connections, number) {
+        None => Ok(()),
+        Some(place) => connections[place].connection.feed(bytes),
+    }
+}
+
+/// Takes the next whole frame of the connection, and says whether there was one.
+pub(crate) fn read_frame(
+    connections: &mut [OpenConnection],
+    number: u32,
+) -> Result<bool, AllocError>
+    ensures read { IfOk result (λ more. Changed number connections.old connections.new (ReadsFrame more)) }
+    ensures none { IfOk result (λ more. kept_at number connections.old ≡ None → more ≡ false) }
+{
+    match find(connections, number) {
+        None => Ok(false),
+        Some(place) => connections[place].connection.read_frame(),
+    }
+}
+
+/// Gives the next event of a call on the connection that is due.
+pub(crate) fn pop_event(connections: &mut [OpenConnection], number: u32) -> Option<CallEvent>
+    ensures event { Changed number connections.old connections.new (Pops result) }
+    ensures none { kept_at number connections.old ≡ None → result ≡ None }
+{
+    match find(connections, number) {
+        None => None,
+        Some(place) => connections[place].connection.pop_event(),
+    }
+}
+
+/// The client of the connection took so many of the bytes that wait for it.
+pub(crate) fn take(connections: &mut [OpenConnection], number: u32, count: usize)
+    requires { CanTake count (kept_at number connections.old) }
+    ensures { Changed number connections.old connections.new (Takes (λ p. with_taken p count)) }
+{
+    match find(connections, number) {
+        None => {}
+        Some(place) => connections[place].connection.took(count),
+    }
+}

@@ -1,0 +1,64 @@
+-- A server and its records at their beginning.
+use Rattle.std.proofs.Common.{◌≡◌, ℕ, ◌+◌, ◌^◌, ◌<◌, ◌≤◌, List, [], ◌∷◌, ◌++◌, length, get_or, take, map, ap, ◌∙◌, sym, subst, arith, inl, inr, All}
+use Rattle.std.specs.Prelude.{Some, string_bytes}
+use Rattle.std.specs.List.{slice_get}
+use Rattle.std.proofs.lemmas.Bool.{cases_lt}
+use Rattle.std.proofs.lemmas.List.{get_or-map, map_more, length-map}
+use Rattle.std.proofs.lemmas.Grind.{common_steps}
+use Rattle.server_events.specs.declared.configs.InstanceConfig.{InstanceConfig}
+use Rattle.server_events.specs.Configs.{ConfigValue}
+use Rattle.server_events.specs.Faults.{IsConfig}
+use Rattle.server_events.specs.Shown.{config_value}
+use Rattle.served_instance.specs.Lone.{start}
+use Rattle.served_instance.specs.StandsFor.{ServedState, StandsFor as IsServed}
+use Rattle.run_record.specs.Runs.{begun}
+use Rattle.run_record.specs.StandsFor.{RecordValue, StandsFor as IsRecord}
+use Rattle.server_core.specs.Lone.{config_at}
+use Rattle.server_core.specs.RunTo.{IsNotedAt}
+use Rattle.server_core.specs.StandsFor.{StandsAt}
+use Rattle.server_core.proofs.Lists.{get-append, get-last, get-pushed}
+
+-- the quota of an instance that may be configured
+pub quota_in : (xs : List InstanceConfig) (k : ℕ) (x : InstanceConfig) → k < length xs → x ≡ get_or xs k x → All IsConfig (map config_value xs) → x.quota ≤ 2 ^ 40
+quota_in xs k x lt at all =
+    let c : IsConfig (get_or (map config_value xs) k (config_value x)) = all k (config_value x) (rw length-map lt) in
+    subst (λ (v : ConfigValue). v.quota ≤ 2 ^ 40) (get_or-map config_value xs k x (config_value x) lt ∙ ap config_value (sym at)) c.quota
+
+abbrev pub Starts : List ConfigValue → List ServedState → Type 0
+Starts configs vs = (i : ℕ) (config : ConfigValue) → config_at i configs ≡ Some config → StandsAt i vs (start config.name config.quota config.slots)
+
+-- one more instance
+starts_push : (configs : List ConfigValue) (vs : List ServedState) (x : ConfigValue) (v : ServedState) → length configs ≡ length vs → Starts configs vs → IsServed v (start x.name x.quota x.slots) → Starts (configs ++ x ∷ []) (vs ++ v ∷ [])
+starts_push configs vs x v same h own i config is =
+    elim (get-pushed configs x config i is) [
+      | inl old ↦ let s = h i config old in (s.0, get-append vs (v ∷ []) i s.0 s.1, s.2)
+      | inr new ↦
+          (v, ap (λ k. slice_get (vs ++ v ∷ []) k) (new.0 ∙ same) ∙ get-last vs v, subst (λ (c : ConfigValue). IsServed v (start c.name c.quota c.slots)) new.1 own)
+    ]
+
+pub starts_more : (xs : List InstanceConfig) (k : ℕ) (x : InstanceConfig) (vs ws : List ServedState) (v : ServedState) → k < length xs → x ≡ get_or xs k x → length vs ≡ k → ws ≡ vs ++ v ∷ [] → Starts (map config_value (take k xs)) vs → IsServed v (start (string_bytes x.name) x.quota x.slots) → Starts (map config_value (take (k + 1) xs)) ws
+starts_more xs k x vs ws v lt at count is h own =
+    let more : map config_value (take (k + 1) xs) ≡ map config_value (take k xs) ++ config_value x ∷ [] =
+    map_more config_value xs k x lt ∙ ap (λ (y : InstanceConfig). map config_value (take k xs) ++ config_value y ∷ []) (sym at) in
+    let same : length (map config_value (take k xs)) ≡ length vs = grind (arith, common_steps) in
+    subst (λ (cs : List ConfigValue). Starts cs ws) (sym more) (subst (λ (us : List ServedState). Starts (map config_value (take k xs) ++ config_value x ∷ []) us) (sym is) (starts_push (map config_value (take k xs)) vs (config_value x) v same h own))
+
+abbrev pub AreBegun : ℕ → List RecordValue → Type 0
+AreBegun n records = (i : ℕ) → i < n → (config : ConfigValue) → IsNotedAt i records (begun config)
+
+pub begun_more : (records more : List RecordValue) (v : RecordValue) (n : ℕ) → length records ≡ n → more ≡ records ++ v ∷ [] → AreBegun n records → ((config : ConfigValue) → IsRecord v (begun config)) → AreBegun (n + 1) more
+begun_more records more v n count is h own i lt config =
+    elim (cases_lt i n) [
+      | inl old ↦
+          let s = h i old config in
+          (s.0, ap (λ rs. slice_get rs i) is ∙ get-append records (v ∷ []) i s.0 s.1, s.2)
+      | inr new ↦
+          let last : i ≡ length records = omega arith in
+          (v, ap (λ rs. slice_get rs i) is ∙ ap (λ k. slice_get (records ++ v ∷ []) k) last ∙ get-last records v, own config)
+    ]
+
+-- nothing was counted yet
+pub none_counted : (v : RecordValue) → ((config : ConfigValue) → IsRecord v (begun config)) → v.count < 1
+none_counted v own =
+    let none : v.count ≡ 0 = (own (record { name = []; quota = 0; slots = 0 })).count in
+    omega arith

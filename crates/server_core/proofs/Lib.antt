@@ -1,0 +1,5 @@
+mod Lists
+mod Begins
+mod Steps
+mod Ends
+mod Runs

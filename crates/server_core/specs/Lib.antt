@@ -1,0 +1,4 @@
+pub mod Lone
+pub mod RunTo
+pub mod Shown
+pub mod StandsFor

@@ -1,0 +1,30 @@
+-- What each instance of a server gives: the run of that instance by itself, over its own events alone.
+use Rattle.std.specs.Prelude.{ℕ, ◌+◌, nat_lt, if◌then◌else◌, List, [], ◌∷◌, ◌++◌, length, Option}
+use Rattle.std.specs.List.{slice_get}
+use Rattle.std.specs.Option.{option_map_or}
+use Rattle.server_events.specs.Configs.{ConfigValue}
+use Rattle.server_events.specs.Events.{EventValue, own_events}
+use Rattle.run_record.specs.Outputs.{OutputValue}
+use Rattle.run_record.specs.Runs.{run_of, output_of}
+
+abbrev pub config_at : ℕ → List ConfigValue → Option ConfigValue
+config_at i configs = slice_get configs i
+
+abbrev pub nothing : OutputValue
+nothing = record { sent = []; refusals = [] }
+
+-- what instance i gives: a function of its configuration and of its own events
+abbrev pub lone : List ConfigValue → ℕ → List EventValue → OutputValue
+lone configs i events = option_map_or (λ config. output_of (run_of config (own_events configs i events))) (config_at i configs) nothing
+
+-- the place of an event, if it names none of so many instances
+abbrev pub stray_at : ℕ → ℕ → EventValue → List ℕ
+stray_at place count e = if nat_lt e.instance count then [] else place ∷ []
+
+-- the places, among all events and from 1, of those that name no instance
+abbrev pub strays_from : ℕ → ℕ → List EventValue → List ℕ
+strays_from place count [] = []
+strays_from place count (e ∷ es) = stray_at place count e ++ strays_from (place + 1) count es
+
+abbrev pub strays : List ConfigValue → List EventValue → List ℕ
+strays configs events = strays_from 1 (length configs) events

@@ -1,0 +1,131 @@
+//! The server, event by event.
+
+ghost use Rattle.std.specs.Prelude.{◌≡◌, ◌≢◌, ◌<◌, ◌≤◌, ◌↔◌, ℕ, Bool, true, false, [], length, option_map, Some, None, IfOk, IfErr, OnOk, Err};
+ghost use Rattle.std.specs.List.{AllByRecursion};
+ghost use Rattle.server_events.specs.Configs.{ConfigValue};
+ghost use Rattle.server_events.specs.Shown.{event_value};
+ghost use Rattle.grpc_sending.specs.Bytes.{pending};
+ghost use Rattle.http2_streams.specs.Diary.{has_failed};
+ghost use Rattle.conn_core.specs.Past.{Past};
+ghost use Rattle.served_instance.specs.Connections.{open_at};
+ghost use Rattle.served_instance.specs.Lone.{Lone, start};
+ghost use Rattle.served_instance.specs.Refusals.{refusal_of, lone_step, IsOutcome};
+ghost use Rattle.served_instance.specs.StandsFor.{IsWithin, AreSettled};
+ghost use Rattle.server_core.specs.Lone.{config_at};
+ghost use Rattle.server_core.specs.StandsFor.{StandsAt, instance_at};
+
+use served_instance::{EventRefusal, ServedInstance};
+use server_events::laws::the_fault_is_the_first;
+use server_events::{Configs, Event};
+use std::alloc::{AllocError, Global};
+use std::marker::Model;
+
+/// A server with its instances, by their numbers. After a refusal of memory it holds nothing, and refuses all
+/// events so.
+#[derive(Drop)]
+pub struct Server {
+    instances: Vec<ServedInstance>,
+    failed: bool,
+}
+
+impl Model for Server {
+    ghost use Rattle.std.specs.Prelude.{◌≡◌, [], true};
+    ghost use Rattle.server_core.specs.StandsFor.{ServerState};
+
+    ghost Value = { ServerState };
+
+    ghost view = { λ s. record { instances = s.instances.items; failed = s.failed } };
+
+    ghost invariant = { λ s. s.failed ≡ true → s.instances.items ≡ [] };
+}
+
+impl Server {
+    /// A server that nothing has happened to, with an instance for each configuration.
+    pub fn new(alloc: Global, configs: &Configs) -> Result<Server, AllocError>
+        ensures stands { IfOk result (λ server. (i : ℕ) (config : ConfigValue) → config_at i configs.now ≡ Some config → StandsAt i server.instances (start config.name config.quota config.slots)) }
+        ensures count { IfOk result (λ server. length server.instances ≡ length configs.now) }
+        ensures serves { IfOk result (λ server. server.failed ≡ false) }
+        ensures within { IfOk result (λ server. AllByRecursion IsWithin server.instances) }
+    {
+        let configs = configs.instances();
+        the_fault_is_the_first(configs);
+        let mut instances = Vec::new(alloc);
+        for config in configs {
+            instances.push(ServedInstance::new(alloc, config)?)?;
+        }
+        Ok(Server {
+            instances,
+            failed: false,
+        })
+    }
+
+    /// Takes an event. It is refused for the first reason that stands, and then nothing is changed; or its instance
+    /// does what it would do alone. No other instance changes.
+    pub fn step(&mut self, event: &Event) -> Result<(), EventRefusal>
+        // The event's instance does what it would do alone, which is nothing where it refuses.
+        ensures own { result ≢ Err EventRefusal.NoMemory → (l : Lone) → StandsAt event.now.instance self.old.instances l → StandsAt event.now.instance self.new.instances (lone_step (event_value event.now) l) }
+        ensures settled { OnOk result ((l : Lone) → StandsAt event.now.instance self.old.instances l → AreSettled (lone_step (event_value event.now) l)) }
+        // No other instance changes.
+        ensures others { result ≢ Err EventRefusal.NoMemory → (j : ℕ) → j ≢ event.now.instance → instance_at j self.new.instances ≡ instance_at j self.old.instances }
+        // Each refusal has its reason, and changes nothing.
+        ensures outcome { self.old.failed ≡ false → (l : Lone) → StandsAt event.now.instance self.old.instances l → IsOutcome result (refusal_of (event_value event.now) l) }
+        ensures stray { self.old.failed ≡ false → (result ≡ Err EventRefusal.NoSuchInstance) ↔ (length self.old.instances ≤ event.now.instance) }
+        ensures refused { IfErr result (λ refusal. refusal ≢ EventRefusal.NoMemory → self.new ≡ self.old) }
+        ensures within { AllByRecursion IsWithin self.old.instances → AllByRecursion IsWithin self.new.instances }
+        // Want of memory is for ever.
+        ensures memory { (result ≡ Err EventRefusal.NoMemory) ↔ (self.new.failed ≡ true) }
+        ensures for_ever { self.old.failed ≡ true → result ≡ Err EventRefusal.NoMemory }
+        ensures empty { self.new.failed ≡ true → self.new.instances ≡ [] }
+        ensures count { self.new.failed ≡ false → length self.new.instances ≡ length self.old.instances }
+    {
+        if self.failed {
+            return Err(EventRefusal::NoMemory);
+        }
+        let outcome = step_one(&mut self.instances, event);
+        if matches!(outcome, Err(EventRefusal::NoMemory)) {
+            self.failed = true;
+            self.instances.clear();
+        }
+        outcome
+    }
+
+    /// The bytes that were put on an open connection and not taken.
+    pub fn pending(&self, instance: u32, connection: u32) -> Option<&[u8]>
+        ensures none { instance_at instance self.now.instances ≡ None → result ≡ None }
+        ensures bytes { (l : Lone) → StandsAt instance self.now.instances l → option_map (λ bytes. bytes.now) result ≡ option_map (λ p. pending p.diary) (open_at connection l.connections) }
+    {
+        self.instance(instance)?.pending(connection)
+    }
+
+    /// Whether an error of an open connection was met.
+    pub fn ended(&self, instance: u32, connection: u32) -> Option<bool>
+        ensures none { instance_at instance self.now.instances ≡ None → result ≡ None }
+        ensures error { (l : Lone) → StandsAt instance self.now.instances l → result ≡ option_map (λ p. has_failed p.diary) (open_at connection l.connections) }
+    {
+        self.instance(instance)?.ended(connection)
+    }
+
+    /// The instance of this number.
+    pub fn instance(&self, number: u32) -> Option<&ServedInstance>
+        ensures { option_map (λ served. served.now) result ≡ instance_at number self.now.instances }
+    {
+        self.instances.get(number as usize)
+    }
+}
+
+/// Gives the event to the instance that it names.
+fn step_one(instances: &mut [ServedInstance], event: &Event) -> Result<(), EventRefusal>
+    ensures own { result ≢ Err EventRefusal.NoMemory → (l : Lone) → StandsAt event.now.instance instances.old l → StandsAt event.now.instance instances.new (lone_step (event_value event.now) l) }
+    ensures settled { OnOk result ((l : Lone) → StandsAt event.now.instance instances.old l → AreSettled (lone_step (event_value event.now) l)) }
+    ensures others { (j : ℕ) → j ≢ event.now.instance → instance_at j instances.new ≡ instance_at j instances.old }
+    ensures outcome { (l : Lone) → StandsAt event.now.instance instances.old l → IsOutcome result (refusal_of (event_value event.now) l) }
+    ensures stray { (result ≡ Err EventRefusal.NoSuchInstance) ↔ (length instances.old ≤ event.now.instance) }
+    ensures refused { IfErr result (λ refusal. refusal ≢ EventRefusal.NoMemory → instances.new ≡ instances.old) }
+    ensures within { AllByRecursion IsWithin instances.old → AllByRecursion IsWithin instances.new }
+{
+    let number = event.instance as usize;
+    if number >= instances.len() {
+        return Err(EventRefusal::NoSuchInstance);
+    }
+    instances[number].step(event)
+}

@@ -1,0 +1,103 @@
+//! A whole run.
+
+ghost use Rattle.std.specs.Prelude.{◌≡◌, ◌+◌, ◌<◌, ◌==◌, ◌++◌, ℕ, All, Some, length, map, IfOk, OnOk, Bool, false, if◌then◌else◌};
+ghost use Rattle.server_events.specs.Configs.{ConfigValue};
+ghost use Rattle.server_events.specs.Shown.{event_value};
+ghost use Rattle.run_record.specs.Runs.{Run, begun, run_step, output_of};
+ghost use Rattle.server_core.specs.Lone.{lone, strays, stray_at};
+ghost use Rattle.server_core.specs.Shown.{output_at};
+ghost use Rattle.server_core.specs.RunTo.{IsNotedAt, HasRun};
+
+use crate::server::Server;
+use run_record::{InstanceOutput, InstanceRecord};
+use served_instance::EventRefusal;
+use server_events::{Configs, Event};
+use std::alloc::{AllocError, Global};
+
+/// What a run gave.
+#[derive(Drop)]
+pub struct Outputs {
+    /// By the instances' numbers.
+    pub instances: Vec<InstanceOutput>,
+    /// The places of the events that name no instance, among all events and counted from 1.
+    pub strays: Vec<u64>,
+}
+
+/// Runs a server through events. Each instance gives the very bytes on its connections, and the refusals, that it
+/// would give alone: they are determined by its configuration and its own events.
+pub fn run(alloc: Global, configs: &Configs, events: &[Event]) -> Result<Outputs, AllocError>
+    ensures alone { IfOk result (λ outputs. (i : ℕ) → i < length configs.now → output_at i outputs.instances.items ≡ Some (lone configs.now i (map event_value events.now))) }
+    ensures count { IfOk result (λ outputs. length outputs.instances.items ≡ length configs.now) }
+    ensures strays { IfOk result (λ outputs. outputs.strays.items ≡ strays configs.now (map event_value events.now)) }
+{
+    let mut server = Server::new(alloc, configs)?;
+    let mut records = new_records(alloc, configs.instances().len())?;
+    let mut strays = Vec::new(alloc);
+    let mut place = 0;
+    for event in events {
+        place += 1;
+        step_and_note(&mut server, &mut records, &mut strays, event, place)?;
+    }
+    Ok(Outputs {
+        instances: outputs_of(alloc, records)?,
+        strays,
+    })
+}
+
+/// Gives the server the event of this place, and notes what came of it in the record of its instance, or among the
+/// strays.
+fn step_and_note(
+    server: &mut Server,
+    records: &mut [InstanceRecord],
+    strays: &mut Vec<u64>,
+    event: &Event,
+    place: u64,
+) -> Result<(), AllocError>
+    requires serves { server.old.failed ≡ false }
+    requires count { length records.old ≡ length server.old.instances }
+    requires room { All (λ r. r.count < place) records.old }
+    ensures serves { OnOk result (server.new.failed ≡ false) }
+    ensures count { OnOk result (length server.new.instances ≡ length server.old.instances) }
+    ensures room { OnOk result (All (λ r. r.count < place + 1) records.new) }
+    ensures runs { OnOk result ((i : ℕ) (r : Run) → HasRun i server.old.instances records.old r → HasRun i server.new.instances records.new (if event.now.instance == i then run_step r (event_value event.now) else r)) }
+    ensures strays { OnOk result (strays.new.items ≡ strays.old.items ++ stray_at place (length server.old.instances) (event_value event.now)) }
+{
+    let outcome = server.step(event);
+    if matches!(outcome, Err(EventRefusal::NoMemory)) {
+        return Err(AllocError);
+    }
+    match server.instance(event.instance) {
+        None => {
+            strays.push(place)?;
+            Ok(())
+        }
+        Some(instance) => records[event.instance as usize].note(instance, event, outcome),
+    }
+}
+
+/// As many records, in which nothing was noted.
+fn new_records(alloc: Global, count: usize) -> Result<Vec<InstanceRecord>, AllocError>
+    ensures count { IfOk result (λ records. length records.items ≡ count) }
+    ensures begun { IfOk result (λ records. (i : ℕ) → i < count → (config : ConfigValue) → IsNotedAt i records.items (begun config)) }
+    ensures room { IfOk result (λ records. All (λ r. r.count < 1) records.items) }
+{
+    let mut records = Vec::new(alloc);
+    for _ in 0..count {
+        records.push(InstanceRecord::new(alloc))?;
+    }
+    Ok(records)
+}
+
+fn outputs_of(
+    alloc: Global,
+    records: Vec<InstanceRecord>,
+) -> Result<Vec<InstanceOutput>, AllocError>
+    ensures count { IfOk result (λ outputs. length outputs.items ≡ length records.items) }
+    ensures outputs { IfOk result (λ outputs. (i : ℕ) (r : Run) → IsNotedAt i records.items r → output_at i outputs.items ≡ Some (output_of r)) }
+{
+    let mut outputs = Vec::new(alloc);
+    for record in records {
+        outputs.push(record.output())?;
+    }
+    Ok(outputs)
+}

@@ -1,0 +1,3 @@
+pub mod FaultLemmas
+pub mod ListLemmas
+pub mod OwnLemmas

@@ -1,0 +1,33 @@
+-- What happens to a server, and what of it happens to one instance.
+use Rattle.std.specs.Prelude.{ℕ, ℤ, ◌==◌, Bool, List, filter}
+use Rattle.server_events.specs.Configs.{ConfigValue}
+
+-- a file that a program left: its path, its content, and whether it may be executed
+pub record OutputValue : Type 0 where
+  pub path : List ℕ
+  pub content : List ℕ
+  pub is_executable : Bool
+
+-- how a program ended: not at all, or with a code, standard output, standard error and outputs
+pub data OutcomeValue : Type 0 where
+  failed : OutcomeValue
+  exited : ℤ → List ℕ → List ℕ → List OutputValue → OutcomeValue
+
+-- a connection was opened, got bytes, had some taken or was closed; time went on; or a job's program ended
+pub data WhatValue : Type 0 where
+  opened : ℕ → WhatValue
+  received : ℕ → List ℕ → WhatValue
+  took : ℕ → ℕ → WhatValue
+  closed : ℕ → WhatValue
+  tick : WhatValue
+  ended : ℕ → OutcomeValue → WhatValue
+
+-- what happens at a moment, in milliseconds, to the instance of a number
+pub record EventValue : Type 0 where
+  pub moment : ℕ
+  pub instance : ℕ
+  pub what : WhatValue
+
+-- the events of one instance of those configured, in order
+abbrev pub own_events : List ConfigValue → ℕ → List EventValue → List EventValue
+own_events configs instance events = filter (λ event. event.instance == instance) events

@@ -1,0 +1,4 @@
+pub mod Configs
+pub mod Events
+pub mod Faults
+pub mod Shown

@@ -1,0 +1,108 @@
+//! The instances of a server.
+ghost use Rattle.std.specs.Prelude.{◌≡◌, ◌∷◌, [], map, IfOk, IfErr, Some, None, length};
+ghost use Rattle.server_events.specs.Configs.{config_fault, own_fault, first_own_fault, is_named_among};
+ghost use Rattle.server_events.specs.Shown.{config_value};
+
+use crate::fault::ConfigFault;
+use instance_config::{is_instance_name, is_quota, is_slot_count};
+use std::marker::Model;
+
+/// The most instances that a server has.
+pub const INSTANCE_LIMIT: usize = 256;
+
+/// How an instance is configured.
+#[derive(Drop)]
+pub struct InstanceConfig {
+    pub name: String,
+    /// The most bytes that it stores.
+    pub quota: u64,
+    /// The most actions that it runs at once; with 0 it runs none.
+    pub slots: u32,
+}
+
+/// The configurations of a server's instances: at most [`INSTANCE_LIMIT`], each with a name, a quota
+/// and slots that an instance may have, and no two of one name.
+///
+/// Contracts see it as the list of them, which has no fault.
+#[derive(Drop)]
+pub struct Configs {
+    instances: Vec<InstanceConfig>,
+}
+
+impl Model for Configs {
+    ghost use Rattle.std.specs.Prelude.{◌≡◌, List, None, map};
+    ghost use Rattle.server_events.specs.Configs.{ConfigValue, config_fault};
+    ghost use Rattle.server_events.specs.Shown.{config_value};
+
+    ghost Value = { List ConfigValue };
+
+    ghost view = { λ c. map config_value c.instances.items };
+
+    ghost invariant = { λ c. config_fault (map config_value c.instances.items) ≡ None };
+}
+
+impl Configs {
+    /// The configurations of this list, or its first fault: too many instances; and else the first
+    /// fault of the first instance that has one, in the order name, quota, slots, name of an earlier
+    /// instance. It takes no memory.
+    pub fn new(instances: Vec<InstanceConfig>) -> Result<Configs, ConfigFault>
+        ensures configs { IfOk result (λ configs. configs ≡ map config_value instances.items) }
+        ensures good { IfOk result (λ configs. config_fault (map config_value instances.items) ≡ None) }
+        ensures fault { IfErr result (λ fault. config_fault (map config_value instances.items) ≡ Some fault) }
+    {
+        if instances.len() > INSTANCE_LIMIT {
+            return Err(ConfigFault::TooMany);
+        }
+        match first_own_fault(&instances) {
+            None => Ok(Configs { instances }),
+            Some(fault) => Err(fault),
+        }
+    }
+
+    /// The configurations in order of the instances' numbers.
+    pub fn instances(&self) -> &[InstanceConfig]
+        ensures instances { map config_value result.now ≡ self.now }
+        ensures good { config_fault self.now ≡ None }
+    {
+        &self.instances
+    }
+}
+
+/// The first fault that an instance has which follows these others, in the order name, quota, slots,
+/// name of an earlier instance.
+pub fn own_fault(before: &[InstanceConfig], config: &InstanceConfig) -> Option<ConfigFault>
+    ensures { result ≡ own_fault (map config_value before.now) (config_value config.now) }
+{
+    let number = before.len();
+    if !is_instance_name(config.name.as_bytes()) {
+        Some(ConfigFault::BadName(number))
+    } else if !is_quota(config.quota) {
+        Some(ConfigFault::BadQuota(number))
+    } else if !is_slot_count(config.slots) {
+        Some(ConfigFault::BadSlots(number))
+    } else if is_named_among(before, config.name.as_bytes()) {
+        Some(ConfigFault::DuplicateName(number))
+    } else {
+        None
+    }
+}
+
+fn is_named_among(instances: &[InstanceConfig], name: &[u8]) -> bool
+    ensures { result ≡ is_named_among (map config_value instances.now) name.now }
+{
+    instances
+        .iter()
+        .any(|instance| instance.name.as_bytes() == name)
+}
+
+// The first fault of an instance beside those before it.
+fn first_own_fault(instances: &[InstanceConfig]) -> Option<ConfigFault>
+    ensures { result ≡ first_own_fault [] (map config_value instances.now) }
+{
+    for number in 0..instances.len() {
+        if let Some(fault) = own_fault(&instances[..number], &instances[number]) {
+            return Some(fault);
+        }
+    }
+    None
+}

@@ -1,0 +1,20 @@
+//! Why a list of configurations is refused.
+
+/// Why a list of configurations is refused.
+///
+/// A fault of one instance has its number, counted from 0.
+#[derive(Clone, Copy)]
+pub enum ConfigFault {
+    /// The name may not be an instance's.
+    BadName(usize),
+    /// The quota is above the greatest.
+    BadQuota(usize),
+    /// The slots are above the most.
+    BadSlots(usize),
+    /// An earlier instance has the name.
+    DuplicateName(usize),
+    /// There are more instances than a server has.
+    TooMany,
+    /// Memory was refused.
+    NoMemory,
+}

@@ -1,0 +1,25 @@
+//! Which configurations have no fault, and which events are an instance's own.
+ghost use Rattle.std.specs.Prelude.{◌≡◌, ◌≢◌, ◌↔◌, ◌++◌, ◌∷◌, [], ℕ, List, None, Some, map};
+ghost use Rattle.server_events.specs.Configs.{ConfigValue, config_fault};
+ghost use Rattle.server_events.specs.Events.{EventValue, own_events};
+ghost use Rattle.server_events.specs.Faults.{AreConfigs, IsFaultOf};
+ghost use Rattle.server_events.specs.Shown.{config_value};
+ghost use Rattle.server_events.specs.declared.fault.ConfigFault.{ConfigFault};
+
+use crate::configs::InstanceConfig;
+
+/// Configurations have no fault exactly where a server may have them, and a fault exactly where it is
+/// the first in its order: the number of instances, and then instance by instance.
+pub fn the_fault_is_the_first(configs: &[InstanceConfig])
+    ensures none { (config_fault (map config_value configs.now) ≡ None) ↔ AreConfigs (map config_value configs.now) }
+    ensures some { (fault : ConfigFault) → (config_fault (map config_value configs.now) ≡ Some fault) ↔ IsFaultOf (map config_value configs.now) fault }
+{}
+
+/// An instance's own events are those of its number, each once and in order; others change nothing.
+pub fn own_events_are_those_of_the_instance()
+    ensures append { (configs : List ConfigValue) → (instance : ℕ) → (earlier later : List EventValue)
+        → own_events configs instance (earlier ++ later) ≡ own_events configs instance earlier ++ own_events configs instance later }
+    ensures own { (configs : List ConfigValue) → (event : EventValue) → own_events configs event.instance (event ∷ []) ≡ event ∷ [] }
+    ensures other { (configs : List ConfigValue) → (instance : ℕ) → (event : EventValue)
+        → event.instance ≢ instance → own_events configs instance (event ∷ []) ≡ [] }
+{}

@@ -4,6 +4,7 @@ ghost use Rattle.std.specs.Prelude.{◌≡◌, ◌≢◌, ◌≤◌, ◌<◌, �
 ghost use Rattle.http2_frames.specs.Writing.{raw_of};
 ghost use Rattle.grpc_sending.specs.Step.{IsControl};
 ghost use Rattle.http2_frames.specs.declared.error.FrameError.{FrameError};
+ghost use Rattle.grpc_sending.specs.Bytes.{most_untaken};
 ghost use Rattle.grpc_sending.specs.Owed.{Headed, Message};
 ghost use Rattle.conn_core.specs.Past.{Past, opening, with_item, with_taken, with_pumped, with_frame};
 ghost use Rattle.conn_core.specs.StandsFor.{StandsFor, Popped, FrameRead, unread, live_calls, stream_of};
@@ -58,7 +59,7 @@ impl Model for Connection {
 }
 
 impl Connection {
-    /// A connection that puts the server's SETTINGS. Takes the room for all bytes that are ever put.
+    /// A connection that puts the server's SETTINGS. Takes the room for all bytes that can wait.
     pub fn new(alloc: Global) -> Result<Connection, AllocError>
         ensures { IfOk result (λ c. StandsFor c opening) }
     {
@@ -159,7 +160,8 @@ impl Connection {
 
     /// The bytes that were put and not taken.
     pub fn pending(&self) -> &[u8]
-        ensures { result.now ≡ self.now.sending.pending }
+        ensures bytes { result.now ≡ self.now.sending.pending }
+        ensures room { length result.now ≤ most_untaken }
     {
         self.sender.pending()
     }

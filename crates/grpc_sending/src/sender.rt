@@ -7,6 +7,7 @@ ghost use Rattle.http2_streams.specs.Diary.{Entry, Out, Took, is_live, has_faile
 ghost use Rattle.std.specs.List.{list_any};
 ghost use Rattle.http2_streams.specs.StandsFor.{StandsFor as AreStreams};
 ghost use Rattle.http2_streams.specs.Rules.{number_is};
+ghost use Rattle.grpc_sending.specs.Bytes.{most_untaken};
 ghost use Rattle.grpc_sending.specs.Owed.{Owed, Item, Headed, Message};
 ghost use Rattle.grpc_sending.specs.Pump.{pumped, next};
 ghost use Rattle.grpc_sending.specs.StandsFor.{StandsFor, Sending, new_sending, owed_more, pieces_on};
@@ -46,7 +47,7 @@ impl Model for Sender {
 }
 
 impl Sender {
-    /// Takes the room of all bytes that are ever put.
+    /// Takes the room for all bytes that can wait.
     pub fn new(alloc: Global) -> Result<Sender, AllocError>
         ensures { IfOk result (λ s. StandsFor s [] []) }
     {
@@ -59,7 +60,8 @@ impl Sender {
 
     /// The bytes that were put and not taken.
     pub fn pending(&self) -> &[u8]
-        ensures { result.now ≡ self.now.pending }
+        ensures bytes { result.now ≡ self.now.pending }
+        ensures room { length result.now ≤ most_untaken }
     {
         self.buffer.as_slice()
     }

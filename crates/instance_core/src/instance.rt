@@ -1,14 +1,14 @@
-ghost use Rattle.std.specs.Prelude.{◌≡◌, ◌≤◌, ◌^◌, map, OnOk, OnErr, IfOk};
+ghost use Rattle.std.specs.Prelude.{◌≡◌, ◌≤◌, ◌^◌, [], map, OnOk, OnErr, IfOk};
 ghost use Rattle.std.specs.List.{AllByRecursion};
-ghost use Rattle.instance_core.specs.Calls.{IsShortEvent};
+ghost use Rattle.instance_core.specs.Calls.{IsShortEvent, cancel};
 ghost use Rattle.instance_core.specs.State.{WithinLimits, opened};
 ghost use Rattle.instance_core.specs.Changes.{MadeInPart, changed};
-ghost use Rattle.instance_core.specs.Answer.{answer, IsShortReply};
+ghost use Rattle.instance_core.specs.Answer.{answer, after, IsShortReply};
 ghost use Rattle.instance_core.specs.Shown.{event_shown, reply_shown};
 
 use crate::answers::{on_end, on_fault, on_head, on_message};
 use crate::calls::{self, Calls};
-use crate::event::{CallEvent, Reply};
+use crate::event::{CallEvent, CallId, Reply};
 use crate::methods::Settings;
 use instance_view::View;
 use std::alloc::{AllocError, Global};
@@ -72,9 +72,19 @@ impl Instance {
                 on_end(alloc, &self.settings, &mut self.view, &mut self.calls, id)
             }
             CallEvent::Cancel(id) => {
-                calls::end(&mut self.calls, id);
+                self.cancel(id);
                 Ok(Vec::new(alloc))
             }
         }
+    }
+
+    /// Nobody waits for the call any more: it ends without a reply. This takes no memory.
+    pub fn cancel(&mut self, call: CallId)
+        ensures replies { (answer self.old (cancel call)).replies ≡ [] }
+        ensures changed { self.new ≡ after self.old (cancel call) }
+        ensures within { WithinLimits self.new }
+        ensures config { (self.new.name ≡ self.old.name) × (self.new.quota ≡ self.old.quota) × (self.new.slots ≡ self.old.slots) }
+    {
+        calls::end(&mut self.calls, call);
     }
 }

@@ -11,7 +11,10 @@ use Rattle.conn_core.specs.declared.event.CallEvent.TheVariants.{Cancel}
 use Rattle.conn_core.specs.Calls.{cancels}
 use Rattle.conn_core.specs.Past.{Past, opening}
 use Rattle.conn_core.specs.StandsFor.{Present, StandsFor as IsConnection, live_calls}
+use Rattle.instance_core.specs.declared.event.CallId.{CallId}
+use Rattle.instance_core.specs.Calls.{cancel}
 use Rattle.instance_core.specs.State.{InstanceState}
+use Rattle.instance_core.specs.Answer.{after}
 use Rattle.served_instance.specs.declared.open_connection.OpenConnection.{OpenConnection}
 use Rattle.served_instance.specs.Connections.{LoneConnection, is_open, open_ones, open_at, closed_at}
 use Rattle.served_instance.specs.Calls.{call_event_on}
@@ -110,6 +113,14 @@ closes_none c s os h = λ m l st.
 
 -- ---- its calls
 
+-- a call is given up, which owes nothing to any connection
+pub cancel_acts : (s t : InstanceState) (id : CallId) (os : List OpenConnection) → t ≡ after s (cancel id) → Acts s os t os (happened (cancel id))
+cancel_acts s t id os e = λ m l st. record {
+  state = e ∙ ap (λ (x : InstanceState). after x (cancel id)) st.state;
+  moment = st.moment;
+  connections = st.connections;
+}
+
 first_of : (xs ys : List ℕ) (x : ℕ) → x ∷ [] ≡ take 1 xs → ys ≡ drop 1 xs → xs ≡ x ∷ ys
 first_of [] ys x h e = cc
 first_of (y ∷ xs) ys x h e = cc
@@ -154,15 +165,14 @@ acts_between (Ok x) s t os xs ns zs f g a b e h =
     subst (λ (ys : List OpenConnection). Acts s ys t zs g) a (subst (λ (ys : List OpenConnection). Acts s xs t ys g) (sym b) (subst (λ (step : Lone → Lone). Acts s xs t ns step) (sym e) h))
 acts_between (Err x) s t os xs ns zs f g a b e h = tt
 
-pub closes_by : {T E : Type 0} (r : Result T E) (c : ℕ) (s t : InstanceState) (os xs ns zs : List OpenConnection) (k : ℕ) (o : OpenConnection) → position (is_numbered c) os ≡ Some k → o ≡ get_or os k o → xs ≡ take k os ++ drop (k + 1) os → zs ≡ ns →
-    OnOk r (Acts s xs t ns (all_happened c (cancels_of o.connection))) → OnOk r (Acts s os t zs (was_closed c))
-closes_by (Ok x) c s t os xs ns zs k o h here e b act =
+pub closes_by : (c : ℕ) (s t : InstanceState) (os xs : List OpenConnection) (k : ℕ) (o : OpenConnection) → position (is_numbered c) os ≡ Some k → o ≡ get_or os k o → xs ≡ take k os ++ drop (k + 1) os →
+    Acts s xs t xs (all_happened c (cancels_of o.connection)) → Acts s os t xs (was_closed c)
+closes_by c s t os xs k o h here e act =
     let left : xs ≡ take k os ++ drop (suc k) os = e ∙ ap (λ (n : ℕ). take k os ++ drop n os) (add-one k) in
-    let given : Acts s (take k os ++ drop (suc k) os) t ns (all_happened c (cancels_of (get_or os k o).connection)) =
-    subst (λ (y : OpenConnection). Acts s (take k os ++ drop (suc k) os) t ns (all_happened c (cancels_of y.connection))) here
-    (subst (λ (ys : List OpenConnection). Acts s ys t ns (all_happened c (cancels_of o.connection))) left act) in
-    subst (λ (ys : List OpenConnection). Acts s os t ys (was_closed c)) (sym b) (closes c s t os ns k o h given)
-closes_by (Err x) c s t os xs ns zs k o h here e b act = tt
+    let given : Acts s (take k os ++ drop (suc k) os) t xs (all_happened c (cancels_of (get_or os k o).connection)) =
+    subst (λ (y : OpenConnection). Acts s (take k os ++ drop (suc k) os) t xs (all_happened c (cancels_of y.connection))) here
+    (subst (λ (ys : List OpenConnection). Acts s ys t xs (all_happened c (cancels_of o.connection))) left act) in
+    closes c s t os xs k o h given
 
 pub at_state : {T E : Type 0} (r : Result T E) (s : InstanceState) (os ns : List OpenConnection) (f : Lone → Lone) → OnOk r ((t : InstanceState) → Acts t os t ns f) → OnOk r (Acts s os s ns f)
 at_state (Ok x) s os ns f h = h s

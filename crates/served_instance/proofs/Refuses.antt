@@ -135,6 +135,11 @@ not_elsewhere e v r h x =
     let P : EventRefusal → Type 0 = λ y. IsReason (Some y) in
     subst P x (subst IsReason (sym h) (is_reason e v))
 
+pub not_for_memory : (e : EventValue) (v : ServedState) (r : EventRefusal) → Some r ≡ refusal_by e v → r ≡ NoMemory → ⊥
+not_for_memory e v r h x =
+    let P : EventRefusal → Type 0 = λ y. IsReason (Some y) in
+    subst P x (subst IsReason (sym h) (is_reason e v))
+
 what_by : (b : Bool) (r : Option EventRefusal) → (if b then Some TimeWentBack else r) ≡ None → r ≡ None
 what_by true r h = cc
 what_by false r h = h

@@ -45,3 +45,12 @@ abbrev pub IsOutcome : {A : Type 0} → Result A EventRefusal → Option EventRe
 IsOutcome (Ok x) reason = reason ≡ None
 IsOutcome (Err NoMemory) reason = reason ≡ None
 IsOutcome (Err refusal) reason = reason ≡ Some refusal
+
+-- an event that takes no memory: bytes were taken, a connection was closed, time went on, or a job ended
+abbrev pub NeedsNoMemory : WhatValue → Type 0
+NeedsNoMemory (opened c) = ⊥
+NeedsNoMemory (received c bytes) = ⊥
+NeedsNoMemory (took c n) = Unit {0}
+NeedsNoMemory (closed c) = Unit {0}
+NeedsNoMemory tick = Unit {0}
+NeedsNoMemory (ended job outcome) = Unit {0}

@@ -1,9 +1,10 @@
 //! What happens to the calls on an instance's connections.
 
-ghost use Rattle.std.specs.Prelude.{◌≡◌, ◌<◌, ◌≤◌, false, IsTrue, IfOk, OnOk, length};
+ghost use Rattle.std.specs.Prelude.{◌≡◌, ◌<◌, ◌≤◌, List, false, IsTrue, IfOk, OnOk, length};
 ghost use Rattle.instance_core.specs.Calls.{IsShortEvent};
 ghost use Rattle.instance_core.specs.Shown.{event_shown};
 ghost use Rattle.instance_core.specs.State.{WithinLimits};
+ghost use Rattle.served_instance.specs.declared.open_connection.OpenConnection.{OpenConnection};
 ghost use Rattle.served_instance.specs.Acts.{Acts, LeadsOn, Keeps, kept_at, unread_at, rest_read, cancels_of};
 ghost use Rattle.served_instance.specs.Lone.{Lone, happened, all_happened, due_happened, bytes_came, was_closed};
 
@@ -85,45 +86,32 @@ pub(crate) fn receive(
     Ok(())
 }
 
-/// The connection goes, and each of its calls is given up.
-pub(crate) fn close(
-    alloc: Global,
-    instance: &mut Instance,
-    connections: &mut Vec<OpenConnection>,
-    number: u32,
-) -> Result<(), AllocError>
+/// The connection goes, and each of its calls is given up. This takes no memory.
+pub(crate) fn close(instance: &mut Instance, connections: &mut Vec<OpenConnection>, number: u32)
     requires within { WithinLimits instance.old }
-    ensures closed { OnOk result (Acts instance.old connections.old.items instance.new connections.new.items (was_closed number)) }
+    ensures closed { Acts instance.old connections.old.items instance.new connections.new.items (was_closed number) }
     ensures fewer { length connections.new.items ≤ length connections.old.items }
     ensures within { WithinLimits instance.new }
 {
     match find(connections, number) {
-        None => Ok(()),
+        None => {}
         Some(place) => {
             let closed = connections.remove(place);
-            give_up(alloc, instance, connections, number, closed.connection)
+            give_up(instance, number, closed.connection)
         }
     }
 }
 
-/// Each call of the closed connection is given up.
-fn give_up(
-    alloc: Global,
-    instance: &mut Instance,
-    connections: &mut [OpenConnection],
-    number: u32,
-    mut closed: Connection,
-) -> Result<(), AllocError>
+/// Each call of the closed connection is given up, which is nothing to any other connection.
+fn give_up(instance: &mut Instance, number: u32, mut closed: Connection)
     requires within { WithinLimits instance.old }
-    ensures cancelled { OnOk result (Acts instance.old connections.old instance.new connections.new (all_happened number (cancels_of closed))) }
+    ensures cancelled { (others : List OpenConnection) → Acts instance.old others instance.new others (all_happened number (cancels_of closed)) }
     ensures within { WithinLimits instance.new }
 {
     'calls: while let Some(stream) = closed.pop_call() {
-        let call = CallId {
+        instance.cancel(CallId {
             connection: number,
             stream,
-        };
-        happen(alloc, instance, connections, CallEvent::Cancel(call))?;
+        });
     }
-    Ok(())
 }

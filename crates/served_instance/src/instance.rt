@@ -1,13 +1,13 @@
 //! One instance and its connections.
 
-ghost use Rattle.std.specs.Prelude.{◌≡◌, ◌≢◌, ◌≤◌, ◌<◌, ◌^◌, List, None, length, map, Option, option_map, string_bytes, IfOk, OnOk, IfErr};
+ghost use Rattle.std.specs.Prelude.{◌≡◌, ◌≢◌, ◌≤◌, ◌<◌, ◌^◌, List, None, length, map, Option, option_map, string_bytes, IfSome, IfOk, OnOk, OnErr, IfErr};
 ghost use Rattle.server_events.specs.Shown.{event_value, what_value};
-ghost use Rattle.grpc_sending.specs.Bytes.{pending};
+ghost use Rattle.grpc_sending.specs.Bytes.{most_untaken, pending};
 ghost use Rattle.http2_streams.specs.Diary.{has_failed};
 ghost use Rattle.conn_core.specs.Past.{Past, with_pumped};
 ghost use Rattle.served_instance.specs.Connections.{LoneConnection, open_at, open_ones, at_all_open};
 ghost use Rattle.served_instance.specs.Lone.{Lone, start, acted, was_opened, pumped_all};
-ghost use Rattle.served_instance.specs.Refusals.{refusal_of, lone_step, IsOutcome};
+ghost use Rattle.served_instance.specs.Refusals.{NeedsNoMemory, refusal_of, lone_step, IsOutcome};
 ghost use Rattle.served_instance.specs.StandsFor.{StandsFor, IsWithin, AreServed, AreSettled};
 ghost use Rattle.served_instance.specs.Present.{refusal_by, refusal_by_what, refusal_to_open, unless_kept, refusal_to_take};
 ghost use Rattle.served_instance.specs.Shown.{served};
@@ -70,6 +70,7 @@ impl ServedInstance {
         ensures outcome { (l : Lone) → StandsFor self.old l → IsOutcome result (refusal_of (event_value event.now) l) }
         ensures stands { (l : Lone) → StandsFor self.old l → (result ≢ Err EventRefusal.NoMemory) → StandsFor self.new (lone_step (event_value event.now) l) }
         ensures here { result ≢ Err EventRefusal.NoSuchInstance }
+        ensures memory_free { NeedsNoMemory (event_value event.now).what → result ≢ Err EventRefusal.NoMemory }
         ensures refused { IfErr result (λ refusal. refusal ≢ EventRefusal.NoMemory → self.new ≡ self.old) }
         ensures settled { OnOk result ((l : Lone) → StandsFor self.old l → AreSettled (lone_step (event_value event.now) l)) }
         ensures within { IsWithin self.new }
@@ -95,7 +96,8 @@ impl ServedInstance {
 
     /// The bytes that were put on an open connection and not taken.
     pub fn pending(&self, connection: u32) -> Option<&[u8]>
-        ensures { (l : Lone) → StandsFor self.now l → option_map (λ bytes. bytes.now) result ≡ option_map (λ p. pending p.diary) (open_at connection l.connections) }
+        ensures bytes { (l : Lone) → StandsFor self.now l → option_map (λ bytes. bytes.now) result ≡ option_map (λ p. pending p.diary) (open_at connection l.connections) }
+        ensures room { IfSome result (λ bytes. length bytes.now ≤ most_untaken) }
     {
         match connection_at(&self.connections, connection) {
             None => None,
@@ -151,6 +153,7 @@ fn act(
     requires within { WithinLimits instance.old }
     requires few { length connections.old.items ≤ 64 }
     ensures acted { OnOk result (Acts instance.old connections.old.items instance.new connections.new.items (acted (what_value what.now))) }
+    ensures memory_free { OnErr result (NeedsNoMemory (what_value what.now) → ⊥) }
     ensures within { WithinLimits instance.new }
     ensures few { length connections.new.items ≤ 64 }
 {
@@ -161,7 +164,10 @@ fn act(
             take(connections, *number, *count as usize);
             Ok(())
         }
-        What::Closed(number) => close(alloc, instance, connections, *number),
+        What::Closed(number) => {
+            close(instance, connections, *number);
+            Ok(())
+        }
         What::Tick | What::Outcome(..) => Ok(()),
     }
 }

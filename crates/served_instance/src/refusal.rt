@@ -16,7 +16,7 @@ pub enum EventRefusal {
     TooManyConnections,
     /// No running job has the number.
     NoSuchJob,
-    /// The moment lies before that of an earlier event.
+    /// The moment lies before that of the last accepted event.
     TimeWentBack,
     /// More bytes were taken than were waiting.
     TookTooMuch,

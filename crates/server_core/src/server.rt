@@ -1,15 +1,15 @@
 //! The server, event by event.
 
-ghost use Rattle.std.specs.Prelude.{◌≡◌, ◌≢◌, ◌<◌, ◌≤◌, ◌↔◌, ℕ, Bool, true, false, [], length, option_map, Some, None, IfOk, IfErr, OnOk, Err};
+ghost use Rattle.std.specs.Prelude.{◌≡◌, ◌≢◌, ◌<◌, ◌≤◌, ◌↔◌, ℕ, Bool, true, false, [], length, option_map, Some, None, IfSome, IfOk, IfErr, OnOk, Err};
 ghost use Rattle.std.specs.List.{AllByRecursion};
 ghost use Rattle.server_events.specs.Configs.{ConfigValue};
 ghost use Rattle.server_events.specs.Shown.{event_value};
-ghost use Rattle.grpc_sending.specs.Bytes.{pending};
+ghost use Rattle.grpc_sending.specs.Bytes.{most_untaken, pending};
 ghost use Rattle.http2_streams.specs.Diary.{has_failed};
 ghost use Rattle.conn_core.specs.Past.{Past};
 ghost use Rattle.served_instance.specs.Connections.{open_at};
 ghost use Rattle.served_instance.specs.Lone.{Lone, start};
-ghost use Rattle.served_instance.specs.Refusals.{refusal_of, lone_step, IsOutcome};
+ghost use Rattle.served_instance.specs.Refusals.{NeedsNoMemory, refusal_of, lone_step, IsOutcome};
 ghost use Rattle.served_instance.specs.StandsFor.{IsWithin, AreSettled};
 ghost use Rattle.server_core.specs.Lone.{config_at};
 ghost use Rattle.server_core.specs.StandsFor.{StandsAt, instance_at};
@@ -72,6 +72,8 @@ impl Server {
         ensures stray { self.old.failed ≡ false → (result ≡ Err EventRefusal.NoSuchInstance) ↔ (length self.old.instances ≤ event.now.instance) }
         ensures refused { IfErr result (λ refusal. refusal ≢ EventRefusal.NoMemory → self.new ≡ self.old) }
         ensures within { AllByRecursion IsWithin self.old.instances → AllByRecursion IsWithin self.new.instances }
+        // An event that takes no memory is never refused for want of it.
+        ensures memory_free { NeedsNoMemory (event_value event.now).what → self.old.failed ≡ false → result ≢ Err EventRefusal.NoMemory }
         // Want of memory is for ever.
         ensures memory { (result ≡ Err EventRefusal.NoMemory) ↔ (self.new.failed ≡ true) }
         ensures for_ever { self.old.failed ≡ true → result ≡ Err EventRefusal.NoMemory }
@@ -93,6 +95,7 @@ impl Server {
     pub fn pending(&self, instance: u32, connection: u32) -> Option<&[u8]>
         ensures none { instance_at instance self.now.instances ≡ None → result ≡ None }
         ensures bytes { (l : Lone) → StandsAt instance self.now.instances l → option_map (λ bytes. bytes.now) result ≡ option_map (λ p. pending p.diary) (open_at connection l.connections) }
+        ensures room { IfSome result (λ bytes. length bytes.now ≤ most_untaken) }
     {
         self.instance(instance)?.pending(connection)
     }
@@ -121,6 +124,7 @@ fn step_one(instances: &mut [ServedInstance], event: &Event) -> Result<(), Event
     ensures outcome { (l : Lone) → StandsAt event.now.instance instances.old l → IsOutcome result (refusal_of (event_value event.now) l) }
     ensures stray { (result ≡ Err EventRefusal.NoSuchInstance) ↔ (length instances.old ≤ event.now.instance) }
     ensures refused { IfErr result (λ refusal. refusal ≢ EventRefusal.NoMemory → instances.new ≡ instances.old) }
+    ensures memory_free { NeedsNoMemory (event_value event.now).what → result ≢ Err EventRefusal.NoMemory }
     ensures within { AllByRecursion IsWithin instances.old → AllByRecursion IsWithin instances.new }
 {
     let number = event.instance as usize;

@@ -54,5 +54,6 @@ pub returns-in-Closed-clause-acted : goal.returns-in-Closed-clause-acted
 returns-in-Closed-clause-acted c =
     let os = c.args.connections.now.items in
     let ns = c.close.new.connections.items in
-    acts_between c.close.result c.args.instance.now c.close.new.instance os os ns ns (was_closed c.in-Closed.number) (acted (what_value c.args.what.now)) refl refl
+    let done : Result (Unit {0}) AllocError = Ok tt in
+    acts_between done c.args.instance.now c.close.new.instance os os ns ns (was_closed c.in-Closed.number) (acted (what_value c.args.what.now)) refl refl
     (ap (λ (w : What). acted (what_value w)) c.in-Closed.is) c.close.ensures.closed

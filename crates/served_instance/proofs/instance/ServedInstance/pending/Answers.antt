@@ -8,14 +8,14 @@ use Rattle.served_instance.proofs.Serves.{same_at}
 use Rattle.served_instance.proofs.Refuses.{same_pending}
 use Rattle.served_instance.proofs.instance.ServedInstance.pending.Goals as goal
 
-pub returns-in-None : goal.returns-in-None
-returns-in-None c = λ l s.
+pub returns-in-None-clause-bytes : goal.returns-in-None-clause-bytes
+returns-in-None-clause-bytes c = λ l s.
     let there : None ≡ connection_at c.args.connection c.args.self.now.connections =
     c.in-None.ensures ∙ ap (λ (os : List OpenConnection). connection_at c.args.connection (map served os)) c.deref.ensures.value ∙ ap (λ (v : ServedState). connection_at c.args.connection v.connections) c.self.view_is in
     ap (option_map (λ (v : Present). v.sending.pending)) there ∙ same_pending _ _ (same_at c.args.connection c.args.self.now.connections l.connections s.connections)
 
-pub returns-in-Some : goal.returns-in-Some
-returns-in-Some c = λ l s.
+pub returns-in-Some-clause-bytes : goal.returns-in-Some-clause-bytes
+returns-in-Some-clause-bytes c = λ l s.
     let there : Some c.in-Some.kept.now ≡ connection_at c.args.connection c.args.self.now.connections =
     c.in-Some.ensures ∙ ap (λ (os : List OpenConnection). connection_at c.args.connection (map served os)) c.deref.ensures.value ∙ ap (λ (v : ServedState). connection_at c.args.connection v.connections) c.self.view_is in
-    ap Some c.pending.ensures ∙ (ap (option_map (λ (v : Present). v.sending.pending)) there ∙ same_pending _ _ (same_at c.args.connection c.args.self.now.connections l.connections s.connections))
+    ap Some c.pending.ensures.bytes ∙ (ap (option_map (λ (v : Present). v.sending.pending)) there ∙ same_pending _ _ (same_at c.args.connection c.args.self.now.connections l.connections s.connections))

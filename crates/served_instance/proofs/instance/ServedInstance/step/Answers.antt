@@ -2,11 +2,11 @@ use Rattle.std.proofs.Common.{◌≡◌, sym, ◌∙◌, subst}
 use Rattle.std.specs.Prelude.{map, None}
 use Rattle.served_instance.specs.Shown.{served}
 use Rattle.server_events.specs.Shown.{event_value}
-use Rattle.served_instance.specs.declared.refusal.EventRefusal.TheVariants.{NoSuchInstance}
+use Rattle.served_instance.specs.declared.refusal.EventRefusal.TheVariants.{NoSuchInstance, NoMemory}
 use Rattle.served_instance.specs.Present.{refusal_by}
 use Rattle.served_instance.specs.Lone.{Lone, acted}
 use Rattle.served_instance.specs.StandsFor.{ServedState, StandsFor}
-use Rattle.served_instance.proofs.Refuses.{no_reason, refused_outcome, kept_at_refusal, stands_accepted, settled_accepted, same_moment, accepted_what, not_elsewhere}
+use Rattle.served_instance.proofs.Refuses.{no_reason, refused_outcome, kept_at_refusal, stands_accepted, settled_accepted, same_moment, accepted_what, not_elsewhere, not_for_memory}
 use Rattle.served_instance.proofs.Serves.{pump_settles}
 use Rattle.served_instance.proofs.instance.ServedInstance.step.Goals as goal
 
@@ -54,3 +54,8 @@ pub returns-in-Some-clause-here : goal.returns-in-Some-clause-here
 returns-in-Some-clause-here c = λ h.
     let same : c.in-Some.refusal ≡ NoSuchInstance = cc in
     not_elsewhere (event_value c.args.event.now) c.args.self.now c.in-Some.refusal c.in-Some.ensures.refusal same
+
+pub returns-in-Some-clause-memory_free : goal.returns-in-Some-clause-memory_free
+returns-in-Some-clause-memory_free c = λ free h.
+    let same : c.in-Some.refusal ≡ NoMemory = cc in
+    not_for_memory (event_value c.args.event.now) c.args.self.now c.in-Some.refusal c.in-Some.ensures.refusal same

@@ -6,6 +6,7 @@
 #![tactic(auto)]
 
 mod error;
+mod laws;
 mod missing;
 mod read;
 mod requests;
@@ -13,8 +14,10 @@ mod statuses;
 mod update;
 
 pub use error::CallError;
+pub use laws::blobs_read_are_named;
 pub use missing::find_missing;
 pub use read::batch_read;
+pub use requests::{MOST_BATCH_BYTES, check_instance};
 pub use update::batch_update;
 
 #[cfg(test)]

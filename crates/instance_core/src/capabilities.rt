@@ -1,11 +1,9 @@
 ghost use Rattle.std.specs.Prelude.{◌≡◌, IfOk};
 ghost use Rattle.reapi_messages.specs.Capabilities.{sem_ver_shown, cache_capabilities_shown, execution_capabilities_shown, server_capabilities_shown};
 ghost use Rattle.cas_service.specs.Answers.{Answers};
-ghost use Rattle.cas_service.specs.Requests.{own_instance};
 ghost use Rattle.instance_core.specs.Capabilities.{version, cache, execution, capabilities, capabilities_message, capabilities_asked, get_capabilities_reply};
 
-use call_status::Refusal;
-use cas_service::CallError;
+use cas_service::{CallError, MOST_BATCH_BYTES, check_instance};
 use reapi_messages::{
     ActionCacheUpdateCapabilities, CacheCapabilities, ExecutionCapabilities,
     GetCapabilitiesRequest, Message, SemVer, ServerCapabilities,
@@ -17,9 +15,6 @@ const SHA256: i32 = 1;
 
 /// A number of the enum `SymlinkAbsolutePathStrategy.Value`.
 const DISALLOWED: i32 = 1;
-
-/// How many bytes the blobs of a batch have at most together.
-const MOST_BATCH_BYTES: i64 = 4_000_000;
 
 /// The version of the interface that is served.
 fn version() -> SemVer
@@ -39,7 +34,7 @@ fn cache(alloc: Global) -> Result<CacheCapabilities, AllocError>
         action_cache_update_capabilities: Some(ActionCacheUpdateCapabilities {
             update_enabled: true,
         }),
-        max_batch_total_size_bytes: MOST_BATCH_BYTES,
+        max_batch_total_size_bytes: MOST_BATCH_BYTES as i64,
         symlink_absolute_path_strategy: DISALLOWED,
     })
 }
@@ -75,17 +70,6 @@ fn capabilities_message(alloc: Global, slots: u32) -> Result<Vec<u8>, AllocError
     let mut reply = Vec::new(alloc);
     offered.encode_into(&mut reply)?;
     Ok(reply)
-}
-
-/// An instance name has to be empty or the own one.
-fn check_instance(own: &str, name: &str) -> Result<(), Refusal>
-    ensures { result ≡ own_instance own.now name.now }
-{
-    if name.is_empty() || name == own {
-        Ok(())
-    } else {
-        Err(Refusal::UnknownInstance)
-    }
 }
 
 /// The request has to read as one, and to name the own instance.

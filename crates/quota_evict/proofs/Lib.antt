@@ -1,2 +1,3 @@
 mod Fronts
 pub mod Limits
+pub mod Seen

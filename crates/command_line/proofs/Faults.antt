@@ -1,5 +1,5 @@
 -- What an error of `clap` says of the words.
-use Rattle.std.proofs.Common.{◌≡◌, ◌∙◌, ap, refl, subst, List, true, inl, inr}
+use Rattle.std.proofs.Common.{◌≡◌, ◌∙◌, ap, refl, subst, List, [], None, true, inl, inr}
 use Rattle.clap.specs.Words.{App, Text, kind_of}
 use Rattle.clap.specs.Faults.{fault_of, is_simple_and_free}
 use Rattle.clap.specs.Kinds.{HasKind, IsAmong}
@@ -8,11 +8,11 @@ use Rattle.clap.specs.declared.error.kind.ErrorKind.TheVariants.{MissingRequired
 use Rattle.command_line.specs.declared.CommandLineError.{CommandLineError}
 use Rattle.command_line.specs.declared.CommandLineError.TheVariants.{NoMemory, Answered}
 use Rattle.command_line.specs.CommandLine.{command_line}
-use Rattle.command_line.specs.Shown.{IsFaultOf, IsFrom}
+use Rattle.command_line.specs.Shown.{asked, HasNoFault, IsFaultOf, IsFrom}
 
-pub missing_is_fault : (words : List Text) (error : Error) (fault : CommandLineError) → kind_of error ≡ MissingRequiredArgument → IsFrom error fault → IsFaultOf words fault
-missing_is_fault words error NoMemory kind from = tt
-missing_is_fault words error (Answered kept) kind from = inl (ap kind_of from.0 ∙ kind)
+pub missing_is_fault : (words : List Text) (error : Error) (fault : CommandLineError) → kind_of error ≡ MissingRequiredArgument → asked words ≡ None → IsFrom error fault → IsFaultOf words fault
+missing_is_fault words error NoMemory kind none from = tt
+missing_is_fault words error (Answered kept) kind none from = inr (ap kind_of from.0 ∙ kind, none)
 
 is_free_command : is_simple_and_free command_line ≡ true
 is_free_command = refl
@@ -24,5 +24,10 @@ refused_is_fault app words error (Answered kept) is has from =
     let kind = ap kind_of from.0 in
     elim (has (ap is_simple_and_free is ∙ is_free_command)) [
       | inl out ↦ absurd (from.1 out)
-      | inr among ↦ inr (subst (λ k. IsAmong k (fault_of command_line words)) (let p = kind in cc) (subst (λ (a : App). IsAmong (kind_of error) (fault_of a words)) is among))
+      | inr among ↦ inl (subst (λ k. IsAmong k (fault_of command_line words)) (let p = kind in cc) (subst (λ (a : App). IsAmong (kind_of error) (fault_of a words)) is among))
     ]
+
+-- the words that `clap` lets through have no fault
+pub accepted_has_none : (app : App) (words : List Text) → app ≡ command_line → (is_simple_and_free app ≡ true → fault_of app words ≡ []) → HasNoFault words
+accepted_has_none app words is none =
+    subst (λ (a : App). fault_of a words ≡ []) is (none (ap is_simple_and_free is ∙ is_free_command))

@@ -1,35 +1,63 @@
 -- What is read from the matches of a command line.
-use Rattle.std.proofs.Common.{◌≡◌, ◌∙◌, ap, sym, refl, ℕ, List, true, Option, Some, None, Result, Ok, Err}
-use Rattle.std.specs.Prelude.{IfSome, option_map}
-use Rattle.std.specs.Str.Parse.{ParsesUnsigned, digits_value, without_leading_plus}
-use Rattle.clap.specs.Words.{App, Text, app_of, found_of, is_simple, one_text, rows_of, subcommand_of, subcommand_rows_of, HasMatchesOf}
+use Rattle.std.proofs.Common.{◌≡◌, ◌∙◌, ◌^◌, ◌&&◌, ap, sym, refl, ℕ, Bool, List, [], ◌∷◌, length, true, false, Option, Some, None, Result, Ok, Err}
+use Rattle.std.specs.Prelude.{nat_lt, option_and_then}
+use Rattle.std.specs.Char.{digit_value}
+use Rattle.std.specs.List.{list_all}
+use Rattle.std.specs.Result.{result_ok}
+use Rattle.std.specs.Str.Parse.{AllDigits, ParsesUnsigned, digits_value, without_leading_plus}
+use Rattle.std.proofs.lemmas.Bool.{lt-ltb, ltb-true}
+use Rattle.clap.specs.Words.{App, Text, is_simple, one_text, rows_of, subcommand_of, subcommand_rows_of, HasMatchesOf}
 use Rattle.clap.specs.Matches.{ReadsOne}
-use Rattle.clap.proofs.WalkLemmas.{one_text-rows}
+use Rattle.clap.proofs.WalkLemmas.{both, one_text-rows}
 use Rattle.clap.specs.declared.parser.matches.ArgMatches.{ArgMatches}
 use Rattle.clap.specs.declared.parser.matches.Found.{Found}
-use Rattle.command_line.specs.declared.Task.{Task}
-use Rattle.command_line.specs.CommandLine.{command_line, number_of, task_of}
-use Rattle.command_line.specs.Shown.{asked, task_value}
+use Rattle.command_line.specs.CommandLine.{command_line, is_decimal, number_below, number_of, task_of}
+use Rattle.command_line.specs.Shown.{asked}
+
+digits_pass : (digits : List ℕ) → AllDigits 10 digits → list_all (λ digit. nat_lt (digit_value digit) 10) digits ≡ true
+digits_pass [] all = refl
+digits_pass (digit ∷ digits) all = rw (lt-ltb (digit_value digit) 10 all.0) (digits_pass digits all.1)
+
+digits_from : (digits : List ℕ) → list_all (λ digit. nat_lt (digit_value digit) 10) digits ≡ true → AllDigits 10 digits
+digits_from [] pass = tt
+digits_from (digit ∷ digits) pass =
+    let parts = both _ _ pass in
+    (ltb-true _ _ parts.0, digits_from digits parts.1)
+
+-- what is parsed is the number that the text writes
+number_parsed : {E : Type 0} (bits : ℕ) (text : List ℕ) (r : Result ℕ E) → ParsesUnsigned bits 10 text r → result_ok r ≡ number_below (2 ^ bits) text
+number_parsed bits text (Ok n) parsed =
+    let digits = without_leading_plus text in
+    rw (lt-ltb 0 (length digits) parsed.0.0.0, digits_pass digits parsed.0.0.1, lt-ltb (digits_value 10 digits) (2 ^ bits) parsed.0.1) (ap (λ (x : ℕ). Some x) parsed.1)
+number_parsed bits text (Err e) parsed = go (is_decimal (without_leading_plus text) && nat_lt (digits_value 10 (without_leading_plus text)) (2 ^ bits)) refl
+  where
+    go : (b : Bool) → (is_decimal (without_leading_plus text) && nat_lt (digits_value 10 (without_leading_plus text)) (2 ^ bits)) ≡ b → None ≡ number_below (2 ^ bits) text
+    go false test = rw test refl
+    go true test =
+        let outer = both _ _ test in
+        let inner = both _ _ outer.0 in
+        absurd (parsed ((ltb-true _ _ inner.0, digits_from (without_leading_plus text) inner.1), ltb-true _ _ outer.1))
 
 -- what `get_one` gives is the number of the text that it reads
 pub number_given : (E : Type 0) (G : List ℕ → Result ℕ E → Type 0) (f : Found) (name : Text) (r : Option ℕ)
     → ((u : List ℕ) (x : Result ℕ E) → G u x → ParsesUnsigned 64 10 u x)
     → (one_text f name ≡ None → r ≡ None) → ((t : List ℕ) → one_text f name ≡ Some t → ReadsOne G t r)
-    → IfSome r (λ n. number_of name (rows_of f) ≡ Some n)
-number_given E G f name None only none value = tt
-number_given E G f name (Some n) only none value = go (one_text f name) refl
+    → r ≡ number_of name (rows_of f)
+number_given E G f name r only none value = go (one_text f name) refl ∙ ap (option_and_then (number_below (2 ^ 64))) (one_text-rows f name)
   where
-    go : (o : Option Text) → one_text f name ≡ o → number_of name (rows_of f) ≡ Some n
-    go None is = let bad = none is in cc
-    go (Some t) is =
-        ap (option_map (λ text. digits_value 10 (without_leading_plus text))) (sym (one_text-rows f name) ∙ is)
-        ∙ ap (λ (x : ℕ). Some x) (sym ((only t (Ok n) (value t is)).1))
+    read : (r : Option ℕ) (t : List ℕ) → ReadsOne G t r → r ≡ number_below (2 ^ 64) t
+    read (Some n) t gave = number_parsed {E = E} 64 t (Ok n) (only t (Ok n) gave)
+    read None t gave = number_parsed {E = E} 64 t (Err gave.0) (only t (Err gave.0) gave.1)
+
+    go : (o : Option Text) → one_text f name ≡ o → r ≡ option_and_then (number_below (2 ^ 64)) (one_text f name)
+    go None is = none is ∙ ap (option_and_then (number_below (2 ^ 64))) (sym is)
+    go (Some t) is = read r t (value t is) ∙ ap (option_and_then (number_below (2 ^ 64))) (sym is)
 
 is_simple_command : is_simple command_line ≡ true
 is_simple_command = refl
 
--- the task of the matches is that of the words
-pub task_read : (app : App) (words : List Text) (m : ArgMatches) (task : Task) → app ≡ command_line → HasMatchesOf app words m
-    → task_of (subcommand_rows_of m) ≡ Some (task_value task) → asked words ≡ Some (task_value task)
-task_read app words m task is has read =
-    sym (ap task_of ((has (ap is_simple is ∙ is_simple_command)).1 ∙ ap (λ (a : App). subcommand_of a words) is)) ∙ read
+-- what the words ask for is what their matches do
+pub asked_is : (app : App) (words : List Text) (m : ArgMatches) → app ≡ command_line → HasMatchesOf app words m
+    → asked words ≡ task_of (subcommand_rows_of m)
+asked_is app words m is has =
+    sym (ap task_of ((has (ap is_simple is ∙ is_simple_command)).1 ∙ ap (λ (a : App). subcommand_of a words) is))

@@ -1,5 +1,7 @@
 -- The command line as `clap` reads it, and what its words ask for.
-use Rattle.std.specs.Prelude.{ℕ, pos, true, List, [], ◌∷◌, Option, Some, None, codes, if◌then◌else◌, option_map, option_and_then}
+use Rattle.std.specs.Prelude.{ℕ, pos, true, Bool, ◌&&◌, ◌^◌, nat_lt, List, [], ◌∷◌, length, Option, Some, None, codes, if◌then◌else◌, option_map, option_and_then}
+use Rattle.std.specs.Char.{digit_value}
+use Rattle.std.specs.List.{list_all}
 use Rattle.std.specs.Str.{bytes_eq}
 use Rattle.std.specs.Str.Parse.{digits_value, without_leading_plus}
 use Rattle.clap.specs.Words.{App, Row, Rule, Shape, Text, first_of, new_app, new_rule, one_of, with_rule, with_subcommand}
@@ -60,15 +62,30 @@ pub data TaskValue : Type 0 where
   -- to send a file's bytes to a port, and to wait for so many, for so many turns
   probe : (port : ℕ) (send : Text) (want turns : ℕ) → TaskValue
 
--- the number that was given under a name
+-- one decimal digit or more, and nothing else
+abbrev pub is_decimal : Text → Bool
+is_decimal digits = nat_lt 0 (length digits) && list_all (λ digit. nat_lt (digit_value digit) 10) digits
+
+-- the number below a bound that a text writes in decimal, with a plus sign or none
+abbrev pub number_below : ℕ → Text → Option ℕ
+number_below bound text =
+    let digits = without_leading_plus text in
+    if is_decimal digits && nat_lt (digits_value 10 digits) bound then Some (digits_value 10 digits) else None
+
+-- the number below 2^64 that was given under a name
 abbrev pub number_of : Text → List Row → Option ℕ
-number_of name given = option_map (λ text. digits_value 10 (without_leading_plus text)) (one_of name given)
+number_of name given = option_and_then (number_below (2 ^ 64)) (one_of name given)
+
+-- the number, if it is a port's
+abbrev pub port_of : ℕ → Option ℕ
+port_of number = if nat_lt number (2 ^ 16) then Some number else None
 
 abbrev pub probe_of : List Row → Option TaskValue
 probe_of given =
     option_and_then (λ port. option_and_then (λ send. option_and_then (λ want.
     option_map (λ turns. probe port send want turns) (number_of (codes "turns") given))
-    (number_of (codes "want") given)) (first_of (codes "send") given)) (number_of (codes "port") given)
+    (number_of (codes "want") given)) (first_of (codes "send") given))
+    (option_and_then port_of (number_of (codes "port") given))
 
 -- what a command of this name asks for, with what was given to it
 abbrev pub task_by : Text → List Row → Option TaskValue

@@ -1,5 +1,5 @@
 -- Tasks and faults as clauses see them.
-use Rattle.std.specs.Prelude.{◌≡◌, ◌≢◌, ⊤, List, ◌∷◌, option_map, Option}
+use Rattle.std.specs.Prelude.{◌≡◌, ◌≢◌, ◌⊎◌, ⊤, List, [], option_map, Option, None}
 use Rattle.clap.specs.Words.{Text, kind_of, subcommand_of}
 use Rattle.clap.specs.Faults.{fault_of}
 use Rattle.clap.specs.Kinds.{IsAmong}
@@ -20,10 +20,15 @@ task_value (task.Probe port send want turns) = probe port send.now want turns
 abbrev pub asked : List Text → Option TaskValue
 asked words = task_of (subcommand_of command_line words)
 
--- the text is for one of the faults that these words have, or for an argument that is missing
+-- `clap` finds no fault in the words
+abbrev pub HasNoFault : List Text → Type 0
+HasNoFault words = fault_of command_line words ≡ []
+
+-- the text is for one of the faults that `clap` finds in the words, or for a missing argument where they ask for nothing
 abbrev pub IsFaultOf : List Text → CommandLineError → Type 0
 IsFaultOf words NoMemory = ⊤
-IsFaultOf words (Answered error) = IsAmong (kind_of error) (MissingRequiredArgument ∷ fault_of command_line words)
+IsFaultOf words (Answered error) =
+    IsAmong (kind_of error) (fault_of command_line words) ⊎ ((kind_of error ≡ MissingRequiredArgument) × (asked words ≡ None))
 
 -- an error of `clap` as the crate's own: it is kept, but for want of memory
 abbrev pub IsFrom : Error → CommandLineError → Type 0

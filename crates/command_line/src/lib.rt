@@ -1,12 +1,12 @@
 //! The command line of `remoted`.
 #![tactic(auto)]
 
-ghost use Rattle.std.specs.Prelude.{◌≡◌, ◌≢◌, ◌⊎◌, ℕ, List, Some, false, map, string_bytes, IfOk, IfErr, IfSome, option_map};
+ghost use Rattle.std.specs.Prelude.{◌≡◌, ◌≢◌, ◌⊎◌, ℕ, List, Some, None, false, map, string_bytes, IfOk, IfErr, option_map};
 ghost use Rattle.clap.specs.Words.{app_of, first_of, found_of, kind_of, rows_of, rule_of, shape_of, subcommand_rows_of};
 ghost use Rattle.clap.specs.declared.builder.command.Command.TheViews.{out-Command as fields_of};
 ghost use Rattle.clap.specs.declared.error.kind.ErrorKind.TheVariants.{DisplayHelp, DisplayVersion};
 ghost use Rattle.command_line.specs.CommandLine.{command_line, file, long_option, number_of, port, send, want, turns, unary_command, replay_command, probe_command, probe_of, task_by, task_of};
-ghost use Rattle.command_line.specs.Shown.{task_value, asked, IsFaultOf, IsFrom};
+ghost use Rattle.command_line.specs.Shown.{task_value, asked, HasNoFault, IsFaultOf, IsFrom};
 
 use clap::error::ErrorKind;
 use clap::{Arg, ArgAction, ArgMatches, Command, Error, value_parser};
@@ -150,13 +150,13 @@ fn text<'a>(found: &ArgMatches<'a>, name: &str) -> Option<&'a str>
 }
 
 fn number(found: &ArgMatches<'_>, name: &str) -> Option<u64>
-    ensures { IfSome result (λ number. number_of name.now (rows_of (found_of found.now)) ≡ Some number) }
+    ensures { result ≡ number_of name.now (rows_of (found_of found.now)) }
 {
     found.get_one::<u64>(name)
 }
 
 fn requested_probe<'a>(found: &ArgMatches<'a>) -> Option<Task<'a>>
-    ensures { IfSome result (λ task. probe_of (rows_of (found_of found.now)) ≡ Some (task_value task)) }
+    ensures { option_map task_value result ≡ probe_of (rows_of (found_of found.now)) }
 {
     let port = number(found, "port")?;
     Some(Task::Probe {
@@ -168,7 +168,7 @@ fn requested_probe<'a>(found: &ArgMatches<'a>) -> Option<Task<'a>>
 }
 
 fn requested_by<'a>(name: &str, found: &ArgMatches<'a>) -> Option<Task<'a>>
-    ensures { IfSome result (λ task. task_by name.now (rows_of (found_of found.now)) ≡ Some (task_value task)) }
+    ensures { option_map task_value result ≡ task_by name.now (rows_of (found_of found.now)) }
 {
     match name {
         "unary" => Some(Task::Unary {
@@ -182,7 +182,7 @@ fn requested_by<'a>(name: &str, found: &ArgMatches<'a>) -> Option<Task<'a>>
 }
 
 fn requested<'a>(matches: &ArgMatches<'a>) -> Option<Task<'a>>
-    ensures { IfSome result (λ task. task_of (subcommand_rows_of matches.now) ≡ Some (task_value task)) }
+    ensures { option_map task_value result ≡ task_of (subcommand_rows_of matches.now) }
 {
     match matches.subcommand() {
         Some((name, found)) => requested_by(name, found),
@@ -221,7 +221,7 @@ impl From<Error> for CommandLineError {
 }
 
 fn missing(command: &mut Command<'_>) -> CommandLineError
-    ensures { (words : List (List ℕ)) → IsFaultOf words result }
+    ensures { (words : List (List ℕ)) → asked words ≡ None → IsFaultOf words result }
 {
     match command.error(ErrorKind::MissingRequiredArgument, "an argument is missing") {
         Ok(error) => CommandLineError::from(error),
@@ -232,6 +232,7 @@ fn missing(command: &mut Command<'_>) -> CommandLineError
 /// What the words of a command line ask for.
 pub fn parse<'a>(alloc: Global, words: &'a [String]) -> Result<Task<'a>, CommandLineError>
     ensures task { IfOk result (λ task. asked (map string_bytes words.entry.now) ≡ Some (task_value task)) }
+    ensures faultless { IfOk result (λ _. HasNoFault (map string_bytes words.entry.now)) }
     ensures fault { IfErr result (IsFaultOf (map string_bytes words.entry.now)) }
 {
     let mut command = command(alloc)?;

@@ -10,8 +10,9 @@ use Rattle.std.proofs.lemmas.List.Folds.{list_any-append}
 use Rattle.hpack.specs.Header.{Header}
 use Rattle.http2_streams.specs.declared.stream.Stream.{Stream}
 use Rattle.http2_streams.specs.declared.event.Event.TheVariants.{Request}
-use Rattle.http2_streams.specs.Diary.{Entry, live, is_live, highest, opened}
+use Rattle.http2_streams.specs.Diary.{Entry, live, is_live, highest}
 use Rattle.http2_streams.specs.Rules.{number_is}
+use Rattle.http2_streams.proofs.LiveLaw.{listed_is_live}
 use Rattle.grpc_messages.specs.declared.error.MessagesError.{MessagesError}
 use Rattle.grpc_calls.specs.Requests.{head_of}
 use Rattle.grpc_sending.proofs.Diaries.{append-nil}
@@ -20,7 +21,7 @@ use Rattle.conn_core.specs.Calls.{is_call, text, messages_of}
 use Rattle.conn_core.specs.StandsFor.{IsCall, call_on, stream_of, among}
 use Rattle.conn_core.specs.CallSteps.{KeepsOpen}
 use Rattle.conn_core.specs.Step.{ChangesStreams}
-use Rattle.conn_core.proofs.Numbers.{or_none, any_kept, any_later, filter_agree, filter_less, filter-append, same_number}
+use Rattle.conn_core.proofs.Numbers.{or_none, any_later, filter_agree, filter_less, filter-append, same_number}
 use Rattle.conn_core.proofs.Places.{kept_on, none_kept, kept_streams, more_on, last_on, not_among}
 use Rattle.conn_core.proofs.Brought.{Brings, After, Holds, IsOrdered, call_frame, text_frame, call_same, not_called}
 
@@ -29,13 +30,9 @@ Kept = Option (Result (List ℕ) MessagesError)
 
 -- ---- the new stream
 
-both_second : (a b : Bool) → (a && b) ≡ true → b ≡ true
-both_second true b h = h
-both_second false b h = absurd cc
-
 -- those in the list of the live streams are live
 pub listed : (d : List Entry) (s : ℕ) → list_any (λ t. t == s) (live d) ≡ true → is_live d s ≡ true
-listed d s h = both_second (list_any (λ t. t == s) (opened d)) (is_live d s) (sym (any_kept (is_live d) s (opened d)) ∙ h)
+listed d s h = (listed_is_live d s h).0
 
 any_last : (xs : List ℕ) (s t : ℕ) → list_any (λ u. u == t) (xs ++ s ∷ []) ≡ (list_any (λ u. u == t) xs || (s == t))
 any_last xs s t = list_any-append (λ u. u == t) xs (s ∷ []) ∙ ap (λ b. list_any (λ u. u == t) xs || b) (or_none (s == t))

@@ -35,7 +35,7 @@ use Rattle.conn_core.specs.StandsFor.{Present, StandsFor, IsCall, call_on, among
 use Rattle.conn_core.specs.Step.{AreCalls, IsTaking}
 use Rattle.http2_streams.specs.LiveStreams.{IsOnItsStream, live_after, others, named}
 use Rattle.conn_core.specs.Putting.{Puts, Fails, IsAnswered, is_that, is_ending, ended_calls}
-use Rattle.conn_core.proofs.Pumps.{any_kept}
+use Rattle.conn_core.proofs.Numbers.{any_kept}
 use Rattle.http2_streams.proofs.EventLaw.{live_after_frame, event_on_stream}
 use Rattle.http2_streams.proofs.LiveLaw.{idle_is_live}
 use Rattle.conn_core.proofs.StreamsLaws.{answers_are}

@@ -2,7 +2,7 @@
 use Rattle.std.proofs.Common.{◌≡◌, ℕ, List, [], ◌∷◌, ◌++◌, refl, ap, ◌∙◌, sym, inl, inr, arith}
 use Rattle.std.specs.Prelude.{Bool, true, false, filter, ◌&&◌, ◌||◌, ◌==◌, not}
 use Rattle.std.specs.List.{list_any}
-use Rattle.std.proofs.lemmas.Bool.{cases_Bool, eqb-true}
+use Rattle.std.proofs.lemmas.Bool.{and_parts, cases_Bool, eqb-true}
 use Rattle.std.proofs.lemmas.Bool.Decides.{nat_tests}
 use Rattle.conn_core.specs.StandsFor.{among}
 
@@ -75,12 +75,8 @@ sifted q c c' os xs order same =
     ∙ filter_turned q c os
     ∙ filter_agree c c' (filter q os) (λ t h. sym (same t))
 
-both_second : (a b : Bool) → (a && b) ≡ true → b ≡ true
-both_second true b h = h
-both_second false b h = absurd cc
-
 pub in_others : (s t : ℕ) (os : List ℕ) → list_any (λ u. u == t) (filter (λ u. not (u == s)) os) ≡ true → not (t == s) ≡ true
-in_others s t os h = both_second (list_any (λ u. u == t) os) (not (t == s)) (sym (any_kept (λ n. not (n == s)) t os) ∙ h)
+in_others s t os h = (and_parts (list_any (λ u. u == t) os) (not (t == s)) (sym (any_kept (λ n. not (n == s)) t os) ∙ h)).1
 
 -- of two tests the stricter one
 pub filter_less : (q r : ℕ → Bool) (xs : List ℕ) → ((s : ℕ) → q s ≡ true → r s ≡ true) → filter q (filter r xs) ≡ filter q xs

@@ -1,9 +1,9 @@
 -- What events name was opened.
 use Rattle.std.proofs.Common.{◌≡◌, ℕ, ◌<◌, ◌≤◌, List, [], ◌∷◌, ◌++◌, refl, ap, ◌∙◌, sym, subst, append_assoc, arith, inl, inr}
-use Rattle.std.specs.Prelude.{Bool, true, false, ◌==◌, ◌&&◌, ◌||◌, Result, Ok, Err}
+use Rattle.std.specs.Prelude.{Bool, true, false, ◌==◌, ◌||◌, Result, Ok, Err}
 use Rattle.std.specs.List.{list_any, flat_map}
 use Rattle.std.specs.Result.{is_ok}
-use Rattle.std.proofs.lemmas.Bool.{cases_Bool, eqb-true}
+use Rattle.std.proofs.lemmas.Bool.{and_parts, cases_Bool, eqb-true}
 use Rattle.std.proofs.lemmas.List.Folds.{list_any-append}
 use Rattle.http2_frames.specs.declared.codes.ErrorCode.{ErrorCode}
 use Rattle.http2_frames.specs.declared.frame.RawFrame.{RawFrame}
@@ -18,6 +18,7 @@ use Rattle.conn_core.specs.Received.{outcome, outcome_of, all_fit}
 use Rattle.conn_core.specs.Calls.{brought, brought_from, events, begins_call, content_on, is_call, text}
 use Rattle.http2_streams.specs.LiveStreams.{IsOnItsStream}
 use Rattle.http2_streams.proofs.EventLaw.{event_on_stream}
+use Rattle.conn_core.proofs.Numbers.{any_first}
 use Rattle.conn_core.proofs.StreamsLaws.{request_opened, opened_more, opened_low, in_live}
 
 -- the event is of stream s
@@ -31,25 +32,16 @@ names s (Cancel t) = t == s
 abbrev pub IsOpened : List Entry → ℕ → Type 0
 IsOpened d s = list_any (λ t. t == s) (opened d) ≡ true
 
-or_left : (a b : Bool) → a ≡ true → (a || b) ≡ true
-or_left true b h = refl
-or_left false b h = cc
-
-both_parts : (a b : Bool) → (a && b) ≡ true → (a ≡ true) × (b ≡ true)
-both_parts true true h = (refl, refl)
-both_parts true false h = cc
-both_parts false b h = cc
-
 pub opened_still : (d es : List Entry) (s : ℕ) → IsOpened d s → IsOpened (d ++ es) s
 opened_still d es s h =
     let m = opened_more d es in
-    ap (list_any (λ t. t == s)) m.1 ∙ list_any-append (λ t. t == s) (opened d) m.0 ∙ or_left (list_any (λ t. t == s) (opened d)) (list_any (λ t. t == s) m.0) h
+    ap (list_any (λ t. t == s)) m.1 ∙ list_any-append (λ t. t == s) (opened d) m.0 ∙ any_first (list_any (λ t. t == s) (opened d)) (list_any (λ t. t == s) m.0) h
 
 -- ---- of one frame
 
 live_opened : (d : List Entry) (f : RawFrame) (s t : ℕ) → list_any (λ u. u == t) (live d) ≡ true → (t == s) ≡ true → IsOpened (d ++ In f ∷ []) s
 live_opened d f s t h same =
-    let o : IsOpened d t = (both_parts (list_any (λ u. u == t) (opened d)) (is_live d t) (sym (in_live d t) ∙ h)).0 in
+    let o : IsOpened d t = (and_parts (list_any (λ u. u == t) (opened d)) (is_live d t) (sym (in_live d t) ∙ h)).0 in
     opened_still d (In f ∷ []) s (subst (λ (n : ℕ). IsOpened d n) (eqb-true t s same) o)
 
 event_opened : (d : List Entry) (f : RawFrame) (s : ℕ) (a : StreamEvent) (e : Event) → causes d f ≡ Ok a → a.event ≡ e → IsOnItsStream d e → names s e ≡ true → IsOpened (d ++ In f ∷ []) s
@@ -91,7 +83,7 @@ named_opened before (e ∷ es) s h =
 
 begins_names : (s : ℕ) (e : Event) → begins_call s e ≡ true → names s e ≡ true
 begins_names s Nothing h = h
-begins_names s (Request t fields end_stream) h = (both_parts (t == s) (is_ok (head_of fields)) h).0
+begins_names s (Request t fields end_stream) h = (and_parts (t == s) (is_ok (head_of fields)) h).0
 begins_names s (Content t content end_stream) h = absurd (let z : ⊥ = cc in z)
 begins_names s (Trailers t) h = absurd (let z : ⊥ = cc in z)
 begins_names s (Cancel t) h = absurd (let z : ⊥ = cc in z)

@@ -1,10 +1,9 @@
 -- What the pump leaves stands for the past after it.
-use Rattle.std.proofs.Common.{◌≡◌, ℕ, List, [], ◌∷◌, ◌++◌, zero, suc, refl, ap, ◌∙◌, sym, subst, append_assoc, arith, inl, inr}
+use Rattle.std.proofs.Common.{◌≡◌, ℕ, List, [], ◌∷◌, ◌++◌, zero, suc, refl, ap, ◌∙◌, sym, subst, append_assoc, inl, inr}
 use Rattle.std.specs.Prelude.{Bool, true, false, map, filter, fold, ◌&&◌, ◌||◌, ◌==◌, not, nat_le, length, take, Option, Some, None, ◌-◌}
 use Rattle.std.specs.List.{list_any}
 use Rattle.std.specs.Option.{option_map_or}
-use Rattle.std.proofs.lemmas.Bool.{cases_Bool, eqb-true}
-use Rattle.std.proofs.lemmas.Bool.Decides.{nat_tests}
+use Rattle.std.proofs.lemmas.Bool.{and_parts, cases_Bool}
 use Rattle.std.proofs.lemmas.List.{map-append}
 use Rattle.std.proofs.lemmas.List.Folds.{list_any-append}
 use Rattle.http2_flow.specs.Credit.{left}
@@ -21,17 +20,19 @@ use Rattle.http2_streams.specs.declared.event.Event.{Event}
 use Rattle.http2_streams.specs.Diary.{Entry, Out, sent, received, window, connection_window, is_ended_by_client, is_goaway, has_failed, is_live, live, opened, rising, stream_of, blocks_after, no_blocks}
 use Rattle.http2_streams.specs.Standing.{Standing}
 use Rattle.http2_streams.specs.StandsFor.{StandsFor as AreStreams}
+use Rattle.http2_streams.proofs.LiveLaw.{live_falls}
 use Rattle.grpc_sending.specs.Bytes.{untaken}
 use Rattle.grpc_sending.specs.Owed.{Owed, left_on}
 use Rattle.grpc_sending.specs.Pump.{part_size, block_frames, reset_after, frames_on, frames_for, next, put_more, pumped}
 use Rattle.grpc_sending.specs.StandsFor.{Sending, StandsFor as IsSending}
 use Rattle.grpc_sending.proofs.Diaries.{append-nil, sent_more, received_more}
-use Rattle.grpc_sending.proofs.Entries.{failed_before, live_before}
+use Rattle.grpc_sending.proofs.Entries.{failed_before}
 use Rattle.conn_core.specs.Calls.{events, begins_call, is_call}
 use Rattle.conn_core.specs.Past.{Past, with_pumped}
 use Rattle.conn_core.specs.StandsFor.{Present, StandsFor, call_on, among, stream_of as call_stream}
 use Rattle.conn_core.proofs.Events.{events_out, raw_out}
 use Rattle.conn_core.proofs.Keeps.{same_call}
+use Rattle.conn_core.proofs.Numbers.{any_kept, any_later, filter_less, or_none, same_number}
 
 -- ---- the pump adds frames alone, and no GOAWAY among them
 
@@ -60,10 +61,6 @@ next_quiet d os fs h =
 none_both : (gs fs : List Frame) → list_any is_goaway gs ≡ false → list_any is_goaway fs ≡ false → list_any is_goaway (gs ++ fs) ≡ false
 none_both gs fs h k = list_any-append is_goaway gs fs ∙ ap (λ b. b || list_any is_goaway fs) h ∙ k
 
-or_none : (b : Bool) → (b || false) ≡ b
-or_none true = refl
-or_none false = refl
-
 pub failed_same : (d : List Entry) (fs : List Frame) → list_any is_goaway fs ≡ false → has_failed (d ++ map Out fs) ≡ has_failed d
 failed_same d fs h = ap (list_any is_goaway) (sent_more d fs) ∙ list_any-append is_goaway (sent d) fs ∙ ap (λ b. list_any is_goaway (sent d) || b) h ∙ or_none (list_any is_goaway (sent d))
 
@@ -86,32 +83,11 @@ pumped_is d os = put_is (65536 - untaken d) d os
 
 -- ---- the calls on the streams that are left
 
-false_both : (b : Bool) → (b && false) ≡ false
-false_both true = refl
-false_both false = refl
-
-pub any_kept : (p : ℕ → Bool) (s : ℕ) (ss : List ℕ) → list_any (λ t. t == s) (filter p ss) ≡ (list_any (λ t. t == s) ss && p s)
-any_kept p s [] = refl
-any_kept p s (t ∷ ss) = elim (cases_Bool (p t)) [
-  | inl kept ↦ elim (cases_Bool (t == s)) [
-    | inl same ↦ let e : t ≡ s = eqb-true t s same in let k : p s ≡ true = ap p (sym e) ∙ kept in rw (kept, same, k) refl
-    | inr other ↦ rw (kept, other) (any_kept p s ss)
-  ]
-  | inr left ↦ elim (cases_Bool (t == s)) [
-    | inl same ↦ let e : t ≡ s = eqb-true t s same in let k : p s ≡ false = ap p (sym e) ∙ left in rw (left, same) (any_kept p s ss ∙ ap (λ b. list_any (λ u. u == s) ss && b) k ∙ false_both (list_any (λ u. u == s) ss) ∙ sym k)
-    | inr other ↦ rw (left, other) (any_kept p s ss)
-  ]
-]
-
-any_later : (b c : Bool) → c ≡ true → (b || c) ≡ true
-any_later true c h = refl
-any_later false c h = h
-
 -- of the numbers, those that stay
 sieved : (q p p0 c : ℕ → Bool) (os : List ℕ) → ((s : ℕ) → list_any (λ t. t == s) os ≡ true → q s ≡ p s) → ((s : ℕ) → p s ≡ true → p0 s ≡ true) → filter q (filter c (filter p0 os)) ≡ filter c (filter p os)
 sieved q p p0 c [] same less = refl
 sieved q p p0 c (s ∷ os) same less =
-    let self : (s == s) ≡ true = grind (arith, nat_tests) in
+    let self : (s == s) ≡ true = same_number s in
     let here : q s ≡ p s = same s (rw self refl) in
     let later : (t : ℕ) → list_any (λ u. u == t) os ≡ true → q t ≡ p t = λ t h. same t (any_later (s == t) (list_any (λ u. u == t) os) h) in
     let rest = sieved q p p0 c os later less in
@@ -134,23 +110,8 @@ sieved q p p0 c (s ∷ os) same less =
           ]
     ]
 
-filter_less : (q r : ℕ → Bool) (xs : List ℕ) → ((s : ℕ) → q s ≡ true → r s ≡ true) → filter q (filter r xs) ≡ filter q xs
-filter_less q r [] h = refl
-filter_less q r (x ∷ xs) h = elim (cases_Bool (q x)) [
-  | inl stays ↦ let k : r x ≡ true = h x stays in rw (k, stays) (ap (λ (ys : List ℕ). x ∷ ys) (filter_less q r xs h))
-  | inr goes ↦ elim (cases_Bool (r x)) [
-    | inl k ↦ rw (k, goes) (filter_less q r xs h)
-    | inr k ↦ rw (k, goes) (filter_less q r xs h)
-  ]
-]
-
 abbrev opened_by : List Frame → List ℕ
 opened_by rs = rising 0 (map stream_of (fold blocks_after no_blocks rs).finished)
-
-both_parts : (a b : Bool) → (a && b) ≡ true → (a ≡ true) × (b ≡ true)
-both_parts true true h = (refl, refl)
-both_parts true false h = cc
-both_parts false b h = cc
 
 pub order_kept : (d e : List Entry) (xs : List ℕ) → received e ≡ received d → events e ≡ events d → ((s : ℕ) → is_live e s ≡ true → is_live d s ≡ true) → among (live d) xs ≡ filter (is_call d) (live d) → among (live e) xs ≡ filter (is_call e) (live e)
 order_kept d e xs same brought less order =
@@ -160,7 +121,7 @@ order_kept d e xs same brought less order =
     let q_is : (s : ℕ) → list_any (λ t. t == s) (live e) ≡ (list_any (λ t. t == s) (opened d) && is_live e s) = λ s. ap (list_any (λ t. t == s)) le ∙ any_kept (is_live e) s (opened d) in
     let d_is : (s : ℕ) → list_any (λ t. t == s) (live d) ≡ (list_any (λ t. t == s) (opened d) && is_live d s) = λ s. any_kept (is_live d) s (opened d) in
     let in_d : (s : ℕ) → list_any (λ t. t == s) (live e) ≡ true → list_any (λ t. t == s) (live d) ≡ true = λ s h.
-    let b = both_parts (list_any (λ t. t == s) (opened d)) (is_live e s) (sym (q_is s) ∙ h) in
+    let b = and_parts (list_any (λ t. t == s) (opened d)) (is_live e s) (sym (q_is s) ∙ h) in
     let b0 : list_any (λ t. t == s) (opened d) ≡ true = b.0 in
     let b1 : is_live d s ≡ true = less s b.1 in
     d_is s ∙ (rw (b0, b1) refl) in
@@ -181,8 +142,8 @@ put_kept v streams w p fs st at sending ended = record {
       let a = st.alive (failed_before p.diary fs alive) in
       record {
         reader = subst (λ (rs : List RawFrame). IsReader CLIENT_PREFACE.now v.reader p.text rs) (sym (raw_out p.diary fs)) a.reader;
-        calls = λ s lives. same_call p.diary (p.diary ++ map Out fs) s (call_on s v.calls) (events_out p.diary fs) (a.calls s (live_before p.diary fs s lives));
-        order = order_kept p.diary (p.diary ++ map Out fs) (map call_stream v.calls) (received_more p.diary fs) (events_out p.diary fs) (λ s lives. live_before p.diary fs s lives) a.order;
+        calls = λ s lives. same_call p.diary (p.diary ++ map Out fs) s (call_on s v.calls) (events_out p.diary fs) (a.calls s (live_falls p.diary (map Out fs) s lives));
+        order = order_kept p.diary (p.diary ++ map Out fs) (map call_stream v.calls) (received_more p.diary fs) (events_out p.diary fs) (λ s lives. live_falls p.diary (map Out fs) s lives) a.order;
       };
 }
 

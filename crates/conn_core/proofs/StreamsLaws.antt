@@ -24,7 +24,7 @@ use Rattle.http2_streams.proofs.EventLaw.{event_on_stream, request_is_highest}
 use Rattle.http2_streams.proofs.LiveLaw.{blocks_stay}
 use Rattle.http2_streams.proofs.ControlLaw.{answers_are_control}
 use Rattle.conn_core.specs.Putting.{is_answer, are_answers}
-use Rattle.conn_core.proofs.Pumps.{any_kept}
+use Rattle.conn_core.proofs.Numbers.{any_kept}
 
 -- ---- answers
 

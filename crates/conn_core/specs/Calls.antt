@@ -37,7 +37,7 @@ abbrev pub begins_call : ℕ → Event → Bool
 begins_call s (Request t fields end_stream) = t == s && is_ok (head_of fields)
 begins_call s _ = false
 
--- the request on stream s is a call of a method that is served
+-- the request on stream s is a call of a known method
 abbrev pub is_call : List Entry → ℕ → Bool
 is_call d s = list_any (begins_call s) (events d)
 

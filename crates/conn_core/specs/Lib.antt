@@ -1,7 +1,6 @@
 pub mod Received
 pub mod Calls
 pub mod Past
-pub mod Peer
 pub mod StandsFor
 pub mod Step
 pub mod CallSteps

@@ -9,6 +9,7 @@ use Rattle.http2_frames.specs.declared.frame.Frame.{Frame}
 use Rattle.http2_frames.specs.declared.frame.Frame.TheVariants.{Data, Headers, Priority, RstStream, Settings, PushPromise, Ping, GoAway, WindowUpdate, Continuation, Unknown}
 use Rattle.http2_frames.specs.Writing.{text_of}
 use Rattle.http2_streams.specs.Diary.{Entry, Out, sent, received, has_failed, is_goaway, is_live, resets, is_ended_by_client, is_ended_by_server, ends, data_ends, block_ends, blocks_after, no_blocks}
+use Rattle.http2_streams.proofs.LiveLaw.{live_falls}
 use Rattle.grpc_sending.specs.declared.piece.Piece.{Piece}
 use Rattle.grpc_sending.specs.declared.queue.Queue.{Queue}
 use Rattle.grpc_sending.specs.Bytes.{pending, is_headers, position}
@@ -20,15 +21,6 @@ use Rattle.grpc_sending.proofs.Diaries.{sent_more, received_more, pending_more, 
 or_false : (a b : Bool) → (a || b) ≡ false → a ≡ false
 or_false true b h = cc
 or_false false b h = refl
-
--- what lives still lived before
-still : (a b x c e y : Bool) → (not (a || (b || x)) && not (c && (e || y))) ≡ true → (not (a || b) && not (c && e)) ≡ true
-still true b x c e y h = cc
-still false true x c e y h = cc
-still false false true c e y h = cc
-still false false false true true y h = cc
-still false false false true false y h = refl
-still false false false false e y h = refl
 
 live_same : (a b c e a' b' c' e' : Bool) → a ≡ a' → b ≡ b' → c ≡ c' → e ≡ e' → (not (a || b) && not (c && e)) ≡ (not (a' || b') && not (c' && e'))
 live_same a b c e a' b' c' e' p q r t = cc
@@ -46,9 +38,6 @@ live_after d fs s =
     let c : is_ended_by_client (d ++ map Out fs) s ≡ is_ended_by_client d s = ap (λ (rs : List Frame). list_any (data_ends s) rs || list_any (block_ends s) (fold blocks_after no_blocks rs).finished) same in
     let e : is_ended_by_server (d ++ map Out fs) s ≡ (is_ended_by_server d s || list_any (ends s) fs) = ap (list_any (ends s)) out ∙ list_any-append (ends s) (sent d) fs in
     live_same (list_any (resets s) (received (d ++ map Out fs))) (list_any (resets s) (sent (d ++ map Out fs))) (is_ended_by_client (d ++ map Out fs) s) (is_ended_by_server (d ++ map Out fs) s) (list_any (resets s) (received d)) (list_any (resets s) (sent d) || list_any (resets s) fs) (is_ended_by_client d s) (is_ended_by_server d s || list_any (ends s) fs) r rs c e
-
-pub live_before : (d : List Entry) (fs : List Frame) (s : ℕ) → is_live (d ++ map Out fs) s ≡ true → is_live d s ≡ true
-live_before d fs s h = still (list_any (resets s) (received d)) (list_any (resets s) (sent d)) (list_any (resets s) fs) (is_ended_by_client d s) (is_ended_by_server d s) (list_any (ends s) fs) (sym (live_after d fs s) ∙ h)
 
 left_more : (fs gs : List Frame) (s : ℕ) (ps : List Piece) → left_by (fs ++ gs) s ps ≡ left_by gs s (left_by fs s ps)
 left_more fs gs s ps = fold-append (put_by s) ps fs gs
@@ -75,7 +64,7 @@ stands_put w d os f rs on st = record {
   position = ap (λ p. cond (is_headers f) Later p) st.position ∙ sym (position_one d f);
   queues = λ alive s lives more.
       let ps : List Piece = map piece_of (owed_on s os) in
-      let before = st.queues (failed_before d (f ∷ []) alive) s (live_before d (f ∷ []) s lives) more in
+      let before = st.queues (failed_before d (f ∷ []) alive) s (live_falls d (Out f ∷ []) s lives) more in
       ap (λ fs. left_by fs s (ps ++ more)) (sent_more d (f ∷ [])) ∙ left_more (sent d) (f ∷ []) s (ps ++ more)
       ∙ ap (λ qs. put_by s qs f) before ∙ on.queues s more;
 }

@@ -6,18 +6,13 @@ ghost use Rattle.std.specs.IoError.{error_kind};
 
 use command_line::{CommandLineError, Task, parse};
 use probe::{Request, probe};
+use program_status::Status;
 use replay::replay;
 use std::fs;
 use std::io::{self, BufWriter, ErrorKind, Write};
 use std::net::{Ipv4Addr, SocketAddr, TcpStream};
 use std::process::ExitCode;
 use unary::unary;
-
-/// Standard input or output failed, or a file could not be read.
-const FAILED: u8 = 1;
-
-/// A request for memory was refused.
-const OUT_OF_MEMORY: u8 = 5;
 
 /// The bytes of a file; where it cannot be read, that is told, and there are none.
 fn read_file<E: Write>(
@@ -41,10 +36,10 @@ fn unary_of_file<O: Write, E: Write>(
     file: &str,
     output: &mut O,
     errors: &mut E,
-) -> io::Result<u8> {
+) -> io::Result<Status> {
     match read_file(rt, file, errors)? {
-        Some(script) => Ok(unary(rt.alloc(), &mut script.as_slice(), output, errors).code()),
-        None => Ok(FAILED),
+        Some(script) => Ok(unary(rt.alloc(), &mut script.as_slice(), output, errors)),
+        None => Ok(Status::Failed),
     }
 }
 
@@ -54,10 +49,10 @@ fn replay_of_file<O: Write, E: Write>(
     file: &str,
     output: &mut O,
     errors: &mut E,
-) -> io::Result<u8> {
+) -> io::Result<Status> {
     match read_file(rt, file, errors)? {
-        Some(script) => Ok(replay(rt.alloc(), &mut script.as_slice(), output, errors).code()),
-        None => Ok(FAILED),
+        Some(script) => Ok(replay(rt.alloc(), &mut script.as_slice(), output, errors)),
+        None => Ok(Status::Failed),
     }
 }
 
@@ -68,11 +63,11 @@ fn probe_port<O: Write, E: Write>(
     request: Request<'_>,
     output: &mut O,
     errors: &mut E,
-) -> io::Result<u8> {
+) -> io::Result<Status> {
     let stream = TcpStream::connect(rt, SocketAddr::from((Ipv4Addr::LOCALHOST, port)))?;
     stream.set_nonblocking(true)?;
     let (mut from_peer, mut to_peer) = (&stream, &stream);
-    let status = probe(
+    Ok(probe(
         rt,
         rt.alloc(),
         request,
@@ -80,22 +75,19 @@ fn probe_port<O: Write, E: Write>(
         &mut to_peer,
         output,
         errors,
-    );
-    Ok(status.code())
+    ))
 }
 
-/// Does what is asked for, and gives the status.
+/// Does what is asked for.
 fn perform<O: Write, E: Write>(
     rt: &HostRuntime,
     task: Task<'_>,
     output: &mut O,
     errors: &mut E,
-) -> io::Result<u8> {
+) -> io::Result<Status> {
     match task {
         Task::Unary { file: Some(file) } => unary_of_file(rt, file, output, errors),
-        Task::Unary { file: None } => {
-            Ok(unary(rt.alloc(), &mut rt.stdin(), output, errors).code())
-        }
+        Task::Unary { file: None } => Ok(unary(rt.alloc(), &mut rt.stdin(), output, errors)),
         Task::Replay { file } => replay_of_file(rt, file, output, errors),
         Task::Probe {
             port,
@@ -111,18 +103,18 @@ fn perform<O: Write, E: Write>(
                 };
                 probe_port(rt, port, request, output, errors)
             }
-            None => Ok(FAILED),
+            None => Ok(Status::Failed),
         },
     }
 }
 
-/// Does what the command line asks for, and gives the status.
+/// Does what the command line asks for, and gives the number with which the program ends.
 fn status(rt: &HostRuntime) -> io::Result<u8> {
     let words: Vec<String> = std::env::args(rt)?.collect(rt.alloc())?;
     let mut output = BufWriter::new(rt.alloc(), rt.stdout())?;
     let mut errors = rt.stderr();
     let status = match parse(rt.alloc(), words.as_slice()) {
-        Ok(task) => perform(rt, task, &mut output, &mut errors)?,
+        Ok(task) => perform(rt, task, &mut output, &mut errors)?.code(),
         Err(CommandLineError::NoMemory) => return Err(io::Error::from(ErrorKind::OutOfMemory)),
         Err(CommandLineError::Answered(error)) => {
             error.print(rt)?;
@@ -131,22 +123,22 @@ fn status(rt: &HostRuntime) -> io::Result<u8> {
     };
     match output.flush() {
         // Where writing failed, that was told before.
-        Err(error) if status != FAILED => Err(error),
+        Err(error) if status != Status::Failed.code() => Err(error),
         _ => Ok(status),
     }
 }
 
-/// Says why the program ends early, and gives the status.
+/// Says why the program ends early, and gives the number with which it ends.
 fn tell<E: Write>(errors: &mut E, error: &io::Error) -> u8
     ensures memory { error_kind error.now ≡ ErrorKind.OutOfMemory → result ≡ 5 }
     ensures other { error_kind error.now ≢ ErrorKind.OutOfMemory → result ≡ 1 }
 {
-    let (status, fault) = match error.kind() {
-        ErrorKind::OutOfMemory => (OUT_OF_MEMORY, "out of memory"),
-        _ => (FAILED, "input or output failed"),
+    let status = match error.kind() {
+        ErrorKind::OutOfMemory => Status::OutOfMemory,
+        _ => Status::Failed,
     };
-    let _told: io::Result<()> = writeln!(errors, "remoted: {fault}");
-    status
+    let _told: io::Result<()> = status.tell(errors);
+    status.code()
 }
 
 fn main(rt: HostRuntime) -> ExitCode {

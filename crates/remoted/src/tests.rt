@@ -7,7 +7,7 @@ fn a_file_that_cannot_be_read(rt: HostRuntime) -> Result<(), Fail> {
         let mut output = Vec::new(rt.alloc());
         let mut errors = Vec::new(rt.alloc());
         let status = unary_of_file(&rt, file, &mut output, &mut errors)?;
-        assert_eq!(rt; status, 1);
+        assert_eq!(rt; status.code(), 1);
         assert!(rt; output.is_empty());
         let told = format!(in rt.alloc(); "remoted: cannot read {file}\n")?;
         assert_eq!(rt; errors.as_slice(), told.as_bytes());
@@ -27,7 +27,7 @@ fn the_script_of_a_file(rt: HostRuntime) -> Result<(), Fail> {
     let mut errors = Vec::new(rt.alloc());
     let status = unary_of_file(&rt, file, &mut output, &mut errors)?;
     fs::remove_file(&rt, file)?;
-    assert_eq!(rt; status, 0);
+    assert_eq!(rt; status.code(), 0);
     assert_eq!(rt; output.as_slice(), b"stored\nrefused\n".as_slice());
     assert!(rt; errors.is_empty());
     Ok(())

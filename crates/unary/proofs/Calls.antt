@@ -11,7 +11,7 @@ use Rattle.cas_service.specs.declared.error.CallError.{CallError}
 use Rattle.cas_service.specs.declared.error.CallError.TheVariants.{Refused, NoMemory}
 use Rattle.cas_service.specs.Answers.{Answers}
 use Rattle.cas_service.specs.Changes.{changed, uses}
-use Rattle.unary.specs.Fault.{IfAnswered}
+use Rattle.unary.specs.Answered.{IfAnswered}
 
 -- a call whose reply and changes come from what it asks for
 pub uses_answered : (r : Result (Vec ℕ Global) CallError) (asked : Result (List Digest) Refusal) (reply : List Digest → List ℕ) (quota : ℕ) (old new : List Blob)

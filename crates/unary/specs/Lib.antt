@@ -1,3 +1,3 @@
 pub mod Session
 pub mod Outcome
-pub mod Fault
+pub mod Answered

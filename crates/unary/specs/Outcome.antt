@@ -1,24 +1,9 @@
 -- What is written for what is read, and the status.
-use Rattle.std.specs.Prelude.{◌≡◌, ℕ, List, [], ◌++◌, take, codes, Option, Result, Ok, Err}
-use Rattle.std.specs.Fmt.{decimal}
+use Rattle.std.specs.Prelude.{◌≡◌, ⊤, ℕ, List, [], take, Option, Result, Ok, Err}
 use Rattle.std.specs.Io.KnownBytes.{Appends, Keeps}
-use Rattle.unary.specs.declared.status.Status.{Status}
-use Rattle.unary.specs.declared.status.Status.TheVariants.{Done, Failed, BadLine, OutOfMemory}
+use Rattle.program_status.specs.declared.Status.{Status}
+use Rattle.program_status.specs.declared.Status.TheVariants.{Done, Failed, BadLine, TooFew, OutOfMemory}
 use Rattle.unary.specs.Session.{written}
-
--- the number with which the program ends
-abbrev pub code_of : Status → ℕ
-code_of Done = 0
-code_of Failed = 1
-code_of (BadLine number) = 3
-code_of OutOfMemory = 5
-
--- the line on standard error
-abbrev pub fault_line : Status → List ℕ
-fault_line Done = []
-fault_line Failed = codes "remoted: input or output failed\n"
-fault_line (BadLine number) = codes "remoted: bad line " ++ decimal number ++ codes "\n"
-fault_line OutOfMemory = codes "remoted: out of memory\n"
 
 -- the first of the lines
 abbrev pub front_of : ℕ → Result (List (List ℕ)) ℕ → List (List ℕ)
@@ -31,4 +16,5 @@ abbrev pub IsOutcome : Result (List (List ℕ)) ℕ → Status → Option (List 
 IsOutcome printed Done before after = (lines : List (List ℕ)) × (printed ≡ Ok lines) × Appends before after (written lines)
 IsOutcome printed (BadLine number) before after = (printed ≡ Err number) × Keeps before after
 IsOutcome printed OutOfMemory before after = (count : ℕ) × Appends before after (written (front_of count printed))
-IsOutcome printed Failed before after = Unit {0}
+IsOutcome printed Failed before after = ⊤
+IsOutcome printed (TooFew count) before after = ⊥

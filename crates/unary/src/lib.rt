@@ -3,11 +3,9 @@
 
 mod run;
 mod session;
-mod status;
 mod store;
 
 pub use run::unary;
-pub use status::Status;
 pub use store::Store;
 
 #[cfg(test)]

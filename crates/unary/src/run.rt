@@ -1,44 +1,20 @@
-ghost use Rattle.std.specs.Prelude.{◌≡◌, ◌≢◌, ◌++◌, ◌<◌, ℕ, List, [], ◌∷◌, length, map, take, vec_len, OnOk, OnErr, IfOk, IfSome, Ok, Err};
+ghost use Rattle.std.specs.Prelude.{◌≡◌, ◌≢◌, ◌++◌, ◌<◌, ℕ, List, [], ◌∷◌, length, map, take, vec_len, OnOk, IfSome, Err};
 ghost use Rattle.std.specs.List.{All};
 ghost use Rattle.std.specs.Io.KnownBytes.{Appends, Keeps};
+ghost use Rattle.program_status.specs.Status.{fault_line};
+ghost use Rattle.program_status.specs.declared.Status.TheVariants.{Failed};
+ghost use Rattle.program_status.specs.declared.Fault.TheVariants.{OutOfMemory};
 ghost use Rattle.unary_script.specs.Shown.{command_value, script_value};
 ghost use Rattle.unary_script.specs.Lines.{instance_place, HasGoodInstances};
 ghost use Rattle.unary.specs.Session.{line_of, store_of, stores_after, lines_of_commands, lines_of_value, lines_of_script, written};
-ghost use Rattle.unary.specs.Outcome.{IsOutcome, fault_line};
-ghost use Rattle.unary.specs.Fault.{status_of_fault};
-ghost use Rattle.unary.specs.declared.status.Status.TheVariants.{Failed};
-ghost use Rattle.unary.specs.declared.run.Fault.TheVariants.{OutOfMemory};
+ghost use Rattle.unary.specs.Outcome.{IsOutcome};
 
 use crate::session::{answer, open_all};
-use crate::status::Status;
 use crate::store::Store;
-use std::alloc::{AllocError, AllocFailed, Global};
-use std::io::{self, ErrorKind, Read, Write};
+use program_status::{Fault, Status, read_all};
+use std::alloc::Global;
+use std::io::{Read, Write};
 use unary_script::{Command, Script, ScriptFault, parse};
-
-/// Why a script was not read or not carried out to its end.
-#[derive(Clone, Copy)]
-enum Fault {
-    InputOrOutput,
-    OutOfMemory,
-}
-
-impl From<AllocError> for Fault {
-    ghost from_gives = { λ _ fault. fault ≡ OutOfMemory };
-
-    fn from(_refused: AllocError) -> Fault {
-        Fault::OutOfMemory
-    }
-}
-
-fn status(fault: Fault) -> Status
-    ensures { result ≡ status_of_fault fault }
-{
-    match fault {
-        Fault::InputOrOutput => Status::Failed,
-        Fault::OutOfMemory => Status::OutOfMemory,
-    }
-}
 
 /// Carries a command out, and writes its line.
 fn step<O: Write>(
@@ -76,20 +52,6 @@ fn play<O: Write>(
     Ok(())
 }
 
-/// All that is read.
-fn read<I: Read>(alloc: Global, input: &mut I) -> Result<Vec<u8>, Fault>
-    ensures { IfOk result (λ text. IfSome (I.remaining input.old) (λ all. text.items ≡ all)) }
-{
-    let mut text = Vec::new(alloc);
-    match input.read_to_end(&mut text) {
-        Ok(_) => Ok(text),
-        Err(error) => match error.kind() {
-            ErrorKind::OutOfMemory => Err(Fault::OutOfMemory),
-            _ => Err(Fault::InputOrOutput),
-        },
-    }
-}
-
 /// Carries a script out, and writes what it prints.
 fn perform<O: Write>(alloc: Global, script: &Script, output: &mut O) -> Result<(), Fault>
     requires instances { HasGoodInstances (script_value script.now).instances }
@@ -105,9 +67,9 @@ fn perform<O: Write>(alloc: Global, script: &Script, output: &mut O) -> Result<(
 fn run<I: Read, O: Write>(alloc: Global, input: &mut I, output: &mut O) -> Status
     ensures { IfSome (I.remaining input.old) (λ text. IsOutcome (lines_of_script text) result (O.contents output.old) (O.contents output.new)) }
 {
-    let text = match read(alloc, input) {
+    let text = match read_all(alloc, input) {
         Ok(text) => text,
-        Err(fault) => return status(fault),
+        Err(fault) => return fault.status(),
     };
     let script = match parse(alloc, &text) {
         Ok(script) => script,
@@ -116,19 +78,7 @@ fn run<I: Read, O: Write>(alloc: Global, input: &mut I, output: &mut O) -> Statu
     };
     match perform(alloc, &script, output) {
         Ok(()) => Status::Done,
-        Err(fault) => status(fault),
-    }
-}
-
-/// Writes the line that says why a run ended, which takes no memory.
-fn tell<E: Write>(errors: &mut E, status: Status) -> io::Result<()>
-    ensures { OnOk result (Appends (E.contents errors.old) (E.contents errors.new) (fault_line status)) }
-{
-    match status {
-        Status::Done => Ok(()),
-        Status::Failed => errors.write_all(b"remoted: input or output failed\n"),
-        Status::BadLine(number) => writeln!(errors, "remoted: bad line {number}"),
-        Status::OutOfMemory => errors.write_all(b"remoted: out of memory\n"),
+        Err(fault) => fault.status(),
     }
 }
 
@@ -145,7 +95,7 @@ pub fn unary<I: Read, O: Write, E: Write>(
     ensures told { result ≢ Failed → Appends (E.contents errors.old) (E.contents errors.new) (fault_line result) }
 {
     let status = run(alloc, input, output);
-    match tell(errors, status) {
+    match status.tell(errors) {
         Ok(()) => status,
         Err(_) => Status::Failed,
     }

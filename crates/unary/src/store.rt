@@ -3,7 +3,7 @@ ghost use Rattle.unary_script.specs.Shown.{instance_value};
 ghost use Rattle.cas_service.specs.Answers.{Answers};
 ghost use Rattle.cas_service.specs.Changes.{changed};
 ghost use Rattle.quota_evict.specs.Within.{Within};
-ghost use Rattle.unary.specs.Fault.{IfAnswered};
+ghost use Rattle.unary.specs.Answered.{IfAnswered};
 ghost use Rattle.unary.specs.Session.{opened, reply_to, changes_by, is_refused, stored, called};
 
 use cas_service::{CallError, batch_read, batch_update, find_missing};
@@ -25,9 +25,6 @@ pub struct Store {
 impl Model for Store {
     ghost use Rattle.std.specs.Prelude.{◌≤◌, ◌^◌, string_bytes};
     ghost use Rattle.quota_evict.specs.Within.{Within};
-    ghost use Rattle.cas_service.specs.Changes.{changed};
-    ghost use Rattle.quota_evict.specs.Within.{Within};
-    ghost use Rattle.unary.specs.Fault.{IfAnswered};
     ghost use Rattle.unary.specs.Session.{StoreValue};
 
     ghost Value = { StoreValue };

@@ -1,14 +1,18 @@
-use Rattle.std.proofs.Common.{Global, map}
+use Rattle.std.proofs.Common.{Global, map, sym, ◌∙◌}
 use Rattle.std.specs.Prelude.{string_bytes}
-use Rattle.command_line.proofs.Faults.{refused_is_fault}
-use Rattle.command_line.proofs.Matched.{task_read}
+use Rattle.command_line.proofs.Faults.{accepted_has_none, refused_is_fault}
+use Rattle.command_line.proofs.Matched.{asked_is}
 use Rattle.command_line.proofs.parse.Goals as goal
 
 pub returns-in-Err-clause-fault : goal.returns-in-Err-clause-fault
 returns-in-Err-clause-fault c = refused_is_fault _ _ _ _ c.in_ok-command.ensures c.in-Err.ensures.kinds c.from.ensures
 
 pub returns-in-Some-clause-task : goal.returns-in-Some-clause-task
-returns-in-Some-clause-task c = task_read _ _ _ _ c.in_ok-command.ensures c.in-Ok.ensures.ok.2 c.in-Some.ensures
+returns-in-Some-clause-task c = asked_is _ _ _ c.in_ok-command.ensures c.in-Ok.ensures.ok.2 ∙ sym c.in-Some.ensures
+
+pub returns-in-Some-clause-faultless : goal.returns-in-Some-clause-faultless
+returns-in-Some-clause-faultless c = accepted_has_none _ _ c.in_ok-command.ensures c.in-Ok.ensures.kinds
 
 pub returns-clause-fault : goal.returns-clause-fault
-returns-clause-fault c = c.missing.ensures (map (string_bytes {Z = Global}) c.args.words.now)
+returns-clause-fault c =
+    c.missing.ensures (map (string_bytes {Z = Global}) c.args.words.now) (asked_is _ _ _ c.in_ok-command.ensures c.in-Ok.ensures.ok.2 ∙ sym c.in-None.ensures)

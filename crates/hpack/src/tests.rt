@@ -1,31 +1,38 @@
 use super::*;
-use std::alloc::Global;
+use std::alloc::{AllocError, Global};
 use std::test::*;
 
-/// The octets of a text of hexadecimal digits; spaces count nothing.
-fn octets(alloc: Global, text: &str) -> Result<Vec<u8>, Fail> {
-    let mut octets = Vec::new(alloc);
+/// The value of a hexadecimal digit.
+fn digit(byte: u8) -> Option<u8> {
+    match byte {
+        b'0'..=b'9' => Some(byte - b'0'),
+        b'a'..=b'f' => Some(byte - b'a' + 10),
+        _ => None,
+    }
+}
+
+/// Adds the octets of a text of hexadecimal digits; spaces count nothing.
+fn add_octets(out: &mut Vec<u8>, text: &str) -> Result<(), AllocError> {
     let mut high = None;
     for byte in text.bytes() {
-        let digit = match byte {
-            b'0'..=b'9' => byte - b'0',
-            b'a'..=b'f' => byte - b'a' + 10,
-            _ => continue,
-        };
-        match high {
-            None => high = Some(digit),
-            Some(first) => {
-                octets.push((first << 4) | digit)?;
-                high = None;
+        if let Some(low) = digit(byte) {
+            match high {
+                None => high = Some(low),
+                Some(first) => {
+                    out.push((first << 4) | low)?;
+                    high = None;
+                }
             }
         }
     }
-    Ok(octets)
+    Ok(())
 }
 
-/// Many times the same octet.
-fn repeated(alloc: Global, octet: u8, count: usize) -> Result<Vec<u8>, Fail> {
-    Ok(vec![in alloc; octet; count]?)
+/// The octets of a text of hexadecimal digits.
+fn octets(alloc: Global, text: &str) -> Result<Vec<u8>, AllocError> {
+    let mut out = Vec::new(alloc);
+    add_octets(&mut out, text)?;
+    Ok(out)
 }
 
 /// Whether these are the fields, in order.
@@ -49,7 +56,7 @@ type Pair = (&'static str, &'static str);
 type Case = (&'static str, &'static [Pair], usize);
 
 /// Whether a decoder reads a block so.
-fn reads(alloc: Global, decoder: &mut Decoder, case: &Case) -> Result<bool, Fail> {
+fn reads(alloc: Global, decoder: &mut Decoder, case: &Case) -> Result<bool, AllocError> {
     let (block, wanted, size) = *case;
     let block = octets(alloc, block)?;
     match decoder.block(&block) {
@@ -59,7 +66,7 @@ fn reads(alloc: Global, decoder: &mut Decoder, case: &Case) -> Result<bool, Fail
 }
 
 /// The first block of a connection that is not read so, counted from 0.
-fn first_wrong(alloc: Global, cases: &[Case]) -> Result<Option<usize>, Fail> {
+fn first_wrong(alloc: Global, cases: &[Case]) -> Result<Option<usize>, AllocError> {
     let mut decoder = Decoder::new(alloc);
     for (index, case) in cases.iter().enumerate() {
         if !reads(alloc, &mut decoder, case)? {
@@ -70,7 +77,7 @@ fn first_wrong(alloc: Global, cases: &[Case]) -> Result<Option<usize>, Fail> {
 }
 
 /// Whether a new decoder refuses a block by this error, and then every block by `Failed`.
-fn refuses(alloc: Global, block: &str, error: HpackError) -> Result<bool, Fail> {
+fn refuses(alloc: Global, block: &str, error: HpackError) -> Result<bool, AllocError> {
     let block = octets(alloc, block)?;
     let mut decoder = Decoder::new(alloc);
     let first = decoder.block(&block).err();
@@ -85,7 +92,10 @@ fn refuses(alloc: Global, block: &str, error: HpackError) -> Result<bool, Fail> 
 }
 
 /// The first of these blocks that is not refused so, counted from 0.
-fn first_not_refused(alloc: Global, cases: &[(&str, HpackError)]) -> Result<Option<usize>, Fail> {
+fn first_not_refused(
+    alloc: Global,
+    cases: &[(&str, HpackError)],
+) -> Result<Option<usize>, AllocError> {
     for (index, (block, error)) in cases.iter().enumerate() {
         if !refuses(alloc, block, *error)? {
             return Ok(Some(index));
@@ -363,52 +373,119 @@ fn count(alloc: Global, block: &[u8]) -> Result<usize, HpackError> {
     Ok(Decoder::new(alloc).block(block)?.len())
 }
 
+/// A block, in octets, so many of one octet, and octets; and how many fields are read, or the refusal.
+type LongCase = (
+    &'static str,
+    u8,
+    usize,
+    &'static str,
+    Result<usize, HpackError>,
+);
+
+/// Adds the block of the case.
+fn add_block(out: &mut Vec<u8>, case: &LongCase) -> Result<(), AllocError> {
+    let (front, octet, count, back, _) = *case;
+    add_octets(out, front)?;
+    for _ in 0..count {
+        out.push(octet)?;
+    }
+    add_octets(out, back)
+}
+
+/// Whether so many fields are read of the block, or it is refused so.
+fn is_counted(alloc: Global, case: &LongCase) -> Result<bool, AllocError> {
+    let mut block = Vec::new(alloc);
+    add_block(&mut block, case)?;
+    Ok(count(alloc, &block) == case.4)
+}
+
+/// The first of these cases that is counted otherwise, from 0.
+fn first_miscounted(alloc: Global, cases: &[LongCase]) -> Result<Option<usize>, AllocError> {
+    for (index, case) in cases.iter().enumerate() {
+        if !is_counted(alloc, case)? {
+            return Ok(Some(index));
+        }
+    }
+    Ok(None)
+}
+
+const LONG_BLOCKS: [LongCase; 3] = [
+    // 65,535 size updates to 0, and one field.
+    ("", 0x20, 65535, "82", Ok(1)),
+    // 42 octets each: 1,560 of them are within the limit.
+    ("", 0x82, 1560, "", Ok(1560)),
+    ("", 0x82, 1561, "", Err(HpackError::ListTooLarge)),
+];
+
+const LONG_FIELDS: [LongCase; 3] = [
+    // A content type of 65,492 octets makes a list of 65,536, and one more is too many.
+    ("0f10 7fd5fe03", b'x', 65492, "", Ok(1)),
+    // A field after it passes the limit, and what follows is not read.
+    (
+        "0f10 7fd5fe03",
+        b'x',
+        65492,
+        "82 80",
+        Err(HpackError::ListTooLarge),
+    ),
+    (
+        "0f10 7fd6fe03",
+        b'x',
+        65493,
+        "",
+        Err(HpackError::ListTooLarge),
+    ),
+];
+
 #[test]
 fn long_blocks(rt: HostRuntime) -> Result<(), Fail> {
-    let alloc = rt.alloc();
-    // 65,535 size updates to 0, and one field.
-    let mut block = repeated(alloc, 0x20, 65535)?;
-    block.push(0x82)?;
-    assert_eq!(rt; count(alloc, &block), Ok(1));
-    // 42 octets each: 1,560 of them are within the limit.
-    let block = repeated(alloc, 0x82, 1560)?;
-    assert_eq!(rt; count(alloc, &block), Ok(1560));
-    let block = repeated(alloc, 0x82, 1561)?;
-    assert_eq!(rt; count(alloc, &block), Err(HpackError::ListTooLarge));
+    assert_eq!(rt; first_miscounted(rt.alloc(), &LONG_BLOCKS)?, None);
     Ok(())
 }
 
 #[test]
 fn long_fields(rt: HostRuntime) -> Result<(), Fail> {
-    let alloc = rt.alloc();
-    // A content type of 65,492 octets makes a list of 65,536, and one more is too many.
-    let mut block = octets(alloc, "0f10 7fd5fe03")?;
-    block.extend_from_slice(&repeated(alloc, b'x', 65492)?)?;
-    assert_eq!(rt; count(alloc, &block), Ok(1));
-    // A field after it passes the limit, and what follows is not read.
-    block.extend_from_slice(b"\x82\x80")?;
-    assert_eq!(rt; count(alloc, &block), Err(HpackError::ListTooLarge));
-    let mut block = octets(alloc, "0f10 7fd6fe03")?;
-    block.extend_from_slice(&repeated(alloc, b'x', 65493)?)?;
-    assert_eq!(rt; count(alloc, &block), Err(HpackError::ListTooLarge));
+    assert_eq!(rt; first_miscounted(rt.alloc(), &LONG_FIELDS)?, None);
     Ok(())
+}
+
+/// Whether the first field of the name has this value.
+fn finds(headers: &Headers, name: &[u8], wanted: &[u8]) -> bool {
+    match headers.find(name) {
+        Some(value) => value == wanted,
+        None => false,
+    }
+}
+
+/// Whether these are GET, http and two values of `a`.
+fn is_list(headers: &Headers) -> bool {
+    headers.len() == 4
+        && !headers.is_empty()
+        && finds(headers, b"a", b"1")
+        && finds(headers, b":scheme", b"http")
+        && headers.find(b"A").is_none()
+}
+
+fn reads_list(decoder: &mut Decoder, block: &[u8]) -> bool {
+    match decoder.block(block) {
+        Ok(headers) => is_list(&headers),
+        Err(_) => false,
+    }
+}
+
+fn reads_nothing(decoder: &mut Decoder) -> bool {
+    match decoder.block(b"") {
+        Ok(headers) => headers.is_empty(),
+        Err(_) => false,
+    }
 }
 
 #[test]
 fn lists(rt: HostRuntime) -> Result<(), Fail> {
-    let alloc = rt.alloc();
-    let block = octets(alloc, "82 86 0001610131 0001610132")?;
-    let mut decoder = Decoder::new(alloc);
-    let headers = decoder.block(&block).ok().ok_or("a block")?;
-    assert_eq!(rt; headers.len(), 4);
-    assert!(rt; !headers.is_empty());
-    let first = headers.find(b"a").ok_or("a value")?;
-    assert_eq!(rt; first, b"1".as_slice());
-    let scheme = headers.find(b":scheme").ok_or("a value")?;
-    assert_eq!(rt; scheme, b"http".as_slice());
-    assert!(rt; headers.find(b"A").is_none());
-    let none = decoder.block(b"").ok().ok_or("a block")?;
-    assert!(rt; none.is_empty());
+    let block = octets(rt.alloc(), "82 86 0001610131 0001610132")?;
+    let mut decoder = Decoder::new(rt.alloc());
+    assert!(rt; reads_list(&mut decoder, &block));
+    assert!(rt; reads_nothing(&mut decoder));
     Ok(())
 }
 
@@ -419,30 +496,37 @@ fn field<'a>(name: &'a str, value: &'a str) -> Field<'a> {
     }
 }
 
+/// Whether the fields are written so behind the octets of a text.
+fn is_written(
+    alloc: Global,
+    front: &str,
+    position: Position,
+    fields: &[Field<'_>],
+    wanted: &str,
+) -> Result<bool, AllocError> {
+    let wanted = octets(alloc, wanted)?;
+    let mut out = octets(alloc, front)?;
+    encode_into(position, fields, &mut out)?;
+    Ok(out.as_slice() == wanted.as_slice())
+}
+
+/// The head of a response that is a refusal, as it is read.
+const NOT_ALLOWED: [Case; 1] = [("20 08 03 343035", &[(":status", "405")], 0)];
+
 #[test]
 fn server_blocks(rt: HostRuntime) -> Result<(), Fail> {
     let alloc = rt.alloc();
-    let mut out = octets(alloc, "ff")?;
     let head = [
         field(":status", "200"),
         field("content-type", "application/grpc"),
     ];
-    encode_into(Position::First, &head, &mut out)?;
-    assert_eq!(rt;
-        out,
-        octets(alloc, "ff 20 88 0f10 10 6170706c69636174696f6e2f67727063")?
-    );
-
-    let mut out = Vec::new(alloc);
-    encode_into(Position::Later, &[field("grpc-status", "0")], &mut out)?;
-    assert_eq!(rt; out, octets(alloc, "00 0b 677270632d737461747573 01 30")?);
-
-    let mut out = Vec::new(alloc);
-    encode_into(Position::First, &[field(":status", "405")], &mut out)?;
-    assert_eq!(rt; out, octets(alloc, "20 08 03 343035")?);
-    let decoder = &mut Decoder::new(alloc);
-    assert!(rt;
-        matches!(decoder.block(&out), Ok(headers) if are(headers.as_slice(), &[(":status", "405")]))
-    );
+    let written = "ff 20 88 0f10 10 6170706c69636174696f6e2f67727063";
+    assert!(rt; is_written(alloc, "ff", Position::First, &head, written)?);
+    let trailers = [field("grpc-status", "0")];
+    let written = "00 0b 677270632d737461747573 01 30";
+    assert!(rt; is_written(alloc, "", Position::Later, &trailers, written)?);
+    let refusal = [field(":status", "405")];
+    assert!(rt; is_written(alloc, "", Position::First, &refusal, "20 08 03 343035")?);
+    assert_eq!(rt; first_wrong(alloc, &NOT_ALLOWED)?, None);
     Ok(())
 }

@@ -59,99 +59,191 @@ fn read_whole(reader: &mut FrameReader, from: usize) -> Result<usize, Fail> {
     Err(Fail::from("too many frames"))
 }
 
-#[test]
-fn a_stream_cut_after_each_byte(rt: HostRuntime) -> Result<(), Fail> {
+/// Whether a reader takes the bytes.
+fn takes(reader: &mut FrameReader, bytes: &[u8]) -> bool {
+    reader.feed(bytes).is_ok()
+}
+
+/// Whether a reader waits for more bytes.
+fn waits(reader: &mut FrameReader) -> bool {
+    matches!(reader.next(), Ok(None))
+}
+
+/// Whether a reader has this fault in place of a frame.
+fn fails(reader: &mut FrameReader, fault: FrameError) -> bool {
+    match reader.next() {
+        Ok(_) => false,
+        Err(error) => error == fault,
+    }
+}
+
+/// Whether a reader has this fault in place of taking bytes.
+fn refuses(reader: &mut FrameReader, bytes: &[u8], fault: FrameError) -> bool {
+    match reader.feed(bytes) {
+        Ok(()) => false,
+        Err(error) => error == fault,
+    }
+}
+
+/// Whether all frames are read where the bytes come in two parts.
+fn reads_parts(reader: &mut FrameReader, first: &[u8], second: &[u8]) -> Result<bool, Fail> {
+    let first_taken = takes(reader, first);
+    let read = read_whole(reader, 0)?;
+    let second_taken = takes(reader, second);
+    let read = read_whole(reader, read)?;
+    Ok(first_taken && second_taken && read == 11)
+}
+
+/// Whether all frames are read wherever the bytes are cut.
+fn reads_cut(alloc: Global) -> Result<bool, Fail> {
     for cut in 0..STREAM.len() {
         let (first, second) = STREAM.split_at(cut);
-        let mut reader = FrameReader::new(rt.alloc());
-        assert!(rt; reader.feed(first).is_ok());
-        let read = read_whole(&mut reader, 0)?;
-        assert!(rt; reader.feed(second).is_ok());
-        assert!(rt; read_whole(&mut reader, read)? == 11);
+        let mut reader = FrameReader::new(alloc);
+        if !reads_parts(&mut reader, first, second)? {
+            return Ok(false);
+        }
     }
+    Ok(true)
+}
+
+#[test]
+fn a_stream_cut_after_each_byte(rt: HostRuntime) -> Result<(), Fail> {
+    assert!(rt; reads_cut(rt.alloc())?);
     Ok(())
+}
+
+fn reads_bytes(reader: &mut FrameReader) -> Result<bool, Fail> {
+    let mut read = 0;
+    for byte in STREAM {
+        if !takes(reader, &[*byte]) {
+            return Ok(false);
+        }
+        read = read_whole(reader, read)?;
+    }
+    Ok(read == 11)
 }
 
 #[test]
 fn a_stream_byte_by_byte(rt: HostRuntime) -> Result<(), Fail> {
     let mut reader = FrameReader::new(rt.alloc());
-    let mut read = 0;
-    for byte in STREAM {
-        assert!(rt; reader.feed(&[*byte]).is_ok());
-        read = read_whole(&mut reader, read)?;
-    }
-    assert!(rt; read == 11);
+    let passed = reads_bytes(&mut reader);
+    drop(reader);
+    assert!(rt; passed?);
     Ok(())
+}
+
+fn reads_frames(reader: &mut FrameReader) -> Result<bool, Fail> {
+    let (_, frames) = STREAM.split_at(24);
+    let taken = takes(reader, frames);
+    let read = read_whole(reader, 0)?;
+    Ok(taken && read == 11)
 }
 
 #[test]
 fn a_server_sends_no_preface(rt: HostRuntime) -> Result<(), Fail> {
-    let (_, frames) = STREAM.split_at(24);
     let mut reader = FrameReader::without_preface(rt.alloc());
-    assert!(rt; reader.feed(frames).is_ok());
-    assert!(rt; read_whole(&mut reader, 0)? == 11);
+    let passed = reads_frames(&mut reader);
+    drop(reader);
+    assert!(rt; passed?);
     Ok(())
 }
 
-#[test]
-fn a_preface_with_one_other_byte(rt: HostRuntime) -> Result<(), Fail> {
+/// Whether a reader fails at the wrong byte, and then for good.
+fn fails_at(reader: &mut FrameReader, right: &[u8], wrong: u8) -> bool {
+    takes(reader, right)
+        && waits(reader)
+        && takes(reader, &[wrong])
+        && fails(reader, FrameError::Preface)
+        && fails(reader, FrameError::Preface)
+        && refuses(reader, b"more", FrameError::Preface)
+        && fails(reader, FrameError::Preface)
+}
+
+fn fails_at_each(alloc: Global) -> bool {
     for place in 0..24 {
         let (right, others) = STREAM.split_at(place);
-        let wrong = others.first().ok_or("a byte")? ^ 0x20;
-        let mut reader = FrameReader::new(rt.alloc());
-        assert!(rt; reader.feed(right).is_ok());
-        assert!(rt; matches!(reader.next(), Ok(None)));
-        assert!(rt; reader.feed(&[wrong]).is_ok());
-        assert!(rt; matches!(reader.next(), Err(FrameError::Preface)));
-        assert!(rt; matches!(reader.next(), Err(FrameError::Preface)));
-        assert!(rt; matches!(reader.feed(b"more"), Err(FrameError::Preface)));
-        assert!(rt; matches!(reader.next(), Err(FrameError::Preface)));
+        let Some(other) = others.first() else {
+            return false;
+        };
+        let mut reader = FrameReader::new(alloc);
+        if !fails_at(&mut reader, right, *other ^ 0x20) {
+            return false;
+        }
     }
-    Ok(())
+    true
+}
+
+#[test]
+fn a_preface_with_one_other_byte(rt: HostRuntime) {
+    assert!(rt; fails_at_each(rt.alloc()));
 }
 
 #[test]
 fn a_preface_with_a_wrong_byte_in_one_piece(rt: HostRuntime) {
     let mut reader = FrameReader::new(rt.alloc());
-    assert!(rt; reader.feed(b"PRI * HTTP/2.0\r\n\r\nSM\r\n\rX").is_ok());
-    assert!(rt; matches!(reader.next(), Err(FrameError::Preface)));
+    let passed = takes(&mut reader, b"PRI * HTTP/2.0\r\n\r\nSM\r\n\rX")
+        && fails(&mut reader, FrameError::Preface);
+    assert!(rt; passed);
 }
 
-#[test]
-fn the_longest_frame(rt: HostRuntime) -> Result<(), Fail> {
-    let mut reader = FrameReader::without_preface(rt.alloc());
-    assert!(rt; reader.feed(b"\x00\x40\x00\x00\x00\x00\x00\x00\x01").is_ok());
-    assert!(rt; matches!(reader.next(), Ok(None)));
+fn reads_longest(reader: &mut FrameReader) -> bool {
+    match reader.next() {
+        Ok(Some(frame)) => {
+            frame.payload.len() == 16_384 && frame.payload.into_vec().len() == 16_384
+        }
+        _ => false,
+    }
+}
+
+/// Whether a reader waits for the last of the 16,384 bytes, which come in 128 parts.
+fn waits_for_the_last(reader: &mut FrameReader) -> bool {
     let block = [7u8; 128];
     for _ in 0..127 {
-        assert!(rt; reader.feed(&block).is_ok());
-        assert!(rt; matches!(reader.next(), Ok(None)));
+        if !takes(reader, &block) || !waits(reader) {
+            return false;
+        }
     }
-    assert!(rt; reader.feed(&block).is_ok());
-    let frame = reader.next().ok().ok_or("no refusal")?.ok_or("a frame")?;
-    assert!(rt; frame.payload.len() == 16_384);
-    assert!(rt; frame.payload.into_vec().len() == 16_384);
-    assert!(rt; matches!(reader.next(), Ok(None)));
-    Ok(())
+    takes(reader, &block)
 }
 
 #[test]
-fn a_frame_that_is_too_long(rt: HostRuntime) -> Result<(), Fail> {
+fn the_longest_frame(rt: HostRuntime) {
+    let mut reader = FrameReader::without_preface(rt.alloc());
+    let passed = takes(&mut reader, b"\x00\x40\x00\x00\x00\x00\x00\x00\x01")
+        && waits(&mut reader)
+        && waits_for_the_last(&mut reader)
+        && reads_longest(&mut reader)
+        && waits(&mut reader);
+    assert!(rt; passed);
+}
+
+fn reads_settings(reader: &mut FrameReader) -> bool {
+    match reader.next() {
+        Ok(Some(frame)) => frame.kind == frame_type::SETTINGS,
+        _ => false,
+    }
+}
+
+/// Whether a reader fails at the head of a frame of 16,385 bytes, which follows a preface and SETTINGS.
+fn fails_at_the_head(reader: &mut FrameReader) -> bool {
+    takes(reader, CLIENT_PREFACE)
+        && takes(
+            reader,
+            b"\x00\x00\x00\x04\x00\x00\x00\x00\x00\x00\x40\x01\x00\x00\x00\x00\x00",
+        )
+        && reads_settings(reader)
+        && waits(reader)
+        && takes(reader, b"\x01")
+        && fails(reader, FrameError::Size)
+        && fails(reader, FrameError::Size)
+        && refuses(reader, b"\x00", FrameError::Size)
+}
+
+#[test]
+fn a_frame_that_is_too_long(rt: HostRuntime) {
     let mut reader = FrameReader::new(rt.alloc());
-    assert!(rt; reader.feed(CLIENT_PREFACE).is_ok());
-    assert!(rt;
-        reader
-            .feed(b"\x00\x00\x00\x04\x00\x00\x00\x00\x00\x00\x40\x01\x00\x00\x00\x00\x00")
-            .is_ok()
-    );
-    let settings = reader.next().ok().ok_or("no refusal")?.ok_or("a frame")?;
-    assert!(rt; settings.kind == frame_type::SETTINGS);
-    assert!(rt; matches!(reader.next(), Ok(None)));
-    assert!(rt; reader.feed(b"\x01").is_ok());
-    assert!(rt; matches!(reader.next(), Err(FrameError::Size)));
-    assert!(rt; matches!(reader.next(), Err(FrameError::Size)));
-    assert!(rt; matches!(reader.feed(b"\x00"), Err(FrameError::Size)));
-    Ok(())
+    let passed = fails_at_the_head(&mut reader);
+    assert!(rt; passed);
 }
 
 fn raw(alloc: Global, kind: u8, flags: u8, stream: u32, bytes: &[u8]) -> Result<RawFrame, Fail> {
@@ -181,22 +273,30 @@ fn is_misaddressed_on(alloc: Global, stream: u32, kind: u8, payload: &[u8]) -> R
     Ok(on_it == 1 && on_the_other == 0)
 }
 
+/// Stream, type and payload.
+static MISADDRESSED: [(u32, u8, &[u8]); 8] = [
+    (0, frame_type::DATA, b""),
+    (0, frame_type::HEADERS, b""),
+    (0, frame_type::CONTINUATION, b""),
+    (0, frame_type::PRIORITY, b"\x00\x00\x00\x00\x10"),
+    (0, frame_type::RST_STREAM, b"\x00\x00\x00\x01"),
+    (1, frame_type::SETTINGS, b""),
+    (1, frame_type::PING, b"\x00\x00\x00\x01\x00\x00\x00\x00"),
+    (1, frame_type::GOAWAY, b"\x00\x00\x00\x01\x00\x00\x00\x00"),
+];
+
+fn are_misaddressed(alloc: Global, cases: &[(u32, u8, &[u8])]) -> Result<bool, Fail> {
+    for (stream, kind, payload) in cases {
+        if !is_misaddressed_on(alloc, *stream, *kind, payload)? {
+            return Ok(false);
+        }
+    }
+    Ok(true)
+}
+
 #[test]
 fn stream_numbers(rt: HostRuntime) -> Result<(), Fail> {
-    let alloc = rt.alloc();
-    for kind in [
-        frame_type::DATA,
-        frame_type::HEADERS,
-        frame_type::CONTINUATION,
-    ] {
-        assert!(rt; is_misaddressed_on(alloc, 0, kind, b"")?);
-    }
-    assert!(rt; is_misaddressed_on(alloc, 0, frame_type::PRIORITY, b"\x00\x00\x00\x00\x10")?);
-    assert!(rt; is_misaddressed_on(alloc, 0, frame_type::RST_STREAM, b"\x00\x00\x00\x01")?);
-    assert!(rt; is_misaddressed_on(alloc, 1, frame_type::SETTINGS, b"")?);
-    for kind in [frame_type::PING, frame_type::GOAWAY] {
-        assert!(rt; is_misaddressed_on(alloc, 1, kind, b"\x00\x00\x00\x01\x00\x00\x00\x00")?);
-    }
+    assert!(rt; are_misaddressed(rt.alloc(), &MISADDRESSED)?);
     Ok(())
 }
 
@@ -234,32 +334,46 @@ fn is_sized(
     Ok(true)
 }
 
+/// Type, flags, stream, and how many bytes a payload has at least and at most, or 20.
+type Size = (u8, u8, u32, usize, usize);
+
+static ONE_SIZE: [Size; 5] = [
+    (frame_type::PRIORITY, 0, 1, 5, 5),
+    (frame_type::RST_STREAM, 0, 1, 4, 4),
+    (frame_type::WINDOW_UPDATE, 0, 0, 4, 4),
+    (frame_type::PING, 0, 0, 8, 8),
+    (frame_type::SETTINGS, flag::ACK, 0, 0, 0),
+];
+
+static FROM_ONE_SIZE_ON: [Size; 8] = [
+    (frame_type::DATA, 0, 1, 0, 20),
+    (frame_type::DATA, flag::PADDED, 1, 1, 20),
+    (frame_type::HEADERS, 0, 1, 0, 20),
+    (frame_type::HEADERS, flag::PADDED, 1, 1, 20),
+    (frame_type::HEADERS, flag::PRIORITY, 1, 5, 20),
+    (frame_type::HEADERS, flag::PADDED | flag::PRIORITY, 1, 6, 20),
+    (frame_type::CONTINUATION, flag::PADDED, 1, 0, 20),
+    (frame_type::GOAWAY, 0, 0, 8, 20),
+];
+
+fn are_sized(alloc: Global, sizes: &[Size]) -> Result<bool, Fail> {
+    for (kind, flags, stream, least, most) in sizes {
+        if !is_sized(alloc, *kind, *flags, *stream, *least, *most)? {
+            return Ok(false);
+        }
+    }
+    Ok(true)
+}
+
 #[test]
 fn lengths_of_one_size(rt: HostRuntime) -> Result<(), Fail> {
-    let alloc = rt.alloc();
-    assert!(rt; is_sized(alloc, frame_type::PRIORITY, 0, 1, 5, 5)?);
-    assert!(rt; is_sized(alloc, frame_type::RST_STREAM, 0, 1, 4, 4)?);
-    assert!(rt; is_sized(alloc, frame_type::WINDOW_UPDATE, 0, 0, 4, 4)?);
-    assert!(rt; is_sized(alloc, frame_type::PING, 0, 0, 8, 8)?);
-    assert!(rt; is_sized(alloc, frame_type::SETTINGS, flag::ACK, 0, 0, 0)?);
+    assert!(rt; are_sized(rt.alloc(), &ONE_SIZE)?);
     Ok(())
 }
 
 #[test]
 fn lengths_from_one_size_on(rt: HostRuntime) -> Result<(), Fail> {
-    let cases = [
-        (frame_type::DATA, 0, 0),
-        (frame_type::DATA, flag::PADDED, 1),
-        (frame_type::HEADERS, 0, 0),
-        (frame_type::HEADERS, flag::PADDED, 1),
-        (frame_type::HEADERS, flag::PRIORITY, 5),
-        (frame_type::HEADERS, flag::PADDED | flag::PRIORITY, 6),
-        (frame_type::CONTINUATION, flag::PADDED, 0),
-    ];
-    for (kind, flags, least) in cases {
-        assert!(rt; is_sized(rt.alloc(), kind, flags, 1, least, 20)?);
-    }
-    assert!(rt; is_sized(rt.alloc(), frame_type::GOAWAY, 0, 0, 8, 20)?);
+    assert!(rt; are_sized(rt.alloc(), &FROM_ONE_SIZE_ON)?);
     Ok(())
 }
 
@@ -274,166 +388,187 @@ fn lengths_of_settings(rt: HostRuntime) -> Result<(), Fail> {
     Ok(())
 }
 
+/// Type, flags and payload on stream 1, and the number of the fault.
+type Padding = (u8, u8, &'static [u8], u32);
+
+static PADDINGS: [Padding; 9] = [
+    (frame_type::DATA, flag::PADDED, b"\x03abc", 0),
+    (frame_type::DATA, flag::PADDED, b"\x04abc", 1),
+    (frame_type::DATA, flag::PADDED, b"\x00", 0),
+    (frame_type::DATA, 0, b"\x04abc", 0),
+    (frame_type::HEADERS, flag::PADDED, b"\x03abc", 0),
+    (frame_type::HEADERS, flag::PADDED, b"\x04abc", 1),
+    (frame_type::HEADERS, 40, b"\x01\x00\x00\x00\x03\x10a", 0),
+    (frame_type::HEADERS, 40, b"\x02\x00\x00\x00\x03\x10a", 1),
+    (frame_type::CONTINUATION, flag::PADDED, b"\x04abc", 0),
+];
+
+fn are_padded(alloc: Global, cases: &[Padding]) -> Result<bool, Fail> {
+    for (kind, flags, payload, wanted) in cases {
+        if fault(alloc, *kind, *flags, 1, payload)? != *wanted {
+            return Ok(false);
+        }
+    }
+    Ok(true)
+}
+
 #[test]
 fn paddings(rt: HostRuntime) -> Result<(), Fail> {
-    let cases = [
-        (frame_type::DATA, flag::PADDED, b"\x03abc".as_slice(), 0),
-        (frame_type::DATA, flag::PADDED, b"\x04abc".as_slice(), 1),
-        (frame_type::DATA, flag::PADDED, b"\x00".as_slice(), 0),
-        (frame_type::DATA, 0, b"\x04abc".as_slice(), 0),
-        (frame_type::HEADERS, flag::PADDED, b"\x03abc".as_slice(), 0),
-        (frame_type::HEADERS, flag::PADDED, b"\x04abc".as_slice(), 1),
-        (
-            frame_type::HEADERS,
-            40,
-            b"\x01\x00\x00\x00\x03\x10a".as_slice(),
-            0,
-        ),
-        (
-            frame_type::HEADERS,
-            40,
-            b"\x02\x00\x00\x00\x03\x10a".as_slice(),
-            1,
-        ),
-        (
-            frame_type::CONTINUATION,
-            flag::PADDED,
-            b"\x04abc".as_slice(),
-            0,
-        ),
-    ];
-    for (kind, flags, payload, wanted) in cases {
-        assert!(rt; fault(rt.alloc(), kind, flags, 1, payload)? == wanted);
-    }
+    assert!(rt; are_padded(rt.alloc(), &PADDINGS)?);
     Ok(())
+}
+
+fn reads_data(frame: &RawFrame) -> bool {
+    match interpret(frame) {
+        Ok(
+            Frame::Data {
+                stream,
+                end_stream,
+                data,
+            },
+        ) => stream == 5 && end_stream && data.as_slice() == b"ab".as_slice(),
+        _ => false,
+    }
 }
 
 #[test]
 fn data_without_its_padding(rt: HostRuntime) -> Result<(), Fail> {
     let frame = raw(rt.alloc(), 0, 9, 5, b"\x01ab\x00")?;
-    let Ok(
-        Frame::Data {
-            stream,
-            end_stream,
-            data,
-        },
-    ) = interpret(&frame)
-    else {
-        return Err(Fail::from("no DATA"));
-    };
-    assert!(rt; stream == 5 && end_stream && data.as_slice() == b"ab".as_slice());
+    assert!(rt; reads_data(&frame));
     Ok(())
+}
+
+fn reads_headers(frame: &RawFrame) -> bool {
+    match interpret(frame) {
+        Ok(
+            Frame::Headers {
+                end_stream,
+                end_headers,
+                fragment,
+                ..
+            },
+        ) => !end_stream && end_headers && fragment.as_slice() == b"\x82\x86".as_slice(),
+        _ => false,
+    }
 }
 
 #[test]
 fn headers_without_padding_and_priority(rt: HostRuntime) -> Result<(), Fail> {
-    let frame = raw(
-        rt.alloc(),
-        1,
-        44,
-        1,
-        b"\x02\x80\x00\x00\x03\x0f\x82\x86\x00\x00",
-    )?;
-    let Ok(
-        Frame::Headers {
-            end_stream,
-            end_headers,
-            fragment,
-            ..
-        },
-    ) = interpret(&frame)
-    else {
-        return Err(Fail::from("no HEADERS"));
-    };
-    assert!(rt; !end_stream && end_headers && fragment.as_slice() == b"\x82\x86".as_slice());
+    let payload = b"\x02\x80\x00\x00\x03\x0f\x82\x86\x00\x00";
+    let frame = raw(rt.alloc(), 1, 44, 1, payload)?;
+    assert!(rt; reads_headers(&frame));
     Ok(())
+}
+
+fn reads_window_update(alloc: Global) -> Result<bool, Fail> {
+    let frame = raw(alloc, 8, 0, 0, b"\x80\x00\x00\x4b")?;
+    Ok(matches!(
+        interpret(&frame),
+        Ok(Frame::WindowUpdate {
+            stream: 0,
+            increment: 75
+        })
+    ))
+}
+
+fn reads_go_away(alloc: Global) -> Result<bool, Fail> {
+    let frame = raw(alloc, 7, 0, 0, b"\x80\x00\x00\x09\x00\x00\x00\x0bno")?;
+    Ok(matches!(
+        interpret(&frame),
+        Ok(Frame::GoAway {
+            last_stream: 9,
+            error_code: 11,
+            ..
+        })
+    ))
 }
 
 #[test]
 fn numbers_without_reserved_bit(rt: HostRuntime) -> Result<(), Fail> {
-    let update = raw(rt.alloc(), 8, 0, 0, b"\x80\x00\x00\x4b")?;
-    assert!(rt;
-        matches!(
-            interpret(&update),
-            Ok(Frame::WindowUpdate {
-                stream: 0,
-                increment: 75
-            })
-        )
-    );
-    let go_away = raw(rt.alloc(), 7, 0, 0, b"\x80\x00\x00\x09\x00\x00\x00\x0bno")?;
-    assert!(rt;
-        matches!(
-            interpret(&go_away),
-            Ok(Frame::GoAway {
-                last_stream: 9,
-                error_code: 11,
-                ..
-            })
-        )
-    );
+    let passed = reads_window_update(rt.alloc())? && reads_go_away(rt.alloc())?;
+    assert!(rt; passed);
     Ok(())
+}
+
+fn reads_reset(alloc: Global) -> Result<bool, Fail> {
+    let frame = raw(alloc, 3, 0, 7, b"\x00\x00\x00\x08")?;
+    Ok(matches!(
+        interpret(&frame),
+        Ok(Frame::RstStream {
+            stream: 7,
+            error_code: 8
+        })
+    ))
+}
+
+fn reads_ping(alloc: Global) -> Result<bool, Fail> {
+    let frame = raw(alloc, 6, 1, 0, b"\x01\x02\x03\x04\x05\x06\x07\x08")?;
+    match interpret(&frame) {
+        Ok(Frame::Ping { ack, opaque_data }) => Ok(ack && opaque_data == [1, 2, 3, 4, 5, 6, 7, 8]),
+        _ => Ok(false),
+    }
 }
 
 #[test]
 fn a_reset_and_a_ping(rt: HostRuntime) -> Result<(), Fail> {
-    let reset = raw(rt.alloc(), 3, 0, 7, b"\x00\x00\x00\x08")?;
-    assert!(rt;
-        matches!(
-            interpret(&reset),
-            Ok(Frame::RstStream {
-                stream: 7,
-                error_code: 8
-            })
-        )
-    );
-    let ping = raw(rt.alloc(), 6, 1, 0, b"\x01\x02\x03\x04\x05\x06\x07\x08")?;
-    let Ok(Frame::Ping { ack, opaque_data }) = interpret(&ping) else {
-        return Err(Fail::from("no PING"));
-    };
-    assert!(rt; ack && opaque_data == [1, 2, 3, 4, 5, 6, 7, 8]);
+    let passed = reads_reset(rt.alloc())? && reads_ping(rt.alloc())?;
+    assert!(rt; passed);
     Ok(())
+}
+
+fn reads_priority(alloc: Global) -> Result<bool, Fail> {
+    let frame = raw(alloc, 2, 0, 3, b"\x00\x00\x00\x01\x0f")?;
+    Ok(matches!(interpret(&frame), Ok(Frame::Priority { stream: 3, .. })))
+}
+
+fn reads_promise(alloc: Global) -> Result<bool, Fail> {
+    let frame = raw(alloc, 5, 4, 7, b"\x00\x00\x00\x02")?;
+    Ok(matches!(
+        interpret(&frame),
+        Ok(Frame::PushPromise {
+            flags: 4,
+            stream: 7,
+            ..
+        })
+    ))
+}
+
+fn reads_unknown(alloc: Global) -> Result<bool, Fail> {
+    let frame = raw(alloc, 250, 255, 0, b"*")?;
+    Ok(matches!(
+        interpret(&frame),
+        Ok(Frame::Unknown {
+            kind: 250,
+            flags: 255,
+            ..
+        })
+    ))
 }
 
 #[test]
 fn frames_that_are_not_taken_apart(rt: HostRuntime) -> Result<(), Fail> {
-    let priority = raw(rt.alloc(), 2, 0, 3, b"\x00\x00\x00\x01\x0f")?;
-    assert!(rt; matches!(interpret(&priority), Ok(Frame::Priority { stream: 3, .. })));
-    let promise = raw(rt.alloc(), 5, 4, 7, b"\x00\x00\x00\x02")?;
-    assert!(rt;
-        matches!(
-            interpret(&promise),
-            Ok(Frame::PushPromise {
-                flags: 4,
-                stream: 7,
-                ..
-            })
-        )
-    );
-    let unknown = raw(rt.alloc(), 250, 255, 0, b"*")?;
-    assert!(rt;
-        matches!(
-            interpret(&unknown),
-            Ok(Frame::Unknown {
-                kind: 250,
-                flags: 255,
-                ..
-            })
-        )
-    );
+    let alloc = rt.alloc();
+    let passed = reads_priority(alloc)? && reads_promise(alloc)? && reads_unknown(alloc)?;
+    assert!(rt; passed);
     Ok(())
 }
 
+/// Whether the first setting is this one, which is taken.
+fn pops(settings: &mut SettingsList<'_>, identifier: u16, value: u32) -> bool {
+    match settings.pop_first() {
+        Some(setting) => setting.identifier == identifier && setting.value == value,
+        None => false,
+    }
+}
+
 #[test]
-fn settings_in_order_with_repeats(rt: HostRuntime) -> Result<(), Fail> {
+fn settings_in_order_with_repeats(rt: HostRuntime) {
     let mut settings = SettingsList::new(b"\x00\x03\x00\x00\x00\x64\x00\x03\x00\x00\x00\x65");
-    assert!(rt; settings.len() == 2);
-    let first = settings.pop_first().ok_or("a setting")?;
-    assert!(rt; first.identifier == setting::MAX_CONCURRENT_STREAMS && first.value == 100);
-    let second = settings.pop_first().ok_or("a setting")?;
-    assert!(rt; second.identifier == setting::MAX_CONCURRENT_STREAMS && second.value == 101);
-    assert!(rt; settings.pop_first().is_none());
-    Ok(())
+    let passed = settings.len() == 2
+        && pops(&mut settings, setting::MAX_CONCURRENT_STREAMS, 100)
+        && pops(&mut settings, setting::MAX_CONCURRENT_STREAMS, 101)
+        && settings.pop_first().is_none();
+    assert!(rt; passed);
 }
 
 /// Whether these are the bytes of the frame, written both ways.

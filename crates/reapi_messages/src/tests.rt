@@ -41,151 +41,223 @@ fn is_written_again<'a, M: Message<'a>>(alloc: Global, text: &'a [u8]) -> bool {
     message.encode_into(&mut out).is_ok() && out.as_slice() == text
 }
 
-#[test]
-fn messages_are_written_as_they_were(rt: HostRuntime) {
-    let alloc = rt.alloc();
-    assert!(rt; is_written_again::<Digest>(alloc, DIGEST));
-    assert!(rt; is_written_again::<Digest>(alloc, SIGNED_DIGEST));
-    assert!(rt; is_written_again::<FindMissingBlobsRequest>(alloc, FIND_REQUEST));
-    assert!(rt; is_written_again::<FindMissingBlobsResponse>(alloc, FIND_RESPONSE));
-    assert!(rt; is_written_again::<Status>(alloc, STATUS));
-    assert!(rt; is_written_again::<BatchUpdateBlobsRequest>(alloc, UPDATE_REQUEST));
-    assert!(rt; is_written_again::<BatchUpdateBlobsResponse>(alloc, UPDATE_RESPONSE));
-    assert!(rt; is_written_again::<BatchReadBlobsRequest>(alloc, READ_REQUEST));
-    assert!(rt; is_written_again::<BatchReadBlobsResponse>(alloc, READ_RESPONSE));
-    assert!(rt; is_written_again::<ServerCapabilities>(alloc, CAPABILITIES));
-    assert!(rt; is_written_again::<GetCapabilitiesRequest>(alloc, b"\x0a\x04main"));
+fn requests_are_written_again(alloc: Global) -> bool {
+    is_written_again::<FindMissingBlobsRequest>(alloc, FIND_REQUEST)
+        && is_written_again::<BatchUpdateBlobsRequest>(alloc, UPDATE_REQUEST)
+        && is_written_again::<BatchReadBlobsRequest>(alloc, READ_REQUEST)
+        && is_written_again::<GetCapabilitiesRequest>(alloc, b"\x0a\x04main")
+}
+
+fn responses_are_written_again(alloc: Global) -> bool {
+    is_written_again::<FindMissingBlobsResponse>(alloc, FIND_RESPONSE)
+        && is_written_again::<BatchUpdateBlobsResponse>(alloc, UPDATE_RESPONSE)
+        && is_written_again::<BatchReadBlobsResponse>(alloc, READ_RESPONSE)
+        && is_written_again::<ServerCapabilities>(alloc, CAPABILITIES)
+}
+
+fn parts_are_written_again(alloc: Global) -> bool {
+    is_written_again::<Digest>(alloc, DIGEST)
+        && is_written_again::<Digest>(alloc, SIGNED_DIGEST)
+        && is_written_again::<Status>(alloc, STATUS)
 }
 
 #[test]
-fn fields_are_read(rt: HostRuntime) -> Result<(), Fail> {
-    let alloc = rt.alloc();
-    let request = FindMissingBlobsRequest::decode(alloc, FIND_REQUEST)
-        .ok()
-        .ok_or("a request")?;
-    assert_eq!(rt; request.instance_name, "main");
-    assert_eq!(rt; request.digest_function, 1);
-    assert_eq!(rt; request.blob_digests.len(), 3);
-    let sizes = [3i64, -1, 0];
-    for (digest, size) in request.blob_digests.iter().zip(&sizes) {
-        assert_eq!(rt; digest.size_bytes, *size);
-    }
-    let update = BatchUpdateBlobsRequest::decode(alloc, UPDATE_REQUEST)
-        .ok()
-        .ok_or("a request")?;
-    for (request, content) in update.requests.iter().zip(&[b"abc".as_slice(), b"x"]) {
-        assert_eq!(rt; request.content, *content);
-        assert_eq!(rt; request.digest.is_some(), request.compressor == 0);
-    }
-    let read = BatchReadBlobsResponse::decode(alloc, READ_RESPONSE)
-        .ok()
-        .ok_or("a response")?;
-    let codes = [0i32, 5];
-    for (response, code) in read.responses.iter().zip(&codes) {
-        match &response.status {
-            Some(status) => assert_eq!(rt; status.code, *code),
-            None => return Err(Fail::from("no status")),
+fn messages_are_written_as_they_were(rt: HostRuntime) {
+    assert!(rt; requests_are_written_again(rt.alloc()));
+    assert!(rt; responses_are_written_again(rt.alloc()));
+    assert!(rt; parts_are_written_again(rt.alloc()));
+}
+
+fn have_sizes(digests: &[Digest<'_>], sizes: &[i64]) -> bool {
+    for (digest, size) in digests.iter().zip(sizes) {
+        if digest.size_bytes != *size {
+            return false;
         }
     }
-    let server = ServerCapabilities::decode(alloc, CAPABILITIES)
-        .ok()
-        .ok_or("capabilities")?;
-    let cache = server.cache_capabilities.ok_or("of the cache")?;
-    assert_eq!(rt; cache.digest_functions.as_slice(), [1i32].as_slice());
-    assert_eq!(rt; cache.max_batch_total_size_bytes, 4000000);
-    let status = Status::decode(alloc, STATUS).ok().ok_or("a status")?;
-    assert_eq!(rt; status.message, "bad digest");
-    for detail in &status.details {
-        assert_eq!(rt;
-            detail.type_url,
-            "type.googleapis.com/google.rpc.PreconditionFailure"
-        );
-        assert_eq!(rt; detail.value, b"\x0a\x00".as_slice());
+    digests.len() == sizes.len()
+}
+
+fn reads_find_request(alloc: Global) -> bool {
+    match FindMissingBlobsRequest::decode(alloc, FIND_REQUEST) {
+        Ok(request) => {
+            request.instance_name == "main"
+                && request.digest_function == 1
+                && have_sizes(&request.blob_digests, &[3, -1, 0])
+        }
+        Err(_) => false,
     }
-    Ok(())
+}
+
+/// Whether these are the contents, and those have a digest that are not compressed.
+fn have_contents(requests: &[UpdateBlobRequest<'_>], contents: &[&[u8]]) -> bool {
+    for (request, content) in requests.iter().zip(contents) {
+        if request.content != *content || request.digest.is_some() != (request.compressor == 0) {
+            return false;
+        }
+    }
+    requests.len() == contents.len()
+}
+
+fn reads_update_request(alloc: Global) -> bool {
+    match BatchUpdateBlobsRequest::decode(alloc, UPDATE_REQUEST) {
+        Ok(update) => have_contents(&update.requests, &[b"abc".as_slice(), b"x"]),
+        Err(_) => false,
+    }
+}
+
+fn has_code(response: &ReadBlobResponse<'_>, code: i32) -> bool {
+    match &response.status {
+        Some(status) => status.code == code,
+        None => false,
+    }
+}
+
+fn have_codes(responses: &[ReadBlobResponse<'_>], codes: &[i32]) -> bool {
+    for (response, code) in responses.iter().zip(codes) {
+        if !has_code(response, *code) {
+            return false;
+        }
+    }
+    responses.len() == codes.len()
+}
+
+fn reads_read_response(alloc: Global) -> bool {
+    match BatchReadBlobsResponse::decode(alloc, READ_RESPONSE) {
+        Ok(read) => have_codes(&read.responses, &[0, 5]),
+        Err(_) => false,
+    }
+}
+
+fn is_cache(cache: &CacheCapabilities) -> bool {
+    cache.digest_functions.as_slice() == [1i32].as_slice()
+        && cache.max_batch_total_size_bytes == 4000000
+}
+
+fn reads_capabilities(alloc: Global) -> bool {
+    match ServerCapabilities::decode(alloc, CAPABILITIES) {
+        Ok(server) => match &server.cache_capabilities {
+            Some(cache) => is_cache(cache),
+            None => false,
+        },
+        Err(_) => false,
+    }
+}
+
+fn is_precondition_failure(detail: &Any<'_>) -> bool {
+    detail.type_url == "type.googleapis.com/google.rpc.PreconditionFailure"
+        && detail.value == b"\x0a\x00".as_slice()
+}
+
+fn is_bad_digest(status: &Status<'_>) -> bool {
+    for detail in &status.details {
+        if !is_precondition_failure(detail) {
+            return false;
+        }
+    }
+    status.message == "bad digest"
+}
+
+fn reads_status(alloc: Global) -> bool {
+    match Status::decode(alloc, STATUS) {
+        Ok(status) => is_bad_digest(&status),
+        Err(_) => false,
+    }
+}
+
+#[test]
+fn fields_are_read(rt: HostRuntime) {
+    let alloc = rt.alloc();
+    assert!(rt; reads_find_request(alloc) && reads_update_request(alloc));
+    assert!(rt; reads_read_response(alloc) && reads_capabilities(alloc));
+    assert!(rt; reads_status(alloc));
+}
+
+/// Whether a digest is read so.
+fn reads_digest(alloc: Global, text: &[u8], hash: &str, size: i64) -> bool {
+    match Digest::decode(alloc, text) {
+        Ok(digest) => digest.hash == hash && digest.size_bytes == size,
+        Err(_) => false,
+    }
+}
+
+/// Whether the code of a status is read so.
+fn reads_code(alloc: Global, text: &[u8], code: i32) -> bool {
+    match Status::decode(alloc, text) {
+        Ok(status) => status.code == code,
+        Err(_) => false,
+    }
 }
 
 /// Unknown fields and other wire types are skipped, the last record of a field is taken, and
 /// varints may be longer than they need be.
 #[test]
-fn readers_are_lenient(rt: HostRuntime) -> Result<(), Fail> {
+fn readers_are_lenient(rt: HostRuntime) {
     let text =
         b"\x7d\x01\x02\x03\x04\x10\x07\x08\x05\x0a\x01a\x10\x89\x80\x00\x0a\x01b\x12\x01\x01";
-    let digest = Digest::decode(rt.alloc(), text).ok().ok_or("a digest")?;
-    assert_eq!(rt; digest.hash, "b");
-    assert_eq!(rt; digest.size_bytes, 9);
+    assert!(rt; reads_digest(rt.alloc(), text, "b", 9));
     // The low 32 bits of 2^32 + 3, and of -2.
     let wide = b"\x08\x83\x80\x80\x80\x10";
-    let status = Status::decode(rt.alloc(), wide).ok().ok_or("a status")?;
-    assert_eq!(rt; status.code, 3);
     let negative = b"\x08\xfe\xff\xff\xff\xff\xff\xff\xff\xff\x01";
-    let status = Status::decode(rt.alloc(), negative).ok().ok_or("a status")?;
-    assert_eq!(rt; status.code, -2);
-    Ok(())
+    assert!(rt; reads_code(rt.alloc(), wide, 3) && reads_code(rt.alloc(), negative, -2));
+}
+
+/// Whether the digest of an upload is read so.
+fn reads_upload(alloc: Global, text: &[u8], hash: &str, size: i64) -> bool {
+    match UpdateBlobRequest::decode(alloc, text) {
+        Ok(request) => match &request.digest {
+            Some(digest) => digest.hash == hash && digest.size_bytes == size,
+            None => false,
+        },
+        Err(_) => false,
+    }
 }
 
 /// The records of an embedded message may stand in several payloads.
 #[test]
-fn payloads_are_joined(rt: HostRuntime) -> Result<(), Fail> {
+fn payloads_are_joined(rt: HostRuntime) {
+    let alloc = rt.alloc();
     let parts = b"\x0a\x03\x0a\x01a\x12\x03abc\x0a\x02\x10\x07\x0a\x00";
-    let request = UpdateBlobRequest::decode(rt.alloc(), parts)
-        .ok()
-        .ok_or("a request")?;
-    let digest = request.digest.ok_or("a digest")?;
-    assert_eq!(rt; digest.hash, "a");
-    assert_eq!(rt; digest.size_bytes, 7);
+    assert!(rt; reads_upload(alloc, parts, "a", 7));
     // The payloads 0a and 01 61, of which only both together would be records.
-    let torn = b"\x0a\x01\x0a\x0a\x02\x01a";
-    assert!(rt;
-        matches!(
-            UpdateBlobRequest::decode(rt.alloc(), torn),
-            Err(MessageError::Wire(WireError::Truncated))
-        )
-    );
-    Ok(())
+    let torn = UpdateBlobRequest::decode(alloc, b"\x0a\x01\x0a\x0a\x02\x01a");
+    assert!(rt; matches!(torn, Err(MessageError::Wire(WireError::Truncated))));
+}
+
+fn is_truncated(alloc: Global, text: &[u8]) -> bool {
+    matches!(
+        Digest::decode(alloc, text),
+        Err(MessageError::Wire(WireError::Truncated))
+    )
+}
+
+fn is_not_utf8(alloc: Global, text: &[u8]) -> bool {
+    matches!(Digest::decode(alloc, text), Err(MessageError::NotUtf8))
+}
+
+fn has_bad_wire_type(alloc: Global, text: &[u8]) -> bool {
+    matches!(
+        Digest::decode(alloc, text),
+        Err(MessageError::Wire(WireError::BadWireType))
+    )
+}
+
+fn digests_are_refused(alloc: Global) -> bool {
+    // Each record of a string field is UTF-8, also one that a later record replaces. The fault of a later record
+    // is answered before the string.
+    is_truncated(alloc, b"\xff")
+        && is_not_utf8(alloc, b"\x0a\x01\xff")
+        && is_not_utf8(alloc, b"\x0a\x01\xff\x0a\x01a")
+        && has_bad_wire_type(alloc, b"\x0a\x01\xff\x0b")
 }
 
 #[test]
 fn malformed_messages_are_refused(rt: HostRuntime) {
     let alloc = rt.alloc();
-    assert!(rt;
-        matches!(
-            Digest::decode(alloc, b"\xff"),
-            Err(MessageError::Wire(WireError::Truncated))
-        )
-    );
-    assert!(rt;
-        matches!(
-            Digest::decode(alloc, b"\x0a\x01\xff"),
-            Err(MessageError::NotUtf8)
-        )
-    );
-    // Each record of a string field is UTF-8, also one that a later record replaces.
-    assert!(rt;
-        matches!(
-            Digest::decode(alloc, b"\x0a\x01\xff\x0a\x01a"),
-            Err(MessageError::NotUtf8)
-        )
-    );
-    // The fault of a later record is answered before the string.
-    assert!(rt;
-        matches!(
-            Digest::decode(alloc, b"\x0a\x01\xff\x0b"),
-            Err(MessageError::Wire(WireError::BadWireType))
-        )
-    );
-    assert!(rt;
-        matches!(
-            FindMissingBlobsRequest::decode(alloc, b"\x12\x01\x08"),
-            Err(MessageError::Wire(_))
-        )
-    );
-    assert!(rt;
-        matches!(
-            FindMissingBlobsRequest::decode(alloc, b"\x12\x03\x0a\x01\xff"),
-            Err(MessageError::NotUtf8)
-        )
-    );
+    assert!(rt; digests_are_refused(alloc));
+    let truncated = FindMissingBlobsRequest::decode(alloc, b"\x12\x01\x08");
+    assert!(rt; matches!(truncated, Err(MessageError::Wire(_))));
+    let no_text = FindMissingBlobsRequest::decode(alloc, b"\x12\x03\x0a\x01\xff");
+    assert!(rt; matches!(no_text, Err(MessageError::NotUtf8)));
 }
 
 /// A message is added behind what stands in the vector.

@@ -1,10 +1,11 @@
 #!/usr/bin/env python3
-"""Writes a file for `remoted replay`: clients of four instances that ask for missing blobs, upload and read.
+"""Writes a file for `remoted replay`: clients of several instances that ask for missing blobs, upload and read.
 
-    replay_events.py EVENTS > FILE
+    replay_events.py EVENTS [INSTANCES CLIENTS] > FILE
 
-A client sends each call whole (HEADERS and DATA, and WINDOW_UPDATE for the response before), and then takes the
-whole response: two events a call. The lengths of the responses are computed here, by the rules of the profile.
+There are four instances with eight clients each, or as many as are given. A client has one connection. It sends each
+call whole (HEADERS and DATA, and WINDOW_UPDATE for the response before), and then takes the whole response: two
+events a call. The lengths of the responses are computed here, by the rules of docs/PROTOCOL.md.
 """
 
 import hashlib
@@ -13,7 +14,6 @@ import sys
 
 SERVICE = b'/build.bazel.remote.execution.v2.ContentAddressableStorage/'
 PREFACE = b'PRI * HTTP/2.0\r\n\r\nSM\r\n\r\n'
-INSTANCES, CONNECTIONS = 4, 8
 
 
 def varint(number):
@@ -71,18 +71,19 @@ def varint_prefix(number):
 
 def main():
     events, rng = int(sys.argv[1]), random.Random(1)
+    instances, connections = (int(word) for word in sys.argv[2:4] or (4, 8))
     out = sys.stdout
-    for i in range(INSTANCES):
+    for i in range(instances):
         out.write('instance team%d 1099511627776 0\n' % i)
-    clients, stored = {}, [[rng.randbytes(800)] for _ in range(INSTANCES)]
-    for i in range(INSTANCES):
-        for c in range(CONNECTIONS):
+    clients, stored = {}, [[rng.randbytes(800)] for _ in range(instances)]
+    for i in range(instances):
+        for c in range(connections):
             out.write('open 0 %d %d\ntook 0 %d %d 15\n' % (i, c, i, c))
             clients[i, c] = Client()
-    for i in range(INSTANCES):
+    for i in range(instances):
         write_call(out, clients[i, 0], 1, i, 0, b'BatchUpdateBlobs', *upload(stored[i]))
-    for moment in range((events - 2 * INSTANCES * (CONNECTIONS + 1)) // 2):
-        i, c = rng.randrange(INSTANCES), rng.randrange(CONNECTIONS)
+    for moment in range((events - 2 * instances * (connections + 1)) // 2):
+        i, c = rng.randrange(instances), rng.randrange(connections)
         kind = rng.random()
         if kind < 0.6:
             blobs = [rng.choice(stored[i]) for _ in range(10)]

@@ -1,4 +1,4 @@
--- The methods that are served, and their paths (gRPC over HTTP2, Path: the service's name and the method's).
+-- The methods that are known, and their paths (gRPC over HTTP2, Path: the service's name and the method's).
 use Rattle.std.specs.Prelude.{ℕ, List, [], ◌∷◌, Option, Some, None, codes, if◌then◌else◌}
 use Rattle.std.specs.Str.{bytes_eq}
 use Rattle.call_methods.specs.declared.method.Method.{Method}

@@ -1,4 +1,4 @@
-//! The methods that are served.
+//! The methods that are known.
 
 ghost use Rattle.std.specs.Prelude.{◌≡◌};
 ghost use Rattle.call_methods.specs.Methods.{path_of, method_in, method_at};

@@ -4,7 +4,7 @@ ghost use Rattle.call_status.specs.Status.{code_of, text_of};
 /// Why a call, or one blob of a batch, is refused.
 #[derive(Clone, Copy, PartialEq, Eq)]
 pub enum Refusal {
-    /// The path names no method that is served.
+    /// The path names no known method, or one that is not served.
     UnknownMethod,
     /// A message's flag says that it is compressed.
     CompressedMessage,

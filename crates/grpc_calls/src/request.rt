@@ -18,7 +18,7 @@ pub enum HeadFault {
     Method,
     /// No content type of it begins `application/grpc`.
     ContentType,
-    /// Its path names no method that is served.
+    /// Its path names no known method.
     Path,
 }
 

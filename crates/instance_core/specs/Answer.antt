@@ -1,5 +1,9 @@
 -- What an instance answers to an event of a call. Each method here takes one message, and is answered at the end of its
 -- request. What comes for a call that is not in course is dropped: it was answered before, or given up.
+-- To be read from the last definitions up: `answer` has a case for each event. A call is named by the numbers of its
+-- connection and of its stream (`CallId`). `reply_to` is a method's answer to its one message, and `text_changes` what
+-- it does to the instance's texts (Methods.antt). A change is `Text`, a use or an admission of a text, `Goes`, a call
+-- begins or goes on, or `Ends`, a call ends (Changes.antt).
 use Rattle.std.specs.Prelude.{ℕ, ◌<◌, ◌^◌, List, [], ◌∷◌, ◌++◌, length, map, Option, Some, None, Result, Err, IfOk, if◌then◌else◌}
 use Rattle.call_methods.specs.declared.method.Method.{Method}
 use Rattle.call_status.specs.declared.refusal.Refusal.{Refusal}

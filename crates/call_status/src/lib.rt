@@ -4,6 +4,3 @@
 mod refusal;
 
 pub use refusal::Refusal;
-
-#[cfg(test)]
-mod tests;

@@ -254,6 +254,3 @@ pub fn status(error: &Error) -> u8
 {
     error.exit_code() as u8
 }
-
-#[cfg(test)]
-mod tests;

@@ -10,6 +10,3 @@ mod laws;
 pub use connection::Connection;
 pub use event::CallEvent;
 pub use laws::calls_on_live_streams;
-
-#[cfg(test)]
-mod tests;

@@ -151,6 +151,3 @@ impl Hasher {
         }
     }
 }
-
-#[cfg(test)]
-mod tests;

@@ -13,6 +13,3 @@ pub use laws::{
 };
 pub use request::{HeadFault, head};
 pub use response::{ResponseBlock, Status};
-
-#[cfg(test)]
-mod tests;

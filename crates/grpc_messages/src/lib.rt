@@ -16,6 +16,3 @@ pub use laws::{
 pub use message::Message;
 pub use reader::{MESSAGE_LIMIT, Messages, PREFIX_LENGTH};
 pub use writer::write_message;
-
-#[cfg(test)]
-mod tests;

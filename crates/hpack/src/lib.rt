@@ -23,6 +23,3 @@ pub use laws::{
     reading_is_the_grammar, refusal_is_the_first_fault, server_blocks_are_read_back,
     the_limit_is_on_the_fields, the_longest_front_is_kept,
 };
-
-#[cfg(test)]
-mod tests;

@@ -5,8 +5,6 @@ mod code;
 mod decode;
 mod laws;
 mod reader;
-#[cfg(test)]
-mod tests;
 
 pub use decode::decode_into;
 pub use laws::{no_code_begins_another, reading_is_the_grammar};

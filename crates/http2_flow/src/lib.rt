@@ -5,6 +5,3 @@
 mod window;
 
 pub use window::{FlowError, INITIAL_SIZE, MAX_SIZE, Window};
-
-#[cfg(test)]
-mod tests;

@@ -24,6 +24,3 @@ pub use octets::{Octets, Payload};
 pub use reader::{CLIENT_PREFACE, FrameReader, HEADER_LENGTH, MAX_FRAME_SIZE};
 pub use settings::{Setting, SettingsList};
 pub use writer::{payload_length, put_frame, put_header, write_frame};
-
-#[cfg(test)]
-mod tests;

@@ -6,6 +6,3 @@ mod header_blocks;
 
 pub use fault::H2Fault;
 pub use header_blocks::{HeaderBlocks, HeaderList, MAX_BLOCK, MAX_CONTINUATIONS};
-
-#[cfg(test)]
-mod tests;

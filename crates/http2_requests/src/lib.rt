@@ -5,6 +5,3 @@ mod field_syntax;
 mod request;
 
 pub use request::is_well_formed_request;
-
-#[cfg(test)]
-mod tests;

@@ -16,6 +16,3 @@ pub use laws::{
 };
 pub use stream::Stream;
 pub use streams::{MAX_STREAMS, Streams};
-
-#[cfg(test)]
-mod tests;

@@ -6,9 +6,6 @@ ghost use Rattle.std.specs.List.{list_all, list_any};
 ghost use Rattle.std.specs.Str.{bytes_eq};
 ghost use Rattle.instance_config.specs.Instance.{IsInstanceName, is_instance_name, is_name_byte, resource_words, quota_limit, slots_limit};
 
-#[cfg(test)]
-mod tests;
-
 /// The most bytes that a name may have.
 const NAME_LIMIT: usize = 64;
 

@@ -13,6 +13,3 @@ mod methods;
 
 pub use event::{CallEvent, CallId, Outcome, Reply};
 pub use instance::Instance;
-
-#[cfg(test)]
-mod tests;

@@ -4,6 +4,3 @@
 mod view;
 
 pub use view::{MOST_ENTRIES, View};
-
-#[cfg(test)]
-mod tests;

@@ -17,6 +17,3 @@ pub use parts::{
     put_flag, put_int32, put_int64, put_octets, put_repeated_enum, put_repeated_string, put_string,
 };
 pub use protobuf_wire::{Content, Field, WireError, Writer};
-
-#[cfg(test)]
-mod tests;

@@ -8,9 +8,6 @@ ghost use Rattle.program_status.specs.declared.Status.TheVariants.{Failed};
 ghost use Rattle.program_status.specs.declared.Fault.TheVariants.{OutOfMemory};
 ghost use Rattle.probe.specs.Exchange.{IsSent, IsReceived, IsOutcome, hex_line};
 
-#[cfg(test)]
-mod tests;
-
 use program_status::{Fault, Status};
 use std::alloc::Global;
 use std::io::{self, ErrorKind, Read, Write};

@@ -5,9 +5,6 @@ ghost use Rattle.std.specs.Prelude.{◌≡◌, OnOk, IfOk, IfSome};
 ghost use Rattle.std.specs.Io.KnownBytes.{Appends};
 ghost use Rattle.program_status.specs.Status.{code_of, fault_line, status_of_fault};
 
-#[cfg(test)]
-mod tests;
-
 use std::alloc::{AllocError, Global};
 use std::io::{self, ErrorKind, Read, Write};
 

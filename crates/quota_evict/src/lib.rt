@@ -8,6 +8,3 @@ pub use admission::{AdmitError, MOST_QUOTA, admit};
 pub use laws::{
     a_text_seen_is_named, kept_front_is_longest, no_texts_keep_limits, uses_keep_limits,
 };
-
-#[cfg(test)]
-mod tests;

@@ -29,6 +29,3 @@ pub use laws::{
 };
 pub use message_fields::{Field, Message, MessageError, WireError, Writer};
 pub use status::{Any, Status};
-
-#[cfg(test)]
-mod tests;

@@ -2,10 +2,6 @@
 #![tactic(auto)]
 
 mod lines;
-#[cfg(test)]
-mod rows;
 mod run;
-#[cfg(test)]
-mod tests;
 
 pub use run::replay;

@@ -7,9 +7,6 @@ ghost use Rattle.std.specs.Prelude.{◌≡◌, ◌++◌, ◌≤◌, length, take
 ghost use Rattle.script.specs.Hexadecimal.{hex_word};
 ghost use Rattle.replay_lines.specs.Lines.{sent_line, start_line, kill_line, refusal_line, stray_line};
 
-#[cfg(test)]
-mod tests;
-
 use script::write_hex;
 use std::alloc::AllocError as NoMemory;
 

@@ -22,8 +22,6 @@ mod fault;
 pub mod laws;
 mod output;
 mod parser;
-#[cfg(test)]
-mod tests;
 
 pub use crate::fault::ScriptFault;
 pub use crate::parser::{ReplayScript, parse};

@@ -7,6 +7,3 @@ mod record;
 
 pub use outputs::{InstanceOutput, RefusedEvent, SentBytes};
 pub use record::InstanceRecord;
-
-#[cfg(test)]
-mod tests;

@@ -9,8 +9,6 @@ mod hexadecimal;
 pub mod laws;
 mod number;
 mod parts;
-#[cfg(test)]
-mod tests;
 
 pub use crate::hexadecimal::{hex_bytes, write_hex};
 pub use crate::number::decimal;

@@ -10,6 +10,3 @@ mod replies;
 
 pub use instance::{CONNECTION_LIMIT, ServedInstance};
 pub use refusal::EventRefusal;
-
-#[cfg(test)]
-mod tests;

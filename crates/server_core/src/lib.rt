@@ -8,6 +8,3 @@ mod whole_run;
 pub use laws::equal_events_give_equal_outputs;
 pub use server::Server;
 pub use whole_run::{Outputs, run};
-
-#[cfg(test)]
-mod tests;

@@ -6,8 +6,6 @@ mod configs;
 mod event;
 mod fault;
 pub mod laws;
-#[cfg(test)]
-mod tests;
 
 pub use crate::configs::{Configs, INSTANCE_LIMIT, InstanceConfig, own_fault};
 pub use crate::event::{Event, Outcome, OutputFile, What};

@@ -7,6 +7,3 @@ mod store;
 
 pub use run::unary;
 pub use store::Store;
-
-#[cfg(test)]
-mod tests;

@@ -15,8 +15,6 @@ mod fault;
 pub mod laws;
 mod method;
 mod parser;
-#[cfg(test)]
-mod tests;
 
 pub use crate::command::{Command, Instance, Script};
 pub use crate::fault::ScriptFault;

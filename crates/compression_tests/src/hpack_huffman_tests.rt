@@ -1,182 +1,225 @@
 use hpack_huffman::*;
+use std::alloc::{AllocError, Global};
 use std::test::*;
 
-fn decoded(rt: &HostRuntime, octets: &[u8]) -> Result<Vec<u8>, Fail> {
-    let mut text = Vec::new(rt.alloc());
-    decode_into(octets, &mut text).ok().ok_or("a text")?;
-    Ok(text)
+/// Octets, and the text that they write.
+type Example = (&'static [u8], &'static [u8]);
+
+fn is_text(alloc: Global, octets: &[u8], wanted: &[u8]) -> bool {
+    let mut text = Vec::new(alloc);
+    decode_into(octets, &mut text).is_ok() && text.as_slice() == wanted
+}
+
+/// The first of these examples that is read otherwise.
+fn first_wrong(alloc: Global, examples: &[Example]) -> Option<usize> {
+    for (index, (octets, text)) in examples.iter().enumerate() {
+        if !is_text(alloc, octets, text) {
+            return Some(index);
+        }
+    }
+    None
 }
 
 // RFC 7541, appendix C.4.
-#[test]
-fn requests_of_the_standard(rt: HostRuntime) -> Result<(), Fail> {
-    let examples: [(&[u8], &[u8]); 4] = [
-        (
-            &[
-                0xf1, 0xe3, 0xc2, 0xe5, 0xf2, 0x3a, 0x6b, 0xa0, 0xab, 0x90, 0xf4, 0xff,
-            ],
-            b"www.example.com",
-        ),
-        (&[0xa8, 0xeb, 0x10, 0x64, 0x9c, 0xbf], b"no-cache"),
-        (
-            &[0x25, 0xa8, 0x49, 0xe9, 0x5b, 0xa9, 0x7d, 0x7f],
-            b"custom-key",
-        ),
-        (
-            &[0x25, 0xa8, 0x49, 0xe9, 0x5b, 0xb8, 0xe8, 0xb4, 0xbf],
-            b"custom-value",
-        ),
-    ];
-    for (octets, text) in examples {
-        assert_eq!(rt; decoded(&rt, octets)?.as_slice(), text);
-    }
-    Ok(())
-}
+static REQUESTS: [Example; 4] = [
+    (
+        &[
+            0xf1, 0xe3, 0xc2, 0xe5, 0xf2, 0x3a, 0x6b, 0xa0, 0xab, 0x90, 0xf4, 0xff,
+        ],
+        b"www.example.com",
+    ),
+    (&[0xa8, 0xeb, 0x10, 0x64, 0x9c, 0xbf], b"no-cache"),
+    (
+        &[0x25, 0xa8, 0x49, 0xe9, 0x5b, 0xa9, 0x7d, 0x7f],
+        b"custom-key",
+    ),
+    (
+        &[0x25, 0xa8, 0x49, 0xe9, 0x5b, 0xb8, 0xe8, 0xb4, 0xbf],
+        b"custom-value",
+    ),
+];
 
 // RFC 7541, appendix C.6.
-#[test]
-fn responses_of_the_standard(rt: HostRuntime) -> Result<(), Fail> {
-    let examples: [(&[u8], &[u8]); 8] = [
-        (&[0x64, 0x02], b"302"),
-        (&[0xae, 0xc3, 0x77, 0x1a, 0x4b], b"private"),
-        (
-            &[
-                0xd0, 0x7a, 0xbe, 0x94, 0x10, 0x54, 0xd4, 0x44, 0xa8, 0x20, 0x05, 0x95, 0x04, 0x0b,
-                0x81, 0x66, 0xe0, 0x82, 0xa6, 0x2d, 0x1b, 0xff,
-            ],
-            b"Mon, 21 Oct 2013 20:13:21 GMT",
-        ),
-        (
-            &[
-                0x9d, 0x29, 0xad, 0x17, 0x18, 0x63, 0xc7, 0x8f, 0x0b, 0x97, 0xc8, 0xe9, 0xae, 0x82,
-                0xae, 0x43, 0xd3,
-            ],
-            b"https://www.example.com",
-        ),
-        (&[0x64, 0x0e, 0xff], b"307"),
-        (
-            &[
-                0xd0, 0x7a, 0xbe, 0x94, 0x10, 0x54, 0xd4, 0x44, 0xa8, 0x20, 0x05, 0x95, 0x04, 0x0b,
-                0x81, 0x66, 0xe0, 0x84, 0xa6, 0x2d, 0x1b, 0xff,
-            ],
-            b"Mon, 21 Oct 2013 20:13:22 GMT",
-        ),
-        (&[0x9b, 0xd9, 0xab], b"gzip"),
-        (
-            &[
-                0x94, 0xe7, 0x82, 0x1d, 0xd7, 0xf2, 0xe6, 0xc7, 0xb3, 0x35, 0xdf, 0xdf, 0xcd, 0x5b,
-                0x39, 0x60, 0xd5, 0xaf, 0x27, 0x08, 0x7f, 0x36, 0x72, 0xc1, 0xab, 0x27, 0x0f, 0xb5,
-                0x29, 0x1f, 0x95, 0x87, 0x31, 0x60, 0x65, 0xc0, 0x03, 0xed, 0x4e, 0xe5, 0xb1, 0x06,
-                0x3d, 0x50, 0x07,
-            ],
-            b"foo=ASDJKHQKBZXOQWEOPIUAXQWEOIU; max-age=3600; version=1",
-        ),
-    ];
-    for (octets, text) in examples {
-        assert_eq!(rt; decoded(&rt, octets)?.as_slice(), text);
-    }
-    Ok(())
-}
+static RESPONSES: [Example; 8] = [
+    (&[0x64, 0x02], b"302"),
+    (&[0xae, 0xc3, 0x77, 0x1a, 0x4b], b"private"),
+    (
+        &[
+            0xd0, 0x7a, 0xbe, 0x94, 0x10, 0x54, 0xd4, 0x44, 0xa8, 0x20, 0x05, 0x95, 0x04, 0x0b,
+            0x81, 0x66, 0xe0, 0x82, 0xa6, 0x2d, 0x1b, 0xff,
+        ],
+        b"Mon, 21 Oct 2013 20:13:21 GMT",
+    ),
+    (
+        &[
+            0x9d, 0x29, 0xad, 0x17, 0x18, 0x63, 0xc7, 0x8f, 0x0b, 0x97, 0xc8, 0xe9, 0xae, 0x82,
+            0xae, 0x43, 0xd3,
+        ],
+        b"https://www.example.com",
+    ),
+    (&[0x64, 0x0e, 0xff], b"307"),
+    (
+        &[
+            0xd0, 0x7a, 0xbe, 0x94, 0x10, 0x54, 0xd4, 0x44, 0xa8, 0x20, 0x05, 0x95, 0x04, 0x0b,
+            0x81, 0x66, 0xe0, 0x84, 0xa6, 0x2d, 0x1b, 0xff,
+        ],
+        b"Mon, 21 Oct 2013 20:13:22 GMT",
+    ),
+    (&[0x9b, 0xd9, 0xab], b"gzip"),
+    (
+        &[
+            0x94, 0xe7, 0x82, 0x1d, 0xd7, 0xf2, 0xe6, 0xc7, 0xb3, 0x35, 0xdf, 0xdf, 0xcd, 0x5b,
+            0x39, 0x60, 0xd5, 0xaf, 0x27, 0x08, 0x7f, 0x36, 0x72, 0xc1, 0xab, 0x27, 0x0f, 0xb5,
+            0x29, 0x1f, 0x95, 0x87, 0x31, 0x60, 0x65, 0xc0, 0x03, 0xed, 0x4e, 0xe5, 0xb1, 0x06,
+            0x3d, 0x50, 0x07,
+        ],
+        b"foo=ASDJKHQKBZXOQWEOPIUAXQWEOIU; max-age=3600; version=1",
+    ),
+];
 
 // No bit of padding, and then one more in each row.
-#[test]
-fn each_padding(rt: HostRuntime) -> Result<(), Fail> {
-    let examples: [(&[u8], &[u8]); 8] = [
-        (&[0xf8], b"&"),
-        (&[0xb9], b":"),
-        (&[0x8f], b"b"),
-        (&[0x07], b"0"),
-        (&[0x05, 0xcf], b"0:"),
-        (&[0x04, 0x7f], b"0b"),
-        (&[0x00, 0x3f], b"00"),
-        (&[0x00, 0x2e, 0x7f], b"00:"),
-    ];
-    for (octets, text) in examples {
-        assert_eq!(rt; decoded(&rt, octets)?.as_slice(), text);
-        // eight ones more are too many
-        let mut longer = Vec::from_slice(rt.alloc(), octets)?;
-        longer.push(0xff)?;
-        let mut none = Vec::new(rt.alloc());
-        assert_eq!(rt; decode_into(&longer, &mut none), Err(HuffmanError::Padding));
-        assert!(rt; none.is_empty());
-    }
-    assert!(rt; decoded(&rt, &[])?.is_empty());
-    Ok(())
-}
+static PADDINGS: [Example; 8] = [
+    (&[0xf8], b"&"),
+    (&[0xb9], b":"),
+    (&[0x8f], b"b"),
+    (&[0x07], b"0"),
+    (&[0x05, 0xcf], b"0:"),
+    (&[0x04, 0x7f], b"0b"),
+    (&[0x00, 0x3f], b"00"),
+    (&[0x00, 0x2e, 0x7f], b"00:"),
+];
 
 // The codes of thirty bits: 0x3ffffffc, 0x3ffffffd, 0x3ffffffe.
+static LONGEST_CODES: [Example; 3] = [
+    (&[0xff, 0xff, 0xff, 0xf3], &[10]),
+    (&[0xff, 0xff, 0xff, 0xf7], &[13]),
+    (&[0xff, 0xff, 0xff, 0xfb], &[22]),
+];
+
 #[test]
-fn longest_codes(rt: HostRuntime) -> Result<(), Fail> {
-    let examples: [(&[u8], &[u8]); 3] = [
-        (&[0xff, 0xff, 0xff, 0xf3], &[10]),
-        (&[0xff, 0xff, 0xff, 0xf7], &[13]),
-        (&[0xff, 0xff, 0xff, 0xfb], &[22]),
-    ];
-    for (octets, text) in examples {
-        assert_eq!(rt; decoded(&rt, octets)?.as_slice(), text);
+fn examples(rt: HostRuntime) {
+    assert_eq!(rt; first_wrong(rt.alloc(), &REQUESTS), None);
+    assert_eq!(rt; first_wrong(rt.alloc(), &RESPONSES), None);
+    assert_eq!(rt; first_wrong(rt.alloc(), &PADDINGS), None);
+    assert_eq!(rt; first_wrong(rt.alloc(), &LONGEST_CODES), None);
+    assert!(rt; is_text(rt.alloc(), &[], b""));
+}
+
+/// Octets, and their fault.
+type Faulty = (&'static [u8], HuffmanError);
+
+static FAULTS: [Faulty; 8] = [
+    // zeros after a symbol
+    (&[0x18], HuffmanError::Padding),
+    (&[0xff, 0xff, 0xff, 0xf0], HuffmanError::Padding),
+    // more than seven ones, and eleven bits that only begin a code
+    (&[0x1f, 0xff], HuffmanError::Padding),
+    (&[0xff, 0xff, 0xff], HuffmanError::Padding),
+    (&[0x1f, 0xfe], HuffmanError::Padding),
+    // EOS alone, after a symbol, and before zeros
+    (&[0xff, 0xff, 0xff, 0xff], HuffmanError::Eos),
+    (&[0x1f, 0xff, 0xff, 0xff, 0xff], HuffmanError::Eos),
+    (&[0xff, 0xff, 0xff, 0xfc], HuffmanError::Eos),
+];
+
+/// Whether the octets are refused so, and the text is left as it was.
+fn is_refused(alloc: Global, octets: &[u8], fault: HuffmanError) -> Result<bool, AllocError> {
+    let mut text = Vec::from_slice(alloc, b"kept")?;
+    let answer = decode_into(octets, &mut text);
+    Ok(answer == Err(fault) && text.as_slice() == b"kept".as_slice())
+}
+
+/// The first of these that is not refused so.
+fn first_taken(alloc: Global, faults: &[Faulty]) -> Result<Option<usize>, AllocError> {
+    for (index, (octets, fault)) in faults.iter().enumerate() {
+        if !is_refused(alloc, octets, *fault)? {
+            return Ok(Some(index));
+        }
     }
-    Ok(())
+    Ok(None)
+}
+
+/// Whether the octets are refused with eight ones more.
+fn is_too_long(alloc: Global, octets: &[u8]) -> Result<bool, AllocError> {
+    let mut longer = Vec::from_slice(alloc, octets)?;
+    longer.push(0xff)?;
+    is_refused(alloc, &longer, HuffmanError::Padding)
+}
+
+/// The first of these examples that is taken with eight ones more.
+fn first_too_long(alloc: Global, examples: &[Example]) -> Result<Option<usize>, AllocError> {
+    for (index, (octets, _)) in examples.iter().enumerate() {
+        if !is_too_long(alloc, octets)? {
+            return Ok(Some(index));
+        }
+    }
+    Ok(None)
 }
 
 #[test]
 fn faults(rt: HostRuntime) -> Result<(), Fail> {
-    let faults: [(&[u8], HuffmanError); 8] = [
-        // zeros after a symbol
-        (&[0x18], HuffmanError::Padding),
-        (&[0xff, 0xff, 0xff, 0xf0], HuffmanError::Padding),
-        // more than seven ones, and eleven bits that only begin a code
-        (&[0x1f, 0xff], HuffmanError::Padding),
-        (&[0xff, 0xff, 0xff], HuffmanError::Padding),
-        (&[0x1f, 0xfe], HuffmanError::Padding),
-        // EOS alone, after a symbol, and before zeros
-        (&[0xff, 0xff, 0xff, 0xff], HuffmanError::Eos),
-        (&[0x1f, 0xff, 0xff, 0xff, 0xff], HuffmanError::Eos),
-        (&[0xff, 0xff, 0xff, 0xfc], HuffmanError::Eos),
-    ];
-    for (octets, fault) in faults {
-        let mut text = Vec::from_slice(rt.alloc(), b"kept")?;
-        assert_eq!(rt; decode_into(octets, &mut text), Err(fault));
-        assert_eq!(rt; text.as_slice(), b"kept".as_slice());
-    }
+    assert_eq!(rt; first_taken(rt.alloc(), &FAULTS)?, None);
+    assert_eq!(rt; first_too_long(rt.alloc(), &PADDINGS)?, None);
     Ok(())
+}
+
+fn is_added(text: &mut Vec<u8>) -> bool {
+    decode_into(&[0x1f], text).is_ok() && text.as_slice() == b"ba".as_slice()
 }
 
 #[test]
 fn adds_to_the_text(rt: HostRuntime) -> Result<(), Fail> {
     let mut text = Vec::from_slice(rt.alloc(), b"b")?;
-    assert_eq!(rt; decode_into(&[0x1f], &mut text), Ok(()));
-    assert_eq!(rt; text.as_slice(), b"ba".as_slice());
+    assert!(rt; is_added(&mut text));
     Ok(())
+}
+
+/// Whether these are the octets from 0 to 255.
+fn are_all_symbols(text: &[u8]) -> bool {
+    for (place, symbol) in text.iter().enumerate() {
+        if usize::from(*symbol) != place {
+            return false;
+        }
+    }
+    text.len() == 256
+}
+
+fn reads_every_symbol(alloc: Global) -> bool {
+    let mut text = Vec::new(alloc);
+    decode_into(&EVERY_SYMBOL, &mut text).is_ok() && are_all_symbols(&text)
 }
 
 #[test]
-fn every_symbol(rt: HostRuntime) -> Result<(), Fail> {
-    let text = decoded(&rt, &EVERY_SYMBOL)?;
-    assert_eq!(rt; text.len(), 256);
-    for (place, symbol) in text.iter().enumerate() {
-        assert_eq!(rt; usize::from(*symbol), place);
-    }
-    Ok(())
+fn every_symbol(rt: HostRuntime) {
+    assert!(rt; reads_every_symbol(rt.alloc()));
 }
 
-// Five octets of zeros are the digit 0 eight times over.
+/// Whether this is the digit 0, 104,856 times, and then an a.
+fn are_digits(text: &[u8]) -> bool {
+    match text {
+        [digits @ .., b'a'] => {
+            digits.len() == 104_856 && digits.iter().all(|digit| *digit == b'0')
+        }
+        _ => false,
+    }
+}
+
+/// Five octets of zeros are the digit 0 eight times over.
+fn reads_long_input(alloc: Global) -> Result<bool, AllocError> {
+    let mut octets = vec![in alloc; 0u8; 65_535]?;
+    octets.push(0x1f)?;
+    let mut text = Vec::new(alloc);
+    Ok(decode_into(&octets, &mut text).is_ok() && are_digits(&text))
+}
+
 #[test]
 fn long_input(rt: HostRuntime) -> Result<(), Fail> {
-    let mut octets = Vec::new(rt.alloc());
-    for _ in 0..65_535 {
-        octets.push(0)?;
-    }
-    octets.push(0x1f)?;
-    let text = decoded(&rt, &octets)?;
-    let (last, digits) = text.split_last().ok_or("a symbol")?;
-    assert_eq!(rt; *last, b'a');
-    assert_eq!(rt; digits.len(), 104_856);
-    assert!(rt; digits.iter().all(|digit| *digit == b'0'));
+    assert!(rt; reads_long_input(rt.alloc())?);
     Ok(())
 }
 
 /// The octets from 0 to 255 in order, as another implementation writes them.
-const EVERY_SYMBOL: [u8; 583] = [
+static EVERY_SYMBOL: [u8; 583] = [
     0xff, 0xc7, 0xff, 0xfd, 0x8f, 0xff, 0xff, 0xe2, 0xff, 0xff, 0xfe, 0x3f, 0xff, 0xff, 0xe4, 0xff,
     0xff, 0xfe, 0x5f, 0xff, 0xff, 0xe6, 0xff, 0xff, 0xfe, 0x7f, 0xff, 0xff, 0xe8, 0xff, 0xff, 0xea,
     0xff, 0xff, 0xff, 0xf3, 0xff, 0xff, 0xfa, 0x7f, 0xff, 0xff, 0xab, 0xff, 0xff, 0xff, 0xdf, 0xff,

@@ -1,13 +1,13 @@
 use hpack::{Decoder, Field, Position, encode_into};
 use http2_requests::*;
-use std::alloc::Global;
+use std::alloc::{AllocError, Global};
 use std::test::*;
 
 /// A name and a value.
 type Pair = (&'static str, &'static str);
 
-/// Whether these are the fields of a request.
-fn is_request(alloc: Global, pairs: &[Pair]) -> Result<bool, Fail> {
+/// The block of these fields.
+fn block_of(alloc: Global, pairs: &[Pair]) -> Result<Vec<u8>, AllocError> {
     let mut block = Vec::new(alloc);
     for (name, value) in pairs {
         let field = Field {
@@ -16,85 +16,119 @@ fn is_request(alloc: Global, pairs: &[Pair]) -> Result<bool, Fail> {
         };
         encode_into(Position::Later, &[field], &mut block)?;
     }
-    let mut decoder = Decoder::new(alloc);
-    let headers = decoder.block(&block).ok().ok_or("a block")?;
-    Ok(is_well_formed_request(headers.as_slice()))
+    Ok(block)
 }
 
-const GET: [Pair; 3] = [(":method", "GET"), (":scheme", "http"), (":path", "/")];
+/// Whether these are the fields of a request.
+fn is_request(alloc: Global, pairs: &[Pair]) -> Result<bool, AllocError> {
+    let block = block_of(alloc, pairs)?;
+    match Decoder::new(alloc).block(&block) {
+        Ok(headers) => Ok(is_well_formed_request(headers.as_slice())),
+        Err(_) => Ok(false),
+    }
+}
 
-/// Whether a request stays well formed with one more field.
-fn is_request_with(alloc: Global, pair: Pair) -> Result<bool, Fail> {
-    let [method, scheme, path] = GET;
-    is_request(alloc, &[method, scheme, path, pair])
+const METHOD: Pair = (":method", "GET");
+
+const SCHEME: Pair = (":scheme", "http");
+
+const PATH: Pair = (":path", "/");
+
+/// Fields, and whether they are a request's.
+type Case = (&'static [Pair], bool);
+
+static PSEUDO_FIELDS: [Case; 10] = [
+    (&[METHOD, SCHEME, PATH], true),
+    (&[PATH, (":authority", "a"), SCHEME, METHOD], true),
+    (&[SCHEME, PATH], false),
+    (&[METHOD, PATH], false),
+    (&[METHOD, SCHEME], false),
+    (&[METHOD, SCHEME, (":path", "")], false),
+    (&[METHOD, METHOD, SCHEME, PATH], false),
+    (
+        &[
+            METHOD,
+            SCHEME,
+            PATH,
+            (":authority", "a"),
+            (":authority", "a"),
+        ],
+        false,
+    ),
+    (&[METHOD, SCHEME, ("a", "b"), PATH], false),
+    (&[METHOD, SCHEME, PATH, (":status", "200")], false),
+];
+
+/// The first of these for which that is otherwise.
+fn first_wrong(alloc: Global, cases: &[Case]) -> Result<Option<usize>, AllocError> {
+    for (index, (pairs, wanted)) in cases.iter().enumerate() {
+        if is_request(alloc, pairs)? != *wanted {
+            return Ok(Some(index));
+        }
+    }
+    Ok(None)
 }
 
 #[test]
 fn the_pseudo_fields(rt: HostRuntime) -> Result<(), Fail> {
-    let alloc = rt.alloc();
-    let [method, scheme, path] = GET;
-    assert!(rt; is_request(alloc, &[method, scheme, path])?);
-    assert!(rt; is_request(alloc, &[path, (":authority", "a"), scheme, method])?);
-    assert!(rt; !is_request(alloc, &[scheme, path])?);
-    assert!(rt; !is_request(alloc, &[method, path])?);
-    assert!(rt; !is_request(alloc, &[method, scheme])?);
-    assert!(rt; !is_request(alloc, &[method, scheme, (":path", "")])?);
-    assert!(rt; !is_request(alloc, &[method, method, scheme, path])?);
-    assert!(rt;
-        !is_request(
-            alloc,
-            &[
-                method,
-                scheme,
-                path,
-                (":authority", "a"),
-                (":authority", "a")
-            ]
-        )?
-    );
-    assert!(rt; !is_request(alloc, &[method, scheme, ("a", "b"), path])?);
-    assert!(rt; !is_request_with(alloc, (":status", "200"))?);
+    assert_eq!(rt; first_wrong(rt.alloc(), &PSEUDO_FIELDS)?, None);
     Ok(())
 }
 
-#[test]
-fn names(rt: HostRuntime) -> Result<(), Fail> {
-    let alloc = rt.alloc();
-    for name in ["a", "!", "~", "x-1"] {
-        assert!(rt; is_request_with(alloc, (name, "b"))?);
+/// Fields that a request may have.
+static GOOD: [Pair; 10] = [
+    ("a", "b"),
+    ("!", "b"),
+    ("~", "b"),
+    ("x-1", "b"),
+    ("a", ""),
+    ("a", "a b"),
+    ("a", "a\tb"),
+    ("a", "\u{e9}"),
+    ("te", "trailers"),
+    ("connections", "a"),
+];
+
+/// Fields that it may not have: for their names, for their values, and as they are of one connection.
+static BAD: [Pair; 23] = [
+    ("", "b"),
+    ("A", "b"),
+    ("aZ", "b"),
+    ("a b", "b"),
+    ("a\x20", "b"),
+    ("a:", "b"),
+    ("a\x7f", "b"),
+    ("\u{e9}", "b"),
+    (":", "b"),
+    ("a", " a"),
+    ("a", "a "),
+    ("a", "\ta"),
+    ("a", "a\t"),
+    ("a", " "),
+    ("a", "a\0b"),
+    ("a", "a\nb"),
+    ("a", "a\rb"),
+    ("connection", "a"),
+    ("proxy-connection", "a"),
+    ("keep-alive", "a"),
+    ("transfer-encoding", "a"),
+    ("upgrade", "a"),
+    ("te", "gzip"),
+];
+
+/// The first of these fields with which a request is no longer well formed, or is still.
+fn first_other(alloc: Global, pairs: &[Pair], wanted: bool) -> Result<Option<usize>, AllocError> {
+    for (index, pair) in pairs.iter().enumerate() {
+        if is_request(alloc, &[METHOD, SCHEME, PATH, *pair])? != wanted {
+            return Ok(Some(index));
+        }
     }
-    for name in ["", "A", "aZ", "a b", "a\x20", "a:", "a\x7f", "\u{e9}", ":"] {
-        assert!(rt; !is_request_with(alloc, (name, "b"))?);
-    }
-    Ok(())
+    Ok(None)
 }
 
 #[test]
-fn values(rt: HostRuntime) -> Result<(), Fail> {
-    let alloc = rt.alloc();
-    for value in ["", "a b", "a\tb", "\u{e9}"] {
-        assert!(rt; is_request_with(alloc, ("a", value))?);
-    }
-    for value in [" a", "a ", "\ta", "a\t", " ", "a\0b", "a\nb", "a\rb"] {
-        assert!(rt; !is_request_with(alloc, ("a", value))?);
-    }
-    Ok(())
-}
-
-#[test]
-fn fields_of_one_connection(rt: HostRuntime) -> Result<(), Fail> {
-    let alloc = rt.alloc();
-    for name in [
-        "connection",
-        "proxy-connection",
-        "keep-alive",
-        "transfer-encoding",
-        "upgrade",
-    ] {
-        assert!(rt; !is_request_with(alloc, (name, "a"))?);
-    }
-    assert!(rt; is_request_with(alloc, ("te", "trailers"))?);
-    assert!(rt; !is_request_with(alloc, ("te", "gzip"))?);
-    assert!(rt; is_request_with(alloc, ("connections", "a"))?);
+fn fields(rt: HostRuntime) -> Result<(), Fail> {
+    assert_eq!(rt; first_other(rt.alloc(), &GOOD, true)?, None);
+    assert_eq!(rt; first_other(rt.alloc(), &BAD, false)?, None);
     Ok(())
 }

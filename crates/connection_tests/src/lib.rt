@@ -1,7 +1,5 @@
 #![tactic(auto)]
-//! Tests of `conn_core`, `instance_core`.
+//! Tests of `conn_core`. Those of `instance_core` are scripts of `acceptance`.
 
 #[cfg(test)]
 mod conn_core_tests;
-#[cfg(test)]
-mod instance_core_tests;

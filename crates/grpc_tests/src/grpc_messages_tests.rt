@@ -1,87 +1,127 @@
 use grpc_messages::*;
-use std::alloc::AllocError;
+use std::alloc::{AllocError, Global};
 use std::test::*;
 
-/// A request for the blobs that are missing, of one digest: 70 bytes, framed as 75.
+/// A request for the blobs that are missing, of one digest: 70 bytes.
 const QUESTION: &[u8] =
     b"\x12\x44\x0a\x40ba7816bf8f01cfea414140de5dae2223b00361a396177a9cb410ff61f20015ad\x10\x03";
 
-fn request() -> [&'static [u8]; 3] {
-    [b"\x00\x00\x00\x00\x46", QUESTION, b"\x00\x00\x00\x00\x00"]
+/// It is framed as 75 bytes. An empty message follows, and then the front of one of two bytes.
+const STREAM: &[u8] =
+    b"\x00\x00\x00\x00\x46\x12\x44\x0a\x40ba7816bf8f01cfea414140de5dae2223b00361a396177a9cb410ff61f20015ad\x10\x03\
+      \x00\x00\x00\x00\x00\x00\x00\x00\x00\x02a";
+
+/// Whether the next message is this.
+fn gives(messages: &mut Messages, wanted: &[u8]) -> bool {
+    match messages.next() {
+        Ok(Some(message)) => message.as_slice() == wanted,
+        _ => false,
+    }
 }
 
-#[test]
-fn bytes_that_come_one_by_one(rt: HostRuntime) -> Result<(), Fail> {
-    let mut messages = Messages::new(rt.alloc());
-    let mut lengths = Vec::new(rt.alloc());
-    for part in request() {
-        for place in 0..part.len() {
-            messages.feed(&part[place..place + 1])?;
-            if let Some(message) = messages.next()? {
-                lengths.push(message.as_slice().len())?;
-                assert!(rt; message.as_slice().is_empty() || message.as_slice() == QUESTION);
-            }
+fn waits(messages: &mut Messages) -> bool {
+    matches!(messages.next(), Ok(None))
+}
+
+/// Whether all calls are refused so.
+fn is_refused(messages: &mut Messages, refusal: MessagesError) -> bool {
+    messages.next().err() == Some(refusal)
+        && messages.feed(b"").err() == Some(refusal)
+        && messages.end().err() == Some(refusal)
+        && messages.is_empty()
+}
+
+/// Feeds bytes one by one, and waits for more after each.
+fn takes_bytes(messages: &mut Messages, bytes: &[u8]) -> bool {
+    for byte in bytes {
+        if !waits(messages) || messages.feed(&[*byte]).is_err() {
+            return false;
         }
     }
-    assert_eq!(rt; lengths.as_slice(), [70, 0].as_slice());
-    assert!(rt; matches!(messages.next(), Ok(None)));
-    assert!(rt; messages.is_empty());
-    assert!(rt; messages.end().is_ok());
-    Ok(())
+    true
+}
+
+fn reads_bytes(messages: &mut Messages) -> bool {
+    let (question, rest) = STREAM.split_at(75);
+    let (empty, _) = rest.split_at(5);
+    takes_bytes(messages, question)
+        && gives(messages, QUESTION)
+        && takes_bytes(messages, empty)
+        && gives(messages, b"")
+        && waits(messages)
+        && messages.is_empty()
+        && messages.end().is_ok()
 }
 
 #[test]
-fn messages_that_come_in_one_piece(rt: HostRuntime) -> Result<(), Fail> {
-    let mut whole = Vec::new(rt.alloc());
-    for part in request() {
-        whole.extend_from_slice(part)?;
-    }
-    whole.extend_from_slice(b"\x00\x00\x00\x00\x02a")?;
+fn bytes_that_come_one_by_one(rt: HostRuntime) {
     let mut messages = Messages::new(rt.alloc());
-    messages.feed(&whole)?;
-    let first = messages.next()?.ok_or("a message")?;
-    assert_eq!(rt; first.as_slice(), QUESTION);
-    assert!(rt; !messages.is_empty());
-    let second = messages.next()?.ok_or("a message")?;
-    assert!(rt; second.as_slice().is_empty());
-    assert!(rt; matches!(messages.next(), Ok(None)));
-    messages.feed(b"b\x00")?;
-    let third = messages.next()?.ok_or("a message")?;
-    assert_eq!(rt; third.as_slice(), b"ab".as_slice());
-    assert!(rt; matches!(messages.next(), Ok(None)));
-    assert!(rt; matches!(messages.end(), Err(MessagesError::CutOff)));
-    assert!(rt; matches!(messages.next(), Err(MessagesError::CutOff)));
-    assert!(rt; matches!(messages.feed(b"\x00"), Err(MessagesError::CutOff)));
-    Ok(())
+    let passed = reads_bytes(&mut messages);
+    drop(messages);
+    assert!(rt; passed);
+}
+
+fn reads_pieces(messages: &mut Messages) -> bool {
+    messages.feed(STREAM).is_ok()
+        && gives(messages, QUESTION)
+        && !messages.is_empty()
+        && gives(messages, b"")
+        && waits(messages)
+        && messages.feed(b"b\x00").is_ok()
+        && gives(messages, b"ab")
+        && waits(messages)
+        && messages.end().err() == Some(MessagesError::CutOff)
+        && is_refused(messages, MessagesError::CutOff)
+}
+
+#[test]
+fn messages_that_come_in_one_piece(rt: HostRuntime) {
+    let mut messages = Messages::new(rt.alloc());
+    let passed = reads_pieces(&mut messages);
+    drop(messages);
+    assert!(rt; passed);
+}
+
+/// The first four bytes of a message, the fifth, and how they are refused.
+type Prefix = ([u8; 4], u8, Option<MessagesError>);
+
+static PREFIXES: [Prefix; 6] = [
+    ([1, 0, 0, 0], 0, Some(MessagesError::Compressed)),
+    ([1, 0, 0x40, 0], 1, Some(MessagesError::Compressed)),
+    ([0x80, 0, 0, 0], 0, Some(MessagesError::Compressed)),
+    ([0, 0, 0x40, 0], 1, Some(MessagesError::TooLarge)),
+    ([0, 0xff, 0xff, 0xff], 0xff, Some(MessagesError::TooLarge)),
+    ([0, 0, 0x40, 0], 0, None),
+];
+
+fn is_answered(messages: &mut Messages, refusal: Option<MessagesError>) -> bool {
+    match refusal {
+        Some(refusal) => is_refused(messages, refusal),
+        None => waits(messages) && messages.end().err() == Some(MessagesError::CutOff),
+    }
 }
 
 /// What is refused is refused with its fifth byte, and the flag is tested before the length.
-#[test]
-fn the_first_five_bytes(rt: HostRuntime) -> Result<(), Fail> {
-    let prefixes: [(&[u8], Option<MessagesError>); 6] = [
-        (b"\x01\x00\x00\x00\x00", Some(MessagesError::Compressed)),
-        (b"\x01\x00\x40\x00\x01", Some(MessagesError::Compressed)),
-        (b"\x80\x00\x00\x00\x00", Some(MessagesError::Compressed)),
-        (b"\x00\x00\x40\x00\x01", Some(MessagesError::TooLarge)),
-        (b"\x00\xff\xff\xff\xff", Some(MessagesError::TooLarge)),
-        (b"\x00\x00\x40\x00\x00", None),
-    ];
-    for (prefix, refusal) in &prefixes {
-        let mut messages = Messages::new(rt.alloc());
-        messages.feed(&prefix[..4])?;
-        assert!(rt; matches!(messages.next(), Ok(None)));
-        messages.feed(&prefix[4..])?;
-        let answer = messages.next();
-        assert_eq!(rt; answer.err(), *refusal);
-        if refusal.is_some() {
-            assert_eq!(rt; messages.next().err(), *refusal);
-            assert_eq!(rt; messages.feed(b"").err(), *refusal);
-            assert_eq!(rt; messages.end().err(), *refusal);
-        } else {
-            assert_eq!(rt; messages.end().err(), Some(MessagesError::CutOff));
+fn is_refused_at_the_fifth(alloc: Global, prefix: &Prefix) -> bool {
+    let mut messages = Messages::new(alloc);
+    messages.feed(&prefix.0).is_ok()
+        && waits(&mut messages)
+        && messages.feed(&[prefix.1]).is_ok()
+        && is_answered(&mut messages, prefix.2)
+}
+
+fn first_wrong(alloc: Global, prefixes: &[Prefix]) -> Option<usize> {
+    for (index, prefix) in prefixes.iter().enumerate() {
+        if !is_refused_at_the_fifth(alloc, prefix) {
+            return Some(index);
         }
     }
-    Ok(())
+    None
+}
+
+#[test]
+fn the_first_five_bytes(rt: HostRuntime) {
+    assert_eq!(rt; first_wrong(rt.alloc(), &PREFIXES), None);
 }
 
 #[test]

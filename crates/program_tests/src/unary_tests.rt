@@ -15,53 +15,43 @@ fn prints(alloc: Global, script: &[u8], printed: &[u8]) -> bool {
     ended == Status::Done && written.as_slice() == printed && told.is_empty()
 }
 
-/// Writes a call of BatchUpdateBlobs with one blob of zeros, in so many digits, whose digest is left out.
-fn write_large_update(
-    script: &mut Vec<u8>,
-    zeros: &[u8],
-    length_hex: &str,
-    request_hex: &str,
-) -> Result<(), AllocError> {
-    script.extend_from_slice(b"instance a 10000000\ncall a BatchUpdateBlobs 12")?;
-    script.extend_from_slice(request_hex.as_bytes())?;
-    script.extend_from_slice(b"12")?;
-    script.extend_from_slice(length_hex.as_bytes())?;
-    script.extend_from_slice(zeros)?;
-    script.push(b'\n')?;
-    Ok(())
+/// Calls of BatchUpdateBlobs with one blob of zero bytes under its digest.
+struct Upload {
+    /// How many digits the blob is written in.
+    digits: usize,
+    /// The digits that stand before it: the length of the request, the digest, and the length of the blob.
+    front: &'static str,
+    printed: &'static str,
 }
 
-/// A length of content in digits, its and its request's length as varints, and what is printed.
-type Update = (usize, &'static str, &'static str, &'static str);
-
-static UPDATES: [Update; 2] = [
-    // The request has 4,000,005 bytes, as many as may be: a tag, four bytes of length and the content.
-    (
-        8_000_000,
-        "8092f401",
-        "8592f401",
-        "ok 0a10120e0803120a62616420646967657374\n",
-    ),
-    (
-        8_000_002,
-        "8192f401",
-        "8692f401",
-        "status 3 batch too large\n",
-    ),
+static UPLOADS: [Upload; 2] = [
+    // As many bytes as a batch may have.
+    Upload {
+        digits: 8_000_000,
+        front: "12ce92f4010a470a4038646265356631333966643934366434636438346538636336313263643966363863626338376533393434353738383461636330633564616435366464386464108092f401128092f401",
+        printed: "ok 0a4b0a470a4038646265356631333966643934366434636438346538636336313263643966363863626338376533393434353738383461636330633564616435366464386464108092f4011200\n",
+    },
+    Upload {
+        digits: 8_000_002,
+        front: "12cf92f4010a470a4038386635633264653530373831316661326132343437303632323638306438623664366135646633666435643934623362323666643131366661663534306534108192f401128192f401",
+        printed: "status 3 batch too large\n",
+    },
 ];
 
-fn is_printed(alloc: Global, update: &Update) -> Result<bool, AllocError> {
-    let (digits, length_hex, request_hex, printed) = *update;
-    let zeros = vec![in alloc; b'0'; digits]?;
+fn is_printed(alloc: Global, upload: &Upload) -> Result<bool, AllocError> {
+    let zeros = vec![in alloc; b'0'; upload.digits]?;
     let mut script = Vec::new(alloc);
-    write_large_update(&mut script, &zeros, length_hex, request_hex)?;
-    Ok(prints(alloc, &script, printed.as_bytes()))
+    script.extend_from_slice(b"instance a 10000000\ncall a BatchUpdateBlobs ")?;
+    script.extend_from_slice(upload.front.as_bytes())?;
+    script.extend_from_slice(&zeros)?;
+    script.push(b'\n')?;
+    Ok(prints(alloc, &script, upload.printed.as_bytes()))
 }
 
 #[test]
 fn the_largest_batch_and_a_larger_one(rt: HostRuntime) -> Result<(), Fail> {
-    for update in &UPDATES {
-        assert!(rt; is_printed(rt.alloc(), update)?, "{}", update.3);
+    for upload in &UPLOADS {
+        assert!(rt; is_printed(rt.alloc(), upload)?);
     }
     Ok(())
 }

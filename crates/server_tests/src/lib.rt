@@ -1,12 +1,8 @@
 #![tactic(auto)]
-//! Tests of `instance_config`, `server_events`, `served_instance`, `run_record`, `server_core`.
+//! Tests of `instance_config`, `server_events` and `server_core`. Those of whole runs are scripts of `acceptance`.
 
 #[cfg(test)]
 mod instance_config_tests;
-#[cfg(test)]
-mod run_record_tests;
-#[cfg(test)]
-mod served_instance_tests;
 #[cfg(test)]
 mod server_core_tests;
 #[cfg(test)]

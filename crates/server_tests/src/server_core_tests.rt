@@ -1,6 +1,5 @@
-//! Frames come from outside (RFC 9113).
+//! Frames come from outside (RFC 9113). What whole runs print is shown by the stored scripts of `acceptance`.
 
-use run_record::InstanceOutput;
 use served_instance::EventRefusal;
 use server_core::*;
 use server_events::{Configs, Event, InstanceConfig, What};
@@ -9,13 +8,6 @@ use std::test::*;
 
 /// The server's SETTINGS, with which each connection begins.
 const GREETING: &[u8] = b"\x00\x00\x06\x04\x00\x00\x00\x00\x00\x00\x03\x00\x00\x00\x64";
-
-/// The client's preface and its SETTINGS.
-const PREFACE: &[u8] = b"PRI * HTTP/2.0\r\n\r\nSM\r\n\r\n\x00\x00\x00\x04\x00\x00\x00\x00\x00";
-
-/// The server's SETTINGS, and the acknowledgement of the client's.
-const ANSWERED: &[u8] =
-    b"\x00\x00\x06\x04\x00\x00\x00\x00\x00\x00\x03\x00\x00\x00\x64\x00\x00\x00\x04\x01\x00\x00\x00\x00";
 
 /// What no client sends first.
 const WRONG: &[u8] = b"GET / HTTP/1.1\r\nHost: a\r\n\r\n";
@@ -33,83 +25,33 @@ fn configs(alloc: Global) -> Result<Configs, Fail> {
     Ok(Configs::new(instances).ok().ok_or("a fault")?)
 }
 
-fn event(moment: u64, instance: u32, what: What) -> Event {
+/// Connection 7 of an instance opens.
+fn opening(instance: u32) -> Event {
     Event {
-        moment,
+        moment: 1,
         instance,
-        what,
+        what: What::Open(7),
     }
 }
 
-fn bytes(alloc: Global, connection: u32, bytes: &[u8]) -> Result<What, Fail> {
-    Ok(What::Bytes(connection, Vec::from_slice(alloc, bytes)?))
-}
-
-/// Whether there was one connection, 1, with these bytes, and one event was refused, the third.
-fn gave(output: &InstanceOutput, bytes: &[u8], refusal: EventRefusal) -> bool {
-    match (output.sent.as_slice(), output.refusals.as_slice()) {
-        ([sent], [refused]) => {
-            sent.connection == 1
-                && sent.bytes.as_slice() == bytes
-                && refused.place == 3
-                && refused.refusal == refusal
-        }
-        _ => false,
-    }
-}
-
-#[test]
-fn an_instance_gives_the_same_whatever_another_gets(rt: HostRuntime) -> Result<(), Fail> {
-    let alloc = rt.alloc();
-    let configs = configs(alloc)?;
-    let (preface, again) = (bytes(alloc, 1, PREFACE)?, bytes(alloc, 1, PREFACE)?);
-    let wrong = bytes(alloc, 1, WRONG)?;
-    let quiet = [
-        event(5, 1, What::Open(1)),
-        event(7, 1, preface),
-        event(8, 1, What::Open(1)),
-    ];
-    let loud = [
-        event(90, 0, What::Open(1)),
-        event(5, 1, What::Open(1)),
-        event(90, 2, What::Tick),
-        event(90, 0, wrong),
-        event(7, 1, again),
-        event(89, 0, What::Tick),
-        event(8, 1, What::Open(1)),
-        event(0, u32::MAX, What::Closed(1)),
-    ];
-    let quiet = run(alloc, &configs, &quiet)?;
-    let loud = run(alloc, &configs, &loud)?;
-    assert!(rt; quiet.strays.is_empty());
-    assert_eq!(rt; loud.strays.as_slice(), [3, 8].as_slice());
-    match (quiet.instances.as_slice(), loud.instances.as_slice()) {
-        ([idle, one], [busy, other]) => {
-            assert!(rt; gave(one, ANSWERED, EventRefusal::ConnectionExists));
-            assert!(rt; gave(other, ANSWERED, EventRefusal::ConnectionExists));
-            assert!(rt; idle.sent.is_empty() && idle.refusals.is_empty());
-            assert!(rt; busy.sent.len() == 1 && busy.refusals.len() == 1);
-            Ok(())
-        }
-        _ => Err(Fail::from("other instances")),
+/// Bytes are taken of connection 7 of instance 1.
+fn taking(count: u32) -> Event {
+    Event {
+        moment: 1,
+        instance: 1,
+        what: What::Took(7, count),
     }
 }
 
 /// Events of connection 7 of instance 1: it is opened, and gets what no client sends first. Between these an event
 /// is a stray, and one is refused.
-fn is_served(
-    server: &mut Server,
-    open: &Event,
-    stray: &Event,
-    greedy: &Event,
-    wrong: &Event,
-) -> bool {
+fn is_served(server: &mut Server, wrong: &Event) -> bool {
     server.pending(1, 7).is_none()
-        && server.step(open) == Ok(())
+        && server.step(&opening(1)) == Ok(())
         && server.pending(1, 7) == Some(GREETING)
         && server.ended(1, 7) == Some(false)
-        && server.step(stray) == Err(EventRefusal::NoSuchInstance)
-        && server.step(greedy) == Err(EventRefusal::TookTooMuch)
+        && server.step(&opening(2)) == Err(EventRefusal::NoSuchInstance)
+        && server.step(&taking(16)) == Err(EventRefusal::TookTooMuch)
         && server.pending(1, 7) == Some(GREETING)
         && server.step(wrong) == Ok(())
         && server.ended(1, 7) == Some(true)
@@ -127,14 +69,14 @@ fn is_apart(server: &Server) -> bool {
 
 #[test]
 fn event_by_event(rt: HostRuntime) -> Result<(), Fail> {
-    let alloc = rt.alloc();
-    let configs = configs(alloc)?;
-    let open = event(1, 1, What::Open(7));
-    let stray = event(1, 2, What::Open(7));
-    let greedy = event(1, 1, What::Took(7, 16));
-    let wrong = event(2, 1, bytes(alloc, 7, WRONG)?);
-    let mut server = Server::new(alloc, &configs)?;
-    let holds = is_served(&mut server, &open, &stray, &greedy, &wrong) && is_apart(&server);
+    let configs = configs(rt.alloc())?;
+    let wrong = Event {
+        moment: 2,
+        instance: 1,
+        what: What::Bytes(7, Vec::from_slice(rt.alloc(), WRONG)?),
+    };
+    let mut server = Server::new(rt.alloc(), &configs)?;
+    let holds = is_served(&mut server, &wrong) && is_apart(&server);
     drop(server);
     assert!(rt; holds);
     Ok(())

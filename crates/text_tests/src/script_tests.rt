@@ -1,9 +1,10 @@
 use script::*;
+use std::alloc::{AllocError, Global};
 use std::test::*;
 
-// The parts, each in brackets.
-fn shown(rt: &HostRuntime, parts: Parts) -> Result<Vec<u8>, Fail> {
-    let mut shown = Vec::new(rt.alloc());
+/// The parts, each in brackets.
+fn shown(alloc: Global, parts: Parts) -> Result<Vec<u8>, AllocError> {
+    let mut shown = Vec::new(alloc);
     for part in parts {
         shown.push(b'[')?;
         shown.extend_from_slice(part)?;
@@ -12,81 +13,132 @@ fn shown(rt: &HostRuntime, parts: Parts) -> Result<Vec<u8>, Fail> {
     Ok(shown)
 }
 
-#[test]
-fn lines_stand_between_newlines(rt: HostRuntime) -> Result<(), Fail> {
-    for (text, want) in [
-        ("", "[]"),
-        ("a", "[a]"),
-        ("a\n", "[a][]"),
-        ("a\n\nb", "[a][][b]"),
-        ("a\r\nb", "[a\r][b]"),
-        ("\n", "[][]"),
-    ] {
-        assert_eq!(rt;
-            shown(&rt, lines(text.as_bytes()))?.as_slice(),
-            want.as_bytes(),
-            "{text}"
-        );
+/// A text, and its parts.
+type Split = (&'static str, &'static str);
+
+static LINES: [Split; 6] = [
+    ("", "[]"),
+    ("a", "[a]"),
+    ("a\n", "[a][]"),
+    ("a\n\nb", "[a][][b]"),
+    ("a\r\nb", "[a\r][b]"),
+    ("\n", "[][]"),
+];
+
+/// The first of these texts that has other lines.
+fn first_other_lines(alloc: Global, splits: &[Split]) -> Result<Option<&'static str>, AllocError> {
+    for (text, wanted) in splits {
+        if shown(alloc, lines(text.as_bytes()))?.as_slice() != wanted.as_bytes() {
+            return Ok(Some(*text));
+        }
     }
-    Ok(())
+    Ok(None)
+}
+
+static WORDS: [Split; 5] = [
+    ("put a -", "[put][a][-]"),
+    ("put  a", "[put][][a]"),
+    (" a", "[][a]"),
+    ("a ", "[a][]"),
+    ("a\tb", "[a\tb]"),
+];
+
+/// The first of these lines that has other words.
+fn first_other_words(alloc: Global, splits: &[Split]) -> Result<Option<&'static str>, AllocError> {
+    for (line, wanted) in splits {
+        if shown(alloc, words(line.as_bytes()))?.as_slice() != wanted.as_bytes() {
+            return Ok(Some(*line));
+        }
+    }
+    Ok(None)
 }
 
 #[test]
-fn words_stand_between_spaces(rt: HostRuntime) -> Result<(), Fail> {
-    for (line, want) in [
-        ("put a -", "[put][a][-]"),
-        ("put  a", "[put][][a]"),
-        (" a", "[][a]"),
-        ("a ", "[a][]"),
-        ("a\tb", "[a\tb]"),
-    ] {
-        assert_eq!(rt;
-            shown(&rt, words(line.as_bytes()))?.as_slice(),
-            want.as_bytes(),
-            "{line}"
-        );
-    }
+fn lines_and_words(rt: HostRuntime) -> Result<(), Fail> {
+    assert_eq!(rt; first_other_lines(rt.alloc(), &LINES)?, None);
+    assert_eq!(rt; first_other_words(rt.alloc(), &WORDS)?, None);
     Ok(())
+}
+
+/// A word, and the number that it writes.
+type Number = (&'static str, Option<u64>);
+
+static NUMBERS: [Number; 14] = [
+    ("0", Some(0)),
+    ("007", Some(7)),
+    ("1099511627776", Some(1 << 40)),
+    ("18446744073709551615", Some(u64::MAX)),
+    ("18446744073709551616", None),
+    (
+        "000000000000000000000000000000000000000018446744073709551615",
+        Some(u64::MAX),
+    ),
+    ("99999999999999999999999999999999999999999999", None),
+    ("", None),
+    ("+1", None),
+    ("-1", None),
+    ("1_000", None),
+    ("0x10", None),
+    ("1 ", None),
+    ("１", None),
+];
+
+/// The first of these words that writes another number.
+fn first_other_number(numbers: &[Number]) -> Option<&'static str> {
+    for (word, wanted) in numbers {
+        if decimal(word.as_bytes()) != *wanted {
+            return Some(*word);
+        }
+    }
+    None
 }
 
 #[test]
 fn decimal_numbers(rt: HostRuntime) {
-    for (word, want) in [
-        ("0", Some(0)),
-        ("007", Some(7)),
-        ("1099511627776", Some(1 << 40)),
-        ("18446744073709551615", Some(u64::MAX)),
-        ("18446744073709551616", None),
-        (
-            "000000000000000000000000000000000000000018446744073709551615",
-            Some(u64::MAX),
-        ),
-        ("99999999999999999999999999999999999999999999", None),
-        ("", None),
-        ("+1", None),
-        ("-1", None),
-        ("1_000", None),
-        ("0x10", None),
-        ("1 ", None),
-        ("１", None),
-    ] {
-        assert_eq!(rt; decimal(word.as_bytes()), want, "{word}");
+    assert_eq!(rt; first_other_number(&NUMBERS), None);
+}
+
+/// A word, and the bytes that it writes.
+type Bytes = (&'static str, Option<&'static [u8]>);
+
+static BYTES: [Bytes; 14] = [
+    ("616263", Some(b"abc")),
+    ("00ff", Some(b"\x00\xff")),
+    ("-", Some(b"")),
+    ("", None),
+    ("6", None),
+    ("616", None),
+    ("6A", None),
+    ("FF", None),
+    ("6g", None),
+    ("--", None),
+    ("-6", None),
+    ("0x61", None),
+    ("61 ", None),
+    ("６１", None),
+];
+
+fn writes(alloc: Global, word: &str, wanted: Option<&[u8]>) -> Result<bool, AllocError> {
+    match (hex_bytes(alloc, word.as_bytes())?, wanted) {
+        (Some(read), Some(bytes)) => Ok(read.as_slice() == bytes),
+        (None, None) => Ok(true),
+        _ => Ok(false),
     }
+}
+
+/// The first of these words that writes other bytes.
+fn first_other_bytes(alloc: Global, cases: &[Bytes]) -> Result<Option<&'static str>, AllocError> {
+    for (word, wanted) in cases {
+        if !writes(alloc, word, *wanted)? {
+            return Ok(Some(*word));
+        }
+    }
+    Ok(None)
 }
 
 #[test]
 fn bytes_in_hexadecimal(rt: HostRuntime) -> Result<(), Fail> {
-    let read = hex_bytes(rt.alloc(), b"616263")?.ok_or("bytes")?;
-    assert_eq!(rt; read.as_slice(), b"abc".as_slice());
-    let read = hex_bytes(rt.alloc(), b"00ff")?.ok_or("bytes")?;
-    assert_eq!(rt; read.as_slice(), [0, 255].as_slice());
-    let none = hex_bytes(rt.alloc(), b"-")?.ok_or("no bytes")?;
-    assert!(rt; none.is_empty());
-    for word in [
-        "", "6", "616", "6A", "FF", "6g", "--", "-6", "0x61", "61 ", "６１",
-    ] {
-        assert!(rt; hex_bytes(rt.alloc(), word.as_bytes())?.is_none(), "{word}");
-    }
+    assert_eq!(rt; first_other_bytes(rt.alloc(), &BYTES)?, None);
     Ok(())
 }
 

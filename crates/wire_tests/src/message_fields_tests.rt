@@ -2,48 +2,92 @@ use message_fields::*;
 use std::alloc::{AllocError, Global};
 use std::test::*;
 
-/// Packed and unpacked records of one field, mixed, and one of another wire type.
-#[test]
-fn reads_repeated_fields(rt: HostRuntime) -> Result<(), Fail> {
-    let alloc = rt.alloc();
-    let text =
-        b"\x08\x01\x0a\x03\x06\x8e\x02\x0d\x01\x02\x03\x04\x08\xff\xff\xff\xff\xff\xff\xff\xff\xff\x01\x0a\x00\x12\x01a\x12\x00\x18\x02";
-    let fields = fields_of(alloc, text).ok().ok_or("fields")?;
-    let enums = repeated_enum(alloc, &fields, 1).ok().ok_or("enums")?;
-    assert_eq!(rt; enums.as_slice(), [1i32, 6, 270, -1].as_slice());
-    let texts = repeated_string(alloc, &fields, 2).ok().ok_or("texts")?;
-    assert_eq!(rt; texts.as_slice(), ["a", ""].as_slice());
-    let sent = as_sent(alloc, &fields, 1)?.ok_or("payloads")?;
-    assert_eq!(rt; sent.as_slice(), b"\x06\x8e\x02".as_slice());
-    assert!(rt; as_sent(alloc, &fields, 3)?.is_none());
-    assert!(rt; flag(&fields, 3));
-    assert!(rt; !flag(&fields, 4));
-    let cut = fields_of(alloc, b"\x0a\x02\x01\x80").ok().ok_or("fields")?;
-    assert!(rt;
-        matches!(
-            repeated_enum(alloc, &cut, 1),
+/// Packed and unpacked records of one field, mixed, texts, and records of other wire types.
+const MIXED: &[u8] =
+    b"\x08\x01\x0a\x03\x06\x8e\x02\x0d\x01\x02\x03\x04\x08\xff\xff\xff\xff\xff\xff\xff\xff\xff\x01\x0a\x00\x12\x01a\x12\x00\x18\x02";
+
+fn reads_enums(alloc: Global, fields: &[Field<'_>]) -> bool {
+    match repeated_enum(alloc, fields, 1) {
+        Ok(enums) => enums.as_slice() == [1i32, 6, 270, -1].as_slice(),
+        Err(_) => false,
+    }
+}
+
+fn reads_texts(alloc: Global, fields: &[Field<'_>]) -> bool {
+    match repeated_string(alloc, fields, 2) {
+        Ok(texts) => texts.as_slice() == ["a", ""].as_slice(),
+        Err(_) => false,
+    }
+}
+
+fn reads_as_sent(alloc: Global, fields: &[Field<'_>]) -> bool {
+    match as_sent(alloc, fields, 1) {
+        Ok(Some(sent)) => sent.as_slice() == b"\x06\x8e\x02".as_slice(),
+        _ => false,
+    }
+}
+
+fn reads_mixed(alloc: Global) -> bool {
+    match fields_of(alloc, MIXED) {
+        Ok(fields) => {
+            reads_enums(alloc, &fields)
+                && reads_texts(alloc, &fields)
+                && reads_as_sent(alloc, &fields)
+                && matches!(as_sent(alloc, &fields, 3), Ok(None))
+                && flag(&fields, 3)
+                && !flag(&fields, 4)
+        }
+        Err(_) => false,
+    }
+}
+
+/// A packed number that is cut off.
+fn refuses_a_cut_number(alloc: Global) -> bool {
+    match fields_of(alloc, b"\x0a\x02\x01\x80") {
+        Ok(fields) => matches!(
+            repeated_enum(alloc, &fields, 1),
             Err(MessageError::Wire(WireError::Truncated))
-        )
-    );
-    let bad = fields_of(alloc, b"\x12\x01\xff").ok().ok_or("fields")?;
-    assert!(rt; matches!(repeated_string(alloc, &bad, 2), Err(MessageError::NotUtf8)));
-    assert!(rt; matches!(string(&bad, 2), Err(MessageError::NotUtf8)));
-    assert_eq!(rt; octets(&bad, 2), b"\xff".as_slice());
-    Ok(())
+        ),
+        Err(_) => false,
+    }
+}
+
+/// A byte that is no UTF-8.
+fn refuses_no_text(alloc: Global) -> bool {
+    match fields_of(alloc, b"\x12\x01\xff") {
+        Ok(fields) => {
+            matches!(
+                repeated_string(alloc, &fields, 2),
+                Err(MessageError::NotUtf8)
+            ) && matches!(string(&fields, 2), Err(MessageError::NotUtf8))
+                && octets(&fields, 2) == b"\xff".as_slice()
+        }
+        Err(_) => false,
+    }
+}
+
+#[test]
+fn reads_repeated_fields(rt: HostRuntime) {
+    assert!(rt; reads_mixed(rt.alloc()));
+    assert!(rt; refuses_a_cut_number(rt.alloc()) && refuses_no_text(rt.alloc()));
+}
+
+fn write_fields(writer: &mut Writer) -> Result<(), AllocError> {
+    put_repeated_enum(writer, 1, &[1, 270, -1])?;
+    put_repeated_enum(writer, 1, &[])?;
+    put_repeated_string(writer, 2, &["a", ""])?;
+    put_flag(writer, 3, true)?;
+    put_flag(writer, 3, false)?;
+    put_string(writer, 4, "b")?;
+    put_octets(writer, 5, &[])?;
+    put_int32(writer, 6, -2)?;
+    put_int64(writer, 7, 3)
 }
 
 #[test]
 fn writes_fields(rt: HostRuntime) -> Result<(), Fail> {
     let mut writer = Writer::new(rt.alloc());
-    put_repeated_enum(&mut writer, 1, &[1, 270, -1])?;
-    put_repeated_enum(&mut writer, 1, &[])?;
-    put_repeated_string(&mut writer, 2, &["a", ""])?;
-    put_flag(&mut writer, 3, true)?;
-    put_flag(&mut writer, 3, false)?;
-    put_string(&mut writer, 4, "b")?;
-    put_octets(&mut writer, 5, &[])?;
-    put_int32(&mut writer, 6, -2)?;
-    put_int64(&mut writer, 7, 3)?;
+    write_fields(&mut writer)?;
     let wanted =
         b"\x0a\x0d\x01\x8e\x02\xff\xff\xff\xff\xff\xff\xff\xff\xff\x01\x12\x01a\x12\x00\x18\x01\x22\x01b\x30\xfe\xff\xff\xff\xff\xff\xff\xff\xff\x01\x38\x03";
     assert_eq!(rt; writer.as_bytes(), wanted.as_slice());
@@ -81,25 +125,50 @@ impl<'a> Message<'a> for Size {
     }
 }
 
-#[test]
-fn embeds_messages(rt: HostRuntime) -> Result<(), Fail> {
-    let alloc = rt.alloc();
-    let mut writer = Writer::new(alloc);
-    put_embedded(&mut writer, 1, &Some(Size { bytes: 5 }))?;
-    put_embedded::<Size>(&mut writer, 2, &None)?;
-    put_repeated(&mut writer, 3, &[Size { bytes: 0 }, Size { bytes: 7 }])?;
-    let wanted = b"\x0a\x02\x08\x05\x1a\x00\x1a\x02\x08\x07";
-    assert_eq!(rt; writer.as_bytes(), wanted.as_slice());
-    let fields = fields_of(alloc, wanted).ok().ok_or("fields")?;
-    let one: Option<Size> = embedded(alloc, &fields, 1).ok().ok_or("a size")?;
-    assert_eq!(rt; one.ok_or("a size")?.bytes, 5);
-    let none: Option<Size> = embedded(alloc, &fields, 2).ok().ok_or("a size")?;
-    assert!(rt; none.is_none());
-    let sizes: Vec<Size> = repeated(alloc, &fields, 3).ok().ok_or("sizes")?;
-    assert_eq!(rt; sizes.len(), 2);
-    let decoded = Size::decode(alloc, b"\x08\x09").ok().ok_or("a size")?;
+fn write_sizes(writer: &mut Writer) -> Result<(), AllocError> {
+    put_embedded(writer, 1, &Some(Size { bytes: 5 }))?;
+    put_embedded::<Size>(writer, 2, &None)?;
+    put_repeated(writer, 3, &[Size { bytes: 0 }, Size { bytes: 7 }])
+}
+
+const SIZES: &[u8] = b"\x0a\x02\x08\x05\x1a\x00\x1a\x02\x08\x07";
+
+fn reads_one(alloc: Global, fields: &[Field<'_>]) -> bool {
+    let one: Result<Option<Size>, MessageError> = embedded(alloc, fields, 1);
+    let none: Result<Option<Size>, MessageError> = embedded(alloc, fields, 2);
+    matches!(one, Ok(Some(Size { bytes: 5 }))) && matches!(none, Ok(None))
+}
+
+fn reads_two(alloc: Global, fields: &[Field<'_>]) -> bool {
+    let sizes: Result<Vec<Size>, MessageError> = repeated(alloc, fields, 3);
+    match sizes {
+        Ok(sizes) => matches!(sizes.as_slice(), [Size { bytes: 0 }, Size { bytes: 7 }]),
+        Err(_) => false,
+    }
+}
+
+fn reads_sizes(alloc: Global) -> bool {
+    match fields_of(alloc, SIZES) {
+        Ok(fields) => reads_one(alloc, &fields) && reads_two(alloc, &fields),
+        Err(_) => false,
+    }
+}
+
+fn is_written_again(alloc: Global) -> Result<bool, AllocError> {
+    let Ok(decoded) = Size::decode(alloc, b"\x08\x09") else {
+        return Ok(false);
+    };
     let mut out = Vec::new(alloc);
     decoded.encode_into(&mut out)?;
-    assert_eq!(rt; out.as_slice(), b"\x08\x09".as_slice());
+    Ok(out.as_slice() == b"\x08\x09".as_slice())
+}
+
+#[test]
+fn embeds_messages(rt: HostRuntime) -> Result<(), Fail> {
+    let mut writer = Writer::new(rt.alloc());
+    write_sizes(&mut writer)?;
+    assert_eq!(rt; writer.as_bytes(), SIZES);
+    assert!(rt; reads_sizes(rt.alloc()));
+    assert!(rt; is_written_again(rt.alloc())?);
     Ok(())
 }

@@ -1,117 +1,162 @@
 use protobuf_wire::*;
+use std::alloc::AllocError;
 use std::test::*;
 
 /// What a record holds: the field's number, the wire type, the number or the count of bytes.
 type Held = (u64, u64, u64);
 
+/// A text, and what its records hold.
+type Example = (&'static [u8], &'static [Held]);
+
 /// Examples of the encoding documentation and of the specification of proto3, byte for byte.
-#[test]
-fn reads_the_examples_of_the_documentation(rt: HostRuntime) -> Result<(), Fail> {
-    let simple = [0x08u8, 0x96, 0x01];
-    let testing = [0x12u8, 0x07, 0x74, 0x65, 0x73, 0x74, 0x69, 0x6e, 0x67];
-    let submessage = [0x1au8, 0x03, 0x08, 0x96, 0x01];
-    let minus_two = [
-        0x08u8, 0xfe, 0xff, 0xff, 0xff, 0xff, 0xff, 0xff, 0xff, 0xff, 0x01,
-    ];
-    let fixed = [0x09u8, 1, 2, 3, 4, 5, 6, 7, 8, 0x15, 9, 10, 11, 12];
-    let examples: [(&[u8], &[Held]); 5] = [
-        (&simple, &[(1, 0, 150)]),
-        (&testing, &[(2, 2, 7)]),
-        (&submessage, &[(3, 2, 3)]),
-        (&minus_two, &[(1, 0, 18446744073709551614)]),
-        (&fixed, &[(1, 1, 8), (2, 5, 4)]),
-    ];
-    for (text, wanted) in &examples {
-        let mut reader = Reader::new(text);
-        for held in wanted.iter() {
-            let field = reader.next().ok().ok_or("a record")?.ok_or("not the end")?;
-            assert_eq!(rt; held_by(&field), *held);
+static EXAMPLES: [Example; 6] = [
+    (b"\x08\x96\x01", &[(1, 0, 150)]),
+    (b"\x12\x07testing", &[(2, 2, 7)]),
+    (b"\x1a\x03\x08\x96\x01", &[(3, 2, 3)]),
+    (
+        b"\x08\xfe\xff\xff\xff\xff\xff\xff\xff\xff\x01",
+        &[(1, 0, 18446744073709551614)],
+    ),
+    (
+        b"\x09\x01\x02\x03\x04\x05\x06\x07\x08\x15\x09\x0a\x0b\x0c",
+        &[(1, 1, 8), (2, 5, 4)],
+    ),
+    // The largest number of a field, written in ten bytes.
+    (
+        b"\xf8\xff\xff\xff\x8f\x80\x80\x80\x80\x00\x05",
+        &[(536870911, 0, 5)],
+    ),
+];
+
+/// Whether a reader gives these records, and then, again and again, that the text ends.
+fn gives(text: &[u8], wanted: &[Held]) -> bool {
+    let mut reader = Reader::new(text);
+    for held in wanted {
+        match reader.next() {
+            Ok(Some(field)) if held_by(&field) == *held => {}
+            _ => return false,
         }
-        assert!(rt; matches!(reader.next(), Ok(None)));
-        assert!(rt; matches!(reader.next(), Ok(None)));
     }
-    let mut reader = Reader::new(&testing);
-    let field = reader.next().ok().ok_or("a record")?.ok_or("not the end")?;
-    match field.content {
-        Content::Bytes(bytes) => assert_eq!(rt; bytes, b"testing".as_slice()),
-        _ => return Err(Fail::from("not bytes")),
-    }
-    let packed = [0x03u8, 0x8e, 0x02, 0x9e, 0xa7, 0x05];
-    let mut numbers = PackedReader::new(&packed);
-    for wanted in [3u64, 270, 86942] {
-        let number = numbers.next().ok().ok_or("a number")?.ok_or("not the end")?;
-        assert_eq!(rt; number, wanted);
-    }
-    assert!(rt; matches!(numbers.next(), Ok(None)));
-    Ok(())
+    matches!(reader.next(), Ok(None)) && matches!(reader.next(), Ok(None))
 }
 
-/// Two faults stand in some of these texts: the first one is answered.
-#[test]
-fn answers_the_first_fault(rt: HostRuntime) {
-    let faults: [(&[u8], WireError); 12] = [
-        (&[0x08, 0x96], WireError::Truncated),
-        (&[0x12, 0x07, 0x74], WireError::Truncated),
-        (&[0x09, 1, 2, 3, 4, 5, 6, 7], WireError::Truncated),
-        (&[0x15, 1, 2, 3], WireError::Truncated),
-        (&[0xff; 9], WireError::Truncated),
-        (&[0xff; 10], WireError::Overlong),
-        (
-            &[
-                0x80, 0x80, 0x80, 0x80, 0x80, 0x80, 0x80, 0x80, 0x80, 0x80, 0x00,
-            ],
-            WireError::Overlong,
-        ),
-        (&[0x0b, 0x0c], WireError::BadWireType),
-        (&[0x03], WireError::BadWireType),
-        (&[0x00, 0x00], WireError::BadField),
-        (&[0x80, 0x80, 0x80, 0x80, 0x10, 0x00], WireError::BadField),
-        (&[0x02, 0xff], WireError::BadField),
-    ];
-    for (text, wanted) in &faults {
-        let mut reader = Reader::new(text);
-        assert!(rt; matches!(reader.next(), Err(fault) if fault == *wanted));
-        assert!(rt; matches!(reader.next(), Err(fault) if fault == *wanted));
+/// The first of these examples that is read otherwise.
+fn first_wrong(examples: &[Example]) -> Option<usize> {
+    for (index, example) in examples.iter().enumerate() {
+        if !gives(example.0, example.1) {
+            return Some(index);
+        }
     }
-    // The largest number of a field, written in ten bytes.
-    let large = [
-        0xf8u8, 0xff, 0xff, 0xff, 0x8f, 0x80, 0x80, 0x80, 0x80, 0x00, 0x05,
-    ];
-    assert!(rt; matches!(Reader::new(&large).next(), Ok(Some(field)) if field.number == 536870911));
-    let mut numbers = PackedReader::new(&[0x01, 0xff]);
-    assert!(rt; matches!(numbers.next(), Ok(Some(1))));
-    assert!(rt; matches!(numbers.next(), Err(WireError::Truncated)));
-    assert!(rt; matches!(numbers.next(), Err(WireError::Truncated)));
-    assert!(rt;
-        matches!(
+    None
+}
+
+fn gives_its_bytes() -> bool {
+    match Reader::new(b"\x12\x07testing").next() {
+        Ok(Some(field)) => matches!(field.content, Content::Bytes(b"testing")),
+        _ => false,
+    }
+}
+
+fn gives_packed_numbers() -> bool {
+    let mut numbers = PackedReader::new(b"\x03\x8e\x02\x9e\xa7\x05");
+    matches!(numbers.next(), Ok(Some(3)))
+        && matches!(numbers.next(), Ok(Some(270)))
+        && matches!(numbers.next(), Ok(Some(86942)))
+        && matches!(numbers.next(), Ok(None))
+}
+
+#[test]
+fn reads_the_examples_of_the_documentation(rt: HostRuntime) {
+    assert_eq!(rt; first_wrong(&EXAMPLES), None);
+    assert!(rt; gives_its_bytes() && gives_packed_numbers());
+}
+
+/// A text, and its first fault. Some have a second one.
+type Faulty = (&'static [u8], WireError);
+
+static FAULTS: [Faulty; 12] = [
+    (b"\x08\x96", WireError::Truncated),
+    (b"\x12\x07\x74", WireError::Truncated),
+    (b"\x09\x01\x02\x03\x04\x05\x06\x07", WireError::Truncated),
+    (b"\x15\x01\x02\x03", WireError::Truncated),
+    (
+        b"\xff\xff\xff\xff\xff\xff\xff\xff\xff",
+        WireError::Truncated,
+    ),
+    (
+        b"\xff\xff\xff\xff\xff\xff\xff\xff\xff\xff",
+        WireError::Overlong,
+    ),
+    (
+        b"\x80\x80\x80\x80\x80\x80\x80\x80\x80\x80\x00",
+        WireError::Overlong,
+    ),
+    (b"\x0b\x0c", WireError::BadWireType),
+    (b"\x03", WireError::BadWireType),
+    (b"\x00\x00", WireError::BadField),
+    (b"\x80\x80\x80\x80\x10\x00", WireError::BadField),
+    (b"\x02\xff", WireError::BadField),
+];
+
+/// Whether a reader refuses the text so, again and again.
+fn is_refused(text: &[u8], wanted: WireError) -> bool {
+    let mut reader = Reader::new(text);
+    let first = matches!(reader.next(), Err(fault) if fault == wanted);
+    let second = matches!(reader.next(), Err(fault) if fault == wanted);
+    first && second
+}
+
+/// The first of these texts that is not refused so.
+fn first_taken(faults: &[Faulty]) -> Option<usize> {
+    for (index, faulty) in faults.iter().enumerate() {
+        if !is_refused(faulty.0, faulty.1) {
+            return Some(index);
+        }
+    }
+    None
+}
+
+fn refuses_packed_numbers() -> bool {
+    let mut numbers = PackedReader::new(b"\x01\xff");
+    matches!(numbers.next(), Ok(Some(1)))
+        && matches!(numbers.next(), Err(WireError::Truncated))
+        && matches!(numbers.next(), Err(WireError::Truncated))
+        && matches!(
             PackedReader::new(&[0xff; 10]).next(),
             Err(WireError::Overlong)
         )
-    );
+}
+
+#[test]
+fn answers_the_first_fault(rt: HostRuntime) {
+    assert_eq!(rt; first_taken(&FAULTS), None);
+    assert!(rt; refuses_packed_numbers());
+}
+
+fn write_packed(packed: &mut Writer) -> Result<(), AllocError> {
+    packed.packed_number(3)?;
+    packed.packed_number(270)?;
+    packed.packed_number(86942)
+}
+
+fn write_records(writer: &mut Writer, inner: &[u8], packed: &[u8]) -> Result<(), AllocError> {
+    writer.varint(1, 0)?;
+    writer.bytes(2, b"testing")?;
+    writer.bytes(2, &[])?;
+    writer.message(3, inner)?;
+    writer.message(3, &[])?;
+    writer.bytes(6, packed)?;
+    writer.varint(536870911, 18446744073709551614)
 }
 
 #[test]
 fn writes_the_examples_of_the_documentation(rt: HostRuntime) -> Result<(), Fail> {
-    let mut inner = Writer::new(rt.alloc());
-    inner.varint(1, 150)?;
-    assert_eq!(rt; inner.as_bytes(), [0x08u8, 0x96, 0x01].as_slice());
-    let mut packed = inner.empty();
-    for number in [3u64, 270, 86942] {
-        packed.packed_number(number)?;
-    }
-    let mut writer = inner.empty();
-    writer.varint(1, 0)?;
-    writer.bytes(2, b"testing")?;
-    writer.bytes(2, &[])?;
-    writer.message(3, inner.as_bytes())?;
-    writer.message(3, &[])?;
-    writer.bytes(6, packed.as_bytes())?;
-    writer.varint(536870911, 18446744073709551614)?;
-    let wanted = [
-        0x12u8, 0x07, 0x74, 0x65, 0x73, 0x74, 0x69, 0x6e, 0x67, 0x1a, 0x03, 0x08, 0x96, 0x01, 0x1a,
-        0x00, 0x32, 0x06, 0x03, 0x8e, 0x02, 0x9e, 0xa7, 0x05, 0xf8, 0xff, 0xff, 0xff, 0x0f, 0xfe,
-        0xff, 0xff, 0xff, 0xff, 0xff, 0xff, 0xff, 0xff, 0x01,
-    ];
+    let mut packed = Writer::new(rt.alloc());
+    write_packed(&mut packed)?;
+    let mut writer = packed.empty();
+    write_records(&mut writer, b"\x08\x96\x01", packed.as_bytes())?;
+    let wanted =
+        b"\x12\x07testing\x1a\x03\x08\x96\x01\x1a\x00\x32\x06\x03\x8e\x02\x9e\xa7\x05\xf8\xff\xff\xff\x0f\xfe\xff\xff\xff\xff\xff\xff\xff\xff\x01";
     assert_eq!(rt; writer.as_bytes(), wanted.as_slice());
     Ok(())
 }
@@ -194,27 +239,51 @@ fn agrees(text: &[u8]) -> bool {
     matches!(reader.next(), Ok(None))
 }
 
-/// All texts of two bytes, and longer ones made of bytes that matter.
-#[test]
-fn agrees_with_a_slow_reading(rt: HostRuntime) {
+/// The first of all texts of two bytes for which they disagree.
+fn first_short_disagreement() -> Option<[u8; 2]> {
     for first in 0..=255u8 {
         for second in 0..=255u8 {
-            assert!(rt; agrees(&[first, second]), "{first} {second}");
+            if !agrees(&[first, second]) {
+                return Some([first, second]);
+            }
         }
     }
-    let common = [
-        0x00u8, 0x01, 0x02, 0x08, 0x09, 0x0a, 0x0d, 0x12, 0x7f, 0x80, 0x81, 0xff,
-    ];
+    None
+}
+
+/// Bytes that matter.
+static COMMON: [u8; 12] = [
+    0x00, 0x01, 0x02, 0x08, 0x09, 0x0a, 0x0d, 0x12, 0x7f, 0x80, 0x81, 0xff,
+];
+
+/// Fills a text by a linear congruential generator, whose next state is given.
+fn fill(text: &mut [u8; 24], state: u64) -> u64 {
+    let mut seed = state;
+    for byte in text {
+        seed = seed
+            .wrapping_mul(6364136223846793005)
+            .wrapping_add(1442695040888963407);
+        *byte = COMMON[(seed >> 33) as usize % 12];
+    }
+    seed
+}
+
+/// The state with which the first text is made for which they disagree.
+fn first_long_disagreement() -> Option<u64> {
     let mut seed = 1u64;
     for _ in 0..20000 {
         let mut text = [0u8; 24];
-        for byte in &mut text {
-            seed = seed
-                .wrapping_mul(6364136223846793005)
-                .wrapping_add(1442695040888963407);
-            *byte = common[(seed >> 33) as usize % 12];
-        }
+        seed = fill(&mut text, seed);
         let length = (seed >> 40) as usize % 25;
-        assert!(rt; agrees(&text[..length]), "{seed}");
+        if !agrees(&text[..length]) {
+            return Some(seed);
+        }
     }
+    None
+}
+
+#[test]
+fn agrees_with_a_slow_reading(rt: HostRuntime) {
+    assert_eq!(rt; first_short_disagreement(), None);
+    assert_eq!(rt; first_long_disagreement(), None);
 }

@@ -25,3 +25,7 @@ fault_line OutOfMemory = codes "remoted: out of memory\n"
 abbrev pub status_of_fault : Fault → Status
 status_of_fault fault.InputOrOutput = Failed
 status_of_fault fault.OutOfMemory = OutOfMemory
+
+-- the line on standard error where a file cannot be read
+abbrev pub unread_line : List ℕ → List ℕ
+unread_line file = codes "remoted: cannot read " ++ file ++ codes "\n"

@@ -1,11 +1,13 @@
-//! How a run of the program ends: its status, the line that says why, and the reading of a whole input.
+//! How a run of the program ends: its status and the line that says why; and the reading of a whole input or file.
 #![tactic(auto)]
 
-ghost use Rattle.std.specs.Prelude.{◌≡◌, OnOk, IfOk, IfSome};
+ghost use Rattle.std.specs.Prelude.{◌≡◌, ◌≢◌, OnOk, IfOk, IsSome, IfSome, Ok, None};
+ghost use Rattle.std.specs.IoError.{error_kind};
 ghost use Rattle.std.specs.Io.KnownBytes.{Appends};
-ghost use Rattle.program_status.specs.Status.{code_of, fault_line, status_of_fault};
+ghost use Rattle.program_status.specs.Status.{code_of, fault_line, status_of_fault, unread_line};
 
 use std::alloc::{AllocError, Global};
+use std::fs;
 use std::io::{self, ErrorKind, Read, Write};
 
 /// How a run ended.
@@ -93,5 +95,35 @@ pub fn read_all<I: Read>(alloc: Global, input: &mut I) -> Result<Vec<u8>, Fault>
             ErrorKind::OutOfMemory => Err(Fault::OutOfMemory),
             _ => Err(Fault::InputOrOutput),
         },
+    }
+}
+
+/// The status of a run that an error of reading, writing or connecting ended.
+pub fn status_of_error(error: &io::Error) -> Status
+    ensures memory { error_kind error.now ≡ ErrorKind.OutOfMemory → result ≡ Status.OutOfMemory }
+    ensures other { error_kind error.now ≢ ErrorKind.OutOfMemory → result ≡ Status.Failed }
+{
+    match error.kind() {
+        ErrorKind::OutOfMemory => Status::OutOfMemory,
+        _ => Status::Failed,
+    }
+}
+
+/// The bytes of a file; where it cannot be read, that is told, and there are none.
+pub fn read_file<E: Write>(
+    rt: &HostRuntime,
+    file: &str,
+    errors: &mut E,
+) -> io::Result<Option<Vec<u8>>>
+    ensures told { result ≡ Ok None → Appends (E.contents errors.old) (E.contents errors.new) (unread_line file.now) }
+    ensures quiet { IfOk result (λ read. IsSome read → E.contents errors.new ≡ E.contents errors.old) }
+{
+    match fs::read(rt, file) {
+        Ok(bytes) => Ok(Some(bytes)),
+        Err(error) if error.kind() == ErrorKind::OutOfMemory => Err(error),
+        Err(_) => {
+            writeln!(errors, "remoted: cannot read {file}")?;
+            Ok(None)
+        }
     }
 }

@@ -1,9 +1,20 @@
 #![tactic(auto)]
-//! Tests of `unary`, `probe` and `command_line`, beside the stored scripts of `acceptance`.
+//! Tests of `script`, `unary_script`, `replay_script`, `replay_lines`, `program_status`, `unary`, `probe`,
+//! `command_line`.
 
 #[cfg(test)]
 mod command_line_tests;
 #[cfg(test)]
 mod probe_tests;
+#[cfg(test)]
+mod program_status_tests;
+#[cfg(test)]
+mod replay_lines_tests;
+#[cfg(test)]
+mod replay_script_tests;
+#[cfg(test)]
+mod script_tests;
+#[cfg(test)]
+mod unary_script_tests;
 #[cfg(test)]
 mod unary_tests;

@@ -1,34 +1,14 @@
 //! The program `remoted`.
 #![tactic(auto)]
 
-ghost use Rattle.std.specs.Prelude.{◌≡◌, ◌≢◌};
-ghost use Rattle.std.specs.IoError.{error_kind};
-
 use command_line::{CommandLineError, Task, parse};
 use probe::{Request, probe};
-use program_status::Status;
+use program_status::{Status, read_file, status_of_error};
 use replay::replay;
-use std::fs;
 use std::io::{self, BufWriter, ErrorKind, Write};
 use std::net::{Ipv4Addr, SocketAddr, TcpStream};
 use std::process::ExitCode;
 use unary::unary;
-
-/// The bytes of a file; where it cannot be read, that is told, and there are none.
-fn read_file<E: Write>(
-    rt: &HostRuntime,
-    file: &str,
-    errors: &mut E,
-) -> io::Result<Option<Vec<u8>>> {
-    match fs::read(rt, file) {
-        Ok(bytes) => Ok(Some(bytes)),
-        Err(error) if error.kind() == ErrorKind::OutOfMemory => Err(error),
-        Err(_) => {
-            writeln!(errors, "remoted: cannot read {file}")?;
-            Ok(None)
-        }
-    }
-}
 
 /// Carries out the script of calls of a file.
 fn unary_of_file<O: Write, E: Write>(
@@ -128,25 +108,13 @@ fn status(rt: &HostRuntime) -> io::Result<u8> {
     }
 }
 
-/// Says why the program ends early, and gives the number with which it ends.
-fn tell<E: Write>(errors: &mut E, error: &io::Error) -> u8
-    ensures memory { error_kind error.now ≡ ErrorKind.OutOfMemory → result ≡ 5 }
-    ensures other { error_kind error.now ≢ ErrorKind.OutOfMemory → result ≡ 1 }
-{
-    let status = match error.kind() {
-        ErrorKind::OutOfMemory => Status::OutOfMemory,
-        _ => Status::Failed,
-    };
-    let _told: io::Result<()> = status.tell(errors);
-    status.code()
-}
-
 fn main(rt: HostRuntime) -> ExitCode {
     match status(&rt) {
         Ok(status) => ExitCode::from(status),
-        Err(error) => ExitCode::from(tell(&mut rt.stderr(), &error)),
+        Err(error) => {
+            let status = status_of_error(&error);
+            let _told: io::Result<()> = status.tell(&mut rt.stderr());
+            ExitCode::from(status.code())
+        }
     }
 }
-
-#[cfg(test)]
-mod tests;

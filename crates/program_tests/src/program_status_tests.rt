@@ -1,5 +1,6 @@
 use program_status::*;
 use std::alloc::Global;
+use std::fs;
 use std::io::{self, ErrorKind, Read};
 use std::test::*;
 
@@ -78,4 +79,45 @@ fn breaks_off(alloc: Global) -> bool {
 #[test]
 fn an_input_that_breaks_off(rt: HostRuntime) {
     assert!(rt; breaks_off(rt.alloc()));
+}
+
+/// Whether nothing is read of the file, and that is told.
+fn is_unread(rt: &HostRuntime, file: &str, line: &[u8]) -> Result<bool, Fail> {
+    let mut errors = Vec::new(rt.alloc());
+    let read = read_file(rt, file, &mut errors)?;
+    Ok(read.is_none() && errors.as_slice() == line)
+}
+
+#[test]
+fn files_that_cannot_be_read(rt: HostRuntime) -> Result<(), Fail> {
+    assert!(rt; is_unread(&rt, "no/such/file", b"remoted: cannot read no/such/file\n")?);
+    assert!(rt; is_unread(&rt, ".", b"remoted: cannot read .\n")?);
+    Ok(())
+}
+
+/// Whether these bytes are read of the file, and nothing is told.
+fn is_read(rt: &HostRuntime, file: &str, bytes: &[u8]) -> Result<bool, Fail> {
+    let mut errors = Vec::new(rt.alloc());
+    match read_file(rt, file, &mut errors)? {
+        Some(read) => Ok(read.as_slice() == bytes && errors.is_empty()),
+        None => Ok(false),
+    }
+}
+
+#[test]
+fn a_file(rt: HostRuntime) -> Result<(), Fail> {
+    let file = "file_of_a_test";
+    fs::write(&rt, file, b"some bytes".as_slice())?;
+    let passed = is_read(&rt, file, b"some bytes")?;
+    fs::remove_file(&rt, file)?;
+    assert!(rt; passed);
+    Ok(())
+}
+
+#[test]
+fn errors_that_end_a_run(rt: HostRuntime) {
+    let refused = io::Error::from(ErrorKind::OutOfMemory);
+    let broken = io::Error::from(ErrorKind::BrokenPipe);
+    assert!(rt; status_of_error(&refused) == Status::OutOfMemory);
+    assert!(rt; status_of_error(&broken) == Status::Failed);
 }

@@ -13,24 +13,39 @@ mod records;
 mod responses;
 mod windows;
 
-use crate::octets::place_of;
+use crate::octets::named;
 use program_status::{Status, read_all};
 use script::{lines, words};
 use std::alloc::Global;
 use std::io::{self, Write};
 use std::process::ExitCode;
 
-static SUBJECTS: [&[u8]; 10] = [
-    b"records",
-    b"packed",
-    b"message",
-    b"huffman",
-    b"blocks",
-    b"responses",
-    b"client",
-    b"server",
-    b"messages",
-    b"window",
+/// What a case is about.
+#[derive(Clone, Copy)]
+enum Subject {
+    Records,
+    PackedNumbers,
+    Message,
+    Huffman,
+    HeaderBlocks,
+    Responses,
+    ClientFrames,
+    ServerFrames,
+    FramedMessages,
+    Window,
+}
+
+static SUBJECTS: [(&[u8], Subject); 10] = [
+    (b"records", Subject::Records),
+    (b"packed", Subject::PackedNumbers),
+    (b"message", Subject::Message),
+    (b"huffman", Subject::Huffman),
+    (b"blocks", Subject::HeaderBlocks),
+    (b"responses", Subject::Responses),
+    (b"client", Subject::ClientFrames),
+    (b"server", Subject::ServerFrames),
+    (b"messages", Subject::FramedMessages),
+    (b"window", Subject::Window),
 ];
 
 /// Carries out the operations of a case that a line begins.
@@ -43,17 +58,17 @@ fn carry_out(
     let mut parts = words(header);
     let (_, subject, name) = (parts.next(), parts.next(), parts.next());
     let name = name.unwrap_or(b"");
-    match place_of(&SUBJECTS, subject.unwrap_or(b""))? {
-        0 => records::records(alloc, operations, out),
-        1 => records::packed(alloc, operations, out),
-        2 => messages::messages(alloc, name, operations, out),
-        3 => compression::huffman(alloc, operations, out),
-        4 => compression::blocks(alloc, operations, out),
-        5 => responses::responses(alloc, out),
-        6 => frames::client(alloc, operations, out),
-        7 => frames::server(alloc, operations, out),
-        8 => messages::framed(alloc, operations, out),
-        _ => windows::window(name, operations, out),
+    match named(&SUBJECTS, subject.unwrap_or(b""))? {
+        Subject::Records => records::records(alloc, operations, out),
+        Subject::PackedNumbers => records::packed(alloc, operations, out),
+        Subject::Message => messages::messages(alloc, name, operations, out),
+        Subject::Huffman => compression::huffman(alloc, operations, out),
+        Subject::HeaderBlocks => compression::blocks(alloc, operations, out),
+        Subject::Responses => responses::responses(alloc, out),
+        Subject::ClientFrames => frames::client(alloc, operations, out),
+        Subject::ServerFrames => frames::server(alloc, operations, out),
+        Subject::FramedMessages => messages::framed(alloc, operations, out),
+        Subject::Window => windows::window(name, operations, out),
     }
 }
 

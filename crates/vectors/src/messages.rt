@@ -1,6 +1,6 @@
 //! Messages of the remote execution API, and messages as gRPC frames them.
 
-use crate::octets::{octets, place_of, show};
+use crate::octets::{named, octets, show};
 use crate::records::word_of;
 use grpc_messages::Messages;
 use reapi_messages::*;
@@ -27,32 +27,51 @@ fn encoded_again<'a, M: Message<'a>>(
     Ok(())
 }
 
-static TYPES: [&[u8]; 10] = [
-    b"Digest",
-    b"Status",
-    b"FindMissingBlobsRequest",
-    b"FindMissingBlobsResponse",
-    b"BatchUpdateBlobsRequest",
-    b"BatchUpdateBlobsResponse",
-    b"BatchReadBlobsRequest",
-    b"BatchReadBlobsResponse",
-    b"GetCapabilitiesRequest",
-    b"ServerCapabilities",
+/// A type of messages.
+#[derive(Clone, Copy)]
+enum Type {
+    Digest,
+    Status,
+    FindMissingBlobsRequest,
+    FindMissingBlobsResponse,
+    BatchUpdateBlobsRequest,
+    BatchUpdateBlobsResponse,
+    BatchReadBlobsRequest,
+    BatchReadBlobsResponse,
+    GetCapabilitiesRequest,
+    ServerCapabilities,
+}
+
+static TYPES: [(&[u8], Type); 10] = [
+    (b"Digest", Type::Digest),
+    (b"Status", Type::Status),
+    (b"FindMissingBlobsRequest", Type::FindMissingBlobsRequest),
+    (b"FindMissingBlobsResponse", Type::FindMissingBlobsResponse),
+    (b"BatchUpdateBlobsRequest", Type::BatchUpdateBlobsRequest),
+    (b"BatchUpdateBlobsResponse", Type::BatchUpdateBlobsResponse),
+    (b"BatchReadBlobsRequest", Type::BatchReadBlobsRequest),
+    (b"BatchReadBlobsResponse", Type::BatchReadBlobsResponse),
+    (b"GetCapabilitiesRequest", Type::GetCapabilitiesRequest),
+    (b"ServerCapabilities", Type::ServerCapabilities),
 ];
 
-/// Writes how the bytes are encoded again, as a message of the type at this place.
-fn typed(alloc: Global, place: usize, text: &[u8], out: &mut Vec<u8>) -> io::Result<()> {
-    match place {
-        0 => encoded_again::<Digest>(alloc, text, out),
-        1 => encoded_again::<Status>(alloc, text, out),
-        2 => encoded_again::<FindMissingBlobsRequest>(alloc, text, out),
-        3 => encoded_again::<FindMissingBlobsResponse>(alloc, text, out),
-        4 => encoded_again::<BatchUpdateBlobsRequest>(alloc, text, out),
-        5 => encoded_again::<BatchUpdateBlobsResponse>(alloc, text, out),
-        6 => encoded_again::<BatchReadBlobsRequest>(alloc, text, out),
-        7 => encoded_again::<BatchReadBlobsResponse>(alloc, text, out),
-        8 => encoded_again::<GetCapabilitiesRequest>(alloc, text, out),
-        _ => encoded_again::<ServerCapabilities>(alloc, text, out),
+/// Writes how the bytes are encoded again, as a message of this type.
+fn typed(alloc: Global, of: Type, text: &[u8], out: &mut Vec<u8>) -> io::Result<()> {
+    match of {
+        Type::Digest => encoded_again::<Digest>(alloc, text, out),
+        Type::Status => encoded_again::<Status>(alloc, text, out),
+        Type::FindMissingBlobsRequest => encoded_again::<FindMissingBlobsRequest>(alloc, text, out),
+        Type::FindMissingBlobsResponse => encoded_again::<FindMissingBlobsResponse>(
+            alloc, text, out,
+        ),
+        Type::BatchUpdateBlobsRequest => encoded_again::<BatchUpdateBlobsRequest>(alloc, text, out),
+        Type::BatchUpdateBlobsResponse => encoded_again::<BatchUpdateBlobsResponse>(
+            alloc, text, out,
+        ),
+        Type::BatchReadBlobsRequest => encoded_again::<BatchReadBlobsRequest>(alloc, text, out),
+        Type::BatchReadBlobsResponse => encoded_again::<BatchReadBlobsResponse>(alloc, text, out),
+        Type::GetCapabilitiesRequest => encoded_again::<GetCapabilitiesRequest>(alloc, text, out),
+        Type::ServerCapabilities => encoded_again::<ServerCapabilities>(alloc, text, out),
     }
 }
 
@@ -63,9 +82,9 @@ pub fn messages(
     operations: &[&[u8]],
     out: &mut Vec<u8>,
 ) -> io::Result<()> {
-    let place = place_of(&TYPES, name)?;
+    let of = named(&TYPES, name)?;
     for line in operations {
-        typed(alloc, place, &octets(alloc, line)?, out)?;
+        typed(alloc, of, &octets(alloc, line)?, out)?;
     }
     Ok(())
 }

@@ -1,4 +1,4 @@
-//! How bytes stand in the vectors and in what is written.
+//! How bytes and words stand in the vectors, and bytes in what is written.
 
 use script::{decimal, hex_bytes, words, write_hex};
 use std::alloc::Global;
@@ -43,11 +43,11 @@ pub fn show(out: &mut Vec<u8>, before: &[u8], bytes: &[u8]) -> io::Result<()> {
     Ok(())
 }
 
-/// The place of a word in a list.
-pub fn place_of(list: &[&[u8]], word: &[u8]) -> io::Result<usize> {
-    for (place, other) in list.iter().enumerate() {
-        if *other == word {
-            return Ok(place);
+/// What a word stands for in a list of words with what they stand for.
+pub fn named<T: Copy>(list: &[(&[u8], T)], word: &[u8]) -> io::Result<T> {
+    for (name, meant) in list {
+        if *name == word {
+            return Ok(*meant);
         }
     }
     Err(bad_line())

@@ -1,6 +1,6 @@
 //! Flow-control windows.
 
-use crate::octets::bad_line;
+use crate::octets::{bad_line, named};
 use http2_flow::{FlowError, MAX_SIZE, Window};
 use script::{decimal, words};
 use std::io::{self, Write};
@@ -14,17 +14,25 @@ fn number(word: Option<&[u8]>) -> io::Result<u32> {
     }
 }
 
-/// Changes a window as a line says; an unknown word changes nothing.
-fn change(window: &mut Window, what: &[u8], size: u32) -> Result<(), FlowError> {
-    if what == b"grant".as_slice() {
-        window.grant(size)
-    } else if what == b"spend".as_slice() {
-        window.spend(size)
-    } else if what == b"shift".as_slice() && size <= MAX_SIZE {
-        window.shift(size)
-    } else {
-        Ok(())
-    }
+/// What is done to a window.
+#[derive(Clone, Copy)]
+enum Change {
+    Grant,
+    Spend,
+    Shift,
+}
+
+static CHANGES: [(&[u8], Change); 3] = [
+    (b"grant", Change::Grant),
+    (b"spend", Change::Spend),
+    (b"shift", Change::Shift),
+];
+
+/// The words of a line that says what is done, and by which number.
+fn change_of(line: &[u8]) -> io::Result<(Change, u32)> {
+    let mut parts = words(line);
+    let change = named(&CHANGES, parts.next().unwrap_or(b""))?;
+    Ok((change, number(parts.next())?))
 }
 
 /// Changes a window of an initial size as each line says, and writes what it answers and what is left.
@@ -35,9 +43,13 @@ pub fn window(initial: &[u8], operations: &[&[u8]], out: &mut Vec<u8>) -> io::Re
     }
     let mut window = Window::new(initial);
     for line in operations {
-        let mut parts = words(line);
-        let (what, size) = (parts.next(), number(parts.next())?);
-        let answer = match change(&mut window, what.unwrap_or(b""), size) {
+        let answer = match change_of(line)? {
+            (Change::Grant, increment) => window.grant(increment),
+            (Change::Spend, bytes) => window.spend(bytes),
+            (Change::Shift, initial) if initial <= MAX_SIZE => window.shift(initial),
+            _ => return Err(bad_line()),
+        };
+        let answer = match answer {
             Ok(()) => "ok",
             Err(FlowError::Zero) => "Zero",
             Err(FlowError::TooLarge) => "TooLarge",

@@ -63,6 +63,17 @@ pub enum Fault {
 }
 
 impl Fault {
+    /// Which of the two an error of reading, writing or connecting is.
+    pub fn of(error: &io::Error) -> Fault
+        ensures memory { error_kind error.now ≡ ErrorKind.OutOfMemory → result ≡ Fault.OutOfMemory }
+        ensures other { error_kind error.now ≢ ErrorKind.OutOfMemory → result ≡ Fault.InputOrOutput }
+    {
+        match error.kind() {
+            ErrorKind::OutOfMemory => Fault::OutOfMemory,
+            _ => Fault::InputOrOutput,
+        }
+    }
+
     /// The status of a run that ended so.
     pub fn status(self) -> Status
         ensures { result ≡ status_of_fault self }
@@ -91,25 +102,12 @@ pub fn read_all<I: Read>(alloc: Global, input: &mut I) -> Result<Vec<u8>, Fault>
     let mut text = Vec::new(alloc);
     match input.read_to_end(&mut text) {
         Ok(_) => Ok(text),
-        Err(error) => match error.kind() {
-            ErrorKind::OutOfMemory => Err(Fault::OutOfMemory),
-            _ => Err(Fault::InputOrOutput),
-        },
+        Err(error) => Err(Fault::of(&error)),
     }
 }
 
-/// The status of a run that an error of reading, writing or connecting ended.
-pub fn status_of_error(error: &io::Error) -> Status
-    ensures memory { error_kind error.now ≡ ErrorKind.OutOfMemory → result ≡ Status.OutOfMemory }
-    ensures other { error_kind error.now ≢ ErrorKind.OutOfMemory → result ≡ Status.Failed }
-{
-    match error.kind() {
-        ErrorKind::OutOfMemory => Status::OutOfMemory,
-        _ => Status::Failed,
-    }
-}
-
-/// The bytes of a file; where it cannot be read, that is told, and there are none.
+/// The bytes of a file; where it cannot be read, that is told, and there are none. An error is a refused request for
+/// memory, or that telling failed.
 pub fn read_file<E: Write>(
     rt: &HostRuntime,
     file: &str,

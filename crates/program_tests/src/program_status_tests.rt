@@ -118,6 +118,6 @@ fn a_file(rt: HostRuntime) -> Result<(), Fail> {
 fn errors_that_end_a_run(rt: HostRuntime) {
     let refused = io::Error::from(ErrorKind::OutOfMemory);
     let broken = io::Error::from(ErrorKind::BrokenPipe);
-    assert!(rt; status_of_error(&refused) == Status::OutOfMemory);
-    assert!(rt; status_of_error(&broken) == Status::Failed);
+    assert!(rt; Fault::of(&refused) == Fault::OutOfMemory);
+    assert!(rt; Fault::of(&broken) == Fault::InputOrOutput);
 }

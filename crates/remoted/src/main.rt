@@ -3,7 +3,7 @@
 
 use command_line::{CommandLineError, Task, parse};
 use probe::{Request, probe};
-use program_status::{Status, read_file, status_of_error};
+use program_status::{Fault, Status, read_file};
 use replay::replay;
 use std::io::{self, BufWriter, ErrorKind, Write};
 use std::net::{Ipv4Addr, SocketAddr, TcpStream};
@@ -112,7 +112,7 @@ fn main(rt: HostRuntime) -> ExitCode {
     match status(&rt) {
         Ok(status) => ExitCode::from(status),
         Err(error) => {
-            let status = status_of_error(&error);
+            let status = Fault::of(&error).status();
             let _told: io::Result<()> = status.tell(&mut rt.stderr());
             ExitCode::from(status.code())
         }

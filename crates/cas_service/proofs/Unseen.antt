@@ -1,13 +1,21 @@
 -- The digests that are missing, as they were sent.
-use Rattle.std.proofs.Common.{◌≡◌, ℕ, Bool, true, false, List, [], ◌∷◌, ◌++◌, map, refl, ap, ◌∙◌}
+use Rattle.std.proofs.Common.{◌≡◌, ℕ, Bool, true, false, List, [], ◌∷◌, ◌++◌, map, refl, sym, ap, ◌∙◌}
 use Rattle.std.specs.List.{filter}
 use Rattle.reapi_messages.specs.Digests.{DigestValue}
 use Rattle.reapi_messages.specs.Parts.{text_for}
 use Rattle.reapi_messages.specs.FindMissing.{find_missing_blobs_response_records}
-use Rattle.instance_view.specs.Visible.{Blob}
+use Rattle.std.specs.Prelude.{not, is_some, cond, Some, Ok}
+use Rattle.std.specs.Map.{lookup}
+use Rattle.digest.specs.declared.Digest.{Digest}
+use Rattle.digest.specs.Naming.{same, digest_of}
+use Rattle.blob_pool.specs.Held.{Slots}
+use Rattle.instance_view.specs.Visible.{Blob, seen}
+use Rattle.instance_view.specs.Shown.{ViewValue, shown}
+use Rattle.instance_view.proofs.Entries.{is_some-shown}
+use Rattle.cas_service.specs.Changes.{Use, changed}
 use Rattle.cas_service.specs.declared.requests.Asked.{Asked}
 use Rattle.cas_service.specs.Requests.{digest_value}
-use Rattle.cas_service.specs.FindMissing.{is_missing, missing, missing_reply}
+use Rattle.cas_service.specs.FindMissing.{is_missing, missing, missing_reply, digests_asked, find_missing_reply, find_missing_changes}
 use Rattle.cas_service.specs.Shown.{named, sent, is_unseen}
 
 pub missing_sent : (visible : List Blob) (asked : List Asked) → map sent asked ≡ map digest_value (map named asked)
@@ -32,3 +40,27 @@ reply_is visible asked old new ds written found empty encoded =
     let is : ds ≡ map digest_value (missing visible (map named asked)) = found ∙ missing_sent visible asked written in
     let of_digests : List DigestValue → List ℕ = λ vs. text_for find_missing_blobs_response_records (record { missing_blob_digests = vs }) in
     encoded ∙ ap (λ (front : List ℕ). front ++ of_digests ds) empty ∙ ap of_digests is
+
+-- which digests are missing is told by the entries alone, whatever their texts
+seen_anywhere : (p q : Slots) (v : ViewValue) (d : Digest) → is_some (seen d (shown p v)) ≡ is_some (seen d (shown q v))
+seen_anywhere p q v d = go (same d (digest_of [])) refl where
+  there : (p : Slots) → is_some (lookup (same d) v.entries) ≡ is_some (lookup (same d) (shown p v))
+  there p = is_some-shown p (same d) v.entries
+
+  go : (t : Bool) → same d (digest_of []) ≡ t → is_some (cond t (Some []) (lookup (same d) (shown p v))) ≡ is_some (cond t (Some []) (lookup (same d) (shown q v)))
+  go true is = refl
+  go false is = sym (there p) ∙ there q
+
+missing_anywhere : (p q : Slots) (v : ViewValue) (ds : List Digest) → missing (shown p v) ds ≡ missing (shown q v) ds
+missing_anywhere p q v [] = refl
+missing_anywhere p q v (d ∷ ds) =
+    let one : is_missing (shown p v) d ≡ is_missing (shown q v) d = ap (λ (b : Bool). not b) (seen_anywhere p q v d) in
+    let rest = missing_anywhere p q v ds in
+    rw (one, rest) refl
+
+pub reply_anywhere : (p q : Slots) (v : ViewValue) (own message : List ℕ) (ds : List Digest) (reply : List ℕ) → digests_asked own message ≡ Ok ds → reply ≡ missing_reply (missing (shown q v) ds) → find_missing_reply own (shown p v) message ≡ Ok reply
+reply_anywhere p q v own message ds reply asked is =
+    rw asked (ap (λ (t : List ℕ). Ok t) (ap missing_reply (missing_anywhere p q v ds) ∙ sym is))
+
+pub uses_asked : (limit quota : ℕ) (own message : List ℕ) (ds : List Digest) (old : List Blob) → digests_asked own message ≡ Ok ds → changed limit quota (map Use ds) old ≡ changed limit quota (find_missing_changes own message) old
+uses_asked limit quota own message ds old asked = rw asked refl

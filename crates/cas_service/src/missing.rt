@@ -1,7 +1,10 @@
-ghost use Rattle.std.specs.Prelude.{◌≡◌, ℕ, List, map, OnOk, OnErr, IfOk};
+ghost use Rattle.std.specs.Prelude.{◌≡◌, ℕ, List, [], map, is_some, OnOk, OnErr, IfOk};
 ghost use Rattle.std.specs.List.{filter};
 ghost use Rattle.reapi_messages.specs.Digests.{digest_shown};
-ghost use Rattle.quota_evict.specs.Within.{Within};
+ghost use Rattle.blob_pool.specs.Held.{Slots};
+ghost use Rattle.instance_view.specs.Visible.{seen};
+ghost use Rattle.instance_view.specs.Shown.{shown, holders};
+ghost use Rattle.quota_evict.specs.Kept.{AreKept};
 ghost use Rattle.cas_service.specs.Answers.{Answers};
 ghost use Rattle.cas_service.specs.Changes.{changed};
 ghost use Rattle.cas_service.specs.Requests.{digest_value};
@@ -10,6 +13,7 @@ ghost use Rattle.cas_service.specs.Shown.{named, sent, is_unseen};
 
 use crate::error::CallError;
 use crate::requests::{Asked, check_function, check_instance, read_digests, use_all};
+use digest::Digest;
 use instance_view::View;
 use reapi_messages as messages;
 use reapi_messages::{FindMissingBlobsRequest, FindMissingBlobsResponse, Message};
@@ -22,8 +26,10 @@ fn read_request<'a>(
     own: &str,
     message: &'a [u8],
 ) -> Result<Vec<Asked<'a>>, CallError>
-    ensures named { Answers (λ asked. map named asked.items) result (digests_asked own.now message.now) }
-    ensures written { IfOk result (λ asked. map sent asked.items ≡ map digest_value (map named asked.items)) }
+    ensures named { Answers (λ asked. map named asked.items) result
+        (digests_asked own.now message.now) }
+    ensures written { IfOk result (λ asked. map sent asked.items
+        ≡ map digest_value (map named asked.items)) }
 {
     let request = FindMissingBlobsRequest::decode(alloc, message)?;
     check_instance(own, request.instance_name)?;
@@ -31,18 +37,26 @@ fn read_request<'a>(
     read_digests(alloc, &request.blob_digests)
 }
 
-/// The digests that are not there, in order.
+/// Whether there is a text of the digest.
+fn is_there(view: &View, digest: &Digest) -> bool
+    ensures { result ≡ is_some (seen digest.now (shown [] view.now)) }
+{
+    view.contains(digest)
+}
+
+/// The digests that are not there, in order. What is there is told by the digests alone, so any pool serves to say so.
 fn missing<'a>(
     alloc: Global,
     view: &View,
     asked: &[Asked<'a>],
 ) -> Result<Vec<messages::Digest<'a>>, AllocError>
-    ensures { IfOk result (λ missing. map digest_shown missing.items ≡ map sent (filter (is_unseen view.now) asked.now)) }
+    ensures { IfOk result (λ missing. map digest_shown missing.items
+        ≡ map sent (filter (is_unseen (shown [] view.now)) asked.now)) }
 {
     let mut missing = Vec::new(alloc);
     let mut left = asked;
     'digests: while let [first, rest @ ..] = left {
-        if !view.contains(&first.digest) {
+        if !is_there(view, &first.digest) {
             missing.push(first.sent)?;
         }
         left = rest;
@@ -53,7 +67,8 @@ fn missing<'a>(
 /// The message that lists what is missing.
 fn reply_to(alloc: Global, view: &View, asked: &[Asked<'_>]) -> Result<Vec<u8>, AllocError>
     requires written { map sent asked.now ≡ map digest_value (map named asked.now) }
-    ensures { IfOk result (λ reply. reply.items ≡ missing_reply (missing view.now (map named asked.now))) }
+    ensures { IfOk result (λ reply. reply.items
+        ≡ missing_reply (missing (shown [] view.now) (map named asked.now))) }
 {
     let missing_blob_digests = missing(alloc, view, asked)?;
     let response = FindMissingBlobsResponse {
@@ -72,10 +87,16 @@ pub fn find_missing(
     view: &mut View,
     message: &[u8],
 ) -> Result<Vec<u8>, CallError>
-    ensures reply { Answers (λ reply. reply.items) result (find_missing_reply own.now view.old message.now) }
-    ensures used { (quota : ℕ) → OnOk result (view.new ≡ changed quota (find_missing_changes own.now message.now) view.old) }
+    ensures reply { (p : Slots) → Answers (λ reply. reply.items) result
+        (find_missing_reply own.now (shown p view.old) message.now) }
+    ensures used { (p : Slots) (quota : ℕ) →
+        OnOk result (shown p view.new
+        ≡ changed view.old.limit quota (find_missing_changes own.now message.now)
+        (shown p view.old)) }
     ensures err { OnErr result (view.new ≡ view.old) }
-    ensures within { (quota : ℕ) → Within quota view.old → Within quota view.new }
+    ensures holders { (k : ℕ) → holders view.new k ≡ holders view.old k }
+    ensures kept { (p : Slots) (quota : ℕ) → AreKept quota p view.old → AreKept quota p view.new }
+    ensures limit { view.new.limit ≡ view.old.limit }
 {
     let asked = read_request(alloc, own, message)?;
     let reply = reply_to(alloc, view, &asked)?;

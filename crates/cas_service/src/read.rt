@@ -1,20 +1,23 @@
-ghost use Rattle.std.specs.Prelude.{◌≡◌, ℕ, List, map, OnOk, OnErr, IfOk};
+ghost use Rattle.std.specs.Prelude.{◌≡◌, ◌≤◌, ℕ, List, map, OnOk, OnErr, IfOk};
 ghost use Rattle.reapi_messages.specs.Batches.{read_blob_response_shown};
 ghost use Rattle.instance_view.specs.Visible.{seen};
-ghost use Rattle.quota_evict.specs.Within.{Within};
+ghost use Rattle.blob_pool.specs.Held.{Slots, count_at};
+ghost use Rattle.instance_view.specs.Shown.{shown, holders, holders_seen, text_seen};
+ghost use Rattle.quota_evict.specs.Kept.{AreKept};
 ghost use Rattle.cas_service.specs.Answers.{Answers};
 ghost use Rattle.cas_service.specs.Changes.{changed};
 ghost use Rattle.cas_service.specs.Requests.{digest_value, of_batch_size};
 ghost use Rattle.cas_service.specs.BatchRead.{digests_to_read, stated_size, read_response, read_reply, batch_read_reply, batch_read_changes};
-ghost use Rattle.cas_service.specs.Shown.{named, sent, answered};
+ghost use Rattle.cas_service.specs.Shown.{named, sent, asked_of, text_found, response_of, AreFound};
 
 use crate::error::CallError;
 use crate::requests::{
     Asked, MOST_BATCH_BYTES, check_function, check_instance, read_digests, use_all,
 };
 use crate::statuses::{ok_status, refused_status};
+use blob_pool::{Pool, keep};
 use call_status::Refusal;
-use instance_view::View;
+use instance_view::{Seen, View};
 use reapi_messages::{BatchReadBlobsRequest, BatchReadBlobsResponse, Message, ReadBlobResponse};
 use std::alloc::{AllocError, Global};
 
@@ -41,8 +44,10 @@ fn read_request<'a>(
     own: &str,
     message: &'a [u8],
 ) -> Result<Vec<Asked<'a>>, CallError>
-    ensures named { Answers (λ asked. map named asked.items) result (digests_to_read own.now message.now) }
-    ensures written { IfOk result (λ asked. map sent asked.items ≡ map digest_value (map named asked.items)) }
+    ensures named { Answers (λ asked. map named asked.items) result
+        (digests_to_read own.now message.now) }
+    ensures written { IfOk result (λ asked. map sent asked.items
+        ≡ map digest_value (map named asked.items)) }
 {
     let request = BatchReadBlobsRequest::decode(alloc, message)?;
     check_instance(own, request.instance_name)?;
@@ -52,19 +57,84 @@ fn read_request<'a>(
     Ok(asked)
 }
 
-/// The text of a digest, or that there is none.
-fn response_to<'a>(alloc: Global, view: &'a View, asked: &Asked<'a>) -> ReadBlobResponse<'a>
-    requires written { sent asked.now ≡ digest_value asked.now.digest }
-    ensures { read_blob_response_shown result ≡ read_response asked.now.digest (seen asked.now.digest view.now) }
+/// A digest that is asked for, and a copy of its text where there is one.
+#[derive(Drop)]
+pub struct Found<'a> {
+    pub asked: Asked<'a>,
+    pub text: Option<Vec<u8>>,
+}
+
+/// A copy of a text that an instance has.
+fn copy(alloc: Global, pool: &Pool, seen: Seen) -> Result<Vec<u8>, AllocError>
+    requires { (k : ℕ) → holders_seen seen k ≤ count_at pool.now k }
+    ensures { IfOk result (λ text. text.items ≡ text_seen pool.now seen) }
 {
-    match view.get(&asked.digest) {
+    let mut text = Vec::new(alloc);
+    if let Seen::Text(kept) = seen {
+        let hold = pool.back(kept);
+        let done = pool.copy_into(&hold, &mut text);
+        let _ = keep(hold);
+        done?;
+    }
+    Ok(text)
+}
+
+/// What there is of a digest.
+fn find<'a>(
+    alloc: Global,
+    view: &View,
+    pool: &Pool,
+    asked: &Asked<'a>,
+) -> Result<Found<'a>, AllocError>
+    requires { (k : ℕ) → holders view.now k ≤ count_at pool.now k }
+    ensures asked { IfOk result (λ found. found.asked ≡ asked.now) }
+    ensures text { IfOk result (λ found. text_found found
+        ≡ seen asked.now.digest (shown pool.now view.now)) }
+{
+    let text = match view.get(&asked.digest) {
+        Some(seen) => Some(copy(alloc, pool, seen)?),
+        None => None,
+    };
+    Ok(Found {
+        asked: *asked,
+        text,
+    })
+}
+
+/// What there is of each digest, in order.
+fn find_all<'a>(
+    alloc: Global,
+    view: &View,
+    pool: &Pool,
+    asked: &[Asked<'a>],
+) -> Result<Vec<Found<'a>>, AllocError>
+    requires { (k : ℕ) → holders view.now k ≤ count_at pool.now k }
+    ensures { IfOk result (λ found. AreFound (shown pool.now view.now) asked.now found.items) }
+{
+    let mut found = Vec::new(alloc);
+    let mut left = asked;
+    'digests: while let [first, rest @ ..] = left {
+        let one = find(alloc, view, pool, first)?;
+        found.push(one)?;
+        left = rest;
+    }
+    Ok(found)
+}
+
+/// The text of a digest, or that there is none.
+fn response_to<'a>(alloc: Global, found: &'a Found<'a>) -> ReadBlobResponse<'a>
+    requires written { sent found.now.asked ≡ digest_value found.now.asked.digest }
+    ensures { read_blob_response_shown result
+        ≡ read_response found.now.asked.digest (text_found found.now) }
+{
+    match &found.text {
         Some(text) => ReadBlobResponse {
-            digest: Some(asked.sent),
-            content: text,
+            digest: Some(found.asked.sent),
+            content: text.as_slice(),
             status: Some(ok_status(alloc)),
         },
         None => ReadBlobResponse {
-            digest: Some(asked.sent),
+            digest: Some(found.asked.sent),
             content: &[],
             status: Some(refused_status(alloc, Refusal::BlobNotFound)),
         },
@@ -74,27 +144,36 @@ fn response_to<'a>(alloc: Global, view: &'a View, asked: &Asked<'a>) -> ReadBlob
 /// A response to each digest, in order.
 fn responses_to<'a>(
     alloc: Global,
-    view: &'a View,
-    asked: &[Asked<'a>],
+    found: &'a [Found<'a>],
 ) -> Result<Vec<ReadBlobResponse<'a>>, AllocError>
-    requires written { map sent asked.now ≡ map digest_value (map named asked.now) }
-    ensures { IfOk result (λ responses. map read_blob_response_shown responses.items ≡ map (answered view.now) (map named asked.now)) }
+    requires written { map sent (map asked_of found.now)
+        ≡ map digest_value (map named (map asked_of found.now)) }
+    ensures { IfOk result (λ responses. map read_blob_response_shown responses.items
+        ≡ map response_of found.now) }
 {
     let mut responses = Vec::new(alloc);
-    let mut left = asked;
+    let mut left = found;
     'digests: while let [first, rest @ ..] = left {
-        responses.push(response_to(alloc, view, first))?;
+        responses.push(response_to(alloc, first))?;
         left = rest;
     }
     Ok(responses)
 }
 
 /// The message that gives each text.
-fn reply_to(alloc: Global, view: &View, asked: &[Asked<'_>]) -> Result<Vec<u8>, AllocError>
+fn reply_to(
+    alloc: Global,
+    view: &View,
+    pool: &Pool,
+    asked: &[Asked<'_>],
+) -> Result<Vec<u8>, AllocError>
+    requires held { (k : ℕ) → holders view.now k ≤ count_at pool.now k }
     requires written { map sent asked.now ≡ map digest_value (map named asked.now) }
-    ensures { IfOk result (λ reply. reply.items ≡ read_reply view.now (map named asked.now)) }
+    ensures { IfOk result (λ reply. reply.items
+        ≡ read_reply (shown pool.now view.now) (map named asked.now)) }
 {
-    let responses = responses_to(alloc, view, asked)?;
+    let found = find_all(alloc, view, pool, asked)?;
+    let responses = responses_to(alloc, &found)?;
     let response = BatchReadBlobsResponse { responses };
     let mut reply = Vec::new(alloc);
     response.encode_into(&mut reply)?;
@@ -107,15 +186,23 @@ pub fn batch_read(
     alloc: Global,
     own: &str,
     view: &mut View,
+    pool: &Pool,
     message: &[u8],
 ) -> Result<Vec<u8>, CallError>
-    ensures reply { Answers (λ reply. reply.items) result (batch_read_reply own.now view.old message.now) }
-    ensures used { (quota : ℕ) → OnOk result (view.new ≡ changed quota (batch_read_changes own.now message.now) view.old) }
+    requires held { (k : ℕ) → holders view.old k ≤ count_at pool.now k }
+    ensures reply { Answers (λ reply. reply.items) result
+        (batch_read_reply own.now (shown pool.now view.old) message.now) }
+    ensures used { (p : Slots) (quota : ℕ) →
+        OnOk result (shown p view.new
+        ≡ changed view.old.limit quota (batch_read_changes own.now message.now)
+        (shown p view.old)) }
     ensures err { OnErr result (view.new ≡ view.old) }
-    ensures within { (quota : ℕ) → Within quota view.old → Within quota view.new }
+    ensures holders { (k : ℕ) → holders view.new k ≡ holders view.old k }
+    ensures kept { (p : Slots) (quota : ℕ) → AreKept quota p view.old → AreKept quota p view.new }
+    ensures limit { view.new.limit ≡ view.old.limit }
 {
     let asked = read_request(alloc, own, message)?;
-    let reply = reply_to(alloc, view, &asked)?;
+    let reply = reply_to(alloc, view, pool, &asked)?;
     use_all(view, &asked);
     Ok(reply)
 }

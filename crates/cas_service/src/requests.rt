@@ -2,7 +2,9 @@
 
 ghost use Rattle.std.specs.Prelude.{◌≡◌, ℕ, List, map, OnOk, OnErr, IfOk};
 ghost use Rattle.reapi_messages.specs.Digests.{DigestValue, digest_shown};
-ghost use Rattle.quota_evict.specs.Within.{Within};
+ghost use Rattle.blob_pool.specs.Held.{Slots};
+ghost use Rattle.instance_view.specs.Shown.{shown, holders};
+ghost use Rattle.quota_evict.specs.Kept.{AreKept};
 ghost use Rattle.cas_service.specs.Answers.{Answers};
 ghost use Rattle.cas_service.specs.Changes.{Use, changed};
 ghost use Rattle.cas_service.specs.Requests.{own_instance, known_function, digest_sent, digests_sent, digest_value};
@@ -63,8 +65,10 @@ pub fn read_digests<'a>(
     alloc: Global,
     digests: &[messages::Digest<'a>],
 ) -> Result<Vec<Asked<'a>>, CallError>
-    ensures named { Answers (λ asked. map named asked.items) result (digests_sent (map digest_shown digests.now)) }
-    ensures written { IfOk result (λ asked. map sent asked.items ≡ map digest_value (map named asked.items)) }
+    ensures named { Answers (λ asked. map named asked.items) result
+        (digests_sent (map digest_shown digests.now)) }
+    ensures written { IfOk result (λ asked. map sent asked.items
+        ≡ map digest_value (map named asked.items)) }
 {
     let mut asked = Vec::new(alloc);
     let mut left = digests;
@@ -81,8 +85,12 @@ pub fn read_digests<'a>(
 
 /// Uses each digest, in order.
 pub fn use_all(view: &mut View, asked: &[Asked<'_>])
-    ensures used { (quota : ℕ) → view.new ≡ changed quota (map Use (map named asked.now)) view.old }
-    ensures within { (quota : ℕ) → Within quota view.old → Within quota view.new }
+    ensures used { (p : Slots) (quota : ℕ) →
+        shown p view.new ≡ changed view.old.limit quota (map Use (map named asked.now))
+        (shown p view.old) }
+    ensures holders { (k : ℕ) → holders view.new k ≡ holders view.old k }
+    ensures kept { (p : Slots) (quota : ℕ) → AreKept quota p view.old → AreKept quota p view.new }
+    ensures limit { view.new.limit ≡ view.old.limit }
 {
     let mut left = asked;
     'digests: while let [first, rest @ ..] = left {

@@ -5,7 +5,9 @@ ghost use Rattle.reapi_messages.specs.Statuses.{status_shown};
 ghost use Rattle.call_status.specs.declared.refusal.Refusal.{Refusal};
 ghost use Rattle.digest.specs.Naming.{Names};
 ghost use Rattle.quota_evict.specs.Admission.{admitted};
-ghost use Rattle.quota_evict.specs.Within.{Within};
+ghost use Rattle.blob_pool.specs.Moves.{Moves};
+ghost use Rattle.instance_view.specs.Shown.{shown, holders};
+ghost use Rattle.quota_evict.specs.Kept.{AreKept};
 ghost use Rattle.cas_service.specs.declared.error.CallError.TheVariants.{Refused};
 ghost use Rattle.cas_service.specs.Answers.{Answers};
 ghost use Rattle.cas_service.specs.Changes.{MadeInPart, changed};
@@ -17,6 +19,7 @@ ghost use Rattle.cas_service.specs.Shown.{blob, verdict};
 use crate::error::CallError;
 use crate::requests::{MOST_BATCH_BYTES, check_function, check_instance, read_digest};
 use crate::statuses::{ok_status, refused_status};
+use blob_pool::Pool;
 use call_status::Refusal;
 use digest::Digest;
 use instance_view::View;
@@ -59,7 +62,8 @@ fn read_request<'a>(
     own: &str,
     message: &'a [u8],
 ) -> Result<Vec<UpdateBlobRequest<'a>>, CallError>
-    ensures { Answers (λ requests. map update_blob_request_shown requests.items) result (blobs_sent own.now message.now) }
+    ensures { Answers (λ requests. map update_blob_request_shown requests.items) result
+        (blobs_sent own.now message.now) }
 {
     let request = BatchUpdateBlobsRequest::decode(alloc, message)?;
     check_instance(own, request.instance_name)?;
@@ -129,8 +133,10 @@ fn judge_all<'a>(
     quota: u64,
     requests: &[UpdateBlobRequest<'a>],
 ) -> Result<Vec<Judged<'a>>, AllocError>
-    ensures blobs { IfOk result (λ judged. map blob judged.items ≡ map update_blob_request_shown requests.now) }
-    ensures verdicts { IfOk result (λ judged. map verdict judged.items ≡ map (stored_under quota) (map blob judged.items)) }
+    ensures blobs { IfOk result (λ judged. map blob judged.items
+        ≡ map update_blob_request_shown requests.now) }
+    ensures verdicts { IfOk result
+        (λ judged. map verdict judged.items ≡ map (stored_under quota) (map blob judged.items)) }
 {
     let mut judged = Vec::new(alloc);
     let mut left = requests;
@@ -162,7 +168,8 @@ fn responses_to<'a>(
     judged: &[Judged<'a>],
 ) -> Result<Vec<UpdateBlobResponse<'a>>, AllocError>
     requires verdicts { map verdict judged.now ≡ map (stored_under quota) (map blob judged.now) }
-    ensures { IfOk result (λ responses. map update_blob_response_shown responses.items ≡ map (update_response quota) (map blob judged.now)) }
+    ensures { IfOk result (λ responses. map update_blob_response_shown responses.items
+        ≡ map (update_response quota) (map blob judged.now)) }
 {
     let mut responses = Vec::new(alloc);
     let mut left = judged;
@@ -189,16 +196,25 @@ fn reply_to(alloc: Global, quota: u64, judged: &[Judged<'_>]) -> Result<Vec<u8>,
 }
 
 /// Stores bytes that the quota allows.
-fn store(view: &mut View, quota: u64, digest: &Digest, bytes: &[u8]) -> Result<(), AllocError>
+fn store(
+    view: &mut View,
+    pool: &mut Pool,
+    quota: u64,
+    digest: &Digest,
+    bytes: &[u8],
+) -> Result<(), AllocError>
     requires quota { quota ≤ 2 ^ 40 }
-    requires within { Within quota view.old }
+    requires kept { AreKept quota pool.old view.old }
     requires named { Names digest.now bytes.now }
     requires fits { length bytes.now ≤ quota }
-    ensures ok { OnOk result (view.new ≡ admitted quota digest.now bytes.now view.old) }
-    ensures err { OnErr result (view.new ≡ view.old) }
-    ensures within { Within quota view.new }
+    ensures ok { OnOk result (shown pool.new view.new
+        ≡ admitted view.old.limit quota digest.now bytes.now (shown pool.old view.old)) }
+    ensures err { OnErr result ((view.new ≡ view.old) × (pool.new ≡ pool.old)) }
+    ensures moves { Moves pool.old pool.new (holders view.old) (holders view.new) }
+    ensures kept { AreKept quota pool.new view.new }
+    ensures limit { view.new.limit ≡ view.old.limit }
 {
-    match admit(view, quota, digest, bytes) {
+    match admit(view, pool, quota, digest, bytes) {
         Ok(()) => Ok(()),
         Err(AdmitError::NoMemory) => Err(AllocError),
         Err(AdmitError::TooLarge) => unreachable!(),
@@ -206,32 +222,51 @@ fn store(view: &mut View, quota: u64, digest: &Digest, bytes: &[u8]) -> Result<(
 }
 
 /// Stores a blob that is not refused.
-fn store_judged(view: &mut View, quota: u64, judged: &Judged<'_>) -> Result<(), AllocError>
+fn store_judged(
+    view: &mut View,
+    pool: &mut Pool,
+    quota: u64,
+    judged: &Judged<'_>,
+) -> Result<(), AllocError>
     requires quota { quota ≤ 2 ^ 40 }
-    requires within { Within quota view.old }
+    requires kept { AreKept quota pool.old view.old }
     requires verdict { judged.now.verdict ≡ stored_under quota (blob judged.now) }
-    ensures ok { OnOk result (view.new ≡ changed quota (store_of judged.now.sent.content.now judged.now.verdict) view.old) }
-    ensures err { OnErr result (view.new ≡ view.old) }
-    ensures within { Within quota view.new }
+    ensures ok { OnOk result (shown pool.new view.new
+        ≡ changed view.old.limit quota (store_of judged.now.sent.content.now judged.now.verdict)
+        (shown pool.old view.old)) }
+    ensures err { OnErr result ((view.new ≡ view.old) × (pool.new ≡ pool.old)) }
+    ensures moves { Moves pool.old pool.new (holders view.old) (holders view.new) }
+    ensures kept { AreKept quota pool.new view.new }
+    ensures limit { view.new.limit ≡ view.old.limit }
 {
     match judged.verdict {
-        Ok(digest) => store(view, quota, &digest, judged.sent.content),
+        Ok(digest) => store(view, pool, quota, &digest, judged.sent.content),
         Err(_) => Ok(()),
     }
 }
 
 /// Stores the blobs that are not refused, in order, up to one for which there is no memory.
-fn store_all(view: &mut View, quota: u64, judged: &[Judged<'_>]) -> Result<(), AllocError>
+fn store_all(
+    view: &mut View,
+    pool: &mut Pool,
+    quota: u64,
+    judged: &[Judged<'_>],
+) -> Result<(), AllocError>
     requires quota { quota ≤ 2 ^ 40 }
-    requires within { Within quota view.old }
+    requires kept { AreKept quota pool.old view.old }
     requires verdicts { map verdict judged.now ≡ map (stored_under quota) (map blob judged.now) }
-    ensures stored { OnOk result (view.new ≡ changed quota (stores quota (map blob judged.now)) view.old) }
-    ensures memory { OnErr result (MadeInPart quota (stores quota (map blob judged.now)) view.old view.new) }
-    ensures within { Within quota view.new }
+    ensures stored { OnOk result (shown pool.new view.new
+        ≡ changed view.old.limit quota (stores quota (map blob judged.now))
+        (shown pool.old view.old)) }
+    ensures memory { OnErr result (MadeInPart view.old.limit quota
+        (stores quota (map blob judged.now)) (shown pool.old view.old) (shown pool.new view.new)) }
+    ensures moves { Moves pool.old pool.new (holders view.old) (holders view.new) }
+    ensures kept { AreKept quota pool.new view.new }
+    ensures limit { view.new.limit ≡ view.old.limit }
 {
     let mut left = judged;
     'blobs: while let [first, rest @ ..] = left {
-        store_judged(view, quota, first)?;
+        store_judged(view, pool, quota, first)?;
         left = rest;
     }
     Ok(())
@@ -245,19 +280,28 @@ pub fn batch_update(
     own: &str,
     quota: u64,
     view: &mut View,
+    pool: &mut Pool,
     message: &[u8],
 ) -> Result<Vec<u8>, CallError>
     requires quota { quota ≤ 2 ^ 40 }
-    requires within { Within quota view.old }
-    ensures reply { Answers (λ reply. reply.items) result (batch_update_reply own.now quota message.now) }
-    ensures stored { OnOk result (view.new ≡ changed quota (batch_update_changes own.now quota message.now) view.old) }
-    ensures refused { (refusal : Refusal) → IsErrOf result (Refused refusal) → view.new ≡ view.old }
-    ensures memory { OnErr result (MadeInPart quota (batch_update_changes own.now quota message.now) view.old view.new) }
-    ensures within { Within quota view.new }
+    requires kept { AreKept quota pool.old view.old }
+    ensures reply { Answers (λ reply. reply.items) result
+        (batch_update_reply own.now quota message.now) }
+    ensures stored { OnOk result (shown pool.new view.new
+        ≡ changed view.old.limit quota (batch_update_changes own.now quota message.now)
+        (shown pool.old view.old)) }
+    ensures refused { (refusal : Refusal) → IsErrOf result (Refused refusal) → (view.new ≡ view.old)
+        × (pool.new ≡ pool.old) }
+    ensures memory { OnErr result (MadeInPart view.old.limit quota
+        (batch_update_changes own.now quota message.now) (shown pool.old view.old)
+        (shown pool.new view.new)) }
+    ensures moves { Moves pool.old pool.new (holders view.old) (holders view.new) }
+    ensures kept { AreKept quota pool.new view.new }
+    ensures limit { view.new.limit ≡ view.old.limit }
 {
     let requests = read_request(alloc, own, message)?;
     let judged = judge_all(alloc, quota, &requests)?;
     let reply = reply_to(alloc, quota, &judged)?;
-    store_all(view, quota, &judged)?;
+    store_all(view, pool, quota, &judged)?;
     Ok(reply)
 }

@@ -1,5 +1,5 @@
 -- What a digest names (build.bazel.remote.execution.v2.Digest, FIPS 180-4).
-use Rattle.std.specs.Prelude.{◌≡◌, ℕ, Bool, List, length, nat_eq, ◌==◌, ◌&&◌}
+use Rattle.std.specs.Prelude.{◌≡◌, ℕ, Bool, List, [], length, nat_eq, ◌==◌, ◌&&◌}
 use lib.Pointwise.{pointwise}
 use Rattle.sha2.specs.Sha256.{sha256}
 use Rattle.digest.specs.declared.Digest.{Digest}
@@ -16,3 +16,11 @@ digest_of bytes = record { hash = sha256 bytes; size = length bytes }
 -- whether two digests are one
 abbrev pub same : Digest → Digest → Bool
 same a b = pointwise nat_eq a.hash b.hash && a.size == b.size
+
+-- whether the digest is that of the bytes
+abbrev pub is_digest_of : Digest → List ℕ → Bool
+is_digest_of d bytes = same d (digest_of bytes)
+
+-- whether the digest is that of the empty text
+abbrev pub is_empty_digest : Digest → Bool
+is_empty_digest d = is_digest_of d []

@@ -2,7 +2,7 @@
 #![tactic(auto)]
 
 ghost use Rattle.std.specs.Prelude.{◌≡◌, ◌↔◌, ◌<◌, ◌^◌, ◌++◌, ℕ, List, [], length, IsTrue, IfSome, IsNone};
-ghost use Rattle.digest.specs.Naming.{Names, digest_of, same};
+ghost use Rattle.digest.specs.Naming.{Names, digest_of, is_digest_of, is_empty_digest, same};
 ghost use Rattle.std.specs.List.{list_all};
 ghost use Rattle.hex.specs.Hex.{IsBytes};
 ghost use Rattle.digest.specs.Text as text;
@@ -43,7 +43,7 @@ impl Digest {
 
     /// Whether it names the empty text.
     pub fn is_empty(&self) -> bool
-        ensures { result ≡ same self.now (digest_of []) }
+        ensures { result ≡ is_empty_digest self.now }
     {
         self.size == 0 && is_same(self, &Digest::of(&[]))
     }
@@ -102,7 +102,7 @@ pub fn is_same(a: &Digest, b: &Digest) -> bool
 
 /// Whether the digest names the bytes. It takes no memory.
 pub fn matches(digest: &Digest, bytes: &[u8]) -> bool
-    ensures value { result ≡ same digest.now (digest_of bytes.now) }
+    ensures value { result ≡ is_digest_of digest.now bytes.now }
     ensures named { IsTrue result ↔ Names digest.now bytes.now }
 {
     is_same(digest, &Digest::of(bytes))

@@ -3,4 +3,4 @@
 
 mod view;
 
-pub use view::{MOST_ENTRIES, View};
+pub use view::{MOST_LIMIT, Seen, View};

@@ -1,169 +1,232 @@
-ghost use Rattle.std.specs.Prelude.{◌≡◌, ◌+◌, ◌-◌, ◌<◌, ◌≤◌, ◌^◌, ℕ, List, [], ◌∷◌, None, false, length, take, map, is_some, option_map, IfOk, OnOk, OnErr};
+ghost use Rattle.std.specs.Prelude.{◌≡◌, ◌+◌, ◌-◌, ◌<◌, ◌≤◌, ◌^◌, ℕ, List, [], ◌∷◌, ◌++◌, None, Some, false, length, take, is_some, option_map, IfOk, IfErr, IfSome, IfNone, OnOk, OnErr};
 ghost use Rattle.std.specs.Option.{option_copied};
 ghost use Rattle.std.specs.Map.{lookup};
+ghost use Rattle.digest.specs.declared.Digest.{Digest};
 ghost use Rattle.digest.specs.Naming.{same};
-ghost use Rattle.instance_view.specs.Visible.{seen, used, added, total, text_length, without_oldest};
-ghost use Rattle.instance_view.specs.Shown.{shown};
+ghost use Rattle.blob_pool.specs.Held.{Slots, count_at};
+ghost use Rattle.blob_pool.specs.Moves.{Moves, AreHeld, one_at, nobody};
+ghost use Rattle.instance_view.specs.Visible.{seen, used, without_oldest};
+ghost use Rattle.instance_view.specs.Shown.{Entry, ViewValue, blobs_in, entry_holders, shown, holders, sizes, text_seen, holders_seen, size_of};
 
+use blob_pool::{Draft, Kept, Pool, keep, release_kept};
 use digest::Digest;
 use lru::LruCache;
 use std::alloc::{AllocError, Global};
 use std::marker::Model;
 use std::num::NonZeroUsize;
 
-/// How many texts an instance has at most.
-pub const MOST_ENTRIES: usize = 65_536;
+/// The largest limit of a view, so that the holders of a text are always counted.
+pub const MOST_LIMIT: usize = 1 << 31;
 
-type Cache = LruCache<Digest, Vec<u8>>;
+type Cache = LruCache<Digest, Kept>;
+
+/// A text that an instance has.
+#[derive(Clone, Copy)]
+pub enum Seen {
+    /// The empty text, which is always there.
+    Empty,
+    /// A text of the pool.
+    Text(Kept),
+}
 
 /// Makes the pair of the digest the most recently used, and says whether there is one.
 fn promote(cache: &mut Cache, digest: &Digest) -> bool
-    ensures found { result ≡ is_some (lookup (same digest.now) (map shown cache.old.entries)) }
-    ensures used { map shown cache.new.entries ≡ used digest.now (map shown cache.old.entries) }
-    ensures total { total (map shown cache.new.entries) ≡ total (map shown cache.old.entries) }
-    ensures length { length cache.new.entries ≡ length cache.old.entries }
+    ensures found { (p : Slots) → result
+        ≡ is_some (lookup (same digest.now) (blobs_in p cache.old.entries)) }
+    ensures used { (p : Slots) → blobs_in p cache.new.entries
+        ≡ used digest.now (blobs_in p cache.old.entries) }
+    ensures unfound { result ≡ false → cache.new.entries ≡ cache.old.entries }
+    ensures holders { (k : ℕ) → entry_holders cache.new.entries k
+        ≡ entry_holders cache.old.entries k }
+    ensures sizes { sizes cache.new.entries ≡ sizes cache.old.entries }
     ensures cap { cache.new.cap ≡ cache.old.cap }
 {
     cache.promote(digest)
 }
 
-/// The text of the digest.
-#[tactic(auto, using(crate::proofs::Pairs::lookup_some, crate::proofs::Pairs::lookup_none))]
-fn find<'a>(cache: &'a Cache, digest: &Digest) -> Option<&'a [u8]>
-    ensures { option_copied result ≡ lookup (same digest.now) (map shown cache.now.entries) }
-{
-    let text = cache.peek(digest)?;
-    Some(text.as_slice())
-}
-
-/// How long the text of a pair is, and 0 for none.
-fn text_length(pair: Option<(Digest, Vec<u8>)>) -> usize
-    ensures { result ≡ text_length (option_map shown pair) }
-{
-    match pair {
-        Some((_, text)) => text.len(),
-        None => 0,
-    }
-}
-
-/// Adds a pair that is not there, and says how long the text was that had to go for it.
-fn put(cache: &mut Cache, digest: Digest, text: Vec<u8>) -> Result<usize, AllocError>
-    requires absent { lookup (same digest) (map shown cache.old.entries) ≡ None }
-    requires cap { cache.old.cap ≡ 65536 }
-    requires length { length cache.old.entries ≤ 65536 }
-    ensures added { OnOk result (map shown cache.new.entries ≡ added digest text.items (map shown cache.old.entries)) }
-    ensures dropped { IfOk result (λ dropped. total (map shown cache.new.entries) + dropped ≡ total (map shown cache.old.entries) + length text.items) }
-    ensures length { OnOk result (length cache.new.entries ≤ 65536) }
+/// Adds a pair that is not there.
+fn put(cache: &mut Cache, digest: Digest, kept: Kept) -> Result<(), AllocError>
+    requires absent { lookup (same digest) cache.old.entries ≡ None }
+    requires room { length cache.old.entries < cache.old.cap }
+    ensures ok { OnOk result (cache.new.entries ≡ (digest, kept) ∷ cache.old.entries) }
     ensures cap { cache.new.cap ≡ cache.old.cap }
     ensures err { OnErr result (cache.new ≡ cache.old) }
 {
-    let dropped = cache.push(digest, text)?;
-    Ok(text_length(dropped))
+    cache.push(digest, kept)?;
+    Ok(())
 }
 
-/// Takes out the least recently used pair, and says how long its text was.
-fn pop(cache: &mut Cache) -> usize
-    ensures shorter { map shown cache.new.entries ≡ without_oldest (map shown cache.old.entries) }
-    ensures dropped { total (map shown cache.new.entries) + result ≡ total (map shown cache.old.entries) }
-    ensures length { length cache.new.entries ≤ length cache.old.entries }
+/// Sets the slot of the pair that was added last.
+fn set(cache: &mut Cache, digest: Digest, kept: Kept)
+    requires { (k : ℕ) × (v : List Entry) × (cache.old.entries ≡ (digest, k) ∷ v) }
+    ensures entries { (k : ℕ) (v : List Entry) → cache.old.entries ≡ (digest, k) ∷ v →
+        cache.new.entries ≡ (digest, kept) ∷ v }
     ensures cap { cache.new.cap ≡ cache.old.cap }
 {
-    text_length(cache.pop_lru())
+    let done: Result<_, _> = cache.put(digest, kept);
+    done.unwrap();
+}
+
+/// Takes out the most recently used pair.
+fn pop_newest(cache: &mut Cache)
+    ensures entries { (e : Entry) (v : List Entry) → cache.old.entries ≡ e ∷ v →
+        cache.new.entries ≡ v }
+    ensures cap { cache.new.cap ≡ cache.old.cap }
+{
+    cache.pop_mru();
+}
+
+/// Takes out the least recently used pair.
+fn pop(cache: &mut Cache) -> Option<(Digest, Kept)>
+    ensures some { IfSome result (λ e. cache.old.entries ≡ cache.new.entries ++ e ∷ []) }
+    ensures none { IfNone result (cache.old.entries ≡ []) }
+    ensures none_new { IfNone result (cache.new.entries ≡ []) }
+    ensures sizes { sizes cache.new.entries + size_of result ≡ sizes cache.old.entries }
+    ensures cap { cache.new.cap ≡ cache.old.cap }
+{
+    cache.pop_lru()
 }
 
 /// An instance's texts under their digests, the most recently used first.
 #[derive(Drop)]
 pub struct View {
     cache: Cache,
+    limit: usize,
     bytes: u64,
-    alloc: Global,
 }
 
 impl Model for View {
-    ghost use Rattle.std.specs.Prelude.{◌≡◌, ◌≤◌, List, length, map};
-    ghost use Rattle.instance_view.specs.Visible.{Blob, total};
-    ghost use Rattle.instance_view.specs.Shown.{shown};
+    ghost use Rattle.std.specs.Prelude.{◌≡◌, ◌+◌, ◌<◌, ◌≤◌, ◌^◌};
+    ghost use Rattle.instance_view.specs.Shown.{ViewValue, sizes};
 
-    ghost Value = { List Blob };
+    ghost Value = { ViewValue };
 
-    ghost view = { λ v. map shown v.cache.entries };
+    ghost view = { λ v. record { entries = v.cache.entries; limit = v.limit } };
 
-    ghost invariant = { λ v. (v.bytes ≡ total (map shown v.cache.entries)) × (v.cache.cap ≡ 65536) × (length v.cache.entries ≤ 65536) };
+    ghost invariant = { λ v. (v.bytes ≡ sizes v.cache.entries) × (v.cache.cap ≡ v.limit + 1) × (0 < v.limit) × (v.limit ≤ 2 ^ 31) };
 }
 
 impl View {
-    /// No texts.
-    pub fn new(alloc: Global) -> Result<View, AllocError>
-        ensures { IfOk result (λ view. view ≡ []) }
+    /// No texts, and room for as many as the limit.
+    pub fn new(alloc: Global, limit: usize) -> Result<View, AllocError>
+        requires some { 0 < limit }
+        requires most { limit ≤ 2 ^ 31 }
+        ensures { IfOk result (λ view. view ≡ record { entries = []; limit = limit }) }
     {
-        let most = NonZeroUsize::new(MOST_ENTRIES).unwrap();
+        // One more than the limit, since the oldest goes after the newest has come.
+        let most = NonZeroUsize::new(limit + 1).unwrap();
         let cache = LruCache::sparse(alloc, most)?;
         Ok(View {
             cache,
+            limit,
             bytes: 0,
-            alloc,
         })
+    }
+
+    /// How many texts there may be.
+    pub fn limit(&self) -> usize
+        ensures limit { result ≡ self.now.limit }
+        ensures some { 0 < result }
+        ensures most { result ≤ 2 ^ 31 }
+    {
+        self.limit
     }
 
     /// How many texts there are.
     pub fn len(&self) -> usize
-        ensures length { result ≡ length self.now }
-        ensures most { result ≤ MOST_ENTRIES }
+        ensures { result ≡ length self.now.entries }
     {
         self.cache.len()
     }
 
-    /// How many bytes the texts have together.
+    /// How many bytes the digests name together.
     pub fn total(&self) -> u64
-        ensures { result ≡ total self.now }
+        ensures { result ≡ sizes self.now.entries }
     {
         self.bytes
     }
 
     /// The text of the digest. This is no use of it.
-    pub fn get(&self, digest: &Digest) -> Option<&[u8]>
-        ensures { option_copied result ≡ seen digest.now self.now }
+    pub fn get(&self, digest: &Digest) -> Option<Seen>
+        ensures text { (p : Slots) → option_map (text_seen p) result
+            ≡ seen digest.now (shown p self.now) }
+        ensures held { IfSome result (λ s. (k : ℕ) → holders_seen s k ≤ holders self.now k) }
     {
         if digest.is_empty() {
-            return Some(&[]);
+            return Some(Seen::Empty);
         }
         find(&self.cache, digest)
     }
 
     /// Whether there is a text of the digest. This is no use of it.
     pub fn contains(&self, digest: &Digest) -> bool
-        ensures { result ≡ is_some (seen digest.now self.now) }
+        ensures { (p : Slots) → result ≡ is_some (seen digest.now (shown p self.now)) }
     {
         self.get(digest).is_some()
     }
 
     /// Makes the text of the digest the most recently used, and says whether there is one. It takes no memory.
-    #[tactic(auto, using(crate::proofs::Pairs::unseen_unused))]
     pub fn touch(&mut self, digest: &Digest) -> bool
-        ensures seen { result ≡ is_some (seen digest.now self.old) }
-        ensures used { self.new ≡ used digest.now self.old }
+        ensures seen { (p : Slots) → result ≡ is_some (seen digest.now (shown p self.old)) }
+        ensures used { (p : Slots) → shown p self.new ≡ used digest.now (shown p self.old) }
+        ensures holders { (k : ℕ) → holders self.new k ≡ holders self.old k }
+        ensures limit { self.new.limit ≡ self.old.limit }
         ensures unseen { result ≡ false → self.new ≡ self.old }
     {
         promote(&mut self.cache, digest) || digest.is_empty()
     }
 
-    /// Adds a text that is not there, as the most recently used. The oldest goes where there are 65,536.
-    pub fn add(&mut self, digest: &Digest, text: &[u8]) -> Result<(), AllocError>
-        requires absent { seen digest.now self.old ≡ None }
-        requires fits { total self.old + length text.now < 2 ^ 64 }
-        ensures ok { OnOk result (self.new ≡ added digest.now text.now self.old) }
-        ensures err { OnErr result (self.new ≡ self.old) }
+    /// Adds a text that is not there, as the most recently used. The draft is given back for want of memory only.
+    pub fn add(&mut self, pool: &mut Pool, digest: &Digest, draft: Draft) -> Result<(), Draft>
+        requires absent { (p : Slots) → seen digest.now (shown p self.old) ≡ None }
+        requires held { AreHeld pool.old (holders self.old) }
+        requires room { length self.old.entries ≤ self.old.limit }
+        requires fits { sizes self.old.entries + digest.now.size < 2 ^ 64 }
+        ensures shown { OnOk result (shown pool.new self.new
+            ≡ (digest.now, draft.text) ∷ shown pool.old self.old) }
+        ensures length { OnOk result (length self.new.entries ≡ length self.old.entries + 1) }
+        ensures limit { self.new.limit ≡ self.old.limit }
+        ensures moves { Moves pool.old pool.new (holders self.old) (holders self.new) }
+        ensures err { OnErr result ((self.new ≡ self.old) × (pool.new ≡ pool.old)) }
+        ensures back { IfErr result (λ given. given.text ≡ draft.text) }
     {
-        let kept = Vec::from_slice(self.alloc, text)?;
-        let dropped = put(&mut self.cache, *digest, kept)? as u64;
-        self.bytes = self.bytes + text.len() as u64 - dropped;
-        Ok(())
+        if put(&mut self.cache, *digest, Kept::nowhere()).is_err() {
+            return Err(draft);
+        }
+        match pool.seal(draft) {
+            Ok(hold) => {
+                set(&mut self.cache, *digest, keep(hold));
+                self.bytes += digest.size;
+                Ok(())
+            }
+            Err(draft) => {
+                pop_newest(&mut self.cache);
+                Err(draft)
+            }
+        }
     }
 
     /// Takes out the least recently used text. It takes no memory.
-    pub fn drop_oldest(&mut self)
-        ensures { self.new ≡ without_oldest self.old }
+    pub fn drop_oldest(&mut self, pool: &mut Pool)
+        requires { AreHeld pool.old (holders self.old) }
+        ensures shown { shown pool.new self.new ≡ without_oldest (shown pool.old self.old) }
+        ensures limit { self.new.limit ≡ self.old.limit }
+        ensures moves { Moves pool.old pool.new (holders self.old) (holders self.new) }
     {
-        self.bytes -= pop(&mut self.cache) as u64;
+        if let Some(entry) = pop(&mut self.cache) {
+            self.bytes -= entry.0.size;
+            release_kept(pool, entry.1);
+        }
     }
+}
+
+/// The entry of the digest.
+fn find(cache: &Cache, digest: &Digest) -> Option<Seen>
+    ensures text { (p : Slots) → option_map (text_seen p) result
+        ≡ lookup (same digest.now) (blobs_in p cache.now.entries) }
+    ensures held { IfSome result (λ s. (k : ℕ) →
+        holders_seen s k ≤ entry_holders cache.now.entries k) }
+{
+    let kept = cache.peek(digest)?;
+    Some(Seen::Text(*kept))
 }

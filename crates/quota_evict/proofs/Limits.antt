@@ -1,5 +1,5 @@
 -- What keeps the limits.
-use Rattle.std.proofs.Common.{◌≡◌, ℕ, zero, suc, ◌+◌, ◌-◌, ◌≤◌, Bool, true, false, cond, nat_le, nat_lt, List, [], ◌∷◌, length, take, Option, Some, None, refl, ap, subst, ◌∙◌, arith}
+use Rattle.std.proofs.Common.{◌≡◌, ℕ, zero, suc, ◌+◌, ◌-◌, ◌<◌, ◌≤◌, Bool, true, false, cond, nat_le, nat_lt, List, [], ◌∷◌, length, take, Option, Some, None, refl, ap, subst, ◌∙◌, arith}
 use Rattle.std.specs.Prelude.{is_some, Result, Ok, Err, OnErr}
 use Rattle.std.specs.List.{AllByRecursion, IsDistinct}
 use Rattle.std.specs.Map.{keys_of, lookup, lookup_entry, remove_entry}
@@ -9,7 +9,7 @@ use Rattle.digest.specs.declared.Digest.{Digest}
 use Rattle.digest.specs.Naming.{Names, same, digest_of}
 use Rattle.digest.proofs.Same.{same_symm}
 use Rattle.instance_view.specs.Visible.{Blob, seen, used, fronted, total, added}
-use Rattle.instance_view.proofs.Pairs.{total-fronted, length-fronted}
+use Rattle.instance_view.proofs.Visibles.{total-fronted, length-fronted}
 use Rattle.quota_evict.specs.Admission.{longest_front, admitted}
 use Rattle.quota_evict.specs.Within.{Within}
 use Rattle.quota_evict.proofs.Fronts.{fits, longest_front-new}
@@ -20,9 +20,9 @@ IsNamed b = Names b.0 b.1
 abbrev Differs : Digest → Digest → Type 0
 Differs d k = same d k ≡ false
 
-pub nothing_within : (quota : ℕ) → Within quota []
+pub nothing_within : (limit quota : ℕ) → Within limit quota []
 unfolding IsDistinct
-nothing_within quota = record { bytes = omega arith; entries = omega arith; distinct = tt; named = tt }
+nothing_within limit quota = record { bytes = omega arith; entries = omega arith; distinct = tt; named = tt }
 
 -- ---- a use
 
@@ -85,8 +85,8 @@ fronted-all P t bs h = go (lookup_entry t bs) refl where
   go None is = rw is h
   go (Some b) is = rw is (found-all P t bs b h is, removed-all P t bs h)
 
-pub used_within : (quota : ℕ) (d : Digest) (bs : List Blob) → Within quota bs → Within quota (used d bs)
-used_within quota d bs w = record {
+pub used_within : (limit quota : ℕ) (d : Digest) (bs : List Blob) → Within limit quota bs → Within limit quota (used d bs)
+used_within limit quota d bs w = record {
   bytes = rw (total-fronted (same d) bs) w.bytes;
   entries = rw (length-fronted (same d) bs) w.entries;
   distinct = fronted-distinct (same d) bs w.distinct;
@@ -95,7 +95,7 @@ used_within quota d bs w = record {
 
 -- ---- fronts
 
-take-all : (P : Blob → Type 0) (n : ℕ) (bs : List Blob) → AllByRecursion P bs → AllByRecursion P (take n bs)
+pub take-all : (P : Blob → Type 0) (n : ℕ) (bs : List Blob) → AllByRecursion P bs → AllByRecursion P (take n bs)
 take-all P zero bs h = tt
 take-all P (suc n) [] h = h
 take-all P (suc n) (b ∷ bs) h = (h.0, take-all P n bs h.1)
@@ -140,9 +140,9 @@ length-cons_take b (suc n) [] = omega arith
 length-cons_take b (suc n) (x ∷ bs) = let ih = length-cons_take b n bs in omega (arith, ih)
 
 -- a new text, and the front that leaves room for it
-new_within : (quota n : ℕ) (d : Digest) (text : List ℕ) (bs : List Blob) → Names d text → length text ≤ quota → lookup (same d) bs ≡ None → n + 1 ≤ 65536 → Within quota bs
-    → Within quota ((d, text) ∷ take n (longest_front (quota - length text) bs))
-new_within quota n d text bs names small absent most w =
+new_within : (limit quota n : ℕ) (d : Digest) (text : List ℕ) (bs : List Blob) → Names d text → length text ≤ quota → lookup (same d) bs ≡ None → n + 1 ≤ limit → Within limit quota bs
+    → Within limit quota ((d, text) ∷ take n (longest_front (quota - length text) bs))
+new_within limit quota n d text bs names small absent most w =
     let kept = longest_front (quota - length text) bs in
     let room = fits (quota - length text) bs in
     let less = total-take_le n kept in
@@ -162,14 +162,14 @@ unseen_absent d bs h = go (same d (digest_of [])) (lookup (same d) bs) refl refl
   go false None is at h = at
   go false (Some text) is at h = absurd (cc)
 
-pub admitted_within : (quota : ℕ) (d : Digest) (text : List ℕ) (bs : List Blob) → Names d text → Within quota bs → Within quota (admitted quota d text bs)
-admitted_within quota d text bs names w = go (is_some (seen d bs)) (nat_lt quota (length text)) refl refl where
-  go : (s t : Bool) → is_some (seen d bs) ≡ s → nat_lt quota (length text) ≡ t → Within quota (admitted quota d text bs)
-  go true t is large = rw is (used_within quota d bs w)
+pub admitted_within : (limit quota : ℕ) (d : Digest) (text : List ℕ) (bs : List Blob) → 0 < limit → Names d text → Within limit quota bs → Within limit quota (admitted limit quota d text bs)
+admitted_within limit quota d text bs some names w = go (is_some (seen d bs)) (nat_lt quota (length text)) refl refl where
+  go : (s t : Bool) → is_some (seen d bs) ≡ s → nat_lt quota (length text) ≡ t → Within limit quota (admitted limit quota d text bs)
+  go true t is large = rw is (used_within limit quota d bs w)
   go false true is large = rw (is, large) w
   go false false is large =
       let small : length text ≤ quota = grind (arith, nat_tests) in
-      rw (is, large) (new_within quota 65535 d text bs names small (unseen_absent d bs is) (omega arith) w)
+      rw (is, large) (new_within limit quota (limit - 1) d text bs names small (unseen_absent d bs is) (omega arith) w)
 
 -- ---- the steps of an admission
 
@@ -180,11 +180,11 @@ unseen_none d bs h = go (seen d bs) refl h where
   go (Some text) is h = absurd (cc)
 
 -- what was added and what then had to go are an admission
-pub admitted_new : (quota : ℕ) (d : Digest) (text : List ℕ) (old between new : List Blob) → is_some (seen d old) ≡ false → length text ≤ quota
-    → between ≡ added d text old → new ≡ longest_front quota between → new ≡ admitted quota d text old
-admitted_new quota d text old between new unseen small put kept =
+pub admitted_new : (limit quota : ℕ) (d : Digest) (text : List ℕ) (old between new : List Blob) → is_some (seen d old) ≡ false → length text ≤ quota
+    → between ≡ added limit d text old → new ≡ longest_front quota between → new ≡ admitted limit quota d text old
+admitted_new limit quota d text old between new unseen small put kept =
     let large : nat_lt quota (length text) ≡ false = grind (arith, nat_tests) in
-    rw (unseen, large) (kept ∙ ap (longest_front quota) put ∙ longest_front-new quota 65535 (d, text) old small)
+    rw (unseen, large) (kept ∙ ap (longest_front quota) put ∙ longest_front-new quota (limit - 1) (d, text) old small)
 
 pub on_err : {T E : Type 0} (r : Result T E) {P : Type 0} → P → OnErr r P
 on_err (Ok x) p = tt

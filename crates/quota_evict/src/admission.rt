@@ -1,17 +1,21 @@
-ghost use Rattle.std.specs.Prelude.{◌≡◌, ◌↔◌, ◌<◌, ◌≤◌, ◌^◌, ℕ, None, length, OnOk, OnErr};
+ghost use Rattle.std.specs.Prelude.{◌≡◌, ◌↔◌, ◌+◌, ◌<◌, ◌≤◌, ◌^◌, ℕ, None, length, OnOk, OnErr, IfErr, ◌∷◌, List};
 ghost use Rattle.std.specs.Result.{IsErrOf};
+ghost use Rattle.std.specs.List.{AllByRecursion};
+ghost use Rattle.digest.specs.declared.Digest.{Digest};
 ghost use Rattle.digest.specs.Naming.{Names};
-ghost use Rattle.instance_view.specs.Visible.{seen, total};
+ghost use Rattle.blob_pool.specs.Held.{Slots};
+ghost use Rattle.blob_pool.specs.Moves.{Moves, AreHeld};
+ghost use Rattle.instance_view.specs.Visible.{Blob, seen, total, added};
+ghost use Rattle.instance_view.specs.Shown.{shown, holders};
 ghost use Rattle.quota_evict.specs.Admission.{admitted, longest_front};
 ghost use Rattle.quota_evict.specs.Within.{Within};
+ghost use Rattle.quota_evict.specs.Kept.{AreKept};
 ghost use Rattle.quota_evict.specs.declared.admission.AdmitError.TheVariants.{TooLarge, NoMemory};
 
+use blob_pool::{Draft, Pool};
 use digest::Digest;
 use instance_view::View;
 use std::alloc::AllocError;
-
-/// The largest quota of an instance, in bytes: a tebibyte.
-pub const MOST_QUOTA: u64 = 1 << 40;
 
 /// Why a text was not admitted.
 #[derive(Clone, Copy, PartialEq, Eq)]
@@ -31,22 +35,117 @@ impl From<AllocError> for AdmitError {
 }
 
 /// Drops the texts that were used least recently until the rest is within the quota.
-fn evict(view: &mut View, quota: u64)
-    ensures { view.new ≡ longest_front quota view.old }
+fn evict(view: &mut View, pool: &mut Pool, quota: u64)
+    requires held { AreHeld pool.old (holders view.old) }
+    requires named { AllByRecursion (λ (b : Blob). Names b.0 b.1) (shown pool.old view.old) }
+    ensures shown { shown pool.new view.new ≡ longest_front quota (shown pool.old view.old) }
+    ensures moves { Moves pool.old pool.new (holders view.old) (holders view.new) }
+    ensures limit { view.new.limit ≡ view.old.limit }
 {
     'texts: while view.total() > quota {
-        view.drop_oldest();
+        view.drop_oldest(pool);
+    }
+}
+
+/// Drops the oldest text where there are too many.
+fn trim(view: &mut View, pool: &mut Pool, limit: usize)
+    requires held { AreHeld pool.old (holders view.old) }
+    requires some { 0 < limit }
+    requires length { length view.old.entries ≤ limit + 1 }
+    ensures shown { (d : Digest) (text : List ℕ) (visible : List Blob) →
+        shown pool.old view.old ≡ (d, text) ∷ visible →
+        shown pool.new view.new ≡ added limit d text visible }
+    ensures moves { Moves pool.old pool.new (holders view.old) (holders view.new) }
+    ensures limit { view.new.limit ≡ view.old.limit }
+{
+    if view.len() > limit {
+        view.drop_oldest(pool);
+    }
+}
+
+/// Stores a text that is not there and that the quota allows.
+fn store(
+    view: &mut View,
+    pool: &mut Pool,
+    quota: u64,
+    digest: &Digest,
+    draft: Draft,
+) -> Result<(), Draft>
+    requires quota { quota ≤ 2 ^ 40 }
+    requires kept { AreKept quota pool.old view.old }
+    requires named { Names digest.now draft.text }
+    requires absent { (p : Slots) → seen digest.now (shown p view.old) ≡ None }
+    requires fits { length draft.text ≤ quota }
+    ensures ok { OnOk result (shown pool.new view.new
+        ≡ admitted view.old.limit quota digest.now draft.text (shown pool.old view.old)) }
+    ensures err { OnErr result ((view.new ≡ view.old) × (pool.new ≡ pool.old)) }
+    ensures back { IfErr result (λ given. given.text ≡ draft.text) }
+    ensures moves { Moves pool.old pool.new (holders view.old) (holders view.new) }
+    ensures limit { view.new.limit ≡ view.old.limit }
+    ensures kept { AreKept quota pool.new view.new }
+{
+    let limit = view.limit();
+    view.add(pool, digest, draft)?;
+    trim(view, pool, limit);
+    evict(view, pool, quota);
+    Ok(())
+}
+
+/// Stores the text of a draft under its digest, if the quota allows it. What is there is used; a refusal gives the
+/// draft back and changes nothing.
+pub fn admit_draft(
+    view: &mut View,
+    pool: &mut Pool,
+    quota: u64,
+    digest: &Digest,
+    draft: Draft,
+) -> Result<(), (AdmitError, Draft)>
+    requires quota { quota ≤ 2 ^ 40 }
+    requires kept { AreKept quota pool.old view.old }
+    requires named { Names digest.now draft.text }
+    ensures ok { OnOk result (shown pool.new view.new
+        ≡ admitted view.old.limit quota digest.now draft.text (shown pool.old view.old)) }
+    ensures too_large { IfErr result
+        (λ e. (e.0 ≡ TooLarge)
+        ↔ ((seen digest.now (shown pool.old view.old) ≡ None) × (quota < length draft.text))) }
+    ensures err { OnErr result ((view.new ≡ view.old) × (pool.new ≡ pool.old)) }
+    ensures back { IfErr result (λ e. e.1.text ≡ draft.text) }
+    ensures moves { Moves pool.old pool.new (holders view.old) (holders view.new) }
+    ensures kept { AreKept quota pool.new view.new }
+    ensures limit { view.new.limit ≡ view.old.limit }
+{
+    let is_there = view.touch(digest);
+    if is_there {
+        return Ok(());
+    }
+    if draft.length() > quota {
+        return Err((AdmitError::TooLarge, draft));
+    }
+    match store(view, pool, quota, digest, draft) {
+        Ok(()) => Ok(()),
+        Err(draft) => Err((AdmitError::NoMemory, draft)),
     }
 }
 
 /// Stores bytes under their digest, if the quota allows it. What is there is used; a refusal changes nothing.
-pub fn admit(view: &mut View, quota: u64, digest: &Digest, bytes: &[u8]) -> Result<(), AdmitError>
+pub fn admit(
+    view: &mut View,
+    pool: &mut Pool,
+    quota: u64,
+    digest: &Digest,
+    bytes: &[u8],
+) -> Result<(), AdmitError>
     requires quota { quota ≤ 2 ^ 40 }
-    requires bytes { total view.old ≤ quota }
-    ensures ok { OnOk result (view.new ≡ admitted quota digest.now bytes.now view.old) }
-    ensures too_large { IsErrOf result TooLarge ↔ ((seen digest.now view.old ≡ None) × (quota < length bytes.now)) }
-    ensures err { OnErr result (view.new ≡ view.old) }
-    ensures within { Names digest.now bytes.now → Within quota view.old → Within quota view.new }
+    requires kept { AreKept quota pool.old view.old }
+    requires named { Names digest.now bytes.now }
+    ensures ok { OnOk result (shown pool.new view.new
+        ≡ admitted view.old.limit quota digest.now bytes.now (shown pool.old view.old)) }
+    ensures too_large { IsErrOf result TooLarge
+        ↔ ((seen digest.now (shown pool.old view.old) ≡ None) × (quota < length bytes.now)) }
+    ensures err { OnErr result ((view.new ≡ view.old) × (pool.new ≡ pool.old)) }
+    ensures moves { Moves pool.old pool.new (holders view.old) (holders view.new) }
+    ensures kept { AreKept quota pool.new view.new }
+    ensures limit { view.new.limit ≡ view.old.limit }
 {
     if view.touch(digest) {
         return Ok(());
@@ -54,7 +153,9 @@ pub fn admit(view: &mut View, quota: u64, digest: &Digest, bytes: &[u8]) -> Resu
     if bytes.len() as u64 > quota {
         return Err(AdmitError::TooLarge);
     }
-    view.add(digest, bytes)?;
-    evict(view, quota);
-    Ok(())
+    let draft = pool.draft_of(digest, bytes)?;
+    match store(view, pool, quota, digest, draft) {
+        Ok(()) => Ok(()),
+        Err(_draft) => Err(AdmitError::NoMemory),
+    }
 }

@@ -23,6 +23,10 @@ pub record StoreValue : Type 0 where
   pub quota : ℕ
   pub visible : List Blob
 
+-- how many texts an instance has at most
+abbrev pub most_blobs : ℕ
+most_blobs = 65536
+
 -- at first there are no texts
 abbrev pub opened : InstanceValue → StoreValue
 opened instance = record { name = instance.name; quota = instance.quota; visible = [] }
@@ -52,22 +56,22 @@ reply_line (Ok reply) = ok_line reply
 reply_line (Err refusal) = status_line refusal
 
 -- a text that is not there and is longer than the quota is refused
-abbrev pub is_refused : StoreValue → List ℕ → Bool
-is_refused s text = not (is_some (seen (digest_of text) s.visible)) && nat_lt s.quota (length text)
+abbrev pub is_refused : ℕ → List Blob → List ℕ → Bool
+is_refused quota visible text = not (is_some (seen (digest_of text) visible)) && nat_lt quota (length text)
 
 abbrev pub put_line : Bool → List ℕ
 put_line refused = if refused then codes "refused" else codes "stored"
 
 -- a text is stored under its digest
 abbrev pub stored : List ℕ → StoreValue → StoreValue
-stored text s = record s { visible = admitted s.quota (digest_of text) text s.visible }
+stored text s = record s { visible = admitted most_blobs s.quota (digest_of text) text s.visible }
 
 abbrev pub called : Method → List ℕ → StoreValue → StoreValue
-called method message s = record s { visible = changed s.quota (changes_by method s message) s.visible }
+called method message s = record s { visible = changed most_blobs s.quota (changes_by method s message) s.visible }
 
 -- the line that a command prints
 abbrev pub line_of : CommandValue → StoreValue → List ℕ
-line_of (put place text) s = put_line (is_refused s text)
+line_of (put place text) s = put_line (is_refused s.quota s.visible text)
 line_of (call place method message) s = reply_line (reply_to method s message)
 
 -- the instance after a command

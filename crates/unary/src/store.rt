@@ -2,10 +2,14 @@ ghost use Rattle.std.specs.Prelude.{◌≡◌, ◌≤◌, ◌^◌, ℕ, List, On
 ghost use Rattle.unary_script.specs.Shown.{instance_value};
 ghost use Rattle.cas_service.specs.Answers.{Answers};
 ghost use Rattle.cas_service.specs.Changes.{changed};
-ghost use Rattle.quota_evict.specs.Within.{Within};
+ghost use Rattle.digest.specs.Naming.{digest_of};
+ghost use Rattle.instance_view.specs.Shown.{shown};
+ghost use Rattle.quota_evict.specs.Admission.{admitted};
+ghost use Rattle.quota_evict.specs.Kept.{AreKept};
 ghost use Rattle.unary.specs.Answered.{IfAnswered};
 ghost use Rattle.unary.specs.Session.{opened, reply_to, changes_by, is_refused, stored, called};
 
+use blob_pool::Pool;
 use cas_service::{CallError, batch_read, batch_update, find_missing};
 use digest::Digest;
 use instance_view::View;
@@ -14,24 +18,29 @@ use std::alloc::{AllocError, Global};
 use std::marker::Model;
 use unary_script::{Instance, Method};
 
-/// An instance with its texts.
+/// How many texts an instance has at most.
+const MOST_BLOBS: usize = 65_536;
+
+/// An instance with its texts, in a pool of its own.
 #[derive(Drop)]
 pub struct Store {
     name: String,
     quota: u64,
+    pool: Pool,
     view: View,
 }
 
 impl Model for Store {
-    ghost use Rattle.std.specs.Prelude.{◌≤◌, ◌^◌, string_bytes};
-    ghost use Rattle.quota_evict.specs.Within.{Within};
-    ghost use Rattle.unary.specs.Session.{StoreValue};
+    ghost use Rattle.std.specs.Prelude.{◌≡◌, ◌≤◌, ◌^◌, string_bytes};
+    ghost use Rattle.instance_view.specs.Shown.{shown};
+    ghost use Rattle.quota_evict.specs.Kept.{AreKept};
+    ghost use Rattle.unary.specs.Session.{StoreValue, most_blobs};
 
     ghost Value = { StoreValue };
 
-    ghost view = { λ s. record { name = string_bytes s.name; quota = s.quota; visible = s.view } };
+    ghost view = { λ s. record { name = string_bytes s.name; quota = s.quota; visible = shown s.pool s.view } };
 
-    ghost invariant = { λ s. (s.quota ≤ 2 ^ 40) × Within s.quota s.view };
+    ghost invariant = { λ s. (s.quota ≤ 2 ^ 40) × AreKept s.quota s.pool s.view × (s.view.limit ≡ most_blobs) };
 }
 
 impl Store {
@@ -41,25 +50,22 @@ impl Store {
         ensures { IfOk result (λ store. store ≡ opened (instance_value instance.now)) }
     {
         let name = String::from_str(alloc, &instance.name)?;
-        let view = View::new(alloc)?;
+        let view = View::new(alloc, MOST_BLOBS)?;
         Ok(Store {
             name,
             quota: instance.quota,
+            pool: Pool::new(alloc),
             view,
         })
     }
 
     /// Stores bytes under their digest, and says whether they are refused, being longer than the quota.
     pub fn put(&mut self, bytes: &[u8]) -> Result<bool, AllocError>
-        ensures refused { IfOk result (λ refused. refused ≡ is_refused self.old bytes.now) }
+        ensures refused { IfOk result (λ refused. refused ≡ is_refused self.old.quota self.old.visible bytes.now) }
         ensures stored { OnOk result (self.new ≡ stored bytes.now self.old) }
         ensures err { OnErr result (self.new ≡ self.old) }
     {
-        match admit(&mut self.view, self.quota, &Digest::of(bytes), bytes) {
-            Ok(()) => Ok(false),
-            Err(AdmitError::TooLarge) => Ok(true),
-            Err(AdmitError::NoMemory) => Err(AllocError),
-        }
+        put(&mut self.view, &mut self.pool, self.quota, bytes)
     }
 
     /// Answers a call.
@@ -77,9 +83,27 @@ impl Store {
             &self.name,
             self.quota,
             &mut self.view,
+            &mut self.pool,
             method,
             message,
         )
+    }
+}
+
+/// Stores bytes under their digest within a quota, and says whether they are refused.
+fn put(view: &mut View, pool: &mut Pool, quota: u64, bytes: &[u8]) -> Result<bool, AllocError>
+    requires quota { quota ≤ 2 ^ 40 }
+    requires kept { AreKept quota pool.old view.old }
+    ensures refused { IfOk result (λ refused. refused ≡ is_refused quota (shown pool.old view.old) bytes.now) }
+    ensures stored { OnOk result (shown pool.new view.new ≡ admitted view.old.limit quota (digest_of bytes.now) bytes.now (shown pool.old view.old)) }
+    ensures err { OnErr result ((view.new ≡ view.old) × (pool.new ≡ pool.old)) }
+    ensures kept { AreKept quota pool.new view.new }
+    ensures limit { view.new.limit ≡ view.old.limit }
+{
+    match admit(view, pool, quota, &Digest::of(bytes), bytes) {
+        Ok(()) => Ok(false),
+        Err(AdmitError::TooLarge) => Ok(true),
+        Err(AdmitError::NoMemory) => Err(AllocError),
     }
 }
 
@@ -89,18 +113,20 @@ fn call(
     own: &str,
     quota: u64,
     view: &mut View,
+    pool: &mut Pool,
     method: Method,
     message: &[u8],
 ) -> Result<Vec<u8>, CallError>
     requires quota { quota ≤ 2 ^ 40 }
-    requires within { Within quota view.old }
-    ensures reply { Answers (λ reply. reply.items) result (reply_to method (record { name = own.now; quota = quota; visible = view.old }) message.now) }
-    ensures called { IfAnswered result (view.new ≡ changed quota (changes_by method (record { name = own.now; quota = quota; visible = view.old }) message.now) view.old) }
-    ensures within { Within quota view.new }
+    requires kept { AreKept quota pool.old view.old }
+    ensures reply { Answers (λ reply. reply.items) result (reply_to method (record { name = own.now; quota = quota; visible = shown pool.old view.old }) message.now) }
+    ensures called { IfAnswered result (shown pool.new view.new ≡ changed view.old.limit quota (changes_by method (record { name = own.now; quota = quota; visible = shown pool.old view.old }) message.now) (shown pool.old view.old)) }
+    ensures kept { AreKept quota pool.new view.new }
+    ensures limit { view.new.limit ≡ view.old.limit }
 {
     match method {
         Method::FindMissingBlobs => find_missing(alloc, own, view, message),
-        Method::BatchUpdateBlobs => batch_update(alloc, own, quota, view, message),
-        Method::BatchReadBlobs => batch_read(alloc, own, view, message),
+        Method::BatchUpdateBlobs => batch_update(alloc, own, quota, view, pool, message),
+        Method::BatchReadBlobs => batch_read(alloc, own, view, pool, message),
     }
 }

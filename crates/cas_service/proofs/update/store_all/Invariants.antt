@@ -1,12 +1,19 @@
-use Rattle.std.proofs.Common.{length, map}
-use Rattle.quota_evict.specs.Within.{Within}
+use Rattle.std.proofs.Common.{◌≡◌, length, map}
+use Rattle.blob_pool.specs.Moves.{Moves}
+use Rattle.instance_view.specs.Shown.{shown, holders}
+use Rattle.quota_evict.specs.Kept.{AreKept}
 use Rattle.cas_service.specs.BatchUpdate.{stores}
 use Rattle.cas_service.specs.Shown.{blob}
 use Rattle.cas_service.proofs.Storing.{IsUnderway}
 use Rattle.cas_service.proofs.update.store_all.Given as goal
 
 abbrev pub invariant-blobs : goal.invariant-blobs
-invariant-blobs l = IsUnderway l.quota (stores l.quota (map blob l.judged)) l.fn.view l.view l.left × Within l.quota l.view
+invariant-blobs l = record {
+  underway : IsUnderway l.fn.view.limit l.quota (stores l.quota (map blob l.judged)) (shown l.fn.pool l.fn.view) (shown l.pool l.view) l.left;
+  moves : Moves l.fn.pool l.pool (holders l.fn.view) (holders l.view);
+  kept : AreKept l.quota l.pool l.view;
+  limit : l.view.limit ≡ l.fn.view.limit;
+}
 
 abbrev pub decreases-blobs : goal.decreases-blobs
 decreases-blobs l = length l.left

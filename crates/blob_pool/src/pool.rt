@@ -1,0 +1,182 @@
+ghost use Rattle.std.specs.Prelude.{◌≡◌, ◌≢◌, ◌+◌, ◌<◌, ◌≤◌, ◌^◌, ◌++◌, ℕ, [], length, Some, None, IfOk, IfErr, OnOk, OnErr};
+ghost use Rattle.digest.specs.Naming.{Names};
+ghost use Rattle.paged_text.specs.Pages.{part_of};
+ghost use Rattle.blob_pool.specs.Held.{text_at, count_at, held_at, IsShared, texts_stored, bytes_stored};
+ghost use Rattle.blob_pool.specs.Moves.{Moves, HasRoom, nobody, one_at};
+
+use crate::draft::Draft;
+use crate::hold::{Hold, Kept, keep};
+use crate::index::Index;
+use crate::slot::Slot;
+use crate::slots::{hold_again, put_text, take_text, text};
+use digest::Digest;
+use slab::Slab;
+use std::alloc::{AllocError, Global};
+use std::marker::Model;
+
+/// Texts that stand once each, in slots, with the number of holders of each slot.
+#[derive(Drop)]
+pub struct Pool {
+    alloc: Global,
+    slots: Slab<Slot>,
+    index: Index,
+    bytes: u128,
+}
+
+impl Model for Pool {
+    ghost use Rattle.blob_pool.specs.Held.{Slots};
+    ghost use Rattle.blob_pool.specs.Listed.{IsPool};
+
+    ghost Value = { Slots };
+
+    ghost view = { λ p. p.slots.slots };
+
+    ghost invariant = { λ p. IsPool p.slots.slots p.index p.bytes };
+}
+
+impl Pool {
+    /// No texts.
+    pub fn new(alloc: Global) -> Pool
+        ensures { result ≡ [] }
+    {
+        Pool {
+            alloc,
+            slots: Slab::new(alloc),
+            index: Index::new(alloc),
+            bytes: 0,
+        }
+    }
+
+    /// How many texts are held, and how many bytes they have together. It takes no memory.
+    pub fn stored(&self) -> (u64, u128)
+        ensures texts { result.0 ≡ texts_stored self.now }
+        ensures bytes { result.1 ≡ bytes_stored self.now }
+        // Each text that is held stands in one slot.
+        ensures shared { IsShared self.now }
+        // Nothing stands there that nobody holds.
+        ensures held { (k : ℕ) → held_at self.now k ≢ None → 0 < count_at self.now k }
+    {
+        (self.slots.len() as u64, self.bytes)
+    }
+
+    /// Bytes that a digest is known to name, to be sealed here. They are not hashed again.
+    pub fn draft_of(&self, digest: &Digest, bytes: &[u8]) -> Result<Draft, AllocError>
+        requires named { Names digest.now bytes.now }
+        requires most { length bytes.now ≤ 2 ^ 48 }
+        ensures { IfOk result (λ draft. draft.text ≡ bytes.now) }
+    {
+        Draft::of(self.alloc, digest, bytes)
+    }
+
+    /// Holds the text of a draft: in the slot that has it already, or in a free one. The draft is given back for want
+    /// of memory only.
+    pub fn seal(&mut self, draft: Draft) -> Result<Hold, Draft>
+        requires { HasRoom self.old }
+        ensures text { IfOk result (λ hold. text_at self.new hold ≡ draft.text) }
+        ensures moves { IfOk result (λ hold. Moves self.old self.new nobody (one_at hold)) }
+        // A text that is held already is not stored again.
+        ensures same { IfOk result (λ hold. (k : ℕ) → 0 < count_at self.old k →
+            text_at self.old k ≡ draft.text → hold ≡ k) }
+        ensures err { OnErr result (self.new ≡ self.old) }
+        ensures back { IfErr result (λ given. given.text ≡ draft.text) }
+    {
+        match put_text(&mut self.slots, &mut self.index, &mut self.bytes, draft) {
+            Ok(slot) => Ok(Hold::of(slot)),
+            Err(draft) => Err(draft),
+        }
+    }
+
+    /// Holds a text.
+    pub fn put(&mut self, bytes: &[u8]) -> Result<Hold, AllocError>
+        requires room { HasRoom self.old }
+        requires most { length bytes.now ≤ 2 ^ 48 }
+        ensures text { IfOk result (λ hold. text_at self.new hold ≡ bytes.now) }
+        ensures moves { IfOk result (λ hold. Moves self.old self.new nobody (one_at hold)) }
+        ensures same { IfOk result (λ hold. (k : ℕ) → 0 < count_at self.old k →
+            text_at self.old k ≡ bytes.now → hold ≡ k) }
+        ensures err { OnErr result (self.new ≡ self.old) }
+    {
+        let mut draft = Draft::new(self.alloc);
+        draft.push(bytes)?;
+        match self.seal(draft) {
+            Ok(hold) => Ok(hold),
+            Err(_draft) => Err(AllocError),
+        }
+    }
+
+    /// Another holder of the text. It takes no memory.
+    pub fn again(&mut self, hold: &Hold) -> Hold
+        requires held { 0 < count_at self.old hold.now }
+        requires room { count_at self.old hold.now < 2 ^ 32 }
+        ensures hold { result ≡ hold.now }
+        ensures moves { Moves self.old self.new nobody (one_at hold.now) }
+    {
+        let slot = hold.slot();
+        hold_again(&mut self.slots, slot);
+        Hold::of(slot)
+    }
+
+    /// Another holder of the text that was kept. It takes no memory.
+    pub fn hold_again(&mut self, kept: Kept) -> Kept
+        requires held { 0 < count_at self.old kept }
+        requires room { count_at self.old kept < 2 ^ 32 }
+        ensures kept { result ≡ kept }
+        ensures moves { Moves self.old self.new nobody (one_at kept) }
+    {
+        hold_again(&mut self.slots, kept.number());
+        kept
+    }
+
+    /// Gives up the right to a text. A text that nobody holds goes. It takes no memory.
+    pub fn release(&mut self, hold: Hold)
+        requires { 0 < count_at self.old hold }
+        ensures { Moves self.old self.new (one_at hold) nobody }
+    {
+        let slot = keep(hold).number();
+        take_text(&mut self.slots, &mut self.index, &mut self.bytes, slot);
+    }
+
+    /// The right that was kept. It takes no memory.
+    pub fn back(&self, kept: Kept) -> Hold
+        requires { 0 < count_at self.now kept }
+        ensures { result ≡ kept }
+    {
+        Hold::of(kept.number())
+    }
+
+    /// How many bytes the text has. It takes no memory.
+    pub fn length(&self, hold: &Hold) -> u64
+        requires { 0 < count_at self.now hold.now }
+        ensures length { result ≡ length (text_at self.now hold.now) }
+        ensures most { result ≤ 2 ^ 48 }
+    {
+        text(&self.slots, hold.slot()).len()
+    }
+
+    /// What the text has from a place on, up to the end of its page of 65,536 bytes and to `most` bytes. It takes no
+    /// memory.
+    pub fn part(&self, hold: &Hold, from: u64, most: u32) -> &[u8]
+        requires { 0 < count_at self.now hold.now }
+        ensures { result.now ≡ part_of 65536 (text_at self.now hold.now) from most }
+    {
+        text(&self.slots, hold.slot()).part(from, most)
+    }
+
+    /// Adds the text to the end of a vector.
+    pub fn copy_into(&self, hold: &Hold, into: &mut Vec<u8>) -> Result<(), AllocError>
+        requires { 0 < count_at self.now hold.now }
+        ensures ok { OnOk result (into.new.items ≡ into.old.items ++ text_at self.now hold.now) }
+        ensures err { OnErr result (into.new.items ≡ into.old.items) }
+    {
+        text(&self.slots, hold.slot()).copy_into(into)
+    }
+}
+
+/// Gives up the right that was kept. A text that nobody holds goes. It takes no memory.
+pub fn release_kept(pool: &mut Pool, kept: Kept)
+    requires { 0 < count_at pool.old kept }
+    ensures { Moves pool.old pool.new (one_at kept) nobody }
+{
+    let hold = pool.back(kept);
+    pool.release(hold);
+}

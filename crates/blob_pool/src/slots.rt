@@ -1,0 +1,208 @@
+//! The slots of a pool, and what finds them.
+
+ghost use Rattle.std.specs.Prelude.{◌≡◌, ◌+◌, ◌-◌, ◌<◌, ◌≤◌, ◌^◌, ◌↔◌, ℕ, length, Some, None, IsTrue, IfSome, IfNone, IfOk, IfErr, OnErr, slice_index_or};
+ghost use Rattle.std.specs.Option.{option_copied};
+ghost use Rattle.digest.specs.Naming.{digest_of};
+ghost use Rattle.blob_pool.specs.Held.{held_at, text_at, count_at, Puts, bytes_stored};
+ghost use Rattle.blob_pool.specs.Moves.{Moves, HasRoom, nobody, one_at};
+ghost use Rattle.blob_pool.specs.Listed.{Listing, IsListed, IsPool};
+
+use crate::draft::Draft;
+use crate::index::Index;
+use crate::slot::Slot;
+use digest::Digest;
+use paged_text::PagedText;
+use slab::Slab;
+
+/// Whether a slot has the text.
+fn has_text(slots: &Slab<Slot>, slot: usize, text: &PagedText) -> bool
+    ensures { IsTrue result ↔ ((0 < count_at slots.now.slots slot)
+        × (text_at slots.now.slots slot ≡ text.now)) }
+{
+    match slots.get(slot) {
+        Some(held) => held.count() > 0 && held.text().is_same(text),
+        None => false,
+    }
+}
+
+/// The slot that has the text.
+fn find(slots: &Slab<Slot>, index: &Index, digest: &Digest, text: &PagedText) -> Option<usize>
+    ensures found { IfSome result (λ k. (0 < count_at slots.now.slots k)
+        × (text_at slots.now.slots k ≡ text.now)) }
+    ensures none { IfNone result ((k : ℕ) → IsListed index.now digest.now k →
+        0 < count_at slots.now.slots k → text_at slots.now.slots k ≡ text.now → ⊥) }
+{
+    if let Some(first) = index.first(digest) {
+        if has_text(slots, first, text) {
+            return Some(first);
+        }
+    }
+    find_among(slots, index.others(), text)
+}
+
+/// The one of some slots that has the text.
+fn find_among(slots: &Slab<Slot>, numbers: &[usize], text: &PagedText) -> Option<usize>
+    ensures found { IfSome result (λ k. (0 < count_at slots.now.slots k)
+        × (text_at slots.now.slots k ≡ text.now)) }
+    ensures none { IfNone result ((i : ℕ) → i < length numbers.now →
+        0 < count_at slots.now.slots (slice_index_or numbers.now i 0) →
+        text_at slots.now.slots (slice_index_or numbers.now i 0) ≡ text.now → ⊥) }
+{
+    for (i, slot) in numbers.iter().enumerate() {
+        if has_text(slots, *slot, text) {
+            return Some(*slot);
+        }
+    }
+    None
+}
+
+/// One holder more.
+fn add_holder(slots: &mut Slab<Slot>, slot: usize)
+    requires held { 0 < count_at slots.old.slots slot }
+    requires room { count_at slots.old.slots slot < 2 ^ 32 }
+    ensures { Puts slots.old.slots slots.new.slots slot
+        (Some (record { text = text_at slots.old.slots slot; count = count_at slots.old.slots slot + 1 })) }
+{
+    if let Some(held) = slots.get_mut(slot) {
+        held.add_holder();
+    }
+}
+
+/// Holds a text of a pool that is held already.
+pub fn hold_again(slots: &mut Slab<Slot>, slot: usize)
+    requires held { 0 < count_at slots.old.slots slot }
+    requires room { count_at slots.old.slots slot < 2 ^ 32 }
+    ensures pool { (index : Listing) (bytes : ℕ) → IsPool slots.old.slots index bytes →
+        IsPool slots.new.slots index bytes }
+    ensures moves { Moves slots.old.slots slots.new.slots nobody (one_at slot) }
+    ensures text { text_at slots.new.slots slot ≡ text_at slots.old.slots slot }
+{
+    add_holder(slots, slot);
+}
+
+/// One holder less, but not the last.
+fn take_holder(slots: &mut Slab<Slot>, slot: usize)
+    requires { 1 < count_at slots.old.slots slot }
+    ensures { Puts slots.old.slots slots.new.slots slot
+        (Some (record { text = text_at slots.old.slots slot; count = count_at slots.old.slots slot - 1 })) }
+{
+    if let Some(held) = slots.get_mut(slot) {
+        held.take_holder();
+    }
+}
+
+/// How many holders a slot has.
+fn count(slots: &Slab<Slot>, slot: usize) -> u64
+    ensures { result ≡ count_at slots.now.slots slot }
+{
+    match slots.get(slot) {
+        Some(held) => held.count(),
+        None => 0,
+    }
+}
+
+/// Holds a text: in the slot that has it already, or in a free one. The draft is given back for want of memory only.
+pub fn put_text(
+    slots: &mut Slab<Slot>,
+    index: &mut Index,
+    bytes: &mut u128,
+    draft: Draft,
+) -> Result<usize, Draft>
+    requires pool { IsPool slots.old.slots index.old bytes.old }
+    requires room { HasRoom slots.old.slots }
+    ensures pool { IsPool slots.new.slots index.new bytes.new }
+    ensures moves { IfOk result (λ k. Moves slots.old.slots slots.new.slots nobody (one_at k)) }
+    ensures text { IfOk result (λ k. text_at slots.new.slots k ≡ draft.text) }
+    ensures same { IfOk result (λ k. (j : ℕ) → 0 < count_at slots.old.slots j →
+        text_at slots.old.slots j ≡ draft.text → k ≡ j) }
+    ensures err { OnErr result (slots.new.slots ≡ slots.old.slots) }
+    ensures back { IfErr result (λ d. d.text ≡ draft.text) }
+{
+    let (text, digest) = draft.open();
+    if let Some(slot) = find(slots, index, &digest, &text) {
+        hold_again(slots, slot);
+        return Ok(slot);
+    }
+    match add_text(slots, index, bytes, text, digest) {
+        Ok(slot) => Ok(slot),
+        Err(text) => Err(Draft::close(text, digest)),
+    }
+}
+
+/// Puts a text that is not there into a free slot.
+fn add_text(
+    slots: &mut Slab<Slot>,
+    index: &mut Index,
+    bytes: &mut u128,
+    text: PagedText,
+    digest: Digest,
+) -> Result<usize, PagedText>
+    requires pool { IsPool slots.old.slots index.old bytes.old }
+    requires absent { (k : ℕ) → 0 < count_at slots.old.slots k → text_at slots.old.slots k ≡ text →
+        ⊥ }
+    requires digest { digest ≡ digest_of text }
+    requires short { length text ≤ 2 ^ 48 }
+    ensures pool { IsPool slots.new.slots index.new bytes.new }
+    ensures moves { IfOk result (λ k. Moves slots.old.slots slots.new.slots nobody (one_at k)) }
+    ensures text { IfOk result (λ k. text_at slots.new.slots k ≡ text) }
+    ensures err { OnErr result (slots.new.slots ≡ slots.old.slots) }
+    ensures back { IfErr result (λ t. t ≡ text) }
+{
+    if slots.reserve(1).is_err() {
+        return Err(text);
+    }
+    let slot = slots.vacant_key();
+    if index.list(&digest, slot).is_err() {
+        return Err(text);
+    }
+    *bytes = more_bytes(slots, *bytes, &text);
+    Ok(slots.insert_reserved(Slot::new(text, digest)))
+}
+
+/// How many bytes there are with another text.
+fn more_bytes(slots: &Slab<Slot>, bytes: u128, text: &PagedText) -> u128
+    requires short { (k : ℕ) → length (text_at slots.now.slots k) ≤ 2 ^ 48 }
+    requires bytes { bytes ≡ bytes_stored slots.now.slots }
+    ensures { result ≡ bytes + length text.now }
+{
+    let _texts = slots.len();
+    bytes + text.len() as u128
+}
+
+/// Lets go of a text: one holder less, and a text without holders goes.
+pub fn take_text(slots: &mut Slab<Slot>, index: &mut Index, bytes: &mut u128, slot: usize)
+    requires pool { IsPool slots.old.slots index.old bytes.old }
+    requires held { 0 < count_at slots.old.slots slot }
+    ensures pool { IsPool slots.new.slots index.new bytes.new }
+    ensures moves { Moves slots.old.slots slots.new.slots (one_at slot) nobody }
+{
+    if count(slots, slot) > 1 {
+        take_holder(slots, slot);
+    } else {
+        drop_text(slots, index, bytes, slot);
+    }
+}
+
+/// Takes out a text that has one holder.
+fn drop_text(slots: &mut Slab<Slot>, index: &mut Index, bytes: &mut u128, slot: usize)
+    requires pool { IsPool slots.old.slots index.old bytes.old }
+    requires last { count_at slots.old.slots slot ≡ 1 }
+    ensures pool { IsPool slots.new.slots index.new bytes.new }
+    ensures moves { Moves slots.old.slots slots.new.slots (one_at slot) nobody }
+{
+    if let Some(held) = slots.try_remove(slot) {
+        index.unlist(&held.digest(), slot);
+        *bytes -= held.text().len() as u128;
+    }
+}
+
+/// The text of a slot.
+pub fn text(slots: &Slab<Slot>, slot: usize) -> &PagedText
+    requires { 0 < count_at slots.now.slots slot }
+    ensures { result.now ≡ text_at slots.now.slots slot }
+{
+    match slots.get(slot) {
+        Some(held) => held.text(),
+        None => unreachable!(),
+    }
+}

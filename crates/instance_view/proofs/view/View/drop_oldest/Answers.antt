@@ -1,0 +1,22 @@
+use Rattle.std.proofs.Common.{◌≡◌, List, ◌∷◌, [], ◌++◌, sym, ap, ◌∙◌}
+use Rattle.instance_view.specs.Shown.{Entry, ViewValue}
+use Rattle.instance_view.proofs.Held.{dropped_held, dropped_moves, dropped_shown}
+use Rattle.instance_view.proofs.view.View.drop_oldest.Goals as goal
+
+abbrev entries_of : ViewValue → List Entry
+entries_of v = v.entries
+
+pub release_kept-requires : goal.release_kept-requires
+release_kept-requires c =
+    let was : c.args.self.now.entries ≡ c.pop.new.cache.entries ++ c.in-Some.entry ∷ [] = sym (ap entries_of c.self.view_is) ∙ c.in-Some.ensures.some in
+    dropped_held c.args.pool.now c.args.self.now.entries c.pop.new.cache.entries c.in-Some.entry c.requires was
+
+pub returns-in-Some-clause-shown : goal.returns-in-Some-clause-shown
+returns-in-Some-clause-shown c =
+    let was : c.args.self.now.entries ≡ c.pop.new.cache.entries ++ c.in-Some.entry ∷ [] = sym (ap entries_of c.self.view_is) ∙ c.in-Some.ensures.some in
+    dropped_shown c.args.pool.now c.release_kept.new.pool c.args.self.now.entries c.pop.new.cache.entries c.in-Some.entry c.requires was c.release_kept.ensures
+
+pub returns-in-Some-clause-moves : goal.returns-in-Some-clause-moves
+returns-in-Some-clause-moves c =
+    let was : c.args.self.now.entries ≡ c.pop.new.cache.entries ++ c.in-Some.entry ∷ [] = sym (ap entries_of c.self.view_is) ∙ c.in-Some.ensures.some in
+    dropped_moves c.args.pool.now c.release_kept.new.pool c.args.self.now.entries c.pop.new.cache.entries c.in-Some.entry was c.release_kept.ensures

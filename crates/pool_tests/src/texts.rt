@@ -1,0 +1,70 @@
+ghost use Rattle.std.specs.Prelude.{◌≡◌, ◌<◌, ◌+◌, ◌≤◌, ◌^◌, length, true};
+ghost use Rattle.blob_pool.specs.Held.{count_at};
+
+use blob_pool::{Draft, Hold, Pool};
+use digest::Digest;
+use std::alloc::{AllocError, Global};
+
+/// How long a text of these tests is at most.
+const MOST_BYTES: u64 = 1_000_000;
+
+/// Adds a text in pieces of 1,000 bytes.
+fn push_in_pieces(draft: &mut Draft, text: &[u8]) -> Result<(), AllocError>
+    requires { draft.old.is_open ≡ true }
+{
+    for piece in text.chunks(1_000) {
+        if draft.length() < MOST_BYTES && piece.len() <= 1_000 {
+            draft.push(piece)?;
+        }
+    }
+    Ok(())
+}
+
+/// Adds the parts of a text that follow one another, each of `most` bytes or less.
+fn add_parts(pool: &Pool, hold: &Hold, most: u32, into: &mut Vec<u8>) -> Result<(), AllocError>
+    requires { 0 < count_at pool.now hold.now }
+{
+    let end = pool.length(hold);
+    let mut from = 0;
+    'parts: while from < end {
+        let part = pool.part(hold, from, most);
+        let count = part.len() as u64;
+        if count == 0 || count > MOST_BYTES {
+            return Ok(());
+        }
+        into.extend_from_slice(part)?;
+        from += count;
+    }
+    Ok(())
+}
+
+/// Whether the text is read whole, by parts and at once.
+fn is_read(alloc: Global, pool: &Pool, hold: &Hold, text: &[u8]) -> Result<bool, AllocError>
+    requires { 0 < count_at pool.now hold.now }
+{
+    let mut copy = Vec::new(alloc);
+    pool.copy_into(hold, &mut copy)?;
+    let mut parts = Vec::new(alloc);
+    add_parts(pool, hold, 7_000, &mut parts)?;
+    Ok(
+        copy.as_slice() == text
+            && parts.as_slice() == text
+            && pool.length(hold) == text.len() as u64,
+    )
+}
+
+/// Whether a text that is put in pieces comes back.
+pub fn comes_back(alloc: Global, text: &[u8]) -> Result<bool, AllocError> {
+    let mut pool = Pool::new(alloc);
+    let mut draft = Draft::new(alloc);
+    push_in_pieces(&mut draft, text)?;
+    let is_named = draft.names(&Digest::of(text));
+    match pool.seal(draft) {
+        Ok(hold) => {
+            let is_read = is_read(alloc, &pool, &hold, text);
+            pool.release(hold);
+            Ok(is_named && is_read? && pool.stored().0 == 0)
+        }
+        Err(_draft) => Err(AllocError),
+    }
+}

@@ -1,13 +1,18 @@
 //! Carries out the scripts of standard input one by one, and writes what becomes of each: the stored cases of
 //! `unary` and `replay`, with what they have to write beside them.
 //!
-//! A line `# unary NAME` or `# replay NAME` begins a case. The lines below it, up to the next such line, are its
-//! script, which ends without a newline: one that ends with a newline has an empty line as its last.
+//! A line `# unary NAME`, `# replay NAME` or `# stored NAME` begins a case. The lines below it, up to the next such
+//! line, are its script, which ends without a newline: one that ends with a newline has an empty line as its last.
+//! `stored` takes a script of `replay`, and tells after each event how many texts the server holds, and how many bytes
+//! these have together.
 #![tactic(auto)]
 
 use program_status::{Status, read_all};
 use replay::replay;
+use replay_script::{ReplayScript, ScriptFault, parse};
 use script::lines;
+use server_core::Server;
+use server_events::Configs;
 use std::alloc::{AllocError, Global};
 use std::io::{self, BufWriter, Write};
 use std::process::ExitCode;
@@ -18,6 +23,7 @@ use unary::unary;
 enum Kind {
     Unary,
     Replay,
+    Stored,
 }
 
 /// A case whose lines are being read.
@@ -52,6 +58,7 @@ impl Case {
         let status = match self.kind {
             Kind::Unary => unary(alloc, &mut input, output, &mut errors),
             Kind::Replay => replay(alloc, &mut input, output, &mut errors),
+            Kind::Stored => stored(alloc, input, output)?,
         };
         output.write_all(&errors)?;
         writeln!(output, "status {}", status.code())
@@ -64,9 +71,41 @@ fn kind_of(line: &[u8]) -> Option<Kind> {
         Some(Kind::Unary)
     } else if line.starts_with(b"# replay ") {
         Some(Kind::Replay)
+    } else if line.starts_with(b"# stored ") {
+        Some(Kind::Stored)
     } else {
         None
     }
+}
+
+/// Gives a server the events of a script one by one, and tells after each what it has stored.
+fn stored<O: Write>(alloc: Global, text: &[u8], output: &mut O) -> io::Result<Status> {
+    match parse(alloc, text) {
+        Ok(script) => tell_stored(alloc, script, output),
+        Err(ScriptFault::BadLine(number)) => Ok(Status::BadLine(number)),
+        Err(ScriptFault::NoMemory) => Ok(Status::OutOfMemory),
+    }
+}
+
+fn tell_stored<O: Write>(
+    alloc: Global,
+    script: ReplayScript,
+    output: &mut O,
+) -> io::Result<Status> {
+    let Ok(configs) = Configs::new(script.configs) else {
+        return Ok(Status::Failed);
+    };
+    let Ok(mut server) = Server::new(alloc, &configs) else {
+        return Ok(Status::OutOfMemory);
+    };
+    let mut place: u64 = 0;
+    for event in &script.events {
+        place = place.saturating_add(1);
+        let _ = server.step(event);
+        let (texts, bytes) = server.stored();
+        writeln!(output, "stored {place} {texts} {bytes}")?;
+    }
+    Ok(Status::Done)
 }
 
 /// Carries out the cases of a text.

@@ -1,35 +1,38 @@
--- Calls in course, seen with their messages.
-use Rattle.std.proofs.Common.{◌≡◌, Bool, true, false, List, [], ◌∷◌, map, refl, ap}
-use Rattle.std.specs.Prelude.{option_map}
+-- The map of calls, and the list of calls.
+use Rattle.std.proofs.Common.{◌≡◌, Bool, true, false, cond, List, [], ◌∷◌, refl, ap}
+use Rattle.std.specs.Prelude.{IfSome}
 use Rattle.std.specs.List.{IsDistinct}
-use Rattle.std.specs.Map.{lookup, remove_entry, keys_of}
-use Rattle.std.proofs.lemmas.Map.Made.{keys_of-map_values}
+use Rattle.std.specs.Map.{keys_of}
 use Rattle.indexmap.specs.IndexMap.{insert_entry}
 use Rattle.instance_core.specs.declared.event.CallId.{CallId}
-use Rattle.instance_core.specs.declared.calls.Call.{Call}
-use Rattle.instance_core.specs.Calls.{CallValue, same_call, call_at, with_call, without_call}
-use Rattle.instance_core.specs.Shown.{call_shown, entry_shown}
+use Rattle.instance_core.specs.Calls.{Calls, CallValue, same_call, with_call, without_call, IsShortRequest, KeepShort, AreInCourse}
 
-pub once : (es : List (CallId × Call)) → IsDistinct same_call (keys_of es) → IsDistinct same_call (keys_of (map entry_shown es))
-once es h = rw (keys_of-map_values call_shown es) h
-
-pub at_shown : (id : CallId) (es : List (CallId × Call)) → option_map call_shown (lookup (same_call id) es) ≡ call_at id (map entry_shown es)
-at_shown id [] = refl
-at_shown id (e ∷ es) = go (same_call id e.0) refl (at_shown id es) where
-  go : (b : Bool) → same_call id e.0 ≡ b → option_map call_shown (lookup (same_call id) es) ≡ call_at id (map entry_shown es) → option_map call_shown (lookup (same_call id) (e ∷ es)) ≡ call_at id (map entry_shown (e ∷ es))
+pub inserted : (id : CallId) (call : CallValue) (es : List (CallId × CallValue)) → insert_entry same_call es id call ≡ with_call id call es
+inserted id call [] = refl
+inserted id call (e ∷ es) = go (same_call id e.0) refl (inserted id call es) where
+  go : (b : Bool) → same_call id e.0 ≡ b → insert_entry same_call es id call ≡ with_call id call es → insert_entry same_call (e ∷ es) id call ≡ with_call id call (e ∷ es)
   go true is ih = rw is refl
-  go false is ih = rw is ih
+  go false is ih = rw is (ap (λ (cs : List (CallId × CallValue)). e ∷ cs) ih)
 
-pub without_shown : (id : CallId) (es : List (CallId × Call)) → map entry_shown (remove_entry (same_call id) es) ≡ without_call id (map entry_shown es)
-without_shown id [] = refl
-without_shown id (e ∷ es) = go (same_call id e.0) refl (without_shown id es) where
-  go : (b : Bool) → same_call id e.0 ≡ b → map entry_shown (remove_entry (same_call id) es) ≡ without_call id (map entry_shown es) → map entry_shown (remove_entry (same_call id) (e ∷ es)) ≡ without_call id (map entry_shown (e ∷ es))
-  go true is ih = rw is refl
-  go false is ih = rw is (ap (λ (cs : List (CallId × CallValue)). entry_shown e ∷ cs) ih)
+with_short : (id : CallId) (call : CallValue) (cs : Calls) → IfSome call.message IsShortRequest → KeepShort cs → KeepShort (with_call id call cs)
+with_short id call [] h kept = (h, tt)
+with_short id call (c ∷ cs) h kept = go (same_call id c.0) (with_short id call cs h kept.1) where
+  go : (b : Bool) → KeepShort (with_call id call cs) → KeepShort (cond b ((c.0, call) ∷ cs) (c ∷ with_call id call cs))
+  go true ih = (h, kept.1)
+  go false ih = (kept.0, ih)
 
-pub with_shown : (id : CallId) (call : Call) (es : List (CallId × Call)) → map entry_shown (insert_entry same_call es id call) ≡ with_call id (call_shown call) (map entry_shown es)
-with_shown id call [] = refl
-with_shown id call (e ∷ es) = go (same_call id e.0) refl (with_shown id call es) where
-  go : (b : Bool) → same_call id e.0 ≡ b → map entry_shown (insert_entry same_call es id call) ≡ with_call id (call_shown call) (map entry_shown es) → map entry_shown (insert_entry same_call (e ∷ es) id call) ≡ with_call id (call_shown call) (map entry_shown (e ∷ es))
-  go true is ih = rw is refl
-  go false is ih = rw is (ap (λ (cs : List (CallId × CallValue)). entry_shown e ∷ cs) ih)
+without_short : (id : CallId) (cs : Calls) → KeepShort cs → KeepShort (without_call id cs)
+without_short id [] kept = tt
+without_short id (c ∷ cs) kept = go (same_call id c.0) (without_short id cs kept.1) where
+  go : (b : Bool) → KeepShort (without_call id cs) → KeepShort (cond b cs (c ∷ without_call id cs))
+  go true ih = kept.1
+  go false ih = (kept.0, ih)
+
+-- a call that was put into the map
+pub put_in : (id : CallId) (call : CallValue) (old new : Calls) → new ≡ insert_entry same_call old id call → IsDistinct same_call (keys_of new)
+    → IfSome call.message IsShortRequest → AreInCourse old → AreInCourse new
+put_in id call old new is once short calls = record { once = once; messages = rw (is, inserted id call old) (with_short id call old short calls.messages) }
+
+-- a call that was taken out of it
+pub taken_out : (id : CallId) (old new : Calls) → new ≡ without_call id old → IsDistinct same_call (keys_of new) → AreInCourse old → AreInCourse new
+taken_out id old new is once calls = record { once = once; messages = rw is (without_short id old calls.messages) }

@@ -10,7 +10,7 @@ use Rattle.call_methods.specs.declared.method.Method.TheVariants.{FindMissingBlo
 use Rattle.call_status.specs.declared.refusal.Refusal.{Refusal}
 use Rattle.call_status.specs.declared.refusal.Refusal.TheVariants.{UnknownMethod}
 use Rattle.instance_core.specs.declared.event.CallId.{CallId}
-use Rattle.instance_core.specs.Calls.{Calls, CallValue, CallEventValue, head, message, fault, end, cancel, same_call, call_at, with_call, without_call, IsShortRequest, KeepShort}
+use Rattle.instance_core.specs.Calls.{Calls, CallValue, CallEventValue, head, message, fault, end, cancel, same_call, call_at, IsShortRequest, KeepShort}
 use Rattle.instance_core.specs.State.{InstanceState, WithinLimits}
 use Rattle.instance_core.specs.Methods.{is_served, reply_to}
 use Rattle.instance_core.specs.Answer.{ReplyValue, reply_with, goes_on, at_head, with_message, at_message, at_fault, with_request, at_end, answer, IsShortReply}
@@ -80,19 +80,3 @@ replies_short s (cancel id) w = tt
 pub shown_short : (r : Result (Vec Reply Global) AllocError) (rs : List ReplyValue) → IfOk r (λ replies. map reply_shown replies.items ≡ rs) → AllByRecursion IsShortReply rs → IfOk r (λ replies. AllByRecursion IsShortReply (map reply_shown replies.items))
 shown_short (Ok replies) rs is all = rw is all
 shown_short (Err e) rs is all = tt
-
--- ---- calls
-
-pub with_short : (id : CallId) (call : CallValue) (cs : Calls) → IfSome call.message IsShortRequest → KeepShort cs → KeepShort (with_call id call cs)
-with_short id call [] h kept = (h, tt)
-with_short id call (c ∷ cs) h kept = go (same_call id c.0) (with_short id call cs h kept.1) where
-  go : (b : Bool) → KeepShort (with_call id call cs) → KeepShort (cond b ((c.0, call) ∷ cs) (c ∷ with_call id call cs))
-  go true ih = (h, kept.1)
-  go false ih = (kept.0, ih)
-
-pub without_short : (id : CallId) (cs : Calls) → KeepShort cs → KeepShort (without_call id cs)
-without_short id [] kept = tt
-without_short id (c ∷ cs) kept = go (same_call id c.0) (without_short id cs kept.1) where
-  go : (b : Bool) → KeepShort (without_call id cs) → KeepShort (cond b cs (c ∷ without_call id cs))
-  go true ih = kept.1
-  go false ih = (kept.0, ih)

@@ -2,4 +2,5 @@ mod Entries
 mod Parts
 mod Sizes
 mod Short
-mod Events
+pub mod Events
+mod Kept

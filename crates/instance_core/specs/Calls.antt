@@ -1,7 +1,7 @@
 -- The calls in course of an instance.
 use Rattle.std.specs.Prelude.{ℕ, ◌≤◌, Bool, ◌==◌, ◌&&◌, if◌then◌else◌, List, [], ◌∷◌, length, Option, IfSome}
-use Rattle.std.specs.List.{AllByRecursion}
-use Rattle.std.specs.Map.{lookup, remove_entry}
+use Rattle.std.specs.List.{AllByRecursion, IsDistinct}
+use Rattle.std.specs.Map.{lookup, remove_entry, keys_of}
 use Rattle.call_methods.specs.declared.method.Method.{Method}
 use Rattle.call_status.specs.declared.refusal.Refusal.{Refusal}
 use Rattle.instance_core.specs.declared.event.CallId.{CallId}
@@ -49,3 +49,8 @@ IsShortEvent _ = Unit {0}
 -- no message that is kept is longer
 abbrev pub KeepShort : Calls → Type 0
 KeepShort calls = AllByRecursion (λ (c : CallId × CallValue). IfSome c.1.message IsShortRequest) calls
+
+-- no call stands twice, and no message that is kept is too long
+pub record AreInCourse (calls : Calls) : Type 0 where
+  pub once : IsDistinct same_call (keys_of calls)
+  pub messages : KeepShort calls

@@ -3,7 +3,7 @@ use Rattle.std.specs.Prelude.{◌≡◌, List, [], ◌∷◌, ◌++◌}
 use Rattle.cas_service.specs.Changes as Texts
 use Rattle.instance_core.specs.declared.event.CallId.{CallId}
 use Rattle.instance_core.specs.Calls.{CallValue, with_call, without_call}
-use Rattle.instance_core.specs.State.{InstanceState}
+use Rattle.instance_core.specs.State.{InstanceState, most_blobs}
 
 pub data Change : Type 0 where
   -- a use of a text, or an admission
@@ -14,7 +14,7 @@ pub data Change : Type 0 where
   Ends : CallId → Change
 
 abbrev pub change_made : Change → InstanceState → InstanceState
-change_made (Text c) s = record s { visible = Texts.change_made s.quota c s.visible }
+change_made (Text c) s = record s { visible = Texts.change_made most_blobs s.quota c s.visible }
 change_made (Goes id call) s = record s { calls = with_call id call s.calls }
 change_made (Ends id) s = record s { calls = without_call id s.calls }
 

@@ -1,5 +1,6 @@
 pub mod Calls
 pub mod State
+pub mod Slots
 pub mod Capabilities
 pub mod Methods
 pub mod Changes

@@ -18,10 +18,14 @@ pub record InstanceState : Type 0 where
 abbrev pub opened : List ℕ → ℕ → ℕ → InstanceState
 opened name quota slots = record { name = name; quota = quota; slots = slots; visible = []; calls = [] }
 
+-- an instance has so many texts at most
+abbrev pub most_blobs : ℕ
+most_blobs = 65536
+
 -- the limits that an instance keeps
 pub record WithinLimits (s : InstanceState) : Type 0 where
   pub quota : s.quota ≤ 2 ^ 40
-  pub texts : Within s.quota s.visible
+  pub texts : Within most_blobs s.quota s.visible
   -- no call stands twice
   pub calls : IsDistinct same_call (keys_of s.calls)
   pub messages : KeepShort s.calls

@@ -1,18 +1,19 @@
 //! What an instance answers to each event of a call.
 
-ghost use Rattle.std.specs.Prelude.{◌≡◌, ◌≤◌, ◌^◌, map, Err, IfOk, OnOk, OnErr};
-ghost use Rattle.std.specs.List.{IsDistinct};
-ghost use Rattle.std.specs.Map.{keys_of};
-ghost use Rattle.quota_evict.specs.Within.{Within};
-ghost use Rattle.instance_core.specs.Calls.{same_call, call_at, without_call, IsShortRequest, KeepShort};
+ghost use Rattle.std.specs.Prelude.{◌≡◌, ◌≤◌, ◌^◌, Err, OnOk, OnErr};
+ghost use Rattle.blob_pool.specs.Moves.{Moves};
+ghost use Rattle.instance_view.specs.Shown.{shown, holders};
+ghost use Rattle.quota_evict.specs.Kept.{AreKept};
+ghost use Rattle.instance_core.specs.Calls.{call_at, without_call, IsShortRequest, AreInCourse};
 ghost use Rattle.instance_core.specs.Changes.{MadeInPart, changed};
-ghost use Rattle.instance_core.specs.State.{InstanceState};
+ghost use Rattle.instance_core.specs.State.{InstanceState, most_blobs};
 ghost use Rattle.instance_core.specs.Answer.{ended, at_head, at_message, at_fault, at_end};
-ghost use Rattle.instance_core.specs.Shown.{entry_shown, reply_shown, state_of};
+ghost use Rattle.instance_core.specs.Shown.{Gives, ChangesCalls, state_of};
 
-use crate::calls::{self, Call, Calls};
+use crate::calls::{Call, Calls};
 use crate::event::{CallId, Outcome, Reply};
 use crate::methods::{Settings, answer_request, is_served, reply_with};
+use blob_pool::Pool;
 use call_methods::Method;
 use call_status::Refusal;
 use instance_view::View;
@@ -25,25 +26,19 @@ pub fn on_head(
     id: CallId,
     method: Method,
 ) -> Result<Vec<Reply>, AllocError>
-    requires once { IsDistinct same_call (keys_of (map entry_shown calls.old.entries)) }
-    requires messages { KeepShort (map entry_shown calls.old.entries) }
-    ensures replies { IfOk result (λ replies. map reply_shown replies.items ≡ (at_head id method (call_at id (map entry_shown calls.old.entries))).replies) }
-    ensures changed { (s : InstanceState) → OnOk result (record s { calls = map entry_shown calls.new.entries } ≡ changed (at_head id method (call_at id (map entry_shown calls.old.entries))).changes (record s { calls = map entry_shown calls.old.entries })) }
-    ensures err { OnErr result (map entry_shown calls.new.entries ≡ map entry_shown calls.old.entries) }
-    ensures once { IsDistinct same_call (keys_of (map entry_shown calls.new.entries)) }
-    ensures messages { KeepShort (map entry_shown calls.new.entries) }
+    ensures replies { Gives result (at_head id method (call_at id calls.old)).replies }
+    ensures changed { ChangesCalls result (at_head id method (call_at id calls.old))
+        calls.old calls.new }
+    ensures err { OnErr result (calls.new ≡ calls.old) }
+    ensures calls { AreInCourse calls.new }
 {
-    if calls::find(calls, id).is_some() {
+    if calls.find(id).is_some() {
         return Ok(Vec::new(alloc));
     }
     if !is_served(method) {
         return reply_with(alloc, id, Outcome::Refused(Refusal::UnknownMethod));
     }
-    let call = Call {
-        method,
-        message: None,
-    };
-    calls::put(calls, id, call)?;
+    calls.put(id, Call::new(method))?;
     Ok(Vec::new(alloc))
 }
 
@@ -54,26 +49,21 @@ pub fn on_message(
     id: CallId,
     message: Vec<u8>,
 ) -> Result<Vec<Reply>, AllocError>
-    requires message { IsShortRequest message.items }
-    requires once { IsDistinct same_call (keys_of (map entry_shown calls.old.entries)) }
-    requires messages { KeepShort (map entry_shown calls.old.entries) }
-    ensures replies { IfOk result (λ replies. map reply_shown replies.items ≡ (at_message id message.items (call_at id (map entry_shown calls.old.entries))).replies) }
-    ensures changed { (s : InstanceState) → OnOk result (record s { calls = map entry_shown calls.new.entries } ≡ changed (at_message id message.items (call_at id (map entry_shown calls.old.entries))).changes (record s { calls = map entry_shown calls.old.entries })) }
-    ensures err { OnErr result (map entry_shown calls.new.entries ≡ map entry_shown calls.old.entries) }
-    ensures once { IsDistinct same_call (keys_of (map entry_shown calls.new.entries)) }
-    ensures messages { KeepShort (map entry_shown calls.new.entries) }
+    requires { IsShortRequest message.items }
+    ensures replies { Gives result (at_message id message.items (call_at id calls.old)).replies }
+    ensures changed { ChangesCalls result (at_message id message.items (call_at id calls.old))
+        calls.old calls.new }
+    ensures err { OnErr result (calls.new ≡ calls.old) }
+    ensures calls { AreInCourse calls.new }
 {
-    let Some(call) = calls::find(calls, id) else {
+    let Some(call) = calls.find(id) else {
         return Ok(Vec::new(alloc));
     };
-    if call.message.is_some() {
+    if call.message().is_some() {
         return refuse(alloc, calls, id, Refusal::MoreThanOneMessage);
     }
-    let call = Call {
-        method: call.method,
-        message: Some(message),
-    };
-    calls::put(calls, id, call)?;
+    let call = Call::with_message(call.method(), message);
+    calls.put(id, call)?;
     Ok(Vec::new(alloc))
 }
 
@@ -84,16 +74,14 @@ fn refuse(
     id: CallId,
     refusal: Refusal,
 ) -> Result<Vec<Reply>, AllocError>
-    requires once { IsDistinct same_call (keys_of (map entry_shown calls.old.entries)) }
-    requires messages { KeepShort (map entry_shown calls.old.entries) }
-    ensures replies { IfOk result (λ replies. map reply_shown replies.items ≡ (ended id (Err refusal)).replies) }
-    ensures changed { OnOk result (map entry_shown calls.new.entries ≡ without_call id (map entry_shown calls.old.entries)) }
-    ensures err { OnErr result (map entry_shown calls.new.entries ≡ map entry_shown calls.old.entries) }
-    ensures once { IsDistinct same_call (keys_of (map entry_shown calls.new.entries)) }
-    ensures messages { KeepShort (map entry_shown calls.new.entries) }
+    requires calls { AreInCourse calls.old }
+    ensures replies { Gives result (ended id (Err refusal)).replies }
+    ensures changed { OnOk result (calls.new ≡ without_call id calls.old) }
+    ensures err { OnErr result (calls.new ≡ calls.old) }
+    ensures calls { AreInCourse calls.new }
 {
     let replies = reply_with(alloc, id, Outcome::Refused(refusal))?;
-    calls::end(calls, id);
+    calls.end(id);
     Ok(replies)
 }
 
@@ -104,15 +92,13 @@ pub fn on_fault(
     id: CallId,
     refusal: Refusal,
 ) -> Result<Vec<Reply>, AllocError>
-    requires once { IsDistinct same_call (keys_of (map entry_shown calls.old.entries)) }
-    requires messages { KeepShort (map entry_shown calls.old.entries) }
-    ensures replies { IfOk result (λ replies. map reply_shown replies.items ≡ (at_fault id refusal (call_at id (map entry_shown calls.old.entries))).replies) }
-    ensures changed { (s : InstanceState) → OnOk result (record s { calls = map entry_shown calls.new.entries } ≡ changed (at_fault id refusal (call_at id (map entry_shown calls.old.entries))).changes (record s { calls = map entry_shown calls.old.entries })) }
-    ensures err { OnErr result (map entry_shown calls.new.entries ≡ map entry_shown calls.old.entries) }
-    ensures once { IsDistinct same_call (keys_of (map entry_shown calls.new.entries)) }
-    ensures messages { KeepShort (map entry_shown calls.new.entries) }
+    ensures replies { Gives result (at_fault id refusal (call_at id calls.old)).replies }
+    ensures changed { ChangesCalls result (at_fault id refusal (call_at id calls.old))
+        calls.old calls.new }
+    ensures err { OnErr result (calls.new ≡ calls.old) }
+    ensures calls { AreInCourse calls.new }
 {
-    if calls::find(calls, id).is_none() {
+    if calls.find(id).is_none() {
         return Ok(Vec::new(alloc));
     }
     refuse(alloc, calls, id, refusal)
@@ -123,27 +109,33 @@ pub fn on_end(
     alloc: Global,
     settings: &Settings,
     view: &mut View,
+    pool: &mut Pool,
     calls: &mut Calls,
     id: CallId,
 ) -> Result<Vec<Reply>, AllocError>
     requires quota { settings.now.quota ≤ 2 ^ 40 }
-    requires within { Within settings.now.quota view.old }
-    requires once { IsDistinct same_call (keys_of (map entry_shown calls.old.entries)) }
-    requires messages { KeepShort (map entry_shown calls.old.entries) }
-    ensures replies { IfOk result (λ replies. map reply_shown replies.items ≡ (at_end (state_of settings.now view.old (map entry_shown calls.old.entries)) id (call_at id (map entry_shown calls.old.entries))).replies) }
-    ensures changed { OnOk result (state_of settings.now view.new (map entry_shown calls.new.entries) ≡ changed (at_end (state_of settings.now view.old (map entry_shown calls.old.entries)) id (call_at id (map entry_shown calls.old.entries))).changes (state_of settings.now view.old (map entry_shown calls.old.entries))) }
-    ensures memory { OnErr result (MadeInPart (at_end (state_of settings.now view.old (map entry_shown calls.old.entries)) id (call_at id (map entry_shown calls.old.entries))).changes (state_of settings.now view.old (map entry_shown calls.old.entries)) (state_of settings.now view.new (map entry_shown calls.new.entries))) }
-    ensures within { Within settings.now.quota view.new }
-    ensures once { IsDistinct same_call (keys_of (map entry_shown calls.new.entries)) }
-    ensures messages { KeepShort (map entry_shown calls.new.entries) }
+    requires limit { view.old.limit ≡ most_blobs }
+    requires kept { AreKept settings.now.quota pool.old view.old }
+    ensures replies { let old = state_of settings.now (shown pool.old view.old) calls.old in
+        Gives result (at_end old id (call_at id calls.old)).replies }
+    ensures changed { let old = state_of settings.now (shown pool.old view.old) calls.old in
+        let new = state_of settings.now (shown pool.new view.new) calls.new in
+        OnOk result (new ≡ changed (at_end old id (call_at id calls.old)).changes old) }
+    ensures memory { let old = state_of settings.now (shown pool.old view.old) calls.old in
+        let new = state_of settings.now (shown pool.new view.new) calls.new in
+        OnErr result (MadeInPart (at_end old id (call_at id calls.old)).changes old new) }
+    ensures moves { Moves pool.old pool.new (holders view.old) (holders view.new) }
+    ensures limit { view.new.limit ≡ most_blobs }
+    ensures kept { AreKept settings.now.quota pool.new view.new }
+    ensures calls { AreInCourse calls.new }
 {
-    let Some(call) = calls::find(calls, id) else {
+    let Some(call) = calls.find(id) else {
         return Ok(Vec::new(alloc));
     };
-    let Some(message) = &call.message else {
+    let Some(message) = call.message() else {
         return refuse(alloc, calls, id, Refusal::NoMessage);
     };
-    let replies = answer_request(alloc, settings, view, id, call.method, message)?;
-    calls::end(calls, id);
+    let replies = answer_request(alloc, settings, view, pool, id, call.method(), message)?;
+    calls.end(id);
     Ok(replies)
 }

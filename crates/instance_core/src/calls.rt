@@ -1,53 +1,121 @@
 //! The calls in course.
 
-ghost use Rattle.std.specs.Prelude.{◌≡◌, None, map, option_map, IfSome, OnOk, OnErr};
-ghost use Rattle.std.specs.List.{IsDistinct};
-ghost use Rattle.std.specs.Map.{keys_of};
+ghost use Rattle.std.specs.Prelude.{◌≡◌, [], Some, option_map, IfSome, OnOk, OnErr};
 ghost use Rattle.std.specs.Option.{option_copied};
-ghost use Rattle.instance_core.specs.Calls.{same_call, call_at, with_call, without_call, IsShortRequest, KeepShort};
-ghost use Rattle.instance_core.specs.Shown.{call_shown, entry_shown};
+ghost use Rattle.instance_core.specs.Calls.{call_at, with_call, without_call, IsShortRequest, AreInCourse};
 
 use crate::event::CallId;
 use call_methods::Method;
 use indexmap::IndexMap;
-use std::alloc::AllocError;
+use std::alloc::{AllocError, Global};
+use std::marker::Model;
 
 /// A call in course.
 #[derive(Drop)]
 pub struct Call {
-    pub method: Method,
+    method: Method,
     /// The message of its request, where that has come.
-    pub message: Option<Vec<u8>>,
+    message: Option<Vec<u8>>,
 }
 
-pub type Calls = IndexMap<CallId, Call>;
+impl Model for Call {
+    ghost use Rattle.std.specs.Prelude.{option_map};
+    ghost use Rattle.instance_core.specs.Calls.{CallValue};
 
-/// The call of that name.
-pub fn find<'a>(calls: &'a Calls, id: CallId) -> Option<&'a Call>
-    ensures { option_map call_shown (option_copied result) ≡ call_at id (map entry_shown calls.now.entries) }
-{
-    calls.get(&id)
+    ghost Value = { CallValue };
+
+    ghost view = { λ c. record {
+      method = c.method;
+      message = option_map (λ bytes. bytes.items) c.message;
+    } };
 }
 
-/// Puts a call in the place of the one of that name, or behind all others.
-pub fn put(calls: &mut Calls, id: CallId, call: Call) -> Result<(), AllocError>
-    requires message { IfSome (call_shown call).message IsShortRequest }
-    requires messages { KeepShort (map entry_shown calls.old.entries) }
-    ensures ok { OnOk result (map entry_shown calls.new.entries ≡ with_call id (call_shown call) (map entry_shown calls.old.entries)) }
-    ensures err { OnErr result (map entry_shown calls.new.entries ≡ map entry_shown calls.old.entries) }
-    ensures once { IsDistinct same_call (keys_of (map entry_shown calls.new.entries)) }
-    ensures messages { KeepShort (map entry_shown calls.new.entries) }
-{
-    calls.insert(id, call)?;
-    Ok(())
+impl Call {
+    /// A call whose request has not brought a message yet.
+    pub fn new(method: Method) -> Call
+        ensures { result ≡ record { method = method; message = None } }
+    {
+        Call {
+            method,
+            message: None,
+        }
+    }
+
+    /// A call whose request has brought its message.
+    pub fn with_message(method: Method, message: Vec<u8>) -> Call
+        ensures { result ≡ record { method = method; message = Some message.items } }
+    {
+        Call {
+            method,
+            message: Some(message),
+        }
+    }
+
+    pub fn method(&self) -> Method
+        ensures { result ≡ self.now.method }
+    {
+        self.method
+    }
+
+    /// The message of its request, where that has come.
+    pub fn message(&self) -> Option<&[u8]>
+        ensures { option_copied result ≡ self.now.message }
+    {
+        self.message.as_deref()
+    }
 }
 
-/// Takes out the call of that name. The others keep their order.
-pub fn end(calls: &mut Calls, id: CallId)
-    requires messages { KeepShort (map entry_shown calls.old.entries) }
-    ensures ended { map entry_shown calls.new.entries ≡ without_call id (map entry_shown calls.old.entries) }
-    ensures once { IsDistinct same_call (keys_of (map entry_shown calls.new.entries)) }
-    ensures messages { KeepShort (map entry_shown calls.new.entries) }
-{
-    calls.shift_remove(&id);
+/// The calls in course, in the order in which they began.
+#[derive(Drop)]
+pub struct Calls {
+    by_id: IndexMap<CallId, Call>,
+}
+
+impl Model for Calls {
+    ghost use Rattle.instance_core.specs.Calls.{Calls as ListOfCalls, AreInCourse};
+
+    ghost Value = { ListOfCalls };
+
+    ghost view = { λ c. c.by_id.entries };
+
+    ghost invariant = { λ c. AreInCourse c.by_id.entries };
+}
+
+impl Calls {
+    /// No calls yet.
+    pub fn new(alloc: Global) -> Calls
+        ensures none { result ≡ [] }
+        ensures calls { AreInCourse result }
+    {
+        Calls {
+            by_id: IndexMap::new(alloc),
+        }
+    }
+
+    /// The call of that name.
+    pub fn find(&self, id: CallId) -> Option<&Call>
+        ensures found { option_copied result ≡ call_at id self.now }
+        ensures calls { AreInCourse self.now }
+    {
+        self.by_id.get(&id)
+    }
+
+    /// Puts a call in the place of the one of that name, or behind all others.
+    pub fn put(&mut self, id: CallId, call: Call) -> Result<(), AllocError>
+        requires message { IfSome call.message IsShortRequest }
+        ensures ok { OnOk result (self.new ≡ with_call id call self.old) }
+        ensures err { OnErr result (self.new ≡ self.old) }
+        ensures calls { AreInCourse self.new }
+    {
+        self.by_id.insert(id, call)?;
+        Ok(())
+    }
+
+    /// Takes out the call of that name. The others keep their order.
+    pub fn end(&mut self, id: CallId)
+        ensures ended { self.new ≡ without_call id self.old }
+        ensures calls { AreInCourse self.new }
+    {
+        self.by_id.shift_remove(&id);
+    }
 }

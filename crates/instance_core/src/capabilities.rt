@@ -89,7 +89,8 @@ pub fn get_capabilities(
     slots: u32,
     message: &[u8],
 ) -> Result<Vec<u8>, CallError>
-    ensures { Answers (λ reply. reply.items) result (get_capabilities_reply own.now slots message.now) }
+    ensures { Answers (λ reply. reply.items) result
+        (get_capabilities_reply own.now slots message.now) }
 {
     check_request(alloc, own, message)?;
     let reply = capabilities_message(alloc, slots)?;

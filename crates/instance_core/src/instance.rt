@@ -1,20 +1,26 @@
-ghost use Rattle.std.specs.Prelude.{◌≡◌, ◌≤◌, ◌^◌, [], map, OnOk, OnErr, IfOk};
-ghost use Rattle.std.specs.List.{AllByRecursion};
+ghost use Rattle.std.specs.Prelude.{◌≡◌, ◌≤◌, ◌^◌, ℕ, [], OnOk, OnErr, IfOk};
+ghost use Rattle.blob_pool.specs.Held.{Slots};
+ghost use Rattle.blob_pool.specs.Moves.{Moves};
 ghost use Rattle.instance_core.specs.Calls.{IsShortEvent, cancel};
 ghost use Rattle.instance_core.specs.State.{WithinLimits, opened};
-ghost use Rattle.instance_core.specs.Changes.{MadeInPart, changed};
-ghost use Rattle.instance_core.specs.Answer.{answer, after, IsShortReply};
-ghost use Rattle.instance_core.specs.Shown.{event_shown, reply_shown};
+ghost use Rattle.instance_core.specs.Slots.{state_in, holders_of, IsKept};
+ghost use Rattle.instance_core.specs.Changes.{MadeInPart};
+ghost use Rattle.instance_core.specs.Answer.{answer, after};
+ghost use Rattle.instance_core.specs.Shown.{Gives, GivesShort, event_shown};
 
 use crate::answers::{on_end, on_fault, on_head, on_message};
-use crate::calls::{self, Calls};
+use crate::calls::Calls;
 use crate::event::{CallEvent, CallId, Reply};
 use crate::methods::Settings;
+use blob_pool::Pool;
 use instance_view::View;
 use std::alloc::{AllocError, Global};
 use std::marker::Model;
 
-/// One instance of the server.
+/// How many texts an instance has at most.
+const MOST_BLOBS: usize = 65_536;
+
+/// One instance of the server. Its texts lie in a pool that it shares with other instances.
 #[derive(Drop)]
 pub struct Instance {
     settings: Settings,
@@ -23,29 +29,33 @@ pub struct Instance {
 }
 
 impl Model for Instance {
-    ghost use Rattle.std.specs.Prelude.{◌≤◌, ◌^◌, map};
-    ghost use Rattle.std.specs.List.{IsDistinct};
-    ghost use Rattle.std.specs.Map.{keys_of};
-    ghost use Rattle.quota_evict.specs.Within.{Within};
-    ghost use Rattle.instance_core.specs.Calls.{same_call, KeepShort};
-    ghost use Rattle.instance_core.specs.State.{InstanceState};
-    ghost use Rattle.instance_core.specs.Shown.{entry_shown, state_of};
+    ghost use Rattle.std.specs.Prelude.{◌≡◌, ◌≤◌, ◌^◌};
+    ghost use Rattle.instance_core.specs.Slots.{InstanceSlots};
 
-    ghost Value = { InstanceState };
+    ghost Value = { InstanceSlots };
 
-    ghost view = { λ i. state_of i.settings i.view (map entry_shown i.calls.entries) };
+    ghost use Rattle.instance_core.specs.Calls.{AreInCourse};
+    ghost use Rattle.instance_core.specs.State.{most_blobs};
+    ghost use Rattle.instance_core.specs.Shown.{slots_of};
 
-    ghost invariant = { λ i. (i.settings.quota ≤ 2 ^ 40) × Within i.settings.quota i.view × IsDistinct same_call (keys_of (map entry_shown i.calls.entries)) × KeepShort (map entry_shown i.calls.entries) };
+    ghost view = { λ i. slots_of i.settings i.view i.calls };
+
+    ghost invariant = { λ i.
+        (i.settings.quota ≤ 2 ^ 40) × (i.view.limit ≡ most_blobs) × AreInCourse i.calls };
 }
 
 impl Instance {
-    /// An instance that has no texts and no calls yet.
+    /// An instance of at most 2^40 bytes that has no texts and no calls yet.
     pub fn new(alloc: Global, name: &str, quota: u64, slots: u32) -> Result<Instance, AllocError>
         requires { quota ≤ 2 ^ 40 }
-        ensures { IfOk result (λ instance. instance ≡ opened name.now quota slots) }
+        ensures opened { (p : Slots) →
+            IfOk result (λ instance. state_in p instance ≡ opened name.now quota slots) }
+        ensures within { (p : Slots) →
+            IfOk result (λ instance. WithinLimits (state_in p instance)) }
+        ensures holders { (k : ℕ) → IfOk result (λ instance. holders_of instance k ≡ 0) }
     {
         let name = String::from_str(alloc, name)?;
-        let view = View::new(alloc)?;
+        let view = View::new(alloc, MOST_BLOBS)?;
         Ok(Instance {
             settings: Settings { name, quota, slots },
             view,
@@ -54,23 +64,41 @@ impl Instance {
     }
 
     /// Carries out an event of a call, and gives the replies that it brings. An event of a call that is not in course,
-    /// or no more, brings none. One that ends for want of memory may have made the first of its changes.
-    pub fn call_event(&mut self, alloc: Global, event: CallEvent) -> Result<Vec<Reply>, AllocError>
+    /// or no more, brings none. One that ends for want of memory may have made the first of its changes. Other holders
+    /// of the pool find their texts as before.
+    pub fn call_event(
+        &mut self,
+        alloc: Global,
+        pool: &mut Pool,
+        event: CallEvent,
+    ) -> Result<Vec<Reply>, AllocError>
         requires short { IsShortEvent (event_shown event) }
-        ensures replies { IfOk result (λ replies. map reply_shown replies.items ≡ (answer self.old (event_shown event)).replies) }
-        ensures changed { OnOk result (self.new ≡ changed (answer self.old (event_shown event)).changes self.old) }
-        ensures memory { OnErr result (MadeInPart (answer self.old (event_shown event)).changes self.old self.new) }
-        ensures within { WithinLimits self.new }
-        ensures config { (self.new.name ≡ self.old.name) × (self.new.quota ≡ self.old.quota) × (self.new.slots ≡ self.old.slots) }
-        ensures short { IfOk result (λ replies. AllByRecursion IsShortReply (map reply_shown replies.items)) }
+        requires kept { IsKept pool.old self.old }
+        ensures replies { let old = state_in pool.old self.old in
+            Gives result (answer old (event_shown event)).replies }
+        ensures changed { let old = state_in pool.old self.old in
+            OnOk result (state_in pool.new self.new ≡ after old (event_shown event)) }
+        ensures memory { let old = state_in pool.old self.old in
+            let changes = (answer old (event_shown event)).changes in
+            OnErr result (MadeInPart changes old (state_in pool.new self.new)) }
+        ensures moves { Moves pool.old pool.new (holders_of self.old) (holders_of self.new) }
+        ensures kept { IsKept pool.new self.new }
+        ensures config { (self.new.name ≡ self.old.name) × (self.new.quota ≡ self.old.quota)
+            × (self.new.slots ≡ self.old.slots) }
+        ensures short { GivesShort result }
     {
         match event {
             CallEvent::Head(id, method) => on_head(alloc, &mut self.calls, id, method),
             CallEvent::Message(id, message) => on_message(alloc, &mut self.calls, id, message),
             CallEvent::Fault(id, refusal) => on_fault(alloc, &mut self.calls, id, refusal),
-            CallEvent::End(id) => {
-                on_end(alloc, &self.settings, &mut self.view, &mut self.calls, id)
-            }
+            CallEvent::End(id) => on_end(
+                alloc,
+                &self.settings,
+                &mut self.view,
+                pool,
+                &mut self.calls,
+                id,
+            ),
             CallEvent::Cancel(id) => {
                 self.cancel(id);
                 Ok(Vec::new(alloc))
@@ -78,13 +106,17 @@ impl Instance {
         }
     }
 
-    /// Nobody waits for the call any more: it ends without a reply. This takes no memory.
+    /// Nobody waits for the call any more: it ends without a reply. This takes no memory, and is the same over every
+    /// pool.
     pub fn cancel(&mut self, call: CallId)
-        ensures replies { (answer self.old (cancel call)).replies ≡ [] }
-        ensures changed { self.new ≡ after self.old (cancel call) }
-        ensures within { WithinLimits self.new }
-        ensures config { (self.new.name ≡ self.old.name) × (self.new.quota ≡ self.old.quota) × (self.new.slots ≡ self.old.slots) }
+        ensures replies { (p : Slots) → (answer (state_in p self.old) (cancel call)).replies ≡ [] }
+        ensures changed { (p : Slots) →
+            state_in p self.new ≡ after (state_in p self.old) (cancel call) }
+        ensures holders { (k : ℕ) → holders_of self.new k ≡ holders_of self.old k }
+        ensures kept { (p : Slots) → IsKept p self.old → IsKept p self.new }
+        ensures config { (self.new.name ≡ self.old.name) × (self.new.quota ≡ self.old.quota)
+            × (self.new.slots ≡ self.old.slots) }
     {
-        calls::end(&mut self.calls, call);
+        self.calls.end(call);
     }
 }

@@ -1,11 +1,11 @@
 -- What a script of events prints: the outputs of its instances, each alone, and then the events of no instance.
-use Rattle.std.specs.Prelude.{ℕ, zero, suc, ◌+◌, List, [], ◌∷◌, ◌++◌, length, Result, Ok, Err}
+use Rattle.std.specs.Prelude.{ℕ, ◌+◌, List, [], ◌∷◌, ◌++◌, Result, Ok, Err}
 use Rattle.served_instance.specs.declared.refusal.EventRefusal.{EventRefusal}
 use Rattle.served_instance.specs.Codes.{code_of}
 use Rattle.run_record.specs.Outputs.{OutputValue}
 use Rattle.server_core.specs.Lone.{lone, strays}
 use Rattle.server_events.specs.Configs.{ConfigValue}
-use Rattle.server_events.specs.Events.{EventValue}
+use Rattle.server_events.specs.Events.{EventValue, own_events}
 use Rattle.replay_lines.specs.Lines.{sent_line, refusal_line, stray_line}
 use Rattle.replay_script.specs.Script.{ScriptValue, script_of}
 
@@ -28,15 +28,15 @@ abbrev pub stray_lines : List ℕ → List ℕ
 stray_lines [] = []
 stray_lines (place ∷ rest) = stray_line place ++ stray_lines rest
 
--- what came of each of so many instances from this number on: each gives what it would give alone
-abbrev pub lone_lines : List ConfigValue → List EventValue → ℕ → ℕ → List ℕ
-lone_lines configs events instance zero = []
-lone_lines configs events instance (suc count) =
-    output_lines instance (lone configs instance events) ++ lone_lines configs events (instance + 1) count
+-- what came of each instance, of which the first has this number: each gives what it would give alone
+abbrev pub lone_lines : ℕ → List ConfigValue → List EventValue → List ℕ
+lone_lines instance [] events = []
+lone_lines instance (config ∷ configs) events =
+    output_lines instance (lone config (own_events instance events)) ++ lone_lines (instance + 1) configs events
 
 -- what a script prints
 abbrev pub printed : ScriptValue → List ℕ
-printed script = lone_lines script.configs script.events 0 (length script.configs) ++ stray_lines (strays script.configs script.events)
+printed script = lone_lines 0 script.configs script.events ++ stray_lines (strays script.configs script.events)
 
 abbrev pub printed_of : Result ScriptValue ℕ → Result (List ℕ) ℕ
 printed_of (Ok script) = Ok (printed script)

@@ -1,11 +1,11 @@
 //! What is noted of the run of one instance.
 
-ghost use Rattle.std.specs.Prelude.{◌≡◌, ◌≢◌, ◌<◌, ◌+◌, ◌-◌, ◌^◌, ◌==◌, not, map, filter, length, drop, Result, Err, IfOk, OnOk};
+ghost use Rattle.std.specs.Prelude.{◌≡◌, ◌≢◌, ◌<◌, ◌+◌, ◌-◌, ◌^◌, ◌==◌, not, map, filter, length, drop, Result, Err, IfOk, OnOk, OnErr};
 ghost use Rattle.server_events.specs.Configs.{ConfigValue};
 ghost use Rattle.server_events.specs.Shown.{event_value, what_value};
 ghost use Rattle.served_instance.specs.Lone.{Lone};
 ghost use Rattle.served_instance.specs.Refusals.{refusal_of, lone_step, IsOutcome};
-ghost use Rattle.served_instance.specs.StandsFor.{StandsFor as IsServed};
+ghost use Rattle.served_instance.specs.Slots.{HasConnections};
 ghost use Rattle.run_record.specs.Runs.{Run, begun, run_step, output_of};
 ghost use Rattle.run_record.specs.Shown.{sent_shown, output_shown};
 ghost use Rattle.run_record.specs.Notes.{taken_on, open_after, sent_after, more_at, gathered_on, gathered, counted_on};
@@ -61,7 +61,8 @@ impl InstanceRecord {
     }
 
     /// Notes an event that the instance took or refused, and the bytes that it put. The instance is as the event
-    /// left it. After a refusal of memory the record is to be dropped.
+    /// left it. Where memory is refused the event is counted, no refusal is noted, and of the bytes some may be: the
+    /// record stands for no run any more, and is to be dropped.
     pub fn note(
         &mut self,
         instance: &ServedInstance,
@@ -70,8 +71,12 @@ impl InstanceRecord {
     ) -> Result<(), AllocError>
         requires memory { outcome ≢ Err EventRefusal.NoMemory }
         requires room { self.old.count < 2 ^ 64 - 1 }
-        ensures stands { OnOk result ((r : Run) → StandsFor self.old r → IsOutcome outcome (refusal_of (event_value event.now) r.lone) → IsServed instance.now (lone_step (event_value event.now) r.lone) → StandsFor self.new (run_step r (event_value event.now))) }
-        ensures count { OnOk result (self.new.count ≡ self.old.count + 1) }
+        ensures stands { OnOk result ((r : Run) → StandsFor self.old r
+            → IsOutcome outcome (refusal_of (event_value event.now) r.lone)
+            → HasConnections instance.now (lone_step (event_value event.now) r.lone)
+            → StandsFor self.new (run_step r (event_value event.now))) }
+        ensures count { self.new.count ≡ self.old.count + 1 }
+        ensures err { OnErr result (self.new.refusals ≡ self.old.refusals) }
     {
         self.count += 1;
         match outcome {
@@ -106,8 +111,10 @@ fn follow(
     live: &mut Vec<OpenRecord>,
     what: &What,
 ) -> Result<(), AllocError>
-    ensures sent { OnOk result (map sent_shown sent.new.items ≡ sent_after (what_value what.now) (map sent_shown sent.old.items)) }
-    ensures live { OnOk result (live.new.items ≡ open_after (what_value what.now) (length (map sent_shown sent.old.items)) live.old.items) }
+    ensures sent { OnOk result (map sent_shown sent.new.items
+        ≡ sent_after (what_value what.now) (map sent_shown sent.old.items)) }
+    ensures live { OnOk result (live.new.items ≡ open_after (what_value what.now)
+        (length (map sent_shown sent.old.items)) live.old.items) }
 {
     match what {
         What::Open(number) => {
@@ -167,7 +174,8 @@ fn gather(
     live: &[OpenRecord],
     instance: &ServedInstance,
 ) -> Result<(), AllocError>
-    ensures { OnOk result ((l : Lone) → IsServed instance.now l → map sent_shown sent.new.items ≡ gathered l live.now (map sent_shown sent.old.items)) }
+    ensures { OnOk result ((l : Lone) → HasConnections instance.now l
+        → map sent_shown sent.new.items ≡ gathered l live.now (map sent_shown sent.old.items)) }
 {
     for connection in live {
         gather_from(sent, connection, instance)?;
@@ -182,7 +190,9 @@ fn gather_from(
     connection: &OpenRecord,
     instance: &ServedInstance,
 ) -> Result<(), AllocError>
-    ensures { OnOk result ((l : Lone) → IsServed instance.now l → map sent_shown sent.new.items ≡ gathered_on l (map sent_shown sent.old.items) connection.now) }
+    ensures { OnOk result ((l : Lone) → HasConnections instance.now l
+        → map sent_shown sent.new.items ≡ gathered_on l (map sent_shown sent.old.items)
+        connection.now) }
 {
     match instance.pending(connection.number) {
         None => Ok(()),
@@ -196,7 +206,8 @@ fn gather_from(
 
 /// More bytes of the connection at this place. In a record of a run each open connection has its place in `sent`.
 fn append(sent: &mut Vec<SentBytes>, place: usize, more: &[u8]) -> Result<(), AllocError>
-    ensures { OnOk result (map sent_shown sent.new.items ≡ more_at place more.now (map sent_shown sent.old.items)) }
+    ensures { OnOk result (map sent_shown sent.new.items
+        ≡ more_at place more.now (map sent_shown sent.old.items)) }
 {
     if place < sent.len() {
         sent[place].bytes.extend_from_slice(more)?;
@@ -206,7 +217,7 @@ fn append(sent: &mut Vec<SentBytes>, place: usize, more: &[u8]) -> Result<(), Al
 
 /// Counts on each open connection the bytes that were not taken.
 fn count_untaken(live: &mut [OpenRecord], instance: &ServedInstance)
-    ensures { (l : Lone) → IsServed instance.now l → live.new ≡ map (counted_on l) live.old }
+    ensures { (l : Lone) → HasConnections instance.now l → live.new ≡ map (counted_on l) live.old }
 {
     for connection in live.iter_mut() {
         count_on(connection, instance);
@@ -215,7 +226,8 @@ fn count_untaken(live: &mut [OpenRecord], instance: &ServedInstance)
 
 /// Counts the bytes of an open connection that were not taken.
 fn count_on(connection: &mut OpenRecord, instance: &ServedInstance)
-    ensures { (l : Lone) → IsServed instance.now l → connection.new ≡ counted_on l connection.old }
+    ensures { (l : Lone) → HasConnections instance.now l
+        → connection.new ≡ counted_on l connection.old }
 {
     connection.untaken = instance
         .pending(connection.number)

@@ -8,3 +8,4 @@ pub mod Frames
 pub mod Leads
 pub mod Gives
 pub mod Closes
+pub mod Kept

@@ -4,6 +4,7 @@ pub mod Codes
 pub mod Lone
 pub mod Refusals
 pub mod StandsFor
+pub mod Slots
 pub mod Shown
 pub mod Present
 pub mod Acts

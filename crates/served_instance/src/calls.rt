@@ -1,15 +1,18 @@
 //! What happens to the calls on an instance's connections.
 
-ghost use Rattle.std.specs.Prelude.{◌≡◌, ◌<◌, ◌≤◌, List, false, IsTrue, IfOk, OnOk, length};
+ghost use Rattle.std.specs.Prelude.{◌≡◌, ◌<◌, ◌≤◌, ℕ, List, false, IsTrue, IfOk, OnOk, length};
 ghost use Rattle.instance_core.specs.Calls.{IsShortEvent};
 ghost use Rattle.instance_core.specs.Shown.{event_shown};
-ghost use Rattle.instance_core.specs.State.{WithinLimits};
+ghost use Rattle.instance_core.specs.Slots.{state_in, holders_of, IsKept};
+ghost use Rattle.blob_pool.specs.Held.{Slots};
+ghost use Rattle.blob_pool.specs.Moves.{Moves};
 ghost use Rattle.served_instance.specs.declared.open_connection.OpenConnection.{OpenConnection};
 ghost use Rattle.served_instance.specs.Acts.{Acts, LeadsOn, Keeps, kept_at, unread_at, rest_read, cancels_of};
 ghost use Rattle.served_instance.specs.Lone.{Lone, happened, all_happened, due_happened, bytes_came, was_closed};
 
 use crate::open_connection::{OpenConnection, feed, find, pop_event, read_frame};
 use crate::replies::{call_event_on, give_all};
+use blob_pool::Pool;
 use conn_core::Connection;
 use instance_core::{CallEvent, CallId, Instance};
 use std::alloc::{AllocError, Global};
@@ -17,33 +20,42 @@ use std::alloc::{AllocError, Global};
 /// Something happens to a call: the instance answers.
 fn happen(
     alloc: Global,
+    pool: &mut Pool,
     instance: &mut Instance,
     connections: &mut [OpenConnection],
     event: CallEvent,
 ) -> Result<(), AllocError>
     requires short { IsShortEvent (event_shown event) }
-    ensures happened { OnOk result (Acts instance.old connections.old instance.new connections.new (happened (event_shown event))) }
+    requires kept { IsKept pool.old instance.old }
+    ensures happened { OnOk result (Acts (state_in pool.old instance.old) connections.old
+        (state_in pool.new instance.new) connections.new (happened (event_shown event))) }
     ensures rest { OnOk result (Keeps connections.old connections.new) }
-    ensures within { WithinLimits instance.new }
+    ensures moves { Moves pool.old pool.new (holders_of instance.old) (holders_of instance.new) }
+    ensures kept { IsKept pool.new instance.new }
 {
-    let replies = instance.call_event(alloc, event)?;
+    let replies = instance.call_event(alloc, pool, event)?;
     give_all(connections, &replies)
 }
 
 /// What is due on the connection happens.
 fn give_due(
     alloc: Global,
+    pool: &mut Pool,
     instance: &mut Instance,
     connections: &mut [OpenConnection],
     number: u32,
 ) -> Result<(), AllocError>
-    requires within { WithinLimits instance.old }
-    ensures due { OnOk result (Acts instance.old connections.old instance.new connections.new (due_happened number)) }
-    ensures unread { OnOk result (unread_at number connections.new ≡ unread_at number connections.old) }
-    ensures within { WithinLimits instance.new }
+    requires kept { IsKept pool.old instance.old }
+    ensures due { OnOk result (Acts (state_in pool.old instance.old) connections.old
+        (state_in pool.new instance.new) connections.new (due_happened number)) }
+    ensures unread { OnOk result (unread_at number connections.new
+        ≡ unread_at number connections.old) }
+    ensures moves { Moves pool.old pool.new (holders_of instance.old) (holders_of instance.new) }
+    ensures kept { IsKept pool.new instance.new }
 {
     'events: while let Some(event) = pop_event(connections, number) {
-        happen(alloc, instance, connections, call_event_on(number, event))?;
+        let event = call_event_on(number, event);
+        happen(alloc, pool, instance, connections, event)?;
     }
     Ok(())
 }
@@ -51,18 +63,24 @@ fn give_due(
 /// Reads the next whole frame of the connection, if there is one, and gives the instance what it brings to calls.
 fn read_next(
     alloc: Global,
+    pool: &mut Pool,
     instance: &mut Instance,
     connections: &mut [OpenConnection],
     number: u32,
 ) -> Result<bool, AllocError>
-    requires within { WithinLimits instance.old }
-    ensures reads { OnOk result (LeadsOn instance.old connections.old instance.new connections.new (rest_read number) (rest_read number)) }
-    ensures ends { IfOk result (λ more. more ≡ false → Acts instance.old connections.old instance.new connections.new (rest_read number)) }
-    ensures fewer { IfOk result (λ more. IsTrue more → unread_at number connections.new < unread_at number connections.old) }
-    ensures within { WithinLimits instance.new }
+    requires kept { IsKept pool.old instance.old }
+    ensures reads { OnOk result (LeadsOn (state_in pool.old instance.old) connections.old
+        (state_in pool.new instance.new) connections.new (rest_read number) (rest_read number)) }
+    ensures ends { IfOk result (λ more. more ≡ false
+        → Acts (state_in pool.old instance.old) connections.old (state_in pool.new instance.new)
+        connections.new (rest_read number)) }
+    ensures fewer { IfOk result (λ more. IsTrue more
+        → unread_at number connections.new < unread_at number connections.old) }
+    ensures moves { Moves pool.old pool.new (holders_of instance.old) (holders_of instance.new) }
+    ensures kept { IsKept pool.new instance.new }
 {
     if read_frame(connections, number)? {
-        give_due(alloc, instance, connections, number)?;
+        give_due(alloc, pool, instance, connections, number)?;
         Ok(true)
     } else {
         Ok(false)
@@ -72,26 +90,30 @@ fn read_next(
 /// Reads all whole frames, and gives the instance what each brings to calls before the next is read.
 pub(crate) fn receive(
     alloc: Global,
+    pool: &mut Pool,
     instance: &mut Instance,
     connections: &mut [OpenConnection],
     number: u32,
     bytes: &[u8],
 ) -> Result<(), AllocError>
-    requires within { WithinLimits instance.old }
-    ensures came { OnOk result (Acts instance.old connections.old instance.new connections.new (bytes_came number bytes.now)) }
-    ensures within { WithinLimits instance.new }
+    requires kept { IsKept pool.old instance.old }
+    ensures came { OnOk result (Acts (state_in pool.old instance.old) connections.old
+        (state_in pool.new instance.new) connections.new (bytes_came number bytes.now)) }
+    ensures moves { Moves pool.old pool.new (holders_of instance.old) (holders_of instance.new) }
+    ensures kept { IsKept pool.new instance.new }
 {
     feed(connections, number, bytes)?;
-    'frames: while read_next(alloc, instance, connections, number)? {}
+    'frames: while read_next(alloc, pool, instance, connections, number)? {}
     Ok(())
 }
 
 /// The connection goes, and each of its calls is given up. This takes no memory.
 pub(crate) fn close(instance: &mut Instance, connections: &mut Vec<OpenConnection>, number: u32)
-    requires within { WithinLimits instance.old }
-    ensures closed { Acts instance.old connections.old.items instance.new connections.new.items (was_closed number) }
+    ensures closed { (p : Slots) → Acts (state_in p instance.old) connections.old.items
+        (state_in p instance.new) connections.new.items (was_closed number) }
     ensures fewer { length connections.new.items ≤ length connections.old.items }
-    ensures within { WithinLimits instance.new }
+    ensures holders { (k : ℕ) → holders_of instance.new k ≡ holders_of instance.old k }
+    ensures kept { (p : Slots) → IsKept p instance.old → IsKept p instance.new }
 {
     match find(connections, number) {
         None => {}
@@ -104,9 +126,11 @@ pub(crate) fn close(instance: &mut Instance, connections: &mut Vec<OpenConnectio
 
 /// Each call of the closed connection is given up, which is nothing to any other connection.
 fn give_up(instance: &mut Instance, number: u32, mut closed: Connection)
-    requires within { WithinLimits instance.old }
-    ensures cancelled { (others : List OpenConnection) → Acts instance.old others instance.new others (all_happened number (cancels_of closed)) }
-    ensures within { WithinLimits instance.new }
+    ensures cancelled { (p : Slots) (others : List OpenConnection)
+        → Acts (state_in p instance.old) others (state_in p instance.new) others
+        (all_happened number (cancels_of closed)) }
+    ensures holders { (k : ℕ) → holders_of instance.new k ≡ holders_of instance.old k }
+    ensures kept { (p : Slots) → IsKept p instance.old → IsKept p instance.new }
 {
     'calls: while let Some(stream) = closed.pop_call() {
         instance.cancel(CallId {

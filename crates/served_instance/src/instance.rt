@@ -1,6 +1,6 @@
 //! One instance and its connections.
 
-ghost use Rattle.std.specs.Prelude.{◌≡◌, ◌≢◌, ◌≤◌, ◌<◌, ◌^◌, List, None, length, map, Option, option_map, string_bytes, IfSome, IfOk, OnOk, OnErr, IfErr};
+ghost use Rattle.std.specs.Prelude.{◌≡◌, ◌≢◌, ◌≤◌, ◌<◌, ◌^◌, ℕ, List, None, length, map, Option, option_map, string_bytes, IfSome, IfOk, OnOk, OnErr, IfErr};
 ghost use Rattle.server_events.specs.Shown.{event_value, what_value};
 ghost use Rattle.grpc_sending.specs.Bytes.{most_untaken, pending};
 ghost use Rattle.http2_streams.specs.Diary.{has_failed};
@@ -12,11 +12,16 @@ ghost use Rattle.served_instance.specs.StandsFor.{StandsFor, IsWithin, AreServed
 ghost use Rattle.served_instance.specs.Present.{refusal_by, refusal_by_what, refusal_to_open, unless_kept, refusal_to_take};
 ghost use Rattle.served_instance.specs.Shown.{served};
 ghost use Rattle.served_instance.specs.Acts.{Acts};
-ghost use Rattle.instance_core.specs.State.{InstanceState, WithinLimits};
+ghost use Rattle.instance_core.specs.State.{InstanceState};
+ghost use Rattle.instance_core.specs.Slots.{state_in, holders_of as instance_holders, IsKept as IsInstanceKept};
+ghost use Rattle.served_instance.specs.Slots.{served_in, holders_of, IsKept, HasConnections};
+ghost use Rattle.blob_pool.specs.Held.{Slots};
+ghost use Rattle.blob_pool.specs.Moves.{Moves, nobody};
 
 use crate::calls::{close, receive};
 use crate::open_connection::{OpenConnection, connection_at, take};
 use crate::refusal::EventRefusal;
+use blob_pool::Pool;
 use conn_core::Connection;
 use instance_core::Instance;
 use server_events::{Event, InstanceConfig, What};
@@ -38,23 +43,24 @@ pub struct ServedInstance {
 
 impl Model for ServedInstance {
     ghost use Rattle.std.specs.Prelude.{◌≤◌, map, length};
-    ghost use Rattle.instance_core.specs.State.{WithinLimits};
-    ghost use Rattle.served_instance.specs.StandsFor.{ServedState};
+    ghost use Rattle.served_instance.specs.Slots.{ServedSlots};
     ghost use Rattle.served_instance.specs.Shown.{served};
 
-    ghost Value = { ServedState };
+    ghost Value = { ServedSlots };
 
-    ghost view = { λ s. record { state = s.instance; moment = s.moment; connections = map served s.connections.items } };
+    ghost view = { λ s. record { instance = s.instance; moment = s.moment; connections = map served s.connections.items } };
 
-    ghost invariant = { λ s. WithinLimits s.instance × (length s.connections.items ≤ 64) };
+    ghost invariant = { λ s. length s.connections.items ≤ 64 };
 }
 
 impl ServedInstance {
     /// An instance that nothing has happened to.
     pub fn new(alloc: Global, config: &InstanceConfig) -> Result<ServedInstance, AllocError>
         requires quota { config.now.quota ≤ 2 ^ 40 }
-        ensures stands { IfOk result (λ served. StandsFor served (start (string_bytes config.now.name) config.now.quota config.now.slots)) }
-        ensures within { IfOk result (λ served. IsWithin served) }
+        ensures stands { (p : Slots) → IfOk result (λ served. StandsFor (served_in p served)
+            (start (string_bytes config.now.name) config.now.quota config.now.slots)) }
+        ensures within { (p : Slots) → IfOk result (λ served. IsWithin (served_in p served)) }
+        ensures holders { IfOk result (λ served. (k : ℕ) → holders_of served k ≡ 0) }
     {
         Ok(ServedInstance {
             instance: Instance::new(alloc, &config.name, config.quota, config.slots)?,
@@ -63,17 +69,26 @@ impl ServedInstance {
         })
     }
 
-    /// Takes an event: it is refused for the first reason that stands, and then nothing is changed; or it is carried
-    /// out to its end, and all that can be put on open connections is put. After a refusal of memory the instance
-    /// is to be dropped.
-    pub fn step(&mut self, event: &Event) -> Result<(), EventRefusal>
-        ensures outcome { (l : Lone) → StandsFor self.old l → IsOutcome result (refusal_of (event_value event.now) l) }
-        ensures stands { (l : Lone) → StandsFor self.old l → (result ≢ Err EventRefusal.NoMemory) → StandsFor self.new (lone_step (event_value event.now) l) }
+    /// Takes an event, with the pool that has the instance's texts: it is refused for the first reason that stands,
+    /// and then nothing is changed; or it is carried out to its end, and all that can be put on open connections is
+    /// put. After a refusal of memory the instance may have done a part of it, and stands for no instance by itself
+    /// any more: it is to be dropped. Its limits stand then too, and the pool still counts it.
+    pub fn step(&mut self, pool: &mut Pool, event: &Event) -> Result<(), EventRefusal>
+        requires kept { IsKept pool.old self.old }
+        ensures outcome { (l : Lone) → StandsFor (served_in pool.old self.old) l
+            → IsOutcome result (refusal_of (event_value event.now) l) }
+        ensures stands { (l : Lone) → StandsFor (served_in pool.old self.old) l
+            → (result ≢ Err EventRefusal.NoMemory)
+            → StandsFor (served_in pool.new self.new) (lone_step (event_value event.now) l) }
         ensures here { result ≢ Err EventRefusal.NoSuchInstance }
-        ensures memory_free { NeedsNoMemory (event_value event.now).what → result ≢ Err EventRefusal.NoMemory }
-        ensures refused { IfErr result (λ refusal. refusal ≢ EventRefusal.NoMemory → self.new ≡ self.old) }
-        ensures settled { OnOk result ((l : Lone) → StandsFor self.old l → AreSettled (lone_step (event_value event.now) l)) }
-        ensures within { IsWithin self.new }
+        ensures memory_free { NeedsNoMemory (event_value event.now).what
+            → result ≢ Err EventRefusal.NoMemory }
+        ensures refused { IfErr result (λ refusal. refusal ≢ EventRefusal.NoMemory
+            → (self.new ≡ self.old) × (pool.new ≡ pool.old)) }
+        ensures settled { OnOk result ((l : Lone) → StandsFor (served_in pool.old self.old) l
+            → AreSettled (lone_step (event_value event.now) l)) }
+        ensures moves { Moves pool.old pool.new (holders_of self.old) (holders_of self.new) }
+        ensures kept { IsKept pool.new self.new }
     {
         if let Some(refusal) = self.refusal(event) {
             return Err(refusal);
@@ -82,6 +97,7 @@ impl ServedInstance {
         let alloc = *self.connections.allocator();
         match act(
             alloc,
+            pool,
             &mut self.instance,
             &mut self.connections,
             &event.what,
@@ -96,7 +112,9 @@ impl ServedInstance {
 
     /// The bytes that were put on an open connection and not taken.
     pub fn pending(&self, connection: u32) -> Option<&[u8]>
-        ensures bytes { (l : Lone) → StandsFor self.now l → option_map (λ bytes. bytes.now) result ≡ option_map (λ p. pending p.diary) (open_at connection l.connections) }
+        ensures bytes { (l : Lone) → HasConnections self.now l
+            → option_map (λ bytes. bytes.now) result
+            ≡ option_map (λ p. pending p.diary) (open_at connection l.connections) }
         ensures room { IfSome result (λ bytes. length bytes.now ≤ most_untaken) }
     {
         match connection_at(&self.connections, connection) {
@@ -107,7 +125,8 @@ impl ServedInstance {
 
     /// Whether an error of an open connection was met.
     pub fn ended(&self, connection: u32) -> Option<bool>
-        ensures { (l : Lone) → StandsFor self.now l → result ≡ option_map (λ p. has_failed p.diary) (open_at connection l.connections) }
+        ensures { (l : Lone) → HasConnections self.now l
+            → result ≡ option_map (λ p. has_failed p.diary) (open_at connection l.connections) }
     {
         match connection_at(&self.connections, connection) {
             None => None,
@@ -117,8 +136,7 @@ impl ServedInstance {
 
     /// Why the event is refused, if it is.
     fn refusal(&self, event: &Event) -> Option<EventRefusal>
-        ensures refusal { result ≡ refusal_by (event_value event.now) self.now }
-        ensures within { IsWithin self.now }
+        ensures { (p : Slots) → result ≡ refusal_by (event_value event.now) (served_in p self.now) }
     {
         if event.moment < self.moment {
             return Some(EventRefusal::TimeWentBack);
@@ -135,8 +153,10 @@ impl ServedInstance {
 
     /// Puts all that can be put, on each open connection.
     fn pump(&mut self)
-        ensures stands { (l : Lone) → StandsFor self.old l → StandsFor self.new (pumped_all l) }
-        ensures within { IsWithin self.new }
+        ensures stands { (p : Slots) (l : Lone) → StandsFor (served_in p self.old) l
+            → StandsFor (served_in p self.new) (pumped_all l) }
+        ensures instance { self.new.instance ≡ self.old.instance }
+        ensures few { length self.new.connections ≤ 64 }
     {
         pump_all(&mut self.connections);
     }
@@ -145,21 +165,26 @@ impl ServedInstance {
 /// Does what the event asks for.
 fn act(
     alloc: Global,
+    pool: &mut Pool,
     instance: &mut Instance,
     connections: &mut Vec<OpenConnection>,
     what: &What,
 ) -> Result<(), AllocError>
-    requires accepted { refusal_by_what (what_value what.now) (map served connections.old.items) ≡ None }
-    requires within { WithinLimits instance.old }
+    requires accepted { refusal_by_what (what_value what.now) (map served connections.old.items)
+        ≡ None }
+    requires kept { IsInstanceKept pool.old instance.old }
     requires few { length connections.old.items ≤ 64 }
-    ensures acted { OnOk result (Acts instance.old connections.old.items instance.new connections.new.items (acted (what_value what.now))) }
+    ensures acted { OnOk result (Acts (state_in pool.old instance.old) connections.old.items
+        (state_in pool.new instance.new) connections.new.items (acted (what_value what.now))) }
     ensures memory_free { OnErr result (NeedsNoMemory (what_value what.now) → ⊥) }
-    ensures within { WithinLimits instance.new }
+    ensures moves { Moves pool.old pool.new (instance_holders instance.old)
+        (instance_holders instance.new) }
+    ensures kept { IsInstanceKept pool.new instance.new }
     ensures few { length connections.new.items ≤ 64 }
 {
     match what {
         What::Open(number) => open(alloc, connections, *number),
-        What::Bytes(number, bytes) => receive(alloc, instance, connections, *number, bytes),
+        What::Bytes(number, bytes) => receive(alloc, pool, instance, connections, *number, bytes),
         What::Took(number, count) => {
             take(connections, *number, *count as usize);
             Ok(())
@@ -175,7 +200,8 @@ fn act(
 /// The connection opens.
 fn open(alloc: Global, connections: &mut Vec<OpenConnection>, number: u32) -> Result<(), AllocError>
     requires few { length connections.old.items < 64 }
-    ensures opened { OnOk result ((s : InstanceState) → Acts s connections.old.items s connections.new.items (was_opened number)) }
+    ensures opened { OnOk result ((s : InstanceState)
+        → Acts s connections.old.items s connections.new.items (was_opened number)) }
     ensures few { length connections.new.items ≤ 64 }
 {
     let connection = Connection::new(alloc)?;
@@ -185,7 +211,9 @@ fn open(alloc: Global, connections: &mut Vec<OpenConnection>, number: u32) -> Re
 
 /// Puts all that can be put, on each connection.
 fn pump_all(connections: &mut [OpenConnection])
-    ensures stands { (ks : List LoneConnection) → AreServed (map served connections.old) (open_ones ks) → AreServed (map served connections.new) (open_ones (at_all_open with_pumped ks)) }
+    ensures stands { (ks : List LoneConnection) → AreServed (map served connections.old)
+        (open_ones ks) → AreServed (map served connections.new)
+        (open_ones (at_all_open with_pumped ks)) }
     ensures count { length connections.new ≡ length connections.old }
 {
     for kept in connections.iter_mut() {

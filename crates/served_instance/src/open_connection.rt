@@ -30,7 +30,8 @@ pub(crate) fn connection_at<'a>(
     connections: &'a [OpenConnection],
     number: u32,
 ) -> Option<&'a Connection>
-    ensures { option_map (λ connection. connection.now) result ≡ connection_at number (map served connections.now) }
+    ensures { option_map (λ connection. connection.now) result
+        ≡ connection_at number (map served connections.now) }
 {
     match find(connections, number) {
         None => None,
@@ -44,7 +45,8 @@ pub(crate) fn feed(
     number: u32,
     bytes: &[u8],
 ) -> Result<(), AllocError>
-    ensures { OnOk result (Changed number connections.old connections.new (Takes (λ p. record p { text = p.text ++ bytes.now }))) }
+    ensures { OnOk result (Changed number connections.old connections.new
+        (Takes (λ p. record p { text = p.text ++ bytes.now }))) }
 {
     match find(connections, number) {
         None => Ok(()),
@@ -57,7 +59,8 @@ pub(crate) fn read_frame(
     connections: &mut [OpenConnection],
     number: u32,
 ) -> Result<bool, AllocError>
-    ensures read { IfOk result (λ more. Changed number connections.old connections.new (ReadsFrame more)) }
+    ensures read { IfOk result (λ more. Changed number connections.old connections.new
+        (ReadsFrame more)) }
     ensures none { IfOk result (λ more. kept_at number connections.old ≡ None → more ≡ false) }
 {
     match find(connections, number) {

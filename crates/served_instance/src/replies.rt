@@ -42,7 +42,9 @@ pub(crate) fn give_all(
     replies: &[Reply],
 ) -> Result<(), AllocError>
     requires short { AllByRecursion IsShortReply (map reply_shown replies.now) }
-    ensures given { OnOk result ((l : Lone) → AreServed (map served connections.old) (open_ones l.connections) → AreServed (map served connections.new) (open_ones (replied (map reply_shown replies.now) l).connections)) }
+    ensures given { OnOk result ((l : Lone) → AreServed (map served connections.old)
+        (open_ones l.connections) → AreServed (map served connections.new)
+        (open_ones (replied (map reply_shown replies.now) l).connections)) }
     ensures rest { OnOk result (Keeps connections.old connections.new) }
 {
     for reply in replies {
@@ -54,7 +56,8 @@ pub(crate) fn give_all(
 /// Owes the reply to the stream of its call, where its connection is open.
 fn give(connections: &mut [OpenConnection], reply: &Reply) -> Result<(), AllocError>
     requires short { IsShortReply (reply_shown reply.now) }
-    ensures { OnOk result (Changed reply.now.call.connection connections.old connections.new (Owes (with_items reply.now.call.stream (items_of (outcome_shown reply.now.outcome))))) }
+    ensures { OnOk result (Changed reply.now.call.connection connections.old connections.new
+        (Owes (with_items reply.now.call.stream (items_of (outcome_shown reply.now.outcome))))) }
 {
     match find(connections, reply.call.connection) {
         None => Ok(()),
@@ -69,7 +72,8 @@ fn give(connections: &mut [OpenConnection], reply: &Reply) -> Result<(), AllocEr
 /// Owes a whole response to the stream.
 fn owe(connection: &mut Connection, stream: u32, outcome: &Outcome) -> Result<(), AllocError>
     requires short { IfOk (outcome_shown outcome.now) (λ bytes. length bytes < 2 ^ 32) }
-    ensures { OnOk result (Owes (with_items stream (items_of (outcome_shown outcome.now))) connection.old connection.new) }
+    ensures { OnOk result (Owes (with_items stream (items_of (outcome_shown outcome.now)))
+        connection.old connection.new) }
 {
     match outcome {
         Outcome::Message(bytes) => {

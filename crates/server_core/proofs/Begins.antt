@@ -1,22 +1,26 @@
 -- A server and its records at their beginning.
-use Rattle.std.proofs.Common.{◌≡◌, ℕ, ◌+◌, ◌^◌, ◌<◌, ◌≤◌, List, [], ◌∷◌, ◌++◌, length, get_or, take, map, ap, ◌∙◌, sym, subst, arith, inl, inr, All}
+use Rattle.std.proofs.Common.{◌≡◌, ℕ, ◌+◌, ◌^◌, ◌<◌, ◌≤◌, List, [], ◌∷◌, ◌++◌, length, get_or, take, map, refl, ap, ◌∙◌, sym, subst, arith, inl, inr, All}
 use Rattle.std.specs.Prelude.{Some, string_bytes}
-use Rattle.std.specs.List.{slice_get}
+use Rattle.std.specs.List.{slice_get, AllByRecursion}
+use Rattle.std.proofs.lemmas.Option.{slice_get_within, get_or_from_slice_get}
+use Rattle.blob_pool.specs.Held.{Slots, count_at}
 use Rattle.std.proofs.lemmas.Bool.{cases_lt}
 use Rattle.std.proofs.lemmas.List.{get_or-map, map_more, length-map}
 use Rattle.std.proofs.lemmas.Grind.{common_steps}
 use Rattle.server_events.specs.declared.configs.InstanceConfig.{InstanceConfig}
-use Rattle.server_events.specs.Configs.{ConfigValue}
+use Rattle.server_events.specs.Configs.{ConfigValue, instance_limit}
 use Rattle.server_events.specs.Faults.{IsConfig}
 use Rattle.server_events.specs.Shown.{config_value}
 use Rattle.served_instance.specs.Lone.{start}
-use Rattle.served_instance.specs.StandsFor.{ServedState, StandsFor as IsServed}
+use Rattle.served_instance.specs.StandsFor.{ServedState, StandsFor as IsServed, IsWithin}
+use Rattle.served_instance.specs.Slots.{ServedSlots, served_in, holders_of}
+use Rattle.server_core.specs.Shared.{all_in, all_holders, IsServer}
 use Rattle.run_record.specs.Runs.{begun}
 use Rattle.run_record.specs.StandsFor.{RecordValue, StandsFor as IsRecord}
 use Rattle.server_core.specs.Lone.{config_at}
 use Rattle.server_core.specs.RunTo.{IsNotedAt}
 use Rattle.server_core.specs.StandsFor.{StandsAt}
-use Rattle.server_core.proofs.Lists.{get-append, get-last, get-pushed}
+use Rattle.server_core.proofs.Lists.{get-append, get-last, get-pushed, all-push}
 
 -- the quota of an instance that may be configured
 pub quota_in : (xs : List InstanceConfig) (k : ℕ) (x : InstanceConfig) → k < length xs → x ≡ get_or xs k x → All IsConfig (map config_value xs) → x.quota ≤ 2 ^ 40
@@ -62,3 +66,41 @@ pub none_counted : (v : RecordValue) → ((config : ConfigValue) → IsRecord v 
 none_counted v own =
     let none : v.count ≡ 0 = (own (record { name = []; quota = 0; slots = 0 })).count in
     omega arith
+
+-- ---- one more instance over a pool
+
+pub all_pushed : (p : Slots) (xs : List ServedSlots) (v : ServedSlots) → all_in p (xs ++ v ∷ []) ≡ all_in p xs ++ served_in p v ∷ []
+all_pushed p [] v = refl
+all_pushed p (x ∷ xs) v = ap (λ (vs : List ServedState). served_in p x ∷ vs) (all_pushed p xs v)
+
+pub within_pushed : (p : Slots) (xs : List ServedSlots) (v : ServedSlots) (ys : List ServedSlots) → ys ≡ xs ++ v ∷ [] → AllByRecursion IsWithin (all_in p xs) → IsWithin (served_in p v) → AllByRecursion IsWithin (all_in p ys)
+within_pushed p xs v ys is old own =
+    subst (λ (vs : List ServedState). AllByRecursion IsWithin vs) (sym (ap (all_in p) is ∙ all_pushed p xs v)) (all-push IsWithin (all_in p xs) (served_in p v) old own)
+
+holders_pushed : (xs : List ServedSlots) (v : ServedSlots) (k : ℕ) → all_holders (xs ++ v ∷ []) k ≡ all_holders xs k + holders_of v k
+holders_pushed [] v k = omega arith
+holders_pushed (x ∷ xs) v k = let ih = holders_pushed xs v k in omega (arith, ih)
+
+pub nobody_pushed : (xs : List ServedSlots) (v : ServedSlots) (ys : List ServedSlots) → ys ≡ xs ++ v ∷ [] → ((k : ℕ) → all_holders xs k ≡ 0) → ((k : ℕ) → holders_of v k ≡ 0) → (k : ℕ) → all_holders ys k ≡ 0
+nobody_pushed xs v ys is none own k =
+    let same : all_holders ys k ≡ all_holders (xs ++ v ∷ []) k = ap (λ (zs : List ServedSlots). all_holders zs k) is in
+    omega (arith, same, holders_pushed xs v k, none k, own k)
+
+-- a server that holds nothing
+pub server_begun : (p : Slots) (xs : List ServedSlots) → p ≡ [] → length xs ≤ instance_limit → ((k : ℕ) → all_holders xs k ≡ 0) → AllByRecursion IsWithin (all_in p xs) → IsServer p xs
+server_begun p xs empty few none within = record {
+  exact = λ k. ap (λ (q : Slots). count_at q k) empty ∙ no_count k ∙ sym (none k);
+  few = few;
+  within = within;
+}
+  where
+    no_count : (k : ℕ) → count_at [] k ≡ 0
+    no_count k = refl
+
+-- the configurations that a server may have
+pub quota_of : (xs : List InstanceConfig) (configs : List ConfigValue) (i : ℕ) (config : ConfigValue) → configs ≡ map config_value xs → All IsConfig (map config_value xs) → config_at i configs ≡ Some config → config.quota ≤ 2 ^ 40
+quota_of xs configs i config is all at =
+    let there : config_at i (map config_value xs) ≡ Some config = ap (config_at i) (sym is) ∙ at in
+    let lt = slice_get_within (map config_value xs) i config there in
+    let c : IsConfig (get_or (map config_value xs) i config) = all i config lt in
+    subst (λ (v : ConfigValue). v.quota ≤ 2 ^ 40) (get_or_from_slice_get (map config_value xs) i config config there) c.quota

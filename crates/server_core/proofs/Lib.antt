@@ -1,4 +1,7 @@
 mod Lists
+mod Others
+mod Storing
+mod Pooled
 mod Begins
 mod Steps
 mod Ends

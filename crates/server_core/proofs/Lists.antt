@@ -1,6 +1,9 @@
 -- Elements of a list by their places.
-use Rattle.std.proofs.Common.{◌≡◌, ◌≢◌, ◌⊎◌, ℕ, zero, suc, ◌<◌, ◌≤◌, List, [], ◌∷◌, ◌++◌, length, take, refl, ap, ◌∙◌, arith, inl, inr}
-use Rattle.std.specs.Prelude.{Some, None}
+use Rattle.std.proofs.Common.{◌≡◌, ◌≢◌, ◌⊎◌, ℕ, zero, suc, ◌<◌, ◌≤◌, List, [], ◌∷◌, ◌++◌, length, get_or, take, refl, sym, ap, ◌∙◌, arith, inl, inr}
+use Rattle.std.specs.Prelude.{Option, Some, None, IfSome, is_some, nat_lt}
+use Rattle.std.proofs.lemmas.Bool.Decides.{nat_tests}
+use Rattle.std.proofs.lemmas.Option.{slice_get-get_or}
+use Rattle.std.specs.Option.{option_map}
 use Rattle.std.specs.List.{slice_get, AllByRecursion}
 use Rattle.std.proofs.Math.ListN.{set}
 use Rattle.std.proofs.Math.Seq.{take-append_seam}
@@ -49,3 +52,21 @@ length-none (x ∷ xs) (suc i) is = omega (arith, length-none xs i is)
 -- what a slice of a whole `Vec` wrote
 pub written : {X : Type 0} (n : ℕ) (xs ys : List X) → n ≡ length ys → take n (ys ++ xs) ≡ ys
 written n xs ys is = ap (λ k. take k (ys ++ xs)) is ∙ take-append_seam ys xs
+
+pub map_twice : {X Y Z : Type 0} (f : Y → Z) (g : X → Y) (o : Option X) → option_map (λ x. f (g x)) o ≡ option_map f (option_map g o)
+map_twice f g None = refl
+map_twice f g (Some x) = refl
+
+-- what a look-up by its place gives
+pub got : {A X : Type 0} (f : A → X) (xs : List X) (i : ℕ) (r : Option A) → is_some r ≡ nat_lt i (length xs) → IfSome r (λ x. f x ≡ get_or xs i (f x)) → option_map f r ≡ slice_get xs i
+got f xs i None there is =
+    let past : length xs ≤ i = grind (arith, nat_tests) in
+    sym (none_past xs i past)
+  where
+    none_past : {X : Type 0} (xs : List X) (i : ℕ) → length xs ≤ i → slice_get xs i ≡ None
+    none_past [] i past = refl
+    none_past (x ∷ xs) zero past = absurd (omega arith)
+    none_past (x ∷ xs) (suc i) past = none_past xs i (omega arith)
+got f xs i (Some x) there is =
+    let lt : i < length xs = grind (arith, nat_tests) in
+    ap Some is ∙ sym (slice_get-get_or xs i (f x) lt)

@@ -1,22 +1,19 @@
 -- One more event of a run, and the run's end.
 use Rattle.std.proofs.Common.{◌≡◌, ℕ, ◌+◌, ◌<◌, List, [], ◌∷◌, ◌++◌, length, get_or, take, map, ap, ◌∙◌, sym, subst, arith, inl, inr, append-nil, append_assoc}
 use Rattle.std.specs.Prelude.{Bool, true, false, cond, ◌==◌, if◌then◌else◌, Option, Some, fold}
-use Rattle.std.specs.Option.{option_map_or}
 use Rattle.std.proofs.lemmas.List.{map_more, length-map, length-take-le}
 use Rattle.std.proofs.lemmas.List.Elements.{filter-append}
 use Rattle.std.proofs.lemmas.List.Sums.{fold_push}
 use Rattle.std.proofs.Math.Nat.{add-zero}
-use Rattle.std.proofs.lemmas.Option.{slice_get_cases}
 use Rattle.server_events.specs.declared.event.Event.{Event}
 use Rattle.server_events.specs.Configs.{ConfigValue}
 use Rattle.server_events.specs.Events.{EventValue, own_events}
 use Rattle.server_events.specs.Shown.{event_value}
-use Rattle.run_record.specs.Outputs.{OutputValue}
-use Rattle.run_record.specs.Runs.{Run, run_of, run_step, output_of}
+use Rattle.run_record.specs.Runs.{Run, run_of, run_step}
 use Rattle.served_instance.specs.StandsFor.{ServedState}
 use Rattle.run_record.specs.StandsFor.{RecordValue}
 use Rattle.server_core.specs.RunTo.{HasRun}
-use Rattle.server_core.specs.Lone.{config_at, lone, nothing, stray_at, strays_from, strays}
+use Rattle.server_core.specs.Lone.{stray_at, strays_from, strays}
 
 -- the events so far and one more
 events_more : (events : List Event) (k : ℕ) (e : Event) → k < length events → e ≡ get_or events k e → map event_value (take (k + 1) events) ≡ map event_value (take k events) ++ event_value e ∷ []
@@ -27,12 +24,12 @@ fold_if f a xs x true = fold_push f a xs x
 fold_if f a xs x false = ap (fold f a) (append-nil xs)
 
 -- an event takes its instance a step on, and no other
-run_more : (configs : List ConfigValue) (config : ConfigValue) (i k : ℕ) (events : List Event) (e : Event) → k < length events → e ≡ get_or events k e → run_of config (own_events configs i (map event_value (take (k + 1) events))) ≡ (if e.instance == i then run_step (run_of config (own_events configs i (map event_value (take k events)))) (event_value e) else run_of config (own_events configs i (map event_value (take k events))))
-run_more configs config i k events e lt at =
+run_more : (config : ConfigValue) (i k : ℕ) (events : List Event) (e : Event) → k < length events → e ≡ get_or events k e → run_of config (own_events i (map event_value (take (k + 1) events))) ≡ (if e.instance == i then run_step (run_of config (own_events i (map event_value (take k events)))) (event_value e) else run_of config (own_events i (map event_value (take k events))))
+run_more config i k events e lt at =
     let old : List EventValue = map event_value (take k events) in
-    ap (λ es. run_of config (own_events configs i es)) (events_more events k e lt at)
+    ap (λ es. run_of config (own_events i es)) (events_more events k e lt at)
     ∙ ap (run_of config) (filter-append (λ x. x.instance == i) old (event_value e ∷ []))
-    ∙ fold_if run_step (run_of config []) (own_events configs i old) (event_value e) (e.instance == i)
+    ∙ fold_if run_step (run_of config []) (own_events i old) (event_value e) (e.instance == i)
 
 strays_push : (place count : ℕ) (es : List EventValue) (e : EventValue) → strays_from place count (es ++ e ∷ []) ≡ strays_from place count es ++ stray_at (place + length es) count e
 strays_push place count [] e = append-nil (stray_at place count e) ∙ ap (λ p. stray_at p count e) (sym (add-zero place))
@@ -53,21 +50,11 @@ strays_more configs k events e told more place count lt at is same old new =
     ∙ sym (strays_push 1 (length configs) es (event_value e))
     ∙ ap (strays configs) (sym (events_more events k e lt at))
 
--- each instance is configured, and what its run gives is what it gives alone
-pub alone_at : (configs : List ConfigValue) (i : ℕ) (events : List EventValue) (output : Option OutputValue) → i < length configs → ((config : ConfigValue) → config_at i configs ≡ Some config → output ≡ Some (output_of (run_of config (own_events configs i events)))) → output ≡ Some (lone configs i events)
-alone_at configs i events output lt gives =
-    elim (slice_get_cases configs i).1 [
-      | inl here ↦
-          let own : ConfigValue → OutputValue = λ config. output_of (run_of config (own_events configs i events)) in
-          gives here.0 here.2 ∙ ap (λ o. Some (option_map_or own o nothing)) (sym here.2)
-      | inr past ↦ absurd (omega arith)
-    ]
-
 -- the instances and the records after one more event
-pub runs_more : (configs : List ConfigValue) (config : ConfigValue) (i k : ℕ) (events : List Event) (e : Event) (vs ws : List ServedState) (records given left all : List RecordValue) → k < length events → e ≡ get_or events k e → given ≡ records → all ≡ left → ((r : Run) → HasRun i vs given r → HasRun i ws left (if e.instance == i then run_step r (event_value e) else r)) → HasRun i vs records (run_of config (own_events configs i (map event_value (take k events)))) → HasRun i ws all (run_of config (own_events configs i (map event_value (take (k + 1) events))))
-runs_more configs config i k events e vs ws records given left all lt at from to step h =
-    let r : Run = run_of config (own_events configs i (map event_value (take k events))) in
+pub runs_more : (config : ConfigValue) (i k : ℕ) (events : List Event) (e : Event) (vs ws : List ServedState) (records given left all : List RecordValue) → k < length events → e ≡ get_or events k e → given ≡ records → all ≡ left → ((r : Run) → HasRun i vs given r → HasRun i ws left (if e.instance == i then run_step r (event_value e) else r)) → HasRun i vs records (run_of config (own_events i (map event_value (take k events)))) → HasRun i ws all (run_of config (own_events i (map event_value (take (k + 1) events))))
+runs_more config i k events e vs ws records given left all lt at from to step h =
+    let r : Run = run_of config (own_events i (map event_value (take k events))) in
     let after : Run = if e.instance == i then run_step r (event_value e) else r in
     let before : HasRun i vs given r = subst (λ (rs : List RecordValue). HasRun i vs rs r) (sym from) h in
     let it : HasRun i ws all after = subst (λ (rs : List RecordValue). HasRun i ws rs after) (sym to) (step r before) in
-    subst (λ (x : Run). HasRun i ws all x) (sym (run_more configs config i k events e lt at)) it
+    subst (λ (x : Run). HasRun i ws all x) (sym (run_more config i k events e lt at)) it

@@ -2,3 +2,6 @@ pub mod Lone
 pub mod RunTo
 pub mod Shown
 pub mod StandsFor
+pub mod Shared
+pub mod Stored
+pub mod Pooled

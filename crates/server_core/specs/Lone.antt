@@ -1,26 +1,22 @@
 -- What each instance of a server gives: the run of that instance by itself, over its own events alone.
--- `own_events` (server_events, Events.antt) are the events that name the instance, in order. `run_of` (run_record,
+-- `own_events` (server_events, Events.antt) are the events that name an instance, in order. `run_of` (run_record,
 -- Runs.antt) begins with an instance that nothing has happened to, and takes these events one after another by
 -- `lone_step` (served_instance, Refusals.antt): a refused event changes nothing, any other does what Lone.antt of
 -- served_instance says. `output_of` is what the run gives: the bytes that were put on each connection, in order of
 -- opening, and which events were refused, and why.
 use Rattle.std.specs.Prelude.{ℕ, ◌+◌, nat_lt, if◌then◌else◌, List, [], ◌∷◌, ◌++◌, length, Option}
 use Rattle.std.specs.List.{slice_get}
-use Rattle.std.specs.Option.{option_map_or}
 use Rattle.server_events.specs.Configs.{ConfigValue}
-use Rattle.server_events.specs.Events.{EventValue, own_events}
+use Rattle.server_events.specs.Events.{EventValue}
 use Rattle.run_record.specs.Outputs.{OutputValue}
 use Rattle.run_record.specs.Runs.{run_of, output_of}
 
 abbrev pub config_at : ℕ → List ConfigValue → Option ConfigValue
 config_at i configs = slice_get configs i
 
-abbrev pub nothing : OutputValue
-nothing = record { sent = []; refusals = [] }
-
--- what instance i gives: a function of its configuration and of its own events
-abbrev pub lone : List ConfigValue → ℕ → List EventValue → OutputValue
-lone configs i events = option_map_or (λ config. output_of (run_of config (own_events configs i events))) (config_at i configs) nothing
+-- what an instance gives: a function of its own configuration and of its own events
+abbrev pub lone : ConfigValue → List EventValue → OutputValue
+lone config events = output_of (run_of config events)
 
 -- the place of an event, if it names none of so many instances
 abbrev pub stray_at : ℕ → ℕ → EventValue → List ℕ

@@ -11,49 +11,62 @@ ghost use Rattle.served_instance.specs.Connections.{open_at};
 ghost use Rattle.served_instance.specs.Lone.{Lone, start};
 ghost use Rattle.served_instance.specs.Refusals.{NeedsNoMemory, refusal_of, lone_step, IsOutcome};
 ghost use Rattle.served_instance.specs.StandsFor.{IsWithin, AreSettled};
+ghost use Rattle.served_instance.specs.Slots.{served_in};
 ghost use Rattle.server_core.specs.Lone.{config_at};
+ghost use Rattle.server_core.specs.Shared.{all_in, IsServer};
 ghost use Rattle.server_core.specs.StandsFor.{StandsAt, instance_at};
+ghost use Rattle.server_core.specs.Stored.{AreStored, texts_held, texts_of_all};
+ghost use Rattle.server_core.specs.Pooled.{IsPoolOf};
+ghost use Rattle.blob_pool.specs.Held.{Slots};
 
+use blob_pool::Pool;
 use served_instance::{EventRefusal, ServedInstance};
 use server_events::laws::the_fault_is_the_first;
 use server_events::{Configs, Event};
 use std::alloc::{AllocError, Global};
 use std::marker::Model;
 
-/// A server with its instances, by their numbers. After a refusal of memory it holds nothing, and refuses all
-/// events so.
+/// A server with its instances, by their numbers, over one pool of texts: a text that several instances have stands
+/// there once. After a refusal of memory it holds nothing, and refuses all events so.
 #[derive(Drop)]
 pub struct Server {
+    pool: Pool,
     instances: Vec<ServedInstance>,
     failed: bool,
 }
 
 impl Model for Server {
     ghost use Rattle.std.specs.Prelude.{◌≡◌, [], true};
+    ghost use Rattle.server_core.specs.Shared.{all_in, IsServer};
     ghost use Rattle.server_core.specs.StandsFor.{ServerState};
 
     ghost Value = { ServerState };
 
-    ghost view = { λ s. record { instances = s.instances.items; failed = s.failed } };
+    ghost view = { λ s. record { instances = all_in s.pool s.instances.items; failed = s.failed } };
 
-    ghost invariant = { λ s. s.failed ≡ true → s.instances.items ≡ [] };
+    ghost invariant = { λ s. (s.failed ≡ true → s.instances.items ≡ []) × IsServer s.pool s.instances.items };
 }
 
 impl Server {
     /// A server that nothing has happened to, with an instance for each configuration.
     pub fn new(alloc: Global, configs: &Configs) -> Result<Server, AllocError>
-        ensures stands { IfOk result (λ server. (i : ℕ) (config : ConfigValue) → config_at i configs.now ≡ Some config → StandsAt i server.instances (start config.name config.quota config.slots)) }
+        ensures stands { IfOk result (λ server. (i : ℕ) (config : ConfigValue)
+            → config_at i configs.now ≡ Some config
+            → StandsAt i server.instances (start config.name config.quota config.slots)) }
         ensures count { IfOk result (λ server. length server.instances ≡ length configs.now) }
         ensures serves { IfOk result (λ server. server.failed ≡ false) }
         ensures within { IfOk result (λ server. AllByRecursion IsWithin server.instances) }
     {
         let configs = configs.instances();
         the_fault_is_the_first(configs);
+        let pool = Pool::new(alloc);
         let mut instances = Vec::new(alloc);
         for config in configs {
-            instances.push(ServedInstance::new(alloc, config)?)?;
+            let served = ServedInstance::new(alloc, config)?;
+            instances.push(served)?;
         }
         Ok(Server {
+            pool,
             instances,
             failed: false,
         })
@@ -63,30 +76,42 @@ impl Server {
     /// does what it would do alone. No other instance changes.
     pub fn step(&mut self, event: &Event) -> Result<(), EventRefusal>
         // The event's instance does what it would do alone, which is nothing where it refuses.
-        ensures own { result ≢ Err EventRefusal.NoMemory → (l : Lone) → StandsAt event.now.instance self.old.instances l → StandsAt event.now.instance self.new.instances (lone_step (event_value event.now) l) }
-        ensures settled { OnOk result ((l : Lone) → StandsAt event.now.instance self.old.instances l → AreSettled (lone_step (event_value event.now) l)) }
+        ensures own { result ≢ Err EventRefusal.NoMemory → (l : Lone)
+            → StandsAt event.now.instance self.old.instances l
+            → StandsAt event.now.instance self.new.instances (lone_step (event_value event.now) l) }
+        ensures settled { OnOk result ((l : Lone) → StandsAt event.now.instance self.old.instances l
+            → AreSettled (lone_step (event_value event.now) l)) }
         // No other instance changes.
-        ensures others { result ≢ Err EventRefusal.NoMemory → (j : ℕ) → j ≢ event.now.instance → instance_at j self.new.instances ≡ instance_at j self.old.instances }
+        ensures others { result ≢ Err EventRefusal.NoMemory → (j : ℕ) → j ≢ event.now.instance
+            → instance_at j self.new.instances ≡ instance_at j self.old.instances }
         // Each refusal has its reason, and changes nothing.
-        ensures outcome { self.old.failed ≡ false → (l : Lone) → StandsAt event.now.instance self.old.instances l → IsOutcome result (refusal_of (event_value event.now) l) }
-        ensures stray { self.old.failed ≡ false → (result ≡ Err EventRefusal.NoSuchInstance) ↔ (length self.old.instances ≤ event.now.instance) }
-        ensures refused { IfErr result (λ refusal. refusal ≢ EventRefusal.NoMemory → self.new ≡ self.old) }
-        ensures within { AllByRecursion IsWithin self.old.instances → AllByRecursion IsWithin self.new.instances }
+        ensures outcome { self.old.failed ≡ false → (l : Lone)
+            → StandsAt event.now.instance self.old.instances l
+            → IsOutcome result (refusal_of (event_value event.now) l) }
+        ensures stray { self.old.failed ≡ false → (result ≡ Err EventRefusal.NoSuchInstance)
+            ↔ (length self.old.instances ≤ event.now.instance) }
+        ensures refused { IfErr result (λ refusal. refusal ≢ EventRefusal.NoMemory
+            → self.new ≡ self.old) }
+        // Each instance keeps its limits, also where the event is refused.
+        ensures within { AllByRecursion IsWithin self.new.instances }
         // An event that takes no memory is never refused for want of it.
-        ensures memory_free { NeedsNoMemory (event_value event.now).what → self.old.failed ≡ false → result ≢ Err EventRefusal.NoMemory }
+        ensures memory_free { NeedsNoMemory (event_value event.now).what → self.old.failed ≡ false
+            → result ≢ Err EventRefusal.NoMemory }
         // Want of memory is for ever.
         ensures memory { (result ≡ Err EventRefusal.NoMemory) ↔ (self.new.failed ≡ true) }
         ensures for_ever { self.old.failed ≡ true → result ≡ Err EventRefusal.NoMemory }
         ensures empty { self.new.failed ≡ true → self.new.instances ≡ [] }
-        ensures count { self.new.failed ≡ false → length self.new.instances ≡ length self.old.instances }
+        ensures count { self.new.failed ≡ false
+            → length self.new.instances ≡ length self.old.instances }
     {
         if self.failed {
             return Err(EventRefusal::NoMemory);
         }
-        let outcome = step_one(&mut self.instances, event);
+        let outcome = step_one(&mut self.pool, &mut self.instances, event);
         if matches!(outcome, Err(EventRefusal::NoMemory)) {
             self.failed = true;
             self.instances.clear();
+            self.pool = Pool::new(*self.instances.allocator());
         }
         outcome
     }
@@ -94,7 +119,9 @@ impl Server {
     /// The bytes that were put on an open connection and not taken.
     pub fn pending(&self, instance: u32, connection: u32) -> Option<&[u8]>
         ensures none { instance_at instance self.now.instances ≡ None → result ≡ None }
-        ensures bytes { (l : Lone) → StandsAt instance self.now.instances l → option_map (λ bytes. bytes.now) result ≡ option_map (λ p. pending p.diary) (open_at connection l.connections) }
+        ensures bytes { (l : Lone) → StandsAt instance self.now.instances l
+            → option_map (λ bytes. bytes.now) result
+            ≡ option_map (λ p. pending p.diary) (open_at connection l.connections) }
         ensures room { IfSome result (λ bytes. length bytes.now ≤ most_untaken) }
     {
         self.instance(instance)?.pending(connection)
@@ -103,33 +130,88 @@ impl Server {
     /// Whether an error of an open connection was met.
     pub fn ended(&self, instance: u32, connection: u32) -> Option<bool>
         ensures none { instance_at instance self.now.instances ≡ None → result ≡ None }
-        ensures error { (l : Lone) → StandsAt instance self.now.instances l → result ≡ option_map (λ p. has_failed p.diary) (open_at connection l.connections) }
+        ensures error { (l : Lone) → StandsAt instance self.now.instances l
+            → result ≡ option_map (λ p. has_failed p.diary) (open_at connection l.connections) }
     {
         self.instance(instance)?.ended(connection)
     }
 
-    /// The instance of this number.
+    /// How many different texts the instances hold, and how many bytes these have together. A text that several of
+    /// them hold counts once.
+    pub fn stored(&self) -> (u64, u128)
+        ensures { AreStored (texts_held self.now) result.0 result.1 }
+    {
+        stored_of(&self.pool, &self.instances)
+    }
+
+    /// The pool of texts. After every event, also a refused one, it has each text that an instance holds in one slot,
+    /// which counts how often the instances hold it, and nothing else.
+    pub fn pool(&self) -> &Pool
+        ensures { IsPoolOf result.now self.now }
+    {
+        pool_of(&self.pool, &self.instances)
+    }
+
+    /// The instance of this number. What it keeps of its own is the instance, with the texts that a pool has.
     pub fn instance(&self, number: u32) -> Option<&ServedInstance>
-        ensures { option_map (λ served. served.now) result ≡ instance_at number self.now.instances }
+        ensures { (p : Slots) × (option_map (λ served. served_in p served.now) result
+            ≡ instance_at number self.now.instances) }
     {
         self.instances.get(number as usize)
     }
 }
 
+/// How many texts the pool has, and how many bytes these have together.
+fn stored_of(pool: &Pool, instances: &[ServedInstance]) -> (u64, u128)
+    requires { IsServer pool.now instances.now }
+    ensures { AreStored (texts_of_all (all_in pool.now instances.now)) result.0 result.1 }
+{
+    let _instances = instances;
+    pool.stored()
+}
+
+/// The pool, which has the texts of the instances.
+fn pool_of<'a>(pool: &'a Pool, instances: &[ServedInstance]) -> &'a Pool
+    requires { IsServer pool.now instances.now }
+    ensures pool { result.now ≡ pool.now }
+    ensures texts { (failed : Bool) → IsPoolOf result.now
+        (record { instances = all_in pool.now instances.now; failed = failed }) }
+{
+    let _instances = instances;
+    pool.stored();
+    pool
+}
+
 /// Gives the event to the instance that it names.
-fn step_one(instances: &mut [ServedInstance], event: &Event) -> Result<(), EventRefusal>
-    ensures own { result ≢ Err EventRefusal.NoMemory → (l : Lone) → StandsAt event.now.instance instances.old l → StandsAt event.now.instance instances.new (lone_step (event_value event.now) l) }
-    ensures settled { OnOk result ((l : Lone) → StandsAt event.now.instance instances.old l → AreSettled (lone_step (event_value event.now) l)) }
-    ensures others { (j : ℕ) → j ≢ event.now.instance → instance_at j instances.new ≡ instance_at j instances.old }
-    ensures outcome { (l : Lone) → StandsAt event.now.instance instances.old l → IsOutcome result (refusal_of (event_value event.now) l) }
-    ensures stray { (result ≡ Err EventRefusal.NoSuchInstance) ↔ (length instances.old ≤ event.now.instance) }
-    ensures refused { IfErr result (λ refusal. refusal ≢ EventRefusal.NoMemory → instances.new ≡ instances.old) }
-    ensures memory_free { NeedsNoMemory (event_value event.now).what → result ≢ Err EventRefusal.NoMemory }
-    ensures within { AllByRecursion IsWithin instances.old → AllByRecursion IsWithin instances.new }
+fn step_one(
+    pool: &mut Pool,
+    instances: &mut [ServedInstance],
+    event: &Event,
+) -> Result<(), EventRefusal>
+    requires server { IsServer pool.old instances.old }
+    ensures own { result ≢ Err EventRefusal.NoMemory → (l : Lone)
+        → StandsAt event.now.instance (all_in pool.old instances.old) l
+        → StandsAt event.now.instance (all_in pool.new instances.new)
+        (lone_step (event_value event.now) l) }
+    ensures settled { OnOk result ((l : Lone) → StandsAt event.now.instance
+        (all_in pool.old instances.old) l → AreSettled (lone_step (event_value event.now) l)) }
+    ensures others { (j : ℕ) → j ≢ event.now.instance
+        → instance_at j (all_in pool.new instances.new)
+        ≡ instance_at j (all_in pool.old instances.old) }
+    ensures outcome { (l : Lone) → StandsAt event.now.instance (all_in pool.old instances.old) l
+        → IsOutcome result (refusal_of (event_value event.now) l) }
+    ensures stray { (result ≡ Err EventRefusal.NoSuchInstance)
+        ↔ (length instances.old ≤ event.now.instance) }
+    ensures refused { IfErr result (λ refusal. refusal ≢ EventRefusal.NoMemory
+        → all_in pool.new instances.new ≡ all_in pool.old instances.old) }
+    ensures memory_free { NeedsNoMemory (event_value event.now).what
+        → result ≢ Err EventRefusal.NoMemory }
+    ensures server { IsServer pool.new instances.new }
+    ensures count { length instances.new ≡ length instances.old }
 {
     let number = event.instance as usize;
     if number >= instances.len() {
         return Err(EventRefusal::NoSuchInstance);
     }
-    instances[number].step(event)
+    instances[number].step(pool, event)
 }

@@ -1,16 +1,20 @@
 //! A whole run.
 
-ghost use Rattle.std.specs.Prelude.{◌≡◌, ◌+◌, ◌<◌, ◌==◌, ◌++◌, ℕ, All, Some, length, map, IfOk, OnOk, Bool, false, if◌then◌else◌};
+ghost use Rattle.std.specs.Prelude.{◌≡◌, ◌+◌, ◌<◌, ◌==◌, ◌++◌, ℕ, List, All, Some, length, map, IfOk, OnOk, Bool, false, if◌then◌else◌};
 ghost use Rattle.server_events.specs.Configs.{ConfigValue};
+ghost use Rattle.server_events.specs.Events.{EventValue, own_events};
 ghost use Rattle.server_events.specs.Shown.{event_value};
-ghost use Rattle.run_record.specs.Runs.{Run, begun, run_step, output_of};
-ghost use Rattle.server_core.specs.Lone.{lone, strays, stray_at};
+ghost use Rattle.instance_core.specs.State.{WithinLimits};
+ghost use Rattle.run_record.specs.Runs.{Run, begun, run_of, run_step, output_of};
+ghost use Rattle.server_core.specs.Lone.{config_at, lone, strays, stray_at};
 ghost use Rattle.server_core.specs.Shown.{output_at};
 ghost use Rattle.server_core.specs.RunTo.{IsNotedAt, HasRun};
 
 use crate::server::Server;
+use run_limits::a_run_keeps_its_limits;
 use run_record::{InstanceOutput, InstanceRecord};
 use served_instance::EventRefusal;
+use server_events::laws::the_fault_is_the_first;
 use server_events::{Configs, Event};
 use std::alloc::{AllocError, Global};
 
@@ -26,10 +30,18 @@ pub struct Outputs {
 /// Runs a server through events. Each instance gives the very bytes on its connections, and the refusals, that it
 /// would give alone: they are determined by its configuration and its own events.
 pub fn run(alloc: Global, configs: &Configs, events: &[Event]) -> Result<Outputs, AllocError>
-    ensures alone { IfOk result (λ outputs. (i : ℕ) → i < length configs.now → output_at i outputs.instances.items ≡ Some (lone configs.now i (map event_value events.now))) }
+    ensures alone { IfOk result (λ outputs. (i : ℕ) (config : ConfigValue)
+        → config_at i configs.now ≡ Some config
+        → output_at i outputs.instances.items
+        ≡ Some (lone config (own_events i (map event_value events.now)))) }
+    // Each instance keeps its limits: each of its texts is what its digest says.
+    ensures within { (i : ℕ) (config : ConfigValue) → config_at i configs.now ≡ Some config
+        → WithinLimits (run_of config (own_events i (map event_value events.now))).lone.state }
     ensures count { IfOk result (λ outputs. length outputs.instances.items ≡ length configs.now) }
-    ensures strays { IfOk result (λ outputs. outputs.strays.items ≡ strays configs.now (map event_value events.now)) }
+    ensures strays { IfOk result (λ outputs. outputs.strays.items
+        ≡ strays configs.now (map event_value events.now)) }
 {
+    limits_are_kept(configs);
     let mut server = Server::new(alloc, configs)?;
     let mut records = new_records(alloc, configs.instances().len())?;
     let mut strays = Vec::new(alloc);
@@ -42,6 +54,15 @@ pub fn run(alloc: Global, configs: &Configs, events: &[Event]) -> Result<Outputs
         instances: outputs_of(alloc, records)?,
         strays,
     })
+}
+
+/// Instances with these configurations keep their limits.
+fn limits_are_kept(configs: &Configs)
+    ensures { (i : ℕ) (config : ConfigValue) (events : List EventValue)
+        → config_at i configs.now ≡ Some config → WithinLimits (run_of config events).lone.state }
+{
+    the_fault_is_the_first(configs.instances());
+    a_run_keeps_its_limits();
 }
 
 /// Gives the server the event of this place, and notes what came of it in the record of its instance, or among the
@@ -59,8 +80,11 @@ fn step_and_note(
     ensures serves { OnOk result (server.new.failed ≡ false) }
     ensures count { OnOk result (length server.new.instances ≡ length server.old.instances) }
     ensures room { OnOk result (All (λ r. r.count < place + 1) records.new) }
-    ensures runs { OnOk result ((i : ℕ) (r : Run) → HasRun i server.old.instances records.old r → HasRun i server.new.instances records.new (if event.now.instance == i then run_step r (event_value event.now) else r)) }
-    ensures strays { OnOk result (strays.new.items ≡ strays.old.items ++ stray_at place (length server.old.instances) (event_value event.now)) }
+    ensures runs { OnOk result ((i : ℕ) (r : Run) → HasRun i server.old.instances records.old r
+        → HasRun i server.new.instances records.new
+        (if event.now.instance == i then run_step r (event_value event.now) else r)) }
+    ensures strays { OnOk result (strays.new.items
+        ≡ strays.old.items ++ stray_at place (length server.old.instances) (event_value event.now)) }
 {
     let outcome = server.step(event);
     if matches!(outcome, Err(EventRefusal::NoMemory)) {
@@ -78,7 +102,8 @@ fn step_and_note(
 /// As many records, in which nothing was noted.
 fn new_records(alloc: Global, count: usize) -> Result<Vec<InstanceRecord>, AllocError>
     ensures count { IfOk result (λ records. length records.items ≡ count) }
-    ensures begun { IfOk result (λ records. (i : ℕ) → i < count → (config : ConfigValue) → IsNotedAt i records.items (begun config)) }
+    ensures begun { IfOk result (λ records. (i : ℕ) → i < count → (config : ConfigValue)
+        → IsNotedAt i records.items (begun config)) }
     ensures room { IfOk result (λ records. All (λ r. r.count < 1) records.items) }
 {
     let mut records = Vec::new(alloc);
@@ -93,7 +118,8 @@ fn outputs_of(
     records: Vec<InstanceRecord>,
 ) -> Result<Vec<InstanceOutput>, AllocError>
     ensures count { IfOk result (λ outputs. length outputs.items ≡ length records.items) }
-    ensures outputs { IfOk result (λ outputs. (i : ℕ) (r : Run) → IsNotedAt i records.items r → output_at i outputs.items ≡ Some (output_of r)) }
+    ensures outputs { IfOk result (λ outputs. (i : ℕ) (r : Run) → IsNotedAt i records.items r
+        → output_at i outputs.items ≡ Some (output_of r)) }
 {
     let mut outputs = Vec::new(alloc);
     for record in records {

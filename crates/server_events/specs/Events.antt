@@ -1,6 +1,5 @@
 -- What happens to a server, and what of it happens to one instance.
 use Rattle.std.specs.Prelude.{ℕ, ℤ, ◌==◌, Bool, List, filter}
-use Rattle.server_events.specs.Configs.{ConfigValue}
 
 -- a file that a program left: its path, its content, and whether it may be executed
 pub record OutputValue : Type 0 where
@@ -28,6 +27,6 @@ pub record EventValue : Type 0 where
   pub instance : ℕ
   pub what : WhatValue
 
--- the events of one instance of those configured, in order
-abbrev pub own_events : List ConfigValue → ℕ → List EventValue → List EventValue
-own_events configs instance events = filter (λ event. event.instance == instance) events
+-- the events of the instance of one number, in order
+abbrev pub own_events : ℕ → List EventValue → List EventValue
+own_events instance events = filter (λ event. event.instance == instance) events

@@ -1,6 +1,6 @@
 //! Which configurations have no fault, and which events are an instance's own.
 ghost use Rattle.std.specs.Prelude.{◌≡◌, ◌≢◌, ◌↔◌, ◌++◌, ◌∷◌, [], ℕ, List, None, Some, map};
-ghost use Rattle.server_events.specs.Configs.{ConfigValue, config_fault};
+ghost use Rattle.server_events.specs.Configs.{config_fault};
 ghost use Rattle.server_events.specs.Events.{EventValue, own_events};
 ghost use Rattle.server_events.specs.Faults.{AreConfigs, IsFaultOf};
 ghost use Rattle.server_events.specs.Shown.{config_value};
@@ -17,9 +17,9 @@ pub fn the_fault_is_the_first(configs: &[InstanceConfig])
 
 /// An instance's own events are those of its number, each once and in order; others change nothing.
 pub fn own_events_are_those_of_the_instance()
-    ensures append { (configs : List ConfigValue) → (instance : ℕ) → (earlier later : List EventValue)
-        → own_events configs instance (earlier ++ later) ≡ own_events configs instance earlier ++ own_events configs instance later }
-    ensures own { (configs : List ConfigValue) → (event : EventValue) → own_events configs event.instance (event ∷ []) ≡ event ∷ [] }
-    ensures other { (configs : List ConfigValue) → (instance : ℕ) → (event : EventValue)
-        → event.instance ≢ instance → own_events configs instance (event ∷ []) ≡ [] }
+    ensures append { (instance : ℕ) (earlier later : List EventValue)
+        → own_events instance (earlier ++ later) ≡ own_events instance earlier ++ own_events instance later }
+    ensures own { (event : EventValue) → own_events event.instance (event ∷ []) ≡ event ∷ [] }
+    ensures other { (instance : ℕ) (event : EventValue)
+        → event.instance ≢ instance → own_events instance (event ∷ []) ≡ [] }
 {}

@@ -4,6 +4,7 @@ use Rattle.std.specs.List.{AllByRecursion}
 use Rattle.instance_core.specs.declared.event.Reply.{Reply}
 use Rattle.instance_core.specs.Answer.{IsShortReply}
 use Rattle.instance_core.specs.Shown.{event_shown, reply_shown}
+use Rattle.instance_core.specs.Slots.{state_in}
 use Rattle.served_instance.proofs.Gives.{happens}
 use Rattle.served_instance.proofs.calls.happen.Goals as goal
 
@@ -14,5 +15,5 @@ give_all-requires c = record {
 
 pub returns-clause-happened : goal.returns-clause-happened
 returns-clause-happened c =
-    happens c.give_all.result c.args.instance.now c.call_event.new.self c.args.connections.now c.give_all.new.connections (event_shown c.args.event) (map reply_shown c.deref.result.now)
+    happens c.give_all.result (state_in c.args.pool.now c.args.instance.now) (state_in c.call_event.new.pool c.call_event.new.self) c.args.connections.now c.give_all.new.connections (event_shown c.args.event) (map reply_shown c.deref.result.now)
     (ap (map reply_shown) c.deref.ensures.value ∙ c.in_ok-replies.ensures.replies) c.in_ok-replies.ensures.changed c.give_all.ensures.given

@@ -6,11 +6,10 @@ use Rattle.std.proofs.lemmas.List.Elements.{All-same}
 use Rattle.std.proofs.lemmas.Option.{slice_get_within}
 use Rattle.server_events.specs.Events.{own_events}
 use Rattle.server_events.specs.Shown.{config_value, event_value}
-use Rattle.run_record.specs.Runs.{run_of, output_of}
 use Rattle.run_record.specs.StandsFor.{RecordValue}
-use Rattle.server_core.specs.Lone.{strays}
+use Rattle.server_core.specs.Lone.{lone, strays}
 use Rattle.server_core.proofs.Lists.{written}
-use Rattle.server_core.proofs.Runs.{runs_more, strays_more, alone_at}
+use Rattle.server_core.proofs.Runs.{runs_more, strays_more}
 use Rattle.server_core.proofs.whole_run.run.Goals as goal
 
 pub loop-event-init : goal.loop-event-init
@@ -47,14 +46,14 @@ loop-event-preserved c =
       records = ap length new ∙ many;
       place = ap (λ n. n + 1) old.place;
       room = All-same (λ (r : RecordValue). r.count < (c.loop-event.place + 1) + 1) _ _ new did.room;
-      runs = λ i config is. runs_more c.args.configs.now config i k c.args.events.now e _ _ _ _ _ _ lt at c.deref_mut.ensures.value new (did.runs i) (old.runs i config is);
+      runs = λ i config is. runs_more config i k c.args.events.now e _ _ _ _ _ _ lt at c.deref_mut.ensures.value new (did.runs i) (old.runs i config is);
       strays = strays_more c.args.configs.now k c.args.events.now e _ _ (c.loop-event.place + 1) _ lt at (ap (λ n. n + 1) old.place) old.count old.strays did.strays;
     }
 
 pub returns-clause-alone : goal.returns-clause-alone
-returns-clause-alone c = λ i lt.
+returns-clause-alone c = λ i config is.
     let all : map event_value (take c.loop-event.event-index c.args.events.now) ≡ map event_value c.args.events.now = ap (map event_value) (take_all _ _ c.loop-event-test.false) in
-    alone_at c.args.configs.now i _ _ lt (λ config is. c.in_ok-outputs_of.ensures.outputs i _ (c.loop-event.invariant.runs i config is).noted ∙ ap (λ es. Some (output_of (run_of config (own_events c.args.configs.now i es)))) all)
+    c.in_ok-outputs_of.ensures.outputs i _ (c.loop-event.invariant.runs i config is).noted ∙ ap (λ es. Some (lone config (own_events i es))) all
 
 pub returns-clause-strays : goal.returns-clause-strays
 returns-clause-strays c = c.loop-event.invariant.strays ∙ ap (λ es. strays c.args.configs.now (map event_value es)) (take_all _ _ c.loop-event-test.false)

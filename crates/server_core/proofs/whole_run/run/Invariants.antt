@@ -15,6 +15,6 @@ invariant-loop-event l = record {
   records : length l.records.items ≡ length l.configs;
   place : l.place ≡ l.event-index;
   room : All (λ r. r.count < l.place + 1) l.records.items;
-  runs : (i : ℕ) (config : ConfigValue) → config_at i l.configs ≡ Some config → HasRun i l.server.instances l.records.items (run_of config (own_events l.configs i (map event_value (take l.event-index l.events))));
+  runs : (i : ℕ) (config : ConfigValue) → config_at i l.configs ≡ Some config → HasRun i l.server.instances l.records.items (run_of config (own_events i (map event_value (take l.event-index l.events))));
   strays : l.strays.items ≡ strays l.configs (map event_value (take l.event-index l.events));
 }

@@ -1,10 +1,12 @@
-use Rattle.std.proofs.Common.{ap, ◌∙◌, sym, length, ◌+◌, subst, List}
-use Rattle.std.specs.List.{AllByRecursion}
-use Rattle.server_events.specs.Configs.{config_fault}
-use Rattle.served_instance.specs.StandsFor.{IsWithin, ServedState}
-use Rattle.std.proofs.lemmas.List.{length_push}
-use Rattle.server_core.proofs.Lists.{all-push}
-use Rattle.server_core.proofs.Begins.{quota_in, starts_more}
+use Rattle.std.proofs.Common.{◌≡◌, ap, ◌∙◌, sym, length, ◌+◌, ◌≤◌, map, take, arith}
+use Rattle.std.proofs.lemmas.Bool.{true≢false}
+use Rattle.server_events.specs.Configs.{config_fault, instance_limit}
+use Rattle.server_core.specs.Lone.{config_at}
+use Rattle.server_events.specs.Shown.{config_value}
+use Rattle.served_instance.specs.Slots.{served_in}
+use Rattle.std.proofs.lemmas.List.{length_push, length-map, take_all}
+use Rattle.server_core.specs.Shared.{all_in}
+use Rattle.server_core.proofs.Begins.{quota_in, starts_more, all_pushed, within_pushed, nobody_pushed, server_begun}
 use Rattle.server_core.proofs.server.Server.new.Goals as goal
 
 pub new-requires : goal.new-requires
@@ -16,10 +18,30 @@ new-requires c =
 pub loop-config-preserved : goal.loop-config-preserved
 loop-config-preserved c =
     let old = c.loop-config.invariant in
-    let new = c.in_ok-new.ensures in
+    let new = c.in_ok-served.ensures in
+    let v = c.in_ok-served.served in
     let more = c.in_ok-push.ensures.items in
+    let xs = c.loop-config.instances.items in
     record {
       count = ap length more ∙ length_push _ _ ∙ ap (λ k. k + 1) old.count;
-      within = subst (λ (vs : List ServedState). AllByRecursion IsWithin vs) (sym more) (all-push IsWithin _ _ old.within new.within);
-      stands = starts_more _ _ _ _ _ _ c.loop-config-test.true c.config-item.is old.count more old.stands new.stands;
+      nobody = nobody_pushed xs v _ more old.nobody new.holders;
+      within = λ p. within_pushed p xs v _ more (old.within p) (new.within p);
+      stands = λ p. starts_more _ _ _ (all_in p xs) _ (served_in p v) c.loop-config-test.true c.config-item.is (length-map xs (served_in p) ∙ old.count) (ap (all_in p) more ∙ all_pushed p xs v) (old.stands p) (new.stands p);
     }
+
+pub returns-clause-stands : goal.returns-clause-stands
+returns-clause-stands c = λ i config at.
+    let xs = c.instances-configs.result.now in
+    let all : c.args.configs.now ≡ map config_value (take c.loop-config.config-index xs) = sym c.instances-configs.ensures.instances ∙ ap (map config_value) (sym (take_all c.loop-config.config-index xs c.loop-config-test.false)) in
+    c.loop-config.invariant.stands _ i config (ap (config_at i) (sym all) ∙ at)
+
+pub invariant_of-result : goal.invariant_of-result
+invariant_of-result c =
+    let xs = c.instances-configs.result.now in
+    let ys = c.loop-config.instances.items in
+    let good = ap config_fault c.instances-configs.ensures.instances ∙ c.instances-configs.ensures.good in
+    let some = (c.the_fault_is_the_first.ensures.none.0 good).few in
+    let few : length ys ≤ instance_limit = omega (arith, c.loop-config.invariant.count, c.loop-config.auto.config-index-end, length-map xs config_value, some) in (
+      λ none. absurd (true≢false (sym none)),
+      server_begun c.new-pool.result ys c.new-pool.ensures few c.loop-config.invariant.nobody (c.loop-config.invariant.within c.new-pool.result),
+    )

@@ -1,0 +1,28 @@
+-- What an instance keeps of its own: of each text its digest, and the slot where a pool that it shares with other
+-- instances has the text.
+use Rattle.std.specs.Prelude.{ℕ, List}
+use Rattle.blob_pool.specs.Held.{Slots}
+use Rattle.blob_pool.specs.Moves.{Holders, AreHeld}
+use Rattle.instance_view.specs.Shown.{ViewValue, shown, holders}
+use Rattle.instance_core.specs.Calls.{Calls}
+use Rattle.instance_core.specs.State.{InstanceState, WithinLimits}
+
+pub record InstanceSlots : Type 0 where
+  pub name : List ℕ
+  pub quota : ℕ
+  pub slots : ℕ
+  pub view : ViewValue
+  pub calls : Calls
+
+-- the instance, with the texts that its entries find in a pool
+abbrev pub state_in : Slots → InstanceSlots → InstanceState
+state_in p i = record { name = i.name; quota = i.quota; slots = i.slots; visible = shown p i.view; calls = i.calls }
+
+-- how often the instance holds each slot of the pool
+abbrev pub holders_of : InstanceSlots → Holders
+holders_of i = holders i.view
+
+-- the pool counts the instance among its holders, and the instance keeps its limits
+pub record IsKept (p : Slots) (i : InstanceSlots) : Type 0 where
+  pub held : AreHeld p (holders_of i)
+  pub within : WithinLimits (state_in p i)

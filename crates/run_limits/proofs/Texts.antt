@@ -1,0 +1,75 @@
+-- What calls store is named by its digest, so that the texts keep their limits.
+use Rattle.std.proofs.Common.{◌≡◌, ◌<◌, ℕ, Bool, true, false, cond, nat_lt, List, [], ◌∷◌, ◌++◌, length, map, Result, Ok, Err, refl, subst}
+use Rattle.std.specs.List.{AllByRecursion}
+use Rattle.reapi_messages.specs.Results.{◌>>=◌}
+use Rattle.reapi_messages.specs.Batches.{UpdateBlobRequestValue}
+use Rattle.call_methods.specs.declared.method.Method.{Method}
+use Rattle.call_methods.specs.declared.method.Method.TheVariants.{FindMissingBlobs, BatchUpdateBlobs, BatchReadBlobs}
+use Rattle.call_status.specs.declared.refusal.Refusal.{Refusal}
+use Rattle.call_status.specs.declared.refusal.Refusal.TheVariants.{DigestDoesNotMatch, QuotaExceeded}
+use Rattle.digest.specs.declared.Digest.{Digest}
+use Rattle.digest.specs.Naming.{Names, same, digest_of}
+use Rattle.digest.proofs.Same.{same_names}
+use Rattle.instance_view.specs.Visible.{Blob}
+use Rattle.quota_evict.specs.Within.{Within}
+use Rattle.quota_evict.proofs.Limits.{used_within, admitted_within}
+use Rattle.cas_service.specs.Changes.{Change, Use, Store, change_made, uses}
+use Rattle.cas_service.specs.FindMissing.{digests_asked}
+use Rattle.cas_service.specs.BatchRead.{digests_to_read}
+use Rattle.cas_service.specs.BatchUpdate.{known_compressor, set_digest, naming, within_quota, stored_under, stores, stores_of_result, store_of, blobs_sent}
+use Rattle.instance_core.specs.State.{InstanceState}
+use Rattle.instance_core.specs.Methods.{text_changes}
+use Rattle.run_limits.specs.Named.{StoresNamed}
+
+pub all_append : {X : Type 0} (P : X → Type 0) (xs ys : List X) → AllByRecursion P xs → AllByRecursion P ys → AllByRecursion P (xs ++ ys)
+all_append P [] ys a b = b
+all_append P (x ∷ xs) ys a b = (a.0, all_append P xs ys a.1 b)
+
+abbrev accepted : Result Unit Refusal
+accepted = Ok tt
+
+stored_named : (quota : ℕ) (r : UpdateBlobRequestValue) (d : Digest) → stored_under quota r ≡ Ok d → Names d r.content
+unfolding stored_under
+stored_named quota r d h = go (known_compressor r.compressor) (set_digest r.digest) h where
+  last : (e : Digest) (n q : Bool) → same e (digest_of r.content) ≡ n
+      → (cond n accepted (Err DigestDoesNotMatch) >>= λ _. cond q (Err QuotaExceeded) accepted >>= λ _. Ok e) ≡ Ok d → Names d r.content
+  last e true false n h =
+      let equal : e ≡ d = cc in
+      subst (λ (x : Digest). Names x r.content) equal (same_names e r.content n)
+  last e true true n h = absurd (cc)
+  last e false q n h = absurd (cc)
+
+  go : (c : Result Unit Refusal) (s : Result Digest Refusal) → (c >>= λ _. s >>= λ e. naming e r.content >>= λ _. within_quota quota r.content >>= λ _. Ok e) ≡ Ok d → Names d r.content
+  go (Ok u) (Ok e) h = last e (same e (digest_of r.content)) (nat_lt quota (length r.content)) refl h
+  go (Ok u) (Err x) h = absurd (cc)
+  go (Err x) s h = absurd (cc)
+
+one_named : (quota : ℕ) (r : UpdateBlobRequestValue) (u : Result Digest Refusal) → stored_under quota r ≡ u → AllByRecursion StoresNamed (store_of r.content u)
+one_named quota r (Ok d) is = (stored_named quota r d is, tt)
+one_named quota r (Err refusal) is = tt
+
+stores_named : (quota : ℕ) (rs : List UpdateBlobRequestValue) → AllByRecursion StoresNamed (stores quota rs)
+stores_named quota [] = tt
+stores_named quota (r ∷ rs) = all_append StoresNamed (store_of r.content (stored_under quota r)) (stores quota rs) (one_named quota r (stored_under quota r) refl) (stores_named quota rs)
+
+result_named : (quota : ℕ) (r : Result (List UpdateBlobRequestValue) Refusal) → AllByRecursion StoresNamed (stores_of_result quota r)
+result_named quota (Ok rs) = stores_named quota rs
+result_named quota (Err refusal) = tt
+
+all_uses : (ds : List Digest) → AllByRecursion StoresNamed (map Use ds)
+all_uses [] = tt
+all_uses (d ∷ ds) = (tt, all_uses ds)
+
+uses_named : (r : Result (List Digest) Refusal) → AllByRecursion StoresNamed (uses r)
+uses_named (Ok ds) = all_uses ds
+uses_named (Err refusal) = tt
+
+pub changes_named : (method : Method) (s : InstanceState) (message : List ℕ) → AllByRecursion StoresNamed (text_changes method s message)
+changes_named FindMissingBlobs s message = uses_named (digests_asked s.name message)
+changes_named BatchUpdateBlobs s message = result_named s.quota (blobs_sent s.name message)
+changes_named BatchReadBlobs s message = uses_named (digests_to_read s.name message)
+changes_named _ s message = tt
+
+pub change_within : (limit quota : ℕ) (c : Change) (bs : List Blob) → 0 < limit → StoresNamed c → Within limit quota bs → Within limit quota (change_made limit quota c bs)
+change_within limit quota (Use d) bs some named w = used_within limit quota d bs w
+change_within limit quota (Store d text) bs some named w = admitted_within limit quota d text bs some named w

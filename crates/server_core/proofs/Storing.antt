@@ -1,0 +1,139 @@
+-- The pool's texts are those that instances hold.
+use Rattle.std.proofs.Common.{◌≡◌, ◌≢◌, ℕ, zero, suc, ◌+◌, ◌<◌, ◌==◌, Bool, true, false, cond, List, [], ◌∷◌, ◌++◌, length, map, refl, sym, ap, subst, ◌∙◌, arith, inl, inr, nat_lt}
+use Rattle.std.specs.Prelude.{◌⊎◌, Option, Some, None}
+use Rattle.std.proofs.lemmas.Bool.Decides.{nat_tests}
+use Rattle.std.proofs.lemmas.List.Sums.{sum_by-cons}
+use Rattle.blob_pool.specs.Held.{Held, Slots, held_at, text_at, count_at, is_held, IsShared, texts_stored, bytes_stored}
+use Rattle.blob_pool.specs.Moves.{one_at}
+use Rattle.instance_view.specs.Shown.{Entry, blobs_in, entry_holders}
+use Rattle.served_instance.specs.Slots.{ServedSlots, holders_of}
+use Rattle.server_core.specs.Shared.{all_in, all_holders, IsServer}
+use Rattle.server_core.specs.Stored.{texts_of, texts_of_all, Among, AreDistinct, bytes_of, AreStored}
+
+abbrev pub in_slots : Slots → List (List ℕ)
+in_slots [] = []
+in_slots (None ∷ p) = in_slots p
+in_slots (Some h ∷ p) = h.text ∷ in_slots p
+
+record IsAt (p : Slots) (t : List ℕ) : Type 0 where
+  slot : ℕ
+  some : held_at p slot ≢ None
+  text : text_at p slot ≡ t
+
+at_slot : (p : Slots) (t : List ℕ) → Among t (in_slots p) → IsAt p t
+at_slot [] t h = absurd h
+at_slot (None ∷ p) t h = let r = at_slot p t h in record { slot = suc r.slot; some = r.some; text = r.text }
+at_slot (Some x ∷ p) t h = elim h [
+  | inl here ↦ record { slot = 0; some = λ e. cc; text = here }
+  | inr later ↦ let r = at_slot p t later in record { slot = suc r.slot; some = r.some; text = r.text }
+]
+
+in_slot : (p : Slots) (k : ℕ) → 0 < count_at p k → Among (text_at p k) (in_slots p)
+in_slot [] k h = absurd (omega arith)
+in_slot (None ∷ p) zero h = absurd (omega arith)
+in_slot (None ∷ p) (suc k) h = in_slot p k h
+in_slot (Some x ∷ p) zero h = inl refl
+in_slot (Some x ∷ p) (suc k) h = inr (in_slot p k h)
+
+distinct : (p : Slots) → IsShared p → ((k : ℕ) → held_at p k ≢ None → 0 < count_at p k) → AreDistinct (in_slots p)
+distinct [] s h = tt
+distinct (None ∷ p) s h = distinct p (record { once = λ j k a b e. let same : suc j ≡ suc k = s.once (suc j) (suc k) a b e in omega (arith, same) }) (λ k. h (suc k))
+distinct (Some x ∷ p) s h = (
+  λ again. let r = at_slot p x.text again in let same : 0 ≡ suc r.slot = s.once 0 (suc r.slot) (h 0 (λ e. cc)) (h (suc r.slot) r.some) (sym r.text) in absurd (omega (arith, same)),
+  distinct p (record { once = λ j k a b e. let same : suc j ≡ suc k = s.once (suc j) (suc k) a b e in omega (arith, same) }) (λ k. h (suc k)),
+)
+
+counted : (p : Slots) → ((k : ℕ) → held_at p k ≢ None → 0 < count_at p k) → texts_stored p ≡ length (in_slots p)
+counted [] h = refl
+counted (None ∷ p) h =
+    let ih = counted p (λ k. h (suc k)) in
+    let cons : texts_stored (None ∷ p) ≡ 0 + texts_stored p = sum_by-cons (λ (o : Option Held). cond (is_held o) 1 0) None p in
+    omega (arith, ih, cons)
+counted (Some x ∷ p) h =
+    let ih = counted p (λ k. h (suc k)) in
+    let some : 0 < x.count = h 0 (λ e. cc) in
+    let test : nat_lt 0 x.count ≡ true = grind (arith, nat_tests) in
+    let cons : texts_stored (Some x ∷ p) ≡ cond (nat_lt 0 x.count) 1 0 + texts_stored p = sum_by-cons (λ (o : Option Held). cond (is_held o) 1 0) (Some x) p in
+    let number : Bool → ℕ = λ b. cond b 1 0 in
+    let one : number (nat_lt 0 x.count) ≡ number true = ap number test in
+    omega (arith, ih, cons, one)
+
+sized : (p : Slots) → bytes_stored p ≡ bytes_of (in_slots p)
+sized [] = refl
+sized (None ∷ p) = let ih = sized p in omega (arith, ih)
+sized (Some x ∷ p) = let ih = sized p in omega (arith, ih)
+
+-- ---- entries and slots
+
+pub among_left : (t : List ℕ) (xs ys : List (List ℕ)) → Among t xs → Among t (xs ++ ys)
+among_left t [] ys h = absurd h
+among_left t (x ∷ xs) ys h = elim h [
+  | inl here ↦ inl here
+  | inr later ↦ inr (among_left t xs ys later)
+]
+
+pub among_right : (t : List ℕ) (xs ys : List (List ℕ)) → Among t ys → Among t (xs ++ ys)
+among_right t [] ys h = h
+among_right t (x ∷ xs) ys h = inr (among_right t xs ys h)
+
+among_cases : (t : List ℕ) (xs ys : List (List ℕ)) → Among t (xs ++ ys) → Among t xs ⊎ Among t ys
+among_cases t [] ys h = inr h
+among_cases t (x ∷ xs) ys h = elim h [
+  | inl here ↦ inl (inl here)
+  | inr later ↦ elim (among_cases t xs ys later) [
+    | inl a ↦ inl (inr a)
+    | inr b ↦ inr b
+  ]
+]
+
+one_own : (k : ℕ) → one_at k k ≡ 1
+one_own k = grind (arith, nat_tests)
+
+-- a text of an entry stands in the slot that it holds
+pub record IsHeldAt (p : Slots) (h : ℕ → ℕ) (t : List ℕ) : Type 0 where
+  pub slot : ℕ
+  pub some : 0 < h slot
+  pub text : text_at p slot ≡ t
+
+entry_slot : (p : Slots) (v : List Entry) (t : List ℕ) → Among t (texts_of (blobs_in p v)) → IsHeldAt p (entry_holders v) t
+entry_slot p [] t h = absurd h
+entry_slot p (e ∷ v) t h = elim h [
+  | inl here ↦ record { slot = e.1; some = let one = one_own e.1 in omega (arith, one); text = here }
+  | inr later ↦ let r = entry_slot p v t later in record { slot = r.slot; some = omega (arith, r.some); text = r.text }
+]
+
+pub all_slot : (p : Slots) (xs : List ServedSlots) (t : List ℕ) → Among t (texts_of_all (all_in p xs)) → IsHeldAt p (all_holders xs) t
+all_slot p [] t h = absurd h
+all_slot p (a ∷ xs) t h = elim (among_cases t (texts_of (blobs_in p a.instance.view.entries)) (texts_of_all (all_in p xs)) h) [
+  | inl own ↦ let r = entry_slot p a.instance.view.entries t own in record { slot = r.slot; some = omega (arith, r.some); text = r.text }
+  | inr others ↦ let r = all_slot p xs t others in record { slot = r.slot; some = omega (arith, r.some); text = r.text }
+]
+
+slot_entry : (p : Slots) (v : List Entry) (k : ℕ) → 0 < entry_holders v k → Among (text_at p k) (texts_of (blobs_in p v))
+slot_entry p [] k h = absurd (omega arith)
+slot_entry p (e ∷ v) k h = go (k == e.1) refl (λ later. slot_entry p v k later) where
+  go : (b : Bool) → (k == e.1) ≡ b → (0 < entry_holders v k → Among (text_at p k) (texts_of (blobs_in p v))) → Among (text_at p k) (texts_of (blobs_in p (e ∷ v)))
+  go true test ih = let same : e.1 ≡ k = grind (arith, nat_tests) in inl (ap (text_at p) same)
+  go false test ih =
+      let number : Bool → ℕ = λ b. cond b 1 0 in
+      let none : number (k == e.1) ≡ number false = ap number test in
+      inr (ih (omega (arith, h, none)))
+
+slot_held : (p : Slots) (xs : List ServedSlots) (k : ℕ) → 0 < all_holders xs k → Among (text_at p k) (texts_of_all (all_in p xs))
+slot_held p [] k h = absurd (omega arith)
+slot_held p (a ∷ xs) k h = go (nat_lt 0 (holders_of a k)) refl (λ later. slot_held p xs k later) where
+  go : (b : Bool) → nat_lt 0 (holders_of a k) ≡ b → (0 < all_holders xs k → Among (text_at p k) (texts_of_all (all_in p xs))) → Among (text_at p k) (texts_of_all (all_in p (a ∷ xs)))
+  go true test ih = among_left (text_at p k) (texts_of (blobs_in p a.instance.view.entries)) (texts_of_all (all_in p xs)) (slot_entry p a.instance.view.entries k (grind (arith, nat_tests)))
+  go false test ih =
+      let none : holders_of a k ≡ 0 = grind (arith, nat_tests) in
+      among_right (text_at p k) (texts_of (blobs_in p a.instance.view.entries)) (texts_of_all (all_in p xs)) (ih (omega (arith, h, none)))
+
+pub stored_are : (p : Slots) (xs : List ServedSlots) (n b : ℕ) → IsServer p xs → IsShared p → ((k : ℕ) → held_at p k ≢ None → 0 < count_at p k) → n ≡ texts_stored p → b ≡ bytes_stored p → AreStored (texts_of_all (all_in p xs)) n b
+stored_are p xs n b s shared held count bytes = record {
+  texts = in_slots p;
+  distinct = distinct p shared held;
+  all = λ t h. let r = all_slot p xs t h in subst (λ (u : List ℕ). Among u (in_slots p)) r.text (in_slot p r.slot (omega (arith, s.exact r.slot, r.some)));
+  only = λ t h. let r = at_slot p t h in subst (λ (u : List ℕ). Among u (texts_of_all (all_in p xs))) r.text (slot_held p xs r.slot (omega (arith, s.exact r.slot, held r.slot r.some)));
+  count_is = count ∙ counted p held;
+  bytes_is = bytes ∙ sized p;
+}

@@ -1,0 +1,38 @@
+-- The texts that the instances of a server hold, each counted once.
+use Rattle.std.specs.Prelude.{◌≡◌, ◌⊎◌, ℕ, ◌+◌, List, [], ◌∷◌, ◌++◌, length}
+use Rattle.instance_view.specs.Visible.{Blob}
+use Rattle.served_instance.specs.StandsFor.{ServedState}
+use Rattle.server_core.specs.StandsFor.{ServerState}
+
+abbrev pub texts_of : List Blob → List (List ℕ)
+texts_of [] = []
+texts_of (b ∷ bs) = b.1 ∷ texts_of bs
+
+-- each text of each instance, with repeats
+abbrev pub texts_of_all : List ServedState → List (List ℕ)
+texts_of_all [] = []
+texts_of_all (v ∷ vs) = texts_of v.state.visible ++ texts_of_all vs
+
+abbrev pub texts_held : ServerState → List (List ℕ)
+texts_held s = texts_of_all s.instances
+
+abbrev pub Among : List ℕ → List (List ℕ) → Type 0
+Among t [] = ⊥
+Among t (x ∷ xs) = (x ≡ t) ⊎ Among t xs
+
+abbrev pub AreDistinct : List (List ℕ) → Type 0
+AreDistinct [] = Unit {0}
+AreDistinct (x ∷ xs) = (Among x xs → ⊥) × AreDistinct xs
+
+abbrev pub bytes_of : List (List ℕ) → ℕ
+bytes_of [] = 0
+bytes_of (x ∷ xs) = length x + bytes_of xs
+
+-- so many different texts are held, with so many bytes together
+pub record AreStored (held : List (List ℕ)) (count bytes : ℕ) : Type 0 where
+  pub texts : List (List ℕ)
+  pub distinct : AreDistinct texts
+  pub all : (t : List ℕ) → Among t held → Among t texts
+  pub only : (t : List ℕ) → Among t texts → Among t held
+  pub count_is : count ≡ length texts
+  pub bytes_is : bytes ≡ bytes_of texts

@@ -4,8 +4,8 @@ use Rattle.std.specs.Char.{digit_value}
 use Rattle.std.specs.List.{list_all}
 use Rattle.std.specs.Str.{bytes_eq}
 use Rattle.std.specs.Str.Parse.{digits_value, without_leading_plus}
-use Rattle.clap.specs.Words.{App, Row, Rule, Shape, Text, first_of, new_app, new_rule, one_of, with_rule, with_subcommand}
-use Rattle.clap.specs.declared.builder.action.ArgAction.TheVariants.{Set}
+use Rattle.clap.specs.Words.{App, Row, Rule, Shape, Text, all_of, first_of, new_app, new_rule, one_of, with_rule, with_subcommand}
+use Rattle.clap.specs.declared.builder.action.ArgAction.TheVariants.{Append, Set}
 use Rattle.clap.specs.declared.builder.value_parser.ValueParser.{ValueParser}
 use Rattle.clap.specs.declared.builder.value_parser.ValueParser.TheVariants.{Signed, Unsigned}
 
@@ -35,6 +35,13 @@ want = record (long_option (codes "want")) { required = true; parser = Some coun
 abbrev pub turns : Rule
 turns = record (long_option (codes "turns")) { parser = Some count; defaults = codes "1000000000" ∷ [] }
 
+abbrev pub work : Rule
+work = record (long_option (codes "work")) { required = true }
+
+-- one word or more for instances
+abbrev pub instances : Rule
+instances = record (new_rule (codes "NAME:PORT:QUOTA:SLOTS")) { required = true; action = Some Append }
+
 abbrev pub unary_command : Shape
 unary_command = (with_rule (new_app (codes "unary")) file).top
 
@@ -44,13 +51,16 @@ replay_command = (with_rule (new_app (codes "replay")) file).top
 abbrev pub probe_command : Shape
 probe_command = (with_rule (with_rule (with_rule (with_rule (new_app (codes "probe")) port) send) want) turns).top
 
+abbrev pub serve_command : Shape
+serve_command = (with_rule (with_rule (with_rule (new_app (codes "serve")) work) turns) instances).top
+
 -- a command that tells its version
 abbrev pub with_version : App → App
 with_version a = record a { top = record a.top { has_version = true } }
 
--- the program, its version and its three commands
+-- the program, its version and its four commands
 abbrev pub command_line : App
-command_line = with_subcommand (with_subcommand (with_subcommand (with_version (new_app (codes "remoted"))) unary_command) replay_command) probe_command
+command_line = with_subcommand (with_subcommand (with_subcommand (with_subcommand (with_version (new_app (codes "remoted"))) unary_command) replay_command) probe_command) serve_command
 
 -- ---- what is asked for
 
@@ -59,6 +69,8 @@ pub data TaskValue : Type 0 where
   unary : Option Text → TaskValue
   -- the script of events of a file
   replay : Text → TaskValue
+  -- to serve the instances of these words, for so many turns
+  serve : (work : Text) (turns : ℕ) (instances : List Text) → TaskValue
   -- to send a file's bytes to a port, and to wait for so many, for so many turns
   probe : (port : ℕ) (send : Text) (want turns : ℕ) → TaskValue
 
@@ -87,12 +99,21 @@ probe_of given =
     (number_of (codes "want") given)) (first_of (codes "send") given))
     (option_and_then port_of (number_of (codes "port") given))
 
--- what a command of this name asks for, with what was given to it
-abbrev pub task_by : Text → List Row → Option TaskValue
-task_by name given =
+abbrev pub serve_of : List Row → Option TaskValue
+serve_of given =
+    option_and_then (λ work. option_and_then (λ turns.
+    option_map (λ instances. serve work turns instances) (all_of (codes "NAME:PORT:QUOTA:SLOTS") given))
+    (number_of (codes "turns") given)) (first_of (codes "work") given)
+
+abbrev pub file_or_probe_by : Text → List Row → Option TaskValue
+file_or_probe_by name given =
     if bytes_eq name (codes "unary") then option_map (λ file. unary (Some file)) (first_of (codes "FILE") given)
     else (if bytes_eq name (codes "replay") then option_map (λ file. replay file) (first_of (codes "FILE") given)
     else probe_of given)
+
+-- what a command of this name asks for, with what was given to it
+abbrev pub task_by : Text → List Row → Option TaskValue
+task_by name given = if bytes_eq name (codes "serve") then serve_of given else file_or_probe_by name given
 
 -- what the command that the words name asks for; where they name none, it is the script on standard input
 abbrev pub task_of : Option (Text × List Row) → Option TaskValue

@@ -1,5 +1,5 @@
 -- Tasks and faults as clauses see them.
-use Rattle.std.specs.Prelude.{◌≡◌, ◌≢◌, ◌⊎◌, ⊤, List, [], option_map, Option, None}
+use Rattle.std.specs.Prelude.{◌≡◌, ◌≢◌, ◌⊎◌, ⊤, List, [], map, option_map, Option, None}
 use Rattle.clap.specs.Words.{Text, kind_of, subcommand_of}
 use Rattle.clap.specs.Faults.{fault_of}
 use Rattle.clap.specs.Kinds.{IsAmong}
@@ -9,11 +9,12 @@ use Rattle.command_line.specs.declared.Task.{Task}
 use Rattle.command_line.specs.declared.Task.TheVariants as task
 use Rattle.command_line.specs.declared.CommandLineError.{CommandLineError}
 use Rattle.command_line.specs.declared.CommandLineError.TheVariants.{NoMemory, Answered}
-use Rattle.command_line.specs.CommandLine.{TaskValue, unary, replay, probe, command_line, task_of}
+use Rattle.command_line.specs.CommandLine.{TaskValue, unary, replay, serve, probe, command_line, task_of}
 
 abbrev pub task_value : Task → TaskValue
 task_value (task.Unary file) = unary (option_map (λ f. f.now) file)
 task_value (task.Replay file) = replay file.now
+task_value (task.Serve work turns instances) = serve work.now turns (map (λ word. word.now) instances.items)
 task_value (task.Probe port send want turns) = probe port send.now want turns
 
 -- what the words of a command line ask for

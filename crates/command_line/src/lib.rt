@@ -2,18 +2,21 @@
 #![tactic(auto)]
 
 ghost use Rattle.std.specs.Prelude.{◌≡◌, ◌≢◌, ◌⊎◌, ℕ, List, Some, None, false, map, string_bytes, IfOk, IfErr, option_map};
-ghost use Rattle.clap.specs.Words.{app_of, first_of, found_of, kind_of, rows_of, rule_of, shape_of, subcommand_rows_of};
+ghost use Rattle.clap.specs.Words.{all_of, app_of, first_of, found_of, kind_of, rows_of, rule_of, shape_of, subcommand_rows_of};
 ghost use Rattle.clap.specs.declared.builder.command.Command.TheViews.{out-Command as fields_of};
 ghost use Rattle.clap.specs.declared.error.kind.ErrorKind.TheVariants.{DisplayHelp, DisplayVersion};
-ghost use Rattle.command_line.specs.CommandLine.{command_line, file, long_option, number_of, port, send, want, turns, unary_command, replay_command, probe_command, probe_of, task_by, task_of};
+ghost use Rattle.command_line.specs.CommandLine.{command_line, file, long_option, number_of, port, send, want, turns, unary_command, replay_command, probe_command, probe_of, work, instances, serve_command, serve_of, file_or_probe_by, task_by, task_of};
 ghost use Rattle.command_line.specs.Shown.{task_value, asked, HasNoFault, IsFaultOf, IsFrom};
 
 use clap::error::ErrorKind;
 use clap::{Arg, ArgAction, ArgMatches, Command, Error, value_parser};
 use std::alloc::{AllocError, Global};
 
+/// The name of the words for instances.
+const INSTANCES: &str = "NAME:PORT:QUOTA:SLOTS";
+
 /// What the program is asked for.
-#[derive(Clone, Copy)]
+#[derive(Drop)]
 pub enum Task<'a> {
     /// Carries out a script of calls: a file's, or that of standard input.
     Unary {
@@ -22,6 +25,14 @@ pub enum Task<'a> {
     /// Carries out the script of events of a file.
     Replay {
         file: &'a str,
+    },
+    /// Serves instances on ports of this host, for so many turns.
+    Serve {
+        /// The folder for the work of actions.
+        work: &'a str,
+        turns: u64,
+        /// A word `NAME:PORT:QUOTA:SLOTS` for each instance.
+        instances: Vec<&'a str>,
     },
     /// Sends the bytes of a file to a port of this host, and prints the first `want` that come back,
     /// in at most that many turns.
@@ -130,6 +141,38 @@ fn probe<'a>(alloc: Global) -> Result<Command<'a>, AllocError>
         .arg(turns(alloc))
 }
 
+fn work<'a>(alloc: Global) -> Arg<'a>
+    ensures rule { rule_of result ≡ work }
+    ensures local { result.global ≡ false }
+{
+    long_option(alloc, "work", "DIR")
+        .help("The folder for the work of actions; it is made if it is not there")
+        .required(true)
+}
+
+fn instances<'a>(alloc: Global) -> Arg<'a>
+    ensures rule { rule_of result ≡ instances }
+    ensures local { result.global ≡ false }
+{
+    Arg::new(alloc, INSTANCES)
+        .help(
+            "An instance: its name, its port, its quota in bytes, and how many actions it runs at once",
+        )
+        .required(true)
+        .action(ArgAction::Append)
+}
+
+fn serve<'a>(alloc: Global) -> Result<Command<'a>, AllocError>
+    ensures shape { IfOk result (λ c. shape_of c ≡ serve_command) }
+    ensures local { IfOk result (λ c. (fields_of c).has_globals ≡ false) }
+{
+    Command::new(alloc, "serve")
+        .about("Serve instances on ports of 127.0.0.1")
+        .arg(work(alloc))?
+        .arg(turns(alloc))?
+        .arg(instances(alloc))
+}
+
 fn command<'a>(alloc: Global) -> Result<Command<'a>, AllocError>
     ensures { IfOk result (λ c. app_of c ≡ command_line) }
 {
@@ -140,7 +183,8 @@ fn command<'a>(alloc: Global) -> Result<Command<'a>, AllocError>
         )
         .subcommand(unary(alloc)?)?
         .subcommand(replay(alloc)?)?
-        .subcommand(probe(alloc)?)
+        .subcommand(probe(alloc)?)?
+        .subcommand(serve(alloc)?)
 }
 
 fn text<'a>(found: &ArgMatches<'a>, name: &str) -> Option<&'a str>
@@ -167,8 +211,43 @@ fn requested_probe<'a>(found: &ArgMatches<'a>) -> Option<Task<'a>>
     })
 }
 
-fn requested_by<'a>(name: &str, found: &ArgMatches<'a>) -> Option<Task<'a>>
-    ensures { option_map task_value result ≡ task_by name.now (rows_of (found_of found.now)) }
+fn texts<'a>(
+    alloc: Global,
+    found: &ArgMatches<'a>,
+    name: &str,
+) -> Result<Option<Vec<&'a str>>, AllocError>
+    ensures { IfOk result (λ texts. option_map (λ v. map (λ text. text.now) v.items) texts ≡ all_of name.now (rows_of (found_of found.now))) }
+{
+    match found.get_strs(name) {
+        Some(texts) => Ok(Some(Vec::from_slice(alloc, texts)?)),
+        None => Ok(None),
+    }
+}
+
+fn requested_serve<'a>(
+    alloc: Global,
+    found: &ArgMatches<'a>,
+) -> Result<Option<Task<'a>>, AllocError>
+    ensures { IfOk result (λ task. option_map task_value task ≡ serve_of (rows_of (found_of found.now))) }
+{
+    let Some(work) = text(found, "work") else {
+        return Ok(None);
+    };
+    let Some(turns) = number(found, "turns") else {
+        return Ok(None);
+    };
+    match texts(alloc, found, INSTANCES)? {
+        Some(instances) => Ok(Some(Task::Serve {
+            work,
+            turns,
+            instances,
+        })),
+        None => Ok(None),
+    }
+}
+
+fn requested_file_or_probe<'a>(name: &str, found: &ArgMatches<'a>) -> Option<Task<'a>>
+    ensures { option_map task_value result ≡ file_or_probe_by name.now (rows_of (found_of found.now)) }
 {
     match name {
         "unary" => Some(Task::Unary {
@@ -181,12 +260,26 @@ fn requested_by<'a>(name: &str, found: &ArgMatches<'a>) -> Option<Task<'a>>
     }
 }
 
-fn requested<'a>(matches: &ArgMatches<'a>) -> Option<Task<'a>>
-    ensures { option_map task_value result ≡ task_of (subcommand_rows_of matches.now) }
+fn requested_by<'a>(
+    alloc: Global,
+    name: &str,
+    found: &ArgMatches<'a>,
+) -> Result<Option<Task<'a>>, AllocError>
+    ensures { IfOk result (λ task. option_map task_value task ≡ task_by name.now (rows_of (found_of found.now))) }
+{
+    if name == "serve" {
+        requested_serve(alloc, found)
+    } else {
+        Ok(requested_file_or_probe(name, found))
+    }
+}
+
+fn requested<'a>(alloc: Global, matches: &ArgMatches<'a>) -> Result<Option<Task<'a>>, AllocError>
+    ensures { IfOk result (λ task. option_map task_value task ≡ task_of (subcommand_rows_of matches.now)) }
 {
     match matches.subcommand() {
-        Some((name, found)) => requested_by(name, found),
-        None => Some(Task::Unary { file: None }),
+        Some((name, found)) => requested_by(alloc, name, found),
+        None => Ok(Some(Task::Unary { file: None })),
     }
 }
 
@@ -240,7 +333,8 @@ pub fn parse<'a>(alloc: Global, words: &'a [String]) -> Result<Task<'a>, Command
         Ok(matches) => matches,
         Err(error) => return Err(CommandLineError::from(error)),
     };
-    match requested(&matches) {
+    let task = requested(alloc, &matches)?;
+    match task {
         Some(task) => Ok(task),
         None => Err(missing(&mut command)),
     }

@@ -14,64 +14,71 @@ fn words(alloc: Global, line: &str) -> Result<Vec<String>, AllocError> {
     Ok(words)
 }
 
-fn is_probe(task: &Task<'_>, wanted: (u16, &str, u64, u64)) -> bool {
-    match task {
-        Task::Probe {
-            port,
-            send,
-            want,
-            turns,
-        } => *port == wanted.0 && *send == wanted.1 && *want == wanted.2 && *turns == wanted.3,
+/// What a command line is to ask for.
+#[derive(Clone, Copy)]
+enum Wanted {
+    Unary(Option<&'static str>),
+    Replay(&'static str),
+    Probe(u16, &'static str, u64, u64),
+    Serve(&'static str, u64, &'static [&'static str]),
+}
+
+fn is_task(task: &Task<'_>, wanted: Wanted) -> bool {
+    match (task, wanted) {
+        (Task::Unary { file }, Wanted::Unary(wanted)) => *file == wanted,
+        (Task::Replay { file }, Wanted::Replay(wanted)) => *file == wanted,
+        (
+            Task::Probe {
+                port,
+                send,
+                want,
+                turns,
+            },
+            Wanted::Probe(wanted_port, wanted_file, wanted_count, wanted_turns),
+        ) => {
+            *port == wanted_port
+                && *send == wanted_file
+                && *want == wanted_count
+                && *turns == wanted_turns
+        }
+        (
+            Task::Serve {
+                work,
+                turns,
+                instances,
+            },
+            Wanted::Serve(wanted_work, wanted_turns, words),
+        ) => *work == wanted_work && *turns == wanted_turns && instances.as_slice() == words,
         _ => false,
     }
 }
 
-fn is_task(task: &Task<'_>, wanted: &Task<'_>) -> bool {
-    match wanted {
-        Task::Unary { file: wanted } => { matches!(task, Task::Unary { file } if *file == *wanted) }
-        Task::Replay { file: wanted } => matches!(task, Task::Replay { file } if *file == *wanted),
-        Task::Probe {
-            port,
-            send,
-            want,
-            turns,
-        } => is_probe(task, (*port, *send, *want, *turns)),
-    }
-}
-
 /// A command line, and what it asks for.
-type Case = (&'static str, Task<'static>);
+type Case = (&'static str, Wanted);
 
-static TASKS: [Case; 5] = [
-    ("", Task::Unary { file: None }),
-    (
-        "unary calls.txt",
-        Task::Unary {
-            file: Some("calls.txt"),
-        },
-    ),
-    ("replay events.txt", Task::Replay { file: "events.txt" }),
+static TASKS: [Case; 7] = [
+    ("", Wanted::Unary(None)),
+    ("unary calls.txt", Wanted::Unary(Some("calls.txt"))),
+    ("replay events.txt", Wanted::Replay("events.txt")),
     (
         "probe --port 1 --send in.bin --want 0",
-        Task::Probe {
-            port: 1,
-            send: "in.bin",
-            want: 0,
-            turns: 1000000000,
-        },
+        Wanted::Probe(1, "in.bin", 0, 1000000000),
     ),
     (
         "probe --turns 0 --want 9223372036854775807 --send in.bin --port 65535",
-        Task::Probe {
-            port: 65535,
-            send: "in.bin",
-            want: 9223372036854775807,
-            turns: 0,
-        },
+        Wanted::Probe(65535, "in.bin", 9223372036854775807, 0),
+    ),
+    (
+        "serve --work here a:1:2:3",
+        Wanted::Serve("here", 1000000000, &["a:1:2:3"]),
+    ),
+    (
+        "serve a:1:2:3 --turns 5 --work here b:4:5:6 no-instance",
+        Wanted::Serve("here", 5, &["a:1:2:3", "b:4:5:6", "no-instance"]),
     ),
 ];
 
-fn asks_for(alloc: Global, line: &str, wanted: &Task<'_>) -> Result<bool, AllocError> {
+fn asks_for(alloc: Global, line: &str, wanted: Wanted) -> Result<bool, AllocError> {
     let words = words(alloc, line)?;
     match parse(alloc, &words) {
         Ok(task) => Ok(is_task(&task, wanted)),
@@ -82,7 +89,7 @@ fn asks_for(alloc: Global, line: &str, wanted: &Task<'_>) -> Result<bool, AllocE
 /// The first of these command lines that asks for something else.
 fn first_wrong(alloc: Global, cases: &[Case]) -> Result<Option<&'static str>, AllocError> {
     for case in cases {
-        if !asks_for(alloc, case.0, &case.1)? {
+        if !asks_for(alloc, case.0, case.1)? {
             return Ok(Some(case.0));
         }
     }
@@ -95,7 +102,7 @@ fn tasks(rt: HostRuntime) -> Result<(), Fail> {
     Ok(())
 }
 
-static MISTAKES: [&str; 13] = [
+static MISTAKES: [&str; 17] = [
     "unary",
     "unary one two",
     "replay",
@@ -109,9 +116,19 @@ static MISTAKES: [&str; 13] = [
     "probe --port 1 --send in.bin --want -1",
     "probe --port 1 --send in.bin --want 9223372036854775808",
     "probe --port 1 --send in.bin --want 1 --turns 9223372036854775808",
+    "serve a:1:2:3",
+    "serve --work here",
+    "serve --work here --turns -1 a:1:2:3",
+    "serve --work here --turns 9223372036854775808 a:1:2:3",
 ];
 
-static HELP: [&str; 4] = ["--help", "--version", "probe --help", "help replay"];
+static HELP: [&str; 5] = [
+    "--help",
+    "--version",
+    "probe --help",
+    "help replay",
+    "serve --help",
+];
 
 /// The status of a command line that asks for nothing; `None` where it asks for something.
 fn status_of(alloc: Global, line: &str) -> Result<Option<u8>, AllocError> {

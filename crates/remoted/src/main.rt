@@ -1,6 +1,10 @@
 //! The program `remoted`.
 #![tactic(auto)]
 
+mod instances;
+mod serve_ports;
+
+use crate::serve_ports::{Served, serve_ports};
 use command_line::{CommandLineError, Task, parse};
 use probe::{Request, probe};
 use program_status::{Fault, Status, read_file};
@@ -58,34 +62,59 @@ fn probe_port<O: Write, E: Write>(
     ))
 }
 
-/// Does what is asked for.
+/// Sends the bytes of a file to a port of this host, and shows what comes back.
+fn probe_with_file<O: Write, E: Write>(
+    rt: &HostRuntime,
+    port: u16,
+    file: &str,
+    (want, turns): (u64, u64),
+    output: &mut O,
+    errors: &mut E,
+) -> io::Result<Status> {
+    match read_file(rt, file, errors)? {
+        Some(bytes) => {
+            let request = Request {
+                bytes: &bytes,
+                want,
+                turns,
+            };
+            probe_port(rt, port, request, output, errors)
+        }
+        None => Ok(Status::Failed),
+    }
+}
+
+/// Does what is asked for, and gives the number with which the program ends.
 fn perform<O: Write, E: Write>(
     rt: &HostRuntime,
     task: Task<'_>,
     output: &mut O,
     errors: &mut E,
-) -> io::Result<Status> {
-    match task {
-        Task::Unary { file: Some(file) } => unary_of_file(rt, file, output, errors),
-        Task::Unary { file: None } => Ok(unary(rt.alloc(), &mut rt.stdin(), output, errors)),
-        Task::Replay { file } => replay_of_file(rt, file, output, errors),
+) -> io::Result<u8> {
+    let status = match task {
+        Task::Unary { file: Some(file) } => unary_of_file(rt, file, output, errors)?,
+        Task::Unary { file: None } => unary(rt.alloc(), &mut rt.stdin(), output, errors),
+        Task::Replay { file } => replay_of_file(rt, file, output, errors)?,
         Task::Probe {
             port,
             send,
             want,
             turns,
-        } => match read_file(rt, send, errors)? {
-            Some(bytes) => {
-                let request = Request {
-                    bytes: &bytes,
-                    want,
-                    turns,
-                };
-                probe_port(rt, port, request, output, errors)
-            }
-            None => Ok(Status::Failed),
-        },
-    }
+        } => probe_with_file(rt, port, send, (want, turns), output, errors)?,
+        Task::Serve {
+            work,
+            turns,
+            instances,
+        } => {
+            let served = Served {
+                work,
+                turns,
+                words: &instances,
+            };
+            return serve_ports(rt, &served, output, errors);
+        }
+    };
+    Ok(status.code())
 }
 
 /// Does what the command line asks for, and gives the number with which the program ends.
@@ -94,7 +123,7 @@ fn status(rt: &HostRuntime) -> io::Result<u8> {
     let mut output = BufWriter::new(rt.alloc(), rt.stdout())?;
     let mut errors = rt.stderr();
     let status = match parse(rt.alloc(), words.as_slice()) {
-        Ok(task) => perform(rt, task, &mut output, &mut errors)?.code(),
+        Ok(task) => perform(rt, task, &mut output, &mut errors)?,
         Err(CommandLineError::NoMemory) => return Err(io::Error::from(ErrorKind::OutOfMemory)),
         Err(CommandLineError::Answered(error)) => {
             error.print(rt)?;

@@ -11,4 +11,5 @@ returns c =
     ap app_of_fields c.about.ensures ∙ ap app_of_fields c.version.ensures ∙ ap with_version c.new.ensures.app in
     let first = c.in_ok-subcommand.ensures.shape c.in_ok-unary.ensures.local ∙ ap₂ with_subcommand named c.in_ok-unary.ensures.shape in
     let second = c.in_ok-subcommand-2.ensures.shape c.in_ok-replay.ensures.local ∙ ap₂ with_subcommand first c.in_ok-replay.ensures.shape in
-    IfOk-weaker c.subcommand-3.result _ _ (λ m h. h.shape c.in_ok-probe.ensures.local ∙ ap₂ with_subcommand second c.in_ok-probe.ensures.shape) c.subcommand-3.ensures
+    let third = c.in_ok-subcommand-3.ensures.shape c.in_ok-probe.ensures.local ∙ ap₂ with_subcommand second c.in_ok-probe.ensures.shape in
+    IfOk-weaker c.subcommand-4.result _ _ (λ m h. h.shape c.in_ok-serve.ensures.local ∙ ap₂ with_subcommand third c.in_ok-serve.ensures.shape) c.subcommand-4.ensures

@@ -1,0 +1,189 @@
+//! The sockets of this host, on 127.0.0.1, and its clock.
+#![tactic(auto)]
+
+use mio::net::{TcpListener, TcpStream};
+use serve::{Socket, Sockets, is_not_ready};
+use std::alloc::Global;
+use std::collections::HashMap;
+use std::io::{self, ErrorKind, Read, Write};
+use std::net::{Ipv4Addr, Shutdown, SocketAddr};
+use std::thread;
+use std::time::{Duration, Instant};
+
+/// For how many milliseconds a closed connection is kept at most, for what its client still sends. If it went at once
+/// while such bytes are unread, the system would reset it, and the client might lose what it was sent last.
+const LINGER: u64 = 2_000;
+
+/// How many closed connections are kept so at a time. Any further one goes at once.
+const LINGERING_LIMIT: usize = 256;
+
+/// The most bytes that are dropped of a closed connection at a time.
+const DROP_LIMIT: usize = 16_384;
+
+/// A closed connection, and when it was closed.
+#[derive(Drop)]
+struct Lingering {
+    stream: TcpStream,
+    since: u64,
+}
+
+impl Lingering {
+    /// Drops what came, and says whether the client may still send more.
+    fn drop_more(&mut self, room: &mut [u8]) -> bool {
+        match self.stream.read(room) {
+            Ok(0) => false,
+            Ok(_) => true,
+            Err(error) => is_not_ready(&error),
+        }
+    }
+}
+
+/// Ports, connections and a clock of this host.
+///
+/// A connection that is closed sends no more at once. What its client still sends is read and dropped, until the client
+/// closes it too, for two seconds at most.
+#[derive(Drop)]
+pub struct HostSockets<'a> {
+    rt: &'a HostRuntime,
+    /// By the instances' numbers.
+    listeners: Vec<TcpListener>,
+    streams: HashMap<Socket, TcpStream>,
+    lingering: Vec<Lingering>,
+    /// Where dropped bytes are read to.
+    room: Vec<u8>,
+    start: Instant,
+    /// What the clock showed last.
+    moment: u64,
+    faults: u64,
+}
+
+impl<'a> HostSockets<'a> {
+    /// Sockets that listen on no port yet, and a clock that starts now.
+    pub fn new(rt: &'a HostRuntime, alloc: Global) -> io::Result<HostSockets<'a>> {
+        Ok(HostSockets {
+            rt,
+            listeners: Vec::new(alloc),
+            streams: HashMap::new(alloc),
+            lingering: Vec::with_capacity(alloc, LINGERING_LIMIT)?,
+            room: vec![in alloc; 0; DROP_LIMIT]?,
+            start: Instant::now(rt)?,
+            moment: 0,
+            faults: 0,
+        })
+    }
+
+    /// Listens on a port of 127.0.0.1, for the next instance. With port 0 the system chooses one.
+    pub fn listen(&mut self, port: u16) -> io::Result<()> {
+        let address = SocketAddr::from((Ipv4Addr::LOCALHOST, port));
+        let listener = TcpListener::bind(self.rt, address)?;
+        self.listeners.push(listener)?;
+        Ok(())
+    }
+
+    /// The port on which the instance of this number is served.
+    pub fn port(&self, instance: u32) -> io::Result<u16> {
+        match self.listeners.get(instance as usize) {
+            Some(listener) => Ok(listener.local_addr()?.port()),
+            None => Err(io::Error::from(ErrorKind::NotFound)),
+        }
+    }
+
+    fn accept_now(&mut self, socket: Socket) -> io::Result<()> {
+        let Some(listener) = self.listeners.get(socket.instance as usize) else {
+            return Err(io::Error::from(ErrorKind::WouldBlock));
+        };
+        let (stream, _) = listener.accept()?;
+        // Otherwise the end of a response waits for the client's acknowledgement of what was before it.
+        stream.set_nodelay(true)?;
+        match self.streams.insert(socket, stream) {
+            Ok(_) => Ok(()),
+            Err(_) => Err(io::Error::from(ErrorKind::OutOfMemory)),
+        }
+    }
+
+    /// Counts a fault.
+    fn count<T: Drop>(&mut self, outcome: &io::Result<T>) {
+        if let Err(error) = outcome {
+            if !is_not_ready(error) {
+                self.faults = self.faults.saturating_add(1);
+            }
+        }
+    }
+
+    /// Drops what closed connections bring, and lets go of those that are over.
+    fn drop_rest(&mut self) {
+        let mut at = 0;
+        while at < self.lingering.len() {
+            let lingering = &mut self.lingering[at];
+            let is_late = self.moment.saturating_sub(lingering.since) >= LINGER;
+            if lingering.drop_more(&mut self.room) && !is_late {
+                at += 1;
+            } else {
+                self.lingering.swap_remove(at);
+            }
+        }
+    }
+}
+
+impl<'a> Sockets for HostSockets<'a> {
+    fn now(&mut self) -> u64 {
+        if let Ok(passed) = self.start.elapsed(self.rt) {
+            let moment = passed.as_secs().saturating_mul(1000);
+            let moment = moment.saturating_add(passed.subsec_millis() as u64);
+            self.moment = self.moment.max(moment);
+        }
+        self.drop_rest();
+        self.moment
+    }
+
+    fn accept(&mut self, socket: Socket) -> io::Result<()> {
+        let outcome = self.accept_now(socket);
+        self.count(&outcome);
+        outcome
+    }
+
+    fn read(&mut self, socket: Socket, room: &mut [u8]) -> io::Result<usize> {
+        let outcome = match self.streams.get_mut(&socket) {
+            Some(stream) => stream.read(room),
+            None => Err(io::Error::from(ErrorKind::NotConnected)),
+        };
+        self.count(&outcome);
+        outcome
+    }
+
+    fn write(&mut self, socket: Socket, bytes: &[u8]) -> io::Result<usize> {
+        let outcome = match self.streams.get_mut(&socket) {
+            Some(stream) => stream.write(bytes),
+            None => Err(io::Error::from(ErrorKind::NotConnected)),
+        };
+        self.count(&outcome);
+        outcome
+    }
+
+    fn close(&mut self, socket: Socket) {
+        let Some(stream) = self.streams.remove(&socket) else {
+            return;
+        };
+        let shut = stream.shutdown(Shutdown::Write);
+        self.count(&shut);
+        if shut.is_ok() && self.lingering.len() < LINGERING_LIMIT {
+            let since = self.moment;
+            let kept: Result<(), _> = self.lingering.push(Lingering { stream, since });
+            drop(kept);
+        }
+    }
+
+    fn faults(&self) -> u64 {
+        self.faults
+    }
+
+    fn rest(&mut self, idle_turns: u64) {
+        if idle_turns < 100 {
+            thread::yield_now();
+        } else if idle_turns < 300 {
+            thread::sleep(self.rt, Duration::from_micros(50));
+        } else {
+            thread::sleep(self.rt, Duration::from_millis(1));
+        }
+    }
+}

@@ -1,0 +1,120 @@
+//! The words for instances on the command line of `serve`.
+
+use server_events::{ConfigFault, Configs, InstanceConfig};
+use std::alloc::{AllocError, Global};
+use thiserror::Error;
+
+/// The instances that are served, and the port of each.
+#[derive(Drop)]
+pub struct Instances {
+    pub configs: Configs,
+    pub ports: Vec<u16>,
+}
+
+/// Why a word stands for no instance.
+#[derive(Clone, Copy, Debug, PartialEq, Eq, Error)]
+pub enum WordFault {
+    #[error("it is not NAME:PORT:QUOTA:SLOTS")]
+    Parts,
+    #[error("the port is not a number from 1 to 65535")]
+    Port,
+    #[error("the quota is not a number from 0 to 1099511627776")]
+    Quota,
+    #[error("the slots are not a number from 0 to 64")]
+    Slots,
+    #[error("the name is not 1 to 64 of a-z, 0-9 and -, or it is a word of resource names")]
+    Name,
+    #[error("an instance before it has the name")]
+    NameAgain,
+    #[error("an instance before it has the port")]
+    PortAgain,
+}
+
+/// Why there is no server for the words.
+#[derive(Debug, Drop, Error)]
+pub enum InstancesFault {
+    /// This word, by its place, stands for no instance.
+    #[error("word {0}: {1}")]
+    Bad(usize, WordFault),
+    #[error("there are more than 256 instances")]
+    TooMany,
+    #[error("out of memory")]
+    NoMemory(#[from(alloc)] AllocError),
+}
+
+/// The four parts of a word.
+fn parts_of(word: &str) -> Option<(&str, &str, &str, &str)> {
+    let mut parts = word.split(':');
+    let found = (parts.next()?, parts.next()?, parts.next()?, parts.next()?);
+    match parts.next() {
+        None => Some(found),
+        Some(_) => None,
+    }
+}
+
+/// The port, the quota and the slots.
+fn numbers_of(port: &str, quota: &str, slots: &str) -> Result<(u16, u64, u32), WordFault> {
+    let port = match port.parse::<u16>() {
+        Ok(port) if port > 0 => port,
+        _ => return Err(WordFault::Port),
+    };
+    let Ok(quota) = quota.parse::<u64>() else {
+        return Err(WordFault::Quota);
+    };
+    let Ok(slots) = slots.parse::<u32>() else {
+        return Err(WordFault::Slots);
+    };
+    Ok((port, quota, slots))
+}
+
+/// The port and the configuration that a word names.
+fn instance_of(
+    alloc: Global,
+    place: usize,
+    word: &str,
+) -> Result<(u16, InstanceConfig), InstancesFault> {
+    let Some((name, port, quota, slots)) = parts_of(word) else {
+        return Err(InstancesFault::Bad(place, WordFault::Parts));
+    };
+    match numbers_of(port, quota, slots) {
+        Ok((port, quota, slots)) => {
+            let name = String::from_str(alloc, name)?;
+            Ok((port, InstanceConfig { name, quota, slots }))
+        }
+        Err(fault) => Err(InstancesFault::Bad(place, fault)),
+    }
+}
+
+/// Which fault of the words a fault of their configurations is.
+fn fault_of(fault: ConfigFault) -> InstancesFault {
+    match fault {
+        ConfigFault::BadName(place) => InstancesFault::Bad(place, WordFault::Name),
+        ConfigFault::BadQuota(place) => InstancesFault::Bad(place, WordFault::Quota),
+        ConfigFault::BadSlots(place) => InstancesFault::Bad(place, WordFault::Slots),
+        ConfigFault::DuplicateName(place) => InstancesFault::Bad(place, WordFault::NameAgain),
+        ConfigFault::TooMany => InstancesFault::TooMany,
+        ConfigFault::NoMemory => InstancesFault::NoMemory(AllocError),
+    }
+}
+
+/// The instances of the words, or the first fault: in a word by itself; else in the configurations; else a port that is
+/// given again.
+pub fn instances_of(alloc: Global, words: &[&str]) -> Result<Instances, InstancesFault> {
+    let mut configs = Vec::new(alloc);
+    let mut ports: Vec<u16> = Vec::new(alloc);
+    for (place, word) in words.iter().enumerate() {
+        let (port, config) = instance_of(alloc, place, word)?;
+        ports.push(port)?;
+        configs.push(config)?;
+    }
+    let configs = match Configs::new(configs) {
+        Ok(configs) => configs,
+        Err(fault) => return Err(fault_of(fault)),
+    };
+    for place in 0..ports.len() {
+        if ports[..place].contains(&ports[place]) {
+            return Err(InstancesFault::Bad(place, WordFault::PortAgain));
+        }
+    }
+    Ok(Instances { configs, ports })
+}

@@ -1,0 +1,106 @@
+//! `remoted serve`.
+
+use crate::instances::{Instances, InstancesFault, instances_of};
+use host_sockets::HostSockets;
+use serve::serve;
+use std::fs;
+use std::io::{self, ErrorKind, Write};
+
+/// What is served, and for how long.
+#[derive(Drop)]
+pub struct Served<'a> {
+    /// The folder for the work of actions.
+    pub work: &'a str,
+    pub turns: u64,
+    /// A word `NAME:PORT:QUOTA:SLOTS` for each instance.
+    pub words: &'a [&'a str],
+}
+
+const DONE: u8 = 0;
+
+const FAILED: u8 = 1;
+
+const BAD_WORDS: u8 = 2;
+
+fn is_memory(error: &io::Error) -> bool {
+    error.kind() == ErrorKind::OutOfMemory
+}
+
+/// Tells why the words are refused, and gives the status for that.
+fn tell_fault<E: Write>(words: &[&str], fault: InstancesFault, errors: &mut E) -> io::Result<u8> {
+    match fault {
+        InstancesFault::Bad(place, reason) => {
+            let word = words.get(place).copied().unwrap_or("");
+            writeln!(errors, "remoted: bad instance {word}: {reason}")?;
+        }
+        InstancesFault::TooMany => {
+            writeln!(errors, "remoted: {fault}")?;
+        }
+        InstancesFault::NoMemory(refused) => return Err(io::Error::from(refused)),
+    }
+    Ok(BAD_WORDS)
+}
+
+/// Listens on the port of each instance; where it cannot on one, that is told, and the answer is no.
+fn listen<E: Write>(
+    sockets: &mut HostSockets<'_>,
+    ports: &[u16],
+    errors: &mut E,
+) -> io::Result<bool> {
+    for port in ports {
+        match sockets.listen(*port) {
+            Ok(()) => {}
+            Err(error) if is_memory(&error) => return Err(error),
+            Err(_) => {
+                writeln!(errors, "remoted: cannot listen on {port}")?;
+                return Ok(false);
+            }
+        }
+    }
+    Ok(true)
+}
+
+/// Prints which instance is served on which port.
+fn announce<O: Write>(instances: &Instances, output: &mut O) -> io::Result<()> {
+    for (config, port) in instances.configs.instances().iter().zip(&instances.ports) {
+        let name = &config.name;
+        writeln!(output, "listening {name} {port}")?;
+    }
+    output.flush()
+}
+
+/// Makes the folder for the work of actions, if it is not there; where it cannot, that is told, and the answer is no.
+fn make_folder<E: Write>(rt: &HostRuntime, work: &str, errors: &mut E) -> io::Result<bool> {
+    match fs::create_dir_all(rt, work) {
+        Ok(()) => Ok(true),
+        Err(error) if is_memory(&error) => Err(error),
+        Err(_) => {
+            writeln!(errors, "remoted: cannot make {work}")?;
+            Ok(false)
+        }
+    }
+}
+
+/// Serves instances on ports of 127.0.0.1, and gives the status with which the program ends. An error is one of the
+/// streams, or want of memory.
+pub fn serve_ports<O: Write, E: Write>(
+    rt: &HostRuntime,
+    served: &Served<'_>,
+    output: &mut O,
+    errors: &mut E,
+) -> io::Result<u8> {
+    let instances = match instances_of(rt.alloc(), served.words) {
+        Ok(instances) => instances,
+        Err(fault) => return tell_fault(served.words, fault, errors),
+    };
+    if !make_folder(rt, served.work, errors)? {
+        return Ok(FAILED);
+    }
+    let mut sockets = HostSockets::new(rt, rt.alloc())?;
+    if !listen(&mut sockets, &instances.ports, errors)? {
+        return Ok(FAILED);
+    }
+    announce(&instances, output)?;
+    serve(rt.alloc(), &instances.configs, &mut sockets, served.turns)?;
+    Ok(DONE)
+}

@@ -1,0 +1,4 @@
+mod Happenings
+mod Moments
+mod Keeps
+mod Ticks

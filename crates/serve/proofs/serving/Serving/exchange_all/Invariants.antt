@@ -1,0 +1,13 @@
+use Rattle.std.proofs.Common.{◌≡◌, ◌-◌, List}
+use Rattle.server_events.specs.Configs.{ConfigValue}
+use Rattle.serve.specs.Served.{IsServing}
+use Rattle.serve.proofs.serving.Serving.exchange_all.Given as goal
+
+abbrev pub invariant-loop-at : goal.invariant-loop-at
+invariant-loop-at g l = record {
+  serving : (configs : List ConfigValue) → IsServing configs (g.S.Sockets.happened l.fn.sockets) l.fn.self.server.instances l.fn.self.moment → IsServing configs (g.S.Sockets.happened l.sockets) l.self.server.instances l.self.moment;
+  instances : l.self.instances ≡ l.fn.self.instances;
+}
+
+abbrev pub decreases-loop-at : goal.decreases-loop-at
+decreases-loop-at g l = l.self.connections.len - l.at

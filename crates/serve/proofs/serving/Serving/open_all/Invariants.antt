@@ -1,0 +1,10 @@
+use Rattle.std.proofs.Common.{◌≡◌, List}
+use Rattle.server_events.specs.Configs.{ConfigValue}
+use Rattle.serve.specs.Served.{IsServing}
+use Rattle.serve.proofs.serving.Serving.open_all.Given as goal
+
+abbrev pub invariant-loop-instance : goal.invariant-loop-instance
+invariant-loop-instance g l = record {
+  serving : (configs : List ConfigValue) → IsServing configs (g.S.Sockets.happened l.fn.sockets) l.fn.self.server.instances l.fn.self.moment → IsServing configs (g.S.Sockets.happened l.sockets) l.self.server.instances l.self.moment;
+  instances : l.self.instances ≡ l.fn.self.instances;
+}

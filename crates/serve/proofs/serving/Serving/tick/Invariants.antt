@@ -1,0 +1,14 @@
+use Rattle.std.proofs.Common.{◌≡◌, List, ◌∷◌, []}
+use Rattle.server_events.specs.Configs.{ConfigValue}
+use Rattle.serve.specs.Happened.{SocketEvent, clock, Adds}
+use Rattle.serve.specs.Served.{IsServing}
+use Rattle.serve.proofs.Ticks.{IsTicking, Rises}
+use Rattle.serve.proofs.serving.Serving.tick.Given as goal
+
+abbrev pub invariant-loop-instance : goal.invariant-loop-instance
+invariant-loop-instance g l = record {
+  ticking : (configs : List ConfigValue) → IsServing configs (g.S.Sockets.happened l.fn.sockets) l.fn.self.server.instances l.fn.self.moment → IsTicking configs (g.S.Sockets.happened l.fn.sockets) l.self.moment l.instance l.self.server.instances;
+  adds : Adds (g.S.Sockets.happened l.fn.sockets) (g.S.Sockets.happened l.sockets) (clock l.self.moment ∷ []);
+  rises : Rises (g.S.Sockets.happened l.fn.sockets) l.self.moment;
+  instances : l.self.instances ≡ l.fn.self.instances;
+}

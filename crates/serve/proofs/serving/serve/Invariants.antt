@@ -1,0 +1,9 @@
+use Rattle.std.proofs.Common.{◌≡◌, length}
+use Rattle.serve.specs.Served.{IsServing}
+use Rattle.serve.proofs.serving.serve.Given as goal
+
+abbrev pub invariant-loop : goal.invariant-loop
+invariant-loop g l = record {
+  serving : IsServing l.configs (g.S.Sockets.happened l.sockets) l.serving.server.instances l.serving.moment;
+  instances : l.serving.instances ≡ length l.configs;
+}

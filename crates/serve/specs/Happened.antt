@@ -1,0 +1,75 @@
+-- What happens at the sockets of a server, and which events of it each instance is given.
+use Rattle.std.specs.Prelude.{◌≡◌, ℕ, ◌==◌, if◌then◌else◌, List, [], ◌∷◌, ◌++◌, length, take, fold, Option, Some, None, Result, Ok, Err, ⊤}
+use Rattle.std.specs.Option.{option_map}
+use Rattle.server_events.specs.Configs.{ConfigValue}
+use Rattle.server_events.specs.Events.{EventValue, WhatValue, opened, received, took, closed, tick}
+use Rattle.served_instance.specs.Lone.{Lone}
+use Rattle.run_record.specs.Runs.{run_of}
+use Rattle.serve.specs.declared.sockets.Socket.{Socket}
+
+-- at a port a connection was accepted under a number; these bytes were read from it; these were written to it; or it
+-- was closed
+pub data PortEvent : Type 0 where
+  accepted : ℕ → PortEvent
+  read : ℕ → List ℕ → PortEvent
+  written : ℕ → List ℕ → PortEvent
+  shut : ℕ → PortEvent
+
+-- the clock was read, in milliseconds; or something happened at the port of the instance of a number
+pub data SocketEvent : Type 0 where
+  clock : ℕ → SocketEvent
+  port : ℕ → PortEvent → SocketEvent
+
+-- ---- what a call of the sockets adds, by its result
+
+abbrev pub accepted_by : {E : Type 0} → Socket → Result ⊤ E → List SocketEvent
+accepted_by at (Ok x) = port at.instance (accepted at.connection) ∷ []
+accepted_by at (Err e) = []
+
+abbrev pub read_by : {E : Type 0} → Socket → Result ℕ E → List ℕ → List SocketEvent
+read_by at (Ok n) room = port at.instance (read at.connection (take n room)) ∷ []
+read_by at (Err e) room = []
+
+abbrev pub written_by : {E : Type 0} → Socket → Result ℕ E → List ℕ → List SocketEvent
+written_by at (Ok n) bytes = port at.instance (written at.connection (take n bytes)) ∷ []
+written_by at (Err e) bytes = []
+
+abbrev pub shut_by : Socket → List SocketEvent
+shut_by at = port at.instance (shut at.connection) ∷ []
+
+-- where it is known what happened, this happened next
+abbrev pub Adds : Option (List SocketEvent) → Option (List SocketEvent) → List SocketEvent → Type 0
+Adds before after more = after ≡ option_map (λ h. h ++ more) before
+
+-- ---- an instance's own events
+
+abbrev pub what_of : PortEvent → WhatValue
+what_of (accepted c) = opened c
+what_of (read c bytes) = received c bytes
+what_of (written c bytes) = took c (length bytes)
+what_of (shut c) = closed c
+
+abbrev pub moment_after : ℕ → SocketEvent → ℕ
+moment_after m (clock n) = n
+moment_after m (port j p) = m
+
+-- what the clock showed last
+abbrev pub moment_of : List SocketEvent → ℕ
+moment_of h = fold moment_after 0 h
+
+-- time goes on for each instance; what happens at a port is an event of its instance alone
+abbrev pub told_of : ℕ → ℕ → SocketEvent → List EventValue
+told_of i m (clock n) = record { moment = n; instance = i; what = tick } ∷ []
+told_of i m (port j p) = if j == i then record { moment = m; instance = j; what = what_of p } ∷ [] else []
+
+abbrev pub events_from : ℕ → ℕ → List SocketEvent → List EventValue
+events_from i m [] = []
+events_from i m (s ∷ h) = told_of i m s ++ events_from i (moment_after m s) h
+
+-- the events of instance i
+abbrev pub events_of : ℕ → List SocketEvent → List EventValue
+events_of i h = events_from i 0 h
+
+-- what instance i comes to by itself
+abbrev pub lone_of : ConfigValue → ℕ → List SocketEvent → Lone
+lone_of config i h = (run_of config (events_of i h)).lone

@@ -1,0 +1,59 @@
+//! Sockets that never wait, and a clock.
+
+ghost use Rattle.std.specs.Prelude.{◌≡◌, ◌≤◌, ℕ, List, [], ◌∷◌, Option, Some, None, IfSome};
+ghost use Rattle.std.specs.Io.{ReadsAtMost, WritesAtMost};
+
+use std::io::{self, ErrorKind};
+
+/// A connection at the port of an instance. A number may name another connection once the one that it named was closed.
+#[derive(Clone, Copy, Debug, PartialEq, Eq, Hash)]
+pub struct Socket {
+    /// The instance's number, counted from 0.
+    pub instance: u32,
+    pub connection: u32,
+}
+
+/// The ports of a server's instances, the connections to its clients, and a clock.
+///
+/// No call waits but `rest`: where one cannot be carried out now, it answers an error for which [`is_not_ready`] holds.
+pub trait Sockets {
+    ghost use Rattle.serve.specs.Happened.{SocketEvent, clock, accepted_by, read_by, written_by, shut_by, moment_of, Adds};
+
+    // All that happened at the sockets, in order, where it is known.
+    ghost happened: { Self → Option (List SocketEvent) } = { λ _. None };
+
+    /// The milliseconds since the start. They never fall.
+    fn now(&mut self) -> u64
+        ensures rises { IfSome (happened self.old) (λ h. moment_of h ≤ result) }
+        ensures adds { Adds (happened self.old) (happened self.new) (clock result ∷ []) };
+
+    /// Gives the next connection that waits at the instance's port this number.
+    fn accept(&mut self, socket: Socket) -> io::Result<()>
+        ensures adds { Adds (happened self.old) (happened self.new) (accepted_by socket result) };
+
+    /// Takes bytes that came, and says how many. With none the client sends no more.
+    fn read(&mut self, socket: Socket, room: &mut [u8]) -> io::Result<usize>
+        ensures bound { ReadsAtMost result room.new }
+        ensures adds { Adds (happened self.old) (happened self.new) (read_by socket result room.new) };
+
+    /// Sends the first of these bytes, and says how many.
+    fn write(&mut self, socket: Socket, bytes: &[u8]) -> io::Result<usize>
+        ensures bound { WritesAtMost result bytes.now }
+        ensures adds { Adds (happened self.old) (happened self.new) (written_by socket result bytes.now) };
+
+    /// Closes a connection: no more is sent on it. A fault is passed over.
+    fn close(&mut self, socket: Socket)
+        ensures adds { Adds (happened self.old) (happened self.new) (shut_by socket) };
+
+    /// How many calls failed, other than because nothing was ready.
+    fn faults(&self) -> u64;
+
+    /// Waits until something may be ready, or for a short while. So many turns went by in which nothing moved.
+    fn rest(&mut self, idle_turns: u64)
+        ensures adds { Adds (happened self.old) (happened self.new) [] };
+}
+
+/// Nothing can be moved now, and may be later.
+pub fn is_not_ready(error: &io::Error) -> bool {
+    matches!(error.kind(), ErrorKind::WouldBlock | ErrorKind::Interrupted)
+}

@@ -1,0 +1,201 @@
+//! Sockets with clients of their own behind them, whose pieces and faults a seed decides.
+
+use serve::{Socket, Sockets};
+use server_events::{Event, What};
+use std::alloc::Global;
+use std::io::{self, ErrorKind};
+
+/// How clients behave.
+#[derive(Clone, Copy)]
+pub struct Habits {
+    pub seed: u64,
+    /// No client goes, and no call fails.
+    pub is_steady: bool,
+}
+
+/// A client.
+#[derive(Drop)]
+pub struct Client {
+    pub instance: u32,
+    /// Which text it sends.
+    text: usize,
+    /// Under which number it was accepted.
+    pub number: Option<u32>,
+    sent: usize,
+    pub received: Vec<u8>,
+    is_closed: bool,
+}
+
+impl Client {
+    pub fn new(alloc: Global, instance: u32, text: usize) -> Client {
+        Client {
+            instance,
+            text,
+            number: None,
+            sent: 0,
+            received: Vec::new(alloc),
+            is_closed: false,
+        }
+    }
+}
+
+/// Sockets that note each event that a server is to be given.
+#[derive(Drop)]
+pub struct Fake<'a> {
+    alloc: Global,
+    texts: &'a [Vec<u8>],
+    pub clients: Vec<Client>,
+    pub events: Vec<Event>,
+    habits: Habits,
+    dice: u64,
+    moment: u64,
+    faults: u64,
+}
+
+impl<'a> Fake<'a> {
+    pub fn new(
+        alloc: Global,
+        texts: &'a [Vec<u8>],
+        clients: Vec<Client>,
+        habits: Habits,
+    ) -> Fake<'a> {
+        Fake {
+            alloc,
+            texts,
+            clients,
+            events: Vec::new(alloc),
+            habits,
+            dice: habits.seed,
+            moment: 0,
+            faults: 0,
+        }
+    }
+
+    pub fn is_steady(&self) -> bool {
+        self.habits.is_steady
+    }
+
+    /// The next number of a sequence that looks random (xorshift64).
+    fn throw(&mut self) -> u64 {
+        self.dice ^= self.dice << 13;
+        self.dice ^= self.dice >> 7;
+        self.dice ^= self.dice << 17;
+        self.dice >> 8
+    }
+
+    /// A number from 1 to this one, or 1.
+    fn up_to(&mut self, most: usize) -> usize {
+        self.throw() as usize % most.max(1) + 1
+    }
+
+    /// An error, now and then, but never with steady clients.
+    fn may_fail(&mut self, kind: ErrorKind, one_in: u64) -> io::Result<()> {
+        if !self.habits.is_steady && self.throw() % one_in.max(1) == 0 {
+            self.faults = self.faults.saturating_add(1);
+            return Err(io::Error::from(kind));
+        }
+        if self.throw() % 3 == 0 {
+            return Err(io::Error::from(ErrorKind::WouldBlock));
+        }
+        Ok(())
+    }
+
+    fn note(&mut self, instance: u32, what: What) -> io::Result<()> {
+        self.events.push(Event {
+            moment: self.moment,
+            instance,
+            what,
+        })?;
+        Ok(())
+    }
+
+    /// The place of the client that was accepted so.
+    fn place_of(&self, socket: Socket) -> io::Result<usize> {
+        let found = self.clients.iter().position(|client| {
+            client.number == Some(socket.connection)
+                && client.instance == socket.instance
+                && !client.is_closed
+        });
+        found.ok_or(io::Error::from(ErrorKind::NotConnected))
+    }
+
+    /// What of its text a client has still to send.
+    fn unsent(&self, place: usize) -> &'a [u8] {
+        let texts = self.texts;
+        let Some(client) = self.clients.get(place) else {
+            return &[];
+        };
+        match texts.get(client.text) {
+            Some(text) => text.get(client.sent..).unwrap_or(&[]),
+            None => &[],
+        }
+    }
+}
+
+impl<'a> Sockets for Fake<'a> {
+    fn now(&mut self) -> u64 {
+        self.moment = self.moment.saturating_add(self.throw() % 3);
+        for instance in 0..2 {
+            let _noted: io::Result<()> = self.note(instance, What::Tick);
+        }
+        self.moment
+    }
+
+    fn accept(&mut self, socket: Socket) -> io::Result<()> {
+        self.may_fail(ErrorKind::ConnectionAborted, 8)?;
+        let waiting = self.clients.iter().position(|client| client.number.is_none()
+            && client.instance == socket.instance);
+        let Some(place) = waiting else {
+            return Err(io::Error::from(ErrorKind::WouldBlock));
+        };
+        if let Some(client) = self.clients.get_mut(place) {
+            client.number = Some(socket.connection);
+        }
+        self.note(socket.instance, What::Open(socket.connection))
+    }
+
+    fn read(&mut self, socket: Socket, room: &mut [u8]) -> io::Result<usize> {
+        let place = self.place_of(socket)?;
+        self.may_fail(ErrorKind::ConnectionReset, 60)?;
+        let unsent = self.unsent(place);
+        if unsent.is_empty() && (self.habits.is_steady || self.throw() % 20 > 0) {
+            return Err(io::Error::from(ErrorKind::WouldBlock));
+        }
+        let most = unsent.len().min(room.len()).min(300);
+        let count = self.up_to(most).min(most);
+        room[..count].copy_from_slice(&unsent[..count]);
+        if let Some(client) = self.clients.get_mut(place) {
+            client.sent = client.sent.saturating_add(count);
+        }
+        let bytes = Vec::from_slice(self.alloc, &unsent[..count])?;
+        self.note(socket.instance, What::Bytes(socket.connection, bytes))?;
+        Ok(count)
+    }
+
+    fn write(&mut self, socket: Socket, bytes: &[u8]) -> io::Result<usize> {
+        let place = self.place_of(socket)?;
+        self.may_fail(ErrorKind::BrokenPipe, 60)?;
+        let most = bytes.len().min(65_536);
+        let count = self.up_to(most).min(most);
+        if let Some(client) = self.clients.get_mut(place) {
+            client.received.extend_from_slice(&bytes[..count])?;
+        }
+        self.note(socket.instance, What::Took(socket.connection, count as u32))?;
+        Ok(count)
+    }
+
+    fn close(&mut self, socket: Socket) {
+        if let Ok(place) = self.place_of(socket) {
+            if let Some(client) = self.clients.get_mut(place) {
+                client.is_closed = true;
+            }
+        }
+        let _noted: io::Result<()> = self.note(socket.instance, What::Closed(socket.connection));
+    }
+
+    fn faults(&self) -> u64 {
+        self.faults
+    }
+
+    fn rest(&mut self, _idle_turns: u64) {}
+}

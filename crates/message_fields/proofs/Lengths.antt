@@ -10,7 +10,7 @@ use Rattle.protobuf_wire.specs.Spelling.{wire_type}
 use Rattle.protobuf_wire.specs.Writing.{varint, content_text, record_text, text, number_field, bytes_field, message_field, FitsContent, IsWritable}
 use Rattle.protobuf_wire.proofs.Texts.{reads_spelled, text_spells}
 use Rattle.message_fields.specs.Fields.{parsed}
-use Rattle.message_fields.specs.Parts.{text_for, each_field, embedded_field, repeated_field, int64_field, int32_field, flag_field}
+use Rattle.message_fields.specs.Parts.{text_for, each_field, embedded_field, repeated_field, int64_field, int32_field, flag_field, sent_field}
 use Rattle.message_fields.proofs.Texts.{text_append}
 use Rattle.message_fields.proofs.ReadAgain.{int32_below}
 
@@ -90,6 +90,10 @@ module _ (field : ℕ) (positive : 0 < field) (small : field < 2 ^ 29) where
   pub embedded_numbered : {V : Type 0} (records_for : V → List Record) (o : Option V) → AllByRecursion IsNumbered (embedded_field records_for field o)
   embedded_numbered records_for None = tt
   embedded_numbered records_for (Some v) = message_numbered (text_for records_for v)
+
+  pub sent_numbered : (o : Option (List ℕ)) → AllByRecursion IsNumbered (sent_field field o)
+  sent_numbered None = tt
+  sent_numbered (Some t) = message_numbered t
 
 -- ---- embedded texts are no longer than the text that they stand in
 

@@ -9,7 +9,7 @@ use Rattle.protobuf_wire.specs.Record.{Number, Record}
 use Rattle.protobuf_wire.specs.Writing.{number_field, bytes_field, message_field}
 use Rattle.message_fields.specs.declared.error.MessageError.{MessageError}
 use Rattle.message_fields.specs.Fields.{number_in, payload_in, numbers, payloads, each_of, record_numbers, joined, repeated_numbers}
-use Rattle.message_fields.specs.Parts.{each_field, embedded_field}
+use Rattle.message_fields.specs.Parts.{each_field, embedded_field, sent_field}
 use Rattle.message_fields.specs.Again.{Lacks, HasField}
 
 other : (r : Record) (field : ℕ) → r.number ≢ field → eqb r.number field ≡ false
@@ -125,3 +125,7 @@ module _ (field another : ℕ) (ne : another ≢ field) where
   pub lacks_embedded : {V : Type 0} (records_for : V → List Record) (o : Option V) → Lacks field (embedded_field records_for another o)
   lacks_embedded records_for None = tt
   lacks_embedded records_for (Some v) = (ne, tt)
+
+  pub lacks_sent : (o : Option (List ℕ)) → Lacks field (sent_field another o)
+  lacks_sent None = tt
+  lacks_sent (Some t) = (ne, tt)

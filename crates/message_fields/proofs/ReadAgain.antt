@@ -1,5 +1,6 @@
 -- What is written of a field is read again, whatever other fields stand beside it.
-use Rattle.std.proofs.Common.{◌≡◌, ℕ, ℤ, pos, negsuc, ◌%◌, ◌^◌, ◌<◌, Bool, true, false, cond, eqb, ltb, List, [], ◌∷◌, length, map, Some, None, Result, Ok, refl, sym, ap, ◌∙◌, FitsSigned, arith}
+use Rattle.std.proofs.Common.{◌≡◌, ℕ, ℤ, pos, negsuc, ◌%◌, ◌^◌, ◌<◌, Bool, true, false, cond, eqb, ltb, List, [], ◌∷◌, length, map, Option, Some, None, Result, Ok, Err, refl, sym, ap, ◌∙◌, FitsSigned, arith}
+use Rattle.std.specs.Prelude.{IfSome, IsOk}
 use Rattle.std.specs.List.{AllByRecursion}
 use Rattle.std.specs.Int.{w32, w64, cast_signed, cast_unsigned}
 use Rattle.std.specs.Str.{is_utf8}
@@ -15,8 +16,8 @@ use Rattle.protobuf_wire.proofs.Tools.{bind_ok}
 use Rattle.protobuf_wire.proofs.Texts.{numbers_spelled, packed_spells}
 use Rattle.message_fields.specs.declared.error.MessageError.{MessageError}
 use Rattle.message_fields.specs.Answers.{lifted}
-use Rattle.message_fields.specs.Fields.{parsed, decoded, numbers, payloads, last_or, each_of, int64, int32, int32_of, flag, octets, utf8, string, repeated_string, repeated_numbers, repeated_enum, joined, embedded, repeated}
-use Rattle.message_fields.specs.Parts.{text_for, int64_field, int32_field, flag_field, string_field, repeated_enum_field, each_field, repeated_string_field, embedded_field, repeated_field}
+use Rattle.message_fields.specs.Fields.{parsed, decoded, numbers, payloads, last_or, each_of, int64, int32, int32_of, flag, octets, utf8, string, repeated_string, repeated_numbers, repeated_enum, joined, embedded, repeated, repeated_octets, sent}
+use Rattle.message_fields.specs.Parts.{text_for, int64_field, int32_field, flag_field, string_field, repeated_enum_field, each_field, repeated_string_field, embedded_field, repeated_field, repeated_octets_field, sent_field}
 use Rattle.message_fields.specs.Again.{HasField, IsReadAgain}
 use Rattle.message_fields.proofs.Places.{numbers_in_part, payloads_in_part, repeated_numbers_in_part}
 
@@ -99,6 +100,9 @@ all_utf8 (t ∷ ts) h = rw (h.0, all_utf8 ts h.1) refl
 pub repeated_string_again : (field : ℕ) (ts : List (List ℕ)) (rs : List Record) → AllByRecursion (λ t. is_utf8 t ≡ true) ts → HasField field (repeated_string_field field ts) rs → repeated_string field rs ≡ Ok ts
 repeated_string_again field ts rs ok h = ap (each_of utf8) (payloads_in_part field (each_field field ts) rs h ∙ each_alone field ts) ∙ all_utf8 ts ok
 
+pub repeated_octets_again : (field : ℕ) (ts : List (List ℕ)) (rs : List Record) → HasField field (repeated_octets_field field ts) rs → repeated_octets field rs ≡ ts
+repeated_octets_again field ts rs h = payloads_in_part field (each_field field ts) rs h ∙ each_alone field ts
+
 -- ---- repeated enums
 
 packed_alone : (field : ℕ) (ns : List ℕ) → numbers_of (packed_text ns) ≡ Ok ns → repeated_numbers field (packed_field field ns) ≡ Ok ns
@@ -154,3 +158,19 @@ module _ {V : Type 0} (value_of : List Record → Result V MessageError) (record
   repeated_again field vs rs again h =
       let ts : List (List ℕ) = map (text_for records_for) vs in
       ap (each_of (decoded value_of)) (payloads_in_part field (each_field field ts) rs h ∙ each_alone field ts) ∙ values_again vs again
+
+-- ---- messages as they were sent
+
+value_there : {A E : Type 0} (r : Result A E) → IsOk r → (x : A) × (r ≡ Ok x)
+value_there (Ok x) h = (x, refl)
+value_there (Err e) h = absurd cc
+
+module _ {V : Type 0} (value_of : List Record → Result V MessageError) where
+  pub sent_again : (field : ℕ) (o : Option (List ℕ)) (rs : List Record) → IfSome o (λ t. IsOk (decoded value_of t)) → HasField field (sent_field field o) rs → sent value_of field rs ≡ Ok o
+  unfolding each_of payloads
+  sent_again field None rs fit h = rw (payloads_in_part field [] rs h) refl
+  sent_again field (Some t) rs fit h =
+      let meant = value_there (decoded value_of t) fit in
+      let formed = bind_ok (parsed t) value_of meant.0 meant.1 in
+      let payload : payloads field rs ≡ t ∷ [] = payloads_in_part field (message_field field t) rs h ∙ payload_alone field t in
+      rw (payload, formed.1, append-nil t, meant.1) refl

@@ -104,6 +104,10 @@ utf8 b = if is_utf8 b then Ok b else Err NotUtf8
 abbrev pub repeated_string : ℕ → List Record → Result (List (List ℕ)) MessageError
 repeated_string field rs = each_of utf8 (payloads field rs)
 
+-- the bytes of each record
+abbrev pub repeated_octets : ℕ → List Record → List (List ℕ)
+repeated_octets field rs = payloads field rs
+
 abbrev pub string : ℕ → List Record → Result (List ℕ) MessageError
 string field rs = repeated_string field rs >>= λ texts. Ok (last_or [] texts)
 
@@ -129,3 +133,7 @@ repeated value_of field rs = each_of (decoded value_of) (payloads field rs)
 -- the bytes of an embedded message as they were sent
 abbrev pub as_sent : ℕ → List Record → Option (List ℕ)
 as_sent field rs = joined_payloads (payloads field rs)
+
+-- the bytes as they were sent, where they mean a message
+abbrev pub sent : {V : Type 0} → (List Record → Result V MessageError) → ℕ → List Record → Result (Option (List ℕ)) MessageError
+sent value_of field rs = embedded value_of field rs >>= λ _. Ok (as_sent field rs)

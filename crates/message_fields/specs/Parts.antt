@@ -32,6 +32,9 @@ each_field field (t ∷ ts) = message_field field t ++ each_field field ts
 abbrev pub repeated_string_field : ℕ → List (List ℕ) → List Record
 repeated_string_field field ts = each_field field ts
 
+abbrev pub repeated_octets_field : ℕ → List (List ℕ) → List Record
+repeated_octets_field field ts = each_field field ts
+
 -- one that is set is written, also with length 0
 abbrev pub embedded_field : {V : Type 0} → (V → List Record) → ℕ → Option V → List Record
 embedded_field records_for field None = []
@@ -39,3 +42,8 @@ embedded_field records_for field (Some v) = message_field field (text_for record
 
 abbrev pub repeated_field : {V : Type 0} → (V → List Record) → ℕ → List V → List Record
 repeated_field records_for field vs = each_field field (map (text_for records_for) vs)
+
+-- a message that is written as it was sent
+abbrev pub sent_field : ℕ → Option (List ℕ) → List Record
+sent_field field None = []
+sent_field field (Some t) = message_field field t

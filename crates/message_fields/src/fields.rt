@@ -8,7 +8,7 @@ ghost use Rattle.protobuf_wire.specs.Reading.{numbers_of};
 ghost use Rattle.protobuf_wire.specs.Shown.{view};
 ghost use Rattle.message_fields.specs.declared.error.MessageError.TheVariants.{NoMemory};
 ghost use Rattle.message_fields.specs.Answers.{Means, lifted};
-ghost use Rattle.message_fields.specs.Fields.{parsed, number_in, payload_in, numbers, payloads, last_or, utf8, repeated_string, string, octets, int64, int32, int32_of, flag, repeated_enum, record_numbers, as_sent};
+ghost use Rattle.message_fields.specs.Fields.{parsed, number_in, payload_in, numbers, payloads, last_or, utf8, repeated_string, repeated_octets, string, octets, int64, int32, int32_of, flag, repeated_enum, record_numbers, as_sent};
 ghost use Rattle.message_fields.specs.Joining.{with_records, joined_records, with_numbers, payloads_after};
 
 use crate::error::MessageError;
@@ -150,6 +150,26 @@ pub fn repeated_string<'a>(
         left = rest;
     }
     Ok(texts)
+}
+
+/// A `repeated bytes`: all payloads in order.
+#[tactic(auto, unfolding(crate::specs::Fields::payloads))]
+pub fn repeated_octets<'a>(
+    alloc: Global,
+    records: &[Field<'a>],
+    field: u32,
+) -> Result<Vec<&'a [u8]>, AllocError>
+    ensures { IfOk result (λ v. map (λ b. b.now) v.items ≡ repeated_octets field (map view records.now)) }
+{
+    let mut all = Vec::new(alloc);
+    let mut left = records;
+    'records: while let [record, rest @ ..] = left {
+        if let Some(payload) = payload_of(record, field) {
+            all.push(payload)?;
+        }
+        left = rest;
+    }
+    Ok(all)
 }
 
 /// Adds the numbers of a packed field's payload, each as an enum.

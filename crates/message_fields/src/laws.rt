@@ -1,13 +1,13 @@
 //! What reading and writing fields have to do with each other.
 
-ghost use Rattle.std.specs.Prelude.{◌≡◌, true, Bool, ℕ, ℤ, List, Result, Ok, Option, None, Some, FitsSigned, length, ◌<◌, ◌^◌};
+ghost use Rattle.std.specs.Prelude.{◌≡◌, true, Bool, ℕ, ℤ, List, Result, Ok, Option, None, Some, FitsSigned, IfSome, IsOk, length, ◌<◌, ◌^◌};
 ghost use Rattle.std.specs.Int.{w32, w64};
 ghost use Rattle.std.specs.List.{AllByRecursion, concat};
 ghost use Rattle.std.specs.Str.{is_utf8};
 ghost use Rattle.protobuf_wire.specs.Record.{Record};
 ghost use Rattle.protobuf_wire.specs.Writing.{bytes_field};
-ghost use Rattle.message_fields.specs.Fields.{int64, int32, flag, octets, string, repeated_string, repeated_enum, embedded, repeated};
-ghost use Rattle.message_fields.specs.Parts.{int64_field, int32_field, flag_field, string_field, repeated_string_field, repeated_enum_field, embedded_field, repeated_field};
+ghost use Rattle.message_fields.specs.Fields.{decoded, int64, int32, flag, octets, string, repeated_string, repeated_octets, repeated_enum, embedded, repeated, sent};
+ghost use Rattle.message_fields.specs.Parts.{int64_field, int32_field, flag_field, string_field, repeated_string_field, repeated_octets_field, repeated_enum_field, embedded_field, repeated_field, sent_field};
 ghost use Rattle.message_fields.specs.Again.{HasField, IsReadAgain};
 
 use crate::message::Message;
@@ -20,6 +20,7 @@ pub fn a_field_is_read_again()
     ensures octets { (field : ℕ) (t : List ℕ) (rs : List Record) → HasField field (bytes_field field t) rs → octets field rs ≡ t }
     ensures string { (field : ℕ) (t : List ℕ) (rs : List Record) → is_utf8 t ≡ true → HasField field (string_field field t) rs → string field rs ≡ Ok t }
     ensures repeated_string { (field : ℕ) (ts : List (List ℕ)) (rs : List Record) → AllByRecursion (λ t. is_utf8 t ≡ true) ts → HasField field (repeated_string_field field ts) rs → repeated_string field rs ≡ Ok ts }
+    ensures repeated_octets { (field : ℕ) (ts : List (List ℕ)) (rs : List Record) → HasField field (repeated_octets_field field ts) rs → repeated_octets field rs ≡ ts }
     ensures repeated_enum { (field : ℕ) (zs : List ℤ) (rs : List Record) → AllByRecursion (FitsSigned w32) zs → HasField field (repeated_enum_field field zs) rs → repeated_enum field rs ≡ Ok zs }
 {}
 
@@ -28,4 +29,5 @@ pub fn a_message_field_is_read_again<'a, M: Message<'a>>()
     ensures set { (field : ℕ) (v : M.Value) (rs : List Record) → IsReadAgain M.value_of M.records_for v → HasField field (embedded_field M.records_for field (Some v)) rs → embedded M.value_of field rs ≡ Ok (Some v) }
     ensures absent { (field : ℕ) (rs : List Record) → HasField field (embedded_field M.records_for field None) rs → embedded M.value_of field rs ≡ Ok None }
     ensures repeated { (field : ℕ) (vs : List M.Value) (rs : List Record) → AllByRecursion (IsReadAgain M.value_of M.records_for) vs → HasField field (repeated_field M.records_for field vs) rs → repeated M.value_of field rs ≡ Ok vs }
+    ensures sent { (field : ℕ) (o : Option (List ℕ)) (rs : List Record) → IfSome o (λ t. IsOk (decoded M.value_of t)) → HasField field (sent_field field o) rs → sent M.value_of field rs ≡ Ok o }
 {}

@@ -6,12 +6,12 @@ ghost use Rattle.protobuf_wire.specs.Record.{Record};
 ghost use Rattle.protobuf_wire.specs.Shown.{view};
 ghost use Rattle.message_fields.specs.declared.error.MessageError.{MessageError};
 ghost use Rattle.message_fields.specs.Answers.{Means};
-ghost use Rattle.message_fields.specs.Fields.{parsed, decoded, embedded, repeated, payloads};
+ghost use Rattle.message_fields.specs.Fields.{parsed, decoded, embedded, repeated, payloads, sent};
 ghost use Rattle.message_fields.specs.Parts.{text_for, embedded_field, repeated_field};
 ghost use Rattle.message_fields.specs.Joining.{embedded_joined};
 
 use crate::error::MessageError;
-use crate::fields::{fields_of, joined, payload_of};
+use crate::fields::{as_sent, fields_of, joined, payload_of};
 use protobuf_wire::{Field, Writer};
 use std::alloc::{AllocError, Global};
 
@@ -82,6 +82,19 @@ pub fn embedded<'a, M: Message<'a>>(
     ensures { Means (option_map M.shown) result (embedded M.value_of field (map view records.now)) }
 {
     one_of_joined(alloc, records, field)
+}
+
+/// The bytes of an embedded message as they were sent, or `None` where there are none. They are
+/// read as an `M`, whose faults are answered, and then kept as they are.
+pub fn sent<'a, M: Message<'a>>(
+    alloc: Global,
+    records: &[Field<'a>],
+    field: u32,
+) -> Result<Option<Vec<u8>>, MessageError>
+    ensures { Means (option_map (λ v. v.items)) result (sent M.value_of field (map view records.now)) }
+{
+    let _message: Option<M> = embedded(alloc, records, field)?;
+    Ok(as_sent(alloc, records, field)?)
 }
 
 /// Repeated messages, in order.

@@ -1,8 +1,8 @@
 //! Writing a field: a call for each kind of field. A default is left out.
 
-ghost use Rattle.std.specs.Prelude.{◌≡◌, ◌<◌, ◌^◌, ℕ, List, map, ◌++◌, OnOk};
+ghost use Rattle.std.specs.Prelude.{◌≡◌, ◌<◌, ◌^◌, ℕ, List, map, option_map, ◌++◌, OnOk};
 ghost use Rattle.protobuf_wire.specs.Writing.{text, bytes_field};
-ghost use Rattle.message_fields.specs.Parts.{int64_field, int32_field, flag_field, string_field, repeated_enum_field, repeated_string_field};
+ghost use Rattle.message_fields.specs.Parts.{int64_field, int32_field, flag_field, string_field, repeated_enum_field, repeated_octets_field, repeated_string_field, sent_field};
 
 use protobuf_wire::Writer;
 use std::alloc::AllocError;
@@ -66,6 +66,38 @@ pub fn put_repeated_string(
         writer.message(field, value.as_bytes())?;
     }
     Ok(())
+}
+
+/// Adds a `repeated bytes`, empty ones too.
+pub fn put_repeated_octets(
+    writer: &mut Writer,
+    field: u32,
+    values: &[&[u8]],
+) -> Result<(), AllocError>
+    requires positive { 0 < field }
+    requires small { field < 2 ^ 29 }
+    ensures { OnOk result (writer.new ≡ writer.old ++ text (repeated_octets_field field (map (λ b. b.now) values.now))) }
+{
+    for value in values {
+        writer.message(field, value)?;
+    }
+    Ok(())
+}
+
+/// Adds an embedded message by the bytes that were sent, where it is set.
+pub fn put_sent(
+    writer: &mut Writer,
+    field: u32,
+    message: &Option<Vec<u8>>,
+) -> Result<(), AllocError>
+    requires positive { 0 < field }
+    requires small { field < 2 ^ 29 }
+    ensures { OnOk result (writer.new ≡ writer.old ++ text (sent_field field (option_map (λ v. v.items) message.now))) }
+{
+    match message {
+        None => Ok(()),
+        Some(bytes) => writer.message(field, bytes),
+    }
 }
 
 /// Adds a repeated enum, packed in one record.

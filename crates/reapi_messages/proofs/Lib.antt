@@ -4,3 +4,4 @@ pub mod FindMissingAgain
 pub mod StatusesAgain
 pub mod BatchesAgain
 pub mod CapabilitiesAgain
+pub mod ByteStreamAgain

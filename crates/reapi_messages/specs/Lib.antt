@@ -15,3 +15,4 @@ pub mod FindMissing
 pub mod Statuses
 pub mod Batches
 pub mod Capabilities
+pub mod ByteStream

@@ -1,4 +1,5 @@
-//! Messages of the Remote Execution API, v2, and of google.rpc that it uses: read and written.
+//! Messages of the Remote Execution API, v2, and of google.rpc and google.bytestream that it uses:
+//! read and written.
 //!
 //! Every message is a type with a `Message` impl. `decode` gives the meaning of a text, and
 //! `encode_into` adds the canonical text. Strings and bytes borrow from the text that was read.
@@ -7,6 +8,7 @@
 #![tactic(auto)]
 
 mod batches;
+mod byte_stream;
 mod capabilities;
 mod digest;
 mod find_missing;
@@ -17,6 +19,10 @@ pub use batches::{
     BatchReadBlobsRequest, BatchReadBlobsResponse, BatchUpdateBlobsRequest,
     BatchUpdateBlobsResponse, ReadBlobResponse, UpdateBlobRequest, UpdateBlobResponse,
 };
+pub use byte_stream::{
+    QueryWriteStatusRequest, QueryWriteStatusResponse, ReadRequest, ReadResponse, WriteRequest,
+    WriteResponse,
+};
 pub use capabilities::{
     ActionCacheUpdateCapabilities, CacheCapabilities, ExecutionCapabilities,
     GetCapabilitiesRequest, SemVer, ServerCapabilities,
@@ -24,8 +30,9 @@ pub use capabilities::{
 pub use digest::Digest;
 pub use find_missing::{FindMissingBlobsRequest, FindMissingBlobsResponse};
 pub use laws::{
-    batch_read_blobs_is_read_again, batch_update_blobs_is_read_again, capabilities_are_read_again,
-    digests_are_read_again, find_missing_blobs_is_read_again, statuses_are_read_again,
+    batch_read_blobs_is_read_again, batch_update_blobs_is_read_again, byte_stream_is_read_again,
+    capabilities_are_read_again, digests_are_read_again, find_missing_blobs_is_read_again,
+    statuses_are_read_again,
 };
 pub use message_fields::{Field, Message, MessageError, WireError, Writer};
 pub use status::{Any, Status};

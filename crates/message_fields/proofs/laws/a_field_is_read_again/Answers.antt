@@ -1,4 +1,4 @@
-use Rattle.message_fields.proofs.ReadAgain.{int64_again, int32_again, flag_again, octets_again, string_again, repeated_string_again, repeated_enum_again}
+use Rattle.message_fields.proofs.ReadAgain.{int64_again, int32_again, flag_again, octets_again, string_again, repeated_string_again, repeated_octets_again, repeated_enum_again}
 use Rattle.message_fields.proofs.laws.a_field_is_read_again.Goals as goal
 
 pub returns-clause-int64 : goal.returns-clause-int64
@@ -21,3 +21,6 @@ returns-clause-repeated_string c = repeated_string_again
 
 pub returns-clause-repeated_enum : goal.returns-clause-repeated_enum
 returns-clause-repeated_enum c = repeated_enum_again
+
+pub returns-clause-repeated_octets : goal.returns-clause-repeated_octets
+returns-clause-repeated_octets c = repeated_octets_again

@@ -1,4 +1,4 @@
-use Rattle.message_fields.proofs.ReadAgain.{embedded_again, absent_again, repeated_again}
+use Rattle.message_fields.proofs.ReadAgain.{embedded_again, absent_again, repeated_again, sent_again}
 use Rattle.message_fields.proofs.laws.a_message_field_is_read_again.Goals as goal
 
 pub returns-clause-set : goal.returns-clause-set
@@ -9,3 +9,6 @@ returns-clause-absent g c = absent_again g.M.Message.value_of g.M.Message.record
 
 pub returns-clause-repeated : goal.returns-clause-repeated
 returns-clause-repeated g c = repeated_again g.M.Message.value_of g.M.Message.records_for
+
+pub returns-clause-sent : goal.returns-clause-sent
+returns-clause-sent g c = sent_again g.M.Message.value_of

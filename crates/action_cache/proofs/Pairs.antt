@@ -1,0 +1,193 @@
+-- Pairs of a cache, seen with their bytes.
+use Rattle.std.proofs.Common.{◌≡◌, ℕ, zero, suc, ◌+◌, ◌-◌, ◌<◌, ◌≤◌, ◌⊎◌, inl, inr, nat_le, Bool, true, false, cond, List, [], ◌∷◌, length, take, map, Option, Some, None, refl, sym, ap, ◌∙◌, arith}
+use Rattle.std.specs.Prelude.{option_map, slice_get}
+use Rattle.std.specs.declared.alloc.Global.{Global}
+use Rattle.std.specs.declared.vec.Vec.{Vec}
+use Rattle.std.specs.Map.{lookup, lookup_entry, remove_entry}
+use Rattle.std.proofs.lemmas.List.{take-map}
+use Rattle.std.proofs.lemmas.Bool.Decides.{nat_tests}
+use Rattle.lru.specs.LruCache.{LruCache, put_entries}
+use Rattle.lru.proofs.CallerLemmas.{Contains-lookup_entry}
+use Rattle.digest.specs.declared.Digest.{Digest}
+use Rattle.digest.specs.Naming.{same}
+use Rattle.digest.proofs.Same.{same_equal}
+use Rattle.instance_view.specs.Visible.{Blob, fronted, total, text_length, without_oldest}
+use Rattle.action_cache.specs.Results.{shown, front_within, length_given}
+
+abbrev pub Kept : Type 0
+Kept = Digest × Vec ℕ Global
+
+abbrev items_of : Vec ℕ Global → List ℕ
+items_of text = text.items
+
+pub lookup-shown : (t : Digest → Bool) (es : List Kept) → lookup t (map shown es) ≡ option_map items_of (lookup t es)
+lookup-shown t [] = refl
+lookup-shown t (e ∷ es) = go (t e.0) refl (lookup-shown t es) where
+  go : (b : Bool) → t e.0 ≡ b → lookup t (map shown es) ≡ option_map items_of (lookup t es) → lookup t (map shown (e ∷ es)) ≡ option_map items_of (lookup t (e ∷ es))
+  go true is ih = rw is refl
+  go false is ih = rw is ih
+
+pub lookup_some : (t : Digest → Bool) (es : List Kept) (text : Vec ℕ Global) → Some text ≡ lookup t es → Some text.items ≡ lookup t (map shown es)
+lookup_some t es text is = sym (lookup-shown t es ∙ ap (option_map items_of) (sym is))
+
+pub lookup_none : (t : Digest → Bool) (es : List Kept) → None ≡ lookup t es → None ≡ lookup t (map shown es)
+lookup_none t es is = sym (lookup-shown t es ∙ ap (option_map items_of) (sym is))
+
+pub lookup_entry-shown : (t : Digest → Bool) (es : List Kept) → lookup_entry t (map shown es) ≡ option_map shown (lookup_entry t es)
+lookup_entry-shown t [] = refl
+lookup_entry-shown t (e ∷ es) = go (t e.0) refl (lookup_entry-shown t es) where
+  go : (b : Bool) → t e.0 ≡ b → lookup_entry t (map shown es) ≡ option_map shown (lookup_entry t es) → lookup_entry t (map shown (e ∷ es)) ≡ option_map shown (lookup_entry t (e ∷ es))
+  go true is ih = rw is refl
+  go false is ih = rw is ih
+
+pub remove_entry-shown : (t : Digest → Bool) (es : List Kept) → remove_entry t (map shown es) ≡ map shown (remove_entry t es)
+remove_entry-shown t [] = refl
+remove_entry-shown t (e ∷ es) = go (t e.0) refl (remove_entry-shown t es) where
+  go : (b : Bool) → t e.0 ≡ b → remove_entry t (map shown es) ≡ map shown (remove_entry t es) → remove_entry t (map shown (e ∷ es)) ≡ map shown (remove_entry t (e ∷ es))
+  go true is ih = rw is refl
+  go false is ih = rw is (ap (λ (bs : List Blob). shown e ∷ bs) ih)
+
+pub fronted-shown : (t : Digest → Bool) (es : List Kept) → map shown (fronted t es) ≡ fronted t (map shown es)
+fronted-shown t es = go (lookup_entry t es) refl where
+  go : (o : Option Kept) → lookup_entry t es ≡ o → map shown (fronted t es) ≡ fronted t (map shown es)
+  go None is = let there : lookup_entry t (map shown es) ≡ None = lookup_entry-shown t es ∙ ap (option_map shown) is in rw (there, is) refl
+  go (Some e) is = let there : lookup_entry t (map shown es) ≡ Some (shown e) = lookup_entry-shown t es ∙ ap (option_map shown) is in let rest = remove_entry-shown t es in rw (there, is, rest) refl
+
+-- a use changes no text
+pub total-fronted : (t : Digest → Bool) (bs : List Blob) → total (fronted t bs) ≡ total bs
+total-fronted t bs = go (lookup_entry t bs) refl where
+  without : (bs : List Blob) (b : Blob) → lookup_entry t bs ≡ Some b → length b.1 + total (remove_entry t bs) ≡ total bs
+  without [] b is = cc
+  without (x ∷ xs) b is = at (t x.0) refl is (λ later. without xs b later) where
+    at : (c : Bool) → t x.0 ≡ c → cond c (Some x) (lookup_entry t xs) ≡ Some b → (lookup_entry t xs ≡ Some b → length b.1 + total (remove_entry t xs) ≡ total xs) → length b.1 + total (remove_entry t (x ∷ xs)) ≡ total (x ∷ xs)
+    at true c is ih = let same : x ≡ b = cc in rw (c, same) refl
+    at false c is ih = let rest = ih is in rw c (omega (arith, rest))
+
+  go : (o : Option Blob) → lookup_entry t bs ≡ o → total (fronted t bs) ≡ total bs
+  go None is = rw is refl
+  go (Some b) is = rw is (without bs b is)
+
+-- what is beyond the first n, where that is one pair at most
+pub total-take : (n : ℕ) (bs : List Blob) → length bs ≤ n + 1 → total (take n bs) + text_length (slice_get bs n) ≡ total bs
+total-take zero [] h = refl
+total-take zero (b ∷ []) h = omega arith
+total-take zero (b ∷ c ∷ bs) h = absurd (omega arith)
+total-take (suc n) [] h = refl
+total-take (suc n) (b ∷ bs) h = let ih = total-take n bs (omega arith) in omega (arith, ih)
+
+pub length-fronted : {X : Type 0} (t : Digest → Bool) (ps : List (Digest × X)) → length (fronted t ps) ≡ length ps
+length-fronted {X = X} t ps = go (lookup_entry t ps) refl where
+  without : (ps : List (Digest × X)) (p : Digest × X) → lookup_entry t ps ≡ Some p → length (remove_entry t ps) + 1 ≡ length ps
+  without [] p is = cc
+  without (x ∷ xs) p is = at (t x.0) refl is (λ later. without xs p later) where
+    at : (c : Bool) → t x.0 ≡ c → cond c (Some x) (lookup_entry t xs) ≡ Some p → (lookup_entry t xs ≡ Some p → length (remove_entry t xs) + 1 ≡ length xs) → length (remove_entry t (x ∷ xs)) + 1 ≡ length (x ∷ xs)
+    at true c is ih = rw c (omega arith)
+    at false c is ih = let rest = ih is in rw c (omega (arith, rest))
+
+  go : (o : Option (Digest × X)) → lookup_entry t ps ≡ o → length (fronted t ps) ≡ length ps
+  go None is = rw is refl
+  go (Some p) is = let rest = without ps p is in rw is (omega (arith, rest))
+
+-- ---- a pair is put in front, in the place of an earlier one
+
+removed_absent : (t : Digest → Bool) (es : List Kept) → lookup_entry t es ≡ None → remove_entry t es ≡ es
+removed_absent t [] h = refl
+removed_absent t (e ∷ es) h = go (t e.0) refl h (removed_absent t es) where
+  go : (b : Bool) → t e.0 ≡ b → cond b (Some e) (lookup_entry t es) ≡ None → (lookup_entry t es ≡ None → remove_entry t es ≡ es) → remove_entry t (e ∷ es) ≡ e ∷ es
+  go true is h later = cc
+  go false is h later = rw is (ap (λ (xs : List Kept). e ∷ xs) (later h))
+
+take_all : (n : ℕ) (es : List Kept) → length es ≤ n → take n es ≡ es
+take_all zero [] h = refl
+take_all (suc n) [] h = refl
+take_all zero (e ∷ es) h = absurd (omega arith)
+take_all (suc n) (e ∷ es) h = ap (λ (xs : List Kept). e ∷ xs) (take_all n es (omega arith))
+
+pub put_shown : (d : Digest) (text : Vec ℕ Global) (n : ℕ) (c : LruCache Digest (Vec ℕ Global)) → c.cap ≡ n + 1 → length c.entries ≤ n
+    → map shown (put_entries same c d text) ≡ (d, text.items) ∷ remove_entry (same d) (map shown c.entries)
+put_shown d text n c most few = go (lookup_entry (same d) c.entries) refl where
+  rest : map shown (remove_entry (same d) c.entries) ≡ remove_entry (same d) (map shown c.entries)
+  rest = sym (remove_entry-shown (same d) c.entries)
+
+  less : c.cap - 1 ≡ n
+  less = omega (arith, most)
+
+  go : (o : Option Kept) → lookup_entry (same d) c.entries ≡ o → map shown (put_entries same c d text) ≡ (d, text.items) ∷ remove_entry (same d) (map shown c.entries)
+  go None is = let absent = removed_absent (same d) c.entries is in rw (is, less, take_all n c.entries few) (ap (λ (bs : List Blob). (d, text.items) ∷ bs) (ap (map shown) (sym absent) ∙ rest))
+  go (Some e) is = let key : d ≡ e.0 = same_equal d e.0 (Contains-lookup_entry (same d) c.entries e is).1 in rw (is, ← key) (ap (λ (bs : List Blob). (d, text.items) ∷ bs) rest)
+
+total_removed : (t : Digest → Bool) (bs : List Blob) → total (remove_entry t bs) + length_given (lookup t bs) ≡ total bs
+total_removed t [] = refl
+total_removed t (b ∷ bs) = go (t b.0) refl (total_removed t bs) where
+  go : (c : Bool) → t b.0 ≡ c → total (remove_entry t bs) + length_given (lookup t bs) ≡ total bs → total (remove_entry t (b ∷ bs)) + length_given (lookup t (b ∷ bs)) ≡ total (b ∷ bs)
+  go true is ih = rw is (omega arith)
+  go false is ih = rw is (omega (arith, ih))
+
+pub put_total : (d : Digest) (text : Vec ℕ Global) (n : ℕ) (c : LruCache Digest (Vec ℕ Global)) → c.cap ≡ n + 1 → length c.entries ≤ n
+    → total (map shown (put_entries same c d text)) + length_given (option_map items_of (lookup (same d) c.entries)) ≡ total (map shown c.entries) + length text.items
+put_total d text n c most few =
+    let removed = total_removed (same d) (map shown c.entries) in
+    rw (put_shown d text n c most few, ← lookup-shown (same d) c.entries) (omega (arith, removed))
+
+length-shown : (es : List Kept) → length (map shown es) ≡ length es
+length-shown [] = refl
+length-shown (e ∷ es) = let ih = length-shown es in omega (arith, ih)
+
+slice_get-shown : (es : List Kept) (n : ℕ) → slice_get (map shown es) n ≡ option_map shown (slice_get es n)
+slice_get-shown [] n = refl
+slice_get-shown (e ∷ es) zero = refl
+slice_get-shown (e ∷ es) (suc n) = slice_get-shown es n
+
+pub pop_total : (es : List Kept) → total (map shown (take (length es - 1) es)) + text_length (option_map shown (slice_get es (length es - 1))) ≡ total (map shown es)
+pop_total es =
+    let lost = slice_get-shown es (length es - 1) in
+    let kept = total-take (length es - 1) (map shown es) (omega (arith, length-shown es)) in
+    let shown_kept : map shown (take (length es - 1) es) ≡ take (length es - 1) (map shown es) = sym (take-map shown (length es - 1) es) in
+    rw (shown_kept, ← lost) kept
+
+pub pop_shown : (es : List Kept) → map shown (take (length es - 1) es) ≡ without_oldest (map shown es)
+pop_shown es = rw (length-shown es) (sym (take-map shown (length es - 1) es))
+
+length-take_some : (n : ℕ) (es : List Kept) → n ≤ length es → length (take n es) ≡ n
+length-take_some zero es h = refl
+length-take_some (suc n) [] h = absurd (omega arith)
+length-take_some (suc n) (e ∷ es) h = ap (λ (m : ℕ). suc m) (length-take_some n es (omega arith))
+
+pub pop_length : (es : List Kept) → length (take (length es - 1) es) ≡ length es - 1
+pop_length es = length-take_some (length es - 1) es (omega arith)
+
+-- ---- what there is no room for
+
+front_whole : (n room : ℕ) (bs : List Blob) → length bs ≤ n → total bs ≤ room → front_within n room bs ≡ bs
+unfolding front_within
+front_whole zero room [] few short = refl
+front_whole (suc n) room [] few short = refl
+front_whole zero room (b ∷ bs) few short = absurd (omega arith)
+front_whole (suc n) room (b ∷ bs) few short =
+    let fits : nat_le (length b.1) room ≡ true = grind (arith, nat_tests) in
+    rw fits (ap (λ (xs : List Blob). b ∷ xs) (front_whole n (room - length b.1) bs (omega arith) (omega arith)))
+
+-- the last makes no difference where there is no room for all
+without_last : (n room m : ℕ) (bs : List Blob) → (n < length bs) ⊎ (room < total bs) → length bs ≡ m + 1 → front_within n room (take m bs) ≡ front_within n room bs
+unfolding front_within
+without_last zero room m bs over is = refl
+without_last (suc n) room m [] over is = absurd (omega arith)
+without_last (suc n) room zero (b ∷ x ∷ xs) over is = absurd (omega arith)
+without_last (suc n) room zero (b ∷ []) over is = go (nat_le (length b.1) room) refl where
+  go : (c : Bool) → nat_le (length b.1) room ≡ c → [] ≡ cond c (b ∷ front_within n (room - length b.1) []) []
+  go true fits = absurd (elim over [ inl few ↦ omega arith | inr short ↦ grind (arith, nat_tests) ])
+  go false fits = refl
+without_last (suc n) room (suc m) (b ∷ xs) over is = go (nat_le (length b.1) room) refl (λ past. without_last n (room - length b.1) m xs past (omega arith)) where
+  go : (c : Bool) → nat_le (length b.1) room ≡ c → ((n < length xs) ⊎ (room - length b.1 < total xs) → front_within n (room - length b.1) (take m xs) ≡ front_within n (room - length b.1) xs) → cond c (b ∷ front_within n (room - length b.1) (take m xs)) [] ≡ cond c (b ∷ front_within n (room - length b.1) xs) []
+  go true fits later = ap (λ (ys : List Blob). b ∷ ys) (later (elim over [ inl few ↦ inl (omega arith) | inr short ↦ inr (let le : length b.1 ≤ room = grind (arith, nat_tests) in omega (arith, le, short)) ]))
+  go false fits later = refl
+
+front_shorter : (n room : ℕ) (bs : List Blob) → (n < length bs) ⊎ (room < total bs) → front_within n room (take (length bs - 1) bs) ≡ front_within n room bs
+front_shorter n room [] over = absurd (elim over [ inl few ↦ omega arith | inr short ↦ omega arith ])
+front_shorter n room (b ∷ bs) over = without_last n room (length (b ∷ bs) - 1) (b ∷ bs) over (omega arith)
+
+pub front_popped : (n room : ℕ) (es : List Kept) → (n < length es) ⊎ (room < total (map shown es)) → front_within n room (without_oldest (map shown es)) ≡ front_within n room (map shown es)
+front_popped n room es over = front_shorter n room (map shown es) (elim over [ inl few ↦ inl (omega (arith, few, length-shown es)) | inr short ↦ inr short ])
+
+pub front_kept : (n room : ℕ) (es : List Kept) → length es ≤ n → total (map shown es) ≤ room → front_within n room (map shown es) ≡ map shown es
+front_kept n room es few short = front_whole n room (map shown es) (omega (arith, few, length-shown es)) short

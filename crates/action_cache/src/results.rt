@@ -1,0 +1,190 @@
+ghost use Rattle.std.specs.Prelude.{◌≡◌, ◌+◌, ◌-◌, ◌<◌, ◌≤◌, ◌⊎◌, true, false, [], ◌∷◌, length, map, is_some, option_map, IfOk, OnOk, OnErr};
+ghost use Rattle.std.specs.Option.{option_copied};
+ghost use Rattle.std.specs.Map.{lookup, remove_entry};
+ghost use Rattle.digest.specs.Naming.{same};
+ghost use Rattle.instance_view.specs.Visible.{fronted, total, text_length, without_oldest};
+ghost use Rattle.action_cache.specs.Results.{shown, front_within, stored, length_given};
+
+use digest::Digest;
+use lru::LruCache;
+use std::alloc::{AllocError, Global};
+use std::marker::Model;
+use std::num::NonZeroUsize;
+
+/// How many results an instance has at most.
+pub const MOST_RESULTS: usize = 10_000;
+
+/// How many bytes they have together at most.
+pub const MOST_RESULT_BYTES: u64 = 67_108_864;
+
+/// One more than there are at most, since the oldest goes after the newest has come.
+const CAPACITY: usize = MOST_RESULTS + 1;
+
+type Cache = LruCache<Digest, Vec<u8>>;
+
+/// Makes the pair of the digest the most recently used.
+fn promote(cache: &mut Cache, digest: &Digest)
+    ensures used { map shown cache.new.entries ≡ fronted (same digest.now) (map shown cache.old.entries) }
+    ensures total { total (map shown cache.new.entries) ≡ total (map shown cache.old.entries) }
+    ensures length { length cache.new.entries ≡ length cache.old.entries }
+    ensures cap { cache.new.cap ≡ cache.old.cap }
+{
+    cache.promote(digest);
+}
+
+/// The bytes of the digest.
+#[tactic(auto, using(crate::proofs::Pairs::lookup_some, crate::proofs::Pairs::lookup_none))]
+fn find<'a>(cache: &'a Cache, digest: &Digest) -> Option<&'a [u8]>
+    ensures { option_copied result ≡ lookup (same digest.now) (map shown cache.now.entries) }
+{
+    let text = cache.peek(digest)?;
+    Some(text.as_slice())
+}
+
+/// How long bytes are, and 0 for none.
+fn length_given(text: Option<Vec<u8>>) -> usize
+    ensures { result ≡ length_given (option_map (λ v. v.items) text) }
+{
+    match text {
+        Some(text) => text.len(),
+        None => 0,
+    }
+}
+
+/// How long the bytes of a pair are, and 0 for none.
+fn text_length(pair: Option<(Digest, Vec<u8>)>) -> usize
+    ensures { result ≡ text_length (option_map shown pair) }
+{
+    match pair {
+        Some((_, text)) => text.len(),
+        None => 0,
+    }
+}
+
+/// Puts a pair first, in the place of an earlier one, and says how long the earlier one's bytes were.
+fn put(cache: &mut Cache, digest: Digest, text: Vec<u8>) -> Result<usize, AllocError>
+    requires cap { cache.old.cap ≡ 10001 }
+    requires length { length cache.old.entries ≤ 10000 }
+    ensures put { OnOk result (map shown cache.new.entries ≡ (digest, text.items) ∷ remove_entry (same digest) (map shown cache.old.entries)) }
+    ensures dropped { IfOk result (λ dropped. total (map shown cache.new.entries) + dropped ≡ total (map shown cache.old.entries) + length text.items) }
+    ensures cap { cache.new.cap ≡ cache.old.cap }
+    ensures err { OnErr result (cache.new ≡ cache.old) }
+{
+    let earlier = cache.put(digest, text)?;
+    Ok(length_given(earlier))
+}
+
+/// Takes out the least recently used pair, and says how long its bytes were.
+fn pop(cache: &mut Cache) -> usize
+    ensures shorter { map shown cache.new.entries ≡ without_oldest (map shown cache.old.entries) }
+    ensures dropped { total (map shown cache.new.entries) + result ≡ total (map shown cache.old.entries) }
+    ensures length { length cache.new.entries ≡ length cache.old.entries - 1 }
+    ensures cap { cache.new.cap ≡ cache.old.cap }
+{
+    text_length(cache.pop_lru())
+}
+
+/// Whether there are more results, or bytes, than the limits allow.
+fn is_over(cache: &Cache, bytes: u64) -> bool
+    ensures over { result ≡ true → (10000 < length cache.now.entries) ⊎ (67108864 < bytes) }
+    ensures few { result ≡ false → length cache.now.entries ≤ 10000 }
+    ensures short { result ≡ false → bytes ≤ 67108864 }
+{
+    cache.len() > MOST_RESULTS || bytes > MOST_RESULT_BYTES
+}
+
+/// Takes out the least recently used pairs until the limits are kept.
+fn trim(cache: &mut Cache, bytes: &mut u64)
+    requires bytes { bytes.old ≡ total (map shown cache.old.entries) }
+    ensures entries { map shown cache.new.entries ≡ front_within 10000 67108864 (map shown cache.old.entries) }
+    ensures bytes { bytes.new ≡ total (map shown cache.new.entries) }
+    ensures few { length cache.new.entries ≤ 10000 }
+    ensures short { bytes.new ≤ 67108864 }
+    ensures cap { cache.new.cap ≡ cache.old.cap }
+{
+    'results: while is_over(cache, *bytes) {
+        *bytes -= pop(cache) as u64;
+    }
+}
+
+/// Stores a result that is not too long, and takes out the oldest past the limits.
+fn store(
+    cache: &mut Cache,
+    bytes: &mut u64,
+    digest: Digest,
+    text: Vec<u8>,
+) -> Result<(), AllocError>
+    requires bytes { bytes.old ≡ total (map shown cache.old.entries) }
+    requires cap { cache.old.cap ≡ 10001 }
+    requires few { length cache.old.entries ≤ 10000 }
+    requires short { bytes.old ≤ 67108864 }
+    requires fits { length text.items ≤ 67108864 }
+    ensures entries { OnOk result (map shown cache.new.entries ≡ front_within 10000 67108864 ((digest, text.items) ∷ remove_entry (same digest) (map shown cache.old.entries))) }
+    ensures bytes { bytes.new ≡ total (map shown cache.new.entries) }
+    ensures few { length cache.new.entries ≤ 10000 }
+    ensures short { bytes.new ≤ 67108864 }
+    ensures cap { cache.new.cap ≡ cache.old.cap }
+    ensures err { OnErr result (map shown cache.new.entries ≡ map shown cache.old.entries) }
+{
+    let length = text.len() as u64;
+    let dropped = put(cache, digest, text)?;
+    *bytes = *bytes + length - dropped as u64;
+    trim(cache, bytes);
+    Ok(())
+}
+
+/// An instance's results under the digests of their actions, the most recently used first. They own their bytes.
+#[derive(Drop)]
+pub struct Results {
+    cache: Cache,
+    bytes: u64,
+}
+
+impl Model for Results {
+    ghost use Rattle.std.specs.Prelude.{◌≡◌, ◌≤◌, List, length, map};
+    ghost use Rattle.instance_view.specs.Visible.{Blob, total};
+    ghost use Rattle.action_cache.specs.Results.{shown};
+
+    ghost Value = { List Blob };
+
+    ghost view = { λ r. map shown r.cache.entries };
+
+    ghost invariant = { λ r. (r.bytes ≡ total (map shown r.cache.entries)) × (r.cache.cap ≡ 10001) × (length r.cache.entries ≤ 10000) × (r.bytes ≤ 67108864) };
+}
+
+impl Results {
+    /// No results.
+    pub fn new(alloc: Global) -> Result<Results, AllocError>
+        ensures { IfOk result (λ results. results ≡ []) }
+    {
+        let most = NonZeroUsize::new(CAPACITY).unwrap();
+        let cache = LruCache::sparse(alloc, most)?;
+        Ok(Results { cache, bytes: 0 })
+    }
+
+    /// The bytes of an action's result. This is no use of it.
+    pub fn get(&self, action: &Digest) -> Option<&[u8]>
+        ensures { option_copied result ≡ lookup (same action.now) self.now }
+    {
+        find(&self.cache, action)
+    }
+
+    /// Makes an action's result the most recently used. It takes no memory.
+    pub fn touch(&mut self, action: &Digest)
+        ensures { self.new ≡ fronted (same action.now) self.old }
+    {
+        promote(&mut self.cache, action);
+    }
+
+    /// Stores the bytes of an action's result, in the place of an earlier one. Of all results the longest front
+    /// stays that has at most 10,000 results and 67,108,864 bytes; one that has more bytes changes nothing.
+    pub fn update(&mut self, action: &Digest, text: Vec<u8>) -> Result<(), AllocError>
+        ensures ok { OnOk result (self.new ≡ stored action.now text.items self.old) }
+        ensures err { OnErr result (self.new ≡ self.old) }
+    {
+        if text.len() as u64 > MOST_RESULT_BYTES {
+            return Ok(());
+        }
+        store(&mut self.cache, &mut self.bytes, *action, text)
+    }
+}

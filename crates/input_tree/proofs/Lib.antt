@@ -1,0 +1,4 @@
+mod Order
+mod Listed
+mod Using
+mod Paging

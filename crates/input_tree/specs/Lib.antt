@@ -1,0 +1,7 @@
+pub mod Names
+pub mod Directories
+pub mod Listing
+pub mod Answers
+pub mod Texts
+pub mod Pages
+pub mod Uses

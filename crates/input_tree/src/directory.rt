@@ -1,0 +1,158 @@
+//! Directories that are taken, and their texts.
+
+ghost use Rattle.std.specs.Prelude.{◌≡◌, ◌<◌, ◌≤◌, ℕ, map, option_map, IfOk};
+ghost use Rattle.std.specs.List.{filter_map};
+ghost use Rattle.tree_messages.specs.Directories.{directory_shown, directory_node_shown};
+ghost use Rattle.blob_pool.specs.Held.{count_at, text_at};
+ghost use Rattle.instance_view.specs.Shown.{holders, holders_seen, text_seen};
+ghost use Rattle.input_tree.specs.Directories.{has_nodes, has_order, is_directory, child_digest, children_in};
+ghost use Rattle.input_tree.specs.Listing.{children};
+ghost use Rattle.input_tree.specs.Texts.{texts_of};
+ghost use Rattle.input_tree.specs.Pages.{text_or_none};
+
+use crate::names::{are_apart, are_rising, have_form};
+use crate::nodes::digest_written;
+use blob_pool::{Hold, Pool, keep};
+use digest::Digest;
+use instance_view::{Seen, View};
+use message_fields::{Message, MessageError};
+use std::alloc::{AllocError, Global};
+use tree_messages::{Directory, DirectoryNode};
+
+/// The longest text that is taken for a directory, in bytes.
+pub const MOST_DIRECTORY_BYTES: usize = 67_108_864;
+
+fn has_nodes(directory: &Directory<'_>) -> bool
+    ensures { result ≡ has_nodes (directory_shown directory.now) }
+{
+    have_form(&directory.files)
+        && have_form(&directory.directories)
+        && have_form(&directory.symlinks)
+}
+
+fn has_order(directory: &Directory<'_>) -> bool
+    ensures { result ≡ has_order (directory_shown directory.now) }
+{
+    are_rising(&directory.files)
+        && are_rising(&directory.directories)
+        && are_rising(&directory.symlinks)
+        && are_apart(&directory.files, &directory.directories)
+        && are_apart(&directory.files, &directory.symlinks)
+        && are_apart(&directory.directories, &directory.symlinks)
+}
+
+/// Whether a directory is taken: each list is sorted by the bytes of its names, no name stands
+/// twice, names are path segments other than `.` and `..`, targets are relative, and digests have
+/// their form.
+pub fn check(directory: &Directory<'_>) -> bool
+    ensures { result ≡ is_directory (directory_shown directory.now) }
+{
+    has_nodes(directory) && has_order(directory)
+}
+
+/// The digests that directory nodes write, in order.
+fn digests_of(alloc: Global, nodes: &[DirectoryNode<'_>]) -> Result<Vec<Digest>, AllocError>
+    ensures { IfOk result (λ digests. digests.items ≡ filter_map child_digest (map directory_node_shown nodes.now)) }
+{
+    let mut digests = Vec::new(alloc);
+    let mut left = nodes;
+    'nodes: while let [first, rest @ ..] = left {
+        if let Some(digest) = digest_written(&first.digest) {
+            digests.push(digest)?;
+        }
+        left = rest;
+    }
+    Ok(digests)
+}
+
+/// The digests of the directories in the directory that a text spells, or `None` where it spells
+/// none that is taken.
+pub fn children_in(alloc: Global, text: &[u8]) -> Result<Option<Vec<Digest>>, AllocError>
+    ensures { IfOk result (λ found. option_map (λ digests. digests.items) found ≡ children_in text.now) }
+{
+    if text.len() > MOST_DIRECTORY_BYTES {
+        return Ok(None);
+    }
+    match Directory::decode(alloc, text) {
+        Ok(directory) if check(&directory) => Ok(Some(digests_of(alloc, &directory.directories)?)),
+        Err(MessageError::NoMemory) => Err(AllocError),
+        _ => Ok(None),
+    }
+}
+
+/// The same for a text that a pool holds, whose length is looked at before its bytes.
+fn children_held(alloc: Global, pool: &Pool, hold: &Hold) -> Result<Option<Vec<Digest>>, AllocError>
+    requires { 0 < count_at pool.now hold.now }
+    ensures { IfOk result (λ found. option_map (λ digests. digests.items) found ≡ children_in (text_at pool.now hold.now)) }
+{
+    if pool.length(hold) > MOST_DIRECTORY_BYTES as u64 {
+        return Ok(None);
+    }
+    let mut text = Vec::new(alloc);
+    pool.copy_into(hold, &mut text)?;
+    children_in(alloc, &text)
+}
+
+/// The same for a text that an instance has.
+fn children_seen(alloc: Global, pool: &Pool, seen: Seen) -> Result<Option<Vec<Digest>>, AllocError>
+    requires { (k : ℕ) → holders_seen seen k ≤ count_at pool.now k }
+    ensures { IfOk result (λ found. option_map (λ digests. digests.items) found ≡ children_in (text_seen pool.now seen)) }
+{
+    match seen {
+        Seen::Empty => children_in(alloc, &[]),
+        Seen::Text(kept) => {
+            let hold = pool.back(kept);
+            let children = children_held(alloc, pool, &hold);
+            let _ = keep(hold);
+            children
+        }
+    }
+}
+
+/// The digests of the directories in the directory of a digest, or `None` where an instance has no
+/// text of it or one that spells no directory that is taken.
+pub fn children(
+    alloc: Global,
+    view: &View,
+    pool: &Pool,
+    digest: &Digest,
+) -> Result<Option<Vec<Digest>>, AllocError>
+    requires { (k : ℕ) → holders view.now k ≤ count_at pool.now k }
+    ensures { IfOk result (λ found. option_map (λ digests. digests.items) found ≡ children (texts_of pool.now view.now) digest.now) }
+{
+    match view.get(digest) {
+        None => Ok(None),
+        Some(seen) => children_seen(alloc, pool, seen),
+    }
+}
+
+/// A copy of a text that an instance has.
+fn copy_of(alloc: Global, pool: &Pool, seen: Seen) -> Result<Vec<u8>, AllocError>
+    requires { (k : ℕ) → holders_seen seen k ≤ count_at pool.now k }
+    ensures { IfOk result (λ text. text.items ≡ text_seen pool.now seen) }
+{
+    let mut text = Vec::new(alloc);
+    if let Seen::Text(kept) = seen {
+        let hold = pool.back(kept);
+        let done = pool.copy_into(&hold, &mut text);
+        let _ = keep(hold);
+        done?;
+    }
+    Ok(text)
+}
+
+/// A copy of the text that an instance has of a digest, empty where it has none.
+pub fn text_or_none(
+    alloc: Global,
+    view: &View,
+    pool: &Pool,
+    digest: &Digest,
+) -> Result<Vec<u8>, AllocError>
+    requires { (k : ℕ) → holders view.now k ≤ count_at pool.now k }
+    ensures { IfOk result (λ text. text.items ≡ text_or_none (texts_of pool.now view.now) digest.now) }
+{
+    match view.get(digest) {
+        None => Ok(Vec::new(alloc)),
+        Some(seen) => copy_of(alloc, pool, seen),
+    }
+}

@@ -1,0 +1,35 @@
+ghost use Rattle.std.specs.Prelude.{◌≡◌};
+ghost use Rattle.input_tree.specs.declared.error.GetTreeError.TheVariants.{NoMemory};
+
+use std::alloc::{AllocError, AllocFailed};
+
+/// Why a tree is not given.
+#[derive(Clone, Copy, PartialEq, Eq)]
+pub enum GetTreeError {
+    /// There is no text of the root's digest.
+    NotFound,
+    /// The root is no directory that is taken.
+    BadDirectory,
+    /// There are more directories than 10,000.
+    TooMany,
+    /// The page size is negative, or the token is no place in the list.
+    BadPage,
+    /// A request for memory was refused.
+    NoMemory,
+}
+
+impl From<AllocError> for GetTreeError {
+    ghost from_gives = { λ _ error. error ≡ NoMemory };
+
+    fn from(_refused: AllocError) -> GetTreeError {
+        GetTreeError::NoMemory
+    }
+}
+
+impl<T: Drop> From<AllocFailed<T>> for GetTreeError {
+    ghost from_gives = { λ _ error. error ≡ NoMemory };
+
+    fn from(_refused: AllocFailed<T>) -> GetTreeError {
+        GetTreeError::NoMemory
+    }
+}

@@ -1,0 +1,143 @@
+//! The list of a tree's directories.
+
+ghost use Rattle.std.specs.Prelude.{◌≡◌, ◌≤◌, ℕ, Ok, IfErr, OnOk};
+ghost use Rattle.blob_pool.specs.Held.{count_at};
+ghost use Rattle.instance_view.specs.Shown.{holders};
+ghost use Rattle.input_tree.specs.Answers.{Fails, Lists};
+ghost use Rattle.input_tree.specs.Listing.{AreNone, children, listed_along, tree_list, with_listed, with_all_listed, with_children};
+ghost use Rattle.input_tree.specs.Texts.{texts_of};
+
+use crate::directory::children;
+use crate::error::GetTreeError;
+use blob_pool::Pool;
+use digest::Digest;
+use indexmap::IndexSet;
+use instance_view::View;
+use std::alloc::{AllocError, Global};
+
+/// The most directories that a tree's list has.
+pub const MOST_DIRECTORIES: usize = 10_000;
+
+/// The directories that are listed, and digests of which it is known that they have none.
+#[derive(Drop)]
+pub struct Listing {
+    pub listed: IndexSet<Digest>,
+    pub others: IndexSet<Digest>,
+}
+
+/// Lists a directory that is not listed yet.
+fn list_one(
+    alloc: Global,
+    view: &View,
+    pool: &Pool,
+    listing: &mut Listing,
+    digest: &Digest,
+) -> Result<(), AllocError>
+    requires held { (k : ℕ) → holders view.now k ≤ count_at pool.now k }
+    requires others { AreNone (texts_of pool.now view.now) listing.old.others.keys }
+    ensures listed { OnOk result (listing.new.listed.keys ≡ with_listed (texts_of pool.now view.now) listing.old.listed.keys digest.now) }
+    ensures others { OnOk result (AreNone (texts_of pool.now view.now) listing.new.others.keys) }
+{
+    if listing.listed.contains(digest) || listing.others.contains(digest) {
+        return Ok(());
+    }
+    if children(alloc, view, pool, digest)?.is_some() {
+        listing.listed.insert(*digest)?;
+    } else {
+        listing.others.insert(*digest)?;
+    }
+    Ok(())
+}
+
+/// Lists the directories that are not listed yet, in order.
+fn list_each(
+    alloc: Global,
+    view: &View,
+    pool: &Pool,
+    listing: &mut Listing,
+    digests: &[Digest],
+) -> Result<(), AllocError>
+    requires held { (k : ℕ) → holders view.now k ≤ count_at pool.now k }
+    requires others { AreNone (texts_of pool.now view.now) listing.old.others.keys }
+    ensures listed { OnOk result (listing.new.listed.keys ≡ with_all_listed (texts_of pool.now view.now) listing.old.listed.keys digests.now) }
+    ensures others { OnOk result (AreNone (texts_of pool.now view.now) listing.new.others.keys) }
+{
+    let mut left = digests;
+    'digests: while let [first, rest @ ..] = left {
+        list_one(alloc, view, pool, listing, first)?;
+        left = rest;
+    }
+    Ok(())
+}
+
+/// Lists what is in a directory.
+fn list_children(
+    alloc: Global,
+    view: &View,
+    pool: &Pool,
+    listing: &mut Listing,
+    digest: &Digest,
+) -> Result<(), AllocError>
+    requires held { (k : ℕ) → holders view.now k ≤ count_at pool.now k }
+    requires others { AreNone (texts_of pool.now view.now) listing.old.others.keys }
+    ensures listed { OnOk result (listing.new.listed.keys ≡ with_children (texts_of pool.now view.now) listing.old.listed.keys digest.now) }
+    ensures others { OnOk result (AreNone (texts_of pool.now view.now) listing.new.others.keys) }
+{
+    match children(alloc, view, pool, digest)? {
+        None => Ok(()),
+        Some(digests) => list_each(alloc, view, pool, listing, &digests),
+    }
+}
+
+/// Goes along the list to its end.
+#[tactic(auto, using(crate::proofs::Listed::along_full, crate::proofs::Listed::along_next, crate::proofs::Listed::along_end))]
+fn list_along(
+    alloc: Global,
+    view: &View,
+    pool: &Pool,
+    listing: &mut Listing,
+) -> Result<(), GetTreeError>
+    requires held { (k : ℕ) → holders view.now k ≤ count_at pool.now k }
+    requires others { AreNone (texts_of pool.now view.now) listing.old.others.keys }
+    ensures ok { OnOk result (listed_along 10000 (texts_of pool.now view.now) listing.old.listed.keys 0 ≡ Ok listing.new.listed.keys) }
+    ensures err { IfErr result (λ e. Fails e (listed_along 10000 (texts_of pool.now view.now) listing.old.listed.keys 0)) }
+{
+    let mut place = 0;
+    'directories: while let Some(directory) = listing.listed.get_index(place) {
+        if place == MOST_DIRECTORIES {
+            return Err(GetTreeError::TooMany);
+        }
+        let digest = *directory;
+        list_children(alloc, view, pool, listing, &digest)?;
+        place += 1;
+    }
+    Ok(())
+}
+
+/// The digests of a tree's directories: the root's, and then, going along the list, those of each
+/// directory that a listed one has, can be read, is taken (`check`) and is not listed yet.
+///
+/// A directory is read once for its own place, and once at most for all that name it.
+pub fn list_tree(
+    alloc: Global,
+    view: &View,
+    pool: &Pool,
+    root: &Digest,
+) -> Result<IndexSet<Digest>, GetTreeError>
+    requires held { (k : ℕ) → holders view.now k ≤ count_at pool.now k }
+    ensures { Lists result (tree_list (texts_of pool.now view.now) root.now) }
+{
+    if !view.contains(root) {
+        return Err(GetTreeError::NotFound);
+    }
+    if children(alloc, view, pool, root)?.is_none() {
+        return Err(GetTreeError::BadDirectory);
+    }
+    let mut listing = Listing {
+        listed: IndexSet::new(alloc),
+        others: IndexSet::new(alloc),
+    };
+    listing.listed.insert(*root)?;
+    list_along(alloc, view, pool, &mut listing)?;
+    Ok(listing.listed)
+}

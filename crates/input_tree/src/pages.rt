@@ -1,0 +1,147 @@
+//! The pages of a tree's list.
+
+ghost use Rattle.std.specs.Prelude.{◌≡◌, ◌+◌, ◌<◌, ◌^◌, [], map, length, ◌++◌, Some, None, IfOk, OnOk, if◌then◌else◌};
+ghost use Rattle.std.specs.Fmt.{decimal};
+ghost use Rattle.message_fields.specs.Writing.{text, message_field};
+ghost use Rattle.input_tree.specs.Pages.{page_before, page_bytes, page_from, page_text, pages_along, place_asked, size_asked, takes_more};
+
+use message_fields::{Message, Writer};
+use std::alloc::{AllocError, Global};
+use tree_messages::GetTreeResponse;
+
+/// The most bytes that the records of a page's directories take, unless there is only one.
+pub const MOST_PAGE_BYTES: usize = 4_000_000;
+
+/// The most directories of a page.
+pub const MOST_PAGE_DIRECTORIES: usize = 1_000;
+
+/// How many directories a request wants on a page at most, or `None` where it says a negative number.
+pub fn size_asked(page_size: i32) -> Option<usize>
+    ensures { result ≡ size_asked page_size }
+{
+    if page_size < 0 {
+        return None;
+    }
+    let size = page_size.unsigned_abs() as usize;
+    if size == 0 || size > MOST_PAGE_DIRECTORIES {
+        return Some(MOST_PAGE_DIRECTORIES);
+    }
+    Some(size)
+}
+
+/// The place in a list of so many that a token says, or `None` where it says none.
+pub fn place_asked(page_token: &str, count: usize) -> Option<usize>
+    ensures { result ≡ place_asked page_token.now count }
+{
+    if page_token.is_empty() {
+        return Some(0);
+    }
+    let place = script::decimal(page_token.as_bytes())?;
+    if place > count as u64 {
+        return None;
+    }
+    Some(place as usize)
+}
+
+/// How many bytes the record of a directory takes.
+fn record_length(alloc: Global, directory: &[u8]) -> Result<usize, AllocError>
+    ensures { IfOk result (λ count. count ≡ length (text (message_field 1 directory.now))) }
+{
+    let mut record = Writer::new(alloc);
+    record.message(1, directory)?;
+    Ok(record.as_bytes().len())
+}
+
+/// The response that has the directories of a page.
+fn response(
+    alloc: Global,
+    directories: Vec<&[u8]>,
+    next_page_token: &str,
+) -> Result<Vec<u8>, AllocError>
+    ensures { IfOk result (λ message. message.items ≡ page_text (record { directories = map (λ b. b.now) directories.entry.items; next_page_token = next_page_token.now })) }
+{
+    let response = GetTreeResponse {
+        directories,
+        next_page_token,
+    };
+    let mut message = Vec::new(alloc);
+    response.encode_into(&mut message)?;
+    Ok(message)
+}
+
+/// The response that has the directories of a page, behind which others begin at a place.
+fn response_before(
+    alloc: Global,
+    directories: Vec<&[u8]>,
+    place: usize,
+) -> Result<Vec<u8>, AllocError>
+    ensures { IfOk result (λ message. message.items ≡ page_text (record { directories = map (λ b. b.now) directories.entry.items; next_page_token = decimal place })) }
+{
+    let token = place.to_string(alloc)?;
+    response(alloc, directories, &token)
+}
+
+/// How many bytes a page of so many directories and bytes has with one more, whose record has so
+/// many, or `None` where it does not take it.
+fn bytes_with(size: usize, count: usize, bytes: usize, more: usize) -> Option<usize>
+    requires empty { count ≡ 0 → bytes ≡ 0 }
+    ensures { result ≡ (if takes_more size count bytes more then Some (bytes + more) else None) }
+{
+    if count == 0 {
+        return Some(more);
+    }
+    let total = bytes.checked_add(more)?;
+    if count < size && total <= MOST_PAGE_BYTES {
+        return Some(total);
+    }
+    None
+}
+
+/// The page to which the next directory goes: this one, or a new one once its response was added.
+fn page_for<'a>(
+    alloc: Global,
+    pages: &mut Vec<Vec<u8>>,
+    page: Vec<&'a [u8]>,
+    goes_on: bool,
+    place: usize,
+) -> Result<Vec<&'a [u8]>, AllocError>
+    ensures pages { OnOk result (map (λ p. p.items) pages.new.items ≡ map (λ p. p.items) pages.old.items ++ page_before goes_on place (map (λ b. b.now) page.entry.items)) }
+    ensures page { IfOk result (λ next. map (λ b. b.now) next.items ≡ page_from goes_on (map (λ b. b.now) page.entry.items)) }
+{
+    if goes_on {
+        return Ok(page);
+    }
+    pages.push(response_before(alloc, page, place)?)?;
+    Ok(Vec::new(alloc))
+}
+
+/// The responses that give directories page by page, the first of which has a place in the list.
+#[tactic(auto, unfolding(crate::specs::Pages::pages_along), using(crate::proofs::Paging::bytes_kept))]
+pub fn pages(
+    alloc: Global,
+    directories: &[Vec<u8>],
+    size: usize,
+    place: usize,
+) -> Result<Vec<Vec<u8>>, AllocError>
+    requires { place + length directories.now < 2 ^ 64 }
+    ensures { IfOk result (λ pages. map (λ page. page.items) pages.items ≡ pages_along size place [] (map (λ t. t.items) directories.now)) }
+{
+    let mut pages = Vec::new(alloc);
+    let mut page = Vec::new(alloc);
+    let mut bytes = 0;
+    let mut place = place;
+    let mut left = directories;
+    'directories: while let [first, rest @ ..] = left {
+        let more = record_length(alloc, first)?;
+        let total = bytes_with(size, page.len(), bytes, more);
+        page = page_for(alloc, &mut pages, page, total.is_some(), place)?;
+        page.push(first.as_slice())?;
+        bytes = total.unwrap_or(more);
+        place += 1;
+        left = rest;
+    }
+    if !page.is_empty() {
+        pages.push(response(alloc, page, "")?)?;
+    }
+    Ok(pages)
+}

@@ -1,0 +1,90 @@
+//! GetTree.
+
+ghost use Rattle.std.specs.Prelude.{◌≡◌, ◌<◌, ◌≤◌, ◌^◌, ℕ, length, map, IfOk, OnOk, OnErr};
+ghost use Rattle.blob_pool.specs.Held.{Slots, count_at};
+ghost use Rattle.instance_view.specs.Shown.{shown, holders};
+ghost use Rattle.input_tree.specs.Answers.{Answers};
+ghost use Rattle.input_tree.specs.Listing.{tree_list};
+ghost use Rattle.input_tree.specs.Pages.{digests_of, texts, pages_of, get_tree_reply};
+ghost use Rattle.input_tree.specs.Texts.{texts_of};
+ghost use Rattle.input_tree.specs.Uses.{all_used};
+
+use crate::directory::text_or_none;
+use crate::error::GetTreeError;
+use crate::listing::list_tree;
+use crate::pages::{pages, place_asked, size_asked};
+use crate::uses::use_all;
+use blob_pool::Pool;
+use digest::Digest;
+use instance_view::View;
+use std::alloc::{AllocError, Global};
+
+/// Copies of the texts of digests, empty where there is none.
+fn copies(
+    alloc: Global,
+    view: &View,
+    pool: &Pool,
+    digests: &[Digest],
+) -> Result<Vec<Vec<u8>>, AllocError>
+    requires { (k : ℕ) → holders view.now k ≤ count_at pool.now k }
+    ensures { IfOk result (λ copies. map (λ t. t.items) copies.items ≡ texts (texts_of pool.now view.now) digests.now) }
+{
+    let mut copies = Vec::new(alloc);
+    let mut left = digests;
+    'digests: while let [first, rest @ ..] = left {
+        copies.push(text_or_none(alloc, view, pool, first)?)?;
+        left = rest;
+    }
+    Ok(copies)
+}
+
+/// The responses that give the directories of a list, from the place that a request asks for.
+fn responses(
+    alloc: Global,
+    view: &View,
+    pool: &Pool,
+    listed: &[Digest],
+    page_size: i32,
+    page_token: &str,
+) -> Result<Vec<Vec<u8>>, GetTreeError>
+    requires held { (k : ℕ) → holders view.now k ≤ count_at pool.now k }
+    requires short { length listed.now < 2 ^ 63 }
+    ensures { Answers (λ pages. map (λ page. page.items) pages.items) result (pages_of (texts_of pool.now view.now) page_size page_token.now listed.now) }
+{
+    let (Some(size), Some(place)) = (size_asked(page_size), place_asked(page_token, listed.len()))
+    else {
+        return Err(GetTreeError::BadPage);
+    };
+    let directories = copies(alloc, view, pool, &listed[place..])?;
+    let pages = pages(alloc, &directories, size, place)?;
+    Ok(pages)
+}
+
+/// Answers GetTree: the responses, as messages in order, that give the directories of the root's
+/// tree, from the place that the token says on. Each directory of the list is then used, in order.
+/// A refusal changes nothing.
+///
+/// The list is that of `list_tree`. `page_size` is the most directories of a page: 0, and more than
+/// 1,000, are 1,000. A page takes directories until it is full or the next would bring their
+/// records over 4,000,000 bytes, and one at least. Each page but the last says the place in the
+/// list at which the next begins, in decimal digits.
+pub fn get_tree(
+    alloc: Global,
+    view: &mut View,
+    pool: &Pool,
+    root: &Digest,
+    page_size: i32,
+    page_token: &str,
+) -> Result<Vec<Vec<u8>>, GetTreeError>
+    requires held { (k : ℕ) → holders view.old k ≤ count_at pool.now k }
+    ensures pages { Answers (λ pages. map (λ page. page.items) pages.items) result (get_tree_reply (texts_of pool.now view.old) root.now page_size page_token.now) }
+    ensures used { (p : Slots) → OnOk result (shown p view.new ≡ all_used (digests_of (tree_list (texts_of pool.now view.old) root.now)) (shown p view.old)) }
+    ensures err { OnErr result (view.new ≡ view.old) }
+    ensures holders { (k : ℕ) → holders view.new k ≡ holders view.old k }
+    ensures limit { view.new.limit ≡ view.old.limit }
+{
+    let listed = list_tree(alloc, view, pool, root)?;
+    let pages = responses(alloc, view, pool, listed.as_slice(), page_size, page_token)?;
+    use_all(view, listed.as_slice());
+    Ok(pages)
+}

@@ -1,0 +1,20 @@
+ghost use Rattle.std.specs.Prelude.{◌≡◌, ℕ};
+ghost use Rattle.blob_pool.specs.Held.{Slots};
+ghost use Rattle.instance_view.specs.Shown.{shown, holders};
+ghost use Rattle.input_tree.specs.Uses.{all_used};
+
+use digest::Digest;
+use instance_view::View;
+
+/// Uses each digest, in order. It takes no memory.
+pub fn use_all(view: &mut View, digests: &[Digest])
+    ensures used { (p : Slots) → shown p view.new ≡ all_used digests.now (shown p view.old) }
+    ensures holders { (k : ℕ) → holders view.new k ≡ holders view.old k }
+    ensures limit { view.new.limit ≡ view.old.limit }
+{
+    let mut left = digests;
+    'digests: while let [first, rest @ ..] = left {
+        view.touch(first);
+        left = rest;
+    }
+}

@@ -1,0 +1,2 @@
+pub mod SegmentLemmas
+pub mod SizeLemmas

@@ -1,0 +1,4 @@
+pub mod Size
+pub mod Segments
+pub mod Shown
+pub mod Names

@@ -1,0 +1,41 @@
+-- The segments of a resource name: what stands between its slashes.
+use Rattle.std.specs.Prelude.{◌≡◌, ℕ, ◌==◌, Bool, List, [], ◌∷◌, ◌++◌, Option, Some, None, if◌then◌else◌}
+use Rattle.std.specs.Borrow.{Bor}
+use Rattle.std.specs.List.{slice_split, join_with_byte}
+use Rattle.std.specs.Option.{option_map}
+
+-- the parts of a text between its slashes (byte 47); one part more than there are slashes
+abbrev pub segments_of : List ℕ → List (List ℕ)
+segments_of text = slice_split (λ byte. byte == 47) text
+
+-- the segments of what is left of a text, and none once its last one was taken
+abbrev pub segments_left : Option (Bor (List ℕ)) → List (List ℕ)
+segments_left None = []
+segments_left (Some rest) = segments_of rest.now
+
+-- segments with a slash between each two, and none where there is no segment
+abbrev pub joined : List (List ℕ) → Option (List ℕ)
+joined [] = None
+joined (segment ∷ segments) = Some (join_with_byte 47 (segment ∷ segments))
+
+-- a text around the segment that it is divided at: what stands before the slash before it, where there is one, that
+-- segment, and those after it
+pub record Divided : Type 0 where
+  pub before : Option (List ℕ)
+  pub segment : List ℕ
+  pub after : List (List ℕ)
+
+-- the first segment that passes a test, where these were passed before it
+abbrev pub divided_after : List (List ℕ) → (List ℕ → Bool) → List (List ℕ) → Option Divided
+divided_after passed divides [] = None
+divided_after passed divides (segment ∷ segments) =
+    if divides segment then Some (record { before = joined passed; segment = segment; after = segments })
+    else divided_after (passed ++ segment ∷ []) divides segments
+
+abbrev pub divided : (List ℕ → Bool) → List (List ℕ) → Option Divided
+divided divides segments = divided_after [] divides segments
+
+-- a text ends with these bytes, which begin a segment
+pub record IsRest (text rest : List ℕ) : Type 0 where
+  pub passed : List (List ℕ)
+  pub front : segments_of text ≡ passed ++ segments_of rest

@@ -1,0 +1,13 @@
+//! Resource names of byte streams (remote_execution.proto, "ContentAddressableStorage"; bytestream.proto,
+//! `resource_name`): which blob of which instance a `Read` or a `Write` names.
+//!
+//! A name is cut at its slashes into segments. Nothing here takes memory.
+#![tactic(auto)]
+
+mod name;
+mod parse;
+mod segments;
+mod size;
+
+pub use name::{NameError, ReadName, WriteName};
+pub use parse::{parse_read, parse_write};

@@ -1,0 +1,31 @@
+ghost use Rattle.std.specs.Prelude.{◌≡◌};
+ghost use Rattle.std.specs.List.{list_all};
+ghost use Rattle.resource_names.specs.Size as sizes;
+ghost use Rattle.resource_names.specs.Size.{is_decimal_digit, size_in};
+
+fn are_digits(text: &str) -> bool
+    ensures { result ≡ list_all is_decimal_digit text.now }
+{
+    text.as_bytes().iter().all(|byte| byte.is_ascii_digit())
+}
+
+/// Whether a text is `0`, or decimal digits of which the first is not `0`.
+fn is_numeral(text: &str) -> bool
+    ensures { result ≡ sizes.is_numeral text.now }
+{
+    text == "0" || (!text.is_empty() && !text.as_bytes().starts_with(b"0") && are_digits(text))
+}
+
+/// The size that a segment writes: at most 2^63 - 1, as `size_bytes` of a digest.
+pub(crate) fn size(text: &str) -> Option<u64>
+    ensures { result ≡ size_in text.now }
+{
+    if !is_numeral(text) {
+        return None;
+    }
+    match text.parse::<u64>() {
+        Ok(size) if size < 1 << 63 => Some(size),
+        Ok(_) => None,
+        Err(_) => None,
+    }
+}

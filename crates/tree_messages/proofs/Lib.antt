@@ -1,0 +1,5 @@
+pub mod Texts
+pub mod DirectoriesAgain
+pub mod ResultsAgain
+pub mod GetTreeAgain
+pub mod ActionCacheAgain

@@ -1,0 +1,4 @@
+pub mod Directories
+pub mod Results
+pub mod GetTree
+pub mod ActionCache

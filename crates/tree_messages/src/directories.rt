@@ -1,0 +1,183 @@
+//! Directories and whole trees, as blobs have them.
+
+ghost use Rattle.std.specs.Prelude.{◌≡◌};
+
+use message_fields::{
+    Field, Message, MessageError, Writer, embedded, flag, put_embedded, put_flag, put_repeated,
+    put_string, repeated, string,
+};
+use reapi_messages::Digest;
+use std::alloc::{AllocError, Global};
+
+/// `build.bazel.remote.execution.v2.FileNode`.
+#[derive(Clone, Copy)]
+pub struct FileNode<'a> {
+    pub name: &'a str,
+    pub digest: Option<Digest<'a>>,
+    pub is_executable: bool,
+}
+
+impl<'a> Message<'a> for FileNode<'a> {
+    ghost use Rattle.tree_messages.specs.Directories.{FileNodeValue, file_node_shown, file_node_of, file_node_records};
+
+    ghost Value = { FileNodeValue };
+
+    ghost shown = { file_node_shown };
+
+    ghost value_of = { file_node_of };
+
+    ghost records_for = { file_node_records };
+
+    #[tactic(auto, unfolding(crate::specs::Directories::file_node_of))]
+    fn of_fields(alloc: Global, fields: &[Field<'a>]) -> Result<Self, MessageError> {
+        Ok(FileNode {
+            name: string(fields, 1)?,
+            digest: embedded(alloc, fields, 2)?,
+            is_executable: flag(fields, 4),
+        })
+    }
+
+    #[tactic(auto, using(crate::proofs::Texts::written_more))]
+    fn write(&self, writer: &mut Writer) -> Result<(), AllocError> {
+        put_string(writer, 1, self.name)?;
+        put_embedded(writer, 2, &self.digest)?;
+        put_flag(writer, 4, self.is_executable)
+    }
+}
+
+/// `build.bazel.remote.execution.v2.DirectoryNode`.
+#[derive(Clone, Copy)]
+pub struct DirectoryNode<'a> {
+    pub name: &'a str,
+    /// Of the text of a `Directory`.
+    pub digest: Option<Digest<'a>>,
+}
+
+impl<'a> Message<'a> for DirectoryNode<'a> {
+    ghost use Rattle.tree_messages.specs.Directories.{DirectoryNodeValue, directory_node_shown, directory_node_of, directory_node_records};
+
+    ghost Value = { DirectoryNodeValue };
+
+    ghost shown = { directory_node_shown };
+
+    ghost value_of = { directory_node_of };
+
+    ghost records_for = { directory_node_records };
+
+    #[tactic(auto, unfolding(crate::specs::Directories::directory_node_of))]
+    fn of_fields(alloc: Global, fields: &[Field<'a>]) -> Result<Self, MessageError> {
+        Ok(DirectoryNode {
+            name: string(fields, 1)?,
+            digest: embedded(alloc, fields, 2)?,
+        })
+    }
+
+    #[tactic(auto, using(crate::proofs::Texts::written_more))]
+    fn write(&self, writer: &mut Writer) -> Result<(), AllocError> {
+        put_string(writer, 1, self.name)?;
+        put_embedded(writer, 2, &self.digest)
+    }
+}
+
+/// `build.bazel.remote.execution.v2.SymlinkNode`.
+#[derive(Clone, Copy)]
+pub struct SymlinkNode<'a> {
+    pub name: &'a str,
+    pub target: &'a str,
+}
+
+impl<'a> Message<'a> for SymlinkNode<'a> {
+    ghost use Rattle.tree_messages.specs.Directories.{SymlinkNodeValue, symlink_node_shown, symlink_node_of, symlink_node_records};
+
+    ghost Value = { SymlinkNodeValue };
+
+    ghost shown = { symlink_node_shown };
+
+    ghost value_of = { symlink_node_of };
+
+    ghost records_for = { symlink_node_records };
+
+    #[tactic(auto, unfolding(crate::specs::Directories::symlink_node_of))]
+    fn of_fields(_alloc: Global, fields: &[Field<'a>]) -> Result<Self, MessageError> {
+        Ok(SymlinkNode {
+            name: string(fields, 1)?,
+            target: string(fields, 2)?,
+        })
+    }
+
+    #[tactic(auto, using(crate::proofs::Texts::written_more))]
+    fn write(&self, writer: &mut Writer) -> Result<(), AllocError> {
+        put_string(writer, 1, self.name)?;
+        put_string(writer, 2, self.target)
+    }
+}
+
+/// `build.bazel.remote.execution.v2.Directory`, as it was sent: nothing is checked.
+#[derive(Drop)]
+pub struct Directory<'a> {
+    pub files: Vec<FileNode<'a>>,
+    pub directories: Vec<DirectoryNode<'a>>,
+    pub symlinks: Vec<SymlinkNode<'a>>,
+}
+
+impl<'a> Message<'a> for Directory<'a> {
+    ghost use Rattle.tree_messages.specs.Directories.{DirectoryValue, directory_shown, directory_of, directory_records};
+
+    ghost Value = { DirectoryValue };
+
+    ghost shown = { directory_shown };
+
+    ghost value_of = { directory_of };
+
+    ghost records_for = { directory_records };
+
+    #[tactic(auto, unfolding(crate::specs::Directories::directory_of))]
+    fn of_fields(alloc: Global, fields: &[Field<'a>]) -> Result<Self, MessageError> {
+        Ok(Directory {
+            files: repeated(alloc, fields, 1)?,
+            directories: repeated(alloc, fields, 2)?,
+            symlinks: repeated(alloc, fields, 3)?,
+        })
+    }
+
+    #[tactic(auto, using(crate::proofs::Texts::written_more))]
+    fn write(&self, writer: &mut Writer) -> Result<(), AllocError> {
+        put_repeated(writer, 1, &self.files)?;
+        put_repeated(writer, 2, &self.directories)?;
+        put_repeated(writer, 3, &self.symlinks)
+    }
+}
+
+/// `build.bazel.remote.execution.v2.Tree`.
+#[derive(Drop)]
+pub struct Tree<'a> {
+    pub root: Option<Directory<'a>>,
+    /// All directories below the root.
+    pub children: Vec<Directory<'a>>,
+}
+
+impl<'a> Message<'a> for Tree<'a> {
+    ghost use Rattle.tree_messages.specs.Directories.{TreeValue, tree_shown, tree_of, tree_records};
+
+    ghost Value = { TreeValue };
+
+    ghost shown = { tree_shown };
+
+    ghost value_of = { tree_of };
+
+    ghost records_for = { tree_records };
+
+    #[tactic(auto, unfolding(crate::specs::Directories::tree_of))]
+    fn of_fields(alloc: Global, fields: &[Field<'a>]) -> Result<Self, MessageError> {
+        Ok(Tree {
+            root: embedded(alloc, fields, 1)?,
+            children: repeated(alloc, fields, 2)?,
+        })
+    }
+
+    #[tactic(auto, using(crate::proofs::Texts::written_more))]
+    fn write(&self, writer: &mut Writer) -> Result<(), AllocError> {
+        put_embedded(writer, 1, &self.root)?;
+        put_repeated(writer, 2, &self.children)
+    }
+}

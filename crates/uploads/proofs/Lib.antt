@@ -1,0 +1,3 @@
+pub mod ListLemmas
+mod TableLemmas
+mod FinishLemmas

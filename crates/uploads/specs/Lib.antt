@@ -1,0 +1,4 @@
+pub mod Uploads
+pub mod Shown
+pub mod Writing
+pub mod Errors

@@ -1,0 +1,33 @@
+ghost use Rattle.std.specs.Prelude.{◌≡◌, ◌≤◌, length};
+ghost use Rattle.uploads.specs.Shown.{key_shown};
+
+use arrayvec::ArrayString;
+use digest::Digest;
+
+/// The most bytes of a uuid.
+const MOST_UUID: usize = 128;
+
+/// What names an upload.
+#[derive(Clone, Copy, PartialEq, Eq, Hash)]
+pub struct UploadKey {
+    uuid: ArrayString<MOST_UUID>,
+    digest: Digest,
+}
+
+impl UploadKey {
+    /// The upload of a uuid, of at most 128 bytes, that is to have this digest.
+    pub fn new(uuid: &str, digest: Digest) -> UploadKey
+        requires { length uuid.now ≤ 128 }
+        ensures { key_shown result ≡ record { uuid = uuid.now; digest = digest } }
+    {
+        let uuid = ArrayString::from(uuid).unwrap();
+        UploadKey { uuid, digest }
+    }
+
+    /// The digest that is to name the text.
+    pub fn digest(&self) -> Digest
+        ensures { result ≡ (key_shown self.now).digest }
+    {
+        self.digest
+    }
+}

@@ -1,0 +1,128 @@
+ghost use Rattle.std.specs.Prelude.{◌≡◌, ◌≤◌, ◌^◌, ℕ, [], IsSome, OnOk, OnErr, length, option_map};
+ghost use Rattle.blob_pool.specs.Moves.{Moves};
+ghost use Rattle.instance_view.specs.Shown.{shown, holders};
+ghost use Rattle.quota_evict.specs.Admission.{admitted};
+ghost use Rattle.quota_evict.specs.Kept.{AreKept};
+ghost use Rattle.uploads.specs.Uploads.{upload_at, text_so_far, unexpired, WithinLimits};
+ghost use Rattle.uploads.specs.Writing.{Answers, begin_answer, append_answer, finish_answer, after_piece, after_finish};
+ghost use Rattle.uploads.specs.Shown.{key_shown, piece_shown};
+
+use crate::error::UploadError;
+use crate::key::UploadKey;
+use crate::steps::{self, Piece};
+use crate::table::{self, Table, find};
+use blob_pool::Pool;
+use instance_view::View;
+use std::alloc::Global;
+use std::marker::Model;
+
+/// The unfinished uploads of an instance.
+#[derive(Drop)]
+pub struct Uploads {
+    table: Table,
+}
+
+impl Model for Uploads {
+    ghost use Rattle.std.specs.Prelude.{map};
+    ghost use Rattle.uploads.specs.Uploads.{UploadList};
+    ghost use Rattle.uploads.specs.Shown.{entry_shown, AreWhole};
+
+    ghost Value = { UploadList };
+
+    ghost view = { λ u. map entry_shown u.table.entries };
+
+    ghost invariant = { λ u. AreWhole u.table.entries };
+}
+
+impl Uploads {
+    /// No uploads. It takes no memory.
+    pub fn new(alloc: Global) -> Uploads
+        ensures { result ≡ [] }
+    {
+        Uploads {
+            table: Table::new(alloc),
+        }
+    }
+
+    /// How many bytes of an upload there are so far, where it is there.
+    pub fn committed(&self, key: &UploadKey) -> Option<u64>
+        ensures { result ≡ option_map (λ upload. length upload.text) (upload_at (key_shown key.now) self.now) }
+    {
+        match find(&self.table, key) {
+            Some(upload) => Some(upload.draft.length()),
+            None => None,
+        }
+    }
+
+    /// Takes the first piece of a call, which begins the upload where it is not there. One that goes past the size
+    /// forgets the upload; any other refusal, and want of memory, leaves the uploads as they were.
+    pub fn begin(
+        &mut self,
+        alloc: Global,
+        quota: u64,
+        moment: u64,
+        key: &UploadKey,
+        piece: &Piece<'_>,
+    ) -> Result<(), UploadError>
+        requires quota { quota ≤ 2 ^ 40 }
+        requires within { WithinLimits quota self.old }
+        ensures answer { Answers result (begin_answer quota (key_shown key.now) (piece_shown piece.now) self.old) }
+        ensures uploads { self.new ≡ after_piece moment (key_shown key.now) (piece_shown piece.now) result self.old }
+        ensures within { WithinLimits quota self.new }
+    {
+        steps::begin(&mut self.table, alloc, quota, moment, key, piece)
+    }
+
+    /// Takes a later piece of a call, whose upload may be gone. One that goes past the size forgets the upload; any
+    /// other refusal, and want of memory, leaves the uploads as they were.
+    pub fn append(
+        &mut self,
+        alloc: Global,
+        quota: u64,
+        moment: u64,
+        key: &UploadKey,
+        piece: &Piece<'_>,
+    ) -> Result<(), UploadError>
+        requires quota { quota ≤ 2 ^ 40 }
+        requires within { WithinLimits quota self.old }
+        ensures answer { Answers result (append_answer quota (key_shown key.now) (piece_shown piece.now) self.old) }
+        ensures uploads { self.new ≡ after_piece moment (key_shown key.now) (piece_shown piece.now) result self.old }
+        ensures within { WithinLimits quota self.new }
+    {
+        steps::append(&mut self.table, alloc, quota, moment, key, piece)
+    }
+
+    /// Ends an upload. Where its digest names its text, the text is admitted to the instance's view; else it is
+    /// refused. Either way the upload is forgotten. For want of memory everything stays as it was.
+    pub fn finish(
+        &mut self,
+        alloc: Global,
+        quota: u64,
+        view: &mut View,
+        pool: &mut Pool,
+        key: &UploadKey,
+    ) -> Result<(), UploadError>
+        requires quota { quota ≤ 2 ^ 40 }
+        requires kept { AreKept quota pool.old view.old }
+        requires within { WithinLimits quota self.old }
+        requires there { IsSome (upload_at (key_shown key.now) self.old) }
+        ensures answer { Answers result (finish_answer (key_shown key.now) self.old) }
+        ensures uploads { self.new ≡ after_finish (key_shown key.now) result self.old }
+        ensures within { WithinLimits quota self.new }
+        ensures admitted { OnOk result (shown pool.new view.new ≡ admitted view.old.limit quota (key_shown key.now).digest (text_so_far (key_shown key.now) self.old) (shown pool.old view.old)) }
+        ensures err { OnErr result ((view.new ≡ view.old) × (pool.new ≡ pool.old)) }
+        ensures moves { Moves pool.old pool.new (holders view.old) (holders view.new) }
+        ensures kept { AreKept quota pool.new view.new }
+        ensures limit { view.new.limit ≡ view.old.limit }
+    {
+        steps::finish(&mut self.table, alloc, quota, view, pool, key)
+    }
+
+    /// Forgets the uploads that were last written to 600,000 or more milliseconds ago. It takes no memory.
+    pub fn expire(&mut self, moment: u64)
+        ensures left { self.new ≡ unexpired moment self.old }
+        ensures within { (quota : ℕ) → WithinLimits quota self.old → WithinLimits quota self.new }
+    {
+        table::expire(&mut self.table, moment);
+    }
+}

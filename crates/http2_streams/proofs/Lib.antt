@@ -5,7 +5,7 @@ mod Sides
 mod Received
 mod ReceivedBlocks
 mod Put
-mod Law
+pub mod Law
 mod Events
 pub mod PutLaw
 pub mod LiveLaw

@@ -1,0 +1,15 @@
+pub mod Choices
+pub mod Nexts
+pub mod Numbered
+pub mod Answers
+pub mod Written
+pub mod Controls
+pub mod Turns
+pub mod Follows
+pub mod Singles
+pub mod Responses
+pub mod All
+pub mod Pasts
+pub mod Standings
+pub mod Ends
+pub mod Answerable

@@ -1,0 +1,37 @@
+-- The pasts of connections, and the frames that they are made of.
+use Rattle.std.proofs.Common.{◌≡◌, ℕ, ◌<◌, ◌^◌, ◌%◌, List, [], ◌∷◌, ◌++◌, refl, ap, ◌∙◌, sym, subst, arith, inl, inr}
+use Rattle.std.specs.List.{AllByRecursion}
+use Rattle.std.proofs.lemmas.List.Sums.{fold-append}
+use Rattle.http2_frames.specs.declared.frame.RawFrame.{RawFrame}
+use Rattle.http2_frames.specs.Wire.{Spells, Split, IsSplit}
+use Rattle.http2_frames.specs.Reading.{split}
+use Rattle.http2_frames.proofs.Divisions.{split_found}
+use Rattle.conn_core.specs.Past.{Past, opening}
+use Rattle.client_reading.specs.Changes.{Change, change, IsReceivable, IsChange, IsPast}
+use Rattle.client_reading.specs.Reads.{Reads}
+use Rattle.client_reading.proofs.Choices.{all_append}
+use Rattle.client_reading.proofs.All.{reads_past}
+
+below : (n m : ℕ) → n % 2 ^ 31 ≡ m → m < 2 ^ 31
+below n m h = omega (arith, h)
+
+spelled_frames : (text : List ℕ) (fs : List RawFrame) → Spells text fs → AllByRecursion IsReceivable fs
+spelled_frames text [] h = tt
+spelled_frames text (f ∷ fs) h = let t = h.3 in ((t.short, below _ f.stream t.stream), spelled_frames h.1 fs h.4)
+
+split_frames : (p text : List ℕ) (s : Split) → IsSplit p text s → AllByRecursion IsReceivable s.frames
+split_frames p text s (inl h) = spelled_frames h.2.front s.frames h.2.frames
+split_frames p text s (inr (inl h)) = subst (λ (x : Split). AllByRecursion IsReceivable x.frames) (sym h.1) tt
+split_frames p text s (inr (inr h)) = subst (λ (x : Split). AllByRecursion IsReceivable x.frames) (sym h.1) tt
+
+pub frames_received : (p text : List ℕ) → AllByRecursion IsReceivable (split p text).frames
+frames_received p text = split_frames p text (split p text) (split_found p text)
+
+pub first_past : IsPast opening
+first_past = ([], tt, refl)
+
+pub next_past : (p : Past) (c : Change) → IsChange c → IsPast p → IsPast (change p c)
+next_past p c is h = (h.0 ++ c ∷ [], all_append IsChange h.0 (c ∷ []) h.1 (is, tt), ap (λ (q : Past). change q c) h.2 ∙ sym (fold-append change opening h.0 (c ∷ [])))
+
+pub past_read : (p : Past) → IsPast p → Reads p
+past_read p h = subst (λ (q : Past). Reads q) (sym h.2) (reads_past h.0 h.1)

@@ -1,0 +1,151 @@
+-- Every frame that is put can be written, so that it is read again.
+use Rattle.std.proofs.Common.{◌≡◌, ℕ, ◌<◌, ◌≤◌, ◌^◌, ◌+◌, List, [], ◌∷◌, ◌++◌, refl, ap, sym, subst, arith, length, inl, inr}
+use Rattle.std.specs.Prelude.{Bool, true, false, not, ◌&&◌, map, take, min, Ok, Err}
+use Rattle.std.specs.List.{AllByRecursion}
+use Rattle.std.proofs.lemmas.List.{length-take}
+use Rattle.std.proofs.lemmas.List.Elements.{filter_map-append}
+use Rattle.http2_flow.specs.Credit.{left}
+use Rattle.http2_frames.specs.declared.codes.ErrorCode.{ErrorCode}
+use Rattle.http2_frames.specs.declared.codes.ErrorCode.TheVariants.{EnhanceYourCalm}
+use Rattle.http2_frames.specs.declared.error.FrameError.{FrameError}
+use Rattle.http2_frames.specs.declared.frame.RawFrame.{RawFrame}
+use Rattle.http2_frames.specs.declared.frame.Frame.{Frame}
+use Rattle.http2_frames.specs.declared.frame.Frame.TheVariants.{Data}
+use Rattle.http2_frames.specs.Writing.{IsStream, IsWritable, text_of, raw_of}
+use Rattle.http2_frames.specs.Frames.{frame_of}
+use Rattle.http2_frames.proofs.Again.{again, texts_again}
+use Rattle.http2_streams.specs.declared.event.StreamEvent.{StreamEvent}
+use Rattle.http2_streams.specs.Diary.{Entry, In, Unreadable, Out, Took, sent, frame_out, highest, has_failed, window, connection_window, is_ended_by_client}
+use Rattle.http2_streams.specs.Rules.{causes, control_frames}
+use Rattle.grpc_calls.specs.Responses.{is_last}
+use Rattle.grpc_calls.proofs.Blocks.{short}
+use Rattle.grpc_sending.specs.declared.piece.Piece.{Piece}
+use Rattle.grpc_sending.specs.Bytes.{position, untaken}
+use Rattle.grpc_sending.specs.Owed.{Owed, left_on}
+use Rattle.grpc_sending.specs.Pump.{natural, block_frame, reset_after, pumped}
+use Rattle.grpc_sending.proofs.Diaries.{sent_more}
+use Rattle.conn_core.specs.Past.{Past, opening}
+use Rattle.conn_core.specs.Received.{Outcome, outcome, outcome_of, fits, fitting, all_fit, goaway, fault_frames, entries, fault_entries}
+use Rattle.client_reading.specs.Changes.{Change, change, past_of, IsReceivable, IsChange, BytesReceived, FrameRead, FaultMet, ItemGiven, BytesTaken, FramesPut, EventsGiven}
+use Rattle.client_reading.specs.Reads.{ReadsFrames}
+use Rattle.client_reading.proofs.Choices.{choose, all_append, all_by, fold_keeps}
+use Rattle.client_reading.proofs.Numbered.{IsFramed, highest_low, live_numbered}
+use Rattle.client_reading.proofs.Answers.{code_low, answers_writable}
+use Rattle.client_reading.proofs.Nexts.{Next, IsFront, portion, pump_keeps}
+
+-- all frames that were received are frames, and all that were put can be written
+pub record Sound (d : List Entry) : Type 0 where
+  pub framed : AllByRecursion IsFramed d
+  pub written : AllByRecursion IsWritable (sent d)
+
+outs_framed : (fs : List Frame) → AllByRecursion IsFramed (map Out fs)
+outs_framed [] = tt
+outs_framed (f ∷ fs) = (tt, outs_framed fs)
+
+pub sound_put : (d : List Entry) (fs : List Frame) → AllByRecursion IsWritable fs → Sound d → Sound (d ++ map Out fs)
+sound_put d fs h s = record {
+  framed = all_append IsFramed d (map Out fs) s.framed (outs_framed fs);
+  written = subst (λ (gs : List Frame). AllByRecursion IsWritable gs) (sym (sent_more d fs)) (all_append IsWritable (sent d) fs s.written h);
+}
+
+-- an entry that puts nothing
+abbrev IsSilent : Entry → Type 0
+IsSilent e = sent (e ∷ []) ≡ []
+
+append_none : (d : List Entry) (xs : List Frame) → xs ≡ [] → sent d ++ xs ≡ sent d ++ []
+append_none d xs h = ap (λ (ys : List Frame). sent d ++ ys) h
+
+sound_entry : (d : List Entry) (e : Entry) → IsSilent e → IsFramed e → Sound d → Sound (d ++ e ∷ [])
+sound_entry d e silent framed s = record {
+  framed = all_append IsFramed d (e ∷ []) s.framed (framed, tt);
+  written = subst (λ (gs : List Frame). AllByRecursion IsWritable gs) (sym (filter_map-append frame_out d (e ∷ []))) (all_append IsWritable (sent d) (sent (e ∷ [])) s.written (subst (λ (gs : List Frame). AllByRecursion IsWritable gs) (sym silent) tt));
+}
+
+-- ---- what is put for a frame
+
+goaway_writable : (last : ℕ) (code : ErrorCode) → last < 2 ^ 31 → IsWritable (goaway last code)
+goaway_writable last code low = (low, code_low code, omega arith)
+
+fitting_writable : (n : ℕ) (fs : List Frame) → AllByRecursion IsWritable fs → AllByRecursion IsWritable (fitting n fs)
+fitting_writable n [] h = tt
+fitting_writable n (f ∷ fs) h = choose (AllByRecursion IsWritable) (fits n f) (f ∷ fitting (n + length (text_of f)) fs) [] (λ _. (h.0, fitting_writable (n + length (text_of f)) fs h.1)) (λ _. tt)
+
+abbrev IsWrittenOutcome : Outcome → Type 0
+IsWrittenOutcome o = AllByRecursion IsWritable o.put
+
+outcome_by : (n before after : ℕ) (r : _) → before < 2 ^ 31 → after < 2 ^ 31 → ((a : StreamEvent) → r ≡ Ok a → AllByRecursion IsWritable (control_frames a)) → IsWrittenOutcome (outcome_of n before after r)
+outcome_by n before after (Err code) low high h = (goaway_writable before code low, tt)
+outcome_by n before after (Ok a) low high h =
+    choose IsWrittenOutcome (all_fit n (control_frames a)) _ _ (λ _. h a refl)
+    (λ _. all_append IsWritable (fitting n (control_frames a)) (goaway after EnhanceYourCalm ∷ []) (fitting_writable n (control_frames a) (h a refl)) (goaway_writable after EnhanceYourCalm high, tt))
+
+outcome_writable : (d : List Entry) (f : RawFrame) → AllByRecursion IsFramed d → IsReceivable f → AllByRecursion IsWritable (outcome d f).put
+outcome_writable d f framed is =
+    outcome_by (untaken d) (highest d) (highest (d ++ In f ∷ [])) (causes d f) (highest_low d framed)
+    (highest_low (d ++ In f ∷ []) (all_append IsFramed d (In f ∷ []) framed (is, tt))) (λ a h. answers_writable d f a framed is h)
+
+two_steps : (d : List Entry) (e : Entry) (fs : List Frame) → (d ++ e ∷ []) ++ map Out fs ≡ d ++ e ∷ map Out fs
+two_steps [] e fs = refl
+two_steps (x ∷ d) e fs = ap (λ (es : List Entry). x ∷ es) (two_steps d e fs)
+
+sound_frame : (d : List Entry) (f : RawFrame) → IsReceivable f → Sound d → Sound (d ++ entries d f)
+sound_frame d f is s = subst Sound (two_steps d (In f) (outcome d f).put) (sound_put (d ++ In f ∷ []) (outcome d f).put (outcome_writable d f s.framed is) (sound_entry d (In f) refl is s))
+
+fault_writable : (failed : Bool) (last : ℕ) (code : ErrorCode) → last < 2 ^ 31 → AllByRecursion IsWritable (fault_frames failed last code)
+fault_writable true last code low = tt
+fault_writable false last code low = (goaway_writable last code low, tt)
+
+sound_fault : (d : List Entry) (e : FrameError) (code : ErrorCode) → Sound d → Sound (d ++ fault_entries d e code)
+sound_fault d e code s = subst Sound (two_steps d (Unreadable e) (fault_frames (has_failed d) (highest d) code)) (sound_put (d ++ Unreadable e ∷ []) (fault_frames (has_failed d) (highest d) code) (fault_writable (has_failed d) (highest d) code (highest_low d s.framed)) (sound_entry d (Unreadable e) refl tt s))
+
+-- ---- what the pump puts
+
+reset_writable : (s : ℕ) (b : Bool) → IsStream s → AllByRecursion IsWritable (reset_after s b)
+reset_writable s true is = ((is, omega arith), tt)
+reset_writable s false is = tt
+
+part_low : (size a b : ℕ) → min (min 16384 size) (min a b) ≤ 16384
+part_low size a b = omega arith
+
+taken_low : (n : ℕ) (xs : List ℕ) → length (take n xs) ≤ n
+taken_low n xs = omega (arith, length-take n xs)
+
+front_writable : (d : List Entry) (s : ℕ) (ps : List Piece) (fs : List Frame) → IsStream s → IsFront d s ps fs → AllByRecursion IsWritable fs
+front_writable d s ps fs is (inl b) =
+    let short' = short (position d) b.block in
+    let here : IsWritable (block_frame d s b.block) = (is, omega (arith, short')) in
+    subst (λ (gs : List Frame). AllByRecursion IsWritable gs) (sym b.put) (here, reset_writable s (is_last b.block && not (is_ended_by_client d s)) is)
+front_writable d s ps fs is (inr p) =
+    let low = part_low (length p.bytes) (natural (left (window d s))) (natural (left (connection_window d))) in
+    let less = taken_low (portion d s p.bytes) p.bytes in
+    let here : IsWritable (Data s false (take (portion d s p.bytes) p.bytes)) = (is, omega (arith, low, less)) in
+    subst (λ (gs : List Frame). AllByRecursion IsWritable gs) (sym p.put) (here, tt)
+
+sound_turn : (os : List Owed) (d : List Entry) (fs : List Frame) → Next d os fs → Sound d → Sound (d ++ map Out fs)
+sound_turn os d fs n s = sound_put d fs (front_writable d n.stream (left_on d os n.stream) fs (live_numbered d n.stream s.framed n.lives) n.front) s
+
+pub sound_pumped : (d : List Entry) (os : List Owed) → Sound d → Sound (pumped d os)
+sound_pumped d os s = pump_keeps Sound os (sound_turn os) d s
+
+-- ---- every past
+
+pub sound_change : (p : Past) (c : Change) → IsChange c → Sound p.diary → Sound (change p c).diary
+sound_change p (BytesReceived bytes) is s = s
+sound_change p (FrameRead f) is s = sound_frame p.diary f is s
+sound_change p (FaultMet e code) is s = sound_fault p.diary e code s
+sound_change p (ItemGiven t item) is s = s
+sound_change p (BytesTaken n) is s = sound_entry p.diary (Took n) refl tt s
+sound_change p FramesPut is s = sound_pumped p.diary p.owed s
+sound_change p (EventsGiven left) is s = s
+
+sound_opening : Sound opening.diary
+sound_opening = record { framed = (tt, tt); written = ((((omega arith, omega arith), tt), omega arith, λ h. cc), tt) }
+
+pub sound_past : (cs : List Change) → AllByRecursion IsChange cs → Sound (past_of cs).diary
+sound_past cs all = fold_keeps (λ (p : Past). Sound p.diary) IsChange change opening cs sound_change all sound_opening
+
+pub sound_reads : (d : List Entry) → Sound d → ReadsFrames d
+sound_reads d s = record { divided = texts_again [] (sent d) s.written; understood = all_by IsWritable (λ f. frame_of (raw_of f) ≡ Ok f) (sent d) again s.written }
+
+pub frames_read : (cs : List Change) → AllByRecursion IsChange cs → ReadsFrames (past_of cs).diary
+frames_read cs all = sound_reads (past_of cs).diary (sound_past cs all)

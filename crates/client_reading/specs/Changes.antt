@@ -1,0 +1,52 @@
+-- The pasts that a connection can have: what is made of its opening by these changes.
+use Rattle.std.specs.Prelude.{◌≡◌, ◌<◌, ◌≤◌, ◌^◌, ℕ, List, ◌++◌, length, fold, Some}
+use Rattle.std.specs.List.{AllByRecursion}
+use Rattle.http2_frames.specs.declared.codes.ErrorCode.{ErrorCode}
+use Rattle.http2_frames.specs.declared.error.FrameError.{FrameError}
+use Rattle.http2_frames.specs.declared.frame.RawFrame.{RawFrame}
+use Rattle.http2_streams.specs.Rules.{reading_fault}
+use Rattle.grpc_sending.specs.Owed.{Item}
+use Rattle.conn_core.specs.declared.event.CallEvent.{CallEvent}
+use Rattle.conn_core.specs.Past.{Past, opening, with_frame, with_fault, with_item, with_taken, with_pumped}
+
+pub data Change : Type 0 where
+  -- bytes were received
+  BytesReceived : List ℕ → Change
+  -- the next frame of them was read
+  FrameRead : RawFrame → Change
+  -- they are no frame
+  FaultMet : FrameError → ErrorCode → Change
+  -- an item was given to a stream
+  ItemGiven : ℕ → Item → Change
+  -- the client took so many bytes
+  BytesTaken : ℕ → Change
+  -- all was put that could be put
+  FramesPut : Change
+  -- of the events of calls that are due these are left
+  EventsGiven : List CallEvent → Change
+
+abbrev pub change : Past → Change → Past
+change p (BytesReceived bytes) = record p { text = p.text ++ bytes }
+change p (FrameRead f) = with_frame p f
+change p (FaultMet e code) = with_fault p e code
+change p (ItemGiven s item) = with_item p s item
+change p (BytesTaken n) = with_taken p n
+change p FramesPut = with_pumped p
+change p (EventsGiven left) = record p { due = left }
+
+-- a frame as it can be read: section 4.2 for its length, section 4.1 for its stream
+abbrev pub IsReceivable : RawFrame → Type 0
+IsReceivable f = (length f.payload ≤ 16384) × (f.stream < 2 ^ 31)
+
+-- what a change supposes: frames are frames, and an error is that of its fault
+abbrev pub IsChange : Change → Type 0
+IsChange (FrameRead f) = IsReceivable f
+IsChange (FaultMet e code) = reading_fault e ≡ Some code
+IsChange _ = Unit {0}
+
+abbrev pub past_of : List Change → Past
+past_of cs = fold change opening cs
+
+-- what such changes made of the opening
+abbrev pub IsPast : Past → Type 0
+IsPast p = (cs : List Change) × AllByRecursion IsChange cs × (p ≡ past_of cs)

@@ -1,0 +1,4 @@
+pub mod Changes
+pub mod Responses
+pub mod Reads
+pub mod Answerable

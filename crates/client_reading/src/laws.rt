@@ -1,0 +1,35 @@
+//! What holds of every past of a connection.
+
+ghost use Rattle.std.specs.Prelude.{ℕ, List};
+ghost use Rattle.std.specs.List.{AllByRecursion};
+ghost use Rattle.http2_frames.specs.Reading.{split};
+ghost use Rattle.http2_frames.specs.declared.frame.RawFrame.{RawFrame};
+ghost use Rattle.conn_core.specs.Past.{Past, opening, with_frame};
+ghost use Rattle.client_reading.specs.Answerable.{CanGoOn, AreAnswerableCalls, AnswersOnStreams};
+ghost use Rattle.client_reading.specs.Changes.{Change, change, IsReceivable, IsChange, IsPast};
+ghost use Rattle.client_reading.specs.Reads.{Reads};
+
+/// Whatever bytes come, the frames that they divide into are frames (RFC 9113 sections 4.1 and 4.2).
+pub fn received_frames_are_frames()
+    ensures { (preface text : List ℕ) → AllByRecursion IsReceivable (split preface text).frames }
+{}
+
+/// A connection begins with a past, and each change of one makes another.
+pub fn changes_make_pasts()
+    ensures opening { IsPast opening }
+    ensures change { (p : Past) (c : Change) → IsChange c → IsPast p → IsPast (change p c) }
+{}
+
+/// All that a client reads of the bytes that were put: frames as they were meant (RFC 9113), HEADERS and DATA on live
+/// streams and within the windows, control frames that were caused, in order, and on each stream a beginning of
+/// what was owed to it (RFC 7541 for its header blocks, gRPC over HTTP2 for its messages).
+pub fn what_a_client_reads()
+    ensures { (p : Past) → IsPast p → Reads p }
+{}
+
+/// What a frame brings to calls is on streams that are live after it, and so is a request that is answered at once,
+/// unless the call is given up: an answer to it is owed to its stream, and never dropped.
+pub fn answers_are_owed()
+    ensures calls { (p : Past) (f : RawFrame) → IsPast p → CanGoOn p → AreAnswerableCalls (with_frame p f) }
+    ensures requests { (p : Past) (f : RawFrame) → IsPast p → CanGoOn p → AnswersOnStreams p f }
+{}

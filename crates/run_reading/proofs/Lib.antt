@@ -1,0 +1,9 @@
+pub mod Lifts
+pub mod Owes
+pub mod Answers
+pub mod Calls
+pub mod Named
+pub mod Lengths
+pub mod Happens
+pub mod Texts
+pub mod Runs

@@ -1,0 +1,4 @@
+pub mod Connections
+pub mod Happenings
+pub mod Replies
+pub mod Named

@@ -1,0 +1,92 @@
+-- What the streams of a run's connections are given for all that happens: at a request that is no call the answer to
+-- it, and at an event of a call what the instance replies (`answer` of instance_core), whose state is a run of such
+-- answers and of nothing else.
+use Rattle.std.specs.Prelude.{◌≡◌, ℕ, ◌==◌, ◌&&◌, suc, if◌then◌else◌, List, [], ◌∷◌, ◌++◌, map, fold}
+use Rattle.std.specs.List.{flat_map}
+use Rattle.http2_frames.specs.declared.reader.TheConstants.{CLIENT_PREFACE}
+use Rattle.http2_frames.specs.declared.frame.RawFrame.{RawFrame}
+use Rattle.http2_frames.specs.Reading.{split}
+use Rattle.grpc_sending.specs.Owed.{Item, owed_on}
+use Rattle.conn_core.specs.Past.{Past}
+use Rattle.conn_core.specs.Received.{raw_received}
+use Rattle.instance_core.specs.Answer.{ReplyValue, answer, after}
+use Rattle.instance_core.specs.State.{InstanceState, opened}
+use Rattle.server_events.specs.Configs.{ConfigValue}
+use Rattle.server_events.specs.Events.{EventValue}
+use Rattle.served_instance.specs.Connections.{LoneConnection}
+use Rattle.served_instance.specs.Calls.{items_of}
+use Rattle.served_instance.specs.Lone.{start}
+use Rattle.run_record.specs.Runs.{run_of}
+use Rattle.client_reading.specs.Changes.{IsPast}
+use Rattle.client_reading.specs.Responses.{stream_parts, response_of, IsBeginning}
+use Rattle.client_reading.specs.Reads.{Reads}
+use Rattle.run_reading.specs.Happenings.{Happening, RequestAnswered, CallEventCame, happenings}
+
+-- items that a stream of the connection at this place is given
+pub record Given : Type 0 where
+  pub place : ℕ
+  pub stream : ℕ
+  pub items : List Item
+
+abbrev pub reply_given : ℕ → ReplyValue → Given
+reply_given place reply = record { place = place; stream = reply.call.stream; items = items_of reply.outcome }
+
+abbrev pub given_at : InstanceState → Happening → List Given
+given_at s (RequestAnswered place stream item) = record { place = place; stream = stream; items = item ∷ [] } ∷ []
+given_at s (CallEventCame place event) = map (reply_given place) (answer s event).replies
+
+abbrev pub state_after : InstanceState → Happening → InstanceState
+state_after s (RequestAnswered place stream item) = s
+state_after s (CallEventCame place event) = after s event
+
+-- each reply is that of the state that the earlier events of calls have made
+abbrev pub given_from : InstanceState → List Happening → List Given
+given_from s [] = []
+given_from s (h ∷ hs) = given_at s h ++ given_from (state_after s h) hs
+
+-- what a stream is given, in order
+abbrev pub items_given : ℕ → ℕ → Given → List Item
+items_given place stream g = if g.place == place && g.stream == stream then g.items else []
+
+abbrev pub items_on : ℕ → ℕ → List Given → List Item
+items_on place stream gs = flat_map (items_given place stream) gs
+
+-- ---- runs
+
+abbrev pub opened_by : ConfigValue → InstanceState
+opened_by config = opened config.name config.quota config.slots
+
+abbrev pub run_happenings : ConfigValue → List EventValue → List Happening
+run_happenings config events = happenings (start config.name config.quota config.slots) events
+
+abbrev pub run_given : ConfigValue → List EventValue → List Given
+run_given config events = given_from (opened_by config) (run_happenings config events)
+
+-- what their answers make of the instance
+abbrev pub run_state : ConfigValue → List EventValue → InstanceState
+run_state config events = fold state_after (opened_by config) (run_happenings config events)
+
+-- the connections of the run, in order of opening
+abbrev pub run_connections : ConfigValue → List EventValue → List LoneConnection
+run_connections config events = (run_of config events).lone.connections
+
+-- the longest message that the four bytes in front of it can state (gRPC over HTTP2, Length-Prefixed-Message)
+abbrev pub longest_message : ℕ
+longest_message = 4294967295
+
+-- the frames that were received are those of the bytes that came, in order; some may be left behind an error
+abbrev pub ReadsText : Past → Type 0
+ReadsText p = (later : List RawFrame) × ((split CLIENT_PREFACE.now p.text).frames ≡ raw_received p.diary ++ later)
+
+-- on each stream of the connection at this place the client reads a beginning of what was given
+pub record IsRead (place : ℕ) (gs : List Given) (k : LoneConnection) : Type 0 where
+  pub made : IsPast k.past
+  pub text : ReadsText k.past
+  pub reads : Reads k.past
+  pub owed : (s : ℕ) → owed_on s k.past.owed ≡ items_on place s gs
+  pub responses : (s : ℕ) → IsBeginning longest_message (stream_parts k.past.diary s) (response_of (items_on place s gs))
+
+-- of the connections from this place on
+abbrev pub AreRead : ℕ → List Given → List LoneConnection → Type 0
+AreRead place gs [] = Unit {0}
+AreRead place gs (k ∷ ks) = IsRead place gs k × AreRead (suc place) gs ks

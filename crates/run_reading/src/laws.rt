@@ -1,0 +1,35 @@
+//! What holds of every run of an instance by itself.
+
+ghost use Rattle.std.specs.Prelude.{◌≡◌, ◌≤◌, ◌^◌, List, map};
+ghost use Rattle.std.specs.List.{AllByRecursion};
+ghost use Rattle.server_events.specs.Configs.{ConfigValue};
+ghost use Rattle.server_events.specs.Events.{EventValue};
+ghost use Rattle.served_instance.specs.Lone.{sent_on};
+ghost use Rattle.run_record.specs.Runs.{run_of};
+ghost use Rattle.server_core.specs.Lone.{lone};
+ghost use Rattle.run_reading.specs.Replies.{run_connections, run_given, run_state, AreRead};
+ghost use Rattle.run_reading.specs.Named.{run_answerings, ServesNamed};
+
+/// On each connection of a run the client reads what the streams were given: frames as they were meant, HEADERS and
+/// DATA on live streams and within the windows, control frames that were caused, and on each stream a beginning of
+/// the answers to its request, of which none is dropped.
+pub fn replies_are_read()
+    ensures sent { (config : ConfigValue) (events : List EventValue)
+        → (lone config events).sent ≡ map sent_on (run_connections config events) }
+    ensures read { (config : ConfigValue) (events : List EventValue) → config.quota ≤ 2 ^ 40
+        → AreRead 0 (run_given config events) (run_connections config events) }
+{}
+
+/// The replies of a run are those that the instance gives to the events of its calls, one after another, from the
+/// state in which it was opened: nothing else makes its state.
+pub fn replies_are_the_instances()
+    ensures { (config : ConfigValue) (events : List EventValue)
+        → (run_of config events).lone.state ≡ run_state config events }
+{}
+
+/// Each reply to BatchReadBlobs in a run has a response for each digest asked for, in order, and data with status OK
+/// are what the digest says (remote_execution.proto).
+pub fn blobs_served_are_named()
+    ensures { (config : ConfigValue) (events : List EventValue) → config.quota ≤ 2 ^ 40
+        → AllByRecursion ServesNamed (run_answerings config events) }
+{}

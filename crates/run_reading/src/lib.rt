@@ -1,0 +1,6 @@
+//! What the clients of an instance read, and that it is the replies: laws about runs.
+#![tactic(auto, using(std::proofs::lemmas::Int::ints))]
+
+mod laws;
+
+pub use laws::{blobs_served_are_named, replies_are_read, replies_are_the_instances};

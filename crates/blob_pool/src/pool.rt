@@ -107,7 +107,7 @@ impl Pool {
     /// Another holder of the text. It takes no memory.
     pub fn again(&mut self, hold: &Hold) -> Hold
         requires held { 0 < count_at self.old hold.now }
-        requires room { count_at self.old hold.now < 2 ^ 32 }
+        requires room { count_at self.old hold.now < 2 ^ 127 }
         ensures hold { result ≡ hold.now }
         ensures moves { Moves self.old self.new nobody (one_at hold.now) }
     {
@@ -119,7 +119,7 @@ impl Pool {
     /// Another holder of the text that was kept. It takes no memory.
     pub fn hold_again(&mut self, kept: Kept) -> Kept
         requires held { 0 < count_at self.old kept }
-        requires room { count_at self.old kept < 2 ^ 32 }
+        requires room { count_at self.old kept < 2 ^ 127 }
         ensures kept { result ≡ kept }
         ensures moves { Moves self.old self.new nobody (one_at kept) }
     {

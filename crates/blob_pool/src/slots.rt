@@ -59,7 +59,7 @@ fn find_among(slots: &Slab<Slot>, numbers: &[usize], text: &PagedText) -> Option
 /// One holder more.
 fn add_holder(slots: &mut Slab<Slot>, slot: usize)
     requires held { 0 < count_at slots.old.slots slot }
-    requires room { count_at slots.old.slots slot < 2 ^ 32 }
+    requires room { count_at slots.old.slots slot < 2 ^ 127 }
     ensures { Puts slots.old.slots slots.new.slots slot
         (Some (record { text = text_at slots.old.slots slot; count = count_at slots.old.slots slot + 1 })) }
 {
@@ -71,7 +71,7 @@ fn add_holder(slots: &mut Slab<Slot>, slot: usize)
 /// Holds a text of a pool that is held already.
 pub fn hold_again(slots: &mut Slab<Slot>, slot: usize)
     requires held { 0 < count_at slots.old.slots slot }
-    requires room { count_at slots.old.slots slot < 2 ^ 32 }
+    requires room { count_at slots.old.slots slot < 2 ^ 127 }
     ensures pool { (index : Listing) (bytes : ℕ) → IsPool slots.old.slots index bytes →
         IsPool slots.new.slots index bytes }
     ensures moves { Moves slots.old.slots slots.new.slots nobody (one_at slot) }
@@ -92,7 +92,7 @@ fn take_holder(slots: &mut Slab<Slot>, slot: usize)
 }
 
 /// How many holders a slot has.
-fn count(slots: &Slab<Slot>, slot: usize) -> u64
+fn count(slots: &Slab<Slot>, slot: usize) -> u128
     ensures { result ≡ count_at slots.now.slots slot }
 {
     match slots.get(slot) {

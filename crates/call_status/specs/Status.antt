@@ -1,7 +1,7 @@
 -- The code (gRPC, "Status codes and their use in gRPC") and the text of each refusal.
 use Rattle.std.specs.Prelude.{ℕ, List, codes}
 use Rattle.call_status.specs.declared.refusal.Refusal.{Refusal}
-use Rattle.call_status.specs.declared.refusal.Refusal.TheVariants.{UnknownMethod, CompressedMessage, MessageTooLarge, MessageCutOff, NoMessage, MoreThanOneMessage, MalformedMessage, UnknownInstance, UnsupportedDigestFunction, UnsupportedCompressor, BadDigest, BatchTooLarge, DigestDoesNotMatch, QuotaExceeded, BlobNotFound}
+use Rattle.call_status.specs.declared.refusal.Refusal.TheVariants.{UnknownMethod, CompressedMessage, MessageTooLarge, MessageCutOff, NoMessage, MoreThanOneMessage, MalformedMessage, UnknownInstance, UnsupportedDigestFunction, UnsupportedCompressor, BadDigest, BatchTooLarge, DigestDoesNotMatch, QuotaExceeded, BlobNotFound, BadResourceName, NegativeLimit, OffsetOutOfRange, WrongOffset, TooManyUploads, UploadNotFound}
 
 abbrev pub invalid_argument : ℕ
 invalid_argument = 3
@@ -11,6 +11,9 @@ not_found = 5
 
 abbrev pub resource_exhausted : ℕ
 resource_exhausted = 8
+
+abbrev pub out_of_range : ℕ
+out_of_range = 11
 
 abbrev pub unimplemented : ℕ
 unimplemented = 12
@@ -34,6 +37,12 @@ code_of BatchTooLarge = invalid_argument
 code_of DigestDoesNotMatch = invalid_argument
 code_of QuotaExceeded = resource_exhausted
 code_of BlobNotFound = not_found
+code_of BadResourceName = invalid_argument
+code_of NegativeLimit = invalid_argument
+code_of OffsetOutOfRange = out_of_range
+code_of WrongOffset = invalid_argument
+code_of TooManyUploads = resource_exhausted
+code_of UploadNotFound = not_found
 
 abbrev pub text_of : Refusal → List ℕ
 text_of UnknownMethod = codes "unknown method"
@@ -51,3 +60,9 @@ text_of BatchTooLarge = codes "batch too large"
 text_of DigestDoesNotMatch = codes "digest does not match"
 text_of QuotaExceeded = codes "quota exceeded"
 text_of BlobNotFound = codes "blob not found"
+text_of BadResourceName = codes "bad resource name"
+text_of NegativeLimit = codes "negative limit"
+text_of OffsetOutOfRange = codes "offset out of range"
+text_of WrongOffset = codes "wrong offset"
+text_of TooManyUploads = codes "too many uploads"
+text_of UploadNotFound = codes "upload not found"

@@ -34,6 +34,18 @@ pub enum Refusal {
     QuotaExceeded,
     /// There is no blob of the digest.
     BlobNotFound,
+    /// The resource name has not the form, or is another than the one that the `Write` began with.
+    BadResourceName,
+    /// The limit of a `Read` is negative.
+    NegativeLimit,
+    /// The offset of a `Read` is negative or past the blob's size.
+    OffsetOutOfRange,
+    /// The bytes of a `Write` do not begin where the upload so far ends, or the upload is gone.
+    WrongOffset,
+    /// The instance has 64 unfinished uploads.
+    TooManyUploads,
+    /// There is no such upload.
+    UploadNotFound,
 }
 
 impl Refusal {
@@ -42,8 +54,9 @@ impl Refusal {
         ensures { result ≡ pos (code_of self) }
     {
         match self {
-            Refusal::MessageTooLarge | Refusal::QuotaExceeded => 8,
-            Refusal::UnknownInstance | Refusal::BlobNotFound => 5,
+            Refusal::MessageTooLarge | Refusal::QuotaExceeded | Refusal::TooManyUploads => 8,
+            Refusal::UnknownInstance | Refusal::BlobNotFound | Refusal::UploadNotFound => 5,
+            Refusal::OffsetOutOfRange => 11,
             Refusal::UnknownMethod | Refusal::CompressedMessage => 12,
             Refusal::MessageCutOff => 13,
             Refusal::NoMessage
@@ -53,7 +66,10 @@ impl Refusal {
             | Refusal::UnsupportedCompressor
             | Refusal::BadDigest
             | Refusal::BatchTooLarge
-            | Refusal::DigestDoesNotMatch => 3,
+            | Refusal::DigestDoesNotMatch
+            | Refusal::BadResourceName
+            | Refusal::NegativeLimit
+            | Refusal::WrongOffset => 3,
         }
     }
 
@@ -77,6 +93,12 @@ impl Refusal {
             Refusal::DigestDoesNotMatch => "digest does not match",
             Refusal::QuotaExceeded => "quota exceeded",
             Refusal::BlobNotFound => "blob not found",
+            Refusal::BadResourceName => "bad resource name",
+            Refusal::NegativeLimit => "negative limit",
+            Refusal::OffsetOutOfRange => "offset out of range",
+            Refusal::WrongOffset => "wrong offset",
+            Refusal::TooManyUploads => "too many uploads",
+            Refusal::UploadNotFound => "upload not found",
         }
     }
 }

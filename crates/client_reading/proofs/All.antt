@@ -4,7 +4,7 @@ use Rattle.std.specs.Prelude.{◌==◌, map, Some}
 use Rattle.std.specs.List.{AllByRecursion}
 use Rattle.http2_streams.specs.Diary.{sent}
 use Rattle.hpack.specs.Table.{new_table}
-use Rattle.grpc_sending.specs.declared.piece.Piece.{Piece}
+use Rattle.grpc_sending.specs.Pieces.{Piece}
 use Rattle.grpc_sending.specs.Owed.{Owed, Item, item_on, owed_on}
 use Rattle.conn_core.specs.Past.{Past}
 use Rattle.client_reading.specs.Changes.{Change, past_of, IsChange}

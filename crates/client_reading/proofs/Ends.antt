@@ -14,7 +14,7 @@ use Rattle.http2_frames.specs.Codes.{code_number}
 use Rattle.http2_streams.specs.Diary.{Entry, In, Unreadable, Out, Took, received, sent, frame_out, highest, has_failed, resets, ends, data_ends, block_ends, no_blocks, blocks_after, is_reset, is_ended_by_client, is_ended_by_server, is_live}
 use Rattle.http2_streams.proofs.LiveLaw.{live_falls}
 use Rattle.grpc_calls.specs.Responses.{fields_of, is_last}
-use Rattle.grpc_sending.specs.declared.piece.Piece.{Piece}
+use Rattle.grpc_sending.specs.Pieces.{Piece}
 use Rattle.grpc_sending.specs.Bytes.{position}
 use Rattle.grpc_sending.specs.Owed.{Owed, left_on}
 use Rattle.grpc_sending.specs.Pump.{reset_after}

@@ -1,9 +1,9 @@
 -- Each frame puts the front of what was left of its stream.
 use Rattle.std.proofs.Common.{◌≡◌, ℕ, List, [], ◌∷◌, ◌++◌, refl, ap, ◌∙◌, sym, subst, length, inl, inr}
+use Rattle.std.specs.List.{flat_map, AllByRecursion, list_any}
 use Rattle.std.specs.Prelude.{Bool, true, false, not, ◌&&◌, ◌==◌, cond, nat_lt, map, fold, drop, Option, Some, Result, Ok}
-use Rattle.std.specs.List.{AllByRecursion, list_any}
 use Rattle.std.proofs.lemmas.Bool.{cases_Bool, eqb-true}
-use Rattle.std.proofs.lemmas.List.{map-append, take-append-drop}
+use Rattle.std.proofs.lemmas.List.{take-append-drop}
 use Rattle.std.proofs.lemmas.List.Elements.{filter_map-append}
 use Rattle.std.proofs.lemmas.List.Sums.{fold-append}
 use Rattle.std.proofs.lemmas.Grind.{flat_map-append}
@@ -20,10 +20,10 @@ use Rattle.http2_streams.specs.Diary.{Entry, Out, Took, sent, frame_out, highest
 use Rattle.grpc_calls.specs.declared.response.ResponseBlock.{ResponseBlock}
 use Rattle.grpc_calls.specs.Responses.{fields_of, is_last}
 use Rattle.grpc_calls.proofs.Blocks.{read_first, read_later}
-use Rattle.grpc_sending.specs.declared.piece.Piece.{Piece}
-use Rattle.grpc_sending.specs.declared.piece.Piece.TheVariants.{Block, Part}
+use Rattle.grpc_sending.specs.Pieces.{Piece}
+use Rattle.grpc_sending.specs.Pieces.{Block, Part}
 use Rattle.grpc_sending.specs.Bytes.{position}
-use Rattle.grpc_sending.specs.Owed.{Owed, Item, item_on, owed_on, piece_of, put_by, left_by, left_on}
+use Rattle.grpc_sending.specs.Owed.{Owed, Item, item_on, owed_on, pieces_of, put_by, left_by, left_on}
 use Rattle.grpc_sending.specs.Pump.{reset_after}
 use Rattle.grpc_sending.specs.StandsFor.{owed_more}
 use Rattle.conn_core.specs.Past.{Past, opening, owe_all}
@@ -144,7 +144,7 @@ pub record Streams (d : List Entry) (os : List Owed) : Type 0 where
   -- no block was refused
   pub table : Table
   pub read : tables d ≡ Some table
-  pub follows : (s : ℕ) → Follows s (Some new_table) (map piece_of (owed_on s os)) (sent d)
+  pub follows : (s : ℕ) → Follows s (Some new_table) (flat_map pieces_of (owed_on s os)) (sent d)
 
 -- more frames
 streams_put : (d es : List Entry) (os : List Owed) (fs : List Frame) → sent es ≡ fs → ((table : Table) → tables d ≡ Some table → ((after : Table) × (fold table_after (Some table) fs ≡ Some after)) × ((s : ℕ) → Follows s (Some table) (left_on d os s) fs)) → Streams d os → Streams (d ++ es) os
@@ -155,8 +155,8 @@ streams_put d es os fs is more h =
       table = k.0.0;
       read = ap (fold table_after (Some new_table)) out ∙ fold-append table_after (Some new_table) (sent d) fs ∙ ap (λ (t : Option Table). fold table_after t fs) h.read ∙ k.0.1;
       follows = λ s.
-          subst (λ (gs : List Frame). Follows s (Some new_table) (map piece_of (owed_on s os)) gs) (sym out)
-          (follows_more s (Some new_table) (map piece_of (owed_on s os)) (sent d) fs (h.follows s) (subst (λ (t : Option Table). Follows s t (left_on d os s) fs) (sym h.read) (k.1 s)));
+          subst (λ (gs : List Frame). Follows s (Some new_table) (flat_map pieces_of (owed_on s os)) gs) (sym out)
+          (follows_more s (Some new_table) (flat_map pieces_of (owed_on s os)) (sent d) fs (h.follows s) (subst (λ (t : Option Table). Follows s t (left_on d os s) fs) (sym h.read) (k.1 s)));
     }
 
 streams_control : (d es : List Entry) (os : List Owed) (fs : List Frame) → sent es ≡ fs → AllByRecursion IsControl fs → Streams d os → Streams (d ++ es) os
@@ -164,14 +164,16 @@ streams_control d es os fs is all h = streams_put d es os fs is (λ table at. ((
 
 -- ---- more items
 
-owed_one : (s t : ℕ) (item : Item) (os : List Owed) → map piece_of (owed_on s (os ++ record { stream = t; item = item } ∷ [])) ≡ map piece_of (owed_on s os) ++ map piece_of (item_on s (record { stream = t; item = item }) ++ [])
-owed_one s t item os = ap (map piece_of) (flat_map-append (item_on s) os (record { stream = t; item = item } ∷ [])) ∙ map-append piece_of (owed_on s os) (item_on s (record { stream = t; item = item }) ++ [])
+owed_one : (s t : ℕ) (item : Item) (os : List Owed) → flat_map pieces_of (owed_on s (os ++ record { stream = t; item = item } ∷ [])) ≡ flat_map pieces_of (owed_on s os) ++ flat_map pieces_of (item_on s (record { stream = t; item = item }) ++ [])
+owed_one s t item os =
+    ap (flat_map pieces_of) (flat_map-append (item_on s) os (record { stream = t; item = item } ∷ []))
+    ∙ flat_map-append pieces_of (owed_on s os) (item_on s (record { stream = t; item = item }) ++ [])
 
 streams_one : (d : List Entry) (os : List Owed) (t : ℕ) (item : Item) → Streams d os → Streams d (os ++ record { stream = t; item = item } ∷ [])
 streams_one d os t item h = record {
   table = h.table;
   read = h.read;
-  follows = λ s. subst (λ (ps : List Piece). Follows s (Some new_table) ps (sent d)) (sym (owed_one s t item os)) (follows_owed s (Some new_table) (map piece_of (owed_on s os)) (map piece_of (item_on s (record { stream = t; item = item }) ++ [])) (sent d) (h.follows s));
+  follows = λ s. subst (λ (ps : List Piece). Follows s (Some new_table) ps (sent d)) (sym (owed_one s t item os)) (follows_owed s (Some new_table) (flat_map pieces_of (owed_on s os)) (flat_map pieces_of (item_on s (record { stream = t; item = item }) ++ [])) (sent d) (h.follows s));
 }
 
 streams_owed : (d e : List Entry) (os : List Owed) (t : ℕ) (item : Item) → Streams d os → Streams d (owed_more e os t item)

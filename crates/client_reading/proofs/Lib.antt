@@ -13,3 +13,4 @@ pub mod Pasts
 pub mod Standings
 pub mod Ends
 pub mod Answerable
+pub mod Ranges

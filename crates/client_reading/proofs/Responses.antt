@@ -16,8 +16,8 @@ use Rattle.grpc_messages.specs.Writing.{framed}
 use Rattle.grpc_messages.proofs.Grammar.{part_split}
 use Rattle.grpc_calls.specs.declared.response.ResponseBlock.{ResponseBlock}
 use Rattle.grpc_calls.specs.Responses.{fields_of, is_last}
-use Rattle.grpc_sending.specs.declared.piece.Piece.{Piece}
-use Rattle.grpc_sending.specs.declared.piece.Piece.TheVariants.{Block as BlockPiece, Part}
+use Rattle.grpc_sending.specs.Pieces.{Piece}
+use Rattle.grpc_sending.specs.Pieces.{Block as BlockPiece, Part}
 use Rattle.grpc_sending.specs.Owed.{put_by}
 use Rattle.grpc_sending.proofs.Diaries.{append-nil}
 use Rattle.client_reading.specs.Responses.{StreamPart, Fields, Bytes, stream_parts_of, stream_parts_from, table_after, ResponsePart, Block, WholeMessage, messages_to_end, response_from, message_rest, IsMessageFront, IsBeginning}

@@ -1,15 +1,16 @@
 -- Items as they are put and read one by one: header blocks and messages.
-use Rattle.std.proofs.Common.{◌≡◌, ℕ, ◌≤◌, List, [], ◌∷◌, ◌++◌, refl, ap, ◌∙◌, sym, subst, length}
-use Rattle.std.specs.Prelude.{map}
+use Rattle.std.proofs.Common.{◌≡◌, ℕ, ◌≤◌, List, [], ◌∷◌, ◌++◌, refl, ap, ◌∙◌, sym, subst, length, inl, inr}
+use Rattle.std.specs.Prelude.{map, zero, suc, take, drop, nat_lt}
+use Rattle.std.proofs.lemmas.Bool.{cases_Bool}
 use Rattle.std.specs.List.{AllByRecursion, flat_map}
 use Rattle.std.proofs.lemmas.List.{map-append}
 use Rattle.grpc_messages.specs.Writing.{framed}
 use Rattle.grpc_calls.specs.declared.response.ResponseBlock.{ResponseBlock}
 use Rattle.grpc_calls.specs.Responses.{fields_of, is_last}
-use Rattle.grpc_sending.specs.declared.piece.Piece.{Piece}
-use Rattle.grpc_sending.specs.declared.piece.Piece.TheVariants.{Block as BlockPiece, Part}
+use Rattle.grpc_sending.specs.Pieces.{Piece}
+use Rattle.grpc_sending.specs.Pieces.{Block as BlockPiece, Part, most_read, read_piece, cut}
 use Rattle.grpc_sending.specs.Owed as Owed
-use Rattle.client_reading.specs.Responses.{ResponsePart, Block, WholeMessage, response_parts, response_of, IsWithin, IsItemWithin}
+use Rattle.client_reading.specs.Responses.{messages_cut, read_messages, ResponsePart, Block, WholeMessage, response_parts, response_of, IsWithin, IsItemWithin}
 use Rattle.client_reading.proofs.Choices.{all_append}
 
 pub data Single : Type 0 where
@@ -27,27 +28,41 @@ part_of (Message message) = WholeMessage message
 abbrev pub singles_of : Owed.Item → List Single
 singles_of (Owed.Headed block) = Headed block ∷ []
 singles_of (Owed.Message message) = Message message ∷ []
+singles_of (Owed.Range digest text from count) = map Message (read_messages (take count (drop from text)))
 
 abbrev pub all_singles : List Owed.Item → List Single
 all_singles items = flat_map singles_of items
 
 -- ---- as they are put
 
-item_pieces : (item : Owed.Item) → Owed.piece_of item ∷ [] ≡ map piece_of (singles_of item)
+cut_pieces : (n k : ℕ) (bytes : List ℕ) → cut n k bytes ≡ map piece_of (map Message (messages_cut n k bytes))
+cut_pieces n zero bytes = refl
+cut_pieces n (suc k) bytes = elim (cases_Bool (nat_lt n (length bytes))) [
+  | inl more ↦ rw more (ap (λ (ps : List Piece). read_piece (take n bytes) ∷ ps) (cut_pieces n k (drop n bytes)))
+  | inr last ↦ rw last refl
+]
+
+item_pieces : (item : Owed.Item) → Owed.pieces_of item ≡ map piece_of (singles_of item)
 item_pieces (Owed.Headed block) = refl
 item_pieces (Owed.Message message) = refl
+item_pieces (Owed.Range digest text from count) = cut_pieces most_read (length (take count (drop from text))) (take count (drop from text))
 
-pub all_pieces : (items : List Owed.Item) → map Owed.piece_of items ≡ map piece_of (all_singles items)
+pub all_pieces : (items : List Owed.Item) → flat_map Owed.pieces_of items ≡ map piece_of (all_singles items)
 all_pieces [] = refl
 all_pieces (item ∷ items) =
-    ap (λ (ps : List Piece). ps ++ map Owed.piece_of items) (item_pieces item) ∙ ap (λ (ps : List Piece). map piece_of (singles_of item) ++ ps) (all_pieces items)
+    ap (λ (ps : List Piece). ps ++ flat_map Owed.pieces_of items) (item_pieces item) ∙ ap (λ (ps : List Piece). map piece_of (singles_of item) ++ ps) (all_pieces items)
     ∙ sym (map-append piece_of (singles_of item) (all_singles items))
 
 -- ---- as they are read
 
+whole_parts : (ms : List (List ℕ)) → map WholeMessage ms ≡ map part_of (map Message ms)
+whole_parts [] = refl
+whole_parts (m ∷ ms) = ap (λ (ps : List ResponsePart). WholeMessage m ∷ ps) (whole_parts ms)
+
 item_parts : (item : Owed.Item) → response_parts item ≡ map part_of (singles_of item)
 item_parts (Owed.Headed block) = refl
 item_parts (Owed.Message message) = refl
+item_parts (Owed.Range digest text from count) = whole_parts (read_messages (take count (drop from text)))
 
 pub all_parts : (items : List Owed.Item) → response_of items ≡ map part_of (all_singles items)
 all_parts [] = refl

@@ -23,7 +23,7 @@ use Rattle.http2_streams.proofs.Law.{IsIdle, at_law, has_failed-append}
 use Rattle.http2_streams.proofs.LiveLaw.{listed_is_live, highest_rises}
 use Rattle.http2_streams.proofs.PutLaw.{headers_put_law, data_put_law, reset_put_law, no_matter}
 use Rattle.grpc_calls.specs.Responses.{fields_of, is_last}
-use Rattle.grpc_sending.specs.declared.piece.Piece.{Piece}
+use Rattle.grpc_sending.specs.Pieces.{Piece}
 use Rattle.grpc_sending.specs.Bytes.{position, untaken}
 use Rattle.grpc_sending.specs.Owed.{Owed, left_on}
 use Rattle.grpc_sending.specs.Pump.{reset_after}

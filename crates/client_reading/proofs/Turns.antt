@@ -11,7 +11,7 @@ use Rattle.http2_frames.specs.declared.frame.Frame.TheVariants.{Data, Headers, P
 use Rattle.http2_streams.specs.Diary.{Entry, In, Unreadable, Out, Took, live, window, connection_window, highest, has_failed, is_ended_by_client}
 use Rattle.http2_streams.specs.LiveStreams.{has_stream}
 use Rattle.grpc_calls.specs.Responses.{is_last}
-use Rattle.grpc_sending.specs.declared.piece.Piece.{Piece}
+use Rattle.grpc_sending.specs.Pieces.{Piece}
 use Rattle.grpc_sending.specs.Owed.{Owed, left_on}
 use Rattle.grpc_sending.specs.Pump.{natural, reset_after}
 use Rattle.grpc_sending.proofs.Diaries.{append-nil}

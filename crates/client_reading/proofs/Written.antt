@@ -19,7 +19,7 @@ use Rattle.http2_streams.specs.Diary.{Entry, In, Unreadable, Out, Took, sent, fr
 use Rattle.http2_streams.specs.Rules.{causes, control_frames}
 use Rattle.grpc_calls.specs.Responses.{is_last}
 use Rattle.grpc_calls.proofs.Blocks.{short}
-use Rattle.grpc_sending.specs.declared.piece.Piece.{Piece}
+use Rattle.grpc_sending.specs.Pieces.{Piece}
 use Rattle.grpc_sending.specs.Bytes.{position, untaken}
 use Rattle.grpc_sending.specs.Owed.{Owed, left_on}
 use Rattle.grpc_sending.specs.Pump.{natural, block_frame, reset_after, pumped}

@@ -1,6 +1,6 @@
 -- What a client makes of the HEADERS and DATA of a stream: header blocks by HPACK (RFC 7541), and messages by gRPC
 -- over HTTP2 (Length-Prefixed-Message). Nothing here reads what the server meant to send.
-use Rattle.std.specs.Prelude.{◌≡◌, ◌<◌, ◌≤◌, ◌==◌, if◌then◌else◌, ℕ, Bool, true, List, [], ◌∷◌, ◌++◌, length, map, Option, Some, Result, Ok, Err}
+use Rattle.std.specs.Prelude.{◌≡◌, ◌<◌, ◌≤◌, ◌==◌, if◌then◌else◌, ℕ, zero, suc, nat_lt, take, drop, Bool, true, List, [], ◌∷◌, ◌++◌, length, map, Option, Some, Result, Ok, Err}
 use Rattle.std.specs.List.{AllByRecursion, flat_map}
 use Rattle.hpack.specs.declared.error.HpackError.{HpackError}
 use Rattle.hpack.specs.Header.{Header}
@@ -14,7 +14,8 @@ use Rattle.grpc_messages.specs.Wire.{Split}
 use Rattle.grpc_messages.specs.Reading.{split}
 use Rattle.grpc_messages.specs.Writing.{framed}
 use Rattle.grpc_calls.specs.Responses.{fields_of, is_last}
-use Rattle.grpc_sending.specs.Owed.{Owed, Item, Headed, Message}
+use Rattle.grpc_sending.specs.Pieces.{most_read, read_message}
+use Rattle.grpc_sending.specs.Owed.{Owed, Item, Headed, Message, Range}
 
 -- ---- header blocks and DATA
 
@@ -82,9 +83,18 @@ message_rest limit text (Garbled ∷ hs) = message_rest limit text hs
 
 -- ---- what is owed, as a client is to read it
 
+-- bytes as google.bytestream.ReadResponse, each with at most n of them; at most so many messages
+abbrev pub messages_cut : ℕ → ℕ → List ℕ → List (List ℕ)
+messages_cut n zero bytes = []
+messages_cut n (suc k) bytes = if nat_lt n (length bytes) then read_message (take n bytes) ∷ messages_cut n k (drop n bytes) else read_message bytes ∷ []
+
+abbrev pub read_messages : List ℕ → List (List ℕ)
+read_messages bytes = messages_cut most_read (length bytes) bytes
+
 abbrev pub response_parts : Item → List ResponsePart
 response_parts (Headed block) = Block (is_last block) (fields_of block) ∷ []
 response_parts (Message message) = WholeMessage message ∷ []
+response_parts (Range digest text from count) = map WholeMessage (read_messages (take count (drop from text)))
 
 -- the whole response to a stream that was given these items
 abbrev pub response_of : List Item → List ResponsePart

@@ -7,6 +7,8 @@ ghost use Rattle.http2_frames.specs.declared.frame.RawFrame.{RawFrame};
 ghost use Rattle.conn_core.specs.Past.{Past, opening, with_frame};
 ghost use Rattle.client_reading.specs.Answerable.{CanGoOn, AreAnswerableCalls, AnswersOnStreams};
 ghost use Rattle.client_reading.specs.Changes.{Change, change, IsReceivable, IsChange, IsPast};
+ghost use Rattle.client_reading.specs.Responses.{read_messages};
+ghost use Rattle.client_reading.specs.Ranges.{BringBytes};
 ghost use Rattle.client_reading.specs.Reads.{Reads};
 
 /// Whatever bytes come, the frames that they divide into are frames (RFC 9113 sections 4.1 and 4.2).
@@ -25,6 +27,12 @@ pub fn changes_make_pasts()
 /// what was owed to it (RFC 7541 for its header blocks, gRPC over HTTP2 for its messages).
 pub fn what_a_client_reads()
     ensures { (p : Past) → IsPast p → Reads p }
+{}
+
+/// The messages that are read of a range bring all its bytes, in order: each is a ReadResponse whose data are 1 to 65,536
+/// of them (bytestream.proto).
+pub fn ranges_bring_their_bytes()
+    ensures { (bytes : List ℕ) → BringBytes 65536 bytes (read_messages bytes) }
 {}
 
 /// What a frame brings to calls is on streams that are live after it, and so is a request that is answered at once,

@@ -4,5 +4,6 @@
 mod laws;
 
 pub use laws::{
-    answers_are_owed, changes_make_pasts, received_frames_are_frames, what_a_client_reads,
+    answers_are_owed, changes_make_pasts, ranges_bring_their_bytes, received_frames_are_frames,
+    what_a_client_reads,
 };

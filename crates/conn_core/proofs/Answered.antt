@@ -17,7 +17,7 @@ use Rattle.http2_streams.specs.Standing.{Standing, standing}
 use Rattle.http2_streams.specs.StandsFor.{StandsFor as AreStreams}
 use Rattle.http2_streams.specs.Rules.{causes, control_frames, frames_put, entries_of}
 use Rattle.grpc_sending.specs.Bytes.{untaken}
-use Rattle.grpc_sending.specs.StandsFor.{Sending, StandsFor as IsSending}
+use Rattle.grpc_sending.specs.Kept.{Look, sending_in, Kept, StandsFor as IsSending}
 use Rattle.grpc_sending.proofs.Diaries.{append-nil}
 use Rattle.grpc_sending.proofs.Received.{frame_heard}
 use Rattle.conn_core.specs.Received.{raw_received, raw_in, Outcome, outcome, outcome_of, entries, fault, fitting, all_fit}
@@ -107,11 +107,11 @@ changes u d f a at fine h = record {
 
 -- ---- all of it
 
-kept_calls : (v : Present) (w : Sending) (d : List Entry) → AreCalls v d → AreCalls (with_sending v w) d
+kept_calls : (v : Present) (w : Kept) (d : List Entry) → AreCalls v d → AreCalls (with_sending v w) d
 kept_calls v w d h = record { calls = h.calls; order = h.order }
 
-has_brought : (v : Present) (p : Past) (f : RawFrame) (a : StreamEvent) (w : Sending) → IsAnswered v p f a → all_fit (untaken p.diary) (control_frames a) ≡ true → IsSending w (p.diary ++ In f ∷ map Out (control_frames a)) p.owed → HasBrought (with_sending v w) p f a.event
-has_brought v p f a w h fit sending =
+has_brought : (texts : Look) (v : Present) (p : Past) (f : RawFrame) (a : StreamEvent) (w : Kept) → IsAnswered texts v p f a → all_fit (untaken p.diary) (control_frames a) ≡ true → IsSending texts w (p.diary ++ In f ∷ map Out (control_frames a)) p.owed → HasBrought texts (with_sending v w) p f a.event
+has_brought texts v p f a w h fit sending =
     let o : outcome p.diary f ≡ good a = outcome_good p.diary f a h.causes fit in
     let es : entries p.diary f ≡ In f ∷ map Out (control_frames a) = ap (λ (x : Outcome). In f ∷ map Out x.put) o in
     let is : after_frame p f ≡ p.diary ++ In f ∷ map Out (control_frames a) = ap (λ (xs : List Entry). p.diary ++ xs) es in
@@ -123,25 +123,25 @@ has_brought v p f a w h fit sending =
       lives = ap has_failed is ∙ failed_after p.diary f (control_frames a) (answers_quiet (control_frames a) (answers_are p.diary f a h.causes)) ∙ h.lives;
       reader = subst (λ (rs : List RawFrame). IsReader CLIENT_PREFACE.now v.reader p.text rs) (sym (ap raw_received is ∙ raw_after p.diary f (control_frames a))) h.reader;
       streams = subst (λ (x : List Entry). AreStreams v.streams x) same h.streams;
-      sending = subst (λ (x : List Entry). IsSending w x p.owed) (sym is) sending;
+      sending = subst (λ (x : List Entry). IsSending texts w x p.owed) (sym is) sending;
       due = h.due;
       calls = kept_calls v w p.diary h.calls;
       change = subst (λ (x : List Entry). ChangesStreams p.diary x a.event) same (changes h.before p.diary f a h.stood h.lives h.causes);
     }
 
-pub fits_of : (v : Present) (p : Past) (f : RawFrame) (a : StreamEvent) (w : Present) (b : Bool) → IsAnswered v p f a → Puts v (control_frames a) b w → all_fit (untaken p.diary) (control_frames a) ≡ b
-fits_of v p f a w b h puts = ap (λ n. all_fit n (control_frames a)) (sym (ap length h.sending.pending)) ∙ sym puts.all
+pub fits_of : (texts : Look) (v : Present) (p : Past) (f : RawFrame) (a : StreamEvent) (w : Present) (b : Bool) → IsAnswered texts v p f a → Puts v (control_frames a) b w → all_fit (untaken p.diary) (control_frames a) ≡ b
+fits_of texts v p f a w b h puts = ap (λ n. all_fit n (control_frames a)) (sym (ap length h.sending.pending)) ∙ sym puts.all
 
 -- what was put stands behind the frame
-pub put_behind : (v : Present) (p : Past) (f : RawFrame) (a : StreamEvent) (w : Present) (b : Bool) → IsAnswered v p f a → Puts v (control_frames a) b w → IsSending w.sending (p.diary ++ In f ∷ map Out (fitting (untaken p.diary) (control_frames a))) p.owed
-put_behind v p f a w b h puts =
+pub put_behind : (texts : Look) (v : Present) (p : Past) (f : RawFrame) (a : StreamEvent) (w : Present) (b : Bool) → IsAnswered texts v p f a → Puts v (control_frames a) b w → IsSending texts w.sending (p.diary ++ In f ∷ map Out (fitting (untaken p.diary) (control_frames a))) p.owed
+put_behind texts v p f a w b h puts =
     let n : length v.sending.pending ≡ untaken p.diary = ap length h.sending.pending in
-    let there = puts.sending (p.diary ++ In f ∷ []) p.owed (frame_heard v.sending p.diary p.owed f h.sending) in
-    let there' : IsSending w.sending ((p.diary ++ In f ∷ []) ++ map Out (fitting (untaken p.diary) (control_frames a))) p.owed = subst (λ (m : ℕ). IsSending w.sending ((p.diary ++ In f ∷ []) ++ map Out (fitting m (control_frames a))) p.owed) n there in
-    subst (λ (x : List Entry). IsSending w.sending x p.owed) (sym (in_front p.diary f (fitting (untaken p.diary) (control_frames a)))) there'
+    let there = puts.sending texts (p.diary ++ In f ∷ []) p.owed (frame_heard (sending_in texts v.sending) p.diary p.owed f h.sending) in
+    let there' : IsSending texts w.sending ((p.diary ++ In f ∷ []) ++ map Out (fitting (untaken p.diary) (control_frames a))) p.owed = subst (λ (m : ℕ). IsSending texts w.sending ((p.diary ++ In f ∷ []) ++ map Out (fitting m (control_frames a))) p.owed) n there in
+    subst (λ (x : List Entry). IsSending texts w.sending x p.owed) (sym (in_front p.diary f (fitting (untaken p.diary) (control_frames a)))) there'
 
-pub answered_fits : (v w : Present) (p : Past) (f : RawFrame) (a : StreamEvent) → IsAnswered v p f a → Puts v (control_frames a) true w → HasBrought w p f a.event
-answered_fits v w p f a h puts =
-    let fit = fits_of v p f a w true h puts in
-    let sending : IsSending w.sending (p.diary ++ In f ∷ map Out (control_frames a)) p.owed = subst (λ (fs : List Frame). IsSending w.sending (p.diary ++ In f ∷ map Out fs) p.owed) (fitting_all (untaken p.diary) (control_frames a) fit) (put_behind v p f a w true h puts) in
-    subst (λ (y : Present). HasBrought y p f a.event) (sym puts.rest) (has_brought v p f a w.sending h fit sending)
+pub answered_fits : (texts : Look) (v w : Present) (p : Past) (f : RawFrame) (a : StreamEvent) → IsAnswered texts v p f a → Puts v (control_frames a) true w → HasBrought texts w p f a.event
+answered_fits texts v w p f a h puts =
+    let fit = fits_of texts v p f a w true h puts in
+    let sending : IsSending texts w.sending (p.diary ++ In f ∷ map Out (control_frames a)) p.owed = subst (λ (fs : List Frame). IsSending texts w.sending (p.diary ++ In f ∷ map Out fs) p.owed) (fitting_all (untaken p.diary) (control_frames a) fit) (put_behind texts v p f a w true h puts) in
+    subst (λ (y : Present). HasBrought texts y p f a.event) (sym puts.rest) (has_brought texts v p f a w.sending h fit sending)

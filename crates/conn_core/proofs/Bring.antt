@@ -19,7 +19,8 @@ use Rattle.grpc_calls.specs.declared.response.ResponseBlock.{ResponseBlock}
 use Rattle.grpc_calls.specs.Requests.{head_of}
 use Rattle.grpc_calls.specs.Responses.{response_to}
 use Rattle.grpc_sending.specs.Owed.{Owed, Headed}
-use Rattle.grpc_sending.specs.StandsFor.{Sending, StandsFor as IsSending, owed_more}
+use Rattle.grpc_sending.specs.StandsFor.{owed_more}
+use Rattle.grpc_sending.specs.Kept.{Look, Kept, StandsFor as IsSending}
 use Rattle.grpc_sending.proofs.Diaries.{append-nil}
 use Rattle.conn_core.specs.declared.call.Call.{Call}
 use Rattle.conn_core.specs.declared.event.CallEvent.{CallEvent}
@@ -36,17 +37,17 @@ use Rattle.conn_core.proofs.Brought.{Brings, After, AfterText, IsSieved, call_fr
 use Rattle.conn_core.proofs.Began.{after_refused, after_begun, thinned}
 use Rattle.conn_core.proofs.Reset.{reset_stream}
 
-abbrev pub kept_as : Present → Sending → List Call → List CallEvent → Present
+abbrev pub kept_as : Present → Kept → List Call → List CallEvent → Present
 kept_as v w cs due = record { reader = v.reader; streams = v.streams; sending = w; calls = cs; due = due; ended = v.ended }
 
 brings : (p : Past) (f : RawFrame) (event : Event) → (outcome p.diary f).event ≡ event → Brings p.diary (after_frame p f) event
 brings p f event is = events_frame p.diary f ∙ ap (λ (x : Event). events p.diary ++ x ∷ []) is
 
-brought_by : (v : Present) (w : Sending) (cs : List Call) (due : List CallEvent) (p : Past) (f : RawFrame) (event : Event) → HasBrought v p f event → IsSending w (after_frame p f) (owe_all (after_frame p f) p.owed (answered_at_once event)) → due ≡ v.due ++ call_events_of p.diary event → After (after_frame p f) cs → StandsFor (kept_as v w cs due) (with_frame p f)
-brought_by v w cs due p f event h sending events after = record {
+brought_by : (texts : Look) (v : Present) (w : Kept) (cs : List Call) (due : List CallEvent) (p : Past) (f : RawFrame) (event : Event) → HasBrought texts v p f event → IsSending texts w (after_frame p f) (owe_all (after_frame p f) p.owed (answered_at_once event)) → due ≡ v.due ++ call_events_of p.diary event → After (after_frame p f) cs → StandsFor texts (kept_as v w cs due) (with_frame p f)
+brought_by texts v w cs due p f event h sending events after = record {
   ended = h.ended ∙ sym h.lives;
   streams = h.streams;
-  sending = subst (λ (x : Event). IsSending w (after_frame p f) (owe_all (after_frame p f) p.owed (answered_at_once x))) (sym h.is_event) sending;
+  sending = subst (λ (x : Event). IsSending texts w (after_frame p f) (owe_all (after_frame p f) p.owed (answered_at_once x))) (sym h.is_event) sending;
   due = events
       ∙ ap (λ (es : List CallEvent). es ++ call_events_of p.diary event) h.due
       ∙ ap (λ (x : Event). p.due ++ call_events_of p.diary x) (sym h.is_event)
@@ -56,14 +57,18 @@ brought_by v w cs due p f event h sending events after = record {
 
 -- ---- no event
 
-nothing_stands : (v : Present) (p : Past) (f : RawFrame) → HasBrought v p f Nothing → StandsFor v (with_frame p f)
-nothing_stands v p f h =
+nothing_stands : (texts : Look) (v : Present) (p : Past) (f : RawFrame) → HasBrought texts v p f Nothing → StandsFor texts v (with_frame p f)
+nothing_stands texts v p f h =
     let d : List Entry = p.diary in
     let e : List Entry = after_frame p f in
-    brought_by v v.sending v.calls v.due p f Nothing h h.sending (sym (append-nil v.due)) (after_nothing p.diary (after_frame p f) v.calls (brings p f Nothing h.is_event) (sieve_none p.diary (after_frame p f) h.change.streams) h.change.falls h.calls.calls h.calls.order)
+    brought_by texts v v.sending v.calls v.due p f Nothing h h.sending (sym (append-nil v.due)) (after_nothing p.diary (after_frame p f) v.calls (brings p f Nothing h.is_event) (sieve_none p.diary (after_frame p f) h.change.streams) h.change.falls h.calls.calls h.calls.order)
 
-pub nothing_by : (v : Present) (event : Event) → event ≡ Nothing → (p : Past) (f : RawFrame) → HasBrought v p f event → StandsFor v (with_frame p f)
-nothing_by v event is p f h = nothing_stands v p f (subst (λ (x : Event). HasBrought v p f x) is h)
+pub nothing_by : (texts : Look) (v : Present) (event : Event) → event ≡ Nothing → (p : Past) (f : RawFrame) → HasBrought texts v p f event → StandsFor texts v (with_frame p f)
+nothing_by texts v event is p f h = nothing_stands texts v p f (subst (λ (x : Event). HasBrought texts v p f x) is h)
+
+pub brings_by : {T E : Type 0} (r : Result T E) (v x : Present) (event brought : Event) → event ≡ brought → OnOk r ((texts : Look) (p : Past) (f : RawFrame) → HasBrought texts v p f brought → StandsFor texts x (with_frame p f)) → OnOk r ((texts : Look) (p : Past) (f : RawFrame) → HasBrought texts v p f event → StandsFor texts x (with_frame p f))
+brings_by (Err e) v x event brought is h = tt
+brings_by (Ok y) v x event brought is h = λ texts p f b. h texts p f (subst (λ (z : Event). HasBrought texts v p f z) is b)
 
 -- ---- more of a request
 
@@ -71,49 +76,49 @@ ended_sieve : (d e : List Entry) (s : ℕ) (b : Bool) → live e ≡ cond b (liv
 ended_sieve d e s true h = sieve_if d e (is_ended_by_server d s) s h
 ended_sieve d e s false h = sieve_none d e h
 
-content_stands : (v : Present) (cs : List Call) (due : List CallEvent) (s : ℕ) (content : List ℕ) (end_stream : Bool) (p : Past) (f : RawFrame) → TakesOn s content end_stream v.calls cs v.due due → HasBrought v p f (Content s content end_stream) → StandsFor (kept_as v v.sending cs due) (with_frame p f)
-content_stands v cs due s content end_stream p f takes h =
+content_stands : (texts : Look) (v : Present) (cs : List Call) (due : List CallEvent) (s : ℕ) (content : List ℕ) (end_stream : Bool) (p : Past) (f : RawFrame) → TakesOn s content end_stream v.calls cs v.due due → HasBrought texts v p f (Content s content end_stream) → StandsFor texts (kept_as v v.sending cs due) (with_frame p f)
+content_stands texts v cs due s content end_stream p f takes h =
     let b : Brings p.diary (after_frame p f) (Content s content end_stream) = brings p f (Content s content end_stream) h.is_event in
     let a : AfterText p.diary (after_frame p f) s content end_stream cs v.due due = after_text p.diary (after_frame p f) s content end_stream v.calls cs v.due due
     (λ t. call_frame p.diary (after_frame p f) (Content s content end_stream) t b ∙ or_none (is_call p.diary t))
     (λ t other. text_frame p.diary (after_frame p f) (Content s content end_stream) t b ∙ ap (λ (x : Bool). text p.diary t ++ cond x content []) other ∙ append-nil (text p.diary t))
     (text_frame p.diary (after_frame p f) (Content s content end_stream) s b ∙ ap (λ (x : Bool). text p.diary s ++ cond x content []) (same_number s))
     (ended_sieve p.diary (after_frame p f) s end_stream h.change.streams) h.change.falls (h.change.opened s h.change.event).1 h.calls.calls h.calls.order takes in
-    brought_by v v.sending cs due p f (Content s content end_stream) h h.sending a.events a.holds
+    brought_by texts v v.sending cs due p f (Content s content end_stream) h h.sending a.events a.holds
 
-pub content_by : {T E : Type 0} (r : Result T E) (v old : Present) (cs : List Call) (due : List CallEvent) (s : ℕ) (content : List ℕ) (end_stream : Bool) → v ≡ old → OnOk r (TakesOn s content end_stream v.calls cs v.due due) → OnOk r ((p : Past) (f : RawFrame) → HasBrought old p f (Content s content end_stream) → StandsFor (kept_as v v.sending cs due) (with_frame p f))
-content_by (Err x) v old cs due s content end_stream is takes = tt
-content_by (Ok x) v old cs due s content end_stream is takes = λ p f h. content_stands v cs due s content end_stream p f takes (subst (λ (y : Present). HasBrought y p f (Content s content end_stream)) (sym is) h)
+pub content_by : (texts : Look) {T E : Type 0} (r : Result T E) (v old : Present) (cs : List Call) (due : List CallEvent) (s : ℕ) (content : List ℕ) (end_stream : Bool) → v ≡ old → OnOk r (TakesOn s content end_stream v.calls cs v.due due) → OnOk r ((p : Past) (f : RawFrame) → HasBrought texts old p f (Content s content end_stream) → StandsFor texts (kept_as v v.sending cs due) (with_frame p f))
+content_by texts (Err x) v old cs due s content end_stream is takes = tt
+content_by texts (Ok x) v old cs due s content end_stream is takes = λ p f h. content_stands texts v cs due s content end_stream p f takes (subst (λ (y : Present). HasBrought texts y p f (Content s content end_stream)) (sym is) h)
 
-trailers_stand : (v : Present) (cs : List Call) (due : List CallEvent) (s : ℕ) (p : Past) (f : RawFrame) → TakesOn s [] true v.calls cs v.due due → HasBrought v p f (Trailers s) → StandsFor (kept_as v v.sending cs due) (with_frame p f)
-trailers_stand v cs due s p f takes h =
+trailers_stand : (texts : Look) (v : Present) (cs : List Call) (due : List CallEvent) (s : ℕ) (p : Past) (f : RawFrame) → TakesOn s [] true v.calls cs v.due due → HasBrought texts v p f (Trailers s) → StandsFor texts (kept_as v v.sending cs due) (with_frame p f)
+trailers_stand texts v cs due s p f takes h =
     let b : Brings p.diary (after_frame p f) (Trailers s) = brings p f (Trailers s) h.is_event in
     let a : AfterText p.diary (after_frame p f) s [] true cs v.due due = after_text p.diary (after_frame p f) s [] true v.calls cs v.due due
     (λ t. call_frame p.diary (after_frame p f) (Trailers s) t b ∙ or_none (is_call p.diary t))
     (λ t other. text_frame p.diary (after_frame p f) (Trailers s) t b ∙ append-nil (text p.diary t))
     (text_frame p.diary (after_frame p f) (Trailers s) s b)
     (sieve_if p.diary (after_frame p f) (is_ended_by_server p.diary s) s h.change.streams) h.change.falls (h.change.opened s h.change.event).1 h.calls.calls h.calls.order takes in
-    brought_by v v.sending cs due p f (Trailers s) h h.sending a.events a.holds
+    brought_by texts v v.sending cs due p f (Trailers s) h h.sending a.events a.holds
 
-pub trailers_by : {T E : Type 0} (r : Result T E) (v old : Present) (cs : List Call) (due : List CallEvent) (s : ℕ) → v ≡ old → OnOk r (TakesOn s [] true v.calls cs v.due due) → OnOk r ((p : Past) (f : RawFrame) → HasBrought old p f (Trailers s) → StandsFor (kept_as v v.sending cs due) (with_frame p f))
-trailers_by (Err x) v old cs due s is takes = tt
-trailers_by (Ok x) v old cs due s is takes = λ p f h. trailers_stand v cs due s p f takes (subst (λ (y : Present). HasBrought y p f (Trailers s)) (sym is) h)
+pub trailers_by : (texts : Look) {T E : Type 0} (r : Result T E) (v old : Present) (cs : List Call) (due : List CallEvent) (s : ℕ) → v ≡ old → OnOk r (TakesOn s [] true v.calls cs v.due due) → OnOk r ((p : Past) (f : RawFrame) → HasBrought texts old p f (Trailers s) → StandsFor texts (kept_as v v.sending cs due) (with_frame p f))
+trailers_by texts (Err x) v old cs due s is takes = tt
+trailers_by texts (Ok x) v old cs due s is takes = λ p f h. trailers_stand texts v cs due s p f takes (subst (λ (y : Present). HasBrought texts y p f (Trailers s)) (sym is) h)
 
 -- ---- a stream that was reset
 
-cancel_stands : (v : Present) (w : Sending) (due : List CallEvent) (s : ℕ) (p : Past) (f : RawFrame) → ((d : List Entry) (os : List Owed) → is_live d s ≡ false → IsSending v.sending d os → IsSending w d os) → due ≡ v.due ++ cancel_if (has_call s v.calls) s → HasBrought v p f (Cancel s) → StandsFor (kept_as v w (without_call s v.calls) due) (with_frame p f)
-cancel_stands v w due s p f forgets events h =
+cancel_stands : (texts : Look) (v : Present) (w : Kept) (due : List CallEvent) (s : ℕ) (p : Past) (f : RawFrame) → ((d : List Entry) (os : List Owed) → is_live d s ≡ false → IsSending texts v.sending d os → IsSending texts w d os) → due ≡ v.due ++ cancel_if (has_call s v.calls) s → HasBrought texts v p f (Cancel s) → StandsFor texts (kept_as v w (without_call s v.calls) due) (with_frame p f)
+cancel_stands texts v w due s p f forgets events h =
     let b : Brings p.diary (after_frame p f) (Cancel s) = brings p f (Cancel s) h.is_event in
     let gone : is_live (after_frame p f) s ≡ false = reset_stream p.diary (entries p.diary f) s h.change.event h.change.streams in
     let call : has_call s v.calls ≡ is_call p.diary s = has_is_some s v.calls ∙ sym (called p.diary s (call_on s v.calls) (h.calls.calls s (h.change.opened s h.change.event).1)) in
-    brought_by v w (without_call s v.calls) due p f (Cancel s) h (forgets (after_frame p f) p.owed gone h.sending)
+    brought_by texts v w (without_call s v.calls) due p f (Cancel s) h (forgets (after_frame p f) p.owed gone h.sending)
     (events ∙ ap (λ (x : Bool). v.due ++ cancel_if x s) call)
     (after_cancel p.diary (after_frame p f) s v.calls b h.change.streams gone h.change.falls h.calls.calls h.calls.order)
 
-pub cancel_by : {T E : Type 0} (r : Result T E) (v old : Present) (w : Sending) (cs : List Call) (due : List CallEvent) (s : ℕ) → v ≡ old → ((d : List Entry) (os : List Owed) → is_live d s ≡ false → IsSending v.sending d os → IsSending w d os) → OnOk r (cs ≡ without_call s v.calls) → OnOk r (due ≡ v.due ++ cancel_if (has_call s v.calls) s) → OnOk r ((p : Past) (f : RawFrame) → HasBrought old p f (Cancel s) → StandsFor (kept_as v w cs due) (with_frame p f))
-cancel_by (Err x) v old w cs due s is forgets calls events = tt
-cancel_by (Ok x) v old w cs due s is forgets calls events = λ p f h.
-    subst (λ (ys : List Call). StandsFor (kept_as v w ys due) (with_frame p f)) (sym calls) (cancel_stands v w due s p f forgets events (subst (λ (y : Present). HasBrought y p f (Cancel s)) (sym is) h))
+pub cancel_by : (texts : Look) {T E : Type 0} (r : Result T E) (v old : Present) (w : Kept) (cs : List Call) (due : List CallEvent) (s : ℕ) → v ≡ old → ((d : List Entry) (os : List Owed) → is_live d s ≡ false → IsSending texts v.sending d os → IsSending texts w d os) → OnOk r (cs ≡ without_call s v.calls) → OnOk r (due ≡ v.due ++ cancel_if (has_call s v.calls) s) → OnOk r ((p : Past) (f : RawFrame) → HasBrought texts old p f (Cancel s) → StandsFor texts (kept_as v w cs due) (with_frame p f))
+cancel_by texts (Err x) v old w cs due s is forgets calls events = tt
+cancel_by texts (Ok x) v old w cs due s is forgets calls events = λ p f h.
+    subst (λ (ys : List Call). StandsFor texts (kept_as v w ys due) (with_frame p f)) (sym calls) (cancel_stands texts v w due s p f forgets events (subst (λ (y : Present). HasBrought texts y p f (Cancel s)) (sym is) h))
 
 -- ---- a request
 
@@ -124,29 +129,29 @@ numbers_are e t (s ∷ ss) = ap (λ (b : Bool). (s == t) || b) (numbers_are e t 
 pub listed_streams : (v : Standing) (d : List Entry) (t : ℕ) → AreStreams v d → has_failed d ≡ false → list_any (number_is t) v.live ≡ list_any (λ u. u == t) (live d)
 listed_streams v d t at alive = ap (λ (x : Standing). list_any (number_is t) x.live) (at.state alive).is ∙ numbers_are d t (live d)
 
-begun_stands : (v : Present) (cs : List Call) (due : List CallEvent) (s : ℕ) (fields : List Header) (end_stream : Bool) (method : Method) (p : Past) (f : RawFrame) → head_of fields ≡ Ok method → BeginsCall s method end_stream v.streams.live v.calls cs v.due due → HasBrought v p f (Request s fields end_stream) → StandsFor (kept_as v v.sending cs due) (with_frame p f)
-begun_stands v cs due s fields end_stream method p f head begins h =
+begun_stands : (texts : Look) (v : Present) (cs : List Call) (due : List CallEvent) (s : ℕ) (fields : List Header) (end_stream : Bool) (method : Method) (p : Past) (f : RawFrame) → head_of fields ≡ Ok method → BeginsCall s method end_stream v.streams.live v.calls cs v.due due → HasBrought texts v p f (Request s fields end_stream) → StandsFor texts (kept_as v v.sending cs due) (with_frame p f)
+begun_stands texts v cs due s fields end_stream method p f head begins h =
     let b : Brings p.diary (after_frame p f) (Request s fields end_stream) = brings p f (Request s fields end_stream) h.is_event in
     let thin = thinned p.diary (after_frame p f) s fields end_stream v.streams.live v.calls begins.kept h.change h.calls.calls (λ t. listed_streams v.streams (after_frame p f) t h.streams h.lives) begins.keeps in
     let a : After (after_frame p f) (begins.kept ++ begins.call ∷ []) = after_begun p.diary (after_frame p f) s fields end_stream v.calls begins.kept begins.call b (ap is_ok head) h.change h.calls.calls h.calls.order thin begins.stream begins.messages in
-    brought_by v v.sending cs due p f (Request s fields end_stream) h
-    (subst (λ (o : Result Method HeadFault). IsSending v.sending (after_frame p f) (owe_all (after_frame p f) p.owed (answer_to_head s o))) (sym head) h.sending)
+    brought_by texts v v.sending cs due p f (Request s fields end_stream) h
+    (subst (λ (o : Result Method HeadFault). IsSending texts v.sending (after_frame p f) (owe_all (after_frame p f) p.owed (answer_to_head s o))) (sym head) h.sending)
     (begins.events ∙ ap (λ (o : Result Method HeadFault). v.due ++ on_request s end_stream o) (sym head))
     (subst (λ (ys : List Call). After (after_frame p f) ys) (sym begins.calls) a)
 
-pub begun_by : {T E : Type 0} (r : Result T E) (v old : Present) (cs : List Call) (due : List CallEvent) (s : ℕ) (fields : List Header) (end_stream : Bool) (method : Method) (streams : List Stream) → v ≡ old → head_of fields ≡ Ok method → streams ≡ v.streams.live → OnOk r (BeginsCall s method end_stream streams v.calls cs v.due due) → OnOk r ((p : Past) (f : RawFrame) → HasBrought old p f (Request s fields end_stream) → StandsFor (kept_as v v.sending cs due) (with_frame p f))
-begun_by (Err x) v old cs due s fields end_stream method streams is head lives begins = tt
-begun_by (Ok x) v old cs due s fields end_stream method streams is head lives begins = λ p f h. begun_stands v cs due s fields end_stream method p f head (subst (λ (ss : List Stream). BeginsCall s method end_stream ss v.calls cs v.due due) lives begins) (subst (λ (y : Present). HasBrought y p f (Request s fields end_stream)) (sym is) h)
+pub begun_by : (texts : Look) {T E : Type 0} (r : Result T E) (v old : Present) (cs : List Call) (due : List CallEvent) (s : ℕ) (fields : List Header) (end_stream : Bool) (method : Method) (streams : List Stream) → v ≡ old → head_of fields ≡ Ok method → streams ≡ v.streams.live → OnOk r (BeginsCall s method end_stream streams v.calls cs v.due due) → OnOk r ((p : Past) (f : RawFrame) → HasBrought texts old p f (Request s fields end_stream) → StandsFor texts (kept_as v v.sending cs due) (with_frame p f))
+begun_by texts (Err x) v old cs due s fields end_stream method streams is head lives begins = tt
+begun_by texts (Ok x) v old cs due s fields end_stream method streams is head lives begins = λ p f h. begun_stands texts v cs due s fields end_stream method p f head (subst (λ (ss : List Stream). BeginsCall s method end_stream ss v.calls cs v.due due) lives begins) (subst (λ (y : Present). HasBrought texts y p f (Request s fields end_stream)) (sym is) h)
 
-refused_stands : (v : Present) (w : Sending) (s : ℕ) (fields : List Header) (end_stream : Bool) (fault : HeadFault) (p : Past) (f : RawFrame) → head_of fields ≡ Err fault → ((d : List Entry) (os : List Owed) → AreStreams v.streams d → IsSending v.sending d os → IsSending w d (owed_more d os s (Headed (response_to fault)))) → HasBrought v p f (Request s fields end_stream) → StandsFor (kept_as v w v.calls v.due) (with_frame p f)
-refused_stands v w s fields end_stream fault p f head owes h =
+refused_stands : (texts : Look) (v : Present) (w : Kept) (s : ℕ) (fields : List Header) (end_stream : Bool) (fault : HeadFault) (p : Past) (f : RawFrame) → head_of fields ≡ Err fault → ((d : List Entry) (os : List Owed) → AreStreams v.streams d → IsSending texts v.sending d os → IsSending texts w d (owed_more d os s (Headed (response_to fault)))) → HasBrought texts v p f (Request s fields end_stream) → StandsFor texts (kept_as v w v.calls v.due) (with_frame p f)
+refused_stands texts v w s fields end_stream fault p f head owes h =
     let b : Brings p.diary (after_frame p f) (Request s fields end_stream) = brings p f (Request s fields end_stream) h.is_event in
-    brought_by v w v.calls v.due p f (Request s fields end_stream) h
-    (subst (λ (o : Result Method HeadFault). IsSending w (after_frame p f) (owe_all (after_frame p f) p.owed (answer_to_head s o))) (sym head) (owes (after_frame p f) p.owed h.streams h.sending))
+    brought_by texts v w v.calls v.due p f (Request s fields end_stream) h
+    (subst (λ (o : Result Method HeadFault). IsSending texts w (after_frame p f) (owe_all (after_frame p f) p.owed (answer_to_head s o))) (sym head) (owes (after_frame p f) p.owed h.streams h.sending))
     (sym (append-nil v.due) ∙ ap (λ (o : Result Method HeadFault). v.due ++ on_request s end_stream o) (sym head))
     (after_refused p.diary (after_frame p f) s fields end_stream v.calls b (ap is_ok head) h.change h.calls.calls h.calls.order)
 
-pub refused_by : {T E : Type 0} (r : Result T E) (v old : Present) (w : Sending) (s : ℕ) (fields : List Header) (end_stream : Bool) (fault : HeadFault) (block : ResponseBlock) → v ≡ old → head_of fields ≡ Err fault → block ≡ response_to fault → OnOk r ((d : List Entry) (os : List Owed) → AreStreams v.streams d → IsSending v.sending d os → IsSending w d (owed_more d os s (Headed block))) → OnOk r ((p : Past) (f : RawFrame) → HasBrought old p f (Request s fields end_stream) → StandsFor (kept_as v w v.calls v.due) (with_frame p f))
-refused_by (Err x) v old w s fields end_stream fault block is head answer owes = tt
-refused_by (Ok x) v old w s fields end_stream fault block is head answer owes = λ p f h.
-    refused_stands v w s fields end_stream fault p f head (λ d os at sending. subst (λ (y : ResponseBlock). IsSending w d (owed_more d os s (Headed y))) answer (owes d os at sending)) (subst (λ (y : Present). HasBrought y p f (Request s fields end_stream)) (sym is) h)
+pub refused_by : (texts : Look) {T E : Type 0} (r : Result T E) (v old : Present) (w : Kept) (s : ℕ) (fields : List Header) (end_stream : Bool) (fault : HeadFault) (block : ResponseBlock) → v ≡ old → head_of fields ≡ Err fault → block ≡ response_to fault → OnOk r ((d : List Entry) (os : List Owed) → AreStreams v.streams d → IsSending texts v.sending d os → IsSending texts w d (owed_more d os s (Headed block))) → OnOk r ((p : Past) (f : RawFrame) → HasBrought texts old p f (Request s fields end_stream) → StandsFor texts (kept_as v w v.calls v.due) (with_frame p f))
+refused_by texts (Err x) v old w s fields end_stream fault block is head answer owes = tt
+refused_by texts (Ok x) v old w s fields end_stream fault block is head answer owes = λ p f h.
+    refused_stands texts v w s fields end_stream fault p f head (λ d os at sending. subst (λ (y : ResponseBlock). IsSending texts w d (owed_more d os s (Headed y))) answer (owes d os at sending)) (subst (λ (y : Present). HasBrought texts y p f (Request s fields end_stream)) (sym is) h)

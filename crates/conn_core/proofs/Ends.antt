@@ -20,7 +20,7 @@ use Rattle.http2_streams.specs.Standing.{Standing}
 use Rattle.http2_streams.specs.StandsFor.{StandsFor as AreStreams}
 use Rattle.http2_streams.specs.Rules.{number_is, causes, control_frames, entries_of}
 use Rattle.grpc_sending.specs.Bytes.{untaken}
-use Rattle.grpc_sending.specs.StandsFor.{StandsFor as IsSending}
+use Rattle.grpc_sending.specs.Kept.{Look, sending_in, StandsFor as IsSending}
 use Rattle.grpc_sending.proofs.Diaries.{received_more, sent_more}
 use Rattle.grpc_sending.proofs.Received.{frame_heard, fault_heard}
 use Rattle.grpc_sending.proofs.Takes.{live_is}
@@ -134,12 +134,12 @@ other_than u d v (Request t fields end_stream) s at fine calls h member = elim (
   | inr other ↦ other
 ]
 
-failing_fine : (v : Present) (p : Past) (f : RawFrame) (a : StreamEvent) → IsAnswered v p f a → has_failed (p.diary ++ entries_of p.diary f) ≡ false
-failing_fine v p f a h = ap (λ (es : List Entry). has_failed (p.diary ++ es)) (entries_caused p.diary f a h.causes) ∙ failed_after p.diary f (control_frames a) (answers_quiet (control_frames a) (answers_are p.diary f a h.causes)) ∙ h.lives
+failing_fine : (texts : Look) (v : Present) (p : Past) (f : RawFrame) (a : StreamEvent) → IsAnswered texts v p f a → has_failed (p.diary ++ entries_of p.diary f) ≡ false
+failing_fine texts v p f a h = ap (λ (es : List Entry). has_failed (p.diary ++ es)) (entries_caused p.diary f a h.causes) ∙ failed_after p.diary f (control_frames a) (answers_quiet (control_frames a) (answers_are p.diary f a h.causes)) ∙ h.lives
 
-cut_end : (v : Present) (p : Past) (f : RawFrame) (a : StreamEvent) → IsAnswered v p f a → ended_calls v.streams.live (named a.event) (map call_stream v.calls) ≡ cancels p.diary
-cut_end v p f a h =
-    let fine : has_failed (p.diary ++ entries_of p.diary f) ≡ false = failing_fine v p f a h in
+cut_end : (texts : Look) (v : Present) (p : Past) (f : RawFrame) (a : StreamEvent) → IsAnswered texts v p f a → ended_calls v.streams.live (named a.event) (map call_stream v.calls) ≡ cancels p.diary
+cut_end texts v p f a h =
+    let fine : has_failed (p.diary ++ entries_of p.diary f) ≡ false = failing_fine texts v p f a h in
     let of : IsOnItsStream p.diary a.event = event_on_stream p.diary f a h.causes in
     cancels_are p.diary (map call_stream v.calls) v.streams.live (named a.event) h.lives h.calls.order (λ s member.
     ap (λ b. b || is_that (named a.event) s) (live_is v.streams (p.diary ++ entries_of p.diary f) s h.streams (h.streams.fault ∙ fine) ∙ ap (list_any (λ t. t == s)) (live_after_frame h.before p.diary f a h.stood h.lives h.causes))
@@ -153,9 +153,9 @@ top rs = fold max 0 (map stream_of (fold blocks_after no_blocks rs).finished)
 highest_in : (d : List Entry) (f : RawFrame) (fs : List Frame) → highest (d ++ In f ∷ map Out fs) ≡ highest (d ++ In f ∷ [])
 highest_in d f fs = ap highest (in_front d f fs) ∙ ap top (received_more (d ++ In f ∷ []) fs)
 
-highest_after : (v : Present) (p : Past) (f : RawFrame) (a : StreamEvent) → IsAnswered v p f a → v.streams.highest ≡ highest (p.diary ++ In f ∷ [])
-highest_after v p f a h =
-    ap (λ (u : Standing). u.highest) (h.streams.state (failing_fine v p f a h)).is
+highest_after : (texts : Look) (v : Present) (p : Past) (f : RawFrame) (a : StreamEvent) → IsAnswered texts v p f a → v.streams.highest ≡ highest (p.diary ++ In f ∷ [])
+highest_after texts v p f a h =
+    ap (λ (u : Standing). u.highest) (h.streams.state (failing_fine texts v p f a h)).is
     ∙ ap (λ (es : List Entry). highest (p.diary ++ es)) (entries_caused p.diary f a h.causes) ∙ highest_in p.diary f (control_frames a)
 
 -- ---- a connection that ended
@@ -163,13 +163,13 @@ highest_after v p f a h =
 pub failed_with : (d : List Entry) (h : ℕ) (code : ErrorCode) → has_failed (d ++ Out (goaway h code) ∷ []) ≡ true
 failed_with d h code = ap (list_any is_goaway) (sent_more d (goaway h code ∷ [])) ∙ list_any-append is_goaway (sent d) (goaway h code ∷ []) ∙ or_all (list_any is_goaway (sent d))
 
-ended_stands : (v x : Present) (code : ErrorCode) (reset : Option ℕ) (d : List Entry) (q : Past) → Fails v code reset x → q.diary ≡ d ++ Out (goaway v.streams.highest code) ∷ [] → IsSending v.sending d q.owed → q.due ≡ v.due ++ ended_calls v.streams.live reset (map call_stream v.calls) → StandsFor x q
-ended_stands v x code reset d q h is sending due =
+ended_stands : (texts : Look) (v x : Present) (code : ErrorCode) (reset : Option ℕ) (d : List Entry) (q : Past) → Fails v code reset x → q.diary ≡ d ++ Out (goaway v.streams.highest code) ∷ [] → IsSending texts v.sending d q.owed → q.due ≡ v.due ++ ended_calls v.streams.live reset (map call_stream v.calls) → StandsFor texts x q
+ended_stands texts v x code reset d q h is sending due =
     let failed : has_failed q.diary ≡ true = ap has_failed is ∙ failed_with d v.streams.highest code in
     record {
       ended = h.ended ∙ sym failed;
       streams = h.streams q.diary failed;
-      sending = subst (λ (es : List Entry). IsSending x.sending es q.owed) (sym is) (h.sending d q.owed sending);
+      sending = subst (λ (es : List Entry). IsSending texts x.sending es q.owed) (sym is) (h.sending texts d q.owed sending);
       due = h.due ∙ sym due;
       alive = λ alive. let no : true ≡ false = sym failed ∙ alive in absurd (let z : ⊥ = cc in z);
     }
@@ -181,35 +181,35 @@ frame_by p f o = record p {
   due = p.due ++ cond o.fails (cancels p.diary) (call_events_of p.diary o.event);
 }
 
-fails_frame : (v x : Present) (p : Past) (f : RawFrame) (fs : List Frame) (n : ℕ) (code : ErrorCode) (reset : Option ℕ) → outcome p.diary f ≡ fault fs n code → v.streams.highest ≡ n → IsSending v.sending (p.diary ++ In f ∷ map Out fs) p.owed → v.due ≡ p.due → ended_calls v.streams.live reset (map call_stream v.calls) ≡ cancels p.diary → Fails v code reset x → StandsFor x (with_frame p f)
-fails_frame v x p f fs n code reset o top-is sending due ended h =
+fails_frame : (texts : Look) (v x : Present) (p : Past) (f : RawFrame) (fs : List Frame) (n : ℕ) (code : ErrorCode) (reset : Option ℕ) → outcome p.diary f ≡ fault fs n code → v.streams.highest ≡ n → IsSending texts v.sending (p.diary ++ In f ∷ map Out fs) p.owed → v.due ≡ p.due → ended_calls v.streams.live reset (map call_stream v.calls) ≡ cancels p.diary → Fails v code reset x → StandsFor texts x (with_frame p f)
+fails_frame texts v x p f fs n code reset o top-is sending due ended h =
     let diary : p.diary ++ In f ∷ map Out (fs ++ goaway n code ∷ []) ≡ (p.diary ++ In f ∷ map Out fs) ++ Out (goaway v.streams.highest code) ∷ [] =
     ap (λ (es : List Entry). p.diary ++ In f ∷ es) (map-append Out fs (goaway n code ∷ [])) ∙ sym (append_assoc p.diary (In f ∷ map Out fs) (Out (goaway n code) ∷ [])) ∙ ap (λ (m : ℕ). (p.diary ++ In f ∷ map Out fs) ++ Out (goaway m code) ∷ []) (sym top-is) in
     let q : Past = frame_by p f (fault fs n code) in
-    subst (λ (y : Outcome). StandsFor x (frame_by p f y)) (sym o)
-    (ended_stands v x code reset (p.diary ++ In f ∷ map Out fs) (frame_by p f (fault fs n code)) h diary sending (ap (λ (es : List CallEvent). es ++ cancels p.diary) (sym due) ∙ ap (λ (es : List CallEvent). v.due ++ es) (sym ended)))
+    subst (λ (y : Outcome). StandsFor texts x (frame_by p f y)) (sym o)
+    (ended_stands texts v x code reset (p.diary ++ In f ∷ map Out fs) (frame_by p f (fault fs n code)) h diary sending (ap (λ (es : List CallEvent). es ++ cancels p.diary) (sym due) ∙ ap (λ (es : List CallEvent). v.due ++ es) (sym ended)))
 
 -- the answer of a frame does not fit
-pub answered_cut : (v w x : Present) (p : Past) (f : RawFrame) (a : StreamEvent) → IsAnswered v p f a → Puts v (control_frames a) false w → Fails w EnhanceYourCalm (named a.event) x → StandsFor x (with_frame p f)
-answered_cut v w x p f a h puts fails =
-    let o = outcome_cut p.diary f a h.causes (fits_of v p f a w false h puts) in
+pub answered_cut : (texts : Look) (v w x : Present) (p : Past) (f : RawFrame) (a : StreamEvent) → IsAnswered texts v p f a → Puts v (control_frames a) false w → Fails w EnhanceYourCalm (named a.event) x → StandsFor texts x (with_frame p f)
+answered_cut texts v w x p f a h puts fails =
+    let o = outcome_cut p.diary f a h.causes (fits_of texts v p f a w false h puts) in
     let streams : w.streams ≡ v.streams = ap (λ (y : Present). y.streams) puts.rest in
     let calls : w.calls ≡ v.calls = ap (λ (y : Present). y.calls) puts.rest in
     let due : w.due ≡ p.due = ap (λ (y : Present). y.due) puts.rest ∙ h.due in
     let ended : ended_calls w.streams.live (named a.event) (map call_stream w.calls) ≡ cancels p.diary =
-    ap (λ (u : Standing). ended_calls u.live (named a.event) (map call_stream w.calls)) streams ∙ ap (λ (cs : List Call). ended_calls v.streams.live (named a.event) (map call_stream cs)) calls ∙ cut_end v p f a h in
-    fails_frame w x p f (fitting (untaken p.diary) (control_frames a)) (highest (p.diary ++ In f ∷ [])) EnhanceYourCalm (named a.event) o (ap (λ (u : Standing). u.highest) streams ∙ highest_after v p f a h) (put_behind v p f a w false h puts) due ended fails
+    ap (λ (u : Standing). ended_calls u.live (named a.event) (map call_stream w.calls)) streams ∙ ap (λ (cs : List Call). ended_calls v.streams.live (named a.event) (map call_stream cs)) calls ∙ cut_end texts v p f a h in
+    fails_frame texts w x p f (fitting (untaken p.diary) (control_frames a)) (highest (p.diary ++ In f ∷ [])) EnhanceYourCalm (named a.event) o (ap (λ (u : Standing). u.highest) streams ∙ highest_after texts v p f a h) (put_behind texts v p f a w false h puts) due ended fails
 
 -- a frame is an error of the connection
-pub taken_fault : (v x : Present) (u : Standing) (p : Past) (f : RawFrame) (code : ErrorCode) → IsTaking v p f → causes p.diary f ≡ Err code → u.live ≡ v.streams.live → u.highest ≡ v.streams.highest → Fails (record v { streams = u }) code None x → StandsFor x (with_frame p f)
-taken_fault v x u p f code h is same top-is fails =
+pub taken_fault : (texts : Look) (v x : Present) (u : Standing) (p : Past) (f : RawFrame) (code : ErrorCode) → IsTaking texts v p f → causes p.diary f ≡ Err code → u.live ≡ v.streams.live → u.highest ≡ v.streams.highest → Fails (record v { streams = u }) code None x → StandsFor texts x (with_frame p f)
+taken_fault texts v x u p f code h is same top-is fails =
     let high : u.highest ≡ highest p.diary = top-is ∙ ap (λ (s : Standing). s.highest) (h.streams.state h.lives).is in
-    fails_frame (record v { streams = u }) x p f [] (highest p.diary) code None (outcome_fault p.diary f code is) high (frame_heard v.sending p.diary p.owed f h.sending) h.due (all_end v.streams u.live p.diary v h.streams h.lives same h.calls) fails
+    fails_frame texts (record v { streams = u }) x p f [] (highest p.diary) code None (outcome_fault p.diary f code is) high (frame_heard (sending_in texts v.sending) p.diary p.owed f h.sending) h.due (all_end v.streams u.live p.diary v h.streams h.lives same h.calls) fails
 
 -- bytes that are no frame
-pub read_fault : (v x : Present) (p : Past) (e : FrameError) (code : ErrorCode) → has_failed p.diary ≡ false → AreStreams v.streams p.diary → IsSending v.sending p.diary p.owed → v.due ≡ p.due → AreCalls v p.diary → Fails v code None x → StandsFor x (with_fault p e code)
-read_fault v x p e code fine at sending due calls h =
+pub read_fault : (texts : Look) (v x : Present) (p : Past) (e : FrameError) (code : ErrorCode) → has_failed p.diary ≡ false → AreStreams v.streams p.diary → IsSending texts v.sending p.diary p.owed → v.due ≡ p.due → AreCalls v p.diary → Fails v code None x → StandsFor texts x (with_fault p e code)
+read_fault texts v x p e code fine at sending due calls h =
     let high : v.streams.highest ≡ highest p.diary = ap (λ (s : Standing). s.highest) (at.state fine).is in
     let diary : p.diary ++ fault_entries p.diary e code ≡ (p.diary ++ Unreadable e ∷ []) ++ Out (goaway v.streams.highest code) ∷ [] =
     ap (λ b. p.diary ++ Unreadable e ∷ map Out (fault_frames b (highest p.diary) code)) fine ∙ ap (λ (m : ℕ). p.diary ++ Unreadable e ∷ Out (goaway m code) ∷ []) (sym high) ∙ sym (append_assoc p.diary (Unreadable e ∷ []) (Out (goaway v.streams.highest code) ∷ [])) in
-    ended_stands v x code None (p.diary ++ Unreadable e ∷ []) (with_fault p e code) h diary (fault_heard v.sending p.diary p.owed e sending) (ap (λ (es : List CallEvent). es ++ cancels p.diary) (sym due) ∙ ap (λ (es : List CallEvent). v.due ++ es) (sym (all_end v.streams v.streams.live p.diary v at fine refl calls)))
+    ended_stands texts v x code None (p.diary ++ Unreadable e ∷ []) (with_fault p e code) h diary (fault_heard (sending_in texts v.sending) p.diary p.owed e sending) (ap (λ (es : List CallEvent). es ++ cancels p.diary) (sym due) ∙ ap (λ (es : List CallEvent). v.due ++ es) (sym (all_end v.streams v.streams.live p.diary v at fine refl calls)))

@@ -18,8 +18,10 @@ use Rattle.http2_streams.specs.Standing.{Standing}
 use Rattle.http2_streams.specs.StandsFor.{StandsFor as AreStreams}
 use Rattle.http2_streams.proofs.PutLaw.{no_matter}
 use Rattle.grpc_messages.specs.declared.error.MessagesError.{MessagesError}
-use Rattle.grpc_sending.specs.Owed.{Item, Owed}
-use Rattle.grpc_sending.specs.StandsFor.{Sending, StandsFor as IsSending, owed_more}
+use Rattle.digest.specs.declared.Digest.{Digest}
+use Rattle.grpc_sending.specs.Owed.{Item, Owed, Range}
+use Rattle.grpc_sending.specs.StandsFor.{owed_more}
+use Rattle.grpc_sending.specs.Kept.{Look, Kept, StandsFor as IsSending}
 use Rattle.grpc_sending.proofs.Diaries.{append-nil}
 use Rattle.conn_core.specs.declared.call.Call.{Call}
 use Rattle.conn_core.specs.declared.event.CallEvent.{CallEvent}
@@ -31,8 +33,8 @@ use Rattle.conn_core.proofs.Events.{events_took, raw_took}
 
 -- ---- an item
 
-pub item_kept : (v : Present) (w : Sending) (p : Past) (s : ℕ) (item : Item) → StandsFor v p → IsSending w p.diary (owed_more p.diary p.owed s item) → StandsFor (record { reader = v.reader; streams = v.streams; sending = w; calls = v.calls; due = v.due; ended = v.ended }) (with_item p s item)
-item_kept v w p s item st sending = record {
+pub item_kept : (texts : Look) (v : Present) (w : Kept) (p : Past) (s : ℕ) (item : Item) → StandsFor texts v p → IsSending texts w p.diary (owed_more p.diary p.owed s item) → StandsFor texts (record { reader = v.reader; streams = v.streams; sending = w; calls = v.calls; due = v.due; ended = v.ended }) (with_item p s item)
+item_kept texts v w p s item st sending = record {
   ended = st.ended;
   streams = st.streams;
   sending = sending;
@@ -40,13 +42,20 @@ item_kept v w p s item st sending = record {
   alive = λ alive. let a = st.alive alive in record { reader = a.reader; calls = a.calls; order = a.order };
 }
 
-pub item_by : {T E : Type 0} (r : Result T E) (v old : Present) (w : Sending) (s : ℕ) (item : Item) → v ≡ old →
-    OnOk r ((d : List Entry) (os : List Owed) → AreStreams v.streams d → IsSending v.sending d os → IsSending w d (owed_more d os s item)) →
-    OnOk r ((p : Past) → StandsFor old p → StandsFor (record { reader = v.reader; streams = v.streams; sending = w; calls = v.calls; due = v.due; ended = v.ended }) (with_item p s item))
-item_by (Err e) v old w s item is h = tt
-item_by (Ok x) v old w s item is h = λ p st0.
-    let st : StandsFor v p = subst (λ (y : Present). StandsFor y p) (sym is) st0 in
-    item_kept v w p s item st (h p.diary p.owed st.streams st.sending)
+pub item_by : (texts : Look) {T E : Type 0} (r : Result T E) (v old : Present) (w : Kept) (s : ℕ) (item : Item) → v ≡ old →
+    OnOk r ((d : List Entry) (os : List Owed) → AreStreams v.streams d → IsSending texts v.sending d os → IsSending texts w d (owed_more d os s item)) →
+    OnOk r ((p : Past) → StandsFor texts old p → StandsFor texts (record { reader = v.reader; streams = v.streams; sending = w; calls = v.calls; due = v.due; ended = v.ended }) (with_item p s item))
+item_by texts (Err e) v old w s item is h = tt
+item_by texts (Ok x) v old w s item is h = λ p st0.
+    let st : StandsFor texts v p = subst (λ (y : Present). StandsFor texts y p) (sym is) st0 in
+    item_kept texts v w p s item st (h p.diary p.owed st.streams st.sending)
+
+-- a range, whatever digest names its text
+pub for_digest : {T E : Type 0} (r : Result T E) (v old : Present) (w : Kept) (s : ℕ) (text : List ℕ) (from count : ℕ) (texts : Look) → v ≡ old →
+    OnOk r ((digest : Digest) (d : List Entry) (os : List Owed) → AreStreams v.streams d → IsSending texts v.sending d os → IsSending texts w d (owed_more d os s (Range digest text from count))) →
+    OnOk r ((digest : Digest) (p : Past) → StandsFor texts old p → StandsFor texts (record { reader = v.reader; streams = v.streams; sending = w; calls = v.calls; due = v.due; ended = v.ended }) (with_item p s (Range digest text from count)))
+for_digest (Err e) v old w s text from count texts is h = tt
+for_digest {T = T} {E = E} (Ok x) v old w s text from count texts is h = λ digest. item_by texts {T = T} {E = E} (Ok x) v old w s (Range digest text from count) is (h digest)
 
 -- ---- bytes that were taken
 
@@ -85,7 +94,7 @@ same_call d e s (Some m) h call = (
 abbrev calls_by : List Event → List ℕ → List ℕ
 calls_by es ss = filter (λ s. list_any (begins_call s) es) ss
 
-pub same_alive : (v : Present) (w : Sending) (p q : Past) → q.text ≡ p.text → IsSame p.diary q.diary → IsAlive v p → IsAlive (record { reader = v.reader; streams = v.streams; sending = w; calls = v.calls; due = v.due; ended = v.ended }) q
+pub same_alive : (v : Present) (w : Kept) (p q : Past) → q.text ≡ p.text → IsSame p.diary q.diary → IsAlive v p → IsAlive (record { reader = v.reader; streams = v.streams; sending = w; calls = v.calls; due = v.due; ended = v.ended }) q
 same_alive v w p q text_is h a = record {
   reader = subst (λ (t : List ℕ). IsReader CLIENT_PREFACE.now v.reader t (raw_received q.diary)) (sym text_is) (subst (λ (fs : List RawFrame). IsReader CLIENT_PREFACE.now v.reader p.text fs) (sym h.raw) a.reader);
   calls = λ s lives. same_call p.diary q.diary s (call_on s v.calls) h.events (a.calls s (sym (same_live p.diary q.diary s h) ∙ lives));
@@ -95,8 +104,8 @@ same_alive v w p q text_is h a = record {
 took_same : (d : List Entry) (n : ℕ) → IsSame d (d ++ Took n ∷ [])
 took_same d n = record { received = took_received d n; sent = took_sent d n; events = events_took d n; raw = raw_took d n }
 
-pub took_kept : (v : Present) (w : Sending) (p : Past) (n : ℕ) → StandsFor v p → IsSending w (p.diary ++ Took n ∷ []) p.owed → StandsFor (record { reader = v.reader; streams = v.streams; sending = w; calls = v.calls; due = v.due; ended = v.ended }) (with_taken p n)
-took_kept v w p n st sending = record {
+pub took_kept : (texts : Look) (v : Present) (w : Kept) (p : Past) (n : ℕ) → StandsFor texts v p → IsSending texts w (p.diary ++ Took n ∷ []) p.owed → StandsFor texts (record { reader = v.reader; streams = v.streams; sending = w; calls = v.calls; due = v.due; ended = v.ended }) (with_taken p n)
+took_kept texts v w p n st sending = record {
   ended = st.ended ∙ ap (λ (ss : List Frame). list_any is_goaway ss) (sym (took_sent p.diary n));
   streams = no_matter v.streams p.diary (Took n) tt st.streams;
   sending = sending;
@@ -104,15 +113,15 @@ took_kept v w p n st sending = record {
   alive = λ alive. same_alive v w p (with_taken p n) refl (took_same p.diary n) (st.alive (ap (λ (ss : List Frame). list_any is_goaway ss) (sym (took_sent p.diary n)) ∙ alive));
 }
 
-pub took_by : (v old : Present) (w : Sending) (n : ℕ) → v ≡ old → ((d : List Entry) (os : List Owed) → IsSending v.sending d os → IsSending w (d ++ Took n ∷ []) os) → (p : Past) → StandsFor old p → StandsFor (record { reader = v.reader; streams = v.streams; sending = w; calls = v.calls; due = v.due; ended = v.ended }) (with_taken p n)
-took_by v old w n is h p st0 =
-    let st : StandsFor v p = subst (λ (y : Present). StandsFor y p) (sym is) st0 in
-    took_kept v w p n st (h p.diary p.owed st.sending)
+pub took_by : (texts : Look) (v old : Present) (w : Kept) (n : ℕ) → v ≡ old → ((d : List Entry) (os : List Owed) → IsSending texts v.sending d os → IsSending texts w (d ++ Took n ∷ []) os) → (p : Past) → StandsFor texts old p → StandsFor texts (record { reader = v.reader; streams = v.streams; sending = w; calls = v.calls; due = v.due; ended = v.ended }) (with_taken p n)
+took_by texts v old w n is h p st0 =
+    let st : StandsFor texts v p = subst (λ (y : Present). StandsFor texts y p) (sym is) st0 in
+    took_kept texts v w p n st (h p.diary p.owed st.sending)
 
 -- ---- a new connection
 
-pub new_stands : (reader : Result Unread FrameError) (streams : Standing) (w : Sending) → IsReader CLIENT_PREFACE.now reader [] [] → AreStreams streams [] → IsSending w (greeting ∷ []) [] → StandsFor (record { reader = reader; streams = streams; sending = w; calls = []; due = []; ended = false }) opening
-new_stands reader streams w read at sending = record {
+pub new_stands : (texts : Look) (reader : Result Unread FrameError) (streams : Standing) (w : Kept) → IsReader CLIENT_PREFACE.now reader [] [] → AreStreams streams [] → IsSending texts w (greeting ∷ []) [] → StandsFor texts (record { reader = reader; streams = streams; sending = w; calls = []; due = []; ended = false }) opening
+new_stands texts reader streams w read at sending = record {
   ended = refl;
   streams = no_matter streams [] greeting tt at;
   sending = sending;
@@ -122,8 +131,8 @@ new_stands reader streams w read at sending = record {
 
 -- ---- more bytes
 
-pub more_kept : (v : Present) (r : Result Unread FrameError) (p : Past) (piece : List ℕ) → StandsFor v p → (has_failed p.diary ≡ false → IsReader CLIENT_PREFACE.now r (p.text ++ piece) (raw_received p.diary)) → StandsFor (record { reader = r; streams = v.streams; sending = v.sending; calls = v.calls; due = v.due; ended = v.ended }) (record p { text = p.text ++ piece })
-more_kept v r p piece st read = record {
+pub more_kept : (texts : Look) (v : Present) (r : Result Unread FrameError) (p : Past) (piece : List ℕ) → StandsFor texts v p → (has_failed p.diary ≡ false → IsReader CLIENT_PREFACE.now r (p.text ++ piece) (raw_received p.diary)) → StandsFor texts (record { reader = r; streams = v.streams; sending = v.sending; calls = v.calls; due = v.due; ended = v.ended }) (record p { text = p.text ++ piece })
+more_kept texts v r p piece st read = record {
   ended = st.ended;
   streams = st.streams;
   sending = st.sending;
@@ -135,11 +144,11 @@ more_kept v r p piece st read = record {
 pub refused_more : (preface text piece : List ℕ) (given : List RawFrame) (e : FrameError) → IsReader preface (Err e) text given → IsReader preface (Err e) (text ++ piece) given
 refused_more preface text piece given e h = λ more. ap (split preface) (append_assoc text piece more) ∙ h (piece ++ more)
 
-pub new_by : (reader : Result Unread FrameError) (streams : Standing) (w : Sending) (calls : List Call) (due : List CallEvent) (ss : List Setting) → calls ≡ [] → due ≡ [] → ss ≡ record { identifier = 3; value = 100 } ∷ [] → IsReader CLIENT_PREFACE.now reader [] [] → AreStreams streams [] → IsSending w (Out (Settings false ss) ∷ []) [] → StandsFor (record { reader = reader; streams = streams; sending = w; calls = calls; due = due; ended = false }) opening
-new_by reader streams w calls due ss none none' settings read at sending =
+pub new_by : (texts : Look) (reader : Result Unread FrameError) (streams : Standing) (w : Kept) (calls : List Call) (due : List CallEvent) (ss : List Setting) → calls ≡ [] → due ≡ [] → ss ≡ record { identifier = 3; value = 100 } ∷ [] → IsReader CLIENT_PREFACE.now reader [] [] → AreStreams streams [] → IsSending texts w (Out (Settings false ss) ∷ []) [] → StandsFor texts (record { reader = reader; streams = streams; sending = w; calls = calls; due = due; ended = false }) opening
+new_by texts reader streams w calls due ss none none' settings read at sending =
     let f : List Call → List CallEvent → Present = λ cs es. record { reader = reader; streams = streams; sending = w; calls = cs; due = es; ended = false } in
-    let s : IsSending w (greeting ∷ []) [] = subst (λ (xs : List Setting). IsSending w (Out (Settings false xs) ∷ []) []) settings sending in
-    subst (λ (cs : List Call). StandsFor (f cs due) opening) (sym none) (subst (λ (es : List CallEvent). StandsFor (f [] es) opening) (sym none') (new_stands reader streams w read at s))
+    let s : IsSending texts w (greeting ∷ []) [] = subst (λ (xs : List Setting). IsSending texts w (Out (Settings false xs) ∷ []) []) settings sending in
+    subst (λ (cs : List Call). StandsFor texts (f cs due) opening) (sym none) (subst (λ (es : List CallEvent). StandsFor texts (f [] es) opening) (sym none') (new_stands texts reader streams w read at s))
 
 pub fed : (r : Result Unit FrameError) (old new : Result Unread FrameError) (preface text piece : List ℕ) (given : List RawFrame) → OnOk r ((p t : List ℕ) (g : List RawFrame) → IsReader p old t g → IsReader p new (t ++ piece) g) → OnErr r (new ≡ old) → IfErr r (λ fault. (fault ≡ NoMemory → ⊥) → old ≡ Err fault) → (r ≡ Err NoMemory → ⊥) → IsReader preface old text given → IsReader preface new (text ++ piece) given
 fed (Ok u) old new preface text piece given ok err refused memory h = ok preface text given h
@@ -148,17 +157,17 @@ fed (Err e) old new preface text piece given ok err refused memory h =
     let h' : IsReader preface (Err e) text given = subst (λ (o : Result Unread FrameError). IsReader preface o text given) is h in
     subst (λ (o : Result Unread FrameError). IsReader preface o (text ++ piece) given) (sym (err ∙ is)) (refused_more preface text piece given e h')
 
-pub fed_by : (v old : Present) (r : Result Unit FrameError) (new : Result Unread FrameError) (piece : List ℕ) → v ≡ old → OnOk r ((p t : List ℕ) (g : List RawFrame) → IsReader p v.reader t g → IsReader p new (t ++ piece) g) → OnErr r (new ≡ v.reader) → IfErr r (λ fault. (fault ≡ NoMemory → ⊥) → v.reader ≡ Err fault) → (r ≡ Err NoMemory → ⊥) → (p : Past) → StandsFor old p → StandsFor (record { reader = new; streams = v.streams; sending = v.sending; calls = v.calls; due = v.due; ended = v.ended }) (record p { text = p.text ++ piece })
-fed_by v old r new piece is ok err refused memory p st0 =
-    let st : StandsFor v p = subst (λ (y : Present). StandsFor y p) (sym is) st0 in
-    more_kept v new p piece st (λ alive. fed r v.reader new CLIENT_PREFACE.now p.text piece (raw_received p.diary) ok err refused memory (st.alive alive).reader)
+pub fed_by : (texts : Look) (v old : Present) (r : Result Unit FrameError) (new : Result Unread FrameError) (piece : List ℕ) → v ≡ old → OnOk r ((p t : List ℕ) (g : List RawFrame) → IsReader p v.reader t g → IsReader p new (t ++ piece) g) → OnErr r (new ≡ v.reader) → IfErr r (λ fault. (fault ≡ NoMemory → ⊥) → v.reader ≡ Err fault) → (r ≡ Err NoMemory → ⊥) → (p : Past) → StandsFor texts old p → StandsFor texts (record { reader = new; streams = v.streams; sending = v.sending; calls = v.calls; due = v.due; ended = v.ended }) (record p { text = p.text ++ piece })
+fed_by texts v old r new piece is ok err refused memory p st0 =
+    let st : StandsFor texts v p = subst (λ (y : Present). StandsFor texts y p) (sym is) st0 in
+    more_kept texts v new p piece st (λ alive. fed r v.reader new CLIENT_PREFACE.now p.text piece (raw_received p.diary) ok err refused memory (st.alive alive).reader)
 
-pub fed_ended : (v old : Present) (piece : List ℕ) → v ≡ old → v.ended ≡ true → (p : Past) → StandsFor old p → StandsFor v (record p { text = p.text ++ piece })
-fed_ended v old piece is ended p st0 =
-    let st : StandsFor v p = subst (λ (y : Present). StandsFor y p) (sym is) st0 in
+pub fed_ended : (texts : Look) (v old : Present) (piece : List ℕ) → v ≡ old → v.ended ≡ true → (p : Past) → StandsFor texts old p → StandsFor texts v (record p { text = p.text ++ piece })
+fed_ended texts v old piece is ended p st0 =
+    let st : StandsFor texts v p = subst (λ (y : Present). StandsFor texts y p) (sym is) st0 in
     let failed : has_failed p.diary ≡ true = sym st.ended ∙ ended in
-    more_kept v v.reader p piece st (λ alive. let no : true ≡ false = sym failed ∙ alive in absurd (let z : ⊥ = cc in z))
+    more_kept texts v v.reader p piece st (λ alive. let no : true ≡ false = sym failed ∙ alive in absurd (let z : ⊥ = cc in z))
 
-pub fed_ok : {T E : Type 0} (o : Result T E) (v old : Present) (r : Result Unit FrameError) (new : Result Unread FrameError) (piece : List ℕ) → v ≡ old → OnOk r ((p t : List ℕ) (g : List RawFrame) → IsReader p v.reader t g → IsReader p new (t ++ piece) g) → OnErr r (new ≡ v.reader) → IfErr r (λ fault. (fault ≡ NoMemory → ⊥) → v.reader ≡ Err fault) → OnOk o (r ≡ Err NoMemory → ⊥) → OnOk o ((p : Past) → StandsFor old p → StandsFor (record { reader = new; streams = v.streams; sending = v.sending; calls = v.calls; due = v.due; ended = v.ended }) (record p { text = p.text ++ piece }))
-fed_ok (Err e) v old r new piece is ok err refused memory = tt
-fed_ok (Ok x) v old r new piece is ok err refused memory = fed_by v old r new piece is ok err refused memory
+pub fed_ok : (texts : Look) {T E : Type 0} (o : Result T E) (v old : Present) (r : Result Unit FrameError) (new : Result Unread FrameError) (piece : List ℕ) → v ≡ old → OnOk r ((p t : List ℕ) (g : List RawFrame) → IsReader p v.reader t g → IsReader p new (t ++ piece) g) → OnErr r (new ≡ v.reader) → IfErr r (λ fault. (fault ≡ NoMemory → ⊥) → v.reader ≡ Err fault) → OnOk o (r ≡ Err NoMemory → ⊥) → OnOk o ((p : Past) → StandsFor texts old p → StandsFor texts (record { reader = new; streams = v.streams; sending = v.sending; calls = v.calls; due = v.due; ended = v.ended }) (record p { text = p.text ++ piece }))
+fed_ok texts (Err e) v old r new piece is ok err refused memory = tt
+fed_ok texts (Ok x) v old r new piece is ok err refused memory = fed_by texts v old r new piece is ok err refused memory

@@ -16,3 +16,4 @@ pub mod Putting
 pub mod Answered
 pub mod Ends
 pub mod Frames
+mod Looks

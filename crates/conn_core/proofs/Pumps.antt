@@ -9,8 +9,8 @@ use Rattle.std.proofs.lemmas.List.Folds.{list_any-append}
 use Rattle.http2_flow.specs.Credit.{left}
 use Rattle.http2_frames.specs.declared.frame.Frame.TheVariants.{Data}
 use Rattle.grpc_calls.specs.Responses.{is_last}
-use Rattle.grpc_sending.specs.declared.piece.Piece.{Piece}
-use Rattle.grpc_sending.specs.declared.piece.Piece.TheVariants.{Block, Part}
+use Rattle.grpc_sending.specs.Pieces.{Piece}
+use Rattle.grpc_sending.specs.Pieces.{Block, Part}
 use Rattle.grpc_sending.proofs.Options.{if_some, first_at}
 use Rattle.http2_frames.specs.declared.frame.Frame.{Frame}
 use Rattle.http2_frames.specs.declared.frame.RawFrame.{RawFrame}
@@ -24,7 +24,7 @@ use Rattle.http2_streams.proofs.LiveLaw.{live_falls}
 use Rattle.grpc_sending.specs.Bytes.{untaken}
 use Rattle.grpc_sending.specs.Owed.{Owed, left_on}
 use Rattle.grpc_sending.specs.Pump.{part_size, block_frames, reset_after, frames_on, frames_for, next, put_more, pumped}
-use Rattle.grpc_sending.specs.StandsFor.{Sending, StandsFor as IsSending}
+use Rattle.grpc_sending.specs.Kept.{Look, Kept, StandsFor as IsSending}
 use Rattle.grpc_sending.proofs.Diaries.{append-nil, sent_more, received_more}
 use Rattle.grpc_sending.proofs.Entries.{failed_before}
 use Rattle.conn_core.specs.Calls.{events, begins_call, is_call}
@@ -132,8 +132,8 @@ order_kept d e xs same brought less order =
     ∙ ap (λ (ss : List ℕ). filter (is_call d) ss) (sym le)
     ∙ ap (λ (es : List Event). filter (λ s. list_any (begins_call s) es) (live e)) (sym brought)
 
-put_kept : (v : Present) (streams : Standing) (w : Sending) (p : Past) (fs : List Frame) → StandsFor v p → AreStreams streams (p.diary ++ map Out fs) → IsSending w (p.diary ++ map Out fs) p.owed → v.ended ≡ has_failed (p.diary ++ map Out fs) → StandsFor (record { reader = v.reader; streams = streams; sending = w; calls = v.calls; due = v.due; ended = v.ended }) (record p { diary = p.diary ++ map Out fs })
-put_kept v streams w p fs st at sending ended = record {
+put_kept : (texts : Look) (v : Present) (streams : Standing) (w : Kept) (p : Past) (fs : List Frame) → StandsFor texts v p → AreStreams streams (p.diary ++ map Out fs) → IsSending texts w (p.diary ++ map Out fs) p.owed → v.ended ≡ has_failed (p.diary ++ map Out fs) → StandsFor texts (record { reader = v.reader; streams = streams; sending = w; calls = v.calls; due = v.due; ended = v.ended }) (record p { diary = p.diary ++ map Out fs })
+put_kept texts v streams w p fs st at sending ended = record {
   ended = ended;
   streams = at;
   sending = sending;
@@ -147,11 +147,11 @@ put_kept v streams w p fs st at sending ended = record {
       };
 }
 
-pub pumped_by : (v old : Present) (streams : Standing) (w : Sending) → v ≡ old → ((d : List Entry) (os : List Owed) → AreStreams v.streams d → IsSending v.sending d os → AreStreams streams (pumped d os)) → ((d : List Entry) (os : List Owed) → AreStreams v.streams d → IsSending v.sending d os → IsSending w (pumped d os) os) → (p : Past) → StandsFor old p → StandsFor (record { reader = v.reader; streams = streams; sending = w; calls = v.calls; due = v.due; ended = v.ended }) (with_pumped p)
-pumped_by v old streams w is at sending p st0 =
-    let st : StandsFor v p = subst (λ (y : Present). StandsFor y p) (sym is) st0 in
+pub pumped_by : (texts : Look) (v old : Present) (streams : Standing) (w : Kept) → v ≡ old → ((d : List Entry) (os : List Owed) → AreStreams v.streams d → IsSending texts v.sending d os → AreStreams streams (pumped d os)) → ((d : List Entry) (os : List Owed) → AreStreams v.streams d → IsSending texts v.sending d os → IsSending texts w (pumped d os) os) → (p : Past) → StandsFor texts old p → StandsFor texts (record { reader = v.reader; streams = streams; sending = w; calls = v.calls; due = v.due; ended = v.ended }) (with_pumped p)
+pumped_by texts v old streams w is at sending p st0 =
+    let st : StandsFor texts v p = subst (λ (y : Present). StandsFor texts y p) (sym is) st0 in
     let f = pumped_is p.diary p.owed in
     let a : AreStreams streams (p.diary ++ map Out f.0) = subst (λ (d : List Entry). AreStreams streams d) f.1 (at p.diary p.owed st.streams st.sending) in
-    let b : IsSending w (p.diary ++ map Out f.0) p.owed = subst (λ (d : List Entry). IsSending w d p.owed) f.1 (sending p.diary p.owed st.streams st.sending) in
+    let b : IsSending texts w (p.diary ++ map Out f.0) p.owed = subst (λ (d : List Entry). IsSending texts w d p.owed) f.1 (sending p.diary p.owed st.streams st.sending) in
     let c : v.ended ≡ has_failed (p.diary ++ map Out f.0) = st.ended ∙ sym (failed_same p.diary f.0 f.2) in
-    subst (λ (d : List Entry). StandsFor (record { reader = v.reader; streams = streams; sending = w; calls = v.calls; due = v.due; ended = v.ended }) (record p { diary = d })) (sym f.1) (put_kept v streams w p f.0 st a b c)
+    subst (λ (d : List Entry). StandsFor texts (record { reader = v.reader; streams = streams; sending = w; calls = v.calls; due = v.due; ended = v.ended }) (record p { diary = d })) (sym f.1) (put_kept texts v streams w p f.0 st a b c)

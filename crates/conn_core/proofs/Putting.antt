@@ -12,7 +12,7 @@ use Rattle.http2_streams.specs.Diary.{Entry, Out}
 use Rattle.http2_streams.specs.declared.event.StreamEvent.{StreamEvent}
 use Rattle.http2_streams.specs.Rules.{control_frames}
 use Rattle.grpc_sending.specs.Owed.{Owed}
-use Rattle.grpc_sending.specs.StandsFor.{Sending, StandsFor as IsSending}
+use Rattle.grpc_sending.specs.Kept.{Look, Kept, StandsFor as IsSending}
 use Rattle.grpc_sending.proofs.Diaries.{append-nil, text_length}
 use Rattle.conn_core.specs.Received.{fits, fitting, all_fit}
 use Rattle.conn_core.specs.StandsFor.{Present}
@@ -62,13 +62,13 @@ fitting-append n (f ∷ fs) gs h = elim (cases_Bool (fits n f)) [
 
 -- ---- one frame after another
 
-abbrev pub with_sending : Present → Sending → Present
+abbrev pub with_sending : Present → Kept → Present
 with_sending v w = record { reader = v.reader; streams = v.streams; sending = w; calls = v.calls; due = v.due; ended = v.ended }
 
 pub puts_none : (v : Present) → Puts v [] true v
 puts_none v = record {
   all = refl;
-  sending = λ d os st. subst (λ (e : List Entry). IsSending v.sending e os) (sym (append-nil d)) st;
+  sending = λ texts d os st. subst (λ (e : List Entry). IsSending texts v.sending e os) (sym (append-nil d)) st;
   size = omega arith;
   rest = refl;
 }
@@ -82,12 +82,12 @@ puts_more v w x fs gs all a b =
     let joined : fitting (length v.sending.pending) (fs ++ gs) ≡ fs ++ fitting (length w.sending.pending) gs = fitting-append (length v.sending.pending) fs gs fit ∙ ap (λ m. fs ++ fitting m gs) (sym size) in
     record {
       all = b.all ∙ ap (λ m. all_fit m gs) size ∙ sym (all_fit-append (length v.sending.pending) fs gs fit);
-      sending = λ d os st.
-          let one : IsSending w.sending (d ++ map Out fs) os = subst (λ (xs : List Frame). IsSending w.sending (d ++ map Out xs) os) whole (a.sending d os st) in
-          let two = b.sending (d ++ map Out fs) os one in
+      sending = λ texts d os st.
+          let one : IsSending texts w.sending (d ++ map Out fs) os = subst (λ (xs : List Frame). IsSending texts w.sending (d ++ map Out xs) os) whole (a.sending texts d os st) in
+          let two = b.sending texts (d ++ map Out fs) os one in
           let e : (d ++ map Out fs) ++ map Out (fitting (length w.sending.pending) gs) ≡ d ++ map Out (fitting (length v.sending.pending) (fs ++ gs)) =
           append_assoc d (map Out fs) (map Out (fitting (length w.sending.pending) gs)) ∙ ap (λ (es : List Entry). d ++ es) (sym (map-append Out fs (fitting (length w.sending.pending) gs))) ∙ ap (λ (xs : List Frame). d ++ map Out xs) (sym joined) in
-          subst (λ (e : List Entry). IsSending x.sending e os) e two;
+          subst (λ (e : List Entry). IsSending texts x.sending e os) e two;
       size = omega (arith, b.size, size, ap (λ (xs : List Frame). length (flat_map text_of xs)) joined, ap length (flat_map-append text_of fs (fitting (length w.sending.pending) gs)), length-append (flat_map text_of fs) (flat_map text_of (fitting (length w.sending.pending) gs)));
       rest = b.rest ∙ ap (λ (y : Present). with_sending y x.sending) a.rest;
     }
@@ -97,7 +97,7 @@ puts_short v w fs gs a =
     let e = none_more (length v.sending.pending) fs gs (sym a.all) in
     record {
       all = sym e.0;
-      sending = λ d os st. subst (λ (xs : List Frame). IsSending w.sending (d ++ map Out xs) os) (sym e.1) (a.sending d os st);
+      sending = λ texts d os st. subst (λ (xs : List Frame). IsSending texts w.sending (d ++ map Out xs) os) (sym e.1) (a.sending texts d os st);
       size = a.size ∙ ap (λ (xs : List Frame). length v.sending.pending + length (flat_map text_of xs)) (sym e.1);
       rest = a.rest;
     }
@@ -114,13 +114,13 @@ fits_is n f false h = elim (cases_Bool (fits n f)) [
   | inr many ↦ many
 ]
 
-pub puts_one : (v old : Present) (w : Sending) (f : Frame) (b : Bool) → v ≡ old → b ≡ true → (IsTrue b ↔ ((length v.sending.pending + (9 + length (raw_of f).payload)) ≤ 131055)) → ((d : List Entry) (os : List Owed) → IsSending v.sending d os → IsSending w (d ++ Out f ∷ []) os) → length w.pending ≡ length v.sending.pending + (9 + length (raw_of f).payload) → Puts old (f ∷ []) true (with_sending v w)
+pub puts_one : (v old : Present) (w : Kept) (f : Frame) (b : Bool) → v ≡ old → b ≡ true → (IsTrue b ↔ ((length v.sending.pending + (9 + length (raw_of f).payload)) ≤ 131055)) → ((texts : Look) (d : List Entry) (os : List Owed) → IsSending texts v.sending d os → IsSending texts w (d ++ Out f ∷ []) os) → length w.pending ≡ length v.sending.pending + (9 + length (raw_of f).payload) → Puts old (f ∷ []) true (with_sending v w)
 puts_one v old w f b is room-is room stands size =
     let fit : fits (length v.sending.pending) f ≡ true = fits_is (length v.sending.pending) f b room ∙ room-is in
     let one : fitting (length v.sending.pending) (f ∷ []) ≡ f ∷ [] = rw fit refl in
     subst (λ (y : Present). Puts y (f ∷ []) true (with_sending v w)) is (record {
       all = sym (rw fit refl);
-      sending = λ d os st. subst (λ (xs : List Frame). IsSending w (d ++ map Out xs) os) (sym one) (stands d os st);
+      sending = λ texts d os st. subst (λ (xs : List Frame). IsSending texts w (d ++ map Out xs) os) (sym one) (stands texts d os st);
       size = omega (arith, size, ap (λ (xs : List Frame). length (flat_map text_of xs)) one, ap length (append-nil (text_of f)), text_length (raw_of f));
       rest = refl;
     })
@@ -131,7 +131,7 @@ puts_not v old f b is room-is room =
     let none : fitting (length v.sending.pending) (f ∷ []) ≡ [] = rw fit refl in
     subst (λ (y : Present). Puts y (f ∷ []) false v) is (record {
       all = sym (rw fit refl);
-      sending = λ d os st. subst (λ (xs : List Frame). IsSending v.sending (d ++ map Out xs) os) (sym none) (subst (λ (e : List Entry). IsSending v.sending e os) (sym (append-nil d)) st);
+      sending = λ texts d os st. subst (λ (xs : List Frame). IsSending texts v.sending (d ++ map Out xs) os) (sym none) (subst (λ (e : List Entry). IsSending texts v.sending e os) (sym (append-nil d)) st);
       size = omega (arith, ap (λ (xs : List Frame). length (flat_map text_of xs)) none);
       rest = refl;
     })

@@ -34,6 +34,10 @@ abbrev pub owe_all : List Entry → List Owed → List (ℕ × Item) → List Ow
 owe_all d os [] = os
 owe_all d os (x ∷ xs) = owe_all d (owed_more d os x.0 x.1) xs
 
+-- more bytes were received
+abbrev pub with_text : List ℕ → Past → Past
+with_text bytes p = record p { text = p.text ++ bytes }
+
 -- the next frame: what is put for it at once, what its request is answered at once, and what it brings to calls
 abbrev pub with_frame : Past → RawFrame → Past
 with_frame p f = record p {

@@ -1,5 +1,5 @@
 -- What is kept of a connection stands for its past.
-use Rattle.std.specs.Prelude.{◌≡◌, ◌==◌, ◌+◌, ℕ, if◌then◌else◌, Bool, true, false, List, [], ◌∷◌, ◌++◌, length, map, filter, Option, Some, None, Result, Ok, Err, ◌⊎◌}
+use Rattle.std.specs.Prelude.{◌≡◌, ◌==◌, ◌+◌, ◌-◌, ℕ, if◌then◌else◌, Bool, true, false, List, [], ◌∷◌, ◌++◌, length, map, filter, Option, Some, None, Result, Ok, Err, ◌⊎◌}
 use Rattle.std.specs.List.{list_any}
 use Rattle.http2_frames.specs.declared.reader.TheConstants.{CLIENT_PREFACE}
 use Rattle.http2_frames.specs.declared.codes.ErrorCode.{ErrorCode}
@@ -13,17 +13,19 @@ use Rattle.http2_streams.specs.Rules.{reading_fault, number_is}
 use Rattle.http2_streams.specs.Standing.{Standing}
 use Rattle.http2_streams.specs.StandsFor.{StandsFor as AreStreams}
 use Rattle.grpc_messages.specs.declared.error.MessagesError.{MessagesError}
-use Rattle.grpc_sending.specs.StandsFor.{Sending, StandsFor as IsSending}
+use Rattle.grpc_sending.specs.Kept.{Look, Kept, StandsFor as IsSending}
+use Rattle.grpc_sending.specs.Owed.{Item, Range}
+use Rattle.digest.specs.declared.Digest.{Digest}
 use Rattle.conn_core.specs.declared.call.Call.{Call}
 use Rattle.conn_core.specs.declared.event.CallEvent.{CallEvent}
 use Rattle.conn_core.specs.Received.{raw_received}
 use Rattle.conn_core.specs.Calls.{is_call, text, messages_of}
-use Rattle.conn_core.specs.Past.{Past, with_frame, with_fault}
+use Rattle.conn_core.specs.Past.{Past, with_frame, with_fault, with_item, with_pumped}
 
 pub record Present : Type 0 where
   pub reader : Result Unread FrameError
   pub streams : Standing
-  pub sending : Sending
+  pub sending : Kept
   -- the calls on live streams, in rising order, perhaps with some whose stream is closed
   pub calls : List Call
   -- the events of calls that were not given out
@@ -65,12 +67,34 @@ live_numbers live cs = filter (λ s. list_any (number_is s) live) (map stream_of
 abbrev pub live_calls : Present → List ℕ
 live_calls v = if v.ended then [] else live_numbers v.streams.live v.calls
 
-pub record StandsFor (v : Present) (p : Past) : Type 0 where
+pub record StandsFor (texts : Look) (v : Present) (p : Past) : Type 0 where
   pub ended : v.ended ≡ has_failed p.diary
   pub streams : AreStreams v.streams p.diary
-  pub sending : IsSending v.sending p.diary p.owed
+  pub sending : IsSending texts v.sending p.diary p.owed
   pub due : v.due ≡ p.due
   pub alive : has_failed p.diary ≡ false → IsAlive v p
+
+-- what is kept stands by the one look-up for all that it stands for by the other
+abbrev pub StandsAlike : Look → Look → Present → Type 0
+StandsAlike texts others v = (p : Past) → StandsFor texts v p → StandsFor others v p
+
+-- ---- what a call comes to
+
+-- what is kept of a past goes on to what is kept of this one
+abbrev pub Becomes : Present → (Past → Past) → Present → Type 0
+Becomes v step w = (texts : Look) (p : Past) → StandsFor texts v p → StandsFor texts w (step p)
+
+-- an item is owed to stream s
+abbrev pub Owes : ℕ → Item → Present → Present → Type 0
+Owes s item v w = Becomes v (λ p. with_item p s item) w
+
+-- the text of a source from a place until another is owed to stream s, by whatever digest names it
+abbrev pub OwesRange : ℕ → ℕ → ℕ → ℕ → Present → Present → Type 0
+OwesRange s source from until v w = (texts : Look) (digest : Digest) (p : Past) → StandsFor texts v p → StandsFor texts w (with_item p s (Range digest (texts source) from (until - from)))
+
+-- by one look-up, all was put that can be
+abbrev pub Pumps : Look → Present → Present → Type 0
+Pumps texts v w = (p : Past) → StandsFor texts v p → StandsFor texts w (with_pumped p)
 
 -- ---- one step through the received bytes
 
@@ -87,15 +111,21 @@ pub record IsNextFault (p : Past) (e : FrameError) (code : ErrorCode) : Type 0 w
 abbrev pub IsRead : Past → Type 0
 IsRead p = (rest : List ℕ) × (split CLIENT_PREFACE.now p.text ≡ record { frames = raw_received p.diary; end = Ok rest })
 
-abbrev pub Taken : Present → Past → Type 0
-Taken v p = ((f : RawFrame) × IsNextFrame p f × StandsFor v (with_frame p f)) ⊎ ((e : FrameError) × (code : ErrorCode) × IsNextFault p e code × StandsFor v (with_fault p e code))
+abbrev pub Taken : Look → Present → Past → Type 0
+Taken texts v p = ((f : RawFrame) × IsNextFrame p f × StandsFor texts v (with_frame p f)) ⊎ ((e : FrameError) × (code : ErrorCode) × IsNextFault p e code × StandsFor texts v (with_fault p e code))
 
 -- an event that was due was given out
-abbrev pub Popped : Past → Option CallEvent → Present → Type 0
-Popped p (Some event) v = (rest : List CallEvent) × (p.due ≡ event ∷ rest) × StandsFor v (record p { due = rest })
-Popped p None v = (p.due ≡ []) × StandsFor v p
+abbrev pub Popped : Look → Past → Option CallEvent → Present → Type 0
+Popped texts p (Some event) v = (rest : List CallEvent) × (p.due ≡ event ∷ rest) × StandsFor texts v (record p { due = rest })
+Popped texts p None v = (p.due ≡ []) × StandsFor texts v p
 
 -- a step through the received bytes was made, or none is left
-abbrev pub FrameRead : Past → Bool → Present → Type 0
-FrameRead p true v = (has_failed p.diary ≡ false) × Taken v p
-FrameRead p false v = ((has_failed p.diary ≡ true) ⊎ IsRead p) × StandsFor v p
+abbrev pub FrameRead : Look → Past → Bool → Present → Type 0
+FrameRead texts p true v = (has_failed p.diary ≡ false) × Taken texts v p
+FrameRead texts p false v = ((has_failed p.diary ≡ true) ⊎ IsRead p) × StandsFor texts v p
+
+abbrev pub Pops : Present → Option CallEvent → Present → Type 0
+Pops v event w = (texts : Look) (p : Past) → StandsFor texts v p → Popped texts p event w
+
+abbrev pub ReadsFrame : Present → Bool → Present → Type 0
+ReadsFrame v read w = (texts : Look) (p : Past) → StandsFor texts v p → FrameRead texts p read w

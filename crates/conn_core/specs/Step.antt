@@ -8,11 +8,11 @@ use Rattle.http2_streams.specs.declared.event.Event.{Event}
 use Rattle.http2_streams.specs.Diary.{Entry, live, is_live, has_failed, highest}
 use Rattle.http2_streams.specs.LiveStreams.{IsOnItsStream, live_after}
 use Rattle.http2_streams.specs.StandsFor.{StandsFor as AreStreams}
-use Rattle.grpc_sending.specs.StandsFor.{StandsFor as IsSending}
+use Rattle.grpc_sending.specs.Kept.{Look, StandsFor as IsSending}
 use Rattle.conn_core.specs.Received.{raw_received, outcome, entries}
 use Rattle.conn_core.specs.Calls.{is_call, text}
-use Rattle.conn_core.specs.Past.{Past}
-use Rattle.conn_core.specs.StandsFor.{Present, IsCall, call_on, among, stream_of}
+use Rattle.conn_core.specs.Past.{Past, with_frame}
+use Rattle.conn_core.specs.StandsFor.{StandsFor, Present, IsCall, call_on, among, stream_of}
 
 -- what is kept of the calls, by the diary before the frame
 pub record AreCalls (v : Present) (d : List Entry) : Type 0 where
@@ -20,13 +20,13 @@ pub record AreCalls (v : Present) (d : List Entry) : Type 0 where
   pub order : among (live d) (map stream_of v.calls) ≡ filter (is_call d) (live d)
 
 -- the frame was read, and nothing else was done yet
-pub record IsTaking (v : Present) (p : Past) (f : RawFrame) : Type 0 where
+pub record IsTaking (texts : Look) (v : Present) (p : Past) (f : RawFrame) : Type 0 where
   pub ended : v.ended ≡ false
   pub lives : has_failed p.diary ≡ false
   pub short : length f.payload ≤ 16384
   pub reader : IsReader CLIENT_PREFACE.now v.reader p.text (raw_received p.diary ++ f ∷ [])
   pub streams : AreStreams v.streams p.diary
-  pub sending : IsSending v.sending p.diary p.owed
+  pub sending : IsSending texts v.sending p.diary p.owed
   pub due : v.due ≡ p.due
   pub calls : AreCalls v p.diary
 
@@ -46,14 +46,24 @@ pub record ChangesStreams (d e : List Entry) (brought : Event) : Type 0 where
   pub opened : (s : ℕ) → list_any (λ t. t == s) (live d) ≡ true → (s ≤ highest d) × (is_live d s ≡ true)
 
 -- the answers of the frame were put, all of them, and it brought this; calls are as before
-pub record HasBrought (v : Present) (p : Past) (f : RawFrame) (event : Event) : Type 0 where
+pub record HasBrought (texts : Look) (v : Present) (p : Past) (f : RawFrame) (event : Event) : Type 0 where
   pub ended : v.ended ≡ false
   pub is_event : (outcome p.diary f).event ≡ event
   pub fits : (outcome p.diary f).fails ≡ false
   pub lives : has_failed (after_frame p f) ≡ false
   pub reader : IsReader CLIENT_PREFACE.now v.reader p.text (raw_received (after_frame p f))
   pub streams : AreStreams v.streams (after_frame p f)
-  pub sending : IsSending v.sending (after_frame p f) p.owed
+  pub sending : IsSending texts v.sending (after_frame p f) p.owed
   pub due : v.due ≡ p.due
   pub calls : AreCalls v p.diary
   pub change : ChangesStreams p.diary (after_frame p f) event
+
+abbrev pub TakesFrame : Present → RawFrame → Present → Type 0
+TakesFrame v f w = (texts : Look) (p : Past) → IsTaking texts v p f → StandsFor texts w (with_frame p f)
+
+abbrev pub Brings : Present → Event → Present → Type 0
+Brings v event w = (texts : Look) (p : Past) (f : RawFrame) → HasBrought texts v p f event → StandsFor texts w (with_frame p f)
+
+-- neither what is still to be read nor the streams change
+abbrev pub ChangesCalls : Present → Present → Type 0
+ChangesCalls v w = w ≡ record v { sending = w.sending; calls = w.calls; due = w.due }

@@ -1,16 +1,17 @@
 //! One connection.
 
-ghost use Rattle.std.specs.Prelude.{◌≡◌, ◌≢◌, ◌≤◌, ◌<◌, ◌^◌, ◌++◌, ◌∷◌, ◌==◌, [], map, true, false, option_to_list, IsTrue, IfOk, OnOk, OnSome, Err, length, take, drop};
+ghost use Rattle.std.specs.Prelude.{◌≡◌, ◌≢◌, ◌≤◌, ◌<◌, ◌-◌, ◌^◌, ◌++◌, ◌∷◌, ◌==◌, [], map, true, false, option_to_list, IsTrue, IfOk, OnOk, OnErr, OnSome, MatchOption, None, Err, length, take, drop};
 ghost use Rattle.http2_frames.specs.Writing.{raw_of};
 ghost use Rattle.grpc_sending.specs.Step.{IsControl};
 ghost use Rattle.http2_frames.specs.declared.error.FrameError.{FrameError};
 ghost use Rattle.grpc_sending.specs.Bytes.{most_untaken};
+ghost use Rattle.grpc_sending.specs.Kept.{Look, Fit, Tells, KeepsFit, KeepsFitWith, KeepsSources, HoldsMore, HasFew, sources_of};
 ghost use Rattle.grpc_sending.specs.Owed.{Headed, Message};
-ghost use Rattle.conn_core.specs.Past.{Past, opening, with_item, with_taken, with_pumped, with_frame};
-ghost use Rattle.conn_core.specs.StandsFor.{StandsFor, Popped, FrameRead, unread, live_calls, stream_of};
-ghost use Rattle.conn_core.specs.Step.{IsTaking, HasBrought};
+ghost use Rattle.conn_core.specs.Past.{opening, with_text, with_taken};
+ghost use Rattle.conn_core.specs.StandsFor.{StandsFor, Becomes, Owes, OwesRange, Pumps, Pops, ReadsFrame, unread, live_calls, stream_of};
+ghost use Rattle.conn_core.specs.Step.{TakesFrame, Brings, ChangesCalls};
 ghost use Rattle.conn_core.specs.Received.{goaway};
-ghost use Rattle.conn_core.specs.Putting.{Puts, Fails, IsAnswered, is_answer, are_answers, is_ending, ended_calls};
+ghost use Rattle.conn_core.specs.Putting.{Puts, Fails, Answers, is_answer, are_answers, is_ending, ended_calls};
 ghost use Rattle.http2_streams.specs.Rules.{control_frames};
 ghost use Rattle.http2_streams.specs.LiveStreams.{named};
 ghost use Rattle.http2_frames.specs.declared.frame.RawFrame.{RawFrame};
@@ -19,7 +20,7 @@ ghost use Rattle.http2_streams.specs.declared.event.Event.TheVariants.{Request, 
 use crate::call::{Call, begin_call, cancel_call, is_live, pop_live_call, take_more};
 use crate::event::CallEvent;
 use grpc_calls::{ResponseBlock, head};
-use grpc_sending::Sender;
+use grpc_sending::{Parts, Sender};
 use hpack::Headers;
 use http2_frames::{
     ErrorCode, Frame, FrameError, FrameReader, Octets, RawFrame, SettingsList, setting,
@@ -32,7 +33,7 @@ use std::marker::Model;
 /// SETTINGS_MAX_CONCURRENT_STREAMS is 100 (RFC 9113 section 6.5.2), as in a payload.
 const MAX_CONCURRENT_STREAMS: &[u8] = b"\x00\x03\x00\x00\x00\x64";
 
-/// One connection of the server. After a refusal of memory it is to be dropped.
+/// One connection of the server. After `feed` or `read_frame` was refused memory it is to be closed.
 #[derive(Drop)]
 pub struct Connection {
     reader: FrameReader,
@@ -61,7 +62,9 @@ impl Model for Connection {
 impl Connection {
     /// A connection that puts the server's SETTINGS. Takes the room for all bytes that can wait.
     pub fn new(alloc: Global) -> Result<Connection, AllocError>
-        ensures { IfOk result (λ c. StandsFor c opening) }
+        ensures stands { IfOk result (λ c. (texts : Look) → StandsFor texts c opening) }
+        ensures sources { IfOk result (λ c. sources_of c.sending ≡ []) }
+        ensures fit { IfOk result (λ c. (texts : Look) → Fit texts c.sending.queues) }
     {
         let mut sender = Sender::new(alloc)?;
         sender.put_control(&Frame::Settings {
@@ -78,9 +81,11 @@ impl Connection {
         })
     }
 
-    /// Takes received bytes. After an error of the connection they are ignored.
+    /// Takes received bytes. After an error of the connection they are ignored. Where memory is refused all but
+    /// what is still to be read is as before.
     pub fn feed(&mut self, piece: &[u8]) -> Result<(), AllocError>
-        ensures { OnOk result ((p : Past) → StandsFor self.old p → StandsFor self.new (record p { text = p.text ++ piece.now })) }
+        ensures rest { self.new ≡ record self.old { reader = self.new.reader } }
+        ensures stands { OnOk result (Becomes self.old (with_text piece.now) self.new) }
     {
         if self.ended {
             return Ok(());
@@ -90,7 +95,7 @@ impl Connection {
 
     /// Gives the next event of a call that is due.
     pub fn pop_event(&mut self) -> Option<CallEvent>
-        ensures event { (p : Past) → StandsFor self.old p → Popped p result self.new }
+        ensures event { Pops self.old result self.new }
         ensures fewer { OnSome result (length self.new.due < length self.old.due) }
         ensures rest { self.new ≡ record self.old { due = self.new.due } }
     {
@@ -98,10 +103,13 @@ impl Connection {
     }
 
     /// Takes the next whole frame, or the fault of bytes that are none, and says whether there was one. Nothing
-    /// follows an error of the connection.
+    /// follows an error of the connection. Where memory is refused the connection stands for no past any more: it is
+    /// to be closed, and holds each source as before.
     pub fn read_frame(&mut self) -> Result<bool, AllocError>
-        ensures frame { IfOk result (λ read. (p : Past) → StandsFor self.old p → FrameRead p read self.new) }
+        ensures frame { IfOk result (λ read. ReadsFrame self.old read self.new) }
         ensures fewer { IfOk result (λ read. IsTrue read → unread self.new < unread self.old) }
+        ensures fit { KeepsFit self.old.sending self.new.sending }
+        ensures sources { KeepsSources self.old.sending self.new.sending }
     {
         if self.ended {
             return Ok(false);
@@ -124,38 +132,93 @@ impl Connection {
         }
     }
 
-    /// Owes a header block to the stream, where it is live.
+    /// Owes a header block to the stream, where it is live. An error changes nothing.
     pub fn owe_block(&mut self, stream: u32, block: ResponseBlock) -> Result<(), AllocError>
-        ensures stands { OnOk result ((p : Past) → StandsFor self.old p → StandsFor self.new (with_item p stream (Headed block))) }
+        ensures stands { OnOk result (Owes stream (Headed block) self.old self.new) }
+        ensures fit { KeepsFit self.old.sending self.new.sending }
+        ensures sources { KeepsSources self.old.sending self.new.sending }
         ensures rest { self.new ≡ record self.old { sending = self.new.sending } }
+        ensures err { OnErr result (self.new ≡ self.old) }
     {
         self.sender.owe_block(&self.streams, stream, block)
     }
 
-    /// Owes a message to the stream, where it is live.
+    /// Owes a message to the stream, where it is live. An error changes nothing.
     pub fn owe_message(&mut self, stream: u32, message: &[u8]) -> Result<(), AllocError>
         requires { length message.now < 2 ^ 32 }
-        ensures stands { OnOk result ((p : Past) → StandsFor self.old p → StandsFor self.new (with_item p stream (Message message.now))) }
+        ensures stands { OnOk result (Owes stream (Message message.now) self.old self.new) }
+        ensures fit { KeepsFit self.old.sending self.new.sending }
+        ensures sources { KeepsSources self.old.sending self.new.sending }
         ensures rest { self.new ≡ record self.old { sending = self.new.sending } }
+        ensures err { OnErr result (self.new ≡ self.old) }
     {
         self.sender.owe_message(&self.streams, stream, message)
+    }
+
+    /// Owes the bytes from a place until another of a source's text to the stream, where it is live: as messages
+    /// ReadResponse, each with 65,536 of them and the last with the rest. The source is held from then on until
+    /// `spent` tells it, once; where nothing is to be put that is at once. An error changes nothing.
+    pub fn owe_range(
+        &mut self,
+        stream: u32,
+        source: usize,
+        from: u64,
+        until: u64,
+    ) -> Result<(), AllocError>
+        requires { from ≤ until }
+        ensures stands { OnOk result (OwesRange stream source from until self.old self.new) }
+        ensures fit { KeepsFitWith source until self.old.sending self.new.sending }
+        ensures sources { OnOk result (HoldsMore source self.old.sending self.new.sending) }
+        ensures few { OnOk result (HasFew self.new.sending) }
+        ensures rest { self.new ≡ record self.old { sending = self.new.sending } }
+        ensures err { OnErr result (self.new ≡ self.old) }
+    {
+        self.sender
+            .owe_range(&self.streams, stream, source, from, until)
     }
 
     /// The peer took so many of the pending bytes.
     pub fn took(&mut self, count: usize)
         requires { count ≤ length self.old.sending.pending }
-        ensures stands { (p : Past) → StandsFor self.old p → StandsFor self.new (with_taken p count) }
+        ensures stands { Becomes self.old (λ p. with_taken p count) self.new }
+        ensures pending { self.new.sending.pending ≡ drop count self.old.sending.pending }
+        ensures queues { self.new.sending.queues ≡ self.old.sending.queues }
+        ensures spent { self.new.sending.spent ≡ self.old.sending.spent }
         ensures rest { self.new ≡ record self.old { sending = self.new.sending } }
     {
         self.sender.took(count);
     }
 
     /// Puts all that can be put.
-    pub fn pump(&mut self)
-        ensures stands { (p : Past) → StandsFor self.old p → StandsFor self.new (with_pumped p) }
+    pub fn pump<P: Parts>(&mut self, parts: &P)
+        requires fit { Fit (P.text_of parts.now) self.old.sending.queues }
+        ensures stands { Pumps (P.text_of parts.now) self.old self.new }
+        ensures fit { KeepsFit self.old.sending self.new.sending }
+        ensures sources { KeepsSources self.old.sending self.new.sending }
         ensures rest { self.new ≡ record self.old { streams = self.new.streams; sending = self.new.sending } }
     {
-        self.sender.pump(&mut self.streams);
+        self.sender.pump(&mut self.streams, parts);
+    }
+
+    /// Tells a source whose range is over: it was wholly put, or its stream ended before that. Each is told once for
+    /// each range that was owed of it.
+    pub fn spent(&mut self) -> Option<usize>
+        ensures source { Tells result self.old.sending.spent self.new.sending.spent }
+        ensures none { result ≡ None → self.new ≡ self.old }
+        ensures stands { Becomes self.old (λ p. p) self.new }
+        ensures queues { self.new.sending.queues ≡ self.old.sending.queues }
+        ensures rest { self.new ≡ record self.old { sending = self.new.sending } }
+    {
+        self.sender.spent()
+    }
+
+    /// All that is owed is dropped, and the sources of all ranges are spent, before the connection is let go.
+    pub fn close(&mut self)
+        ensures dropped { self.new.sending.queues ≡ [] }
+        ensures sources { KeepsSources self.old.sending self.new.sending }
+        ensures rest { self.new ≡ record self.old { sending = self.new.sending } }
+    {
+        self.sender.forget_all();
     }
 
     /// The bytes that were put and not taken.
@@ -189,8 +252,10 @@ impl Connection {
     fn take_frame(&mut self, frame: &RawFrame) -> Result<(), AllocError>
         requires alive { self.old.ended ≡ false }
         requires short { length frame.now.payload ≤ 16384 }
-        ensures stands { OnOk result ((p : Past) → IsTaking self.old p frame.now → StandsFor self.new (with_frame p frame.now)) }
+        ensures stands { OnOk result (TakesFrame self.old frame.now self.new) }
         ensures reader { OnOk result (self.new.reader ≡ self.old.reader) }
+        ensures fit { KeepsFit self.old.sending self.new.sending }
+        ensures sources { KeepsSources self.old.sending self.new.sending }
     {
         match self.streams.on_frame(frame) {
             Ok(answer) => self.take_answer(answer),
@@ -203,8 +268,10 @@ impl Connection {
     /// connection.
     fn take_answer(&mut self, answer: StreamEvent<'_>) -> Result<(), AllocError>
         requires { self.old.ended ≡ false }
-        ensures stands { OnOk result ((p : Past) (f : RawFrame) → IsAnswered self.old p f answer.entry → StandsFor self.new (with_frame p f)) }
+        ensures stands { OnOk result (Answers self.old answer.entry self.new) }
         ensures reader { OnOk result (self.new.reader ≡ self.old.reader) }
+        ensures fit { KeepsFit self.old.sending self.new.sending }
+        ensures sources { KeepsSources self.old.sending self.new.sending }
     {
         if !self.put_all(&answer) {
             return self.fail(ErrorCode::EnhanceYourCalm, named(&answer.event));
@@ -214,8 +281,10 @@ impl Connection {
 
     /// Acts on what a frame brought, whose answers were put.
     fn bring(&mut self, event: Event<'_>) -> Result<(), AllocError>
-        ensures stands { OnOk result ((p : Past) (f : RawFrame) → HasBrought self.old p f event.entry → StandsFor self.new (with_frame p f)) }
-        ensures rest { OnOk result (self.new ≡ record self.old { sending = self.new.sending; calls = self.new.calls; due = self.new.due }) }
+        ensures stands { OnOk result (Brings self.old event.entry self.new) }
+        ensures rest { OnOk result (ChangesCalls self.old self.new) }
+        ensures fit { KeepsFit self.old.sending self.new.sending }
+        ensures sources { KeepsSources self.old.sending self.new.sending }
     {
         match event {
             Event::Nothing => Ok(()),
@@ -238,6 +307,8 @@ impl Connection {
     fn put_all(&mut self, answer: &StreamEvent<'_>) -> bool
         ensures puts { are_answers (control_frames answer.now) ≡ true → Puts self.old (control_frames answer.now) result self.new }
         ensures rest { self.new ≡ record self.old { sending = self.new.sending } }
+        ensures fit { KeepsFit self.old.sending self.new.sending }
+        ensures sources { KeepsSources self.old.sending self.new.sending }
     {
         if !self.put_one(&answer.acknowledgement) {
             return false;
@@ -254,6 +325,8 @@ impl Connection {
     fn put_one(&mut self, frame: &Option<Frame<'_>>) -> bool
         ensures puts { are_answers (option_to_list frame.now) ≡ true → Puts self.old (option_to_list frame.now) result self.new }
         ensures rest { self.new ≡ record self.old { sending = self.new.sending } }
+        ensures fit { KeepsFit self.old.sending self.new.sending }
+        ensures sources { KeepsSources self.old.sending self.new.sending }
     {
         match frame {
             None => true,
@@ -264,6 +337,8 @@ impl Connection {
     fn put_answer(&mut self, frame: &Frame<'_>) -> bool
         ensures puts { is_answer frame.now ≡ true → Puts self.old (frame.now ∷ []) result self.new }
         ensures rest { self.new ≡ record self.old { sending = self.new.sending } }
+        ensures fit { KeepsFit self.old.sending self.new.sending }
+        ensures sources { KeepsSources self.old.sending self.new.sending }
     {
         if !is_answer(frame) {
             return true;
@@ -277,8 +352,10 @@ impl Connection {
 
     /// A request came: a call begins, or the answer to what is no call is owed.
     fn begin(&mut self, stream: u32, fields: &Headers, end_stream: bool) -> Result<(), AllocError>
-        ensures stands { OnOk result ((p : Past) (f : RawFrame) → HasBrought self.old p f (Request stream fields.now end_stream) → StandsFor self.new (with_frame p f)) }
-        ensures rest { OnOk result (self.new ≡ record self.old { sending = self.new.sending; calls = self.new.calls; due = self.new.due }) }
+        ensures stands { OnOk result (Brings self.old (Request stream fields.now end_stream) self.new) }
+        ensures rest { OnOk result (ChangesCalls self.old self.new) }
+        ensures fit { KeepsFit self.old.sending self.new.sending }
+        ensures sources { KeepsSources self.old.sending self.new.sending }
     {
         match head(fields) {
             Ok(method) => begin_call(
@@ -296,23 +373,29 @@ impl Connection {
     }
 
     fn take_text(&mut self, stream: u32, content: &[u8], end_stream: bool) -> Result<(), AllocError>
-        ensures stands { OnOk result ((p : Past) (f : RawFrame) → HasBrought self.old p f (Content stream content.now end_stream) → StandsFor self.new (with_frame p f)) }
-        ensures rest { OnOk result (self.new ≡ record self.old { sending = self.new.sending; calls = self.new.calls; due = self.new.due }) }
+        ensures stands { OnOk result (Brings self.old (Content stream content.now end_stream) self.new) }
+        ensures rest { OnOk result (ChangesCalls self.old self.new) }
+        ensures fit { KeepsFit self.old.sending self.new.sending }
+        ensures sources { KeepsSources self.old.sending self.new.sending }
     {
         take_more(&mut self.calls, stream, content, end_stream, &mut self.due)
     }
 
     /// Trailers end the request.
     fn take_trailers(&mut self, stream: u32) -> Result<(), AllocError>
-        ensures stands { OnOk result ((p : Past) (f : RawFrame) → HasBrought self.old p f (Trailers stream) → StandsFor self.new (with_frame p f)) }
-        ensures rest { OnOk result (self.new ≡ record self.old { sending = self.new.sending; calls = self.new.calls; due = self.new.due }) }
+        ensures stands { OnOk result (Brings self.old (Trailers stream) self.new) }
+        ensures rest { OnOk result (ChangesCalls self.old self.new) }
+        ensures fit { KeepsFit self.old.sending self.new.sending }
+        ensures sources { KeepsSources self.old.sending self.new.sending }
     {
         take_more(&mut self.calls, stream, b"", true, &mut self.due)
     }
 
     fn cancel(&mut self, stream: u32) -> Result<(), AllocError>
-        ensures stands { OnOk result ((p : Past) (f : RawFrame) → HasBrought self.old p f (Cancel stream) → StandsFor self.new (with_frame p f)) }
-        ensures rest { OnOk result (self.new ≡ record self.old { sending = self.new.sending; calls = self.new.calls; due = self.new.due }) }
+        ensures stands { OnOk result (Brings self.old (Cancel stream) self.new) }
+        ensures rest { OnOk result (ChangesCalls self.old self.new) }
+        ensures fit { KeepsFit self.old.sending self.new.sending }
+        ensures sources { KeepsSources self.old.sending self.new.sending }
     {
         self.sender.forget(stream);
         cancel_call(&mut self.calls, stream, &mut self.due)
@@ -324,6 +407,8 @@ impl Connection {
         requires { self.old.ended ≡ false }
         ensures fails { OnOk result (Fails self.old code reset self.new) }
         ensures reader { OnOk result (self.new.reader ≡ self.old.reader) }
+        ensures fit { KeepsFit self.old.sending self.new.sending }
+        ensures sources { KeepsSources self.old.sending self.new.sending }
     {
         self.ended = true;
         self.sender

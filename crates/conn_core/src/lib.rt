@@ -9,4 +9,4 @@ mod laws;
 
 pub use connection::Connection;
 pub use event::CallEvent;
-pub use laws::calls_on_live_streams;
+pub use laws::{calls_on_live_streams, only_texts_of_a_connections_ranges_matter};

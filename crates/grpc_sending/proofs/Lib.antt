@@ -5,8 +5,17 @@ pub mod Entries
 pub mod Turns
 pub mod Queues
 pub mod Pushes
+pub mod Stored
 pub mod Takes
 pub mod Rounds
 pub mod Pumping
 pub mod Settles
 pub mod Received
+pub mod Dues
+pub mod Filling
+pub mod Spans
+pub mod Sources
+pub mod Heads
+pub mod Keeping
+pub mod Agreeing
+mod Wire

@@ -1,6 +1,6 @@
 -- What is received changes nothing of what is sent.
 use Rattle.std.proofs.Common.{◌≡◌, ◌+◌, List, [], ◌∷◌, ◌++◌, length, drop, refl, ap, ◌∙◌, sym, arith}
-use Rattle.std.specs.Prelude.{true, false, cond, map, sum_by, None}
+use Rattle.std.specs.Prelude.{true, false, cond, sum_by, None}
 use Rattle.std.specs.List.{flat_map, list_any, filter_map}
 use Rattle.std.proofs.lemmas.List.Elements.{filter_map-append}
 use Rattle.std.proofs.lemmas.List.Sums.{sum_by-append}
@@ -12,8 +12,8 @@ use Rattle.http2_frames.specs.Writing.{text_of}
 use Rattle.http2_streams.specs.Diary.{Entry, In, Unreadable, sent, frame_out, has_failed, is_goaway, is_live}
 use Rattle.http2_streams.proofs.LiveLaw.{live_falls}
 use Rattle.grpc_sending.specs.Bytes.{bytes_put, taken, taken_by, is_headers}
-use Rattle.grpc_sending.specs.Owed.{Owed, owed_on, piece_of, left_by}
-use Rattle.grpc_sending.specs.StandsFor.{Sending, StandsFor}
+use Rattle.grpc_sending.specs.Owed.{Owed, owed_on, pieces_of, left_by}
+use Rattle.grpc_sending.specs.StandsFor.{Sending, IsSending}
 use Rattle.grpc_sending.proofs.Diaries.{append-nil}
 
 -- an entry that puts nothing and takes nothing
@@ -31,7 +31,7 @@ heard_taken d e h =
     let one : sum_by taken_by (e ∷ []) ≡ 0 = ap (λ n. 0 + n) h.taken in
     omega (arith, sum_by-append taken_by d (e ∷ []), one)
 
-pub stands_heard : (w : Sending) (d : List Entry) (os : List Owed) (e : Entry) → IsHeard e → StandsFor w d os → StandsFor w (d ++ e ∷ []) os
+pub stands_heard : (w : Sending) (d : List Entry) (os : List Owed) (e : Entry) → IsHeard e → IsSending w d os → IsSending w (d ++ e ∷ []) os
 stands_heard w d os e h st =
     let same : sent (d ++ e ∷ []) ≡ sent d = heard_sent d e h in
     let bytes : bytes_put (d ++ e ∷ []) ≡ bytes_put d = ap (flat_map text_of) same in
@@ -43,11 +43,11 @@ stands_heard w d os e h st =
       queues = λ alive s lives more.
           let alive' : has_failed d ≡ false = ap (list_any is_goaway) (sym same) ∙ alive in
           let lives' : is_live d s ≡ true = live_falls d (e ∷ []) s lives in
-          ap (λ (fs : List Frame). left_by fs s (map piece_of (owed_on s os) ++ more)) same ∙ st.queues alive' s lives' more;
+          ap (λ (fs : List Frame). left_by fs s (flat_map pieces_of (owed_on s os) ++ more)) same ∙ st.queues alive' s lives' more;
     }
 
-pub frame_heard : (w : Sending) (d : List Entry) (os : List Owed) (f : RawFrame) → StandsFor w d os → StandsFor w (d ++ In f ∷ []) os
+pub frame_heard : (w : Sending) (d : List Entry) (os : List Owed) (f : RawFrame) → IsSending w d os → IsSending w (d ++ In f ∷ []) os
 frame_heard w d os f st = stands_heard w d os (In f) (record { put = refl; taken = refl }) st
 
-pub fault_heard : (w : Sending) (d : List Entry) (os : List Owed) (e : FrameError) → StandsFor w d os → StandsFor w (d ++ Unreadable e ∷ []) os
+pub fault_heard : (w : Sending) (d : List Entry) (os : List Owed) (e : FrameError) → IsSending w d os → IsSending w (d ++ Unreadable e ∷ []) os
 fault_heard w d os e st = stands_heard w d os (Unreadable e) (record { put = refl; taken = refl }) st

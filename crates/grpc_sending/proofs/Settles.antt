@@ -1,7 +1,7 @@
 -- Where nothing comes next, the connection is settled.
-use Rattle.std.proofs.Common.{◌≡◌, ◌≢◌, ℕ, ◌<◌, ◌≤◌, List, [], ◌∷◌, length, drop, refl, ap, ◌∙◌, sym, arith, inl, inr, length-drop, length-append}
-use Rattle.std.specs.Prelude.{Bool, true, false, ◌==◌, cond, map, min, nat_lt, nat_le, Option, Some, None, ℤ, pos, negsuc, ◌≤ℤ◌, ◌⊎◌}
-use Rattle.std.specs.List.{AllByRecursion}
+use Rattle.std.proofs.Common.{◌≡◌, ◌≢◌, ℕ, ◌<◌, ◌≤◌, List, [], ◌∷◌, length, take, drop, zero, suc, ◌++◌, refl, ap, ◌∙◌, sym, arith, inl, inr, length-drop, length-append}
+use Rattle.std.specs.Prelude.{Bool, true, false, ◌==◌, cond, min, nat_lt, nat_le, Option, Some, None, ℤ, pos, negsuc, ◌≤ℤ◌, ◌⊎◌}
+use Rattle.std.specs.List.{AllByRecursion, flat_map}
 use Rattle.std.specs.Option.{option_map_or}
 use Rattle.std.proofs.lemmas.Bool.{cases_Bool, ltb-true}
 use Rattle.std.proofs.lemmas.Bool.Decides.{nat_tests}
@@ -10,10 +10,11 @@ use Rattle.http2_flow.specs.Credit.{left}
 use Rattle.http2_frames.specs.declared.frame.Frame.{Frame}
 use Rattle.http2_frames.specs.declared.frame.Frame.TheVariants.{Data, Headers, Priority, RstStream, Settings, PushPromise, Ping, GoAway, WindowUpdate, Continuation, Unknown}
 use Rattle.http2_streams.specs.Diary.{Entry, sent, live, window, connection_window, has_failed}
-use Rattle.grpc_sending.specs.declared.piece.Piece.{Piece}
-use Rattle.grpc_sending.specs.declared.piece.Piece.TheVariants.{Block, Part}
+use Rattle.grpc_messages.specs.Writing.{framed}
+use Rattle.grpc_sending.specs.Pieces.{Piece, most_read, read_message, cut, read_pieces}
+use Rattle.grpc_sending.specs.Pieces.{Block, Part}
 use Rattle.grpc_sending.specs.Bytes.{untaken, taken, bytes_put}
-use Rattle.grpc_sending.specs.Owed.{Owed, Item, Headed, Message, owed_on, piece_of, without_front, put_by, left_by, left_on}
+use Rattle.grpc_sending.specs.Owed.{Owed, Item, Headed, Message, Range, owed_on, pieces_of, without_front, put_by, left_by, left_on}
 use Rattle.grpc_sending.specs.Pump.{natural, part_size, block_frames, frames_on, frames_for, first_of, next, pumped}
 use Rattle.grpc_sending.specs.Settled.{Waits, WaitsOn, IsSettled}
 use Rattle.grpc_sending.proofs.Pumps.{ended}
@@ -27,10 +28,22 @@ HasBytes (Part bytes) = 0 < length bytes
 abbrev AreFilled : List Piece → Type 0
 AreFilled ps = AllByRecursion HasBytes ps
 
-filled_items : (is : List Item) → AreFilled (map piece_of is)
+filled_cut : (n k : ℕ) (bytes : List ℕ) → AreFilled (cut n k bytes)
+filled_cut n zero bytes = tt
+filled_cut n (suc k) bytes = elim (cases_Bool (nat_lt n (length bytes))) [
+  | inl more ↦ let some : 0 < length (framed (read_message (take n bytes))) = simp length-append (omega arith) in rw more (some, filled_cut n k (drop n bytes))
+  | inr last ↦ let some : 0 < length (framed (read_message bytes)) = simp length-append (omega arith) in rw last (some, tt)
+]
+
+filled_more : (ps qs : List Piece) → AreFilled ps → AreFilled qs → AreFilled (ps ++ qs)
+filled_more [] qs h k = k
+filled_more (p ∷ ps) qs h k = (h.0, filled_more ps qs h.1 k)
+
+filled_items : (is : List Item) → AreFilled (flat_map pieces_of is)
 filled_items [] = tt
 filled_items (Headed block ∷ is) = (tt, filled_items is)
 filled_items (Message message ∷ is) = (simp length-append (omega arith), filled_items is)
+filled_items (Range digest text from count ∷ is) = filled_more (read_pieces (take count (drop from text))) (flat_map pieces_of is) (filled_cut most_read (length (take count (drop from text))) (take count (drop from text))) (filled_items is)
 
 filled_front : (n : ℕ) (ps : List Piece) → AreFilled ps → AreFilled (without_front n ps)
 filled_front n [] h = tt
@@ -99,7 +112,7 @@ all_wait : (d : List Entry) (os : List Owed) (ss : List ℕ) → first_of (frame
 all_wait d os [] h = tt
 all_wait d os (s ∷ ss) h =
     let at : (o : Option (List Frame)) → frames_for d os s ≡ o → option_map_or Some o (first_of (frames_for d os) ss) ≡ None → AllByRecursion (WaitsOn d os) (s ∷ ss) = elim [
-      | None ↦ λ is e. (waits d s (left_on d os s) (filled_left (sent d) s (map piece_of (owed_on s os)) (filled_items (owed_on s os))) is, all_wait d os ss e)
+      | None ↦ λ is e. (waits d s (left_on d os s) (filled_left (sent d) s (flat_map pieces_of (owed_on s os)) (filled_items (owed_on s os))) is, all_wait d os ss e)
       | Some fs ↦ λ is e. let z : ⊥ = cc in absurd z
     ] in
     at (frames_for d os s) refl h

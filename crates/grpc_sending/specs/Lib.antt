@@ -1,6 +1,12 @@
 pub mod Bytes
 pub mod Owed
+pub mod Kept
+pub mod Parts
+pub mod Pieces
 pub mod Pump
 pub mod Settled
+pub mod Sources
+pub mod Spans
 pub mod StandsFor
 pub mod Step
+pub mod Wire

@@ -1,18 +1,21 @@
 -- What is owed to the streams of a connection, and how much of it was put.
-use Rattle.std.specs.Prelude.{ℕ, ◌==◌, nat_lt, if◌then◌else◌, List, [], ◌∷◌, length, map, fold, drop}
+use Rattle.std.specs.Prelude.{ℕ, ◌==◌, nat_lt, if◌then◌else◌, List, [], ◌∷◌, length, fold, take, drop}
 use Rattle.std.specs.List.{flat_map}
 use Rattle.http2_frames.specs.declared.frame.Frame.{Frame}
 use Rattle.http2_frames.specs.declared.frame.Frame.TheVariants.{Data, Headers}
 use Rattle.http2_streams.specs.Diary.{Entry, sent}
+use Rattle.digest.specs.declared.Digest.{Digest}
 use Rattle.grpc_messages.specs.Writing.{framed}
 use Rattle.grpc_calls.specs.declared.response.ResponseBlock.{ResponseBlock}
-use Rattle.grpc_sending.specs.declared.piece.Piece.{Piece}
-use Rattle.grpc_sending.specs.declared.piece.Piece.TheVariants.{Block, Part}
+use Rattle.grpc_sending.specs.Pieces.{Piece, Block, Part, read_pieces}
 
 -- an item of a response: a header block, or a message
 pub data Item : Type 0 where
   Headed : ResponseBlock → Item
   Message : List ℕ → Item
+  -- bytes of a blob, by its digest: its whole text, the place of the first of them, and how many; each 65,536 are a
+  -- message
+  Range : Digest → List ℕ → ℕ → ℕ → Item
 
 -- an item that was given to a stream
 pub record Owed : Type 0 where
@@ -26,10 +29,12 @@ item_on s o = if o.stream == s then o.item ∷ [] else []
 abbrev pub owed_on : ℕ → List Owed → List Item
 owed_on s os = flat_map (item_on s) os
 
--- an item as it is to be put: a header block, or the bytes of a message with its prefix
-abbrev pub piece_of : Item → Piece
-piece_of (Headed block) = Block block
-piece_of (Message message) = Part (framed message)
+-- an item as it is to be put: a header block, the bytes of a message with its prefix, or those of each message of a
+-- range
+abbrev pub pieces_of : Item → List Piece
+pieces_of (Headed block) = Block block ∷ []
+pieces_of (Message message) = Part (framed message) ∷ []
+pieces_of (Range digest text from count) = read_pieces (take count (drop from text))
 
 -- n bytes of the message in front
 abbrev pub without_front : ℕ → List Piece → List Piece
@@ -49,4 +54,4 @@ left_by fs s ps = fold (put_by s) ps fs
 
 -- what is owed to stream s and was not put
 abbrev pub left_on : List Entry → List Owed → ℕ → List Piece
-left_on d os s = left_by (sent d) s (map piece_of (owed_on s os))
+left_on d os s = left_by (sent d) s (flat_map pieces_of (owed_on s os))

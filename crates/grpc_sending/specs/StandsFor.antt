@@ -1,13 +1,13 @@
 -- What is kept for sending stands for a diary and for all that was ever owed.
-use Rattle.std.specs.Prelude.{◌≡◌, ◌≤◌, ◌==◌, ℕ, true, false, List, [], ◌∷◌, ◌++◌, length, map, if◌then◌else◌}
-use Rattle.std.specs.List.{list_any}
+use Rattle.std.specs.Prelude.{◌≡◌, ◌≤◌, ◌==◌, ℕ, true, false, List, [], ◌∷◌, ◌++◌, length, if◌then◌else◌}
+use Rattle.std.specs.List.{flat_map, list_any}
 use Rattle.hpack.specs.declared.encoder.Position.{Position}
 use Rattle.hpack.specs.declared.encoder.Position.TheVariants.{First}
 use Rattle.http2_streams.specs.Diary.{Entry, sent, live, is_live, has_failed}
-use Rattle.grpc_sending.specs.declared.piece.Piece.{Piece}
-use Rattle.grpc_sending.specs.declared.queue.Queue.{Queue}
+use Rattle.grpc_sending.specs.Pieces.{Piece}
+use Rattle.grpc_sending.specs.Pieces.{Queue}
 use Rattle.grpc_sending.specs.Bytes.{bytes_put, taken, pending, position}
-use Rattle.grpc_sending.specs.Owed.{Owed, Item, piece_of, owed_on, left_by}
+use Rattle.grpc_sending.specs.Owed.{Owed, Item, pieces_of, owed_on, left_by}
 
 pub record Sending : Type 0 where
   -- the bytes that were put and not taken
@@ -27,9 +27,9 @@ pieces_on s (q ∷ qs) = if q.stream == s then q.pieces else pieces_on s qs
 
 -- the queue of stream s is what is left of the items owed to it, and more items would stand behind it
 abbrev pub IsQueue : List Entry → List Owed → List Queue → ℕ → Type 0
-IsQueue d os qs s = (more : List Piece) → left_by (sent d) s (map piece_of (owed_on s os) ++ more) ≡ pieces_on s qs ++ more
+IsQueue d os qs s = (more : List Piece) → left_by (sent d) s (flat_map pieces_of (owed_on s os) ++ more) ≡ pieces_on s qs ++ more
 
-pub record StandsFor (v : Sending) (d : List Entry) (os : List Owed) : Type 0 where
+pub record IsSending (v : Sending) (d : List Entry) (os : List Owed) : Type 0 where
   pub pending : v.pending ≡ pending d
   pub taken : taken d ≤ length (bytes_put d)
   pub position : v.position ≡ position d

@@ -1,5 +1,5 @@
 -- What the code puts next, by what it keeps, and what that means for a diary.
-use Rattle.std.specs.Prelude.{◌≡◌, ℕ, suc, ℤ, ◌≤◌, ◌==◌, not, if◌then◌else◌, Bool, true, false, List, [], ◌∷◌, ◌++◌, length, take, drop, map, Option, Some, None}
+use Rattle.std.specs.Prelude.{◌≡◌, ℕ, ℤ, ◌≤◌, ◌==◌, not, if◌then◌else◌, Bool, true, false, List, [], ◌∷◌, ◌++◌, length, take, drop, map, Option, Some, None}
 use Rattle.http2_flow.specs.Credit.{left}
 use Rattle.http2_frames.specs.declared.frame.Frame.{Frame}
 use Rattle.http2_frames.specs.declared.frame.Frame.TheVariants.{Data, Headers, RstStream}
@@ -7,14 +7,14 @@ use Rattle.http2_streams.specs.declared.stream.Stream.{Stream}
 use Rattle.http2_streams.specs.Diary.{Entry, Out, is_live}
 use Rattle.http2_streams.specs.Standing.{Standing}
 use Rattle.http2_streams.specs.StandsFor.{StandsFor as AreStreams}
-use Rattle.grpc_sending.specs.declared.piece.Piece.{Piece}
-use Rattle.grpc_sending.specs.declared.piece.Piece.TheVariants.{Block, Part}
-use Rattle.grpc_sending.specs.declared.queue.Queue.{Queue}
-use Rattle.grpc_sending.specs.declared.turn.Turn.{Turn}
-use Rattle.grpc_sending.specs.declared.turn.Turn.TheVariants.{Head, Content}
+use Rattle.grpc_sending.specs.Pieces.{Piece}
+use Rattle.grpc_sending.specs.Pieces.{Block, Part}
+use Rattle.grpc_sending.specs.Pieces.{Queue}
+use Rattle.grpc_sending.specs.Pieces.{Turn}
+use Rattle.grpc_sending.specs.Pieces.{Head, Content}
 use Rattle.grpc_sending.specs.Owed.{Owed, without_front}
 use Rattle.grpc_sending.specs.Pump.{part_size, first_of, next, reset_after}
-use Rattle.grpc_sending.specs.StandsFor.{Sending, StandsFor, pieces_on}
+use Rattle.grpc_sending.specs.StandsFor.{Sending, IsSending, pieces_on}
 
 abbrev pub content_turn : ℕ → ℕ → List ℕ → Option Turn
 content_turn s n bytes = if n == 0 then None else Some (Content s (take n bytes))
@@ -43,24 +43,16 @@ without_first_at s q = if q.stream == s then record q { pieces = drop 1 q.pieces
 abbrev pub without_front_at : ℕ → ℕ → Queue → Queue
 without_front_at s n q = if q.stream == s then record q { pieces = without_front n q.pieces } else q
 
-abbrev pub with_piece : Piece → Queue → Queue
-with_piece p q = record q { pieces = q.pieces ++ p ∷ [] }
-
--- the place of the first queue of stream s
-abbrev pub first_at : ℕ → List Queue → ℕ
-first_at s [] = 0
-first_at s (q ∷ qs) = if q.stream == s then 0 else suc (first_at s qs)
-
 -- ---- what one turn does
 
 -- the next frames were put
 abbrev pub Puts : Standing → Sending → Standing → Sending → Type 0
-Puts v w v' w' = (d : List Entry) (os : List Owed) → AreStreams v d → StandsFor w d os →
-    (fs : List Frame) × (next d os ≡ Some fs) × AreStreams v' (d ++ map Out fs) × StandsFor w' (d ++ map Out fs) os
+Puts v w v' w' = (d : List Entry) (os : List Owed) → AreStreams v d → IsSending w d os →
+    (fs : List Frame) × (next d os ≡ Some fs) × AreStreams v' (d ++ map Out fs) × IsSending w' (d ++ map Out fs) os
 
 -- nothing more can be put
 abbrev pub Rests : Standing → Sending → Type 0
-Rests v w = (d : List Entry) (os : List Owed) → AreStreams v d → StandsFor w d os → next d os ≡ None
+Rests v w = (d : List Entry) (os : List Owed) → AreStreams v d → IsSending w d os → next d os ≡ None
 
 -- a frame that puts nothing of what is owed
 abbrev pub IsControl : Frame → Type 0
@@ -70,10 +62,10 @@ IsControl _ = Unit {0}
 
 -- RST_STREAM was put on a stream that was opened
 abbrev pub Resets : Standing → Sending → ℕ → Standing → Sending → Type 0
-Resets v w s v' w' = (d : List Entry) (os : List Owed) → s ≤ v.highest → AreStreams v d → StandsFor w d os →
-    AreStreams v' (d ++ Out (RstStream s 0) ∷ []) × StandsFor w' (d ++ Out (RstStream s 0) ∷ []) os
+Resets v w s v' w' = (d : List Entry) (os : List Owed) → s ≤ v.highest → AreStreams v d → IsSending w d os →
+    AreStreams v' (d ++ Out (RstStream s 0) ∷ []) × IsSending w' (d ++ Out (RstStream s 0) ∷ []) os
 
 -- a response was put to its end
 abbrev pub Finishes : Standing → Sending → ℕ → Bool → Standing → Sending → Type 0
-Finishes v w s ended_by_client v' w' = (d : List Entry) (os : List Owed) → s ≤ v.highest → (ended_by_client ≡ true → is_live d s ≡ false) → AreStreams v d → StandsFor w d os →
-    AreStreams v' (d ++ map Out (reset_after s (not ended_by_client))) × StandsFor w' (d ++ map Out (reset_after s (not ended_by_client))) os
+Finishes v w s ended_by_client v' w' = (d : List Entry) (os : List Owed) → s ≤ v.highest → (ended_by_client ≡ true → is_live d s ≡ false) → AreStreams v d → IsSending w d os →
+    AreStreams v' (d ++ map Out (reset_after s (not ended_by_client))) × IsSending w' (d ++ map Out (reset_after s (not ended_by_client))) os

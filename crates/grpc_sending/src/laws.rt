@@ -1,14 +1,15 @@
 //! What follows from the definitions alone.
 
-ghost use Rattle.std.specs.Prelude.{◌≡◌, ◌≤◌, ◌++◌, ◌∷◌, [], List, length};
+ghost use Rattle.std.specs.Prelude.{◌≤◌, ◌<◌, ℕ, List, length};
 ghost use Rattle.http2_frames.specs.declared.error.FrameError.{FrameError};
 ghost use Rattle.http2_frames.specs.declared.frame.RawFrame.{RawFrame};
 ghost use Rattle.http2_streams.specs.Diary.{Entry, In, Unreadable};
 ghost use Rattle.grpc_sending.specs.Bytes.{bytes_put, taken};
 ghost use Rattle.grpc_sending.specs.Owed.{Owed};
 ghost use Rattle.grpc_sending.specs.Pump.{pumped};
+ghost use Rattle.grpc_sending.specs.Wire.{IsFieldTen};
 ghost use Rattle.grpc_sending.specs.Settled.{IsSettled};
-ghost use Rattle.grpc_sending.specs.StandsFor.{Sending, StandsFor};
+ghost use Rattle.grpc_sending.specs.Kept.{Look, Kept, Enters, AgreeFor, StandsAlike, FitsAlike, KeepsWhatIsLeft};
 
 /// The pump leaves nothing that could be put.
 pub fn the_pump_settles()
@@ -17,6 +18,22 @@ pub fn the_pump_settles()
 
 /// What is received changes nothing of what is sent.
 pub fn received_bytes_put_nothing()
-    ensures frame { (w : Sending) (d : List Entry) (os : List Owed) (f : RawFrame) → StandsFor w d os → StandsFor w (d ++ In f ∷ []) os }
-    ensures fault { (w : Sending) (d : List Entry) (os : List Owed) (e : FrameError) → StandsFor w d os → StandsFor w (d ++ Unreadable e ∷ []) os }
+    ensures frame { (w : Kept) (f : RawFrame) → Enters w (In f) w }
+    ensures fault { (w : Kept) (e : FrameError) → Enters w (Unreadable e) w }
+{}
+
+/// What is kept stands for the same by any look-up that has the texts of the sources of ranges.
+pub fn only_texts_of_ranges_matter()
+    ensures stands { (t u : Look) (w : Kept) → AgreeFor t u w → StandsAlike t u w }
+    ensures fit { (t u : Look) (w : Kept) → AgreeFor t u w → FitsAlike t u w }
+{}
+
+/// What is kept for a live stream is what is left of all that was owed to it: of each range, what was not put.
+pub fn what_is_kept_is_what_is_left()
+    ensures { (texts : Look) (w : Kept) (d : List Entry) (os : List Owed) → KeepsWhatIsLeft texts w d os }
+{}
+
+/// A message of a range is a ReadResponse (bytestream.proto) with these bytes as its data, which is field 10.
+pub fn a_range_is_put_as_field_ten()
+    ensures { (bytes : List ℕ) → 0 < length bytes → length bytes < 2097152 → IsFieldTen bytes }
 {}

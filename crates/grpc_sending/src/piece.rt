@@ -1,13 +1,15 @@
 //! What is to be put of an item of a response.
 
-ghost use Rattle.std.specs.Prelude.{◌≡◌, ◌≤◌, ◌<◌, ◌^◌, ◌∷◌, List, true, false, IfOk, length, drop};
+ghost use Rattle.std.specs.Prelude.{◌≡◌, ◌≤◌, ◌<◌, ◌^◌, ◌+◌, ◌++◌, ◌∷◌, [], List, true, false, IfOk, length, drop, vec_capacity};
 ghost use Rattle.hpack.specs.Encoding.{block_text};
 ghost use Rattle.hpack.specs.declared.encoder.Position.TheVariants.{Later};
 ghost use Rattle.grpc_calls.specs.Responses.{fields_of, is_last};
 ghost use Rattle.grpc_messages.specs.Writing.{framed};
-ghost use Rattle.grpc_sending.specs.declared.piece.Piece.{Piece};
-ghost use Rattle.grpc_sending.specs.Owed.{without_front};
+ghost use Rattle.grpc_sending.specs.declared.piece.StoredPiece.{StoredPiece};
+ghost use Rattle.grpc_sending.specs.Kept.{stored_front};
+ghost use Rattle.grpc_sending.specs.Sources.{source_of};
 
+use crate::range::Cursor;
 use grpc_calls::ResponseBlock;
 use grpc_messages::write_message;
 use hpack::Position;
@@ -138,28 +140,42 @@ impl FramedMessage {
     }
 }
 
-/// A header block, or the rest of a framed message.
+/// A header block, the rest of a framed message, or that of a range.
 #[derive(Drop)]
-pub(crate) enum Piece {
-    Block(EncodedBlock),
-    Part(FramedMessage),
+pub(crate) enum StoredPiece {
+    Encoded(EncodedBlock),
+    Framed(FramedMessage),
+    Ranged(Cursor),
 }
 
-impl Piece {
+impl StoredPiece {
     /// The first bytes were put. Says whether they were the last ones.
     pub(crate) fn take_off(&mut self, count: usize) -> bool
-        ensures whole { result ≡ true → (ps : List Piece) → without_front count (self.old ∷ ps) ≡ ps }
-        ensures part { result ≡ false → (ps : List Piece) → without_front count (self.old ∷ ps) ≡ self.new ∷ ps }
+        ensures source { source_of self.new ≡ source_of self.old }
+        ensures whole { result ≡ true → (ps : List StoredPiece) → stored_front count (self.old ∷ ps) ≡ ps }
+        ensures part { result ≡ false → (ps : List StoredPiece) → stored_front count (self.old ∷ ps) ≡ self.new ∷ ps }
     {
         match self {
-            Piece::Block(_) => false,
-            Piece::Part(message) => {
+            StoredPiece::Encoded(_) => false,
+            StoredPiece::Framed(message) => {
                 if count >= message.len() {
                     return true;
                 }
                 message.take_off(count);
                 false
             }
+            StoredPiece::Ranged(range) => range.take_off(count),
+        }
+    }
+
+    /// The piece is over: the source of a range is spent.
+    pub(crate) fn spend(&self, spent: &mut Vec<usize>)
+        requires room { length spent.old.items + length (source_of self.now) ≤ vec_capacity spent.old }
+        ensures items { spent.new.items ≡ spent.old.items ++ source_of self.now }
+        ensures capacity { vec_capacity spent.old ≤ vec_capacity spent.new }
+    {
+        if let StoredPiece::Ranged(range) = self {
+            spent.push(range.source).unwrap();
         }
     }
 }

@@ -1,13 +1,12 @@
 //! What is still to be put on each stream.
 
-ghost use Rattle.std.specs.Prelude.{◌≡◌, ◌≤◌, ◌<◌, ◌==◌, ◌++◌, ◌∷◌, [], ℕ, List, IfOk, OnOk, OnErr, MatchOption, length, drop, map, filter, not, slice_set, slice_index_or, if◌then◌else◌};
-ghost use Rattle.grpc_sending.specs.Owed.{without_front};
-ghost use Rattle.grpc_sending.specs.StandsFor.{pieces_on};
-ghost use Rattle.grpc_sending.specs.Step.{without_first_at, without_front_at, first_at, with_piece};
-ghost use Rattle.grpc_sending.specs.declared.piece.Piece.{Piece};
-ghost use Rattle.grpc_sending.specs.declared.queue.Queue.{Queue};
+ghost use Rattle.std.specs.Prelude.{◌≡◌, ◌≤◌, ◌<◌, ◌==◌, ◌+◌, ◌++◌, ◌∷◌, [], ℕ, List, IfOk, OnOk, OnErr, MatchOption, length, drop, map, filter, not, slice_set, slice_index_or, if◌then◌else◌, vec_capacity};
+ghost use Rattle.grpc_sending.specs.Kept.{Appends, stored_on, stored_front, stored_first_at, stored_front_at, cleared_at, first_at, with_piece};
+ghost use Rattle.grpc_sending.specs.Sources.{Spends, SpendsOf, HasRoom, HasRoomOf, Takes, source_of};
+ghost use Rattle.grpc_sending.specs.declared.piece.StoredPiece.{StoredPiece};
+ghost use Rattle.grpc_sending.specs.declared.queue.StoredQueue.{StoredQueue};
 
-use crate::piece::Piece;
+use crate::piece::StoredPiece;
 use std::alloc::{AllocError, Global};
 use std::collections::VecDeque;
 use std::marker::Model;
@@ -15,14 +14,14 @@ use std::marker::Model;
 /// Pieces in the order in which they are put.
 #[derive(Drop)]
 pub(crate) struct Pieces {
-    pieces: VecDeque<Piece>,
+    pieces: VecDeque<StoredPiece>,
 }
 
 impl Model for Pieces {
     ghost use Rattle.std.specs.Prelude.{List};
-    ghost use Rattle.grpc_sending.specs.declared.piece.Piece.{Piece};
+    ghost use Rattle.grpc_sending.specs.declared.piece.StoredPiece.{StoredPiece};
 
-    ghost Value = { List Piece };
+    ghost Value = { List StoredPiece };
 
     ghost view = { λ p. p.pieces.items };
 }
@@ -36,13 +35,13 @@ impl Pieces {
         }
     }
 
-    pub(crate) fn first(&self) -> Option<&Piece>
+    pub(crate) fn first(&self) -> Option<&StoredPiece>
         ensures { MatchOption result (self.now ≡ []) (λ p. self.now ≡ p.now ∷ drop 1 self.now) }
     {
         self.pieces.front()
     }
 
-    pub(crate) fn push(&mut self, piece: Piece) -> Result<(), AllocError>
+    pub(crate) fn push(&mut self, piece: StoredPiece) -> Result<(), AllocError>
         ensures ok { OnOk result (self.new ≡ self.old ++ piece ∷ []) }
         ensures err { OnErr result (self.new ≡ self.old) }
     {
@@ -51,90 +50,213 @@ impl Pieces {
     }
 
     /// The first piece was put.
-    pub(crate) fn remove_first(&mut self)
-        ensures { self.new ≡ drop 1 self.old }
+    fn remove_first(&mut self, spent: &mut Vec<usize>)
+        requires room { HasRoomOf self.old spent.old.items (vec_capacity spent.old) }
+        ensures pieces { self.new ≡ drop 1 self.old }
+        ensures sources { SpendsOf self.old spent.old.items self.new spent.new.items }
+        ensures capacity { vec_capacity spent.old ≤ vec_capacity spent.new }
     {
-        let _ = self.pieces.pop_front();
+        spend_first(&mut self.pieces, spent);
     }
 
     /// Bytes of the first piece were put.
-    pub(crate) fn take_off(&mut self, count: usize)
-        ensures { self.new ≡ without_front count self.old }
+    fn take_off(&mut self, count: usize, spent: &mut Vec<usize>)
+        requires room { HasRoomOf self.old spent.old.items (vec_capacity spent.old) }
+        ensures pieces { self.new ≡ stored_front count self.old }
+        ensures sources { SpendsOf self.old spent.old.items self.new spent.new.items }
+        ensures capacity { vec_capacity spent.old ≤ vec_capacity spent.new }
     {
         if self.pieces.is_empty() {
             return;
         }
         let whole = self.pieces[0].take_off(count);
         if whole {
-            let _ = self.pieces.pop_front();
+            spend_first(&mut self.pieces, spent);
         }
+    }
+
+    /// Nothing of them is to be put any more.
+    fn clear(&mut self, spent: &mut Vec<usize>)
+        requires room { HasRoomOf self.old spent.old.items (vec_capacity spent.old) }
+        ensures pieces { self.new ≡ [] }
+        ensures sources { SpendsOf self.old spent.old.items [] spent.new.items }
+        ensures capacity { vec_capacity spent.old ≤ vec_capacity spent.new }
+    {
+        spend_all(&mut self.pieces, spent);
+    }
+}
+
+fn spend_first(pieces: &mut VecDeque<StoredPiece>, spent: &mut Vec<usize>)
+    requires room { HasRoomOf pieces.old.items spent.old.items (vec_capacity spent.old) }
+    ensures pieces { pieces.new.items ≡ drop 1 pieces.old.items }
+    ensures sources { SpendsOf pieces.old.items spent.old.items pieces.new.items spent.new.items }
+    ensures capacity { vec_capacity spent.old ≤ vec_capacity spent.new }
+{
+    if let Some(piece) = pieces.pop_front() {
+        piece.spend(spent);
+    }
+}
+
+fn spend_all(pieces: &mut VecDeque<StoredPiece>, spent: &mut Vec<usize>)
+    requires room { HasRoomOf pieces.old.items spent.old.items (vec_capacity spent.old) }
+    ensures pieces { pieces.new.items ≡ [] }
+    ensures sources { SpendsOf pieces.old.items spent.old.items [] spent.new.items }
+    ensures capacity { vec_capacity spent.old ≤ vec_capacity spent.new }
+{
+    'pieces: while !pieces.is_empty() {
+        spend_first(pieces, spent);
     }
 }
 
 /// What is still to be put on one stream.
 #[derive(Drop)]
-pub(crate) struct Queue {
+pub(crate) struct StoredQueue {
     pub(crate) stream: u32,
     pub(crate) pieces: Pieces,
 }
 
 /// The first piece of the stream was put.
-pub(crate) fn remove_first(queues: &mut Vec<Queue>, stream: u32)
-    ensures { queues.new.items ≡ map (without_first_at stream) queues.old.items }
+pub(crate) fn remove_first(queues: &mut Vec<StoredQueue>, stream: u32, spent: &mut Vec<usize>)
+    requires room { HasRoom queues.old.items spent.old.items (vec_capacity spent.old) }
+    ensures queues { queues.new.items ≡ map (stored_first_at stream) queues.old.items }
+    ensures sources { Spends queues.old.items spent.old.items queues.new.items spent.new.items }
+    ensures capacity { vec_capacity spent.old ≤ vec_capacity spent.new }
 {
-    remove_each_first(queues, stream);
+    remove_each_first(queues, stream, spent);
 }
 
-fn remove_each_first(queues: &mut [Queue], stream: u32)
-    ensures { queues.new ≡ map (without_first_at stream) queues.old }
+fn remove_each_first(queues: &mut [StoredQueue], stream: u32, spent: &mut Vec<usize>)
+    requires room { HasRoom queues.old spent.old.items (vec_capacity spent.old) }
+    ensures queues { queues.new ≡ map (stored_first_at stream) queues.old }
+    ensures sources { Spends queues.old spent.old.items queues.new spent.new.items }
+    ensures capacity { vec_capacity spent.old ≤ vec_capacity spent.new }
 {
     for queue in queues.iter_mut() {
-        queue.remove_first(stream);
+        queue.remove_first(stream, spent);
     }
 }
 
 /// Bytes of the first piece of the stream were put.
-pub(crate) fn take_off(queues: &mut Vec<Queue>, stream: u32, count: usize)
-    ensures { queues.new.items ≡ map (without_front_at stream count) queues.old.items }
+pub(crate) fn take_off(
+    queues: &mut Vec<StoredQueue>,
+    stream: u32,
+    count: usize,
+    spent: &mut Vec<usize>,
+)
+    requires room { HasRoom queues.old.items spent.old.items (vec_capacity spent.old) }
+    ensures queues { queues.new.items ≡ map (stored_front_at stream count) queues.old.items }
+    ensures sources { Spends queues.old.items spent.old.items queues.new.items spent.new.items }
+    ensures capacity { vec_capacity spent.old ≤ vec_capacity spent.new }
 {
-    take_each_off(queues, stream, count);
+    take_each_off(queues, stream, count, spent);
 }
 
-fn take_each_off(queues: &mut [Queue], stream: u32, count: usize)
-    ensures { queues.new ≡ map (without_front_at stream count) queues.old }
+fn take_each_off(queues: &mut [StoredQueue], stream: u32, count: usize, spent: &mut Vec<usize>)
+    requires room { HasRoom queues.old spent.old.items (vec_capacity spent.old) }
+    ensures queues { queues.new ≡ map (stored_front_at stream count) queues.old }
+    ensures sources { Spends queues.old spent.old.items queues.new spent.new.items }
+    ensures capacity { vec_capacity spent.old ≤ vec_capacity spent.new }
 {
     for queue in queues.iter_mut() {
-        queue.take_off(stream, count);
-    }
-}
-
-impl Queue {
-    fn remove_first(&mut self, stream: u32)
-        ensures { self.new ≡ without_first_at stream self.old }
-    {
-        if self.stream == stream {
-            self.pieces.remove_first();
-        }
-    }
-
-    fn take_off(&mut self, stream: u32, count: usize)
-        ensures { self.new ≡ without_front_at stream count self.old }
-    {
-        if self.stream == stream {
-            self.pieces.take_off(count);
-        }
+        queue.take_off(stream, count, spent);
     }
 }
 
 /// Nothing more is to be put on the stream.
-pub(crate) fn forget(queues: &mut Vec<Queue>, stream: u32)
-    ensures { queues.new.items ≡ filter (λ q. not (q.stream == stream)) queues.old.items }
+pub(crate) fn forget(queues: &mut Vec<StoredQueue>, stream: u32, spent: &mut Vec<usize>)
+    requires room { HasRoom queues.old.items spent.old.items (vec_capacity spent.old) }
+    ensures queues { queues.new.items ≡ filter (λ q. not (q.stream == stream)) queues.old.items }
+    ensures sources { Spends queues.old.items spent.old.items queues.new.items spent.new.items }
+    ensures capacity { vec_capacity spent.old ≤ vec_capacity spent.new }
 {
+    clear_on(queues, stream, spent);
     queues.retain(|queue| queue.stream != stream);
 }
 
+fn clear_on(queues: &mut Vec<StoredQueue>, stream: u32, spent: &mut Vec<usize>)
+    requires room { HasRoom queues.old.items spent.old.items (vec_capacity spent.old) }
+    ensures queues { queues.new.items ≡ map (cleared_at stream) queues.old.items }
+    ensures sources { Spends queues.old.items spent.old.items queues.new.items spent.new.items }
+    ensures capacity { vec_capacity spent.old ≤ vec_capacity spent.new }
+{
+    clear_each(queues, stream, spent);
+}
+
+fn clear_each(queues: &mut [StoredQueue], stream: u32, spent: &mut Vec<usize>)
+    requires room { HasRoom queues.old spent.old.items (vec_capacity spent.old) }
+    ensures queues { queues.new ≡ map (cleared_at stream) queues.old }
+    ensures sources { Spends queues.old spent.old.items queues.new spent.new.items }
+    ensures capacity { vec_capacity spent.old ≤ vec_capacity spent.new }
+{
+    for queue in queues.iter_mut() {
+        queue.clear(stream, spent);
+    }
+}
+
+/// Nothing more is to be put on any stream.
+pub(crate) fn forget_all(queues: &mut Vec<StoredQueue>, spent: &mut Vec<usize>)
+    requires room { HasRoom queues.old.items spent.old.items (vec_capacity spent.old) }
+    ensures queues { queues.new.items ≡ [] }
+    ensures sources { Spends queues.old.items spent.old.items [] spent.new.items }
+    ensures capacity { vec_capacity spent.old ≤ vec_capacity spent.new }
+{
+    'queues: while let Some(queue) = queues.pop() {
+        let mut pieces = queue.pieces;
+        pieces.clear(spent);
+    }
+}
+
+impl StoredQueue {
+    fn remove_first(&mut self, stream: u32, spent: &mut Vec<usize>)
+        requires room { HasRoomOf self.old.pieces spent.old.items (vec_capacity spent.old) }
+        ensures queue { self.new ≡ stored_first_at stream self.old }
+        ensures sources { SpendsOf self.old.pieces spent.old.items self.new.pieces spent.new.items }
+        ensures capacity { vec_capacity spent.old ≤ vec_capacity spent.new }
+    {
+        if self.stream == stream {
+            self.pieces.remove_first(spent);
+        }
+    }
+
+    fn take_off(&mut self, stream: u32, count: usize, spent: &mut Vec<usize>)
+        requires room { HasRoomOf self.old.pieces spent.old.items (vec_capacity spent.old) }
+        ensures queue { self.new ≡ stored_front_at stream count self.old }
+        ensures sources { SpendsOf self.old.pieces spent.old.items self.new.pieces spent.new.items }
+        ensures capacity { vec_capacity spent.old ≤ vec_capacity spent.new }
+    {
+        if self.stream == stream {
+            self.pieces.take_off(count, spent);
+        }
+    }
+
+    fn clear(&mut self, stream: u32, spent: &mut Vec<usize>)
+        requires room { HasRoomOf self.old.pieces spent.old.items (vec_capacity spent.old) }
+        ensures queue { self.new ≡ cleared_at stream self.old }
+        ensures sources { SpendsOf self.old.pieces spent.old.items self.new.pieces spent.new.items }
+        ensures capacity { vec_capacity spent.old ≤ vec_capacity spent.new }
+    {
+        if self.stream == stream {
+            self.pieces.clear(spent);
+        }
+    }
+}
+
+/// What is to be put first on the stream.
+pub(crate) fn first_on(queues: &[StoredQueue], stream: u32) -> Option<&StoredPiece>
+    ensures { MatchOption result (stored_on stream queues.now ≡ []) (λ p. stored_on stream queues.now ≡ p.now ∷ drop 1 (stored_on stream queues.now)) }
+{
+    let mut left = queues;
+    'queues: while let [queue, rest @ ..] = left {
+        if queue.stream == stream {
+            return queue.pieces.first();
+        }
+        left = rest;
+    }
+    None
+}
+
 /// The place of the stream's queue, or the number of all queues.
-fn first_at(queues: &[Queue], stream: u32) -> usize
+fn first_at(queues: &[StoredQueue], stream: u32) -> usize
     ensures { result ≡ first_at stream queues.now }
 {
     let mut left = queues;
@@ -150,9 +272,14 @@ fn first_at(queues: &[Queue], stream: u32) -> usize
 }
 
 /// Appends a piece to what is to be put on the stream.
-pub(crate) fn push(queues: &mut Vec<Queue>, stream: u32, piece: Piece) -> Result<(), AllocError>
-    ensures ok { OnOk result ((s : ℕ) → pieces_on s queues.new.items ≡ (if stream == s then pieces_on s queues.old.items ++ piece ∷ [] else pieces_on s queues.old.items)) }
-    ensures err { OnErr result ((s : ℕ) → pieces_on s queues.new.items ≡ pieces_on s queues.old.items) }
+pub(crate) fn push(
+    queues: &mut Vec<StoredQueue>,
+    stream: u32,
+    piece: StoredPiece,
+) -> Result<(), AllocError>
+    ensures ok { OnOk result (Appends stream piece queues.old.items queues.new.items) }
+    ensures sources { OnOk result (Takes (source_of piece) queues.old.items queues.new.items) }
+    ensures err { OnErr result (queues.new.items ≡ queues.old.items) }
 {
     let place = first_at(queues, stream);
     if place < queues.len() {
@@ -160,13 +287,17 @@ pub(crate) fn push(queues: &mut Vec<Queue>, stream: u32, piece: Piece) -> Result
     }
     let mut pieces = Pieces::new(*queues.allocator());
     pieces.push(piece)?;
-    queues.push(Queue { stream, pieces })?;
+    queues.push(StoredQueue { stream, pieces })?;
     Ok(())
 }
 
-fn push_at(queues: &mut Vec<Queue>, place: usize, piece: Piece) -> Result<(), AllocError>
+fn push_at(
+    queues: &mut Vec<StoredQueue>,
+    place: usize,
+    piece: StoredPiece,
+) -> Result<(), AllocError>
     requires { place < length queues.old.items }
-    ensures ok { OnOk result ((q : Queue) → queues.new.items ≡ slice_set queues.old.items place (with_piece piece (slice_index_or queues.old.items place q))) }
+    ensures ok { OnOk result ((q : StoredQueue) → queues.new.items ≡ slice_set queues.old.items place (with_piece piece (slice_index_or queues.old.items place q))) }
     ensures err { OnErr result (queues.new.items ≡ queues.old.items) }
 {
     queues[place].pieces.push(piece)

@@ -1,26 +1,29 @@
 //! Sending on one connection.
 
-ghost use Rattle.std.specs.Prelude.{◌≡◌, ◌≤◌, ◌<◌, ◌+◌, ◌^◌, ◌++◌, ◌∷◌, ◌↔◌, [], ℕ, List, true, false, IsTrue, IfOk, OnOk, OnErr, length, drop, Some, None};
+ghost use Rattle.std.specs.Prelude.{◌≡◌, ◌≤◌, ◌<◌, ◌+◌, ◌-◌, ◌^◌, ◌++◌, ◌∷◌, ◌↔◌, [], ℕ, List, true, false, IsTrue, IfOk, OnOk, OnErr, MatchOption, length, take, drop, Some, None};
 ghost use Rattle.http2_frames.specs.Writing.{raw_of, text_of};
-ghost use Rattle.http2_frames.specs.declared.frame.Frame.TheVariants.{RstStream};
+ghost use Rattle.http2_frames.specs.declared.frame.Frame.TheVariants.{Data, RstStream};
 ghost use Rattle.http2_streams.specs.Diary.{Entry, Out, Took, is_live, has_failed};
-ghost use Rattle.std.specs.List.{list_any};
+ghost use Rattle.digest.specs.declared.Digest.{Digest};
 ghost use Rattle.http2_streams.specs.StandsFor.{StandsFor as AreStreams};
-ghost use Rattle.http2_streams.specs.Rules.{number_is};
 ghost use Rattle.grpc_sending.specs.Bytes.{most_untaken};
-ghost use Rattle.grpc_sending.specs.Owed.{Owed, Item, Headed, Message};
+ghost use Rattle.grpc_sending.specs.Owed.{Owed, Headed, Message, Range};
 ghost use Rattle.grpc_sending.specs.Pump.{pumped, next};
-ghost use Rattle.grpc_sending.specs.StandsFor.{StandsFor, Sending, new_sending, owed_more, pieces_on};
+ghost use Rattle.grpc_sending.specs.StandsFor.{owed_more};
+ghost use Rattle.grpc_sending.specs.Kept.{Tells, Enters, DropsClosed, DropsAll, Owes, OwesRange, PumpsStreams, PumpsSending, PutsBy, ResetsBy, FinishesBy, KeepsFit, KeepsFitWith, Look, Kept, StandsFor, Fit, IsFit, KeepsSources, HoldsMore, HasFew, new_kept, sending_in, stored_on, front_bytes, front_frame};
 ghost use Rattle.grpc_sending.specs.Step.{Puts, Rests, IsControl, Finishes, Resets};
 
+use crate::backlog::Backlog;
 use crate::buffer::{CAPACITY, OutBuffer};
-use crate::piece::{EncodedBlock, FramedMessage, Piece};
-use crate::queue::{self, Queue};
-use crate::turn::{Turn, next_turn};
+use crate::parts::Parts;
+use crate::piece::{EncodedBlock, FramedMessage, StoredPiece};
+use crate::queue::{self, StoredQueue};
+use crate::range::Cursor;
+use crate::turn::{Due, next_due};
 use grpc_calls::ResponseBlock;
 use hpack::Position;
-use http2_frames::{ErrorCode, Frame, payload_length};
-use http2_streams::{Stream, Streams};
+use http2_frames::{ErrorCode, Frame, Octets, payload_length};
+use http2_streams::Streams;
 use std::alloc::{AllocError, Global};
 use std::marker::Model;
 
@@ -35,26 +38,27 @@ pub const CONTROL_LIMIT: usize = 131_055;
 pub struct Sender {
     buffer: OutBuffer,
     position: Position,
-    queues: Vec<Queue>,
+    backlog: Backlog,
 }
 
 impl Model for Sender {
-    ghost use Rattle.grpc_sending.specs.StandsFor.{Sending};
+    ghost use Rattle.grpc_sending.specs.Kept.{Kept};
 
-    ghost Value = { Sending };
+    ghost Value = { Kept };
 
-    ghost view = { λ s. record { pending = s.buffer; position = s.position; queues = s.queues.items } };
+    ghost view = { λ s. record { pending = s.buffer; position = s.position; queues = s.backlog.queues; spent = s.backlog.spent } };
 }
 
 impl Sender {
     /// Takes the room for all bytes that can wait.
     pub fn new(alloc: Global) -> Result<Sender, AllocError>
-        ensures { IfOk result (λ s. StandsFor s [] []) }
+        ensures stands { IfOk result (λ s. (texts : Look) → StandsFor texts s [] []) }
+        ensures kept { IfOk result (λ s. s ≡ new_kept) }
     {
         Ok(Sender {
             buffer: OutBuffer::new(alloc)?,
             position: Position::First,
-            queues: Vec::new(alloc),
+            backlog: Backlog::new(alloc),
         })
     }
 
@@ -69,8 +73,8 @@ impl Sender {
     /// The peer took so many of them.
     pub fn took(&mut self, count: usize)
         requires { count ≤ length self.old.pending }
-        ensures stands { (d : List Entry) (os : List Owed) → StandsFor self.old d os → StandsFor self.new (d ++ Took count ∷ []) os }
-        ensures pending { self.new.pending ≡ drop count self.old.pending }
+        ensures stands { Enters self.old (Took count) self.new }
+        ensures rest { self.new ≡ record self.old { pending = drop count self.old.pending } }
     {
         self.buffer.take_off(count);
     }
@@ -88,50 +92,68 @@ impl Sender {
         requires control { IsControl frame.now }
         requires short { length (raw_of frame.now).payload ≤ 16384 }
         requires room { (length self.old.pending + (9 + length (raw_of frame.now).payload)) ≤ CAPACITY }
-        ensures stands { (d : List Entry) (os : List Owed) → StandsFor self.old d os → StandsFor self.new (d ++ Out frame.now ∷ []) os }
+        ensures stands { Enters self.old (Out frame.now) self.new }
         ensures pending { self.new.pending ≡ self.old.pending ++ text_of frame.now }
         ensures size { length self.new.pending ≡ length self.old.pending + (9 + length (raw_of frame.now).payload) }
+        ensures rest { self.new ≡ record self.old { pending = self.new.pending } }
     {
         self.buffer.put(frame);
     }
 
-    /// A stream was reset by one of the two sides: what it is owed is dropped.
+    /// A stream was reset by one of the two sides: what it is owed is dropped, and the sources of its ranges are
+    /// spent.
     pub fn forget(&mut self, stream: u32)
-        ensures stands { (d : List Entry) (os : List Owed) → is_live d stream ≡ false → StandsFor self.old d os → StandsFor self.new d os }
-        ensures dropped { pieces_on stream self.new.queues ≡ [] }
+        ensures stands { DropsClosed stream self.old self.new }
+        ensures dropped { stored_on stream self.new.queues ≡ [] }
+        ensures fit { KeepsFit self.old self.new }
+        ensures sources { KeepsSources self.old self.new }
         ensures pending { self.new.pending ≡ self.old.pending }
     {
-        queue::forget(&mut self.queues, stream);
+        self.backlog.forget(stream);
     }
 
-    /// The connection met an error: all that is owed is dropped.
+    /// The connection met an error, or is closed: all that is owed is dropped, and the sources of all ranges are
+    /// spent.
     pub fn forget_all(&mut self)
-        ensures stands { (d : List Entry) (os : List Owed) → has_failed d ≡ true → StandsFor self.old d os → StandsFor self.new d os }
+        ensures stands { DropsAll self.old self.new }
         ensures dropped { self.new.queues ≡ [] }
+        ensures sources { KeepsSources self.old self.new }
         ensures pending { self.new.pending ≡ self.old.pending }
     {
-        self.queues.clear();
+        self.backlog.forget_all();
     }
 
-    /// Owes a header block to the stream, where it is live. An error changes nothing of what is owed.
+    /// Tells a source whose range is over: it was wholly put, or its stream ended before that. Each is told once for
+    /// each range that was owed of it.
+    pub fn spent(&mut self) -> Option<usize>
+        ensures source { Tells result self.old.spent self.new.spent }
+        ensures none { result ≡ None → self.new ≡ self.old }
+        ensures rest { self.new ≡ record self.old { spent = self.new.spent } }
+    {
+        self.backlog.pop_spent()
+    }
+
+    /// Owes a header block to the stream, where it is live. An error changes nothing.
     pub fn owe_block(
         &mut self,
         streams: &Streams,
         stream: u32,
         block: ResponseBlock,
     ) -> Result<(), AllocError>
-        ensures ok { OnOk result ((d : List Entry) (os : List Owed) → AreStreams streams.now d → StandsFor self.old d os → StandsFor self.new d (owed_more d os stream (Headed block))) }
-        ensures err { OnErr result ((d : List Entry) (os : List Owed) → StandsFor self.old d os → StandsFor self.new d os) }
+        ensures ok { OnOk result (Owes streams.now stream (Headed block) self.old self.new) }
+        ensures fit { KeepsFit self.old self.new }
+        ensures sources { KeepsSources self.old self.new }
         ensures pending { self.new.pending ≡ self.old.pending }
+        ensures err { OnErr result (self.new ≡ self.old) }
     {
-        if streams.has_failed() || !is_live(streams.live(), stream) {
+        if streams.has_failed() || !streams.is_live(stream) {
             return Ok(());
         }
-        let block = EncodedBlock::new(*self.queues.allocator(), block)?;
-        queue::push(&mut self.queues, stream, Piece::Block(block))
+        let block = EncodedBlock::new(self.backlog.allocator(), block)?;
+        self.backlog.push(stream, StoredPiece::Encoded(block))
     }
 
-    /// Owes a message to the stream, where it is live. An error changes nothing of what is owed.
+    /// Owes a message to the stream, where it is live. An error changes nothing.
     pub fn owe_message(
         &mut self,
         streams: &Streams,
@@ -139,44 +161,83 @@ impl Sender {
         message: &[u8],
     ) -> Result<(), AllocError>
         requires { length message.now < 2 ^ 32 }
-        ensures ok { OnOk result ((d : List Entry) (os : List Owed) → AreStreams streams.now d → StandsFor self.old d os → StandsFor self.new d (owed_more d os stream (Message message.now))) }
-        ensures err { OnErr result ((d : List Entry) (os : List Owed) → StandsFor self.old d os → StandsFor self.new d os) }
+        ensures ok { OnOk result (Owes streams.now stream (Message message.now) self.old self.new) }
+        ensures fit { KeepsFit self.old self.new }
+        ensures sources { KeepsSources self.old self.new }
         ensures pending { self.new.pending ≡ self.old.pending }
+        ensures err { OnErr result (self.new ≡ self.old) }
     {
-        if streams.has_failed() || !is_live(streams.live(), stream) {
+        if streams.has_failed() || !streams.is_live(stream) {
             return Ok(());
         }
-        let message = FramedMessage::new(*self.queues.allocator(), message)?;
-        queue::push(&mut self.queues, stream, Piece::Part(message))
+        let message = FramedMessage::new(self.backlog.allocator(), message)?;
+        self.backlog.push(stream, StoredPiece::Framed(message))
+    }
+
+    /// Owes the bytes from a place until another of a source's text to the stream, where it is live: as messages
+    /// ReadResponse, each with 65,536 of them and the last with the rest. The source is held from then on until
+    /// `spent` tells it, once; where nothing is to be put that is at once. An error changes nothing.
+    pub fn owe_range(
+        &mut self,
+        streams: &Streams,
+        stream: u32,
+        source: usize,
+        from: u64,
+        until: u64,
+    ) -> Result<(), AllocError>
+        requires { from ≤ until }
+        ensures ok { OnOk result (OwesRange streams.now stream source from until self.old self.new) }
+        ensures fit { KeepsFitWith source until self.old self.new }
+        ensures sources { OnOk result (HoldsMore source self.old self.new) }
+        ensures few { OnOk result (HasFew self.new) }
+        ensures pending { self.new.pending ≡ self.old.pending }
+        ensures err { OnErr result (self.new ≡ self.old) }
+    {
+        if from == until || streams.has_failed() || !streams.is_live(stream) {
+            return self.backlog.spend(source);
+        }
+        let range = Cursor {
+            source,
+            from,
+            until,
+            put: 0,
+        };
+        self.backlog.push_range(stream, range)
     }
 
     /// Puts all that can be put.
-    pub fn pump(&mut self, streams: &mut Streams)
-        ensures streams { (d : List Entry) (os : List Owed) → AreStreams streams.old d → StandsFor self.old d os → AreStreams streams.new (pumped d os) }
-        ensures sending { (d : List Entry) (os : List Owed) → AreStreams streams.old d → StandsFor self.old d os → StandsFor self.new (pumped d os) os }
+    pub fn pump<P: Parts>(&mut self, streams: &mut Streams, parts: &P)
+        requires fit { Fit (P.text_of parts.now) self.old.queues }
+        ensures streams { PumpsStreams (P.text_of parts.now) streams.old self.old streams.new }
+        ensures sending { PumpsSending (P.text_of parts.now) streams.old self.old self.new }
+        ensures fit { KeepsFit self.old self.new }
+        ensures sources { KeepsSources self.old self.new }
 
         // A GOAWAY has room after it.
         ensures room { length self.old.pending ≤ CONTROL_LIMIT → length self.new.pending ≤ CONTROL_LIMIT }
     {
-        'turns: while self.put_next(streams) {}
+        'turns: while self.put_next(streams, parts) {}
     }
 
     /// Puts what comes next, if anything can be put.
-    fn put_next(&mut self, streams: &mut Streams) -> bool
-        ensures puts { IsTrue result → Puts streams.old self.old streams.new self.new }
+    fn put_next<P: Parts>(&mut self, streams: &mut Streams, parts: &P) -> bool
+        requires fit { Fit (P.text_of parts.now) self.old.queues }
+        ensures puts { IsTrue result → PutsBy (P.text_of parts.now) streams.old self.old streams.new self.new }
         ensures grows { IsTrue result → ((length self.old.pending < length self.new.pending) × (length self.old.pending < 65536)) }
         ensures room { IsTrue result → length self.new.pending ≤ CONTROL_LIMIT }
-        ensures rests { result ≡ false → Rests streams.old self.old }
+        ensures rests { result ≡ false → Rests streams.old (sending_in (P.text_of parts.now) self.old) }
         ensures streams { result ≡ false → streams.new ≡ streams.old }
         ensures same { result ≡ false → self.new ≡ self.old }
+        ensures fit { KeepsFit self.old self.new }
+        ensures sources { KeepsSources self.old self.new }
     {
         if streams.has_failed() || self.buffer.len() >= PUMP_LIMIT {
             return false;
         }
-        match next_turn(&self.queues, streams) {
+        match next_due(self.backlog.queues(), streams) {
             None => false,
             Some(
-                Turn::Head {
+                Due::Opens {
                     stream,
                     block,
                     ended_by_client,
@@ -187,25 +248,25 @@ impl Sender {
                     .put_block(stream, is_last, self.position, block.as_slice());
                 self.position = Position::Later;
                 streams.on_headers_put(stream, is_last);
-                queue::remove_first(&mut self.queues, stream);
+                self.backlog.remove_first(stream);
                 if is_last {
                     self.finish(streams, stream, ended_by_client);
                 }
                 true
             }
-            Some(Turn::Content { stream, part }) => {
-                let count = part.len();
+            Some(Due::Gives { stream, count }) => {
                 if !streams.can_send(stream, count as u32) {
                     return false;
                 }
-                let frame = Frame::Data {
+                put_content(
+                    &mut self.buffer,
+                    self.backlog.queues(),
                     stream,
-                    end_stream: false,
-                    data: part,
-                };
-                self.buffer.put(&frame);
+                    count,
+                    parts,
+                );
                 streams.on_data_put(stream, count as u32, false);
-                queue::take_off(&mut self.queues, stream, count);
+                self.backlog.take_off(stream, count);
                 true
             }
         }
@@ -215,7 +276,9 @@ impl Sender {
     /// the stream, RST_STREAM (RFC 9113 section 8.1).
     fn finish(&mut self, streams: &mut Streams, stream: u32, ended_by_client: bool)
         requires { length self.old.pending + 13 ≤ CAPACITY }
-        ensures finishes { Finishes streams.old self.old stream ended_by_client streams.new self.new }
+        ensures finishes { FinishesBy streams.old self.old stream ended_by_client streams.new self.new }
+        ensures fit { KeepsFit self.old self.new }
+        ensures sources { KeepsSources self.old self.new }
         ensures grows { length self.old.pending ≤ length self.new.pending }
         ensures size { length self.new.pending ≤ length self.old.pending + 13 }
     {
@@ -229,7 +292,9 @@ impl Sender {
 
     fn put_reset(&mut self, streams: &mut Streams, stream: u32)
         requires { length self.old.pending + 13 ≤ CAPACITY }
-        ensures stands { Resets streams.old self.old stream streams.new self.new }
+        ensures stands { ResetsBy streams.old self.old stream streams.new self.new }
+        ensures fit { KeepsFit self.old self.new }
+        ensures sources { KeepsSources self.old self.new }
         ensures grows { length self.old.pending ≤ length self.new.pending }
         ensures size { length self.new.pending ≤ length self.old.pending + 13 }
     {
@@ -250,8 +315,62 @@ fn no_error(stream: u32) -> Frame<'static>
     }
 }
 
-fn is_live(live: &[Stream], stream: u32) -> bool
-    ensures { result ≡ list_any (number_is stream) live.now }
+/// Puts bytes of what comes first on the stream.
+fn put_content<P: Parts>(
+    buffer: &mut OutBuffer,
+    queues: &[StoredQueue],
+    stream: u32,
+    count: usize,
+    parts: &P,
+)
+    requires some { 0 < count }
+    requires fit { Fit (P.text_of parts.now) queues.now }
+    requires there { count ≤ length (front_bytes (P.text_of parts.now) (stored_on stream queues.now)) }
+    requires short { count ≤ 16384 }
+    requires room { length buffer.old + (9 + count) ≤ CAPACITY }
+    ensures bytes { buffer.new ≡ buffer.old ++ front_frame (P.text_of parts.now) stream count (stored_on stream queues.now) }
+    ensures size { length buffer.new ≡ length buffer.old + (9 + count) }
 {
-    live.iter().any(|live| live.number == stream)
+    let first = queue::first_on(queues, stream);
+    match first {
+        None => {}
+        Some(piece) => put_piece(buffer, stream, count, piece, parts),
+    }
+}
+
+fn put_piece<P: Parts>(
+    buffer: &mut OutBuffer,
+    stream: u32,
+    count: usize,
+    piece: &StoredPiece,
+    parts: &P,
+)
+    requires some { 0 < count }
+    requires fit { IsFit (P.text_of parts.now) piece.now }
+    requires there { count ≤ length (front_bytes (P.text_of parts.now) (piece.now ∷ [])) }
+    requires short { count ≤ 16384 }
+    requires room { length buffer.old + (9 + count) ≤ CAPACITY }
+    ensures bytes { buffer.new ≡ buffer.old ++ front_frame (P.text_of parts.now) stream count (piece.now ∷ []) }
+    ensures size { length buffer.new ≡ length buffer.old + (9 + count) }
+{
+    match piece {
+        StoredPiece::Encoded(_) => {}
+        StoredPiece::Framed(message) => put_message(buffer, stream, count, message),
+        StoredPiece::Ranged(range) => buffer.put_range(stream, count, range, parts),
+    }
+}
+
+fn put_message(buffer: &mut OutBuffer, stream: u32, count: usize, message: &FramedMessage)
+    requires there { count ≤ length message.now }
+    requires short { count ≤ 16384 }
+    requires room { length buffer.old + (9 + count) ≤ CAPACITY }
+    ensures bytes { buffer.new ≡ buffer.old ++ text_of (Data stream false (take count message.now)) }
+    ensures size { length buffer.new ≡ length buffer.old + (9 + count) }
+{
+    let frame = Frame::Data {
+        stream,
+        end_stream: false,
+        data: Octets::new(&message.as_slice()[..count]),
+    };
+    buffer.put(&frame);
 }

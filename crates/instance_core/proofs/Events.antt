@@ -1,6 +1,6 @@
 -- Replies are short where requests are, and kept requests stay short.
-use Rattle.std.proofs.Common.{◌≡◌, ℕ, ◌<◌, ◌^◌, Bool, true, false, cond, List, [], ◌∷◌, map, length, Option, Some, None, Result, Ok, Err, refl}
-use Rattle.std.specs.Prelude.{IfSome, IfOk}
+use Rattle.std.proofs.Common.{◌≡◌, ℕ, ◌+◌, ◌<◌, ◌≤◌, ◌^◌, Bool, true, false, cond, List, [], ◌∷◌, ◌++◌, map, length, min, Option, Some, None, Result, Ok, Err, refl, eqb, arith, ltb-true}
+use Rattle.std.specs.Prelude.{IfSome, IfOk, nat_lt}
 use Rattle.std.specs.List.{AllByRecursion}
 use Rattle.std.specs.declared.alloc.Global.{Global}
 use Rattle.std.specs.declared.alloc.AllocError.{AllocError}
@@ -9,74 +9,161 @@ use Rattle.call_methods.specs.declared.method.Method.{Method}
 use Rattle.call_methods.specs.declared.method.Method.TheVariants.{FindMissingBlobs, BatchUpdateBlobs, BatchReadBlobs, GetTree, GetActionResult, UpdateActionResult, Execute, WaitExecution, GetCapabilities, Read, Write, QueryWriteStatus}
 use Rattle.call_status.specs.declared.refusal.Refusal.{Refusal}
 use Rattle.call_status.specs.declared.refusal.Refusal.TheVariants.{UnknownMethod}
+use Rattle.protobuf_wire.proofs.Tools.{bind_ok, ok_is}
+use Rattle.blob_pool.specs.Held.{Slots}
+use Rattle.instance_view.specs.Visible.{Blob, seen}
+use Rattle.bytestream.specs.declared.reading.ReadAsked.{ReadAsked}
+use Rattle.bytestream.specs.Reading.{SourceValue, read_asked, place_of, until_of, range_asked, read_answer}
+use Rattle.bytestream.specs.Writing as Writing
+use Rattle.bytestream.specs.Writing.{WrittenValue, unfinished_reply}
 use Rattle.instance_core.specs.declared.event.CallId.{CallId}
-use Rattle.instance_core.specs.Calls.{Calls, CallValue, CallEventValue, head, message, fault, end, cancel, same_call, call_at, IsShortRequest, KeepShort}
+use Rattle.instance_core.specs.Calls.{Calls, CallValue, ProgressValue, waits, has, writes, CallEventValue, head, message, fault, end, cancel, tick, same_call, call_at, IsShortRequest, IsShortProgress, KeepShort}
 use Rattle.instance_core.specs.State.{InstanceState, WithinLimits}
-use Rattle.instance_core.specs.Methods.{is_served, reply_to}
-use Rattle.instance_core.specs.Answer.{ReplyValue, reply_with, goes_on, at_head, with_message, at_message, at_fault, with_request, at_end, answer, IsShortReply}
+use Rattle.instance_core.specs.Methods.{is_served, reply_to, items_to}
+use Rattle.instance_core.specs.Replies.{ReplyValue, IsShortItem, IsShortReply, items_of, gives, ends, read_items}
+use Rattle.instance_core.specs.Changes.{Change}
+use Rattle.instance_core.specs.Writes.{first_changes, next_changes, first_outcome, next_outcome}
+use Rattle.instance_core.specs.Answer.{reply_with, goes_on, at_head, first_written, next_written, with_first, with_message, at_message, at_fault, with_request, at_end, answer}
 use Rattle.instance_core.specs.declared.event.Reply.{Reply}
 use Rattle.instance_core.specs.Shown.{reply_shown}
 use Rattle.instance_core.proofs.Short.{find_missing_short, batch_update_short, batch_read_short, get_capabilities_short}
+use Rattle.instance_core.proofs.Told.{first_short, next_short, query_short, unfinished_short}
 
 -- ---- replies
 
-if_ok : (r : Result (List ℕ) Refusal) → ((reply : List ℕ) → r ≡ Ok reply → length reply < 2 ^ 32) → IfOk r (λ bytes. length bytes < 2 ^ 32)
-if_ok (Ok reply) f = f reply refl
-if_ok (Err e) f = tt
+if_ok : (r : Result (List ℕ) Refusal) → ((reply : List ℕ) → r ≡ Ok reply → length reply < 2 ^ 32) → AllByRecursion IsShortItem (items_of r)
+if_ok (Ok reply) f = (tt, (f reply refl, (tt, tt)))
+if_ok (Err e) f = (tt, tt)
 
-reply_short : (method : Method) (s : InstanceState) (request : List ℕ) → WithinLimits s → IsShortRequest request → IfOk (reply_to method s request) (λ bytes. length bytes < 2 ^ 32)
+reply_short : (method : Method) (s : InstanceState) (request : List ℕ) → WithinLimits s → IsShortRequest request → AllByRecursion IsShortItem (items_of (reply_to method s request))
 reply_short FindMissingBlobs s request w short = if_ok (reply_to FindMissingBlobs s request) (λ reply h. find_missing_short s.name s.visible request reply short h)
 reply_short BatchUpdateBlobs s request w short = if_ok (reply_to BatchUpdateBlobs s request) (λ reply h. batch_update_short s.name s.quota request reply short h)
 reply_short BatchReadBlobs s request w short = if_ok (reply_to BatchReadBlobs s request) (λ reply h. batch_read_short s.name s.visible request reply w.texts.named short h)
 reply_short GetCapabilities s request w short = if_ok (reply_to GetCapabilities s request) (λ reply h. get_capabilities_short s.name s.slots request reply h)
-reply_short GetTree s request w short = tt
-reply_short GetActionResult s request w short = tt
-reply_short UpdateActionResult s request w short = tt
-reply_short Execute s request w short = tt
-reply_short WaitExecution s request w short = tt
-reply_short Read s request w short = tt
-reply_short Write s request w short = tt
-reply_short QueryWriteStatus s request w short = tt
+reply_short QueryWriteStatus s request w short = if_ok (reply_to QueryWriteStatus s request) (λ reply h. query_short s.name s.quota s.visible s.uploads request reply w.quota w.uploads h)
+reply_short GetTree s request w short = (tt, tt)
+reply_short GetActionResult s request w short = (tt, tt)
+reply_short UpdateActionResult s request w short = (tt, tt)
+reply_short Execute s request w short = (tt, tt)
+reply_short WaitExecution s request w short = (tt, tt)
+reply_short Read s request w short = (tt, tt)
+reply_short Write s request w short = (tt, tt)
+
+-- ---- ranges
+
+until_within : (limit from size : ℕ) → until_of limit from size ≤ size
+until_within limit from size = go (eqb limit 0) where
+  go : (b : Bool) → cond b size (min size (from + limit)) ≤ size
+  go true = omega arith
+  go false = omega arith
+
+range_within : (asked : ReadAsked) (o : Option (List ℕ)) (source : SourceValue) → range_asked asked o ≡ Ok source → source.until ≤ length source.text
+range_within asked None source h = absurd (cc)
+range_within asked (Some text) source h =
+    let from = bind_ok (place_of asked.offset (length text)) _ source h in
+    let e = ok_is (record { digest = asked.digest; text = text; from = from.0; until = until_of asked.limit from.0 (length text) }) source from.2 in
+    rw (← e) (until_within asked.limit from.0 (length text))
+
+-- what a Read gives ends within its text
+pub read_within : (own : List ℕ) (visible : List Blob) (request : List ℕ) (source : SourceValue) → read_answer own visible request ≡ Ok source → source.until ≤ length source.text
+read_within own visible request source h =
+    let asked = bind_ok (read_asked own request) _ source h in
+    range_within asked.0 (seen asked.0.digest visible) source asked.2
+
+read_short : (r : Result SourceValue Refusal) → ((source : SourceValue) → r ≡ Ok source → source.until ≤ length source.text) → AllByRecursion IsShortItem (read_items r)
+read_short (Err refusal) f = (tt, tt)
+read_short (Ok source) f = (tt, go (nat_lt source.from source.until) refl) where
+  go : (b : Bool) → nat_lt source.from source.until ≡ b → AllByRecursion IsShortItem (cond b (gives source ∷ []) [] ++ ends ∷ [])
+  go true is = (record { some = ltb-true source.from source.until is; within = f source refl }, (tt, tt))
+  go false is = (tt, tt)
+
+items_short : (method : Method) (s : InstanceState) (request : List ℕ) → WithinLimits s → IsShortRequest request → AllByRecursion IsShortItem (items_to method s request)
+items_short Read s request w short = read_short (read_answer s.name s.visible request) (read_within s.name s.visible request)
+items_short FindMissingBlobs s request w short = reply_short FindMissingBlobs s request w short
+items_short BatchUpdateBlobs s request w short = reply_short BatchUpdateBlobs s request w short
+items_short BatchReadBlobs s request w short = reply_short BatchReadBlobs s request w short
+items_short GetCapabilities s request w short = reply_short GetCapabilities s request w short
+items_short QueryWriteStatus s request w short = reply_short QueryWriteStatus s request w short
+items_short GetTree s request w short = (tt, tt)
+items_short GetActionResult s request w short = (tt, tt)
+items_short UpdateActionResult s request w short = (tt, tt)
+items_short Execute s request w short = (tt, tt)
+items_short WaitExecution s request w short = (tt, tt)
+items_short Write s request w short = (tt, tt)
+
+-- ---- events
 
 head_short : (id : CallId) (method : Method) (o : Option CallValue) → AllByRecursion IsShortReply (at_head id method o).replies
 head_short id method (Some call) = tt
 head_short id method None = go (is_served method) where
-  go : (b : Bool) → AllByRecursion IsShortReply (cond b (goes_on id (record { method = method; message = None })) (record { replies = reply_with id (Err UnknownMethod); changes = [] })).replies
+  go : (b : Bool) → AllByRecursion IsShortReply (cond b (goes_on id (record { method = method; progress = waits })) (record { replies = reply_with id (Err UnknownMethod); changes = [] })).replies
   go true = tt
-  go false = (tt, tt)
+  go false = ((tt, tt), tt)
 
-message_short : (id : CallId) (bytes : List ℕ) (o : Option CallValue) → AllByRecursion IsShortReply (at_message id bytes o).replies
-message_short id bytes None = tt
-message_short id bytes (Some call) = go call.message where
-  go : (kept : Option (List ℕ)) → AllByRecursion IsShortReply (with_message id call.method bytes kept).replies
-  go None = tt
-  go (Some first) = (tt, tt)
+first_written_short : (id : CallId) (method : Method) (changes : List Change) (r : Result WrittenValue Refusal) → ((reply : List ℕ) → r ≡ Ok (Writing.Answered reply) → length reply < 2 ^ 32)
+    → AllByRecursion IsShortReply (first_written id method changes r).replies
+first_written_short id method changes (Ok (Writing.Goes call)) f = tt
+first_written_short id method changes (Ok (Writing.Answered reply)) f = ((tt, (f reply refl, (tt, tt))), tt)
+first_written_short id method changes (Err refusal) f = ((tt, tt), tt)
+
+next_written_short : (id : CallId) (changes : List Change) (r : Result (Option (List ℕ)) Refusal) → ((reply : List ℕ) → r ≡ Ok (Some reply) → length reply < 2 ^ 32)
+    → AllByRecursion IsShortReply (next_written id changes r).replies
+next_written_short id changes (Ok None) f = tt
+next_written_short id changes (Ok (Some reply)) f = ((tt, (f reply refl, (tt, tt))), tt)
+next_written_short id changes (Err refusal) f = ((tt, tt), tt)
+
+first_message_short : (s : InstanceState) (id : CallId) (method : Method) (bytes : List ℕ) → AllByRecursion IsShortReply (with_first s id method bytes).replies
+first_message_short s id Write bytes =
+    first_written_short id Write (first_changes s bytes) (first_outcome s bytes) (λ reply h. first_short s.name s.quota s.moment (Rattle.instance_core.specs.Writes.write_state s) bytes reply h)
+first_message_short s id FindMissingBlobs bytes = tt
+first_message_short s id BatchUpdateBlobs bytes = tt
+first_message_short s id BatchReadBlobs bytes = tt
+first_message_short s id GetTree bytes = tt
+first_message_short s id GetActionResult bytes = tt
+first_message_short s id UpdateActionResult bytes = tt
+first_message_short s id Execute bytes = tt
+first_message_short s id WaitExecution bytes = tt
+first_message_short s id GetCapabilities bytes = tt
+first_message_short s id Read bytes = tt
+first_message_short s id QueryWriteStatus bytes = tt
+
+message_short : (s : InstanceState) (id : CallId) (bytes : List ℕ) (o : Option CallValue) → IfSome o (λ call. IsShortProgress call.progress) → AllByRecursion IsShortReply (at_message s id bytes o).replies
+message_short s id bytes None h = tt
+message_short s id bytes (Some call) h = go call.progress h where
+  go : (progress : ProgressValue) → IsShortProgress progress → AllByRecursion IsShortReply (with_message s id call.method bytes progress).replies
+  go waits h = first_message_short s id call.method bytes
+  go (has first) h = ((tt, tt), tt)
+  go (writes write) h = next_written_short id (next_changes s write bytes) (next_outcome s write bytes) (λ reply answered. next_short write s.quota s.moment s.uploads bytes reply h answered)
 
 fault_short : (id : CallId) (refusal : Refusal) (o : Option CallValue) → AllByRecursion IsShortReply (at_fault id refusal o).replies
 fault_short id refusal None = tt
-fault_short id refusal (Some call) = (tt, tt)
+fault_short id refusal (Some call) = ((tt, tt), tt)
 
-end_short : (s : InstanceState) (id : CallId) (o : Option CallValue) → WithinLimits s → IfSome o (λ call. IfSome call.message IsShortRequest) → AllByRecursion IsShortReply (at_end s id o).replies
+end_short : (s : InstanceState) (id : CallId) (o : Option CallValue) → WithinLimits s → IfSome o (λ call. IsShortProgress call.progress) → AllByRecursion IsShortReply (at_end s id o).replies
 end_short s id None w h = tt
-end_short s id (Some call) w h = go call.message h where
-  go : (kept : Option (List ℕ)) → IfSome kept IsShortRequest → AllByRecursion IsShortReply (with_request s id call.method kept).replies
-  go None h = (tt, tt)
-  go (Some request) h = (reply_short call.method s request w h, tt)
+end_short s id (Some call) w h = go call.progress h where
+  go : (progress : ProgressValue) → IsShortProgress progress → AllByRecursion IsShortReply (with_request s id call.method progress).replies
+  go waits h = ((tt, tt), tt)
+  go (has request) h = (items_short call.method s request w h, tt)
+  go (writes write) h = ((tt, (unfinished_short s.quota write.key s.uploads w.quota w.uploads, (tt, tt))), tt)
 
-found_short : (id : CallId) (calls : Calls) → KeepShort calls → IfSome (call_at id calls) (λ call. IfSome call.message IsShortRequest)
+-- what is kept of a call is short
+pub found_short : (id : CallId) (calls : Calls) → KeepShort calls → IfSome (call_at id calls) (λ call. IsShortProgress call.progress)
 found_short id [] h = tt
 found_short id (c ∷ cs) h = go (same_call id c.0) (found_short id cs h.1) where
-  go : (b : Bool) → IfSome (call_at id cs) (λ call. IfSome call.message IsShortRequest) → IfSome (cond b (Some c.1) (call_at id cs)) (λ call. IfSome call.message IsShortRequest)
+  go : (b : Bool) → IfSome (call_at id cs) (λ call. IsShortProgress call.progress) → IfSome (cond b (Some c.1) (call_at id cs)) (λ call. IsShortProgress call.progress)
   go true ih = h.0
   go false ih = ih
 
 pub replies_short : (s : InstanceState) (event : CallEventValue) → WithinLimits s → AllByRecursion IsShortReply (answer s event).replies
 replies_short s (head id method) w = head_short id method (call_at id s.calls)
-replies_short s (message id bytes) w = message_short id bytes (call_at id s.calls)
+replies_short s (message id bytes) w = message_short s id bytes (call_at id s.calls) (found_short id s.calls w.messages)
 replies_short s (fault id refusal) w = fault_short id refusal (call_at id s.calls)
 replies_short s (end id) w = end_short s id (call_at id s.calls) w (found_short id s.calls w.messages)
 replies_short s (cancel id) w = tt
+replies_short s tick w = tt
 
-pub shown_short : (r : Result (Vec Reply Global) AllocError) (rs : List ReplyValue) → IfOk r (λ replies. map reply_shown replies.items ≡ rs) → AllByRecursion IsShortReply rs → IfOk r (λ replies. AllByRecursion IsShortReply (map reply_shown replies.items))
-shown_short (Ok replies) rs is all = rw is all
-shown_short (Err e) rs is all = tt
+pub shown_short : (p : Slots) (r : Result (Vec Reply Global) AllocError) (rs : List ReplyValue) → IfOk r (λ replies. map (reply_shown p) replies.items ≡ rs) → AllByRecursion IsShortReply rs
+    → IfOk r (λ replies. AllByRecursion IsShortReply (map (reply_shown p) replies.items))
+shown_short p (Ok replies) rs is all = rw is all
+shown_short p (Err e) rs is all = tt

@@ -1,6 +1,10 @@
 mod Entries
 mod Parts
+mod Items
 mod Sizes
 mod Short
+mod NameSizes
+mod Told
+mod Writes
+mod Ranges
 pub mod Events
-mod Kept

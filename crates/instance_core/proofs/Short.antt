@@ -13,7 +13,7 @@ use Rattle.message_fields.specs.Parts.{text_for, each_field, string_field, int64
 use Rattle.reapi_messages.specs.Digests.{DigestValue, digest_of, digest_records}
 use Rattle.reapi_messages.specs.Statuses.{StatusValue, status_records}
 use Rattle.reapi_messages.specs.Batches.{UpdateBlobRequestValue, read_blob_response_records, batch_read_blobs_request_of, update_blob_request_of, batch_update_blobs_request_of, update_blob_response_records}
-use Rattle.call_status.specs.declared.refusal.Refusal.TheVariants.{UnknownMethod, CompressedMessage, MessageTooLarge, MessageCutOff, NoMessage, MoreThanOneMessage, MalformedMessage, UnknownInstance, UnsupportedDigestFunction, UnsupportedCompressor, BadDigest, BatchTooLarge, DigestDoesNotMatch, QuotaExceeded, BlobNotFound}
+use Rattle.call_status.specs.declared.refusal.Refusal.TheVariants.{UnknownMethod, CompressedMessage, MessageTooLarge, MessageCutOff, NoMessage, MoreThanOneMessage, MalformedMessage, UnknownInstance, UnsupportedDigestFunction, UnsupportedCompressor, BadDigest, BatchTooLarge, DigestDoesNotMatch, QuotaExceeded, BlobNotFound, BadResourceName, NegativeLimit, OffsetOutOfRange, WrongOffset, TooManyUploads, UploadNotFound}
 use Rattle.call_status.specs.Status.{code_of, text_of}
 use Rattle.cas_service.specs.Statuses.{ok_status, refused_status, status_of_result}
 use Rattle.cas_service.specs.BatchUpdate.{blobs_sent, sent_size, stored_under, update_response, update_reply, batch_update_reply}
@@ -199,6 +199,12 @@ code_small BatchTooLarge = omega arith
 code_small DigestDoesNotMatch = omega arith
 code_small QuotaExceeded = omega arith
 code_small BlobNotFound = omega arith
+code_small BadResourceName = omega arith
+code_small NegativeLimit = omega arith
+code_small OffsetOutOfRange = omega arith
+code_small WrongOffset = omega arith
+code_small TooManyUploads = omega arith
+code_small UploadNotFound = omega arith
 
 text_small : (r : Refusal) → length (text_of r) ≤ 40
 text_small UnknownMethod = omega arith
@@ -216,6 +222,12 @@ text_small BatchTooLarge = omega arith
 text_small DigestDoesNotMatch = omega arith
 text_small QuotaExceeded = omega arith
 text_small BlobNotFound = omega arith
+text_small BadResourceName = omega arith
+text_small NegativeLimit = omega arith
+text_small OffsetOutOfRange = omega arith
+text_small WrongOffset = omega arith
+text_small TooManyUploads = omega arith
+text_small UploadNotFound = omega arith
 
 plain_status_written : (n : ℕ) (m : List ℕ) → n < 2 ^ 64 → length m ≤ 40 → length (text_for status_records (record { code = pos n; message = m; details = [] })) ≤ 80
 plain_status_written n m fits small =

@@ -1,15 +1,25 @@
 -- The calls in course of an instance.
-use Rattle.std.specs.Prelude.{ℕ, ◌≤◌, Bool, ◌==◌, ◌&&◌, if◌then◌else◌, List, [], ◌∷◌, length, Option, IfSome}
+use Rattle.std.specs.Prelude.{ℕ, ◌≤◌, ◌<◌, ◌^◌, Bool, ◌==◌, ◌&&◌, if◌then◌else◌, List, [], ◌∷◌, length, Option}
 use Rattle.std.specs.List.{AllByRecursion, IsDistinct}
 use Rattle.std.specs.Map.{lookup, remove_entry, keys_of}
 use Rattle.call_methods.specs.declared.method.Method.{Method}
 use Rattle.call_status.specs.declared.refusal.Refusal.{Refusal}
+use Rattle.bytestream.specs.Writing.{OpenWriteValue}
 use Rattle.instance_core.specs.declared.event.CallId.{CallId}
 
--- a call in course: its method, and the message of its request where that has come
+-- how much of a call's request has come
+pub data ProgressValue : Type 0 where
+  -- nothing
+  waits : ProgressValue
+  -- its message
+  has : List ℕ → ProgressValue
+  -- messages of a Write, of which the first named an upload
+  writes : OpenWriteValue → ProgressValue
+
+-- a call in course
 pub record CallValue : Type 0 where
   pub method : Method
-  pub message : Option (List ℕ)
+  pub progress : ProgressValue
 
 abbrev pub same_call : CallId → CallId → Bool
 same_call a b = a.connection == b.connection && a.stream == b.stream
@@ -30,13 +40,14 @@ abbrev pub without_call : CallId → Calls → Calls
 without_call id calls = remove_entry (same_call id) calls
 
 -- what happens to a call: it begins, a whole message of its request comes, its data are no messages, its request
--- ends, or it is given up
+-- ends, or it is given up; and time passes
 pub data CallEventValue : Type 0 where
   head : CallId → Method → CallEventValue
   message : CallId → List ℕ → CallEventValue
   fault : CallId → Refusal → CallEventValue
   end : CallId → CallEventValue
   cancel : CallId → CallEventValue
+  tick : CallEventValue
 
 -- a message of a request has at most 4,194,304 bytes
 abbrev pub IsShortRequest : List ℕ → Type 0
@@ -46,9 +57,15 @@ abbrev pub IsShortEvent : CallEventValue → Type 0
 IsShortEvent (message id bytes) = IsShortRequest bytes
 IsShortEvent _ = Unit {0}
 
--- no message that is kept is longer
+-- no message that is kept is longer, and the size of an upload that is written can be told (bytestream.proto,
+-- committed_size)
+abbrev pub IsShortProgress : ProgressValue → Type 0
+IsShortProgress waits = Unit {0}
+IsShortProgress (has bytes) = IsShortRequest bytes
+IsShortProgress (writes write) = write.key.digest.size < 2 ^ 63
+
 abbrev pub KeepShort : Calls → Type 0
-KeepShort calls = AllByRecursion (λ (c : CallId × CallValue). IfSome c.1.message IsShortRequest) calls
+KeepShort calls = AllByRecursion (λ (c : CallId × CallValue). IsShortProgress c.1.progress) calls
 
 -- no call stands twice, and no message that is kept is too long
 pub record AreInCourse (calls : Calls) : Type 0 where

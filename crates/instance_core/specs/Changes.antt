@@ -2,6 +2,8 @@
 use Rattle.std.specs.Prelude.{◌≡◌, List, [], ◌∷◌, ◌++◌}
 use Rattle.cas_service.specs.Changes as Texts
 use Rattle.instance_core.specs.declared.event.CallId.{CallId}
+use Rattle.uploads.specs.Uploads.{unexpired}
+use Rattle.bytestream.specs.Writing.{WriteState}
 use Rattle.instance_core.specs.Calls.{CallValue, with_call, without_call}
 use Rattle.instance_core.specs.State.{InstanceState, most_blobs}
 
@@ -12,11 +14,17 @@ pub data Change : Type 0 where
   Goes : CallId → CallValue → Change
   -- a call ends
   Ends : CallId → Change
+  -- a message of a Write leaves these texts and uploads
+  Wrote : WriteState → Change
+  -- uploads that were not written to for long are forgotten
+  Expires : Change
 
 abbrev pub change_made : Change → InstanceState → InstanceState
 change_made (Text c) s = record s { visible = Texts.change_made most_blobs s.quota c s.visible }
 change_made (Goes id call) s = record s { calls = with_call id call s.calls }
 change_made (Ends id) s = record s { calls = without_call id s.calls }
+change_made (Wrote w) s = record s { visible = w.visible; uploads = w.uploads }
+change_made Expires s = record s { uploads = unexpired s.moment s.uploads }
 
 abbrev pub changed : List Change → InstanceState → InstanceState
 changed [] s = s

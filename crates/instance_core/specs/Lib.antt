@@ -4,5 +4,8 @@ pub mod Slots
 pub mod Capabilities
 pub mod Methods
 pub mod Changes
+pub mod Replies
+pub mod Writes
 pub mod Answer
 pub mod Shown
+pub mod Given

@@ -1,5 +1,5 @@
--- Calls, events and replies as plain values.
-use Rattle.std.specs.Prelude.{◌≡◌, ℕ, List, map, string_bytes, Result, Ok, Err, IfOk, OnOk}
+-- Calls, events and replies as plain values, through the pool that has the texts of ranges.
+use Rattle.std.specs.Prelude.{◌≡◌, ℕ, List, map, string_bytes, Result, Ok, Err, IfOk, OnOk, OnErr}
 use Rattle.std.specs.List.{AllByRecursion}
 use Rattle.std.specs.declared.alloc.AllocError.{AllocError}
 use Rattle.std.specs.declared.alloc.Global.{Global}
@@ -7,19 +7,25 @@ use Rattle.std.specs.declared.vec.Vec.{Vec}
 use Rattle.call_status.specs.declared.refusal.Refusal.{Refusal}
 use Rattle.instance_core.specs.declared.event.CallEvent.{CallEvent}
 use Rattle.instance_core.specs.declared.event.CallEvent.TheVariants as Code
+use Rattle.instance_core.specs.declared.event.GivenRange.{GivenRange}
 use Rattle.instance_core.specs.declared.event.Reply.{Reply}
-use Rattle.instance_core.specs.declared.event.Outcome.{Outcome}
-use Rattle.instance_core.specs.declared.event.Outcome.TheVariants.{Message, Refused}
-use Rattle.instance_core.specs.Calls.{Calls, CallEventValue, head, message, fault, end, cancel}
-use Rattle.instance_core.specs.Answer.{Answer, ReplyValue, IsShortReply}
-use Rattle.instance_core.specs.Changes.{changed}
+use Rattle.instance_core.specs.declared.event.ReplyItem.{ReplyItem}
+use Rattle.instance_core.specs.declared.event.ReplyItem.TheVariants as Item
+use Rattle.instance_core.specs.declared.calls.Progress.{Progress}
+use Rattle.instance_core.specs.declared.calls.Progress.TheVariants as Part
+use Rattle.instance_core.specs.Calls.{Calls, ProgressValue, waits, has, writes, CallEventValue, head, message, fault, end, cancel, tick}
+use Rattle.instance_core.specs.Replies.{ReplyItemValue, begins, says, gives, ends, refuses, ReplyValue, IsShortReply}
+use Rattle.instance_core.specs.Answer.{Answer}
+use Rattle.instance_core.specs.Changes.{Change, changed, MadeInPart}
 use Rattle.instance_core.specs.State.{InstanceState}
-use Rattle.instance_core.specs.Slots.{InstanceSlots}
-use Rattle.instance_core.specs.declared.methods.Settings.{Settings}
-use Rattle.instance_view.specs.Visible.{Blob}
+use Rattle.instance_core.specs.Slots.{InstanceSlots, state_in}
+use Rattle.instance_core.specs.declared.contents.Settings.{Settings}
+use Rattle.instance_core.specs.declared.contents.Contents.{Contents}
+use Rattle.blob_pool.specs.Held.{Slots, text_at}
 use Rattle.instance_view.specs.Shown.{ViewValue}
-use Rattle.cas_service.specs.declared.error.CallError.{CallError}
-use Rattle.cas_service.specs.declared.error.CallError.TheVariants as CallFault
+use Rattle.uploads.specs.Uploads.{UploadList}
+use Rattle.bytestream.specs.Reading.{SourceValue}
+use Rattle.bytestream.specs.Shown.{open_write_shown}
 
 abbrev pub event_shown : CallEvent → CallEventValue
 event_shown (Code.Head id method) = head id method
@@ -27,35 +33,56 @@ event_shown (Code.Message id bytes) = message id bytes.items
 event_shown (Code.Fault id refusal) = fault id refusal
 event_shown (Code.End id) = end id
 event_shown (Code.Cancel id) = cancel id
+event_shown Code.Tick = tick
 
-abbrev pub outcome_shown : Outcome → Result (List ℕ) Refusal
-outcome_shown (Message bytes) = Ok bytes.items
-outcome_shown (Refused refusal) = Err refusal
+abbrev pub progress_shown : Progress → ProgressValue
+progress_shown Part.Waits = waits
+progress_shown (Part.Has bytes) = has bytes.items
+progress_shown (Part.Writes write) = writes (open_write_shown write)
 
-abbrev pub reply_shown : Reply → ReplyValue
-reply_shown reply = record { call = reply.call; outcome = outcome_shown reply.outcome }
+-- the range that is found in a pool
+abbrev pub range_shown : Slots → GivenRange → SourceValue
+range_shown p range = record { digest = range.digest; text = text_at p range.text; from = range.from; until = range.until }
 
--- these replies are given
-abbrev pub Gives : Result (Vec Reply Global) AllocError → List ReplyValue → Type 0
-Gives result rs = IfOk result (λ replies. map reply_shown replies.items ≡ rs)
+abbrev pub item_shown : Slots → ReplyItem → ReplyItemValue
+item_shown p Item.Begins = begins
+item_shown p (Item.Says bytes) = says bytes.items
+item_shown p (Item.Gives range) = gives (range_shown p range)
+item_shown p Item.Ends = ends
+item_shown p (Item.Refuses refusal) = refuses refusal
+
+abbrev pub reply_shown : Slots → Reply → ReplyValue
+reply_shown p reply = record { call = reply.call; items = map (item_shown p) reply.items.items }
+
+abbrev pub outcome_shown : Result (Vec ℕ Global) Refusal → Result (List ℕ) Refusal
+outcome_shown (Ok bytes) = Ok bytes.items
+outcome_shown (Err refusal) = Err refusal
+
+-- these replies are given, with the texts that their ranges find in a pool
+abbrev pub Gives : Slots → Result (Vec Reply Global) AllocError → List ReplyValue → Type 0
+Gives p result rs = IfOk result (λ replies. map (reply_shown p) replies.items ≡ rs)
 
 -- each reply that is given is short
-abbrev pub GivesShort : Result (Vec Reply Global) AllocError → Type 0
-GivesShort result = IfOk result (λ replies. AllByRecursion IsShortReply (map reply_shown replies.items))
+abbrev pub GivesShort : Slots → Result (Vec Reply Global) AllocError → Type 0
+GivesShort p result = IfOk result (λ replies. AllByRecursion IsShortReply (map (reply_shown p) replies.items))
+
+abbrev pub with_calls : Calls → InstanceState → InstanceState
+with_calls calls s = record s { calls = calls }
 
 -- the answer's changes are made, where it changes calls alone
 abbrev pub ChangesCalls : Result (Vec Reply Global) AllocError → Answer → Calls → Calls → Type 0
-ChangesCalls result a old new = (s : InstanceState) → OnOk result (record s { calls = new } ≡ changed a.changes (record s { calls = old }))
+ChangesCalls result a old new = (s : InstanceState) → OnOk result (with_calls new s ≡ changed a.changes (with_calls old s))
 
 -- what an instance is configured as, and what it keeps
-abbrev pub slots_of : Settings → ViewValue → Calls → InstanceSlots
-slots_of settings view calls = record { name = string_bytes settings.name; quota = settings.quota; slots = settings.slots; view = view; calls = calls }
+abbrev pub slots_of : Settings → ℕ → ViewValue → UploadList → Calls → InstanceSlots
+slots_of settings moment view uploads calls =
+    record { name = string_bytes settings.name; quota = settings.quota; slots = settings.slots; moment = moment; view = view; uploads = uploads; calls = calls }
 
-abbrev pub state_of : Settings → List Blob → Calls → InstanceState
-state_of settings visible calls = record { name = string_bytes settings.name; quota = settings.quota; slots = settings.slots; visible = visible; calls = calls }
+-- the state of an instance that is configured so, with contents whose texts stand in a pool
+abbrev pub state_of : Settings → ℕ → Slots → Contents → Calls → InstanceState
+state_of settings moment p contents calls = state_in p (slots_of settings moment contents.view contents.uploads calls)
 
--- P, if the call was answered: by a reply, or by a refusal
-abbrev pub IfAnswered : {A : Type 0} → Result A CallError → Type 0 → Type 0
-IfAnswered (Ok reply) P = P
-IfAnswered (Err (CallFault.Refused refusal)) P = P
-IfAnswered (Err CallFault.NoMemory) P = Unit {0}
+-- the changes are made, and for want of memory a front of them
+pub record Makes (result : Result (Vec Reply Global) AllocError) (changes : List Change) (old new : InstanceState) : Type 0 where
+  pub whole : OnOk result (new ≡ changed changes old)
+  pub memory : OnErr result (MadeInPart changes old new)

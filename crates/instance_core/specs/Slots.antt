@@ -4,6 +4,7 @@ use Rattle.std.specs.Prelude.{ℕ, List}
 use Rattle.blob_pool.specs.Held.{Slots}
 use Rattle.blob_pool.specs.Moves.{Holders, AreHeld}
 use Rattle.instance_view.specs.Shown.{ViewValue, shown, holders}
+use Rattle.uploads.specs.Uploads.{UploadList}
 use Rattle.instance_core.specs.Calls.{Calls}
 use Rattle.instance_core.specs.State.{InstanceState, WithinLimits}
 
@@ -11,12 +12,14 @@ pub record InstanceSlots : Type 0 where
   pub name : List ℕ
   pub quota : ℕ
   pub slots : ℕ
+  pub moment : ℕ
   pub view : ViewValue
+  pub uploads : UploadList
   pub calls : Calls
 
 -- the instance, with the texts that its entries find in a pool
 abbrev pub state_in : Slots → InstanceSlots → InstanceState
-state_in p i = record { name = i.name; quota = i.quota; slots = i.slots; visible = shown p i.view; calls = i.calls }
+state_in p i = record { name = i.name; quota = i.quota; slots = i.slots; moment = i.moment; visible = shown p i.view; uploads = i.uploads; calls = i.calls }
 
 -- how often the instance holds each slot of the pool
 abbrev pub holders_of : InstanceSlots → Holders

@@ -1,22 +1,28 @@
 //! What an instance answers to each event of a call.
 
-ghost use Rattle.std.specs.Prelude.{◌≡◌, ◌≤◌, ◌^◌, Err, OnOk, OnErr};
+ghost use Rattle.std.specs.Prelude.{◌≡◌, ◌≤◌, ◌+◌, ◌^◌, ℕ, OnErr};
+ghost use Rattle.blob_pool.specs.Held.{Slots};
 ghost use Rattle.blob_pool.specs.Moves.{Moves};
 ghost use Rattle.instance_view.specs.Shown.{shown, holders};
 ghost use Rattle.quota_evict.specs.Kept.{AreKept};
-ghost use Rattle.instance_core.specs.Calls.{call_at, without_call, IsShortRequest, AreInCourse};
-ghost use Rattle.instance_core.specs.Changes.{MadeInPart, changed};
-ghost use Rattle.instance_core.specs.State.{InstanceState, most_blobs};
-ghost use Rattle.instance_core.specs.Answer.{ended, at_head, at_message, at_fault, at_end};
-ghost use Rattle.instance_core.specs.Shown.{Gives, ChangesCalls, state_of};
+ghost use Rattle.quota_evict.specs.Within.{Within};
+ghost use Rattle.uploads.specs.Uploads.{WithinLimits};
+ghost use Rattle.instance_core.specs.Calls.{call_at, IsShortRequest, AreInCourse};
+ghost use Rattle.instance_core.specs.State.{most_blobs};
+ghost use Rattle.instance_core.specs.Answer.{at_head, at_message, at_fault, at_end};
+ghost use Rattle.instance_core.specs.Shown.{Gives, ChangesCalls, Makes, state_of};
+ghost use Rattle.instance_core.specs.Given.{holders_given};
 
-use crate::calls::{Call, Calls};
-use crate::event::{CallId, Outcome, Reply};
-use crate::methods::{Settings, answer_request, is_served, reply_with};
+use crate::calls::{Call, Calls, Progress};
+use crate::contents::{Contents, Settings};
+use crate::event::{CallId, Reply};
+use crate::methods::{answer_request, is_served};
+use crate::replies::reply_with;
+use crate::writing::{finish, on_first_part, settle_next};
 use blob_pool::Pool;
+use bytestream::{ended_unfinished, write_next};
 use call_methods::Method;
 use call_status::Refusal;
-use instance_view::View;
 use std::alloc::{AllocError, Global};
 
 /// A call begins.
@@ -26,7 +32,9 @@ pub fn on_head(
     id: CallId,
     method: Method,
 ) -> Result<Vec<Reply>, AllocError>
-    ensures replies { Gives result (at_head id method (call_at id calls.old)).replies }
+    ensures replies { (p : Slots) →
+        Gives p result (at_head id method (call_at id calls.old)).replies }
+    ensures given { (k : ℕ) → holders_given result k ≡ 0 }
     ensures changed { ChangesCalls result (at_head id method (call_at id calls.old))
         calls.old calls.new }
     ensures err { OnErr result (calls.new ≡ calls.old) }
@@ -36,53 +44,73 @@ pub fn on_head(
         return Ok(Vec::new(alloc));
     }
     if !is_served(method) {
-        return reply_with(alloc, id, Outcome::Refused(Refusal::UnknownMethod));
+        return reply_with(alloc, id, Err(Refusal::UnknownMethod));
     }
-    calls.put(id, Call::new(method))?;
+    calls.put(id, Call::new(method, Progress::Waits))?;
     Ok(Vec::new(alloc))
 }
 
-/// A whole message of a request comes.
+/// A whole message of a request comes: that of a `Write` is carried out, the first of another method is kept.
 pub fn on_message(
     alloc: Global,
+    settings: &Settings,
+    moment: u64,
+    contents: &mut Contents,
+    pool: &mut Pool,
     calls: &mut Calls,
     id: CallId,
     message: Vec<u8>,
 ) -> Result<Vec<Reply>, AllocError>
-    requires { IsShortRequest message.items }
-    ensures replies { Gives result (at_message id message.items (call_at id calls.old)).replies }
-    ensures changed { ChangesCalls result (at_message id message.items (call_at id calls.old))
-        calls.old calls.new }
-    ensures err { OnErr result (calls.new ≡ calls.old) }
+    requires request { IsShortRequest message.items }
+    requires quota { settings.now.quota ≤ 2 ^ 40 }
+    requires limit { contents.old.view.limit ≡ most_blobs }
+    requires kept { AreKept settings.now.quota pool.old contents.old.view }
+    requires uploads { WithinLimits settings.now.quota contents.old.uploads }
+    ensures replies { let old = state_of settings.now moment pool.old contents.old calls.old in
+        let answer = at_message old id message.items (call_at id calls.old) in
+        (p : Slots) → Gives p result answer.replies }
+    ensures given { (k : ℕ) → holders_given result k ≡ 0 }
+    ensures changed { let old = state_of settings.now moment pool.old contents.old calls.old in
+        let new = state_of settings.now moment pool.new contents.new calls.new in
+        Makes result (at_message old id message.items (call_at id calls.old)).changes old new }
+    ensures moves { Moves pool.old pool.new (holders contents.old.view)
+        (holders contents.new.view) }
+    ensures limit { contents.new.view.limit ≡ most_blobs }
+    ensures within { Within most_blobs settings.now.quota (shown pool.new contents.new.view) }
+    ensures uploads { WithinLimits settings.now.quota contents.new.uploads }
     ensures calls { AreInCourse calls.new }
 {
     let Some(call) = calls.find(id) else {
         return Ok(Vec::new(alloc));
     };
-    if call.message().is_some() {
-        return refuse(alloc, calls, id, Refusal::MoreThanOneMessage);
+    match call.progress() {
+        Progress::Waits => {
+            let method = call.method();
+            match method {
+                Method::Write => {
+                    on_first_part(alloc, settings, moment, contents, pool, calls, id, &message)
+                }
+                _ => {
+                    calls.put(id, Call::new(method, Progress::Has(message)))?;
+                    Ok(Vec::new(alloc))
+                }
+            }
+        }
+        Progress::Has(_) => finish(alloc, calls, id, Err(Refusal::MoreThanOneMessage)),
+        Progress::Writes(write) => {
+            let outcome = write_next(
+                alloc,
+                settings.quota,
+                moment,
+                &mut contents.view,
+                pool,
+                &mut contents.uploads,
+                write,
+                &message,
+            );
+            settle_next(alloc, calls, id, outcome)
+        }
     }
-    let call = Call::with_message(call.method(), message);
-    calls.put(id, call)?;
-    Ok(Vec::new(alloc))
-}
-
-/// Refuses a call that is in course.
-fn refuse(
-    alloc: Global,
-    calls: &mut Calls,
-    id: CallId,
-    refusal: Refusal,
-) -> Result<Vec<Reply>, AllocError>
-    requires calls { AreInCourse calls.old }
-    ensures replies { Gives result (ended id (Err refusal)).replies }
-    ensures changed { OnOk result (calls.new ≡ without_call id calls.old) }
-    ensures err { OnErr result (calls.new ≡ calls.old) }
-    ensures calls { AreInCourse calls.new }
-{
-    let replies = reply_with(alloc, id, Outcome::Refused(refusal))?;
-    calls.end(id);
-    Ok(replies)
 }
 
 /// The data of a request are no sequence of messages.
@@ -92,7 +120,9 @@ pub fn on_fault(
     id: CallId,
     refusal: Refusal,
 ) -> Result<Vec<Reply>, AllocError>
-    ensures replies { Gives result (at_fault id refusal (call_at id calls.old)).replies }
+    ensures replies { (p : Slots) →
+        Gives p result (at_fault id refusal (call_at id calls.old)).replies }
+    ensures given { (k : ℕ) → holders_given result k ≡ 0 }
     ensures changed { ChangesCalls result (at_fault id refusal (call_at id calls.old))
         calls.old calls.new }
     ensures err { OnErr result (calls.new ≡ calls.old) }
@@ -101,41 +131,50 @@ pub fn on_fault(
     if calls.find(id).is_none() {
         return Ok(Vec::new(alloc));
     }
-    refuse(alloc, calls, id, refusal)
+    finish(alloc, calls, id, Err(refusal))
 }
 
 /// A request is at its end.
 pub fn on_end(
     alloc: Global,
     settings: &Settings,
-    view: &mut View,
+    contents: &mut Contents,
     pool: &mut Pool,
     calls: &mut Calls,
     id: CallId,
 ) -> Result<Vec<Reply>, AllocError>
     requires quota { settings.now.quota ≤ 2 ^ 40 }
-    requires limit { view.old.limit ≡ most_blobs }
-    requires kept { AreKept settings.now.quota pool.old view.old }
-    ensures replies { let old = state_of settings.now (shown pool.old view.old) calls.old in
-        Gives result (at_end old id (call_at id calls.old)).replies }
-    ensures changed { let old = state_of settings.now (shown pool.old view.old) calls.old in
-        let new = state_of settings.now (shown pool.new view.new) calls.new in
-        OnOk result (new ≡ changed (at_end old id (call_at id calls.old)).changes old) }
-    ensures memory { let old = state_of settings.now (shown pool.old view.old) calls.old in
-        let new = state_of settings.now (shown pool.new view.new) calls.new in
-        OnErr result (MadeInPart (at_end old id (call_at id calls.old)).changes old new) }
-    ensures moves { Moves pool.old pool.new (holders view.old) (holders view.new) }
-    ensures limit { view.new.limit ≡ most_blobs }
-    ensures kept { AreKept settings.now.quota pool.new view.new }
+    requires limit { contents.old.view.limit ≡ most_blobs }
+    requires kept { AreKept settings.now.quota pool.old contents.old.view }
+    requires uploads { WithinLimits settings.now.quota contents.old.uploads }
+    ensures replies { (moment : ℕ) →
+        let old = state_of settings.now moment pool.old contents.old calls.old in
+        Gives pool.new result (at_end old id (call_at id calls.old)).replies }
+    ensures changed { (moment : ℕ) →
+        let old = state_of settings.now moment pool.old contents.old calls.old in
+        let new = state_of settings.now moment pool.new contents.new calls.new in
+        Makes result (at_end old id (call_at id calls.old)).changes old new }
+    ensures moves { Moves pool.old pool.new (holders contents.old.view)
+        (λ k. holders contents.new.view k + holders_given result k) }
+    ensures limit { contents.new.view.limit ≡ most_blobs }
+    ensures within { Within most_blobs settings.now.quota (shown pool.new contents.new.view) }
+    ensures uploads { WithinLimits settings.now.quota contents.new.uploads }
     ensures calls { AreInCourse calls.new }
 {
     let Some(call) = calls.find(id) else {
         return Ok(Vec::new(alloc));
     };
-    let Some(message) = call.message() else {
-        return refuse(alloc, calls, id, Refusal::NoMessage);
-    };
-    let replies = answer_request(alloc, settings, view, pool, id, call.method(), message)?;
-    calls.end(id);
-    Ok(replies)
+    match call.progress() {
+        Progress::Waits => finish(alloc, calls, id, Err(Refusal::NoMessage)),
+        Progress::Has(message) => {
+            let method = call.method();
+            let replies = answer_request(alloc, settings, contents, pool, id, method, message)?;
+            calls.end(id);
+            Ok(replies)
+        }
+        Progress::Writes(write) => {
+            let reply = ended_unfinished(alloc, &contents.uploads, &write.key)?;
+            finish(alloc, calls, id, Ok(reply))
+        }
+    }
 }

@@ -1,54 +1,50 @@
 //! The calls in course.
 
-ghost use Rattle.std.specs.Prelude.{◌≡◌, [], Some, option_map, IfSome, OnOk, OnErr};
+ghost use Rattle.std.specs.Prelude.{◌≡◌, [], OnOk, OnErr};
 ghost use Rattle.std.specs.Option.{option_copied};
-ghost use Rattle.instance_core.specs.Calls.{call_at, with_call, without_call, IsShortRequest, AreInCourse};
+ghost use Rattle.instance_core.specs.Calls.{call_at, with_call, without_call, IsShortProgress, AreInCourse};
+ghost use Rattle.instance_core.specs.Shown.{progress_shown};
 
 use crate::event::CallId;
+use bytestream::OpenWrite;
 use call_methods::Method;
 use indexmap::IndexMap;
 use std::alloc::{AllocError, Global};
 use std::marker::Model;
 
+/// How much of a call's request has come.
+#[derive(Drop)]
+pub enum Progress {
+    /// Nothing.
+    Waits,
+    /// Its message.
+    Has(Vec<u8>),
+    /// Messages of a `Write`, of which the first named an upload.
+    Writes(OpenWrite),
+}
+
 /// A call in course.
 #[derive(Drop)]
 pub struct Call {
     method: Method,
-    /// The message of its request, where that has come.
-    message: Option<Vec<u8>>,
+    progress: Progress,
 }
 
 impl Model for Call {
-    ghost use Rattle.std.specs.Prelude.{option_map};
     ghost use Rattle.instance_core.specs.Calls.{CallValue};
+    ghost use Rattle.instance_core.specs.Shown.{progress_shown};
 
     ghost Value = { CallValue };
 
-    ghost view = { λ c. record {
-      method = c.method;
-      message = option_map (λ bytes. bytes.items) c.message;
-    } };
+    ghost view = { λ c. record { method = c.method; progress = progress_shown c.progress } };
 }
 
 impl Call {
-    /// A call whose request has not brought a message yet.
-    pub fn new(method: Method) -> Call
-        ensures { result ≡ record { method = method; message = None } }
+    /// A call of which this much has come.
+    pub fn new(method: Method, progress: Progress) -> Call
+        ensures { result ≡ record { method = method; progress = progress_shown progress } }
     {
-        Call {
-            method,
-            message: None,
-        }
-    }
-
-    /// A call whose request has brought its message.
-    pub fn with_message(method: Method, message: Vec<u8>) -> Call
-        ensures { result ≡ record { method = method; message = Some message.items } }
-    {
-        Call {
-            method,
-            message: Some(message),
-        }
+        Call { method, progress }
     }
 
     pub fn method(&self) -> Method
@@ -57,11 +53,11 @@ impl Call {
         self.method
     }
 
-    /// The message of its request, where that has come.
-    pub fn message(&self) -> Option<&[u8]>
-        ensures { option_copied result ≡ self.now.message }
+    /// How much of its request has come.
+    pub fn progress(&self) -> &Progress
+        ensures { progress_shown result.now ≡ self.now.progress }
     {
-        self.message.as_deref()
+        &self.progress
     }
 }
 
@@ -102,7 +98,7 @@ impl Calls {
 
     /// Puts a call in the place of the one of that name, or behind all others.
     pub fn put(&mut self, id: CallId, call: Call) -> Result<(), AllocError>
-        requires message { IfSome call.message IsShortRequest }
+        requires short { IsShortProgress call.progress }
         ensures ok { OnOk result (self.new ≡ with_call id call self.old) }
         ensures err { OnErr result (self.new ≡ self.old) }
         ensures calls { AreInCourse self.new }

@@ -1,7 +1,9 @@
 //! What happens to calls, and what is answered.
 
+use blob_pool::Kept;
 use call_methods::Method;
 use call_status::Refusal;
+use digest::Digest;
 
 /// What names a call.
 #[derive(Clone, Copy, PartialEq, Eq, Hash)]
@@ -10,7 +12,7 @@ pub struct CallId {
     pub stream: u32,
 }
 
-/// What happens to a call.
+/// What happens to a call, or to all of them.
 #[derive(Drop)]
 pub enum CallEvent {
     /// The call begins.
@@ -23,20 +25,38 @@ pub enum CallEvent {
     End(CallId),
     /// Nobody waits for the call any more.
     Cancel(CallId),
+    /// Time passes.
+    Tick,
 }
 
-/// How a call is answered.
+/// A range of a blob: its bytes from one place until before another, of which there is one at least. It is a holder of
+/// the blob's text in the pool, until the text is released.
+#[derive(Clone, Copy)]
+pub struct GivenRange {
+    pub digest: Digest,
+    pub text: Kept,
+    pub from: u64,
+    pub until: u64,
+}
+
+/// What is sent in answer to a call, one item after another.
 #[derive(Drop)]
-pub enum Outcome {
-    /// By one message, with status OK.
-    Message(Vec<u8>),
-    /// By a status other than OK.
-    Refused(Refusal),
+pub enum ReplyItem {
+    /// The reply begins.
+    Begins,
+    /// A whole message.
+    Says(Vec<u8>),
+    /// A range of a blob, as messages.
+    Gives(GivenRange),
+    /// The reply is whole, with status OK.
+    Ends,
+    /// The call is refused, and nothing was sent before.
+    Refuses(Refusal),
 }
 
-/// The answer to a call.
+/// What is sent now in answer to a call.
 #[derive(Drop)]
 pub struct Reply {
     pub call: CallId,
-    pub outcome: Outcome,
+    pub items: Vec<ReplyItem>,
 }

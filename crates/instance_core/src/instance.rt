@@ -1,21 +1,23 @@
-ghost use Rattle.std.specs.Prelude.{◌≡◌, ◌≤◌, ◌^◌, ℕ, [], OnOk, OnErr, IfOk};
+ghost use Rattle.std.specs.Prelude.{◌≡◌, ◌≤◌, ◌+◌, ◌^◌, ℕ, [], OnOk, OnErr, IfOk};
 ghost use Rattle.blob_pool.specs.Held.{Slots};
 ghost use Rattle.blob_pool.specs.Moves.{Moves};
-ghost use Rattle.instance_core.specs.Calls.{IsShortEvent, cancel};
-ghost use Rattle.instance_core.specs.State.{WithinLimits, opened};
+ghost use Rattle.instance_core.specs.Calls.{IsShortEvent, cancel, tick};
+ghost use Rattle.instance_core.specs.State.{WithinLimits, opened, at_moment};
 ghost use Rattle.instance_core.specs.Slots.{state_in, holders_of, IsKept};
 ghost use Rattle.instance_core.specs.Changes.{MadeInPart};
 ghost use Rattle.instance_core.specs.Answer.{answer, after};
 ghost use Rattle.instance_core.specs.Shown.{Gives, GivesShort, event_shown};
+ghost use Rattle.instance_core.specs.Given.{holders_given};
 
 use crate::answers::{on_end, on_fault, on_head, on_message};
 use crate::calls::Calls;
+use crate::contents::{Contents, Settings};
 use crate::event::{CallEvent, CallId, Reply};
-use crate::methods::Settings;
 use blob_pool::Pool;
 use instance_view::View;
 use std::alloc::{AllocError, Global};
 use std::marker::Model;
+use uploads::Uploads;
 
 /// How many texts an instance has at most.
 const MOST_BLOBS: usize = 65_536;
@@ -24,7 +26,9 @@ const MOST_BLOBS: usize = 65_536;
 #[derive(Drop)]
 pub struct Instance {
     settings: Settings,
-    view: View,
+    /// Of what happens, in milliseconds.
+    moment: u64,
+    contents: Contents,
     calls: Calls,
 }
 
@@ -38,14 +42,14 @@ impl Model for Instance {
     ghost use Rattle.instance_core.specs.State.{most_blobs};
     ghost use Rattle.instance_core.specs.Shown.{slots_of};
 
-    ghost view = { λ i. slots_of i.settings i.view i.calls };
+    ghost view = { λ i. slots_of i.settings i.moment i.contents.view i.contents.uploads i.calls };
 
     ghost invariant = { λ i.
-        (i.settings.quota ≤ 2 ^ 40) × (i.view.limit ≡ most_blobs) × AreInCourse i.calls };
+        (i.settings.quota ≤ 2 ^ 40) × (i.contents.view.limit ≡ most_blobs) × AreInCourse i.calls };
 }
 
 impl Instance {
-    /// An instance of at most 2^40 bytes that has no texts and no calls yet.
+    /// An instance of at most 2^40 bytes that has no texts, no uploads and no calls yet.
     pub fn new(alloc: Global, name: &str, quota: u64, slots: u32) -> Result<Instance, AllocError>
         requires { quota ≤ 2 ^ 40 }
         ensures opened { (p : Slots) →
@@ -58,14 +62,38 @@ impl Instance {
         let view = View::new(alloc, MOST_BLOBS)?;
         Ok(Instance {
             settings: Settings { name, quota, slots },
-            view,
+            moment: 0,
+            contents: Contents {
+                view,
+                uploads: Uploads::new(alloc),
+            },
             calls: Calls::new(alloc),
         })
     }
 
+    /// The moment of what happens, in milliseconds.
+    pub fn moment(&self) -> u64
+        ensures { result ≡ self.now.moment }
+    {
+        self.moment
+    }
+
+    /// Sets the moment of what happens from now on, in milliseconds. This takes no memory.
+    pub fn set_moment(&mut self, moment: u64)
+        ensures changed { (p : Slots) →
+            state_in p self.new ≡ at_moment moment (state_in p self.old) }
+        ensures holders { (k : ℕ) → holders_of self.new k ≡ holders_of self.old k }
+        ensures kept { (p : Slots) → IsKept p self.old → IsKept p self.new }
+        ensures config { (self.new.name ≡ self.old.name) × (self.new.quota ≡ self.old.quota)
+            × (self.new.slots ≡ self.old.slots) }
+    {
+        self.moment = moment;
+    }
+
     /// Carries out an event of a call, and gives the replies that it brings. An event of a call that is not in course,
     /// or no more, brings none. One that ends for want of memory may have made the first of its changes. Other holders
-    /// of the pool find their texts as before.
+    /// of the pool find their texts as before. The text of each range that is given is held: whoever takes the range
+    /// releases it.
     pub fn call_event(
         &mut self,
         alloc: Global,
@@ -75,26 +103,36 @@ impl Instance {
         requires short { IsShortEvent (event_shown event) }
         requires kept { IsKept pool.old self.old }
         ensures replies { let old = state_in pool.old self.old in
-            Gives result (answer old (event_shown event)).replies }
+            Gives pool.new result (answer old (event_shown event)).replies }
         ensures changed { let old = state_in pool.old self.old in
             OnOk result (state_in pool.new self.new ≡ after old (event_shown event)) }
         ensures memory { let old = state_in pool.old self.old in
             let changes = (answer old (event_shown event)).changes in
             OnErr result (MadeInPart changes old (state_in pool.new self.new)) }
-        ensures moves { Moves pool.old pool.new (holders_of self.old) (holders_of self.new) }
-        ensures kept { IsKept pool.new self.new }
+        ensures moves { Moves pool.old pool.new (holders_of self.old)
+            (λ k. holders_of self.new k + holders_given result k) }
+        ensures within { WithinLimits (state_in pool.new self.new) }
         ensures config { (self.new.name ≡ self.old.name) × (self.new.quota ≡ self.old.quota)
             × (self.new.slots ≡ self.old.slots) }
-        ensures short { GivesShort result }
+        ensures short { GivesShort pool.new result }
     {
         match event {
             CallEvent::Head(id, method) => on_head(alloc, &mut self.calls, id, method),
-            CallEvent::Message(id, message) => on_message(alloc, &mut self.calls, id, message),
+            CallEvent::Message(id, message) => on_message(
+                alloc,
+                &self.settings,
+                self.moment,
+                &mut self.contents,
+                pool,
+                &mut self.calls,
+                id,
+                message,
+            ),
             CallEvent::Fault(id, refusal) => on_fault(alloc, &mut self.calls, id, refusal),
             CallEvent::End(id) => on_end(
                 alloc,
                 &self.settings,
-                &mut self.view,
+                &mut self.contents,
                 pool,
                 &mut self.calls,
                 id,
@@ -103,7 +141,24 @@ impl Instance {
                 self.cancel(id);
                 Ok(Vec::new(alloc))
             }
+            CallEvent::Tick => {
+                self.tick();
+                Ok(Vec::new(alloc))
+            }
         }
+    }
+
+    /// Time passes: uploads whose last write is 600,000 or more milliseconds old are forgotten. This brings no reply,
+    /// takes no memory, and is the same over every pool.
+    pub fn tick(&mut self)
+        ensures replies { (p : Slots) → (answer (state_in p self.old) tick).replies ≡ [] }
+        ensures changed { (p : Slots) → state_in p self.new ≡ after (state_in p self.old) tick }
+        ensures holders { (k : ℕ) → holders_of self.new k ≡ holders_of self.old k }
+        ensures kept { (p : Slots) → IsKept p self.old → IsKept p self.new }
+        ensures config { (self.new.name ≡ self.old.name) × (self.new.quota ≡ self.old.quota)
+            × (self.new.slots ≡ self.old.slots) }
+    {
+        self.contents.uploads.expire(self.moment);
     }
 
     /// Nobody waits for the call any more: it ends without a reply. This takes no memory, and is the same over every

@@ -7,9 +7,13 @@
 mod answers;
 mod calls;
 mod capabilities;
+mod contents;
 mod event;
 mod instance;
 mod methods;
+mod reading;
+mod replies;
+mod writing;
 
-pub use event::{CallEvent, CallId, Outcome, Reply};
+pub use event::{CallEvent, CallId, GivenRange, Reply, ReplyItem};
 pub use instance::Instance;

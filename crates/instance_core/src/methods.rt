@@ -1,33 +1,33 @@
-//! What each method answers to the one message of its request.
+//! What each method but `Write` answers to the one message of its request.
 
-ghost use Rattle.std.specs.Prelude.{◌≡◌, ◌≤◌, ◌^◌, [], ◌∷◌, OnOk, OnErr};
+ghost use Rattle.std.specs.Prelude.{◌≡◌, ◌≢◌, ◌≤◌, ◌+◌, ◌^◌, ℕ, OnOk, OnErr};
+ghost use Rattle.blob_pool.specs.Held.{Slots};
 ghost use Rattle.blob_pool.specs.Moves.{Moves};
+ghost use Rattle.call_methods.specs.declared.method.Method.TheVariants.{Read};
 ghost use Rattle.instance_view.specs.Shown.{shown, holders};
 ghost use Rattle.quota_evict.specs.Kept.{AreKept};
+ghost use Rattle.quota_evict.specs.Within.{Within};
 ghost use Rattle.cas_service.specs.Answers.{Answers};
 ghost use Rattle.cas_service.specs.Changes.{MadeInPart, changed};
+ghost use Rattle.bytestream.specs.Refusals.{IfAnswered};
 ghost use Rattle.instance_core.specs.Calls.{Calls};
 ghost use Rattle.instance_core.specs.State.{most_blobs};
-ghost use Rattle.instance_core.specs.Methods.{is_served, reply_to, text_changes};
-ghost use Rattle.instance_core.specs.Answer.{reply_with};
-ghost use Rattle.instance_core.specs.Shown.{Gives, IfAnswered, state_of, outcome_shown};
+ghost use Rattle.instance_core.specs.Methods.{is_served, reply_to, items_to, text_changes};
+ghost use Rattle.instance_core.specs.Answer.{reply_with, items_sent};
+ghost use Rattle.instance_core.specs.Shown.{Gives, state_of};
+ghost use Rattle.instance_core.specs.Given.{holders_given};
 
 use crate::capabilities::get_capabilities;
-use crate::event::{CallId, Outcome, Reply};
+use crate::contents::{Contents, Settings};
+use crate::event::{CallId, Reply};
+use crate::reading::answer_read;
+use crate::replies::{refusal_in, reply_with};
 use blob_pool::Pool;
+use bytestream::query;
 use call_methods::Method;
 use call_status::Refusal;
 use cas_service::{CallError, batch_read, batch_update, find_missing};
-use instance_view::View;
 use std::alloc::{AllocError, Global};
-
-/// What an instance is configured as.
-#[derive(Drop)]
-pub struct Settings {
-    pub name: String,
-    pub quota: u64,
-    pub slots: u32,
-}
 
 /// Whether calls of the method are served.
 pub fn is_served(method: Method) -> bool
@@ -39,94 +39,159 @@ pub fn is_served(method: Method) -> bool
             | Method::BatchUpdateBlobs
             | Method::BatchReadBlobs
             | Method::GetCapabilities
+            | Method::Read
+            | Method::Write
+            | Method::QueryWriteStatus
     )
 }
 
-/// The method's own answer.
+/// The message that the method answers with.
 fn reply_to(
     alloc: Global,
     settings: &Settings,
-    view: &mut View,
+    contents: &mut Contents,
     pool: &mut Pool,
     method: Method,
     message: &[u8],
 ) -> Result<Vec<u8>, CallError>
     requires quota { settings.now.quota ≤ 2 ^ 40 }
-    requires limit { view.old.limit ≡ most_blobs }
-    requires kept { AreKept settings.now.quota pool.old view.old }
-    ensures reply { (calls : Calls) →
-        let old = state_of settings.now (shown pool.old view.old) calls in
+    requires limit { contents.old.view.limit ≡ most_blobs }
+    requires kept { AreKept settings.now.quota pool.old contents.old.view }
+    requires unread { method ≢ Read }
+    ensures reply { (moment : ℕ) (calls : Calls) →
+        let old = state_of settings.now moment pool.old contents.old calls in
         Answers (λ reply. reply.items) result (reply_to method old message.now) }
-    ensures changed { (calls : Calls) →
-        let old = state_of settings.now (shown pool.old view.old) calls in
+    ensures changed { (moment : ℕ) (calls : Calls) →
+        let old = state_of settings.now moment pool.old contents.old calls in
         let changes = text_changes method old message.now in
-        let new = shown pool.new view.new in
+        let new = shown pool.new contents.new.view in
         IfAnswered result (new ≡ changed most_blobs old.quota changes old.visible) }
-    ensures memory { (calls : Calls) →
-        let old = state_of settings.now (shown pool.old view.old) calls in
+    ensures memory { (moment : ℕ) (calls : Calls) →
+        let old = state_of settings.now moment pool.old contents.old calls in
         let changes = text_changes method old message.now in
-        let new = shown pool.new view.new in
+        let new = shown pool.new contents.new.view in
         OnErr result (MadeInPart most_blobs old.quota changes old.visible new) }
-    ensures moves { Moves pool.old pool.new (holders view.old) (holders view.new) }
-    ensures limit { view.new.limit ≡ most_blobs }
-    ensures kept { AreKept settings.now.quota pool.new view.new }
+    ensures moves { Moves pool.old pool.new (holders contents.old.view)
+        (holders contents.new.view) }
+    ensures limit { contents.new.view.limit ≡ most_blobs }
+    ensures kept { AreKept settings.now.quota pool.new contents.new.view }
+    ensures uploads { contents.new.uploads ≡ contents.old.uploads }
 {
     match method {
-        Method::FindMissingBlobs => find_missing(alloc, &settings.name, view, message),
-        Method::BatchUpdateBlobs => {
-            batch_update(alloc, &settings.name, settings.quota, view, pool, message)
+        Method::FindMissingBlobs => {
+            find_missing(alloc, &settings.name, &mut contents.view, message)
         }
-        Method::BatchReadBlobs => batch_read(alloc, &settings.name, view, pool, message),
+        Method::BatchUpdateBlobs => batch_update(
+            alloc,
+            &settings.name,
+            settings.quota,
+            &mut contents.view,
+            pool,
+            message,
+        ),
+        Method::BatchReadBlobs => {
+            batch_read(alloc, &settings.name, &mut contents.view, pool, message)
+        }
         Method::GetCapabilities => {
             get_capabilities(alloc, &settings.name, settings.slots, message)
         }
+        Method::QueryWriteStatus => query(
+            alloc,
+            &settings.name,
+            &contents.view,
+            &contents.uploads,
+            message,
+        ),
         _ => Err(CallError::Refused(Refusal::UnknownMethod)),
     }
 }
 
-/// The one reply to a call.
-pub fn reply_with(alloc: Global, call: CallId, outcome: Outcome) -> Result<Vec<Reply>, AllocError>
-    ensures { Gives result (reply_with call (outcome_shown outcome)) }
-{
-    let mut replies = Vec::new(alloc);
-    replies.push(Reply { call, outcome })?;
-    Ok(replies)
-}
-
-/// Answers a call by the one message of its request.
-pub fn answer_request(
+/// Answers a call of any method but `Read` by a message.
+fn answer_by_message(
     alloc: Global,
     settings: &Settings,
-    view: &mut View,
+    contents: &mut Contents,
     pool: &mut Pool,
     call: CallId,
     method: Method,
     message: &[u8],
 ) -> Result<Vec<Reply>, AllocError>
     requires quota { settings.now.quota ≤ 2 ^ 40 }
-    requires limit { view.old.limit ≡ most_blobs }
-    requires kept { AreKept settings.now.quota pool.old view.old }
-    ensures replies { (calls : Calls) →
-        let old = state_of settings.now (shown pool.old view.old) calls in
-        Gives result (reply_with call (reply_to method old message.now)) }
-    ensures changed { (calls : Calls) →
-        let old = state_of settings.now (shown pool.old view.old) calls in
+    requires limit { contents.old.view.limit ≡ most_blobs }
+    requires kept { AreKept settings.now.quota pool.old contents.old.view }
+    requires unread { method ≢ Read }
+    ensures replies { (moment : ℕ) (calls : Calls) →
+        let old = state_of settings.now moment pool.old contents.old calls in
+        (p : Slots) → Gives p result (reply_with call (reply_to method old message.now)) }
+    ensures given { (k : ℕ) → holders_given result k ≡ 0 }
+    ensures changed { (moment : ℕ) (calls : Calls) →
+        let old = state_of settings.now moment pool.old contents.old calls in
         let changes = text_changes method old message.now in
-        let new = shown pool.new view.new in
+        let new = shown pool.new contents.new.view in
         OnOk result (new ≡ changed most_blobs old.quota changes old.visible) }
-    ensures memory { (calls : Calls) →
-        let old = state_of settings.now (shown pool.old view.old) calls in
+    ensures memory { (moment : ℕ) (calls : Calls) →
+        let old = state_of settings.now moment pool.old contents.old calls in
         let changes = text_changes method old message.now in
-        let new = shown pool.new view.new in
+        let new = shown pool.new contents.new.view in
         OnErr result (MadeInPart most_blobs old.quota changes old.visible new) }
-    ensures moves { Moves pool.old pool.new (holders view.old) (holders view.new) }
-    ensures limit { view.new.limit ≡ most_blobs }
-    ensures kept { AreKept settings.now.quota pool.new view.new }
+    ensures moves { Moves pool.old pool.new (holders contents.old.view)
+        (holders contents.new.view) }
+    ensures limit { contents.new.view.limit ≡ most_blobs }
+    ensures kept { AreKept settings.now.quota pool.new contents.new.view }
+    ensures uploads { contents.new.uploads ≡ contents.old.uploads }
 {
-    let outcome = match reply_to(alloc, settings, view, pool, method, message) {
-        Ok(reply) => Outcome::Message(reply),
-        Err(CallError::Refused(refusal)) => Outcome::Refused(refusal),
-        Err(CallError::NoMemory) => return Err(AllocError),
-    };
-    reply_with(alloc, call, outcome)
+    match reply_to(alloc, settings, contents, pool, method, message) {
+        Ok(reply) => reply_with(alloc, call, Ok(reply)),
+        Err(error) => {
+            let refusal = refusal_in(error)?;
+            reply_with(alloc, call, Err(refusal))
+        }
+    }
+}
+
+/// Answers a call by the one message of its request. The texts of the ranges that it gives are held.
+pub fn answer_request(
+    alloc: Global,
+    settings: &Settings,
+    contents: &mut Contents,
+    pool: &mut Pool,
+    call: CallId,
+    method: Method,
+    message: &[u8],
+) -> Result<Vec<Reply>, AllocError>
+    requires quota { settings.now.quota ≤ 2 ^ 40 }
+    requires limit { contents.old.view.limit ≡ most_blobs }
+    requires kept { AreKept settings.now.quota pool.old contents.old.view }
+    ensures replies { (moment : ℕ) (calls : Calls) →
+        let old = state_of settings.now moment pool.old contents.old calls in
+        Gives pool.new result (items_sent call (items_to method old message.now)) }
+    ensures changed { (moment : ℕ) (calls : Calls) →
+        let old = state_of settings.now moment pool.old contents.old calls in
+        let changes = text_changes method old message.now in
+        let new = shown pool.new contents.new.view in
+        OnOk result (new ≡ changed most_blobs old.quota changes old.visible) }
+    ensures memory { (moment : ℕ) (calls : Calls) →
+        let old = state_of settings.now moment pool.old contents.old calls in
+        let changes = text_changes method old message.now in
+        let new = shown pool.new contents.new.view in
+        OnErr result (MadeInPart most_blobs old.quota changes old.visible new) }
+    ensures moves { Moves pool.old pool.new (holders contents.old.view)
+        (λ k. holders contents.new.view k + holders_given result k) }
+    ensures limit { contents.new.view.limit ≡ most_blobs }
+    ensures within { Within most_blobs settings.now.quota (shown pool.new contents.new.view) }
+    ensures uploads { contents.new.uploads ≡ contents.old.uploads }
+{
+    match method {
+        Method::Read => {
+            answer_read(
+                alloc,
+                &settings.name,
+                &mut contents.view,
+                pool,
+                call,
+                message,
+            )
+        }
+        _ => answer_by_message(alloc, settings, contents, pool, call, method, message),
+    }
 }

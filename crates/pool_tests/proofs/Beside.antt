@@ -1,5 +1,5 @@
 -- What an instance's doings leave of another's.
-use Rattle.std.proofs.Common.{◌≡◌, ℕ, ◌+◌, ◌<◌, ◌≤◌, ◌^◌, List, [], length, refl, sym, subst, arith}
+use Rattle.std.proofs.Common.{◌≡◌, ℕ, ◌+◌, ◌≤◌, List, [], length, refl, sym, subst, arith}
 use Rattle.blob_pool.specs.Held.{Slots, count_at}
 use Rattle.blob_pool.specs.Moves.{Moves}
 use Rattle.instance_view.specs.Visible.{Blob}

@@ -3,11 +3,13 @@
 #![tactic(auto)]
 
 mod admissions;
+mod one_digest;
 mod sharing;
 #[cfg(test)]
 mod tests;
 mod texts;
 
 pub use admissions::{keeps_the_limit, keeps_the_quota};
+pub use one_digest::both_stand;
 pub use sharing::{Upload, are_shared};
 pub use texts::comes_back;

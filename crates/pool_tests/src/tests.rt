@@ -1,4 +1,4 @@
-use crate::{Upload, are_shared, comes_back, keeps_the_limit, keeps_the_quota};
+use crate::{Upload, are_shared, both_stand, comes_back, keeps_the_limit, keeps_the_quota};
 use std::alloc::{AllocError, Global};
 use std::test::*;
 
@@ -60,6 +60,13 @@ fn lost(alloc: Global, sizes: &[usize]) -> Result<Option<usize>, AllocError> {
 #[test]
 fn texts_come_back(rt: HostRuntime) -> Result<(), Fail> {
     assert_eq!(rt; lost(rt.alloc(), &SIZES)?, None);
+    Ok(())
+}
+
+#[test]
+fn texts_beside_one_digest(rt: HostRuntime) -> Result<(), Fail> {
+    let stand = both_stand(rt.alloc())?;
+    assert!(rt; stand);
     Ok(())
 }
 

@@ -39,7 +39,7 @@ fn add_parts(pool: &Pool, hold: &Hold, most: u32, into: &mut Vec<u8>) -> Result<
 }
 
 /// Whether the text is read whole, by parts and at once.
-fn is_read(alloc: Global, pool: &Pool, hold: &Hold, text: &[u8]) -> Result<bool, AllocError>
+pub fn is_read(alloc: Global, pool: &Pool, hold: &Hold, text: &[u8]) -> Result<bool, AllocError>
     requires { 0 < count_at pool.now hold.now }
 {
     let mut copy = Vec::new(alloc);

@@ -1,3 +1,6 @@
+ghost use Rattle.grpc_sending.specs.Kept.{Look, Fit};
+
+use crate::one_byte::OneByte;
 use call_status::Refusal;
 use conn_core::*;
 use grpc_calls::{Method, ResponseBlock, Status};
@@ -50,29 +53,97 @@ fn letter(event: &CallEvent) -> u8 {
     }
 }
 
-/// Owes the answer to the call.
-fn answer(connection: &mut Connection) -> Result<(), AllocError> {
-    connection.owe_block(1, ResponseBlock::Head)?;
-    connection.owe_message(1, MESSAGE)?;
-    connection.owe_block(1, ResponseBlock::Trailers(Status::Success))
+// No range is owed in these tests: what is to be put fits any texts of sources.
+
+fn owe_block(connection: &mut Connection, block: ResponseBlock) -> Result<(), AllocError>
+    requires { (texts : Look) → Fit texts connection.old.sending.queues }
+    ensures { (texts : Look) → Fit texts connection.new.sending.queues }
+{
+    connection.owe_block(1, block)
 }
 
-/// Notes each event of calls as a letter, and each frame as a dot, and pumps.
-fn receive(connection: &mut Connection, piece: &[u8], all: &mut Vec<u8>) -> Result<(), AllocError> {
-    connection.feed(piece)?;
-    'frames: for _ in 0..1_000_000 {
-        'events: for _ in 0..1_000_000 {
-            match connection.pop_event() {
-                None => break 'events,
-                Some(event) => all.push(letter(&event))?,
-            }
+fn owe_message(connection: &mut Connection) -> Result<(), AllocError>
+    requires { (texts : Look) → Fit texts connection.old.sending.queues }
+    ensures { (texts : Look) → Fit texts connection.new.sending.queues }
+{
+    connection.owe_message(1, MESSAGE)
+}
+
+fn feed(connection: &mut Connection, piece: &[u8]) -> Result<(), AllocError>
+    requires { (texts : Look) → Fit texts connection.old.sending.queues }
+    ensures { (texts : Look) → Fit texts connection.new.sending.queues }
+{
+    connection.feed(piece)
+}
+
+fn pop_event(connection: &mut Connection) -> Option<CallEvent>
+    requires { (texts : Look) → Fit texts connection.old.sending.queues }
+    ensures { (texts : Look) → Fit texts connection.new.sending.queues }
+{
+    connection.pop_event()
+}
+
+fn read_frame(connection: &mut Connection) -> Result<bool, AllocError>
+    requires { (texts : Look) → Fit texts connection.old.sending.queues }
+    ensures { (texts : Look) → Fit texts connection.new.sending.queues }
+{
+    connection.read_frame()
+}
+
+fn pump(connection: &mut Connection)
+    requires { (texts : Look) → Fit texts connection.old.sending.queues }
+    ensures { (texts : Look) → Fit texts connection.new.sending.queues }
+{
+    connection.pump(&OneByte);
+}
+
+/// Owes the answer to the call.
+fn answer(connection: &mut Connection) -> Result<(), AllocError>
+    requires { (texts : Look) → Fit texts connection.old.sending.queues }
+    ensures { (texts : Look) → Fit texts connection.new.sending.queues }
+{
+    owe_block(connection, ResponseBlock::Head)?;
+    owe_message(connection)?;
+    owe_block(connection, ResponseBlock::Trailers(Status::Success))
+}
+
+/// Notes each event of calls that is due as a letter.
+fn note_events(connection: &mut Connection, all: &mut Vec<u8>) -> Result<(), AllocError>
+    requires { (texts : Look) → Fit texts connection.old.sending.queues }
+    ensures { (texts : Look) → Fit texts connection.new.sending.queues }
+{
+    'events: for _ in 0..1_000_000 {
+        match pop_event(connection) {
+            None => return Ok(()),
+            Some(event) => all.push(letter(&event))?,
         }
-        if !connection.read_frame()? {
-            break 'frames;
+    }
+    Ok(())
+}
+
+/// Notes each event of calls as a letter, and each frame as a dot.
+fn note_frames(connection: &mut Connection, all: &mut Vec<u8>) -> Result<(), AllocError>
+    requires { (texts : Look) → Fit texts connection.old.sending.queues }
+    ensures { (texts : Look) → Fit texts connection.new.sending.queues }
+{
+    'frames: for _ in 0..1_000_000 {
+        note_events(connection, all)?;
+        if !read_frame(connection)? {
+            return Ok(());
         }
         all.push(b'.')?;
     }
-    connection.pump();
+    Ok(())
+}
+
+/// Takes bytes, notes what they bring, and pumps.
+fn receive(connection: &mut Connection, piece: &[u8], all: &mut Vec<u8>) -> Result<(), AllocError>
+    requires { (texts : Look) → Fit texts connection.old.sending.queues }
+    ensures { (texts : Look) → Fit texts connection.new.sending.queues }
+{
+    feed(connection, piece)?;
+    note_frames(connection, all)?;
+    pump(connection);
     Ok(())
 }
 
@@ -80,17 +151,23 @@ fn receive_all(
     connection: &mut Connection,
     pieces: &[&[u8]],
     all: &mut Vec<u8>,
-) -> Result<(), AllocError> {
+) -> Result<(), AllocError>
+    requires { (texts : Look) → Fit texts connection.old.sending.queues }
+    ensures { (texts : Look) → Fit texts connection.new.sending.queues }
+{
     for piece in pieces {
         receive(connection, *piece, all)?;
     }
     Ok(())
 }
 
-fn call_and_answer(connection: &mut Connection, all: &mut Vec<u8>) -> Result<(), AllocError> {
+fn call_and_answer(connection: &mut Connection, all: &mut Vec<u8>) -> Result<(), AllocError>
+    requires { (texts : Look) → Fit texts connection.old.sending.queues }
+    ensures { (texts : Look) → Fit texts connection.new.sending.queues }
+{
     receive_all(connection, &[PREFACE, HEADERS, DATA, MESSAGE], all)?;
     answer(connection)?;
-    connection.pump();
+    pump(connection);
     Ok(())
 }
 
@@ -150,7 +227,10 @@ fn calls_of_a_connection_that_closes(rt: HostRuntime) -> Result<(), Fail> {
 }
 
 /// After these pings there is room for no further answer.
-fn fill(connection: &mut Connection, all: &mut Vec<u8>) -> Result<(), AllocError> {
+fn fill(connection: &mut Connection, all: &mut Vec<u8>) -> Result<(), AllocError>
+    requires { (texts : Look) → Fit texts connection.old.sending.queues }
+    ensures { (texts : Look) → Fit texts connection.new.sending.queues }
+{
     receive_all(connection, &[PREFACE, HEADERS], all)?;
     for _ in 0..7707 {
         receive(connection, PING, all)?;

@@ -1,3 +1,7 @@
+ghost use Rattle.std.specs.Prelude.{◌<◌, ◌^◌, length};
+ghost use Rattle.grpc_sending.specs.Kept.{Look, Fit};
+
+use crate::one_byte::OneByte;
 use call_status::Refusal;
 use grpc_calls::{ResponseBlock, Status};
 use grpc_sending::*;
@@ -38,12 +42,52 @@ const RESPONSE: &[u8] = b"\x00\x00\x15\x01\x04\x00\x00\x00\x01\x20\x88\x0f\x10\x
     \x00\x00\x08\x00\x00\x00\x00\x00\x01\x00\x00\x00\x00\x03abc\
     \x00\x00\x0f\x01\x05\x00\x00\x00\x01\x00\x0bgrpc-status\x010";
 
+// No range is owed in these tests: what is to be put fits any texts of sources.
+
+fn owe_block(streams: &Streams, sender: &mut Sender, block: ResponseBlock) -> Result<(), AllocError>
+    requires { (texts : Look) → Fit texts sender.old.queues }
+    ensures { (texts : Look) → Fit texts sender.new.queues }
+{
+    sender.owe_block(streams, 1, block)
+}
+
+fn owe_message(
+    streams: &Streams,
+    sender: &mut Sender,
+    stream: u32,
+    message: &[u8],
+) -> Result<(), AllocError>
+    requires fit { (texts : Look) → Fit texts sender.old.queues }
+    requires short { length message.now < 2 ^ 32 }
+    ensures { (texts : Look) → Fit texts sender.new.queues }
+{
+    sender.owe_message(streams, stream, message)
+}
+
+fn take_all(sender: &mut Sender)
+    requires { (texts : Look) → Fit texts sender.old.queues }
+    ensures { (texts : Look) → Fit texts sender.new.queues }
+{
+    let all = sender.pending().len();
+    sender.took(all);
+}
+
+fn pump(streams: &mut Streams, sender: &mut Sender)
+    requires { (texts : Look) → Fit texts sender.old.queues }
+    ensures { (texts : Look) → Fit texts sender.new.queues }
+{
+    sender.pump(streams, &OneByte);
+}
+
 /// Owes a response on stream 1, and a message on a stream that is not there.
-fn owe_response(streams: &Streams, sender: &mut Sender) -> Result<(), AllocError> {
-    sender.owe_block(streams, 1, ResponseBlock::Head)?;
-    sender.owe_message(streams, 1, b"abc")?;
-    sender.owe_block(streams, 1, ResponseBlock::Trailers(Status::Success))?;
-    sender.owe_message(streams, 3, b"to no stream")
+fn owe_response(streams: &Streams, sender: &mut Sender) -> Result<(), AllocError>
+    requires { (texts : Look) → Fit texts sender.old.queues }
+    ensures { (texts : Look) → Fit texts sender.new.queues }
+{
+    owe_block(streams, sender, ResponseBlock::Head)?;
+    owe_message(streams, sender, 1, b"abc")?;
+    owe_block(streams, sender, ResponseBlock::Trailers(Status::Success))?;
+    owe_message(streams, sender, 3, b"to no stream")
 }
 
 /// Whether these bytes wait, which are all taken.
@@ -55,9 +99,11 @@ fn gives(sender: &mut Sender, wanted: &[u8]) -> bool {
     sender.pending().is_empty()
 }
 
-fn sends_response(streams: &mut Streams, sender: &mut Sender) -> Result<bool, AllocError> {
+fn sends_response(streams: &mut Streams, sender: &mut Sender) -> Result<bool, AllocError>
+    requires { (texts : Look) → Fit texts sender.old.queues }
+{
     owe_response(streams, sender)?;
-    sender.pump(streams);
+    pump(streams, sender);
     Ok(gives(sender, RESPONSE) && streams.live().is_empty())
 }
 
@@ -75,9 +121,11 @@ fn a_whole_response(rt: HostRuntime) -> Result<(), Fail> {
 const REFUSAL: &[u8] = b"\x00\x00\x06\x01\x05\x00\x00\x00\x01\x20\x08\x03405\
     \x00\x00\x04\x03\x00\x00\x00\x00\x01\x00\x00\x00\x00";
 
-fn sends_refusal(streams: &mut Streams, sender: &mut Sender) -> Result<bool, AllocError> {
-    sender.owe_block(streams, 1, ResponseBlock::MethodNotAllowed)?;
-    sender.pump(streams);
+fn sends_refusal(streams: &mut Streams, sender: &mut Sender) -> Result<bool, AllocError>
+    requires { (texts : Look) → Fit texts sender.old.queues }
+{
+    owe_block(streams, sender, ResponseBlock::MethodNotAllowed)?;
+    pump(streams, sender);
     Ok(sender.pending() == REFUSAL)
 }
 
@@ -116,25 +164,29 @@ fn has_lengths(alloc: Global, bytes: &[u8], wanted: &[usize]) -> bool {
 }
 
 /// Owes a message of 100,000 bytes and an end on stream 1.
-fn owe_large(alloc: Global, streams: &Streams, sender: &mut Sender) -> Result<(), AllocError> {
+fn owe_large(alloc: Global, streams: &Streams, sender: &mut Sender) -> Result<(), AllocError>
+    requires { (texts : Look) → Fit texts sender.old.queues }
+    ensures { (texts : Look) → Fit texts sender.new.queues }
+{
     let message = vec![in alloc; 7u8; 100_000]?;
-    sender.owe_message(streams, 1, &message)?;
+    owe_message(streams, sender, 1, &message)?;
     let end = Status::Refused(Refusal::BlobNotFound);
-    sender.owe_block(streams, 1, ResponseBlock::Trailers(end))
+    owe_block(streams, sender, ResponseBlock::Trailers(end))
 }
 
 /// As many bytes more for the connection and for stream 1 as the rest of the message has.
 const UPDATES: &[u8] =
     b"\x00\x00\x04\x08\x00\x00\x00\x00\x00\x00\x00\x86\xb3\x00\x00\x04\x08\x00\x00\x00\x00\x01\x00\x00\x86\xb3";
 
-fn sends_large(alloc: Global, streams: &mut Streams, sender: &mut Sender) -> Result<bool, Fail> {
+fn sends_large(alloc: Global, streams: &mut Streams, sender: &mut Sender) -> Result<bool, Fail>
+    requires { (texts : Look) → Fit texts sender.old.queues }
+{
     owe_large(alloc, streams, sender)?;
-    sender.pump(streams);
+    pump(streams, sender);
     let first = has_lengths(alloc, sender.pending(), &[16384, 16384, 16384, 16383]);
-    let all = sender.pending().len();
-    sender.took(all);
+    take_all(sender);
     receive(alloc, streams, UPDATES)?;
-    sender.pump(streams);
+    pump(streams, sender);
     let second = has_lengths(alloc, sender.pending(), &[16384, 16384, 1702, 45]);
     Ok(first && second)
 }

@@ -12,3 +12,5 @@ mod http2_headers_tests;
 mod http2_streams_tests;
 #[cfg(test)]
 mod message_fields_tests;
+#[cfg(test)]
+mod one_byte;

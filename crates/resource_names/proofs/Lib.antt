@@ -1,2 +1,7 @@
-pub mod SegmentLemmas
-pub mod SizeLemmas
+mod SizeLemmas
+mod SegmentLemmas
+mod Divisions
+mod Digests
+mod Names
+mod ReadNames
+mod WriteNames

@@ -1,5 +1,5 @@
 -- Segments taken off the front of a text, one after another.
-use Rattle.std.proofs.Common.{◌≡◌, ℕ, ◌+◌, ◌-◌, ◌<◌, ◌≤◌, ◌==◌, Bool, true, false, List, [], ◌∷◌, ◌++◌, length, take, drop, get_or, Option, Some, None, refl, sym, ap, ◌∙◌, append_assoc, length-append, arith}
+use Rattle.std.proofs.Common.{◌≡◌, ℕ, ◌+◌, ◌-◌, ◌<◌, ◌≤◌, ◌==◌, Bool, List, [], ◌∷◌, ◌++◌, length, take, get_or, Some, None, refl, sym, ap, ◌∙◌, append_assoc, length-append, arith}
 use Rattle.std.proofs.lemmas.List.Splits.{slice_split_first, slice_split_none, length-slice_split, join_with_byte-slice_split}
 use Rattle.std.proofs.lemmas.List.Sums.{fails_before_first}
 use Rattle.std.specs.List.{position_or_len, before_first, after_first, join_with_byte, count_by}
@@ -20,7 +20,7 @@ first_of : (segments : List (List ℕ)) (n : ℕ) → length segments ≡ n + 1 
 first_of [] n h = absurd (omega arith)
 first_of (first ∷ more) n h = (first, more, refl)
 
-join-append : (first : List ℕ) (firsts : List (List ℕ)) (next : List ℕ) (more : List (List ℕ))
+pub join-append : (first : List ℕ) (firsts : List (List ℕ)) (next : List ℕ) (more : List (List ℕ))
     → join_with_byte 47 ((first ∷ firsts) ++ next ∷ more) ≡ join_with_byte 47 (first ∷ firsts) ++ 47 ∷ join_with_byte 47 (next ∷ more)
 join-append first [] next more = refl
 join-append first (second ∷ firsts) next more =

@@ -1,20 +1,19 @@
 -- What is read of the digits of a size.
-use Rattle.std.proofs.Common.{◌≡◌, ℕ, ◌<◌, ◌==◌, ◌^◌, Bool, true, false, not, ◌&&◌, ◌||◌, lit<, List, [], ◌∷◌, length, Some, None, Result, Ok, Err, cond, refl, sym, ap, ◌∙◌, arith}
+use Rattle.std.proofs.Common.{◌≡◌, ℕ, ◌<◌, ◌==◌, ◌^◌, Bool, true, false, not, ◌&&◌, ◌||◌, lit<, List, [], ◌∷◌, length, None, Err, refl, arith}
 use Rattle.std.proofs.lemmas.Bool.{and_parts}
 use Rattle.std.proofs.lemmas.Bool.Decides.{nat_tests}
 use Rattle.std.specs.Char.{digit_value}
 use Rattle.std.specs.List.{list_all, starts_with}
 use Rattle.std.specs.Prelude.{nat_lt, nat_eq, codes}
-use Rattle.std.specs.Result.{OkIff}
 use Rattle.std.specs.Str.{bytes_eq}
 use Rattle.std.proofs.lemmas.Slice.Eq.{bytes_eq-Decides}
-use Rattle.std.specs.Str.Parse.{AllDigits, IsNumeral, ParsesUnsigned, digits_value, without_leading_plus}
+use Rattle.std.specs.Str.Parse.{AllDigits, ParsesUnsigned, digits_value, without_leading_plus}
 use Rattle.resource_names.specs.Size.{is_decimal_digit, is_numeral, size_in}
 
 digit_below_ten : (byte : ℕ) → is_decimal_digit byte ≡ true → digit_value byte < 10
 digit_below_ten byte h = grind (arith, nat_tests)
 
-AllDigits-from_list_all : (text : List ℕ) → list_all is_decimal_digit text ≡ true → AllDigits 10 text
+pub AllDigits-from_list_all : (text : List ℕ) → list_all is_decimal_digit text ≡ true → AllDigits 10 text
 AllDigits-from_list_all [] h = tt
 AllDigits-from_list_all (byte ∷ text) h =
     let parts = and_parts (is_decimal_digit byte) (list_all is_decimal_digit text) h in

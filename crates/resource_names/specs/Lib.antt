@@ -2,3 +2,4 @@ pub mod Size
 pub mod Segments
 pub mod Shown
 pub mod Names
+pub mod Written

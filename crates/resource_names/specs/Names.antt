@@ -5,7 +5,7 @@ use Rattle.digest.specs.declared.Digest.{Digest}
 use Rattle.digest.specs.Text.{hash_in}
 use Rattle.resource_names.specs.declared.name.NameError.{NameError}
 use Rattle.resource_names.specs.declared.name.NameError.TheVariants.{Form, Hash, Size, Compressed}
-use Rattle.resource_names.specs.Segments.{Divided, divided, segments_of}
+use Rattle.resource_names.specs.Segments.{divided, segments_of}
 use Rattle.resource_names.specs.Size.{size_in}
 
 -- what a Read names; the instance is empty where the name has none

@@ -2,7 +2,6 @@
 use Rattle.std.specs.Prelude.{◌≡◌, ℕ, ◌==◌, Bool, List, [], ◌∷◌, ◌++◌, Option, Some, None, if◌then◌else◌}
 use Rattle.std.specs.Borrow.{Bor}
 use Rattle.std.specs.List.{slice_split, join_with_byte}
-use Rattle.std.specs.Option.{option_map}
 
 -- the parts of a text between its slashes (byte 47); one part more than there are slashes
 abbrev pub segments_of : List ℕ → List (List ℕ)

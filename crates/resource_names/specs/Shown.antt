@@ -1,7 +1,6 @@
 -- What the code's own types stand for.
-use Rattle.std.specs.Prelude.{ℕ, Bool, ◌||◌, List, codes}
+use Rattle.std.specs.Prelude.{ℕ, Bool, List}
 use Rattle.std.specs.Option.{option_copied}
-use Rattle.std.specs.Str.{bytes_eq}
 use Rattle.resource_names.specs.declared.name.ReadName.{ReadName}
 use Rattle.resource_names.specs.declared.name.WriteName.{WriteName}
 use Rattle.resource_names.specs.declared.segments.Divider.{Divider}

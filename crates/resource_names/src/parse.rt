@@ -1,4 +1,4 @@
-ghost use Rattle.std.specs.Prelude.{◌≡◌, ◌∷◌, [], IfOk, OnErr, IfErr};
+ghost use Rattle.std.specs.Prelude.{◌≡◌, ◌<◌, ◌≤◌, ◌^◌, ◌∷◌, [], length, IfOk, OnErr, IfErr};
 ghost use Rattle.std.specs.Option.{option_copied};
 ghost use Rattle.resource_names.specs.Names as names;
 ghost use Rattle.resource_names.specs.Names.{Gives, read_name, write_name, digest_of_segments, instance_of, uncompressed, uncompressed_upload, upload_named};
@@ -16,7 +16,8 @@ const MOST_UUID: usize = 128;
 
 /// The next segment, and what follows it.
 fn next_segment(left: Option<&str>) -> Result<(&str, Option<&str>), NameError>
-    ensures ok { IfOk result (λ next. segments_left left.entry ≡ next.0.now ∷ segments_left next.1) }
+    ensures ok { IfOk result (λ next. segments_left left.entry
+        ≡ next.0.now ∷ segments_left next.1) }
     ensures err { OnErr result (segments_left left.entry ≡ []) }
     ensures form { IfErr result (λ e. e ≡ Form) }
 {
@@ -50,7 +51,8 @@ fn instance(before: Option<&str>) -> Result<&str, NameError>
 /// The digest that two segments write.
 #[tactic(auto, unfolding(crate::specs::Names::digest_of_segments))]
 fn digest(hash: &str, size_text: &str) -> Result<Digest, NameError>
-    ensures { result ≡ digest_of_segments hash.now size_text.now }
+    ensures value { result ≡ digest_of_segments hash.now size_text.now }
+    ensures most { IfOk result (λ digest. digest.size < 2 ^ 63) }
 {
     let digest = Digest::parse(hash, 0).ok_or(NameError::Hash)?;
     let size = size(size_text).ok_or(NameError::Size)?;
@@ -59,7 +61,8 @@ fn digest(hash: &str, size_text: &str) -> Result<Digest, NameError>
 
 /// The digest of a name that ends with it.
 fn digest_alone(left: Option<&str>) -> Result<Digest, NameError>
-    ensures { result ≡ names.digest_alone (segments_left left.entry) }
+    ensures value { result ≡ names.digest_alone (segments_left left.entry) }
+    ensures most { IfOk result (λ digest. digest.size < 2 ^ 63) }
 {
     let (hash, left) = next_segment(left)?;
     let (size, left) = next_segment(left)?;
@@ -73,7 +76,8 @@ fn digest_alone(left: Option<&str>) -> Result<Digest, NameError>
 /// the form, its hash, its size.
 #[tactic(auto, unfolding(crate::specs::Names::read_name))]
 pub fn parse_read(text: &str) -> Result<ReadName<'_>, NameError>
-    ensures { Gives read_name_shown result (read_name text.now) }
+    ensures name { Gives read_name_shown result (read_name text.now) }
+    ensures most { IfOk result (λ name. name.digest.size < 2 ^ 63) }
 {
     let division = divide(text, Divider::Blobs).ok_or(NameError::Form)?;
     check_uncompressed(division.segment)?;
@@ -97,7 +101,10 @@ fn check_uncompressed_upload(left: Option<&str>) -> Result<(), NameError>
 
 /// What stands after `uploads` in a name.
 fn upload<'a>(instance: &'a str, left: Option<&'a str>) -> Result<WriteName<'a>, NameError>
-    ensures { Gives write_name_shown result (upload_named instance.now (segments_left left.entry)) }
+    ensures name { Gives write_name_shown result
+        (upload_named instance.now (segments_left left.entry)) }
+    ensures most { IfOk result (λ name. name.digest.size < 2 ^ 63) }
+    ensures uuid { IfOk result (λ name. length name.uuid.now ≤ 128) }
 {
     let (uuid, left) = next_segment(left)?;
     let (place, left) = next_segment(left)?;
@@ -118,7 +125,9 @@ fn upload<'a>(instance: &'a str, left: Option<&'a str>) -> Result<WriteName<'a>,
 /// compressed bytes, it has not the form, its hash, its size.
 #[tactic(auto, unfolding(crate::specs::Names::write_name))]
 pub fn parse_write(text: &str) -> Result<WriteName<'_>, NameError>
-    ensures { Gives write_name_shown result (write_name text.now) }
+    ensures name { Gives write_name_shown result (write_name text.now) }
+    ensures most { IfOk result (λ name. name.digest.size < 2 ^ 63) }
+    ensures uuid { IfOk result (λ name. length name.uuid.now ≤ 128) }
 {
     let division = divide(text, Divider::Uploads).ok_or(NameError::Form)?;
     check_uncompressed_upload(division.after)?;

@@ -66,7 +66,8 @@ pub(crate) fn divide(text: &str, divider: Divider) -> Option<Division<'_>>
 /// What stands before the slash before the last bytes of a text, and `None` where they are all of it.
 fn before_rest<'a>(text: &'a str, rest: &str) -> Option<&'a str>
     requires { IsRest text.now rest.now }
-    ensures { (passed : List (List ℕ)) → segments_of text.now ≡ passed ++ segments_of rest.now → option_copied result ≡ joined passed }
+    ensures { (passed : List (List ℕ)) → segments_of text.now ≡ passed ++ segments_of rest.now
+        → option_copied result ≡ joined passed }
 {
     let start = text.len() - rest.len();
     if start == 0 {

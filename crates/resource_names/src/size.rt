@@ -1,4 +1,4 @@
-ghost use Rattle.std.specs.Prelude.{◌≡◌};
+ghost use Rattle.std.specs.Prelude.{◌≡◌, ◌<◌, ◌^◌, IfSome};
 ghost use Rattle.std.specs.List.{list_all};
 ghost use Rattle.resource_names.specs.Size as sizes;
 ghost use Rattle.resource_names.specs.Size.{is_decimal_digit, size_in};
@@ -18,7 +18,8 @@ fn is_numeral(text: &str) -> bool
 
 /// The size that a segment writes: at most 2^63 - 1, as `size_bytes` of a digest.
 pub(crate) fn size(text: &str) -> Option<u64>
-    ensures { result ≡ size_in text.now }
+    ensures value { result ≡ size_in text.now }
+    ensures most { IfSome result (λ size. size < 2 ^ 63) }
 {
     if !is_numeral(text) {
         return None;

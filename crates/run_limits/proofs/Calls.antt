@@ -1,20 +1,29 @@
--- An event of a call keeps the limits of an instance.
-use Rattle.std.proofs.Common.{◌≡◌, ℕ, Bool, true, false, cond, List, [], ◌∷◌, ◌++◌, map, Option, Some, None, refl, sym, ap, ◌∙◌, subst, arith}
-use Rattle.std.specs.Prelude.{◌==◌, ◌&&◌, IfSome}
+-- An event of a call keeps the limits of an instance, and stores only what is named.
+use Rattle.std.proofs.Common.{◌≡◌, ◌<◌, ◌^◌, ℕ, Bool, true, false, cond, List, [], ◌∷◌, ◌++◌, map, Option, Some, None, Result, Ok, Err, refl, ◌∙◌, subst, arith}
+use Rattle.std.specs.Prelude.{◌==◌}
 use Rattle.std.specs.List.{AllByRecursion, IsDistinct}
 use Rattle.std.specs.Map.{keys_of}
 use Rattle.std.proofs.lemmas.Bool.Decides.{nat_tests}
 use Rattle.std.proofs.lemmas.Map.Keys.{IsDistinct-head, IsDistinct-tail, IsDistinct-cons}
 use Rattle.call_methods.specs.declared.method.Method.{Method}
+use Rattle.call_methods.specs.declared.method.Method.TheVariants as Called
+use Rattle.call_status.specs.declared.refusal.Refusal.{Refusal}
 use Rattle.cas_service.specs.Changes as Texts
+use Rattle.uploads.proofs.ListLemmas.{within_unexpired}
+use Rattle.instance_view.specs.Visible.{Blob}
+use Rattle.bytestream.specs.Writing as Writing
+use Rattle.bytestream.specs.Writing.{OpenWriteValue, WrittenValue, first_asked, next_asked}
 use Rattle.instance_core.specs.declared.event.CallId.{CallId}
-use Rattle.instance_core.specs.Calls.{Calls, CallValue, CallEventValue, head, message, fault, end, cancel, same_call, call_at, with_call, without_call, IsShortRequest, IsShortEvent, KeepShort}
+use Rattle.instance_core.specs.Calls.{Calls, ProgressValue, waits, has, writes, CallValue, CallEventValue, head, message, fault, end, cancel, tick, same_call, call_at, with_call, without_call, IsShortEvent, IsShortProgress, KeepShort}
 use Rattle.instance_core.specs.State.{InstanceState, WithinLimits, most_blobs}
 use Rattle.instance_core.specs.Methods.{is_served, text_changes}
-use Rattle.instance_core.specs.Changes.{Change, Text, Goes, Ends, change_made, changed}
-use Rattle.instance_core.specs.Answer.{answer, after, at_head, with_message, at_message, at_fault, with_request, at_end}
-use Rattle.run_limits.specs.Named.{StoresNamed}
+use Rattle.instance_core.specs.Changes.{Change, Text, Goes, Ends, Wrote, Expires, change_made, changed}
+use Rattle.instance_core.specs.Writes.{write_state, part_of, first_changes, next_changes, first_outcome, next_outcome}
+use Rattle.instance_core.specs.Answer.{answer, after, at_head, first_written, next_written, with_first, with_message, at_message, at_fault, with_request, at_end}
+use Rattle.run_limits.specs.Named.{StoresNamedText, StoresNamed}
 use Rattle.run_limits.proofs.Texts.{all_append, changes_named, change_within}
+use Rattle.run_limits.proofs.Writes.{IsWithin, piece_within, first_within, next_within, goes_below}
+use Rattle.run_limits.proofs.Adds.{piece_adds, first_adds, next_adds}
 
 -- ---- calls in course
 
@@ -64,7 +73,7 @@ without_once id (c ∷ cs) once =
         IsDistinct-cons same_call c.0 (keys_of (without_call id cs))
         (none_without c.0 id cs (IsDistinct-head same_call c.0 (keys_of cs) once)) ih
 
-with_short : (id : CallId) (call : CallValue) (cs : Calls) → IfSome call.message IsShortRequest → KeepShort cs → KeepShort (with_call id call cs)
+with_short : (id : CallId) (call : CallValue) (cs : Calls) → IsShortProgress call.progress → KeepShort cs → KeepShort (with_call id call cs)
 with_short id call [] h kept = (h, tt)
 with_short id call (c ∷ cs) h kept = go (same_call id c.0) (with_short id call cs h kept.1) where
   go : (b : Bool) → KeepShort (with_call id call cs) → KeepShort (cond b ((c.0, call) ∷ cs) (c ∷ with_call id call cs))
@@ -80,60 +89,169 @@ without_short id (c ∷ cs) kept = go (same_call id c.0) (without_short id cs ke
 
 -- ---- changes
 
--- what is stored is named, and what is kept of a request is short
-abbrev KeepsLimits : Change → Type 0
-KeepsLimits (Text c) = StoresNamed c
-KeepsLimits (Goes id call) = IfSome call.message IsShortRequest
-KeepsLimits (Ends id) = Unit {0}
+-- what is stored is named, what a Write leaves is within the limits, and what is kept of a request is short
+abbrev KeepsLimits : ℕ → Change → Type 0
+KeepsLimits quota (Text c) = StoresNamedText c
+KeepsLimits quota (Goes id call) = IsShortProgress call.progress
+KeepsLimits quota (Ends id) = Unit {0}
+KeepsLimits quota (Wrote w) = IsWithin quota w
+KeepsLimits quota Expires = Unit {0}
 
-change_keeps : (c : Change) (s : InstanceState) → KeepsLimits c → WithinLimits s → WithinLimits (change_made c s)
-change_keeps (Text c) s good w = record { quota = w.quota; texts = change_within most_blobs s.quota c s.visible (omega arith) good w.texts; calls = w.calls; messages = w.messages }
-change_keeps (Goes id call) s good w = record { quota = w.quota; texts = w.texts; calls = with_once id call s.calls w.calls; messages = with_short id call s.calls good w.messages }
-change_keeps (Ends id) s good w = record { quota = w.quota; texts = w.texts; calls = without_once id s.calls w.calls; messages = without_short id s.calls w.messages }
+change_keeps : (c : Change) (s : InstanceState) → KeepsLimits s.quota c → WithinLimits s → WithinLimits (change_made c s)
+change_keeps (Text c) s good w = record { quota = w.quota; texts = change_within most_blobs s.quota c s.visible (omega arith) good w.texts; uploads = w.uploads; calls = w.calls; messages = w.messages }
+change_keeps (Goes id call) s good w = record { quota = w.quota; texts = w.texts; uploads = w.uploads; calls = with_once id call s.calls w.calls; messages = with_short id call s.calls good w.messages }
+change_keeps (Ends id) s good w = record { quota = w.quota; texts = w.texts; uploads = w.uploads; calls = without_once id s.calls w.calls; messages = without_short id s.calls w.messages }
+change_keeps (Wrote left) s good w = record { quota = w.quota; texts = good.texts; uploads = good.uploads; calls = w.calls; messages = w.messages }
+change_keeps Expires s good w = record { quota = w.quota; texts = w.texts; uploads = within_unexpired s.quota s.moment s.uploads w.uploads; calls = w.calls; messages = w.messages }
 
-changes_keep : (cs : List Change) (s : InstanceState) → AllByRecursion KeepsLimits cs → WithinLimits s → WithinLimits (changed cs s)
+same_quota : (c : Change) (s : InstanceState) → s.quota ≡ (change_made c s).quota
+same_quota (Text c) s = refl
+same_quota (Goes id call) s = refl
+same_quota (Ends id) s = refl
+same_quota (Wrote left) s = refl
+same_quota Expires s = refl
+
+changes_keep : (cs : List Change) (s : InstanceState) → AllByRecursion (KeepsLimits s.quota) cs → WithinLimits s → WithinLimits (changed cs s)
 changes_keep [] s good w = w
-changes_keep (c ∷ cs) s good w = changes_keep cs (change_made c s) good.1 (change_keeps c s good.0 w)
+changes_keep (c ∷ cs) s good w =
+    changes_keep cs (change_made c s) (subst (λ (quota : ℕ). AllByRecursion (KeepsLimits quota) cs) (same_quota c s) good.1) (change_keeps c s good.0 w)
 
--- ---- answers
+-- ---- answers, whatever is to hold of their changes
 
-texts_keep : (cs : List Texts.Change) → AllByRecursion StoresNamed cs → AllByRecursion KeepsLimits (map Text cs)
-texts_keep [] named = tt
-texts_keep (c ∷ cs) named = (named.0, texts_keep cs named.1)
+-- what is to hold of changes of an instance in this state
+record Allows (s : InstanceState) (P : Change → Type 0) : Type 0 where
+  texts : (c : Texts.Change) → StoresNamedText c → P (Text c)
+  begun : (id : CallId) (method : Method) → P (Goes id (record { method = method; progress = waits }))
+  written : (id : CallId) (method : Method) (write : OpenWriteValue) → write.key.digest.size < 2 ^ 63 → P (Goes id (record { method = method; progress = writes write }))
+  ended : (id : CallId) → P (Ends id)
+  expired : P Expires
+  first : (bytes : List ℕ) → AllByRecursion P (first_changes s bytes)
+  next : (write : OpenWriteValue) (bytes : List ℕ) → AllByRecursion P (next_changes s write bytes)
 
-head_keeps : (id : CallId) (method : Method) (o : Option CallValue) → AllByRecursion KeepsLimits (at_head id method o).changes
-head_keeps id method (Some call) = tt
-head_keeps id method None = go (is_served method) refl where
-  go : (b : Bool) → is_served method ≡ b → AllByRecursion KeepsLimits (at_head id method None).changes
-  go true is = rw is (tt, tt)
+-- and of a message that is kept
+abbrev KeepsMessage : (Change → Type 0) → CallId → List ℕ → Type 0
+KeepsMessage P id bytes = (method : Method) → P (Goes id (record { method = method; progress = has bytes }))
+
+abbrev KeepsMessageOf : (Change → Type 0) → CallEventValue → Type 0
+KeepsMessageOf P (message id bytes) = KeepsMessage P id bytes
+KeepsMessageOf P (head id method) = Unit {0}
+KeepsMessageOf P (fault id refusal) = Unit {0}
+KeepsMessageOf P (end id) = Unit {0}
+KeepsMessageOf P (cancel id) = Unit {0}
+KeepsMessageOf P tick = Unit {0}
+
+abbrev AllAre : (Change → Type 0) → List Change → Type 0
+AllAre P cs = AllByRecursion P cs
+
+texts_hold : (s : InstanceState) (P : Change → Type 0) → Allows s P → (cs : List Texts.Change) → AllByRecursion StoresNamedText cs → AllAre P (map Text cs)
+texts_hold s P a [] named = tt
+texts_hold s P a (c ∷ cs) named = (a.texts c named.0, texts_hold s P a cs named.1)
+
+head_holds : (s : InstanceState) (P : Change → Type 0) → Allows s P → (id : CallId) (method : Method) (o : Option CallValue) → AllAre P (at_head id method o).changes
+head_holds s P a id method (Some call) = tt
+head_holds s P a id method None = go (is_served method) refl where
+  go : (b : Bool) → is_served method ≡ b → AllAre P (at_head id method None).changes
+  go true is = rw is (a.begun id method, tt)
   go false is = rw is tt
 
-with_keeps : (id : CallId) (method : Method) (bytes : List ℕ) (o : Option (List ℕ)) → IsShortRequest bytes → AllByRecursion KeepsLimits (with_message id method bytes o).changes
-with_keeps id method bytes None short = (short, tt)
-with_keeps id method bytes (Some first) short = (tt, tt)
+-- a Write
+ends_hold : (s : InstanceState) (P : Change → Type 0) → Allows s P → (id : CallId) (cs : List Change) → AllAre P cs → AllAre P (cs ++ Ends id ∷ [])
+ends_hold s P a id cs all = all_append P cs (Ends id ∷ []) all (a.ended id, tt)
 
-message_keeps : (id : CallId) (bytes : List ℕ) (o : Option CallValue) → IsShortRequest bytes → AllByRecursion KeepsLimits (at_message id bytes o).changes
-message_keeps id bytes None short = tt
-message_keeps id bytes (Some call) short = with_keeps id call.method bytes call.message short
+first_holds : (s : InstanceState) (P : Change → Type 0) → Allows s P → (id : CallId) (method : Method) (bytes : List ℕ) (r : Result WrittenValue Refusal) → first_outcome s bytes ≡ r → AllAre P (first_written id method (first_changes s bytes) r).changes
+first_holds s P a id method bytes (Ok (Writing.Goes write)) is =
+    all_append P (first_changes s bytes) (Goes id (record { method = method; progress = writes write }) ∷ []) (a.first bytes)
+    (a.written id method write (goes_below s bytes write is), tt)
+first_holds s P a id method bytes (Ok (Writing.Answered reply)) is = ends_hold s P a id (first_changes s bytes) (a.first bytes)
+first_holds s P a id method bytes (Err refusal) is = ends_hold s P a id (first_changes s bytes) (a.first bytes)
 
-request_keeps : (s : InstanceState) (id : CallId) (method : Method) (o : Option (List ℕ)) → AllByRecursion KeepsLimits (with_request s id method o).changes
-request_keeps s id method None = (tt, tt)
-request_keeps s id method (Some request) =
-    all_append KeepsLimits (map Text (text_changes method s request)) (Ends id ∷ []) (texts_keep (text_changes method s request) (changes_named method s request)) (tt, tt)
+next_holds : (s : InstanceState) (P : Change → Type 0) → Allows s P → (id : CallId) (write : OpenWriteValue) (bytes : List ℕ) (r : Result (Option (List ℕ)) Refusal) → AllAre P (next_written id (next_changes s write bytes) r).changes
+next_holds s P a id write bytes (Ok None) = a.next write bytes
+next_holds s P a id write bytes (Ok (Some reply)) = ends_hold s P a id (next_changes s write bytes) (a.next write bytes)
+next_holds s P a id write bytes (Err refusal) = ends_hold s P a id (next_changes s write bytes) (a.next write bytes)
 
-end_keeps : (s : InstanceState) (id : CallId) (o : Option CallValue) → AllByRecursion KeepsLimits (at_end s id o).changes
-end_keeps s id None = tt
-end_keeps s id (Some call) = request_keeps s id call.method call.message
+-- a message
+with_first_holds : (s : InstanceState) (P : Change → Type 0) → Allows s P → (id : CallId) (method : Method) (bytes : List ℕ) → KeepsMessage P id bytes → AllAre P (with_first s id method bytes).changes
+with_first_holds s P a id Called.Write bytes keeps = first_holds s P a id Called.Write bytes (first_outcome s bytes) refl
+with_first_holds s P a id method bytes keeps = (keeps method, tt)
 
-answer_keeps : (s : InstanceState) (event : CallEventValue) → IsShortEvent event → AllByRecursion KeepsLimits (answer s event).changes
-answer_keeps s (head id method) short = head_keeps id method (call_at id s.calls)
-answer_keeps s (message id bytes) short = message_keeps id bytes (call_at id s.calls) short
-answer_keeps s (fault id refusal) short = go (call_at id s.calls) where
-  go : (o : Option CallValue) → AllByRecursion KeepsLimits (at_fault id refusal o).changes
-  go None = tt
-  go (Some call) = (tt, tt)
-answer_keeps s (end id) short = end_keeps s id (call_at id s.calls)
-answer_keeps s (cancel id) short = (tt, tt)
+with_holds : (s : InstanceState) (P : Change → Type 0) → Allows s P → (id : CallId) (method : Method) (bytes : List ℕ) (p : ProgressValue) → KeepsMessage P id bytes → AllAre P (with_message s id method bytes p).changes
+with_holds s P a id method bytes waits keeps = with_first_holds s P a id method bytes keeps
+with_holds s P a id method bytes (has first) keeps = (a.ended id, tt)
+with_holds s P a id method bytes (writes write) keeps = next_holds s P a id write bytes (next_outcome s write bytes)
+
+message_holds : (s : InstanceState) (P : Change → Type 0) → Allows s P → (id : CallId) (bytes : List ℕ) (o : Option CallValue) → KeepsMessage P id bytes → AllAre P (at_message s id bytes o).changes
+message_holds s P a id bytes None keeps = tt
+message_holds s P a id bytes (Some call) keeps = with_holds s P a id call.method bytes call.progress keeps
+
+-- the end of a request
+request_holds : (s : InstanceState) (P : Change → Type 0) → Allows s P → (id : CallId) (method : Method) (p : ProgressValue) → AllAre P (with_request s id method p).changes
+request_holds s P a id method waits = (a.ended id, tt)
+request_holds s P a id method (has request) = ends_hold s P a id (map Text (text_changes method s request)) (texts_hold s P a (text_changes method s request) (changes_named method s request))
+request_holds s P a id method (writes write) = (a.ended id, tt)
+
+end_holds : (s : InstanceState) (P : Change → Type 0) → Allows s P → (id : CallId) (o : Option CallValue) → AllAre P (at_end s id o).changes
+end_holds s P a id None = tt
+end_holds s P a id (Some call) = request_holds s P a id call.method call.progress
+
+fault_holds : (s : InstanceState) (P : Change → Type 0) → Allows s P → (id : CallId) (refusal : Refusal) (o : Option CallValue) → AllAre P (at_fault id refusal o).changes
+fault_holds s P a id refusal None = tt
+fault_holds s P a id refusal (Some call) = (a.ended id, tt)
+
+answer_holds : (s : InstanceState) (P : Change → Type 0) → Allows s P → (event : CallEventValue) → KeepsMessageOf P event → AllAre P (answer s event).changes
+answer_holds s P a (head id method) keeps = head_holds s P a id method (call_at id s.calls)
+answer_holds s P a (message id bytes) keeps = message_holds s P a id bytes (call_at id s.calls) keeps
+answer_holds s P a (fault id refusal) keeps = fault_holds s P a id refusal (call_at id s.calls)
+answer_holds s P a (end id) keeps = end_holds s P a id (call_at id s.calls)
+answer_holds s P a (cancel id) keeps = (a.ended id, tt)
+answer_holds s P a tick keeps = (a.expired, tt)
+
+-- ---- the limits
+
+limits_allow : (s : InstanceState) → WithinLimits s → Allows s (KeepsLimits s.quota)
+limits_allow s w =
+    let here : IsWithin s.quota (write_state s) = record { texts = w.texts; uploads = w.uploads } in
+    record {
+      texts = λ c named. named;
+      begun = λ id method. tt;
+      written = λ id method write below. below;
+      ended = λ id. tt;
+      expired = tt;
+      first = λ bytes. (piece_within true s (part_of (first_asked s.name bytes)) here, (first_within s.name s.quota s.moment bytes (write_state s) here, tt));
+      next = λ write bytes. (piece_within false s (next_asked write bytes) here, (next_within write s.quota s.moment bytes (write_state s) here, tt));
+    }
+
+message_short : (quota : ℕ) (event : CallEventValue) → IsShortEvent event → KeepsMessageOf (KeepsLimits quota) event
+message_short quota (message id bytes) short = λ method. short
+message_short quota (head id method) short = tt
+message_short quota (fault id refusal) short = tt
+message_short quota (end id) short = tt
+message_short quota (cancel id) short = tt
+message_short quota tick short = tt
 
 pub after_keeps : (s : InstanceState) (event : CallEventValue) → IsShortEvent event → WithinLimits s → WithinLimits (after s event)
-after_keeps s event short w = changes_keep (answer s event).changes s (answer_keeps s event short) w
+after_keeps s event short w = changes_keep (answer s event).changes s (answer_holds s (KeepsLimits s.quota) (limits_allow s w) event (message_short s.quota event short)) w
+
+-- ---- what is stored
+
+names_allow : (s : InstanceState) → Allows s (StoresNamed s.visible)
+names_allow s = record {
+  texts = λ c named. named;
+  begun = λ id method. tt;
+  written = λ id method write below. tt;
+  ended = λ id. tt;
+  expired = tt;
+  first = λ bytes. (piece_adds true s (part_of (first_asked s.name bytes)), (first_adds s.name most_blobs s.quota s.moment bytes (write_state s), tt));
+  next = λ write bytes. (piece_adds false s (next_asked write bytes), (next_adds write most_blobs s.quota s.moment bytes (write_state s), tt));
+}
+
+message_stores : (visible : List Blob) (event : CallEventValue) → KeepsMessageOf (StoresNamed visible) event
+message_stores visible (message id bytes) = λ method. tt
+message_stores visible (head id method) = tt
+message_stores visible (fault id refusal) = tt
+message_stores visible (end id) = tt
+message_stores visible (cancel id) = tt
+message_stores visible tick = tt
+
+pub answer_stores : (s : InstanceState) (event : CallEventValue) → AllByRecursion (StoresNamed s.visible) (answer s event).changes
+answer_stores s event = answer_holds s (StoresNamed s.visible) (names_allow s) event (message_stores s.visible event)

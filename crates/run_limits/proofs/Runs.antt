@@ -1,5 +1,5 @@
 -- An instance by itself keeps its limits, event after event.
-use Rattle.std.proofs.Common.{◌≡◌, ℕ, ◌^◌, ◌≤◌, ◌+◌, List, [], ◌∷◌, ◌++◌, refl, sym, ap, ◌∙◌, subst, inl, inr}
+use Rattle.std.proofs.Common.{ℕ, ◌^◌, ◌≤◌, List, [], ◌∷◌, sym, subst, inl, inr, arith}
 use Rattle.std.specs.Prelude.{Bool, true, false, cond, fold, Option, Some, None, Result, Ok, Err}
 use Rattle.std.specs.Option.{option_map_or}
 use Rattle.std.specs.List.{AllByRecursion, IsDistinct}
@@ -14,16 +14,17 @@ use Rattle.conn_core.specs.declared.event.CallEvent.{CallEvent}
 use Rattle.conn_core.specs.Calls.{cancels}
 use Rattle.conn_core.specs.Past.{Past, opening, with_frame, with_fault, with_taken, with_pumped}
 use Rattle.quota_evict.proofs.Limits.{nothing_within}
-use Rattle.instance_core.specs.Calls.{CallEventValue, IsShortEvent, same_call}
-use Rattle.instance_core.specs.State.{WithinLimits, most_blobs}
-use Rattle.instance_core.specs.Answer.{ReplyValue, answer, after}
+use Rattle.instance_core.specs.Calls.{CallEventValue, tick as time_passes, IsShortEvent, same_call}
+use Rattle.instance_core.specs.State.{InstanceState, WithinLimits, most_blobs, at_moment}
+use Rattle.instance_core.specs.Answer.{answer, after}
+use Rattle.instance_core.specs.Replies.{ReplyValue}
 use Rattle.server_events.specs.Configs.{ConfigValue}
 use Rattle.server_events.specs.Events.{EventValue, WhatValue, opened, received, took, closed, tick, ended}
 use Rattle.served_instance.specs.declared.refusal.EventRefusal.{EventRefusal}
-use Rattle.served_instance.specs.Connections.{LoneConnection, is_at, open_at, at_open, closed_at, at_all_open, step_if_open}
+use Rattle.served_instance.specs.Connections.{LoneConnection, is_at, open_at, at_open, closed_at, at_all_open}
 use Rattle.served_instance.specs.Calls.{call_event_on, items_of, with_items}
-use Rattle.served_instance.specs.Lone.{Lone, replied, happened, all_happened, due_at, none_due, due_happened, frame_read, is_over, frames_read, fault_met, end_read, unread_frames, all_read, with_bytes, bytes_came, was_opened, was_closed, acted, pumped_all, accepted}
-use Rattle.served_instance.specs.Refusals.{refusal_of, stepped, lone_step}
+use Rattle.served_instance.specs.Lone.{Lone, replied, happened, all_happened, due_at, none_due, due_happened, frame_read, is_over, frames_read, fault_met, end_read, unread_frames, all_read, with_bytes, bytes_came, was_opened, was_closed, acted, came_at, accepted}
+use Rattle.served_instance.specs.Refusals.{refusal_of, stepped}
 use Rattle.served_instance.proofs.Commutes.{items_keep_due}
 use Rattle.run_record.specs.Runs.{Run, begun, run_step, run_of}
 use Rattle.run_limits.proofs.Texts.{all_append}
@@ -77,15 +78,15 @@ record KeepsLimits (l : Lone) : Type 0 where
 abbrev Keeps : Lone → Lone → Type 0
 Keeps l m = KeepsLimits l → KeepsLimits m
 
-items_short : (s : ℕ) (reply : ReplyValue) (p : Past) → DueShort p → DueShort (with_items s (items_of reply.outcome) p)
-items_short s reply p short = subst (λ (es : List CallEvent). AllByRecursion IsShortCall es) (sym (items_keep_due s (items_of reply.outcome) p)) short
+items_short : (s : ℕ) (reply : ReplyValue) (p : Past) → DueShort p → DueShort (with_items s (items_of reply.items) p)
+items_short s reply p short = subst (λ (es : List CallEvent). AllByRecursion IsShortCall es) (sym (items_keep_due s (items_of reply.items) p)) short
 
 replied_keeps : (replies : List ReplyValue) (l : Lone) → Keeps l (replied replies l)
 replied_keeps [] l h = h
 replied_keeps (reply ∷ replies) l h =
-    replied_keeps replies (record l { connections = at_open reply.call.connection (with_items reply.call.stream (items_of reply.outcome)) l.connections }) (record {
+    replied_keeps replies (record l { connections = at_open reply.call.connection (with_items reply.call.stream (items_of reply.items)) l.connections }) (record {
       within = h.within;
-      short = at_open_short reply.call.connection (with_items reply.call.stream (items_of reply.outcome)) (items_short reply.call.stream reply) l.connections h.short;
+      short = at_open_short reply.call.connection (with_items reply.call.stream (items_of reply.items)) (items_short reply.call.stream reply) l.connections h.short;
     })
 
 happened_keeps : (event : CallEventValue) (l : Lone) → IsShortEvent event → Keeps l (happened event l)
@@ -150,13 +151,16 @@ acted_keeps (opened c) l h = opened_keeps c l h
 acted_keeps (received c bytes) l h = bytes_keep c bytes l h
 acted_keeps (took c n) l h = with_step c (λ p. with_taken p n) l (λ p short. short) h
 acted_keeps (closed c) l h = closed_keeps c l h
-acted_keeps tick l h = h
+acted_keeps tick l h = happened_keeps time_passes l tt h
 acted_keeps (ended job outcome) l h = h
+
+came_within : (moment : ℕ) (s : InstanceState) → WithinLimits s → WithinLimits (at_moment moment s)
+came_within moment s w = record { quota = w.quota; texts = w.texts; uploads = w.uploads; calls = w.calls; messages = w.messages }
 
 accepted_keeps : (e : EventValue) (l : Lone) → Keeps l (accepted e l)
 accepted_keeps e l h =
-    let m = acted_keeps e.what (record l { moment = e.moment }) (record { within = h.within; short = h.short }) in
-    record { within = m.within; short = all_open_short with_pumped (λ p short. short) (acted e.what (record l { moment = e.moment })).connections m.short }
+    let m = acted_keeps e.what (came_at e.moment l) (record { within = came_within e.moment l.state h.within; short = h.short }) in
+    record { within = m.within; short = all_open_short with_pumped (λ p short. short) (acted e.what (came_at e.moment l)).connections m.short }
 
 stepped_keeps : (e : EventValue) (l : Lone) (o : Option EventRefusal) → Keeps l (stepped e l o)
 stepped_keeps e l None h = accepted_keeps e l h
@@ -174,4 +178,4 @@ no_calls = tt
 
 pub run_within : (config : ConfigValue) (events : List EventValue) → config.quota ≤ 2 ^ 40 → WithinLimits (run_of config events).lone.state
 run_within config events small =
-    (runs_keep (begun config) events (record { within = record { quota = small; texts = nothing_within most_blobs config.quota; calls = no_calls; messages = tt }; short = tt })).within
+    (runs_keep (begun config) events (record { within = record { quota = small; texts = nothing_within most_blobs config.quota; uploads = record { bytes = omega arith; count = omega arith }; calls = no_calls; messages = tt }; short = tt })).within

@@ -4,7 +4,7 @@ use Rattle.std.specs.List.{AllByRecursion}
 use Rattle.reapi_messages.specs.Results.{◌>>=◌}
 use Rattle.reapi_messages.specs.Batches.{UpdateBlobRequestValue}
 use Rattle.call_methods.specs.declared.method.Method.{Method}
-use Rattle.call_methods.specs.declared.method.Method.TheVariants.{FindMissingBlobs, BatchUpdateBlobs, BatchReadBlobs}
+use Rattle.call_methods.specs.declared.method.Method.TheVariants.{FindMissingBlobs, BatchUpdateBlobs, BatchReadBlobs, Read}
 use Rattle.call_status.specs.declared.refusal.Refusal.{Refusal}
 use Rattle.call_status.specs.declared.refusal.Refusal.TheVariants.{DigestDoesNotMatch, QuotaExceeded}
 use Rattle.digest.specs.declared.Digest.{Digest}
@@ -18,8 +18,10 @@ use Rattle.cas_service.specs.FindMissing.{digests_asked}
 use Rattle.cas_service.specs.BatchRead.{digests_to_read}
 use Rattle.cas_service.specs.BatchUpdate.{known_compressor, set_digest, naming, within_quota, stored_under, stores, stores_of_result, store_of, blobs_sent}
 use Rattle.instance_core.specs.State.{InstanceState}
-use Rattle.instance_core.specs.Methods.{text_changes}
-use Rattle.run_limits.specs.Named.{StoresNamed}
+use Rattle.instance_core.specs.Methods.{use_asked, text_changes}
+use Rattle.bytestream.specs.declared.reading.ReadAsked.{ReadAsked}
+use Rattle.bytestream.specs.Reading.{read_asked}
+use Rattle.run_limits.specs.Named.{StoresNamedText}
 
 pub all_append : {X : Type 0} (P : X → Type 0) (xs ys : List X) → AllByRecursion P xs → AllByRecursion P ys → AllByRecursion P (xs ++ ys)
 all_append P [] ys a b = b
@@ -44,32 +46,37 @@ stored_named quota r d h = go (known_compressor r.compressor) (set_digest r.dige
   go (Ok u) (Err x) h = absurd (cc)
   go (Err x) s h = absurd (cc)
 
-one_named : (quota : ℕ) (r : UpdateBlobRequestValue) (u : Result Digest Refusal) → stored_under quota r ≡ u → AllByRecursion StoresNamed (store_of r.content u)
+one_named : (quota : ℕ) (r : UpdateBlobRequestValue) (u : Result Digest Refusal) → stored_under quota r ≡ u → AllByRecursion StoresNamedText (store_of r.content u)
 one_named quota r (Ok d) is = (stored_named quota r d is, tt)
 one_named quota r (Err refusal) is = tt
 
-stores_named : (quota : ℕ) (rs : List UpdateBlobRequestValue) → AllByRecursion StoresNamed (stores quota rs)
+stores_named : (quota : ℕ) (rs : List UpdateBlobRequestValue) → AllByRecursion StoresNamedText (stores quota rs)
 stores_named quota [] = tt
-stores_named quota (r ∷ rs) = all_append StoresNamed (store_of r.content (stored_under quota r)) (stores quota rs) (one_named quota r (stored_under quota r) refl) (stores_named quota rs)
+stores_named quota (r ∷ rs) = all_append StoresNamedText (store_of r.content (stored_under quota r)) (stores quota rs) (one_named quota r (stored_under quota r) refl) (stores_named quota rs)
 
-result_named : (quota : ℕ) (r : Result (List UpdateBlobRequestValue) Refusal) → AllByRecursion StoresNamed (stores_of_result quota r)
+result_named : (quota : ℕ) (r : Result (List UpdateBlobRequestValue) Refusal) → AllByRecursion StoresNamedText (stores_of_result quota r)
 result_named quota (Ok rs) = stores_named quota rs
 result_named quota (Err refusal) = tt
 
-all_uses : (ds : List Digest) → AllByRecursion StoresNamed (map Use ds)
+all_uses : (ds : List Digest) → AllByRecursion StoresNamedText (map Use ds)
 all_uses [] = tt
 all_uses (d ∷ ds) = (tt, all_uses ds)
 
-uses_named : (r : Result (List Digest) Refusal) → AllByRecursion StoresNamed (uses r)
+uses_named : (r : Result (List Digest) Refusal) → AllByRecursion StoresNamedText (uses r)
 uses_named (Ok ds) = all_uses ds
 uses_named (Err refusal) = tt
 
-pub changes_named : (method : Method) (s : InstanceState) (message : List ℕ) → AllByRecursion StoresNamed (text_changes method s message)
+use_named : (r : Result ReadAsked Refusal) → AllByRecursion StoresNamedText (use_asked r)
+use_named (Ok asked) = (tt, tt)
+use_named (Err refusal) = tt
+
+pub changes_named : (method : Method) (s : InstanceState) (message : List ℕ) → AllByRecursion StoresNamedText (text_changes method s message)
 changes_named FindMissingBlobs s message = uses_named (digests_asked s.name message)
 changes_named BatchUpdateBlobs s message = result_named s.quota (blobs_sent s.name message)
 changes_named BatchReadBlobs s message = uses_named (digests_to_read s.name message)
+changes_named Read s message = use_named (read_asked s.name message)
 changes_named _ s message = tt
 
-pub change_within : (limit quota : ℕ) (c : Change) (bs : List Blob) → 0 < limit → StoresNamed c → Within limit quota bs → Within limit quota (change_made limit quota c bs)
+pub change_within : (limit quota : ℕ) (c : Change) (bs : List Blob) → 0 < limit → StoresNamedText c → Within limit quota bs → Within limit quota (change_made limit quota c bs)
 change_within limit quota (Use d) bs some named w = used_within limit quota d bs w
 change_within limit quota (Store d text) bs some named w = admitted_within limit quota d text bs some named w

@@ -1,8 +1,24 @@
--- Changes of texts that store only what is named.
+-- Changes of an instance that store only what is named.
+use Rattle.std.specs.Prelude.{◌⊎◌, List, Contains}
+use Rattle.std.specs.List.{AllByRecursion}
 use Rattle.digest.specs.Naming.{Names}
-use Rattle.cas_service.specs.Changes.{Change, Use, Store}
+use Rattle.instance_view.specs.Visible.{Blob}
+use Rattle.cas_service.specs.Changes as Texts
+use Rattle.instance_core.specs.Changes.{Change, Text, Goes, Ends, Wrote, Expires}
 
--- a change stores bytes only under the digest that names them
-abbrev pub StoresNamed : Change → Type 0
-StoresNamed (Use d) = Unit {0}
-StoresNamed (Store d text) = Names d text
+-- bytes are stored only under the digest that names them
+abbrev pub StoresNamedText : Texts.Change → Type 0
+StoresNamedText (Texts.Use d) = Unit {0}
+StoresNamedText (Texts.Store d text) = Names d text
+
+-- the text stood under this digest before, or is what the digest says
+abbrev pub IsOldOrNamed : List Blob → Blob → Type 0
+IsOldOrNamed visible b = Contains visible b ⊎ Names b.0 b.1
+
+-- a change of an instance that has these texts stores bytes only under the digest that names them
+abbrev pub StoresNamed : List Blob → Change → Type 0
+StoresNamed visible (Text c) = StoresNamedText c
+StoresNamed visible (Wrote w) = AllByRecursion (IsOldOrNamed visible) w.visible
+StoresNamed visible (Goes id call) = Unit {0}
+StoresNamed visible (Ends id) = Unit {0}
+StoresNamed visible Expires = Unit {0}

@@ -1,32 +1,53 @@
 -- A reply is to the call that the event is of, and a call that is given up gets none.
-use Rattle.std.proofs.Common.{◌≡◌, ℕ, List, [], refl}
-use Rattle.std.specs.Prelude.{Bool, true, false, cond, Option, Some, None, Err}
+use Rattle.std.proofs.Common.{◌≡◌, ℕ, List, refl}
+use Rattle.std.specs.Prelude.{Bool, true, false, Option, Some, None, Result, Ok, Err}
 use Rattle.std.specs.List.{AllByRecursion}
 use Rattle.call_methods.specs.declared.method.Method.{Method}
+use Rattle.call_methods.specs.declared.method.Method.TheVariants.{Write}
 use Rattle.call_status.specs.declared.refusal.Refusal.{Refusal}
-use Rattle.call_status.specs.declared.refusal.Refusal.TheVariants.{UnknownMethod}
+use Rattle.bytestream.specs.Writing as Writing
+use Rattle.bytestream.specs.Writing.{WrittenValue}
 use Rattle.instance_core.specs.declared.event.CallId.{CallId}
-use Rattle.instance_core.specs.Calls.{CallValue, head, message, fault, end, call_at}
+use Rattle.instance_core.specs.Calls.{ProgressValue, waits, has, writes, CallValue, head, message, fault, end, call_at}
 use Rattle.instance_core.specs.State.{InstanceState}
 use Rattle.instance_core.specs.Methods.{is_served}
-use Rattle.instance_core.specs.Answer.{ReplyValue, reply_with, goes_on, at_head, with_message, at_message, at_fault, with_request, at_end, answer}
+use Rattle.instance_core.specs.Changes.{Change}
+use Rattle.instance_core.specs.Replies.{ReplyValue}
+use Rattle.instance_core.specs.Writes.{first_changes, next_changes, first_outcome, next_outcome}
+use Rattle.instance_core.specs.Answer.{at_head, first_written, next_written, with_first, with_message, at_message, at_fault, with_request, at_end, answer}
 
 abbrev pub AreTo : CallId → List ReplyValue → Type 0
 AreTo id rs = AllByRecursion (λ (r : ReplyValue). r.call ≡ id) rs
 
 head_to : (id : CallId) (method : Method) (o : Option CallValue) → AreTo id (at_head id method o).replies
 head_to id method (Some call) = tt
-head_to id method None = go (is_served method) where
-  go : (b : Bool) → AreTo id (cond b (goes_on id (record { method = method; message = None })) (record { replies = reply_with id (Err UnknownMethod); changes = [] })).replies
-  go true = tt
-  go false = (refl, tt)
+head_to id method None = go (is_served method) refl where
+  go : (b : Bool) → is_served method ≡ b → AreTo id (at_head id method None).replies
+  go true is = rw is tt
+  go false is = rw is (refl, tt)
 
-message_to : (id : CallId) (bytes : List ℕ) (o : Option CallValue) → AreTo id (at_message id bytes o).replies
-message_to id bytes None = tt
-message_to id bytes (Some call) = go call.message where
-  go : (kept : Option (List ℕ)) → AreTo id (with_message id call.method bytes kept).replies
-  go None = tt
-  go (Some first) = (refl, tt)
+first_to : (id : CallId) (method : Method) (changes : List Change) (r : Result WrittenValue Refusal) → AreTo id (first_written id method changes r).replies
+first_to id method changes (Ok (Writing.Goes write)) = tt
+first_to id method changes (Ok (Writing.Answered reply)) = (refl, tt)
+first_to id method changes (Err refusal) = (refl, tt)
+
+next_to : (id : CallId) (changes : List Change) (r : Result (Option (List ℕ)) Refusal) → AreTo id (next_written id changes r).replies
+next_to id changes (Ok None) = tt
+next_to id changes (Ok (Some reply)) = (refl, tt)
+next_to id changes (Err refusal) = (refl, tt)
+
+with_first_to : (s : InstanceState) (id : CallId) (method : Method) (bytes : List ℕ) → AreTo id (with_first s id method bytes).replies
+with_first_to s id Write bytes = first_to id Write (first_changes s bytes) (first_outcome s bytes)
+with_first_to s id method bytes = tt
+
+with_to : (s : InstanceState) (id : CallId) (method : Method) (bytes : List ℕ) (p : ProgressValue) → AreTo id (with_message s id method bytes p).replies
+with_to s id method bytes waits = with_first_to s id method bytes
+with_to s id method bytes (has first) = (refl, tt)
+with_to s id method bytes (writes write) = next_to id (next_changes s write bytes) (next_outcome s write bytes)
+
+message_to : (s : InstanceState) (id : CallId) (bytes : List ℕ) (o : Option CallValue) → AreTo id (at_message s id bytes o).replies
+message_to s id bytes None = tt
+message_to s id bytes (Some call) = with_to s id call.method bytes call.progress
 
 fault_to : (id : CallId) (refusal : Refusal) (o : Option CallValue) → AreTo id (at_fault id refusal o).replies
 fault_to id refusal None = tt
@@ -34,16 +55,17 @@ fault_to id refusal (Some call) = (refl, tt)
 
 end_to : (s : InstanceState) (id : CallId) (o : Option CallValue) → AreTo id (at_end s id o).replies
 end_to s id None = tt
-end_to s id (Some call) = go call.message where
-  go : (kept : Option (List ℕ)) → AreTo id (with_request s id call.method kept).replies
-  go None = (refl, tt)
-  go (Some request) = (refl, tt)
+end_to s id (Some call) = go call.progress where
+  go : (p : ProgressValue) → AreTo id (with_request s id call.method p).replies
+  go waits = (refl, tt)
+  go (has request) = (refl, tt)
+  go (writes write) = (refl, tt)
 
 pub head_replies : (s : InstanceState) (id : CallId) (method : Method) → AreTo id (answer s (head id method)).replies
 head_replies s id method = head_to id method (call_at id s.calls)
 
 pub message_replies : (s : InstanceState) (id : CallId) (bytes : List ℕ) → AreTo id (answer s (message id bytes)).replies
-message_replies s id bytes = message_to id bytes (call_at id s.calls)
+message_replies s id bytes = message_to s id bytes (call_at id s.calls)
 
 pub fault_replies : (s : InstanceState) (id : CallId) (refusal : Refusal) → AreTo id (answer s (fault id refusal)).replies
 fault_replies s id refusal = fault_to id refusal (call_at id s.calls)

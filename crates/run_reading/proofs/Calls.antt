@@ -14,7 +14,8 @@ use Rattle.conn_core.specs.Past.{Past, with_item}
 use Rattle.instance_core.specs.declared.event.CallId.{CallId}
 use Rattle.instance_core.specs.Calls.{CallEventValue}
 use Rattle.instance_core.specs.State.{InstanceState}
-use Rattle.instance_core.specs.Answer.{ReplyValue, answer, after}
+use Rattle.instance_core.specs.Replies.{ReplyValue}
+use Rattle.instance_core.specs.Answer.{answer, after}
 use Rattle.served_instance.specs.Connections.{open_at, at_open}
 use Rattle.served_instance.specs.Calls.{call_id, call_event_on, items_of, with_items}
 use Rattle.served_instance.specs.Lone.{Lone, replied, happened, all_happened, due_at, none_due, due_happened}
@@ -95,7 +96,7 @@ record HasReplied (c n : ℕ) (d : List Entry) (gs : List Given) (m : Lone) : Ty
 replied_owes : (c s : ℕ) (rs : List ReplyValue) (l : Lone) (p : Past) (gs : List Given) → open_at c l.connections ≡ Some p → IsAnswerableStream p.diary s → AreTo (call_id c s) rs → Owes gs l → HasReplied c (place_of c l.connections) p.diary (gs ++ map (reply_given (place_of c l.connections)) rs) (replied rs l)
 replied_owes c s [] l p gs is live' to h = record { past = p; stays = is; diary = refl; place = refl; owes = subst (λ (xs : List Given). Owes xs l) (sym (append-nil gs)) h }
 replied_owes c s (r ∷ rs) l p gs is live' to h =
-    let items : List Item = items_of r.outcome in
+    let items : List Item = items_of r.items in
     let n : ℕ = place_of c l.connections in
     let m : Lone = record l { connections = at_open c (with_items s items) l.connections } in
     let q : Past = with_items s items p in
@@ -113,7 +114,7 @@ replied_owes c s (r ∷ rs) l p gs is live' to h =
 
 pub replied_state : (rs : List ReplyValue) (l : Lone) → (replied rs l).state ≡ l.state
 replied_state [] l = refl
-replied_state (r ∷ rs) l = replied_state rs (record l { connections = at_open r.call.connection (with_items r.call.stream (items_of r.outcome)) l.connections })
+replied_state (r ∷ rs) l = replied_state rs (record l { connections = at_open r.call.connection (with_items r.call.stream (items_of r.items)) l.connections })
 
 pub happened_state : (event : CallEventValue) (l : Lone) → (happened event l).state ≡ after l.state event
 happened_state event l = replied_state (answer l.state event).replies (record l { state = after l.state event })

@@ -26,12 +26,14 @@ use Rattle.conn_core.specs.Calls.{is_call, cancels, answer_to_head, answered_at_
 use Rattle.conn_core.specs.Received.{raw_received, outcome}
 use Rattle.conn_core.specs.Past.{Past, opening, owe_all, with_frame, with_fault, with_taken, with_pumped}
 use Rattle.instance_core.specs.State.{InstanceState}
-use Rattle.instance_core.specs.Answer.{ReplyValue, answer, after}
+use Rattle.instance_core.specs.Calls.{tick as time_passes}
+use Rattle.instance_core.specs.Replies.{ReplyValue}
+use Rattle.instance_core.specs.Answer.{answer, after}
 use Rattle.server_events.specs.Events.{EventValue, WhatValue, opened, received, took, closed, tick, ended}
 use Rattle.served_instance.specs.declared.refusal.EventRefusal.{EventRefusal}
 use Rattle.served_instance.specs.Connections.{LoneConnection, is_at, open_at, at_open, closed_at, at_all_open}
 use Rattle.served_instance.specs.Calls.{call_event_on, items_of, with_items}
-use Rattle.served_instance.specs.Lone.{Lone, replied, happened, all_happened, due_at, none_due, frame_read, is_over, frames_read, fault_met, end_read, unread_frames, all_read, with_bytes, bytes_came, was_opened, was_closed, acted, pumped_all, accepted, start}
+use Rattle.served_instance.specs.Lone.{Lone, replied, happened, all_happened, due_at, none_due, frame_read, is_over, frames_read, fault_met, end_read, unread_frames, all_read, with_bytes, bytes_came, was_opened, was_closed, acted, pumped_all, came_at, accepted, start}
 use Rattle.served_instance.specs.Refusals.{refusal_of, stepped, lone_step}
 use Rattle.run_record.specs.Runs.{Run, run_step}
 use Rattle.client_reading.specs.Answerable.{IsAnswerableStream, CanGoOn}
@@ -40,11 +42,11 @@ use Rattle.client_reading.proofs.Answerable.{calls_answerable, requests_answerab
 use Rattle.client_reading.proofs.Choices.{choose, all_append, all_by}
 use Rattle.client_reading.proofs.Pasts.{frames_received}
 use Rattle.run_limits.proofs.Brought.{IsShortCall, short_on, frame_short}
-use Rattle.run_reading.specs.Connections.{ArePasts}
-use Rattle.run_reading.specs.Happenings.{Happening, place_of, calls_happen, due_happens, requests_answered, requests_happen, frame_happens, frames_happen, fault_happens, end_happens, all_happens, bytes_happen, close_happens, what_happens, happens_unless, step_happens, happenings}
+use Rattle.run_reading.specs.Connections.{HasPast, ArePasts}
+use Rattle.run_reading.specs.Happenings.{Happening, MomentCame, TimePassed, place_of, calls_happen, due_happens, requests_answered, requests_happen, frame_happens, frames_happen, fault_happens, end_happens, all_happens, bytes_happen, close_happens, what_happens, happens_unless, step_happens, happenings}
 use Rattle.run_reading.specs.Replies.{Given, given_at, state_after, given_from}
 use Rattle.run_reading.proofs.Lifts.{frame_made, fault_made, acted_made, pumped_made, bytes_made, all_drop}
-use Rattle.run_reading.proofs.Owes.{Gift, give, gifts_on, Gives, AreBelow, all_owed, closed_owed, opened_owed, below_more, all_length, closed_length, open_step, none_open, open_has}
+use Rattle.run_reading.proofs.Owes.{OwedFrom, Gift, give, gifts_on, Gives, AreBelow, all_owed, closed_owed, opened_owed, below_more, all_length, closed_length, open_step, none_open, open_has}
 use Rattle.run_reading.proofs.Named.{IsShortHappening}
 use Rattle.run_reading.proofs.Calls.{more_owed, items_due, Owes, owes_step, owes_quiet, due_is, calls_state, due_owes, IsCancel, cancels_owe}
 
@@ -77,7 +79,7 @@ pumped_due (k ∷ ks) h = (choose HasNoneDue k.is_open (record k { past = with_p
 
 replied_due : (rs : List ReplyValue) (l : Lone) → AreNoneDue l.connections → AreNoneDue (replied rs l).connections
 replied_due [] l h = h
-replied_due (r ∷ rs) l h = replied_due rs (record l { connections = at_open r.call.connection (with_items r.call.stream (items_of r.outcome)) l.connections }) (quiet_due r.call.connection (with_items r.call.stream (items_of r.outcome)) l.connections (items_due r.call.stream (items_of r.outcome)) h)
+replied_due (r ∷ rs) l h = replied_due rs (record l { connections = at_open r.call.connection (with_items r.call.stream (items_of r.items)) l.connections }) (quiet_due r.call.connection (with_items r.call.stream (items_of r.items)) l.connections (items_due r.call.stream (items_of r.items)) h)
 
 calls_due : (c : ℕ) (es : List CallEvent) (l : Lone) → AreNoneDue l.connections → AreNoneDue (all_happened c es l).connections
 calls_due c [] l h = h
@@ -96,6 +98,14 @@ pub record Moves (l : Lone) (hs : List Happening) (m : Lone) : Type 0 where
   pub holds : (gs : List Given) → Holds gs l → Holds (gs ++ given_from l.state hs) m
   -- no message that comes is too long
   pub short : (gs : List Given) → Holds gs l → AllByRecursion IsShortHappening hs
+
+-- the same connections are owed the same
+holds_at : (gs : List Given) (l m : Lone) → m.connections ≡ l.connections → Holds gs l → Holds gs m
+holds_at gs l m same h = record {
+  owes = record { owed = subst (λ (ks : List LoneConnection). OwedFrom 0 gs ks) (sym same) h.owes.owed; below = subst (λ (ks : List LoneConnection). AreBelow (length ks) gs) (sym same) h.owes.below };
+  pasts = subst (λ (ks : List LoneConnection). AllByRecursion HasPast ks) (sym same) h.pasts;
+  due = subst AreNoneDue (sym same) h.due;
+}
 
 given_append : (s : InstanceState) (hs ks : List Happening) → given_from s (hs ++ ks) ≡ given_from s hs ++ given_from (fold state_after s hs) ks
 given_append s [] ks = refl
@@ -340,12 +350,28 @@ closed_moves c l =
       short = λ gs h. cancels_are_short (place_of c l.connections) c es (close_cancels c l);
     }
 
+-- what answers nothing gives nothing
+unanswered : (l m : Lone) (h : Happening) → m.state ≡ state_after l.state h → given_at l.state h ≡ [] → IsShortHappening h → m.connections ≡ l.connections → Moves l (h ∷ []) m
+unanswered l m h state none short same = record {
+  state = state;
+  holds = λ gs holds.
+      let given : gs ++ given_from l.state (h ∷ []) ≡ gs = ap (λ (xs : List Given). gs ++ (xs ++ [])) none ∙ append-nil gs in
+      subst (λ (xs : List Given). Holds xs m) (sym given) (holds_at gs l m same holds);
+  short = λ gs holds. (short, tt);
+}
+
+tick_moves : (l : Lone) → Moves l (TimePassed ∷ []) (happened time_passes l)
+tick_moves l = unanswered l (happened time_passes l) TimePassed refl refl tt refl
+
+came_moves_at : (moment : ℕ) (l : Lone) → Moves l (MomentCame moment ∷ []) (came_at moment l)
+came_moves_at moment l = unanswered l (came_at moment l) (MomentCame moment) refl refl tt refl
+
 what_moves : (w : WhatValue) (l : Lone) → Moves l (what_happens w l) (acted w l)
 what_moves (opened c) l = opened_moves c l
 what_moves (received c bytes) l = came_moves c bytes l
 what_moves (took c n) l = took_moves c n l
 what_moves (closed c) l = closed_moves c l
-what_moves tick l = quietly l l refl (λ gs h. h)
+what_moves tick l = tick_moves l
 what_moves (ended job outcome) l = quietly l l refl (λ gs h. h)
 
 pumped_moves : (l : Lone) → Moves l [] (pumped_all l)
@@ -355,13 +381,12 @@ pumped_moves l = quietly l (pumped_all l) refl (λ gs h. record {
   due = pumped_due l.connections h.due;
 })
 
-accepted_moves : (e : EventValue) (l : Lone) → Moves l (what_happens e.what (record l { moment = e.moment })) (accepted e l)
+accepted_moves : (e : EventValue) (l : Lone) → Moves l (MomentCame e.moment ∷ what_happens e.what (came_at e.moment l)) (accepted e l)
 accepted_moves e l =
-    let at : Lone = record l { moment = e.moment } in
+    let at : Lone = came_at e.moment l in
     let hs : List Happening = what_happens e.what at in
-    let later : Moves l [] at = quietly l at refl (λ gs h. record { owes = record { owed = h.owes.owed; below = h.owes.below }; pasts = h.pasts; due = h.due }) in
-    let all : Moves l (hs ++ []) (accepted e l) = then_moves l at (accepted e l) [] (hs ++ []) later (then_moves at (acted e.what at) (accepted e l) hs [] (what_moves e.what at) (pumped_moves (acted e.what at))) in
-    subst (λ (ks : List Happening). Moves l ks (accepted e l)) (append-nil hs) all
+    let all : Moves l (MomentCame e.moment ∷ (hs ++ [])) (accepted e l) = then_moves l at (accepted e l) (MomentCame e.moment ∷ []) (hs ++ []) (came_moves_at e.moment l) (then_moves at (acted e.what at) (accepted e l) hs [] (what_moves e.what at) (pumped_moves (acted e.what at))) in
+    subst (λ (ks : List Happening). Moves l (MomentCame e.moment ∷ ks) (accepted e l)) (append-nil hs) all
 
 unless_moves : (e : EventValue) (l : Lone) (o : Option EventRefusal) → Moves l (happens_unless e l o) (stepped e l o)
 unless_moves e l None = accepted_moves e l

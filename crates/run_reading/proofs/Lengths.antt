@@ -1,20 +1,24 @@
 -- Every message that is given can be taken by a client that takes the longest there can be.
-use Rattle.std.proofs.Common.{◌≡◌, ℕ, ◌<◌, ◌≤◌, ◌^◌, List, [], ◌∷◌, ◌++◌, refl, arith, length}
-use Rattle.std.specs.Prelude.{◌==◌, ◌&&◌, map, suc, Result, Ok, Err, IfOk}
+use Rattle.std.proofs.Common.{◌≡◌, ℕ, zero, ◌+◌, ◌-◌, ◌<◌, ◌≤◌, ◌^◌, List, [], ◌∷◌, ◌++◌, refl, arith, length, take, drop, length-take, length-append, inl, inr}
+use Rattle.std.specs.Prelude.{Bool, true, false, cond, ◌/◌, ◌%◌, ◌==◌, ◌&&◌, nat_lt, map, suc}
 use Rattle.std.specs.List.{AllByRecursion}
-use Rattle.call_status.specs.declared.refusal.Refusal.{Refusal}
-use Rattle.grpc_sending.specs.Owed.{Owed, Item, Headed, Message, item_on, owed_on}
+use Rattle.std.proofs.lemmas.Bool.{cases_Bool}
+use Rattle.std.proofs.lemmas.Bool.Decides.{nat_tests}
+use Rattle.grpc_sending.specs.Owed.{Owed, Item, Headed, Message, Range, item_on, owed_on}
+use Rattle.grpc_sending.specs.Pieces.{most_read, length_text, read_message}
 use Rattle.conn_core.proofs.Numbers.{same_number}
-use Rattle.instance_core.specs.Answer.{ReplyValue, answer, after, IsShortReply}
-use Rattle.instance_core.specs.State.{InstanceState, WithinLimits}
+use Rattle.instance_core.specs.Calls.{tick}
+use Rattle.instance_core.specs.Replies.{ReplyItemValue, begins, says, gives, ends, refuses, ReplyValue, IsShortItem as IsShortReplyItem, IsShortReply}
+use Rattle.instance_core.specs.Answer.{answer, after}
+use Rattle.instance_core.specs.State.{InstanceState, WithinLimits, at_moment}
 use Rattle.instance_core.proofs.Events.{replies_short}
-use Rattle.served_instance.specs.Calls.{items_of}
-use Rattle.client_reading.specs.Responses.{IsItemWithin, IsTakable}
+use Rattle.served_instance.specs.Calls.{item_of, items_of}
+use Rattle.client_reading.specs.Responses.{WholeMessage, IsWithin, messages_cut, read_messages, IsItemWithin, IsTakable}
 use Rattle.client_reading.proofs.Choices.{choose, all_append}
 use Rattle.run_limits.proofs.Calls.{after_keeps}
-use Rattle.run_reading.specs.Happenings.{Happening, RequestAnswered, CallEventCame}
+use Rattle.run_reading.specs.Happenings.{Happening, MomentCame, TimePassed, RequestAnswered, CallEventCame}
 use Rattle.run_reading.specs.Replies.{Given, reply_given, given_from, items_given, items_on, longest_message}
-use Rattle.run_reading.proofs.Named.{IsShortItem, IsShortHappening}
+use Rattle.run_reading.proofs.Named.{IsShortItem, IsShortHappening, moment_within}
 
 at_most : (n m : ℕ) → n < 2 ^ 32 → 2 ^ 32 ≡ suc m → n ≤ m
 at_most n m small is = omega (arith, is, small)
@@ -22,9 +26,39 @@ at_most n m small is = omega (arith, is, small)
 pub longest_fits : longest_message < 2 ^ 32
 longest_fits = omega arith
 
+-- ---- the messages of a range
+
+length_short : (n : ℕ) → length (length_text n) ≤ 3
+length_short n = go (nat_lt n 128) (nat_lt n 16384) where
+  go : (a b : Bool) → length (cond a (n ∷ []) (cond b ((n % 128 + 128) ∷ (n / 128) ∷ []) ((n % 128 + 128) ∷ ((n / 128) % 128 + 128) ∷ (n / 16384) ∷ []))) ≤ 3
+  go true b = omega arith
+  go false true = omega arith
+  go false false = omega arith
+
+message_within : (bytes : List ℕ) → length bytes ≤ most_read → length (read_message bytes) ≤ longest_message
+message_within bytes few =
+    let head : length (length_text (length bytes)) ≤ 3 = length_short (length bytes) in
+    let both : length (length_text (length bytes) ++ bytes) ≡ length (length_text (length bytes)) + length bytes = length-append (length_text (length bytes)) bytes in
+    omega (arith, few, head, both)
+
+cut_within : (k : ℕ) (bytes : List ℕ) → AllByRecursion (IsWithin longest_message) (map WholeMessage (messages_cut most_read k bytes))
+cut_within zero bytes = tt
+cut_within (suc k) bytes = elim (cases_Bool (nat_lt most_read (length bytes))) [
+  | inl more ↦
+      let front : length (take most_read bytes) ≤ most_read = omega (arith, length-take most_read bytes) in
+      rw more (message_within (take most_read bytes) front, cut_within k (drop most_read bytes))
+  | inr last ↦
+      let few : length bytes ≤ most_read = grind (arith, nat_tests) in
+      rw last (message_within bytes few, tt)
+]
+
+range_within : (bytes : List ℕ) → AllByRecursion (IsWithin longest_message) (map WholeMessage (read_messages bytes))
+range_within bytes = cut_within (length bytes) bytes
+
 item_within : (item : Item) → IsShortItem item → IsItemWithin longest_message item
 item_within (Headed block) h = (tt, tt)
 item_within (Message bytes) h = (at_most (length bytes) longest_message h refl, tt)
+item_within (Range digest text from count) h = absurd h
 
 abbrev pub IsGivenWithin : Given → Type 0
 IsGivenWithin g = AllByRecursion (IsItemWithin longest_message) g.items
@@ -34,16 +68,25 @@ AreWithin gs = AllByRecursion IsGivenWithin gs
 
 -- ---- what is given
 
-outcome_within : (o : Result (List ℕ) Refusal) → IfOk o (λ bytes. length bytes < 2 ^ 32) → AllByRecursion (IsItemWithin longest_message) (items_of o)
-outcome_within (Ok bytes) h = ((tt, tt), ((at_most (length bytes) longest_message h refl, tt), ((tt, tt), tt)))
-outcome_within (Err refusal) h = ((tt, tt), tt)
+reply_item_within : (item : ReplyItemValue) → IsShortReplyItem item → IsItemWithin longest_message (item_of item)
+reply_item_within begins h = (tt, tt)
+reply_item_within (says bytes) h = (at_most (length bytes) longest_message h refl, tt)
+reply_item_within (gives given) h = range_within (take (given.until - given.from) (drop given.from given.text))
+reply_item_within ends h = (tt, tt)
+reply_item_within (refuses refusal) h = (tt, tt)
+
+reply_items_within : (items : List ReplyItemValue) → AllByRecursion IsShortReplyItem items → AllByRecursion (IsItemWithin longest_message) (items_of items)
+reply_items_within [] h = tt
+reply_items_within (item ∷ items) h = (reply_item_within item h.0, reply_items_within items h.1)
 
 replies_within : (place : ℕ) (rs : List ReplyValue) → AllByRecursion IsShortReply rs → AreWithin (map (reply_given place) rs)
 replies_within place [] h = tt
-replies_within place (r ∷ rs) h = (outcome_within r.outcome h.0, replies_within place rs h.1)
+replies_within place (r ∷ rs) h = (reply_items_within r.items h.0, replies_within place rs h.1)
 
 pub given_within : (s : InstanceState) (hs : List Happening) → AllByRecursion IsShortHappening hs → WithinLimits s → AreWithin (given_from s hs)
 given_within s [] short w = tt
+given_within s (MomentCame moment ∷ hs) short w = given_within (at_moment moment s) hs short.1 (moment_within moment s w)
+given_within s (TimePassed ∷ hs) short w = given_within (after s tick) hs short.1 (after_keeps s tick tt w)
 given_within s (RequestAnswered place stream item ∷ hs) short w = ((item_within item short.0, tt), given_within s hs short.1 w)
 given_within s (CallEventCame place event ∷ hs) short w =
     all_append IsGivenWithin (map (reply_given place) (answer s event).replies) (given_from (after s event) hs)

@@ -15,11 +15,12 @@ use Rattle.conn_core.specs.Received.{raw_received}
 use Rattle.conn_core.specs.Calls.{cancels}
 use Rattle.conn_core.specs.Past.{Past, opening, with_frame, with_fault, with_item, with_taken, with_pumped}
 use Rattle.instance_core.specs.Calls.{CallEventValue}
-use Rattle.instance_core.specs.Answer.{ReplyValue, answer, after}
+use Rattle.instance_core.specs.Replies.{ReplyValue}
+use Rattle.instance_core.specs.Answer.{answer, after}
 use Rattle.server_events.specs.Events.{EventValue, WhatValue, opened, received, took, closed, tick, ended}
 use Rattle.served_instance.specs.Connections.{LoneConnection, is_at, open_at, at_open, closed_at, step_if_open, at_all_open}
 use Rattle.served_instance.specs.Calls.{call_event_on, items_of, with_items}
-use Rattle.served_instance.specs.Lone.{Lone, start, replied, happened, all_happened, due_at, none_due, due_happened, frame_read, is_over, frames_read, fault_met, end_read, unread_frames, all_read, with_bytes, bytes_came, acted, pumped_all, accepted}
+use Rattle.served_instance.specs.Lone.{Lone, start, replied, happened, all_happened, due_at, none_due, due_happened, frame_read, is_over, frames_read, fault_met, end_read, unread_frames, all_read, with_bytes, bytes_came, acted, pumped_all, came_at, accepted}
 use Rattle.client_reading.specs.Changes.{IsReceivable, IsPast, BytesReceived, FrameRead, FaultMet, ItemGiven, BytesTaken, FramesPut, EventsGiven}
 use Rattle.client_reading.proofs.Choices.{choose, all_append, all_by}
 use Rattle.client_reading.proofs.Pasts.{first_past, next_past, past_read, frames_received}
@@ -56,8 +57,8 @@ items_made s (item ∷ items) p h = items_made s items (with_item p s item) (nex
 replied_made : (rs : List ReplyValue) (l : Lone) → ArePasts l → ArePasts (replied rs l)
 replied_made [] l h = h
 replied_made (r ∷ rs) l h =
-    replied_made rs (record l { connections = at_open r.call.connection (with_items r.call.stream (items_of r.outcome)) l.connections })
-    (at_open_made r.call.connection (with_items r.call.stream (items_of r.outcome)) l.connections (items_made r.call.stream (items_of r.outcome)) h)
+    replied_made rs (record l { connections = at_open r.call.connection (with_items r.call.stream (items_of r.items)) l.connections })
+    (at_open_made r.call.connection (with_items r.call.stream (items_of r.items)) l.connections (items_made r.call.stream (items_of r.items)) h)
 
 happened_made : (event : CallEventValue) (l : Lone) → ArePasts l → ArePasts (happened event l)
 happened_made event l h = replied_made (answer l.state event).replies (record l { state = after l.state event }) h
@@ -123,8 +124,8 @@ start_made name quota slots = tt
 
 pub accepted_made : (e : EventValue) (l : Lone) → ArePasts l → ArePasts (accepted e l)
 accepted_made e l h =
-    let m : ArePasts (acted e.what (record l { moment = e.moment })) = acted_made e.what (record l { moment = e.moment }) h in
-    all_open_made with_pumped (acted e.what (record l { moment = e.moment })).connections (λ p k. next_past p FramesPut tt k) m
+    let m : ArePasts (acted e.what (came_at e.moment l)) = acted_made e.what (came_at e.moment l) h in
+    all_open_made with_pumped (acted e.what (came_at e.moment l)).connections (λ p k. next_past p FramesPut tt k) m
 
 pub all_read_by_clients : (l : Lone) → ArePasts l → AllByRecursion (λ (k : LoneConnection). Reads k.past) l.connections
 all_read_by_clients l h = all_by (λ (k : LoneConnection). IsPast k.past) (λ (k : LoneConnection). Reads k.past) l.connections (λ k is. past_read k.past is) h

@@ -1,9 +1,9 @@
 -- Each answer of a run is given within the instance's limits, so that it is short, and what it serves is named.
-use Rattle.std.proofs.Common.{◌≡◌, ℕ, pos, ◌<◌, ◌^◌, List, [], ◌∷◌, refl, ap, subst, length}
-use Rattle.std.specs.Prelude.{map, Option, Some, None, Result, Ok, Err, option_map, IfOk}
+use Rattle.std.proofs.Common.{◌≡◌, ℕ, ℤ, pos, negsuc, ◌+◌, ◌-◌, ◌<◌, ◌≤◌, ◌^◌, List, [], ◌∷◌, ◌++◌, refl, sym, ap, ◌∙◌, subst, length, arith, take, drop}
+use Rattle.std.specs.Prelude.{Bool, true, false, cond, ◌==◌, nat_lt, nat_le, min, map, Option, Some, None, Result, Ok, Err}
 use Rattle.std.specs.List.{AllByRecursion}
-use Rattle.std.specs.Option.{option_map_or}
-use Rattle.std.specs.Result.{result_ok}
+use Rattle.std.proofs.lemmas.Bool.Decides.{nat_tests}
+use Rattle.std.proofs.lemmas.List.{length-drop, take_all}
 use Rattle.digest.specs.declared.Digest.{Digest}
 use Rattle.digest.specs.Naming.{Names}
 use Rattle.instance_view.specs.Visible.{seen}
@@ -11,20 +11,37 @@ use Rattle.quota_evict.proofs.Seen.{seen_named}
 use Rattle.reapi_messages.specs.Results.{◌>>=◌}
 use Rattle.reapi_messages.specs.Statuses.{StatusValue}
 use Rattle.call_status.specs.declared.refusal.Refusal.{Refusal}
-use Rattle.call_status.specs.declared.refusal.Refusal.TheVariants.{BlobNotFound}
-use Rattle.grpc_sending.specs.Owed.{Item, Headed, Message}
+use Rattle.call_status.specs.declared.refusal.Refusal.TheVariants.{BlobNotFound, OffsetOutOfRange}
+use Rattle.grpc_sending.specs.Owed.{Item, Headed, Message, Range}
 use Rattle.call_methods.specs.declared.method.Method.{Method}
-use Rattle.call_methods.specs.declared.method.Method.TheVariants.{BatchReadBlobs}
+use Rattle.call_methods.specs.declared.method.Method.TheVariants.{FindMissingBlobs, BatchUpdateBlobs, BatchReadBlobs, GetTree, GetActionResult, UpdateActionResult, Execute, WaitExecution, GetCapabilities, Read, Write, QueryWriteStatus}
 use Rattle.cas_service.specs.Requests.{digest_value}
 use Rattle.cas_service.specs.Statuses.{ok_status, refused_status}
 use Rattle.cas_service.specs.BatchRead.{digests_to_read, read_response, read_reply}
+use Rattle.bytestream.specs.declared.reading.ReadAsked.{ReadAsked}
+use Rattle.bytestream.specs.Reading.{SourceValue, read_asked, place_of, until_of, range_asked, read_answer}
+use Rattle.bytestream.specs.Writing as Writing
+use Rattle.bytestream.specs.Writing.{WrittenValue}
 use Rattle.instance_core.specs.declared.event.CallId.{CallId}
-use Rattle.instance_core.specs.Answer.{ReplyValue, after, with_request, at_end}
-use Rattle.instance_core.specs.Calls.{CallValue, CallEventValue, head, message, fault, end, cancel, call_at, IsShortEvent}
-use Rattle.instance_core.specs.State.{InstanceState, WithinLimits, most_blobs}
+use Rattle.instance_core.specs.Replies.{ReplyItemValue, begins, says, gives, ends, refuses, ReplyValue, items_of, range_items, read_items}
+use Rattle.instance_core.specs.Changes.{Change}
+use Rattle.instance_core.specs.Methods.{is_served, reply_to, items_to}
+use Rattle.instance_core.specs.Writes.{first_changes, next_changes, first_outcome, next_outcome}
+use Rattle.instance_core.specs.Answer.{answer, after, at_head, first_written, next_written, with_first, with_message, at_message, at_fault, with_request, at_end}
+use Rattle.instance_core.specs.Calls.{ProgressValue, waits, has, writes, CallValue, CallEventValue, head, message, fault, end, cancel, tick, call_at, IsShortEvent}
+use Rattle.instance_core.specs.State.{InstanceState, WithinLimits, most_blobs, at_moment}
+use Rattle.served_instance.specs.Calls.{item_of, items_of as items_owed}
+use Rattle.client_reading.proofs.Choices.{all_append}
 use Rattle.run_limits.proofs.Calls.{after_keeps}
-use Rattle.run_reading.specs.Happenings.{Happening, RequestAnswered, CallEventCame}
-use Rattle.run_reading.specs.Named.{Answering, answerings, method_of, asked_by, asked_at, AreNamed, IsNamedBatch, ServesNamed}
+use Rattle.run_reading.specs.Replies.{reply_given, given_from}
+use Rattle.run_reading.specs.Happenings.{Happening, MomentCame, TimePassed, RequestAnswered, CallEventCame}
+use Rattle.run_reading.specs.Named.{Answering, answerings, Request, whole_request, request_at, bytes_from, IsNamedRange, AreNamed, IsNamedBatch, IsNamedItem, ServesNamed, IsNamedGift, GivesNamed}
+
+abbrev AreNamedItems : InstanceState → Option Request → List ReplyItemValue → Type 0
+AreNamedItems s request items = AllByRecursion (IsNamedItem s request) items
+
+abbrev AreNamedReplies : InstanceState → Option Request → List ReplyValue → Type 0
+AreNamedReplies s request replies = AllByRecursion (λ (r : ReplyValue). AreNamedItems s request r.items) replies
 
 -- ---- one batch
 
@@ -43,51 +60,214 @@ responses_named : (s : InstanceState) (ds : List Digest) → WithinLimits s → 
 responses_named s [] w = tt
 responses_named s (d ∷ ds) w = (digest_beside d (seen d s.visible), response_named s d (seen d s.visible) w refl, responses_named s ds w)
 
--- each reply that is no refusal
-abbrev AllServe : Answering → List ReplyValue → Type 0
-AllServe a rs = AllByRecursion (λ (r : ReplyValue). IfOk r.outcome (IsNamedBatch a)) rs
+batch_named : (s : InstanceState) (request : List ℕ) → WithinLimits s → AreNamedItems s (Some (record { method = BatchReadBlobs; message = request })) (items_of (reply_to BatchReadBlobs s request))
+batch_named s request w = go (digests_to_read s.name request) refl where
+  go : (r : Result (List Digest) Refusal) → digests_to_read s.name request ≡ r
+      → AreNamedItems s (Some (record { method = BatchReadBlobs; message = request })) (items_of (r >>= λ digests. Ok (read_reply s.visible digests)))
+  go (Ok ds) is =
+      let batch : IsNamedBatch s request (read_reply s.visible ds) = record { asked = ds; asks = is; responses = map (λ d. read_response d (seen d s.visible)) ds; text = refl; named = responses_named s ds w } in
+      (tt, ((λ same. batch), (tt, tt)))
+  go (Err refusal) is = (tt, tt)
 
-batch_named : (a : Answering) (r : Result (List Digest) Refusal) → WithinLimits a.state → asked_at a.state a.event ≡ result_ok r → IfOk (r >>= λ digests. Ok (read_reply a.state.visible digests)) (IsNamedBatch a)
-batch_named a (Ok ds) w asks = record { asked = ds; asks = asks; responses = map (λ d. read_response d (seen d a.state.visible)) ds; text = refl; named = responses_named a.state ds w }
-batch_named a (Err refusal) w asks = tt
+-- ---- one range
 
-request_named : (a : Answering) (id : CallId) (o : Option (List ℕ)) → WithinLimits a.state → asked_at a.state a.event ≡ asked_by a.state BatchReadBlobs o → AllServe a (with_request a.state id BatchReadBlobs o).replies
-request_named a id None w asks = (tt, tt)
-request_named a id (Some request) w asks = (batch_named a (digests_to_read a.state.name request) w asks, tt)
+-- what stands before the end of a text is no more than the limit
+bytes_asked : (limit from : ℕ) (text : List ℕ) → from ≤ length text → take (until_of limit from (length text) - from) (drop from text) ≡ bytes_from from limit text
+bytes_asked limit from text within = go (limit == 0) where
+  size : length (drop from text) ≡ length text - from
+  size = length-drop from text
 
-some_method : (m n : Method) → Some m ≡ Some n → m ≡ n
-some_method m n h = cc
+  limited : (b : Bool) → nat_le (from + limit) (length text) ≡ b → take (min (length text) (from + limit) - from) (drop from text) ≡ take limit (drop from text)
+  limited true is =
+      let fits : from + limit ≤ length text = grind (arith, nat_tests) in
+      let count : min (length text) (from + limit) - from ≡ limit = omega (arith, fits) in
+      ap (λ (n : ℕ). take n (drop from text)) count
+  limited false is =
+      let past : length text < from + limit = grind (arith, nat_tests) in
+      let count : min (length text) (from + limit) - from ≡ length text - from = omega (arith, past, within) in
+      ap (λ (n : ℕ). take n (drop from text)) count ∙ take_all (length text - from) (drop from text) (omega (arith, size)) ∙ sym (take_all limit (drop from text) (omega (arith, size, past)))
 
-end_named : (a : Answering) (id : CallId) (o : Option CallValue) → WithinLimits a.state → asked_at a.state a.event ≡ option_map_or (λ (call : CallValue). asked_by a.state call.method call.message) o None → option_map method_of o ≡ Some BatchReadBlobs → AllServe a (at_end a.state id o).replies
-end_named a id None w asks is = tt
-end_named a id (Some call) w asks is =
-    let same : call.method ≡ BatchReadBlobs = some_method call.method BatchReadBlobs is in
-    let asks' : asked_at a.state a.event ≡ asked_by a.state BatchReadBlobs call.message = subst (λ (m : Method). asked_at a.state a.event ≡ asked_by a.state m call.message) same asks in
-    rw same (request_named a id call.message w asks')
+  go : (b : Bool) → take (cond b (length text) (min (length text) (from + limit)) - from) (drop from text) ≡ cond b (drop from text) (take limit (drop from text))
+  go true = take_all (length text - from) (drop from text) (omega (arith, size))
+  go false = limited (nat_le (from + limit) (length text)) refl
+
+place_is : (offset : ℤ) (size from : ℕ) → place_of offset size ≡ Ok from → (offset ≡ pos from) × (from ≤ size)
+place_is (pos n) size from is = go (nat_le n size) refl is where
+  go : (b : Bool) → nat_le n size ≡ b → cond b (Ok n) (Err OffsetOutOfRange) ≡ Ok from → (pos n ≡ pos from) × (from ≤ size)
+  go true le is =
+      let same : n ≡ from = cc in
+      let small : n ≤ size = grind (arith, nat_tests) in
+      (ap pos same, subst (λ (m : ℕ). m ≤ size) same small)
+  go false le is = absurd (cc)
+place_is (negsuc n) size from is = absurd (cc)
+
+abbrev reading : List ℕ → Option Request
+reading request = Some (record { method = Read; message = request })
+
+range_named : (s : InstanceState) (request : List ℕ) (given : SourceValue) → IsNamedRange s request given → AreNamedItems s (reading request) (begins ∷ range_items given ++ ends ∷ [])
+range_named s request given named = (tt, go (nat_lt given.from given.until)) where
+  go : (b : Bool) → AreNamedItems s (reading request) (cond b (gives given ∷ []) [] ++ ends ∷ [])
+  go true = ((refl, named), (tt, tt))
+  go false = (tt, tt)
+
+read_named : (s : InstanceState) (request : List ℕ) → WithinLimits s → AreNamedItems s (reading request) (read_items (read_answer s.name s.visible request))
+read_named s request w = asks (read_asked s.name request) refl where
+  placed : (asked : ReadAsked) (text : List ℕ) (r : Result ℕ Refusal) → read_asked s.name request ≡ Ok asked → seen asked.digest s.visible ≡ Some text → place_of asked.offset (length text) ≡ r
+      → AreNamedItems s (reading request) (read_items (r >>= λ from. Ok (record { digest = asked.digest; text = text; from = from; until = until_of asked.limit from (length text) })))
+  placed asked text (Ok from) asks own at =
+      let place = place_is asked.offset (length text) from at in
+      range_named s request (record { digest = asked.digest; text = text; from = from; until = until_of asked.limit from (length text) }) (record {
+        asked = asked;
+        asks = asks;
+        same_digest = refl;
+        own = own;
+        named = seen_named most_blobs s.quota s.visible asked.digest text w.texts own;
+        offset = place.0;
+        bytes = bytes_asked asked.limit from text place.1;
+      })
+  placed asked text (Err refusal) asks own at = (tt, tt)
+
+  found : (asked : ReadAsked) (o : Option (List ℕ)) → read_asked s.name request ≡ Ok asked → seen asked.digest s.visible ≡ o → AreNamedItems s (reading request) (read_items (range_asked asked o))
+  found asked None asks own = (tt, tt)
+  found asked (Some text) asks own = placed asked text (place_of asked.offset (length text)) asks own refl
+
+  asks : (r : Result ReadAsked Refusal) → read_asked s.name request ≡ r → AreNamedItems s (reading request) (read_items (r >>= λ asked. range_asked asked (seen asked.digest s.visible)))
+  asks (Ok asked) is = found asked (seen asked.digest s.visible) is refl
+  asks (Err refusal) is = (tt, tt)
+
+-- ---- a whole request
+
+other_named : (s : InstanceState) (method : Method) (request : List ℕ) (r : Result (List ℕ) Refusal) → (method ≡ BatchReadBlobs → ⊥) → AreNamedItems s (Some (record { method = method; message = request })) (items_of r)
+other_named s method request (Ok reply) other = (tt, ((λ same. absurd (other same)), (tt, tt)))
+other_named s method request (Err refusal) other = (tt, tt)
+
+method_named : (s : InstanceState) (method : Method) (request : List ℕ) → WithinLimits s → AreNamedItems s (Some (record { method = method; message = request })) (items_to method s request)
+method_named s BatchReadBlobs request w = batch_named s request w
+method_named s Read request w = read_named s request w
+method_named s FindMissingBlobs request w = other_named s FindMissingBlobs request (reply_to FindMissingBlobs s request) (λ same. cc)
+method_named s BatchUpdateBlobs request w = other_named s BatchUpdateBlobs request (reply_to BatchUpdateBlobs s request) (λ same. cc)
+method_named s GetTree request w = other_named s GetTree request (reply_to GetTree s request) (λ same. cc)
+method_named s GetActionResult request w = other_named s GetActionResult request (reply_to GetActionResult s request) (λ same. cc)
+method_named s UpdateActionResult request w = other_named s UpdateActionResult request (reply_to UpdateActionResult s request) (λ same. cc)
+method_named s Execute request w = other_named s Execute request (reply_to Execute s request) (λ same. cc)
+method_named s WaitExecution request w = other_named s WaitExecution request (reply_to WaitExecution s request) (λ same. cc)
+method_named s GetCapabilities request w = other_named s GetCapabilities request (reply_to GetCapabilities s request) (λ same. cc)
+method_named s Write request w = other_named s Write request (reply_to Write s request) (λ same. cc)
+method_named s QueryWriteStatus request w = other_named s QueryWriteStatus request (reply_to QueryWriteStatus s request) (λ same. cc)
+
+-- ---- the other events give no range
+
+plain_named : (s : InstanceState) (r : Result (List ℕ) Refusal) → AreNamedItems s None (items_of r)
+plain_named s (Ok reply) = (tt, (tt, (tt, tt)))
+plain_named s (Err refusal) = (tt, tt)
+
+first_named : (s : InstanceState) (id : CallId) (method : Method) (changes : List Change) (r : Result WrittenValue Refusal) → AreNamedReplies s None (first_written id method changes r).replies
+first_named s id method changes (Ok (Writing.Goes write)) = tt
+first_named s id method changes (Ok (Writing.Answered reply)) = (plain_named s (Ok reply), tt)
+first_named s id method changes (Err refusal) = (plain_named s (Err refusal), tt)
+
+next_named : (s : InstanceState) (id : CallId) (changes : List Change) (r : Result (Option (List ℕ)) Refusal) → AreNamedReplies s None (next_written id changes r).replies
+next_named s id changes (Ok None) = tt
+next_named s id changes (Ok (Some reply)) = (plain_named s (Ok reply), tt)
+next_named s id changes (Err refusal) = (plain_named s (Err refusal), tt)
+
+with_first_named : (s : InstanceState) (id : CallId) (method : Method) (bytes : List ℕ) → AreNamedReplies s None (with_first s id method bytes).replies
+with_first_named s id Write bytes = first_named s id Write (first_changes s bytes) (first_outcome s bytes)
+with_first_named s id method bytes = tt
+
+with_named : (s : InstanceState) (id : CallId) (method : Method) (bytes : List ℕ) (p : ProgressValue) → AreNamedReplies s None (with_message s id method bytes p).replies
+with_named s id method bytes waits = with_first_named s id method bytes
+with_named s id method bytes (has first) = ((tt, tt), tt)
+with_named s id method bytes (writes write) = next_named s id (next_changes s write bytes) (next_outcome s write bytes)
+
+message_named : (s : InstanceState) (id : CallId) (bytes : List ℕ) (o : Option CallValue) → AreNamedReplies s None (at_message s id bytes o).replies
+message_named s id bytes None = tt
+message_named s id bytes (Some call) = with_named s id call.method bytes call.progress
+
+head_named : (s : InstanceState) (id : CallId) (method : Method) (o : Option CallValue) → AreNamedReplies s None (at_head id method o).replies
+head_named s id method (Some call) = tt
+head_named s id method None = go (is_served method) refl where
+  go : (b : Bool) → is_served method ≡ b → AreNamedReplies s None (at_head id method None).replies
+  go true is = rw is tt
+  go false is = rw is ((tt, tt), tt)
+
+fault_named : (s : InstanceState) (id : CallId) (refusal : Refusal) (o : Option CallValue) → AreNamedReplies s None (at_fault id refusal o).replies
+fault_named s id refusal None = tt
+fault_named s id refusal (Some call) = ((tt, tt), tt)
+
+request_named : (s : InstanceState) (id : CallId) (method : Method) (p : ProgressValue) → WithinLimits s → AreNamedReplies s (whole_request method p) (with_request s id method p).replies
+request_named s id method waits w = ((tt, tt), tt)
+request_named s id method (has request) w = (method_named s method request w, tt)
+request_named s id method (writes write) w = ((tt, (tt, (tt, tt))), tt)
+
+end_named : (s : InstanceState) (id : CallId) (o : Option CallValue) → WithinLimits s → call_at id s.calls ≡ o → AreNamedReplies s (request_at s (end id)) (at_end s id o).replies
+end_named s id None w is = tt
+end_named s id (Some call) w is = rw is (request_named s id call.method call.progress w)
 
 serves_named : (s : InstanceState) (event : CallEventValue) → WithinLimits s → ServesNamed (record { state = s; event = event })
-serves_named s (end id) w is = end_named (record { state = s; event = end id }) id (call_at id s.calls) w refl is
-serves_named s (head id method) w is = cc
-serves_named s (message id bytes) w is = cc
-serves_named s (fault id refusal) w is = cc
-serves_named s (cancel id) w is = cc
+serves_named s (end id) w = end_named s id (call_at id s.calls) w refl
+serves_named s (head id method) w = head_named s id method (call_at id s.calls)
+serves_named s (message id bytes) w = message_named s id bytes (call_at id s.calls)
+serves_named s (fault id refusal) w = fault_named s id refusal (call_at id s.calls)
+serves_named s (cancel id) w = tt
+serves_named s tick w = tt
 
 -- ---- all answers
 
--- its length can be written in front of it
+-- what a request is answered at once is no range, and a message's length can be written in front of it
 abbrev pub IsShortItem : Item → Type 0
 IsShortItem (Headed block) = Unit {0}
 IsShortItem (Message bytes) = length bytes < 2 ^ 32
+IsShortItem (Range digest text from count) = ⊥
 
 abbrev pub IsShortHappening : Happening → Type 0
+IsShortHappening (MomentCame moment) = Unit {0}
+IsShortHappening TimePassed = Unit {0}
 IsShortHappening (RequestAnswered place stream item) = IsShortItem item
 IsShortHappening (CallEventCame place event) = IsShortEvent event
+
+pub moment_within : (moment : ℕ) (s : InstanceState) → WithinLimits s → WithinLimits (at_moment moment s)
+moment_within moment s w = record { quota = w.quota; texts = w.texts; uploads = w.uploads; calls = w.calls; messages = w.messages }
 
 -- what holds of each answer that is given within the limits, holds of all
 pub each_answer : (P : Answering → Type 0) (s : InstanceState) (hs : List Happening) → ((t : InstanceState) (event : CallEventValue) → WithinLimits t → P (record { state = t; event = event })) → AllByRecursion IsShortHappening hs → WithinLimits s → AllByRecursion P (answerings s hs)
 each_answer P s [] good short w = tt
+each_answer P s (MomentCame moment ∷ hs) good short w = each_answer P (at_moment moment s) hs good short.1 (moment_within moment s w)
+each_answer P s (TimePassed ∷ hs) good short w = each_answer P (after s tick) hs good short.1 (after_keeps s tick tt w)
 each_answer P s (RequestAnswered place stream item ∷ hs) good short w = each_answer P s hs good short.1 w
 each_answer P s (CallEventCame place event ∷ hs) good short w = (good s event w, each_answer P (after s event) hs good short.1 (after_keeps s event short.0 w))
 
 pub all_named : (s : InstanceState) (hs : List Happening) → AllByRecursion IsShortHappening hs → WithinLimits s → AllByRecursion ServesNamed (answerings s hs)
 all_named s hs short w = each_answer ServesNamed s hs serves_named short w
+
+-- ---- all that is given
+
+item_gift : (s : InstanceState) (request : Option Request) (item : ReplyItemValue) → IsNamedItem s request item → IsNamedGift (item_of item)
+item_gift s (Some request) (gives given) h = subst (λ (d : Digest). Names d given.text) (sym h.1.same_digest) h.1.named
+item_gift s None (gives given) h = absurd h
+item_gift s request begins h = tt
+item_gift s request (says bytes) h = tt
+item_gift s request ends h = tt
+item_gift s request (refuses refusal) h = tt
+
+items_gifts : (s : InstanceState) (request : Option Request) (items : List ReplyItemValue) → AreNamedItems s request items → AllByRecursion IsNamedGift (items_owed items)
+items_gifts s request [] h = tt
+items_gifts s request (item ∷ items) h = (item_gift s request item h.0, items_gifts s request items h.1)
+
+replies_gifts : (s : InstanceState) (request : Option Request) (place : ℕ) (replies : List ReplyValue) → AreNamedReplies s request replies → AllByRecursion GivesNamed (map (reply_given place) replies)
+replies_gifts s request place [] h = tt
+replies_gifts s request place (r ∷ rs) h = (items_gifts s request r.items h.0, replies_gifts s request place rs h.1)
+
+request_gift : (item : Item) → IsShortItem item → IsNamedGift item
+request_gift (Headed block) h = tt
+request_gift (Message bytes) h = tt
+request_gift (Range digest text from count) h = absurd h
+
+pub all_gifts : (s : InstanceState) (hs : List Happening) → AllByRecursion IsShortHappening hs → WithinLimits s → AllByRecursion GivesNamed (given_from s hs)
+all_gifts s [] short w = tt
+all_gifts s (MomentCame moment ∷ hs) short w = all_gifts (at_moment moment s) hs short.1 (moment_within moment s w)
+all_gifts s (TimePassed ∷ hs) short w = all_gifts (after s tick) hs short.1 (after_keeps s tick tt w)
+all_gifts s (RequestAnswered place stream item ∷ hs) short w = ((request_gift item short.0, tt), all_gifts s hs short.1 w)
+all_gifts s (CallEventCame place event ∷ hs) short w =
+    all_append GivesNamed (map (reply_given place) (answer s event).replies) (given_from (after s event) hs)
+    (replies_gifts s (request_at s event) place (answer s event).replies (serves_named s event w)) (all_gifts (after s event) hs short.1 (after_keeps s event short.0 w))

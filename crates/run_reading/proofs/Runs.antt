@@ -13,9 +13,9 @@ use Rattle.client_reading.specs.Reads.{Reads}
 use Rattle.client_reading.proofs.Pasts.{past_read}
 use Rattle.run_reading.specs.Connections.{HasPast}
 use Rattle.run_reading.specs.Replies.{Given, state_after, items_on, longest_message, ReadsText, AreRead, opened_by, run_happenings, run_given}
-use Rattle.run_reading.specs.Named.{ServesNamed, run_answerings}
+use Rattle.run_reading.specs.Named.{ServesNamed, run_answerings, GivesNamed}
 use Rattle.run_reading.proofs.Owes.{OwedFrom}
-use Rattle.run_reading.proofs.Named.{IsShortHappening, all_named}
+use Rattle.run_reading.proofs.Named.{IsShortHappening, all_named, all_gifts}
 use Rattle.run_reading.proofs.Lengths.{AreWithin, given_within, items_within, all_takable, longest_fits}
 use Rattle.run_reading.proofs.Texts.{run_reads}
 use Rattle.run_reading.proofs.Happens.{Holds, run_moves, first_holds}
@@ -49,3 +49,6 @@ state_is config events = (run_moves (begun config) events).state
 
 pub run_named : (config : ConfigValue) (events : List EventValue) → config.quota ≤ 2 ^ 40 → AllByRecursion ServesNamed (run_answerings config events)
 run_named config events small = all_named (opened_by config) (run_happenings config events) (run_short config events) (run_within config [] small)
+
+pub run_gives_named : (config : ConfigValue) (events : List EventValue) → config.quota ≤ 2 ^ 40 → AllByRecursion GivesNamed (run_given config events)
+run_gives_named config events small = all_gifts (opened_by config) (run_happenings config events) (run_short config events) (run_within config [] small)

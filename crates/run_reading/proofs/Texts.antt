@@ -23,12 +23,13 @@ use Rattle.conn_core.specs.Past.{Past, opening, with_item, with_frame, with_faul
 use Rattle.conn_core.specs.Received.{raw_received, raw_in, outcome, fault_frames}
 use Rattle.conn_core.proofs.Answered.{raw_after}
 use Rattle.conn_core.proofs.Events.{raw_out, raw_took}
-use Rattle.instance_core.specs.Answer.{ReplyValue, answer, after}
+use Rattle.instance_core.specs.Replies.{ReplyValue}
+use Rattle.instance_core.specs.Answer.{answer, after}
 use Rattle.server_events.specs.Events.{EventValue, WhatValue, opened, received, took, closed, tick, ended}
 use Rattle.served_instance.specs.declared.refusal.EventRefusal.{EventRefusal}
 use Rattle.served_instance.specs.Connections.{LoneConnection, is_at, open_at, at_open, closed_at, at_all_open}
 use Rattle.served_instance.specs.Calls.{call_event_on, items_of, with_items}
-use Rattle.served_instance.specs.Lone.{Lone, replied, happened, all_happened, due_at, none_due, due_happened, frame_read, is_over, frames_read, fault_met, end_read, unread_frames, all_read, with_bytes, bytes_came, acted}
+use Rattle.served_instance.specs.Lone.{Lone, replied, happened, all_happened, due_at, none_due, due_happened, frame_read, is_over, frames_read, fault_met, end_read, unread_frames, all_read, with_bytes, bytes_came, acted, came_at}
 use Rattle.served_instance.specs.Refusals.{refusal_of, stepped}
 use Rattle.run_record.specs.Runs.{Run, run_step}
 use Rattle.client_reading.proofs.Choices.{choose, all_append}
@@ -54,8 +55,8 @@ AllRead ks = AllByRecursion (λ (k : LoneConnection). ReadsText k.past) ks
 abbrev KeepsKey : (Past → Past) → Type 0
 KeepsKey step = (p : Past) → key (step p) ≡ key p
 
-items_text : (s : ℕ) (r : ReplyValue) → KeepsKey (with_items s (items_of r.outcome))
-items_text s r p = with_all (items_of r.outcome) p where
+items_text : (s : ℕ) (r : ReplyValue) → KeepsKey (with_items s (items_of r.items))
+items_text s r p = with_all (items_of r.items) p where
   with_all : (items : List Item) (q : Past) → key (with_items s items q) ≡ key q
   with_all [] q = refl
   with_all (item ∷ items) q = with_all items (with_item q s item)
@@ -80,7 +81,7 @@ closed_read c (k ∷ ks) h = choose AllRead (is_at c k) (record k { is_open = fa
 
 replied_read : (rs : List ReplyValue) (l : Lone) → AllRead l.connections → AllRead (replied rs l).connections
 replied_read [] l h = h
-replied_read (r ∷ rs) l h = replied_read rs (record l { connections = at_open r.call.connection (with_items r.call.stream (items_of r.outcome)) l.connections }) (quiet_read r.call.connection (with_items r.call.stream (items_of r.outcome)) l.connections (items_text r.call.stream r) h)
+replied_read (r ∷ rs) l h = replied_read rs (record l { connections = at_open r.call.connection (with_items r.call.stream (items_of r.items)) l.connections }) (quiet_read r.call.connection (with_items r.call.stream (items_of r.items)) l.connections (items_text r.call.stream r) h)
 
 calls_read : (c : ℕ) (es : List CallEvent) (l : Lone) → AllRead l.connections → AllRead (all_happened c es l).connections
 calls_read c [] l h = h
@@ -111,8 +112,8 @@ same_key c d step (k ∷ ks) keeps = elim (cases_Bool (is_at d k)) [
 replied_key : (c : ℕ) (rs : List ReplyValue) (l : Lone) → open_key c (replied rs l).connections ≡ open_key c l.connections
 replied_key c [] l = refl
 replied_key c (r ∷ rs) l =
-    replied_key c rs (record l { connections = at_open r.call.connection (with_items r.call.stream (items_of r.outcome)) l.connections })
-    ∙ same_key c r.call.connection (with_items r.call.stream (items_of r.outcome)) l.connections (items_text r.call.stream r)
+    replied_key c rs (record l { connections = at_open r.call.connection (with_items r.call.stream (items_of r.items)) l.connections })
+    ∙ same_key c r.call.connection (with_items r.call.stream (items_of r.items)) l.connections (items_text r.call.stream r)
 
 calls_key : (c : ℕ) (es : List CallEvent) (l : Lone) → open_key c (all_happened c es l).connections ≡ open_key c l.connections
 calls_key c [] l = refl
@@ -228,7 +229,7 @@ pumped_reads [] h = tt
 pumped_reads (k ∷ ks) h = (choose (λ (j : LoneConnection). ReadsText j.past) k.is_open (record k { past = with_pumped k.past }) k (λ _. same_frames k.past.diary (with_pumped k.past).diary k.past.text (pumped_raw k.past.diary k.past.owed) h.0) (λ _. h.0), pumped_reads ks h.1)
 
 step_reads : (e : EventValue) (l : Lone) (o : Option EventRefusal) → AllRead l.connections → AllRead (stepped e l o).connections
-step_reads e l None h = pumped_reads (acted e.what (record l { moment = e.moment })).connections (acted_reads e.what (record l { moment = e.moment }) h)
+step_reads e l None h = pumped_reads (acted e.what (came_at e.moment l)).connections (acted_reads e.what (came_at e.moment l) h)
 step_reads e l (Some refusal) h = h
 
 pub run_reads : (r : Run) (es : List EventValue) → AllRead r.lone.connections → AllByRecursion (λ (k : LoneConnection). ReadsText k.past) (fold run_step r es).lone.connections

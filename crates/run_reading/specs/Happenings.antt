@@ -1,5 +1,6 @@
--- What happens in a run that is answered: requests that are no calls, and events of calls, in order. Each definition
--- here goes beside one of Lone.antt of served_instance, whose steps it follows, and lists what happens in it.
+-- What happens in a run that matters to answers: moments come, time passes, requests come that are no calls, and
+-- events of calls, in order. Each definition here goes beside one of Lone.antt of served_instance, whose steps it
+-- follows, and lists what happens in it.
 use Rattle.std.specs.Prelude.{ℕ, suc, if◌then◌else◌, List, [], ◌∷◌, ◌++◌, map, Option, Some, None, Result, Ok, Err}
 use Rattle.std.specs.Option.{option_map_or}
 use Rattle.http2_frames.specs.declared.reader.TheConstants.{CLIENT_PREFACE}
@@ -18,10 +19,14 @@ use Rattle.server_events.specs.Events.{EventValue, WhatValue, opened, received, 
 use Rattle.served_instance.specs.declared.refusal.EventRefusal.{EventRefusal}
 use Rattle.served_instance.specs.Connections.{LoneConnection, is_at, open_at, at_open}
 use Rattle.served_instance.specs.Calls.{call_event_on}
-use Rattle.served_instance.specs.Lone.{Lone, due_at, is_over, frame_read, frames_read, unread_frames, with_bytes}
+use Rattle.served_instance.specs.Lone.{Lone, due_at, is_over, frame_read, frames_read, unread_frames, with_bytes, came_at}
 use Rattle.served_instance.specs.Refusals.{refusal_of, lone_step}
 
 pub data Happening : Type 0 where
+  -- an event that is not refused comes at this moment, in milliseconds
+  MomentCame : ℕ → Happening
+  -- old uploads are forgotten
+  TimePassed : Happening
   -- the request on this stream, of the connection at this place, is no call: this item is owed to it at once
   RequestAnswered : ℕ → ℕ → Item → Happening
   -- something happens to a call on the connection at this place
@@ -82,12 +87,12 @@ what_happens (opened c) l = []
 what_happens (received c bytes) l = bytes_happen c bytes l
 what_happens (took c n) l = []
 what_happens (closed c) l = close_happens c l
-what_happens tick l = []
+what_happens tick l = TimePassed ∷ []
 what_happens (ended job outcome) l = []
 
 -- a refused event changes nothing
 abbrev pub happens_unless : EventValue → Lone → Option EventRefusal → List Happening
-happens_unless e l None = what_happens e.what (record l { moment = e.moment })
+happens_unless e l None = MomentCame e.moment ∷ what_happens e.what (came_at e.moment l)
 happens_unless e l (Some refusal) = []
 
 abbrev pub step_happens : EventValue → Lone → List Happening

@@ -1,24 +1,28 @@
 -- What is served under a digest is what the digest says: the hash is its SHA-256, and the size its length.
-use Rattle.std.specs.Prelude.{◌≡◌, ℕ, List, [], ◌∷◌, Option, Some, None, option_map, IfOk}
+use Rattle.std.specs.Prelude.{◌≡◌, ◌-◌, ◌==◌, ℕ, pos, if◌then◌else◌, List, [], ◌∷◌, take, drop, Option, Some, None, Ok}
 use Rattle.std.specs.List.{AllByRecursion}
 use Rattle.std.specs.Option.{option_map_or}
-use Rattle.std.specs.Result.{result_ok}
 use Rattle.digest.specs.declared.Digest.{Digest}
 use Rattle.digest.specs.Naming.{Names}
+use Rattle.instance_view.specs.Visible.{seen}
 use Rattle.reapi_messages.specs.Batches.{ReadBlobResponseValue, batch_read_blobs_response_records}
 use Rattle.reapi_messages.specs.Parts.{text_for}
 use Rattle.cas_service.specs.BatchRead.{digests_to_read}
 use Rattle.cas_service.specs.Requests.{digest_value}
 use Rattle.cas_service.specs.Statuses.{ok_status}
+use Rattle.bytestream.specs.declared.reading.ReadAsked.{ReadAsked}
+use Rattle.bytestream.specs.Reading.{SourceValue, read_asked}
+use Rattle.grpc_sending.specs.Owed.{Item, Headed, Message, Range}
 use Rattle.call_methods.specs.declared.method.Method.{Method}
-use Rattle.call_methods.specs.declared.method.Method.TheVariants.{BatchReadBlobs}
-use Rattle.instance_core.specs.Answer.{ReplyValue, answer, after}
-use Rattle.instance_core.specs.Calls.{CallValue, CallEventValue, end, call_at}
-use Rattle.instance_core.specs.State.{InstanceState}
+use Rattle.call_methods.specs.declared.method.Method.TheVariants.{BatchReadBlobs, Read}
+use Rattle.instance_core.specs.Calls.{ProgressValue, waits, has, writes, CallEventValue, end, tick, call_at}
+use Rattle.instance_core.specs.Replies.{ReplyItemValue, begins, says, gives, ends, refuses, ReplyValue}
+use Rattle.instance_core.specs.Answer.{answer, after}
+use Rattle.instance_core.specs.State.{InstanceState, at_moment}
 use Rattle.server_events.specs.Configs.{ConfigValue}
 use Rattle.server_events.specs.Events.{EventValue}
-use Rattle.run_reading.specs.Replies.{opened_by, run_happenings}
-use Rattle.run_reading.specs.Happenings.{Happening, RequestAnswered, CallEventCame}
+use Rattle.run_reading.specs.Replies.{Given, opened_by, run_happenings}
+use Rattle.run_reading.specs.Happenings.{Happening, MomentCame, TimePassed, RequestAnswered, CallEventCame}
 
 -- ---- the answers of a run
 
@@ -29,48 +33,91 @@ pub record Answering : Type 0 where
 
 abbrev pub answerings : InstanceState → List Happening → List Answering
 answerings s [] = []
+answerings s (MomentCame moment ∷ hs) = answerings (at_moment moment s) hs
+answerings s (TimePassed ∷ hs) = answerings (after s tick) hs
 answerings s (RequestAnswered place stream item ∷ hs) = answerings s hs
 answerings s (CallEventCame place event ∷ hs) = record { state = s; event = event } ∷ answerings (after s event) hs
 
+-- what is given to streams for it (`given_at` of Replies.antt)
 abbrev pub replies_of : Answering → List ReplyValue
 replies_of a = (answer a.state a.event).replies
 
--- the method of the call whose request is at its end
-abbrev pub method_of : CallValue → Method
-method_of call = call.method
+-- ---- the request that is answered
 
-abbrev pub method_ended : InstanceState → CallEventValue → Option Method
-method_ended s (end id) = option_map method_of (call_at id s.calls)
-method_ended s _ = None
+-- a whole request of one message
+pub record Request : Type 0 where
+  pub method : Method
+  pub message : List ℕ
+
+abbrev pub whole_request : Method → ProgressValue → Option Request
+whole_request method waits = None
+whole_request method (has message) = Some (record { method = method; message = message })
+whole_request method (writes write) = None
+
+-- the request of a call that this event ends
+abbrev pub request_at : InstanceState → CallEventValue → Option Request
+request_at s (end id) = option_map_or (λ call. whole_request call.method call.progress) (call_at id s.calls) None
+request_at s _ = None
+
+-- ---- Read (bytestream.proto)
+
+-- the bytes of a text from an offset on, and no more than a limit; the limit 0 is none
+abbrev pub bytes_from : ℕ → ℕ → List ℕ → List ℕ
+bytes_from offset limit text = if limit == 0 then drop offset text else take limit (drop offset text)
+
+-- a range is of the text that the instance itself has under the digest in the resource name, and that the digest
+-- names; its bytes are those from read_offset on, at most read_limit of them
+pub record IsNamedRange (s : InstanceState) (message : List ℕ) (given : SourceValue) : Type 0 where
+  pub asked : ReadAsked
+  pub asks : read_asked s.name message ≡ Ok asked
+  pub same_digest : given.digest ≡ asked.digest
+  pub own : seen asked.digest s.visible ≡ Some given.text
+  pub named : Names asked.digest given.text
+  pub offset : asked.offset ≡ pos given.from
+  pub bytes : take (given.until - given.from) (drop given.from given.text) ≡ bytes_from given.from asked.limit given.text
 
 -- ---- BatchReadBlobs (remote_execution.proto)
 
-abbrev pub asked_by : InstanceState → Method → Option (List ℕ) → Option (List Digest)
-asked_by s BatchReadBlobs (Some request) = result_ok (digests_to_read s.name request)
-asked_by s _ _ = None
-
--- the digests that the request asks for which is at its end
-abbrev pub asked_at : InstanceState → CallEventValue → Option (List Digest)
-asked_at s (end id) = option_map_or (λ call. asked_by s call.method call.message) (call_at id s.calls) None
-asked_at s _ = None
-
--- a response for each digest that was asked for, and data with status OK are what that digest says
+-- a response for each digest that was asked for, in order, and data with status OK are what that digest says
 abbrev pub AreNamed : List Digest → List ReadBlobResponseValue → Type 0
 AreNamed [] [] = Unit {0}
 AreNamed (d ∷ ds) (r ∷ rs) = (r.digest ≡ Some (digest_value d)) × (r.status ≡ Some ok_status → Names d r.content) × AreNamed ds rs
 AreNamed ds rs = ⊥
 
 -- the bytes are a BatchReadBlobsResponse of such responses
-pub record IsNamedBatch (a : Answering) (bytes : List ℕ) : Type 0 where
+pub record IsNamedBatch (s : InstanceState) (message bytes : List ℕ) : Type 0 where
   pub asked : List Digest
-  pub asks : asked_at a.state a.event ≡ Some asked
+  pub asks : digests_to_read s.name message ≡ Ok asked
   pub responses : List ReadBlobResponseValue
   pub text : bytes ≡ text_for batch_read_blobs_response_records (record { responses = responses })
   pub named : AreNamed asked responses
 
+-- ---- each blob that is served
+
+-- a range is given to a Read alone, and is named by the digest that it asks for; so are the blobs of a batch
+abbrev pub IsNamedItem : InstanceState → Option Request → ReplyItemValue → Type 0
+IsNamedItem s (Some request) (gives given) = (request.method ≡ Read) × IsNamedRange s request.message given
+IsNamedItem s None (gives given) = ⊥
+IsNamedItem s (Some request) (says bytes) = request.method ≡ BatchReadBlobs → IsNamedBatch s request.message bytes
+IsNamedItem s None (says bytes) = Unit {0}
+IsNamedItem s request begins = Unit {0}
+IsNamedItem s request ends = Unit {0}
+IsNamedItem s request (refuses refusal) = Unit {0}
+
 abbrev pub ServesNamed : Answering → Type 0
-ServesNamed a = method_ended a.state a.event ≡ Some BatchReadBlobs → AllByRecursion (λ r. IfOk r.outcome (IsNamedBatch a)) (replies_of a)
+ServesNamed a = AllByRecursion (λ r. AllByRecursion (IsNamedItem a.state (request_at a.state a.event)) r.items) (replies_of a)
 
 -- of all answers that the instance gives in a run
 abbrev pub run_answerings : ConfigValue → List EventValue → List Answering
 run_answerings config events = answerings (opened_by config) (run_happenings config events)
+
+-- ---- and in what streams are given
+
+-- a range is of the text that its digest names
+abbrev pub IsNamedGift : Item → Type 0
+IsNamedGift (Range digest text from count) = Names digest text
+IsNamedGift (Headed block) = Unit {0}
+IsNamedGift (Message bytes) = Unit {0}
+
+abbrev pub GivesNamed : Given → Type 0
+GivesNamed g = AllByRecursion IsNamedGift g.items

@@ -1,6 +1,6 @@
 -- What the streams of a run's connections are given for all that happens: at a request that is no call the answer to
--- it, and at an event of a call what the instance replies (`answer` of instance_core), whose state is a run of such
--- answers and of nothing else.
+-- it, and at an event of a call what the instance replies (`answer` of instance_core). Its state is a run of such
+-- answers, of the moments at which they are given and of the passing of time, and of nothing else.
 use Rattle.std.specs.Prelude.{◌≡◌, ℕ, ◌==◌, ◌&&◌, suc, if◌then◌else◌, List, [], ◌∷◌, ◌++◌, map, fold}
 use Rattle.std.specs.List.{flat_map}
 use Rattle.http2_frames.specs.declared.reader.TheConstants.{CLIENT_PREFACE}
@@ -9,8 +9,10 @@ use Rattle.http2_frames.specs.Reading.{split}
 use Rattle.grpc_sending.specs.Owed.{Item, owed_on}
 use Rattle.conn_core.specs.Past.{Past}
 use Rattle.conn_core.specs.Received.{raw_received}
-use Rattle.instance_core.specs.Answer.{ReplyValue, answer, after}
-use Rattle.instance_core.specs.State.{InstanceState, opened}
+use Rattle.instance_core.specs.Calls.{tick}
+use Rattle.instance_core.specs.Replies.{ReplyValue}
+use Rattle.instance_core.specs.Answer.{answer, after}
+use Rattle.instance_core.specs.State.{InstanceState, opened, at_moment}
 use Rattle.server_events.specs.Configs.{ConfigValue}
 use Rattle.server_events.specs.Events.{EventValue}
 use Rattle.served_instance.specs.Connections.{LoneConnection}
@@ -20,7 +22,7 @@ use Rattle.run_record.specs.Runs.{run_of}
 use Rattle.client_reading.specs.Changes.{IsPast}
 use Rattle.client_reading.specs.Responses.{stream_parts, response_of, IsBeginning}
 use Rattle.client_reading.specs.Reads.{Reads}
-use Rattle.run_reading.specs.Happenings.{Happening, RequestAnswered, CallEventCame, happenings}
+use Rattle.run_reading.specs.Happenings.{Happening, MomentCame, TimePassed, RequestAnswered, CallEventCame, happenings}
 
 -- items that a stream of the connection at this place is given
 pub record Given : Type 0 where
@@ -29,13 +31,17 @@ pub record Given : Type 0 where
   pub items : List Item
 
 abbrev pub reply_given : ℕ → ReplyValue → Given
-reply_given place reply = record { place = place; stream = reply.call.stream; items = items_of reply.outcome }
+reply_given place reply = record { place = place; stream = reply.call.stream; items = items_of reply.items }
 
 abbrev pub given_at : InstanceState → Happening → List Given
+given_at s (MomentCame moment) = []
+given_at s TimePassed = []
 given_at s (RequestAnswered place stream item) = record { place = place; stream = stream; items = item ∷ [] } ∷ []
 given_at s (CallEventCame place event) = map (reply_given place) (answer s event).replies
 
 abbrev pub state_after : InstanceState → Happening → InstanceState
+state_after s (MomentCame moment) = at_moment moment s
+state_after s TimePassed = after s tick
 state_after s (RequestAnswered place stream item) = s
 state_after s (CallEventCame place event) = after s event
 

@@ -21,12 +21,13 @@ use Rattle.conn_core.specs.Calls.{cancels}
 use Rattle.conn_core.specs.Past.{Past, opening, with_frame, with_fault, with_item, with_taken, with_pumped}
 use Rattle.conn_core.proofs.Pumps.{pumped_is}
 use Rattle.instance_core.specs.Calls.{CallEventValue}
-use Rattle.instance_core.specs.Answer.{ReplyValue, answer, after}
+use Rattle.instance_core.specs.Answer.{answer, after}
+use Rattle.instance_core.specs.Replies.{ReplyValue}
 use Rattle.server_events.specs.Events.{EventValue, WhatValue, opened, received, took, closed, tick, ended}
 use Rattle.std.specs.Option.{option_map_or}
 use Rattle.served_instance.specs.Connections.{LoneConnection, is_at, open_at, at_open, closed_at, at_all_open}
 use Rattle.served_instance.specs.Calls.{call_event_on, items_of, with_items}
-use Rattle.served_instance.specs.Lone.{Lone, replied, happened, all_happened, due_at, none_due, due_happened, frame_read, is_over, frames_read, fault_met, end_read, unread_frames, all_read, with_bytes, bytes_came, was_opened, acted, pumped_all, accepted}
+use Rattle.served_instance.specs.Lone.{Lone, replied, happened, all_happened, due_at, none_due, due_happened, frame_read, is_over, frames_read, fault_met, end_read, unread_frames, all_read, with_bytes, bytes_came, was_opened, acted, pumped_all, came_at, accepted}
 
 -- ---- one connection
 
@@ -137,13 +138,13 @@ more_trans : (l m n : Lone) → HasMore l m → HasMore m n → HasMore l n
 more_trans l m n a b = all_trans l.connections m.connections n.connections a b
 
 abbrev with_reply : ReplyValue → Lone → Lone
-with_reply reply l = record l { connections = at_open reply.call.connection (with_items reply.call.stream (items_of reply.outcome)) l.connections }
+with_reply reply l = record l { connections = at_open reply.call.connection (with_items reply.call.stream (items_of reply.items)) l.connections }
 
 replied_more : (replies : List ReplyValue) (l : Lone) → HasMore l (replied replies l)
 replied_more [] l = more_same l
 replied_more (reply ∷ replies) l =
     more_trans l (with_reply reply l) (replied replies (with_reply reply l))
-    (at_open_grows reply.call.connection (with_items reply.call.stream (items_of reply.outcome)) (items_grow reply.call.stream (items_of reply.outcome)) l.connections)
+    (at_open_grows reply.call.connection (with_items reply.call.stream (items_of reply.items)) (items_grow reply.call.stream (items_of reply.items)) l.connections)
     (replied_more replies (with_reply reply l))
 
 happened_more : (event : CallEventValue) (l : Lone) → HasMore l (happened event l)
@@ -215,5 +216,5 @@ acted_more (ended job outcome) l = more_same l
 
 pub accepted_more : (e : EventValue) (l : Lone) → AreGrown (connections_after e.what l.connections) (accepted e l).connections
 accepted_more e l =
-    let m : Lone = acted e.what (record l { moment = e.moment }) in
-    all_trans (connections_after e.what l.connections) m.connections (pumped_all m).connections (acted_more e.what (record l { moment = e.moment })) (all_open_grow with_pumped pump_grows m.connections)
+    let m : Lone = acted e.what (came_at e.moment l) in
+    all_trans (connections_after e.what l.connections) m.connections (pumped_all m).connections (acted_more e.what (came_at e.moment l)) (all_open_grow with_pumped pump_grows m.connections)

@@ -48,7 +48,7 @@ may_what tick l h = tt
 may_what (ended job outcome) l h = tt
 
 may : (e : EventValue) (l : Lone) → refusal_of e l ≡ None → May e.what l.connections
-may e l h = may_what e.what l (passes (nat_lt e.moment l.moment) TimeWentBack (refusal_of_what e.what l) h).later
+may e l h = may_what e.what l (passes (nat_lt e.moment l.state.moment) TimeWentBack (refusal_of_what e.what l) h).later
 
 -- ---- an event that is taken
 

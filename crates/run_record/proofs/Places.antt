@@ -3,6 +3,8 @@ use Rattle.std.proofs.Common.{◌≡◌, ℕ, zero, suc, ◌+◌, ◌<◌, ◌�
 use Rattle.std.specs.Prelude.{map, Option, Some, None}
 use Rattle.std.specs.Option.{option_map, option_map_or, is_some}
 use Rattle.std.proofs.Math.ListN.{set}
+use Rattle.std.proofs.Math.Seq.{take-suc}
+use Rattle.std.proofs.lemmas.List.Sums.{fold_push}
 use Rattle.std.proofs.lemmas.Bool.{true≢false}
 use Rattle.std.proofs.lemmas.Grind.{common_steps, elements}
 use Rattle.std.proofs.lemmas.List.Edits.{map_over_more}
@@ -14,7 +16,7 @@ use Rattle.served_instance.specs.Lone.{Lone}
 use Rattle.run_record.specs.declared.outputs.SentBytes.{SentBytes}
 use Rattle.run_record.specs.declared.record.OpenRecord.{OpenRecord}
 use Rattle.run_record.specs.Shown.{sent_shown}
-use Rattle.run_record.specs.Notes.{more_at, pending_on, gathered_on}
+use Rattle.run_record.specs.Notes.{more_at, pending_on, gathered_on, gathered}
 
 get_or_any : {X : Type 0} (xs : List X) (j : ℕ) (d e : X) → j < length xs → get_or xs j d ≡ get_or xs j e
 get_or_any xs j d e lt = grind (arith, common_steps, elements)
@@ -58,3 +60,13 @@ pub none_gathered : (l : Lone) (o : OpenRecord) (ss : List (ℕ × List ℕ)) �
 none_gathered l o ss h =
     let none : pending_on l o.number ≡ [] = none_pending (open_at o.number l.connections) h in
     no_more ss o.place ∙ ap (λ (more : List ℕ). more_at o.place more ss) (sym (ap (drop o.untaken) none ∙ drop_none o.untaken))
+
+-- one more connection is gathered
+pub gathered_more : (l : Lone) (xs : List OpenRecord) (i : ℕ) (d : OpenRecord) (start before after : List (ℕ × List ℕ)) → i < length xs → before ≡ gathered l (take i xs) start → after ≡ gathered_on l before (get_or xs i d) → after ≡ gathered l (take (i + 1) xs) start
+gathered_more l xs i d start before after lt so_far step =
+    let next : i + 1 ≡ suc i = omega arith in
+    let front : take (i + 1) xs ≡ take i xs ++ get_or xs i d ∷ [] = ap (λ (n : ℕ). take n xs) next ∙ take-suc xs i d lt in
+    step
+    ∙ ap (λ (ss : List (ℕ × List ℕ)). gathered_on l ss (get_or xs i d)) so_far
+    ∙ sym (fold_push (gathered_on l) start (take i xs) (get_or xs i d))
+    ∙ sym (ap (λ (os : List OpenRecord). gathered l os start) front)

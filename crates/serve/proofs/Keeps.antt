@@ -45,15 +45,15 @@ stands_more configs h vs ws j p takes stands = λ i config is.
       | inr ne ↦ stands_by i ws e l m (j == i) false (ne_eqb j i (λ same. ne (sym same))) (port_more config i j p h) (other_stands i e vs ws l takes ne (stands i config is))
     ]
 
-times_by : (b : Bool) (k l m : Lone) (n : ℕ) → k ≡ cond b l m → l.moment ≤ n → m.moment ≤ n → k.moment ≤ n
-times_by true k l m n is le late = subst (λ (x : Lone). x.moment ≤ n) (sym is) le
-times_by false k l m n is le late = subst (λ (x : Lone). x.moment ≤ n) (sym is) late
+times_by : (b : Bool) (k l m : Lone) (n : ℕ) → k ≡ cond b l m → l.state.moment ≤ n → m.state.moment ≤ n → k.state.moment ≤ n
+times_by true k l m n is le late = subst (λ (x : Lone). x.state.moment ≤ n) (sym is) le
+times_by false k l m n is le late = subst (λ (x : Lone). x.state.moment ≤ n) (sym is) late
 
-times_more : (config : ConfigValue) (i j : ℕ) (p : PortEvent) (h : List SocketEvent) → (lone_of config i h).moment ≤ moment_of h → (lone_of config i (h ++ port j p ∷ [])).moment ≤ moment_of (h ++ port j p ∷ [])
+times_more : (config : ConfigValue) (i j : ℕ) (p : PortEvent) (h : List SocketEvent) → (lone_of config i h).state.moment ≤ moment_of h → (lone_of config i (h ++ port j p ∷ [])).state.moment ≤ moment_of (h ++ port j p ∷ [])
 times_more config i j p h late =
     let e : EventValue = event_at (moment_of h) j p in
     let l : Lone = lone_of config i h in
-    subst (λ (n : ℕ). (lone_of config i (h ++ port j p ∷ [])).moment ≤ n) (sym (moment_more h (port j p)))
+    subst (λ (n : ℕ). (lone_of config i (h ++ port j p ∷ [])).state.moment ≤ n) (sym (moment_more h (port j p)))
     (times_by (j == i) (lone_of config i (h ++ port j p ∷ [])) (lone_step e l) l (moment_of h) (port_more config i j p h) (step_within e l (moment_of h) (omega arith) late) late)
 
 at_more : (configs : List ConfigValue) (h : List SocketEvent) (vs ws : List ServedState) (m j : ℕ) (p : PortEvent) → Takes (event_at m j p) vs ws → IsFaithful configs h (port j p) → IsAt configs h vs m → IsAt configs (h ++ port j p ∷ []) ws m

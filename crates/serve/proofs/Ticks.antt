@@ -24,7 +24,7 @@ pub record HasTicked (configs : List ConfigValue) (h : List SocketEvent) (n k : 
   pub done : (i : ℕ) (config : ConfigValue) → config_at i configs ≡ Some config → i < k → StandsAt i vs (lone_of config i (h ++ clock n ∷ []))
   pub left : (i : ℕ) (config : ConfigValue) → config_at i configs ≡ Some config → k ≤ i → StandsAt i vs (lone_of config i h)
   pub served : IsServed configs h
-  pub times : (i : ℕ) (config : ConfigValue) → (lone_of config i h).moment ≤ moment_of h
+  pub times : (i : ℕ) (config : ConfigValue) → (lone_of config i h).state.moment ≤ moment_of h
 
 abbrev pub IsTicking : List ConfigValue → Option (List SocketEvent) → ℕ → ℕ → List ServedState → Type 0
 IsTicking configs known n k vs = IfSome known (λ h. HasTicked configs h n k vs)
@@ -61,12 +61,12 @@ one_ticked configs (Some h) n k vs ws takes t = record {
   times = t.times;
 }
 
-times_ticked : (config : ConfigValue) (i n : ℕ) (h : List SocketEvent) → moment_of h ≤ n → (lone_of config i h).moment ≤ moment_of h → (lone_of config i (h ++ clock n ∷ [])).moment ≤ moment_of (h ++ clock n ∷ [])
+times_ticked : (config : ConfigValue) (i n : ℕ) (h : List SocketEvent) → moment_of h ≤ n → (lone_of config i h).state.moment ≤ moment_of h → (lone_of config i (h ++ clock n ∷ [])).state.moment ≤ moment_of (h ++ clock n ∷ [])
 times_ticked config i n h rises late =
     let l : Lone = lone_of config i h in
-    let within : (lone_step (tick_at n i) l).moment ≤ n = step_within (tick_at n i) l n (omega arith) (omega (arith, rises, late)) in
-    subst (λ (m : ℕ). (lone_of config i (h ++ clock n ∷ [])).moment ≤ m) (sym (moment_more h (clock n)))
-    (subst (λ (x : Lone). x.moment ≤ n) (sym (clock_more config i n h)) within)
+    let within : (lone_step (tick_at n i) l).state.moment ≤ n = step_within (tick_at n i) l n (omega arith) (omega (arith, rises, late)) in
+    subst (λ (m : ℕ). (lone_of config i (h ++ clock n ∷ [])).state.moment ≤ m) (sym (moment_more h (clock n)))
+    (subst (λ (x : Lone). x.state.moment ≤ n) (sym (clock_more config i n h)) within)
 
 -- the clock shows no less than it did
 abbrev pub Rises : Option (List SocketEvent) → ℕ → Type 0

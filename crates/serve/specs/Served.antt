@@ -42,7 +42,7 @@ pub record IsAt (configs : List ConfigValue) (h : List SocketEvent) (vs : List S
   pub stands : Stands configs h vs
   pub served : IsServed configs h
   -- no instance is ahead of the clock
-  pub times : (i : ℕ) (config : ConfigValue) → (lone_of config i h).moment ≤ moment_of h
+  pub times : (i : ℕ) (config : ConfigValue) → (lone_of config i h).state.moment ≤ moment_of h
   -- what the clock showed last
   pub moment : m ≡ moment_of h
 

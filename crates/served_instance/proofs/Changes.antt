@@ -3,8 +3,9 @@ use Rattle.std.proofs.Common.{◌≡◌, refl, sym, ap, ◌∙◌, subst, zero, 
 use Rattle.std.proofs.Math.ListN.{set}
 use Rattle.std.specs.Prelude.{ℕ, ◌==◌, if◌then◌else◌, Bool, true, false, List, [], ◌∷◌, map, option_map, Option, Some, None, ◌⊎◌, position, Result, Ok, Err, IfOk, OnOk, IsTrue, length}
 use Rattle.std.specs.Option.{option_map_or}
+use Rattle.grpc_sending.specs.Kept.{Look}
 use Rattle.conn_core.specs.Past.{Past}
-use Rattle.conn_core.specs.StandsFor.{Present, StandsFor as IsConnection, FrameRead, unread}
+use Rattle.conn_core.specs.StandsFor.{Present, StandsFor as IsConnection, ReadsFrame as ReadsOne, unread}
 use Rattle.served_instance.specs.declared.open_connection.OpenConnection.{OpenConnection}
 use Rattle.served_instance.specs.Connections.{LoneConnection, open_ones, open_at, at_open}
 use Rattle.served_instance.specs.Present.{is_numbered}
@@ -42,7 +43,7 @@ pub changed_ok : {T E : Type 0} (r : Result T E) (c : ℕ) (os : List OpenConnec
 changed_ok (Ok x) c os k d w R h r = changed_some c os k d w R h r
 changed_ok (Err e) c os k d w R h r = tt
 
-pub changed_read : {E : Type 0} (r : Result Bool E) (c : ℕ) (os : List OpenConnection) (k : ℕ) (d : OpenConnection) (w : Present) → position (is_numbered c) os ≡ Some k → IfOk r (λ more. (p : Past) → IsConnection (get_or os k d).connection p → FrameRead p more w) → IfOk r (λ more. IsTrue more → unread w < unread (get_or os k d).connection) → IfOk r (λ more. Changed c os (set os k (record { number = (get_or os k d).number; connection = w })) (ReadsFrame more))
+pub changed_read : {E : Type 0} (r : Result Bool E) (c : ℕ) (os : List OpenConnection) (k : ℕ) (d : OpenConnection) (w : Present) → position (is_numbered c) os ≡ Some k → IfOk r (λ more. ReadsOne (get_or os k d).connection more w) → IfOk r (λ more. IsTrue more → unread w < unread (get_or os k d).connection) → IfOk r (λ more. Changed c os (set os k (record { number = (get_or os k d).number; connection = w })) (ReadsFrame more))
 changed_read (Ok more) c os k d w h r f = changed_some c os k d w (ReadsFrame more) h (record { frame = r; fewer = f })
 changed_read (Err e) c os k d w h r f = tt
 
@@ -81,23 +82,23 @@ new_kept c (o ∷ os) v w h = new_more c o os v w (o.number == c) refl h (new_ke
 
 -- ---- what it stands for
 
-serves_more : (c : ℕ) (o : OpenConnection) (os : List OpenConnection) (l : LoneConnection) (ls : List LoneConnection) (v w : Present) (f : Past → Past) (m n : Bool) → m ≡ n → (if m then Some o.connection else kept_at c os) ≡ Some v →
-    ((p : Past) → (if n then Some l.past else first_past c ls) ≡ Some p → IsConnection v p → IsConnection w (f p)) → o.number ≡ l.number → IsConnection o.connection l.past → AreServed (map served os) ls →
-    (kept_at c os ≡ Some v → ((p : Past) → first_past c ls ≡ Some p → IsConnection v p → IsConnection w (f p)) → AreServed (map served (replaced c w os)) (changed_at c f ls)) →
-    AreServed (map served (if m then record o { connection = w } ∷ os else o ∷ replaced c w os)) (if n then record l { past = f l.past } ∷ ls else l ∷ changed_at c f ls)
-serves_more c o os l ls v w f true true e h r number stands rest later =
+serves_more : (texts : Look) (c : ℕ) (o : OpenConnection) (os : List OpenConnection) (l : LoneConnection) (ls : List LoneConnection) (v w : Present) (f : Past → Past) (m n : Bool) → m ≡ n → (if m then Some o.connection else kept_at c os) ≡ Some v →
+    ((p : Past) → (if n then Some l.past else first_past c ls) ≡ Some p → IsConnection texts v p → IsConnection texts w (f p)) → o.number ≡ l.number → IsConnection texts o.connection l.past → AreServed texts (map served os) ls →
+    (kept_at c os ≡ Some v → ((p : Past) → first_past c ls ≡ Some p → IsConnection texts v p → IsConnection texts w (f p)) → AreServed texts (map served (replaced c w os)) (changed_at c f ls)) →
+    AreServed texts (map served (if m then record o { connection = w } ∷ os else o ∷ replaced c w os)) (if n then record l { past = f l.past } ∷ ls else l ∷ changed_at c f ls)
+serves_more texts c o os l ls v w f true true e h r number stands rest later =
     let same : o.connection ≡ v = cc in
-    let P : Present → Type 0 = λ x. IsConnection x l.past in
+    let P : Present → Type 0 = λ x. IsConnection texts x l.past in
     (number, r l.past refl (subst P same stands), rest)
-serves_more c o os l ls v w f false false e h r number stands rest later = (number, stands, later h r)
-serves_more c o os l ls v w f true false e h r number stands rest later = cc
-serves_more c o os l ls v w f false true e h r number stands rest later = cc
+serves_more texts c o os l ls v w f false false e h r number stands rest later = (number, stands, later h r)
+serves_more texts c o os l ls v w f true false e h r number stands rest later = cc
+serves_more texts c o os l ls v w f false true e h r number stands rest later = cc
 
-replaced_serves : (c : ℕ) (os : List OpenConnection) (ls : List LoneConnection) (v w : Present) (f : Past → Past) → kept_at c os ≡ Some v → ((p : Past) → first_past c ls ≡ Some p → IsConnection v p → IsConnection w (f p)) → AreServed (map served os) ls → AreServed (map served (replaced c w os)) (changed_at c f ls)
-replaced_serves c [] ls v w f h r s = cc
-replaced_serves c (o ∷ os) [] v w f h r s = absurd s
-replaced_serves c (o ∷ os) (l ∷ ls) v w f h r s =
-    serves_more c o os l ls v w f (o.number == c) (l.number == c) (ap (λ (n : ℕ). n == c) s.0) h r s.0 s.1 s.2 (λ k q. replaced_serves c os ls v w f k q s.2)
+replaced_serves : (texts : Look) (c : ℕ) (os : List OpenConnection) (ls : List LoneConnection) (v w : Present) (f : Past → Past) → kept_at c os ≡ Some v → ((p : Past) → first_past c ls ≡ Some p → IsConnection texts v p → IsConnection texts w (f p)) → AreServed texts (map served os) ls → AreServed texts (map served (replaced c w os)) (changed_at c f ls)
+replaced_serves texts c [] ls v w f h r s = cc
+replaced_serves texts c (o ∷ os) [] v w f h r s = absurd s
+replaced_serves texts c (o ∷ os) (l ∷ ls) v w f h r s =
+    serves_more texts c o os l ls v w f (o.number == c) (l.number == c) (ap (λ (n : ℕ). n == c) s.0) h r s.0 s.1 s.2 (λ k q. replaced_serves texts c os ls v w f k q s.2)
 
 unchanged_by : (c : ℕ) (f : Past → Past) (l : LoneConnection) (ls : List LoneConnection) (n : Bool) → (if n then Some l.past else first_past c ls) ≡ None → (first_past c ls ≡ None → changed_at c f ls ≡ ls) → (if n then record l { past = f l.past } ∷ ls else l ∷ changed_at c f ls) ≡ l ∷ ls
 unchanged_by c f l ls true h r = cc
@@ -107,38 +108,38 @@ unchanged : (c : ℕ) (f : Past → Past) (ls : List LoneConnection) → first_p
 unchanged c f [] h = refl
 unchanged c f (l ∷ ls) h = unchanged_by c f l ls (l.number == c) h (unchanged c f ls)
 
-pub none_open : (a : Option Present) (b : Option Past) → SameAt a b → a ≡ None → b ≡ None
-none_open None None s e = refl
-none_open None (Some p) s e = absurd s
-none_open (Some v) b s e = cc
+pub none_open : (texts : Look) (a : Option Present) (b : Option Past) → SameAt texts a b → a ≡ None → b ≡ None
+none_open texts None None s e = refl
+none_open texts None (Some p) s e = absurd s
+none_open texts (Some v) b s e = cc
 
 -- where one is kept one is open
-pub some_open : (v : Present) (b : Option Past) → SameAt (Some v) b → (p : Past) × (b ≡ Some p) × IsConnection v p
-some_open v None s = absurd s
-some_open v (Some p) s = (p, refl, s)
+pub some_open : (texts : Look) (v : Present) (b : Option Past) → SameAt texts (Some v) b → (p : Past) × (b ≡ Some p) × IsConnection texts v p
+some_open texts v None s = absurd s
+some_open texts v (Some p) s = (p, refl, s)
 
-pub open_past : (c : ℕ) (os : List OpenConnection) (ks : List LoneConnection) (v : Present) → kept_at c os ≡ Some v → AreServed (map served os) (open_ones ks) → (p : Past) × (open_at c ks ≡ Some p) × IsConnection v p
-open_past c os ks v h s =
-    let P : Option Present → Type 0 = λ o. SameAt o (open_at c ks) in
-    some_open v (open_at c ks) (subst P h (same_at c (map served os) ks s))
+pub open_past : (texts : Look) (c : ℕ) (os : List OpenConnection) (ks : List LoneConnection) (v : Present) → kept_at c os ≡ Some v → AreServed texts (map served os) (open_ones ks) → (p : Past) × (open_at c ks ≡ Some p) × IsConnection texts v p
+open_past texts c os ks v h s =
+    let P : Option Present → Type 0 = λ o. SameAt texts o (open_at c ks) in
+    some_open texts v (open_at c ks) (subst P h (same_at texts c (map served os) ks s))
 
-pub no_past : (c : ℕ) (os : List OpenConnection) (ks : List LoneConnection) → kept_at c os ≡ None → AreServed (map served os) (open_ones ks) → open_at c ks ≡ None
-no_past c os ks h s = none_open (kept_at c os) (open_at c ks) (same_at c (map served os) ks s) h
+pub no_past : (texts : Look) (c : ℕ) (os : List OpenConnection) (ks : List LoneConnection) → kept_at c os ≡ None → AreServed texts (map served os) (open_ones ks) → open_at c ks ≡ None
+no_past texts c os ks h s = none_open texts (kept_at c os) (open_at c ks) (same_at texts c (map served os) ks s) h
 
-serves_from : (o : Option Present) (c : ℕ) (os ns : List OpenConnection) (R : Present → Present → Type 0) (f : Past → Past) (ks : List LoneConnection) → kept_at c os ≡ o → ChangedFrom o c os ns R → AreServed (map served os) (open_ones ks) →
-    ((v w : Present) (p : Past) → R v w → open_at c ks ≡ Some p → IsConnection v p → IsConnection w (f p)) → AreServed (map served ns) (changed_at c f (open_ones ks))
-serves_from None c os ns R f ks h d s r =
-    let P : List OpenConnection → List LoneConnection → Type 0 = λ xs ys. AreServed (map served xs) ys in
-    let same = unchanged c f (open_ones ks) (sym (open_at_is c ks) ∙ no_past c os ks h s) in
-    subst (λ (ys : List LoneConnection). AreServed (map served ns) ys) (sym same) (subst (λ (xs : List OpenConnection). AreServed (map served xs) (open_ones ks)) (sym d) s)
-serves_from (Some v) c os ns R f ks h d s r =
-    subst (λ (xs : List OpenConnection). AreServed (map served xs) (changed_at c f (open_ones ks))) (sym d.1)
-    (replaced_serves c os (open_ones ks) v d.0 f h (λ p e. r v d.0 p d.2 (open_at_is c ks ∙ e)) s)
+serves_from : (texts : Look) (o : Option Present) (c : ℕ) (os ns : List OpenConnection) (R : Present → Present → Type 0) (f : Past → Past) (ks : List LoneConnection) → kept_at c os ≡ o → ChangedFrom o c os ns R → AreServed texts (map served os) (open_ones ks) →
+    ((v w : Present) (p : Past) → R v w → open_at c ks ≡ Some p → IsConnection texts v p → IsConnection texts w (f p)) → AreServed texts (map served ns) (changed_at c f (open_ones ks))
+serves_from texts None c os ns R f ks h d s r =
+    let P : List OpenConnection → List LoneConnection → Type 0 = λ xs ys. AreServed texts (map served xs) ys in
+    let same = unchanged c f (open_ones ks) (sym (open_at_is c ks) ∙ no_past texts c os ks h s) in
+    subst (λ (ys : List LoneConnection). AreServed texts (map served ns) ys) (sym same) (subst (λ (xs : List OpenConnection). AreServed texts (map served xs) (open_ones ks)) (sym d) s)
+serves_from texts (Some v) c os ns R f ks h d s r =
+    subst (λ (xs : List OpenConnection). AreServed texts (map served xs) (changed_at c f (open_ones ks))) (sym d.1)
+    (replaced_serves texts c os (open_ones ks) v d.0 f h (λ p e. r v d.0 p d.2 (open_at_is c ks ∙ e)) s)
 
-pub changed_serves : (c : ℕ) (os ns : List OpenConnection) (R : Present → Present → Type 0) (f : Past → Past) (ks : List LoneConnection) → Changed c os ns R → AreServed (map served os) (open_ones ks) →
-    ((v w : Present) (p : Past) → R v w → open_at c ks ≡ Some p → IsConnection v p → IsConnection w (f p)) → AreServed (map served ns) (open_ones (at_open c f ks))
-changed_serves c os ns R f ks d s r =
-    subst (λ (ys : List LoneConnection). AreServed (map served ns) ys) (sym (at_open_is c f ks)) (serves_from (kept_at c os) c os ns R f ks refl d s r)
+pub changed_serves : (texts : Look) (c : ℕ) (os ns : List OpenConnection) (R : Present → Present → Type 0) (f : Past → Past) (ks : List LoneConnection) → Changed c os ns R → AreServed texts (map served os) (open_ones ks) →
+    ((v w : Present) (p : Past) → R v w → open_at c ks ≡ Some p → IsConnection texts v p → IsConnection texts w (f p)) → AreServed texts (map served ns) (open_ones (at_open c f ks))
+changed_serves texts c os ns R f ks d s r =
+    subst (λ (ys : List LoneConnection). AreServed texts (map served ns) ys) (sym (at_open_is c f ks)) (serves_from texts (kept_at c os) c os ns R f ks refl d s r)
 
 -- ---- measures
 
@@ -192,8 +193,8 @@ changed_there c os ns R v h d = subst (λ (o : Option Present). ChangedFrom o c 
 pub changed_nowhere : (c : ℕ) (os ns : List OpenConnection) (R : Present → Present → Type 0) → kept_at c os ≡ None → Changed c os ns R → ns ≡ os
 changed_nowhere c os ns R h d = subst (λ (o : Option Present). ChangedFrom o c os ns R) h d
 
-pub served_at : (c : ℕ) (os ns : List OpenConnection) (v w : Present) (f : Past → Past) (ks : List LoneConnection) → kept_at c os ≡ Some v → ns ≡ replaced c w os → AreServed (map served os) (open_ones ks) → ((p : Past) → open_at c ks ≡ Some p → IsConnection v p → IsConnection w (f p)) → AreServed (map served ns) (open_ones (at_open c f ks))
-served_at c os ns v w f ks h e s r =
-    subst (λ (ys : List LoneConnection). AreServed (map served ns) ys) (sym (at_open_is c f ks))
-    (subst (λ (xs : List OpenConnection). AreServed (map served xs) (changed_at c f (open_ones ks))) (sym e)
-    (replaced_serves c os (open_ones ks) v w f h (λ p q. r p (open_at_is c ks ∙ q)) s))
+pub served_at : (texts : Look) (c : ℕ) (os ns : List OpenConnection) (v w : Present) (f : Past → Past) (ks : List LoneConnection) → kept_at c os ≡ Some v → ns ≡ replaced c w os → AreServed texts (map served os) (open_ones ks) → ((p : Past) → open_at c ks ≡ Some p → IsConnection texts v p → IsConnection texts w (f p)) → AreServed texts (map served ns) (open_ones (at_open c f ks))
+served_at texts c os ns v w f ks h e s r =
+    subst (λ (ys : List LoneConnection). AreServed texts (map served ns) ys) (sym (at_open_is c f ks))
+    (subst (λ (xs : List OpenConnection). AreServed texts (map served xs) (changed_at c f (open_ones ks))) (sym e)
+    (replaced_serves texts c os (open_ones ks) v w f h (λ p q. r p (open_at_is c ks ∙ q)) s))

@@ -6,7 +6,7 @@ use Rattle.grpc_sending.specs.Owed.{Item}
 use Rattle.http2_streams.specs.Diary.{Entry}
 use Rattle.conn_core.specs.declared.event.CallEvent.{CallEvent}
 use Rattle.conn_core.specs.Past.{Past, with_item}
-use Rattle.instance_core.specs.Answer.{ReplyValue}
+use Rattle.instance_core.specs.Replies.{ReplyValue}
 use Rattle.served_instance.specs.Connections.{LoneConnection, is_at, open_at, at_open}
 use Rattle.served_instance.specs.Calls.{items_of, with_items}
 use Rattle.served_instance.specs.Lone.{Lone, replied}
@@ -134,20 +134,20 @@ items_keep_wire s (item ∷ items) p = items_keep_wire s items (with_item p s it
 
 abbrev pub given : List ReplyValue → List LoneConnection → List LoneConnection
 given [] ks = ks
-given (r ∷ rs) ks = given rs (at_open r.call.connection (with_items r.call.stream (items_of r.outcome)) ks)
+given (r ∷ rs) ks = given rs (at_open r.call.connection (with_items r.call.stream (items_of r.items)) ks)
 
 pub replied_is : (rs : List ReplyValue) (l : Lone) → replied rs l ≡ record l { connections = given rs l.connections }
 replied_is [] l = refl
-replied_is (r ∷ rs) l = replied_is rs (record l { connections = at_open r.call.connection (with_items r.call.stream (items_of r.outcome)) l.connections })
+replied_is (r ∷ rs) l = replied_is rs (record l { connections = at_open r.call.connection (with_items r.call.stream (items_of r.items)) l.connections })
 
 pub given_commutes : (c : ℕ) (f : Past → Past) (rs : List ReplyValue) (ks : List LoneConnection) → ((s : ℕ) (items : List Item) (p : Past) → f (with_items s items p) ≡ with_items s items (f p)) → at_open c f (given rs ks) ≡ given rs (at_open c f ks)
 given_commutes c f [] ks h = refl
 given_commutes c f (r ∷ rs) ks h =
-    given_commutes c f rs (at_open r.call.connection (with_items r.call.stream (items_of r.outcome)) ks) h
-    ∙ ap (given rs) (commute c r.call.connection f (with_items r.call.stream (items_of r.outcome)) ks (h r.call.stream (items_of r.outcome)))
+    given_commutes c f rs (at_open r.call.connection (with_items r.call.stream (items_of r.items)) ks) h
+    ∙ ap (given rs) (commute c r.call.connection f (with_items r.call.stream (items_of r.items)) ks (h r.call.stream (items_of r.items)))
 
 pub given_keeps : {A : Type 0} (g : Past → A) (c : ℕ) (rs : List ReplyValue) (ks : List LoneConnection) → ((s : ℕ) (items : List Item) (p : Past) → g (with_items s items p) ≡ g p) → option_map g (open_at c (given rs ks)) ≡ option_map g (open_at c ks)
 given_keeps g c [] ks h = refl
 given_keeps g c (r ∷ rs) ks h =
-    given_keeps g c rs (at_open r.call.connection (with_items r.call.stream (items_of r.outcome)) ks) h
-    ∙ view_kept g c r.call.connection (with_items r.call.stream (items_of r.outcome)) ks (h r.call.stream (items_of r.outcome))
+    given_keeps g c rs (at_open r.call.connection (with_items r.call.stream (items_of r.items)) ks) h
+    ∙ view_kept g c r.call.connection (with_items r.call.stream (items_of r.items)) ks (h r.call.stream (items_of r.items))

@@ -21,7 +21,8 @@ use Rattle.conn_core.specs.Past.{Past, with_frame, with_fault}
 use Rattle.conn_core.specs.StandsFor.{IsNextFault, IsRead}
 use Rattle.conn_core.proofs.Events.{raw_out}
 use Rattle.instance_core.specs.Calls.{CallEventValue}
-use Rattle.instance_core.specs.Answer.{ReplyValue, answer, after}
+use Rattle.instance_core.specs.Answer.{answer, after}
+use Rattle.instance_core.specs.Replies.{ReplyValue}
 use Rattle.served_instance.specs.Connections.{LoneConnection, open_at, at_open}
 use Rattle.served_instance.specs.Calls.{call_event_on, with_items}
 use Rattle.served_instance.specs.Lone.{Lone, happened, all_happened, due_at, none_due, due_happened, frame_read, is_over, frames_read, fault_met, end_read, all_read}

@@ -4,6 +4,7 @@ use Rattle.std.specs.Prelude.{ℕ, true, false, List, map, Option, Some, None, �
 use Rattle.std.specs.Option.{option_map_or}
 use Rattle.conn_core.specs.declared.event.CallEvent.{CallEvent}
 use Rattle.http2_streams.specs.Diary.{has_failed}
+use Rattle.grpc_sending.specs.Kept.{Look}
 use Rattle.conn_core.specs.Past.{Past, with_frame, with_fault}
 use Rattle.conn_core.specs.StandsFor.{Present, StandsFor as IsConnection, Taken, IsRead, unread}
 use Rattle.instance_core.specs.Calls.{CallEventValue}
@@ -12,126 +13,121 @@ use Rattle.served_instance.specs.declared.open_connection.OpenConnection.{OpenCo
 use Rattle.served_instance.specs.Connections.{LoneConnection, open_ones, open_at, at_open}
 use Rattle.served_instance.specs.Calls.{call_event_on}
 use Rattle.served_instance.specs.Lone.{Lone, happened, due_happened}
-use Rattle.served_instance.specs.StandsFor.{StandsFor, AreServed}
+use Rattle.served_instance.specs.StandsFor.{AreServed}
 use Rattle.served_instance.specs.Shown.{served}
-use Rattle.served_instance.specs.Acts.{kept_at, replaced, Changed, Takes, Pops, ReadsFrame, Acts, LeadsOn, state_at, rest_read, unread_at}
+use Rattle.served_instance.specs.Acts.{kept_at, replaced, Changed, Takes, Pops, ReadsFrame, Acts, ActsBy, LeadsBy, LeadsOn, StandsBy, rest_read, unread_at}
 use Rattle.served_instance.proofs.Changes.{kept_or_not, changed_there, changed_nowhere, served_at, changed_serves, changed_fewer, changed_keeps, or_of, open_past, no_past}
 use Rattle.served_instance.proofs.Commutes.{idle}
 use Rattle.served_instance.proofs.Frames.{with_due, next_due, nothing_due, none_due_there, frame_leads, fault_leads, over_rest, read_rest, nothing_there}
 
 -- ---- one after another
 
+pub leads_acts_by : (texts others more : Look) (s t u : InstanceState) (os ns xs : List OpenConnection) (before after : Lone → Lone) → LeadsBy texts s os others t ns before after → ActsBy others t ns more u xs after → ActsBy texts s os more u xs before
+leads_acts_by texts others more s t u os ns xs before after h act = λ l st.
+    let a = h l st in
+    subst (λ (k : Lone). StandsBy more u xs k) a.2 (act a.0 a.1)
+
 pub leads_acts : (s t u : InstanceState) (os ns xs : List OpenConnection) (before after : Lone → Lone) → LeadsOn s os t ns before after → Acts t ns u xs after → Acts s os u xs before
-leads_acts s t u os ns xs before after h act = λ m l st.
-    let a = h m l st in
-    subst (λ (k : Lone). StandsFor (state_at m u xs) k) a.2 (act m a.0 a.1)
+leads_acts s t u os ns xs before after h act = λ texts. leads_acts_by texts texts texts s t u os ns xs before after (h texts) (act texts)
 
-pub acts_leads : (s t u : InstanceState) (os ns xs : List OpenConnection) (step before after : Lone → Lone) → Acts s os t ns step → LeadsOn t ns u xs before after → LeadsOn s os u xs (λ l. before (step l)) after
-acts_leads s t u os ns xs step before after act h = λ m l st. h m (step l) (act m l st)
-
-pub leads_trans : (s t u : InstanceState) (os ns xs : List OpenConnection) (f g h : Lone → Lone) → LeadsOn s os t ns f g → LeadsOn t ns u xs g h → LeadsOn s os u xs f h
-leads_trans s t u os ns xs f g h x y = λ m l st.
-    let a = x m l st in
-    let b = y m a.0 a.1 in
+pub leads_trans : (texts others more : Look) (s t u : InstanceState) (os ns xs : List OpenConnection) (f g h : Lone → Lone) → LeadsBy texts s os others t ns f g → LeadsBy others t ns more u xs g h → LeadsBy texts s os more u xs f h
+leads_trans texts others more s t u os ns xs f g h x y = λ l st.
+    let a = x l st in
+    let b = y a.0 a.1 in
     (b.0, b.1, b.2 ∙ a.2)
 
 pub leads_here : (s : InstanceState) (os : List OpenConnection) (f : Lone → Lone) → LeadsOn s os s os f f
-leads_here s os f = λ m l st. (l, st, refl)
+leads_here s os f = λ texts l st. (l, st, refl)
 
 -- ---- a step of one connection
 
 pub step_acts : (c : ℕ) (s : InstanceState) (os ns : List OpenConnection) (f : Past → Past) → Changed c os ns (Takes f) → Acts s os s ns (λ l. record l { connections = at_open c f l.connections })
-step_acts c s os ns f d = λ m l st. record {
+step_acts c s os ns f d = λ texts l st. record {
   state = st.state;
-  moment = st.moment;
-  connections = changed_serves c os ns (Takes f) f l.connections d st.connections (λ v w p r e h. r p h);
+  connections = changed_serves texts c os ns (Takes f) f l.connections d st.connections (λ v w p r e h. r texts p h);
 }
 
 -- the connection is another, which stands for the same
-still_served : (c : ℕ) (os ns : List OpenConnection) (v w : Present) (ks : List LoneConnection) (p : Past) → kept_at c os ≡ Some v → ns ≡ replaced c w os → open_at c ks ≡ Some p → IsConnection w p → AreServed (map served os) (open_ones ks) → AreServed (map served ns) (open_ones ks)
-still_served c os ns v w ks p h e o r s =
-    let P : List LoneConnection → Type 0 = λ xs. AreServed (map served ns) (open_ones xs) in
-    subst P (idle c ks) (served_at c os ns v w (λ q. q) ks h e s (λ q k x. let same : p ≡ q = cc in subst (λ (y : Past). IsConnection w y) same r))
+still_served : (texts : Look) (c : ℕ) (os ns : List OpenConnection) (v w : Present) (ks : List LoneConnection) (p : Past) → kept_at c os ≡ Some v → ns ≡ replaced c w os → open_at c ks ≡ Some p → IsConnection texts w p → AreServed texts (map served os) (open_ones ks) → AreServed texts (map served ns) (open_ones ks)
+still_served texts c os ns v w ks p h e o r s =
+    let P : List LoneConnection → Type 0 = λ xs. AreServed texts (map served ns) (open_ones xs) in
+    subst P (idle c ks) (served_at texts c os ns v w (λ q. q) ks h e s (λ q k x. let same : p ≡ q = cc in subst (λ (y : Past). IsConnection texts w y) same r))
 
-stepped_served : (c : ℕ) (os ns : List OpenConnection) (v w : Present) (f : Past → Past) (ks : List LoneConnection) (p : Past) → kept_at c os ≡ Some v → ns ≡ replaced c w os → open_at c ks ≡ Some p → IsConnection w (f p) → AreServed (map served os) (open_ones ks) → AreServed (map served ns) (open_ones (at_open c f ks))
-stepped_served c os ns v w f ks p h e o r s =
-    served_at c os ns v w f ks h e s (λ q k x. let same : p ≡ q = cc in subst (λ (y : Past). IsConnection w (f y)) same r)
+stepped_served : (texts : Look) (c : ℕ) (os ns : List OpenConnection) (v w : Present) (f : Past → Past) (ks : List LoneConnection) (p : Past) → kept_at c os ≡ Some v → ns ≡ replaced c w os → open_at c ks ≡ Some p → IsConnection texts w (f p) → AreServed texts (map served os) (open_ones ks) → AreServed texts (map served ns) (open_ones (at_open c f ks))
+stepped_served texts c os ns v w f ks p h e o r s =
+    served_at texts c os ns v w f ks h e s (λ q k x. let same : p ≡ q = cc in subst (λ (y : Past). IsConnection texts w (f y)) same r)
 
-unchanged_stands : (m : ℕ) (s : InstanceState) (os ns : List OpenConnection) (l k : Lone) → ns ≡ os → k ≡ l → StandsFor (state_at m s os) l → StandsFor (state_at m s ns) k
-unchanged_stands m s os ns l k e f st =
-    subst (λ (x : Lone). StandsFor (state_at m s ns) x) (sym f) (subst (λ (xs : List OpenConnection). StandsFor (state_at m s xs) l) (sym e) st)
+unchanged_stands : (texts : Look) (s : InstanceState) (os ns : List OpenConnection) (l k : Lone) → ns ≡ os → k ≡ l → StandsBy texts s os l → StandsBy texts s ns k
+unchanged_stands texts s os ns l k e f st =
+    subst (λ (x : Lone). StandsBy texts s ns x) (sym f) (subst (λ (xs : List OpenConnection). StandsBy texts s xs l) (sym e) st)
 
 -- ---- what is due
 
 pub popped_all : (c : ℕ) (s : InstanceState) (os ns : List OpenConnection) → Changed c os ns (Pops None) → Acts s os s ns (due_happened c)
-popped_all c s os ns d = λ m l st. elim (kept_or_not (kept_at c os)) [
-  | inl none ↦ unchanged_stands m s os ns l (due_happened c l) (changed_nowhere c os ns (Pops None) none d) (none_due_there c l (no_past c os l.connections none st.connections)) st
+popped_all c s os ns d = λ texts l st. elim (kept_or_not (kept_at c os)) [
+  | inl none ↦ unchanged_stands texts s os ns l (due_happened c l) (changed_nowhere c os ns (Pops None) none d) (none_due_there c l (no_past texts c os l.connections none st.connections)) st
   | inr some ↦
       let t = changed_there c os ns (Pops None) some.0 some.1 d in
-      let past = open_past c os l.connections some.0 some.1 st.connections in
-      let popped = t.2.event past.0 past.2 in
-      let now : StandsFor (state_at m s ns) l = record {
+      let past = open_past texts c os l.connections some.0 some.1 st.connections in
+      let popped = t.2.event texts past.0 past.2 in
+      let now : StandsBy texts s ns l = record {
         state = st.state;
-        moment = st.moment;
-        connections = still_served c os ns some.0 t.0 l.connections past.0 some.1 t.1 past.1 popped.1 st.connections;
+        connections = still_served texts c os ns some.0 t.0 l.connections past.0 some.1 t.1 past.1 popped.1 st.connections;
       } in
-      subst (λ (x : Lone). StandsFor (state_at m s ns) x) (sym (nothing_due c l past.0 past.1 popped.0)) now
+      subst (λ (x : Lone). StandsBy texts s ns x) (sym (nothing_due c l past.0 past.1 popped.0)) now
 ]
 
-popped_next : (c : ℕ) (s : InstanceState) (os ns : List OpenConnection) (event : CallEvent) → Changed c os ns (Pops (Some event)) → (kept_at c os ≡ None → ⊥) → (m : ℕ) (l : Lone) → StandsFor (state_at m s os) l →
-    (k : Lone) × StandsFor (state_at m s ns) k × (due_happened c (happened (call_event_on c event) k) ≡ due_happened c l)
-popped_next c s os ns event d there m l st = elim (kept_or_not (kept_at c os)) [
+popped_next : (texts : Look) (c : ℕ) (s : InstanceState) (os ns : List OpenConnection) (event : CallEvent) → Changed c os ns (Pops (Some event)) → (kept_at c os ≡ None → ⊥) → (l : Lone) → StandsBy texts s os l →
+    (k : Lone) × StandsBy texts s ns k × (due_happened c (happened (call_event_on c event) k) ≡ due_happened c l)
+popped_next texts c s os ns event d there l st = elim (kept_or_not (kept_at c os)) [
   | inl none ↦ absurd (there none)
   | inr some ↦
       let t = changed_there c os ns (Pops (Some event)) some.0 some.1 d in
-      let past = open_past c os l.connections some.0 some.1 st.connections in
-      let popped = t.2.event past.0 past.2 in
+      let past = open_past texts c os l.connections some.0 some.1 st.connections in
+      let popped = t.2.event texts past.0 past.2 in
       let k : Lone = record l { connections = at_open c (with_due popped.0) l.connections } in
-      let now : StandsFor (state_at m s ns) k = record {
+      let now : StandsBy texts s ns k = record {
         state = st.state;
-        moment = st.moment;
-        connections = stepped_served c os ns some.0 t.0 (with_due popped.0) l.connections past.0 some.1 t.1 past.1 popped.2 st.connections;
+        connections = stepped_served texts c os ns some.0 t.0 (with_due popped.0) l.connections past.0 some.1 t.1 past.1 popped.2 st.connections;
       } in
       (k, now, next_due c event popped.0 l past.0 past.1 popped.1)
 ]
 
-pub due_leads : (c : ℕ) (s0 s t : InstanceState) (os0 os ns xs : List OpenConnection) (event : CallEvent) (what : CallEventValue) → LeadsOn s0 os0 s os (due_happened c) (due_happened c) → Changed c os ns (Pops (Some event)) → (kept_at c os ≡ None → ⊥) →
-    what ≡ call_event_on c event → Acts s ns t xs (happened what) → LeadsOn s0 os0 t xs (due_happened c) (due_happened c)
-due_leads c s0 s t os0 os ns xs event what h d there e act = λ m l st.
-    let a = h m l st in
-    let b = popped_next c s os ns event d there m a.0 a.1 in
-    (happened what b.0, act m b.0 b.1, ap (λ (x : CallEventValue). due_happened c (happened x b.0)) e ∙ b.2 ∙ a.2)
+pub due_leads : (texts others more : Look) (c : ℕ) (s0 s t : InstanceState) (os0 os ns xs : List OpenConnection) (event : CallEvent) (what : CallEventValue) → LeadsBy texts s0 os0 others s os (due_happened c) (due_happened c) → Changed c os ns (Pops (Some event)) → (kept_at c os ≡ None → ⊥) →
+    what ≡ call_event_on c event → ActsBy others s ns more t xs (happened what) → LeadsBy texts s0 os0 more t xs (due_happened c) (due_happened c)
+due_leads texts others more c s0 s t os0 os ns xs event what h d there e act = λ l st.
+    let a = h l st in
+    let b = popped_next others c s os ns event d there a.0 a.1 in
+    (happened what b.0, act b.0 b.1, ap (λ (x : CallEventValue). due_happened c (happened x b.0)) e ∙ b.2 ∙ a.2)
 
 -- ---- frames
 
-taken_next : (c : ℕ) (s : InstanceState) (os ns : List OpenConnection) (v w : Present) (m : ℕ) (l : Lone) (p : Past) → kept_at c os ≡ Some v → ns ≡ replaced c w os → open_at c l.connections ≡ Some p → has_failed p.diary ≡ false → Taken w p → StandsFor (state_at m s os) l →
-    (k : Lone) × StandsFor (state_at m s ns) k × (rest_read c (due_happened c k) ≡ rest_read c l)
-taken_next c s os ns v w m l p h e o alive (inl t) st =
+taken_next : (texts : Look) (c : ℕ) (s : InstanceState) (os ns : List OpenConnection) (v w : Present) (l : Lone) (p : Past) → kept_at c os ≡ Some v → ns ≡ replaced c w os → open_at c l.connections ≡ Some p → has_failed p.diary ≡ false → Taken texts w p → StandsBy texts s os l →
+    (k : Lone) × StandsBy texts s ns k × (rest_read c (due_happened c k) ≡ rest_read c l)
+taken_next texts c s os ns v w l p h e o alive (inl t) st =
     let k : Lone = record l { connections = at_open c (λ q. with_frame q t.0) l.connections } in
-    let now : StandsFor (state_at m s ns) k = record {
+    let now : StandsBy texts s ns k = record {
       state = st.state;
-      moment = st.moment;
-      connections = stepped_served c os ns v w (λ q. with_frame q t.0) l.connections p h e o t.2 st.connections;
+      connections = stepped_served texts c os ns v w (λ q. with_frame q t.0) l.connections p h e o t.2 st.connections;
     } in
     (k, now, frame_leads c t.0 t.1.0 l p o alive t.1.1)
-taken_next c s os ns v w m l p h e o alive (inr t) st =
+taken_next texts c s os ns v w l p h e o alive (inr t) st =
     let k : Lone = record l { connections = at_open c (λ q. with_fault q t.0 t.1) l.connections } in
-    let now : StandsFor (state_at m s ns) k = record {
+    let now : StandsBy texts s ns k = record {
       state = st.state;
-      moment = st.moment;
-      connections = stepped_served c os ns v w (λ q. with_fault q t.0 t.1) l.connections p h e o t.3 st.connections;
+      connections = stepped_served texts c os ns v w (λ q. with_fault q t.0 t.1) l.connections p h e o t.3 st.connections;
     } in
     (k, now, fault_leads c t.0 t.1 l p o alive t.2)
 
-pub read_leads : (c : ℕ) (s t : InstanceState) (os ns xs : List OpenConnection) → Changed c os ns (ReadsFrame true) → (kept_at c os ≡ None → ⊥) → Acts s ns t xs (due_happened c) → LeadsOn s os t xs (rest_read c) (rest_read c)
-read_leads c s t os ns xs d there act = λ m l st. elim (kept_or_not (kept_at c os)) [
+pub read_leads : (texts others : Look) (c : ℕ) (s t : InstanceState) (os ns xs : List OpenConnection) → Changed c os ns (ReadsFrame true) → (kept_at c os ≡ None → ⊥) → ActsBy texts s ns others t xs (due_happened c) → LeadsBy texts s os others t xs (rest_read c) (rest_read c)
+read_leads texts others c s t os ns xs d there act = λ l st. elim (kept_or_not (kept_at c os)) [
   | inl none ↦ absurd (there none)
   | inr some ↦
       let x = changed_there c os ns (ReadsFrame true) some.0 some.1 d in
-      let past = open_past c os l.connections some.0 some.1 st.connections in
-      let frame = x.2.frame past.0 past.2 in
-      let b = taken_next c s os ns some.0 x.0 m l past.0 some.1 x.1 past.1 frame.0 frame.1 st in
-      (due_happened c b.0, act m b.0 b.1, b.2)
+      let past = open_past texts c os l.connections some.0 some.1 st.connections in
+      let frame = x.2.frame texts past.0 past.2 in
+      let b = taken_next texts c s os ns some.0 x.0 l past.0 some.1 x.1 past.1 frame.0 frame.1 st in
+      (due_happened c b.0, act b.0 b.1, b.2)
 ]
 
 ended : (c : ℕ) (l : Lone) (p : Past) → open_at c l.connections ≡ Some p → (has_failed p.diary ≡ true) ⊎ IsRead p → rest_read c l ≡ l
@@ -139,31 +135,29 @@ ended c l p o (inl failed) = over_rest c l p o failed
 ended c l p o (inr read) = read_rest c l p o read
 
 pub read_done : (c : ℕ) (s : InstanceState) (os ns : List OpenConnection) → Changed c os ns (ReadsFrame false) → Acts s os s ns (rest_read c)
-read_done c s os ns d = λ m l st. elim (kept_or_not (kept_at c os)) [
-  | inl none ↦ unchanged_stands m s os ns l (rest_read c l) (changed_nowhere c os ns (ReadsFrame false) none d) (nothing_there c l (no_past c os l.connections none st.connections)) st
+read_done c s os ns d = λ texts l st. elim (kept_or_not (kept_at c os)) [
+  | inl none ↦ unchanged_stands texts s os ns l (rest_read c l) (changed_nowhere c os ns (ReadsFrame false) none d) (nothing_there c l (no_past texts c os l.connections none st.connections)) st
   | inr some ↦
       let t = changed_there c os ns (ReadsFrame false) some.0 some.1 d in
-      let past = open_past c os l.connections some.0 some.1 st.connections in
-      let frame = t.2.frame past.0 past.2 in
-      let now : StandsFor (state_at m s ns) l = record {
+      let past = open_past texts c os l.connections some.0 some.1 st.connections in
+      let frame = t.2.frame texts past.0 past.2 in
+      let now : StandsBy texts s ns l = record {
         state = st.state;
-        moment = st.moment;
-        connections = still_served c os ns some.0 t.0 l.connections past.0 some.1 t.1 past.1 frame.1 st.connections;
+        connections = still_served texts c os ns some.0 t.0 l.connections past.0 some.1 t.1 past.1 frame.1 st.connections;
       } in
-      subst (λ (x : Lone). StandsFor (state_at m s ns) x) (sym (ended c l past.0 past.1 frame.0)) now
+      subst (λ (x : Lone). StandsBy texts s ns x) (sym (ended c l past.0 past.1 frame.0)) now
 ]
 
 pub done_leads : (c : ℕ) (s : InstanceState) (os ns : List OpenConnection) → Changed c os ns (ReadsFrame false) → LeadsOn s os s ns (rest_read c) (rest_read c)
-done_leads c s os ns d = λ m l st. elim (kept_or_not (kept_at c os)) [
-  | inl none ↦ (l, unchanged_stands m s os ns l l (changed_nowhere c os ns (ReadsFrame false) none d) refl st, refl)
+done_leads c s os ns d = λ texts l st. elim (kept_or_not (kept_at c os)) [
+  | inl none ↦ (l, unchanged_stands texts s os ns l l (changed_nowhere c os ns (ReadsFrame false) none d) refl st, refl)
   | inr some ↦
       let t = changed_there c os ns (ReadsFrame false) some.0 some.1 d in
-      let past = open_past c os l.connections some.0 some.1 st.connections in
-      let frame = t.2.frame past.0 past.2 in
-      let now : StandsFor (state_at m s ns) l = record {
+      let past = open_past texts c os l.connections some.0 some.1 st.connections in
+      let frame = t.2.frame texts past.0 past.2 in
+      let now : StandsBy texts s ns l = record {
         state = st.state;
-        moment = st.moment;
-        connections = still_served c os ns some.0 t.0 l.connections past.0 some.1 t.1 past.1 frame.1 st.connections;
+        connections = still_served texts c os ns some.0 t.0 l.connections past.0 some.1 t.1 past.1 frame.1 st.connections;
       } in
       (l, now, refl)
 ]

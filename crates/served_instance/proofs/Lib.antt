@@ -1,6 +1,8 @@
 pub mod Places
 pub mod Opens
 pub mod Serves
+pub mod Ranges
+mod Parts
 pub mod Refuses
 pub mod Changes
 pub mod Commutes
@@ -9,3 +11,9 @@ pub mod Leads
 pub mod Gives
 pub mod Closes
 pub mod Kept
+mod Writes
+mod Taking
+mod Happens
+pub mod Stands
+pub mod Releasing
+pub mod Pumped

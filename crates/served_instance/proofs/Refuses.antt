@@ -4,67 +4,77 @@ use Rattle.std.specs.Prelude.{ℕ, nat_le, nat_lt, if◌then◌else◌, Bool, tr
 use Rattle.std.specs.Option.{is_some, option_map, option_map_or}
 use Rattle.http2_streams.specs.Diary.{has_failed}
 use Rattle.grpc_sending.specs.Bytes.{pending, untaken}
+use Rattle.grpc_sending.specs.Kept.{Look}
+use Rattle.blob_pool.specs.Held.{Slots, text_at}
 use Rattle.conn_core.specs.Past.{Past}
 use Rattle.conn_core.specs.StandsFor.{Present}
 use Rattle.server_events.specs.Events.{EventValue, WhatValue, opened, received, took, closed, tick, ended}
 use Rattle.served_instance.specs.declared.refusal.EventRefusal.{EventRefusal}
 use Rattle.served_instance.specs.declared.refusal.EventRefusal.TheVariants.{NoSuchInstance, TimeWentBack, ConnectionExists, TooManyConnections, NoSuchConnection, NoSuchJob, TookTooMuch, NoMemory}
 use Rattle.served_instance.specs.Connections.{open_ones, open_at}
-use Rattle.served_instance.specs.Lone.{Lone, accepted}
+use Rattle.instance_core.specs.State.{InstanceState, at_moment}
+use Rattle.served_instance.specs.Lone.{Lone, came_at, accepted}
 use Rattle.served_instance.specs.Refusals.{connection_limit, refusal_of, refusal_of_what, stepped, lone_step, IsOutcome}
 use Rattle.served_instance.specs.StandsFor.{Served, ServedState, StandsFor, AreSettled, connection_at}
+use Rattle.served_instance.specs.declared.open_connection.OpenConnection.{OpenConnection}
+use Rattle.served_instance.specs.Slots.{ServedSlots, served_in}
+use Rattle.served_instance.specs.Acts.{StandsBy}
+use Rattle.served_instance.proofs.Ranges.{plain_served}
 use Rattle.served_instance.specs.Present.{refusal_by, refusal_by_what, unless_more}
 use Rattle.served_instance.proofs.Serves.{SameAt, same_at, same_length}
 
-same_presence : (a : Option Present) (b : Option Past) → SameAt a b → is_some a ≡ is_some b
-same_presence None None s = refl
-same_presence (Some v) (Some p) s = refl
-same_presence None (Some p) s = absurd s
-same_presence (Some v) None s = absurd s
+same_presence : (texts : Look) (a : Option Present) (b : Option Past) → SameAt texts a b → is_some a ≡ is_some b
+same_presence texts None None s = refl
+same_presence texts (Some v) (Some p) s = refl
+same_presence texts None (Some p) s = absurd s
+same_presence texts (Some v) None s = absurd s
 
-same_unless : (a : Option Present) (b : Option Past) (r : Option EventRefusal) → SameAt a b → option_map_or (λ v. None) a r ≡ option_map_or (λ p. None) b r
-same_unless None None r s = refl
-same_unless (Some v) (Some p) r s = refl
-same_unless None (Some p) r s = absurd s
-same_unless (Some v) None r s = absurd s
+same_unless : (texts : Look) (a : Option Present) (b : Option Past) (r : Option EventRefusal) → SameAt texts a b → option_map_or (λ v. None) a r ≡ option_map_or (λ p. None) b r
+same_unless texts None None r s = refl
+same_unless texts (Some v) (Some p) r s = refl
+same_unless texts None (Some p) r s = absurd s
+same_unless texts (Some v) None r s = absurd s
 
 abbrev unless_untaken : ℕ → Past → Option EventRefusal
 unless_untaken n p = if nat_lt (untaken p.diary) n then Some TookTooMuch else None
 
-same_take : (n : ℕ) (a : Option Present) (b : Option Past) (r : Option EventRefusal) → SameAt a b → option_map_or (unless_more n) a r ≡ option_map_or (unless_untaken n) b r
-same_take n None None r s = refl
-same_take n (Some v) (Some p) r s = ap (λ (bytes : List ℕ). if nat_lt (length bytes) n then Some TookTooMuch else None) s.sending.pending
-same_take n None (Some p) r s = absurd s
-same_take n (Some v) None r s = absurd s
+same_take : (texts : Look) (n : ℕ) (a : Option Present) (b : Option Past) (r : Option EventRefusal) → SameAt texts a b → option_map_or (unless_more n) a r ≡ option_map_or (unless_untaken n) b r
+same_take texts n None None r s = refl
+same_take texts n (Some v) (Some p) r s = ap (λ (bytes : List ℕ). if nat_lt (length bytes) n then Some TookTooMuch else None) s.sending.pending
+same_take texts n None (Some p) r s = absurd s
+same_take texts n (Some v) None r s = absurd s
 
-pub same_pending : (a : Option Present) (b : Option Past) → SameAt a b → option_map (λ (v : Present). v.sending.pending) a ≡ option_map (λ (p : Past). pending p.diary) b
-same_pending None None s = refl
-same_pending (Some v) (Some p) s = ap Some s.sending.pending
-same_pending None (Some p) s = absurd s
-same_pending (Some v) None s = absurd s
+pub same_pending : (texts : Look) (a : Option Present) (b : Option Past) → SameAt texts a b → option_map (λ (v : Present). v.sending.pending) a ≡ option_map (λ (p : Past). pending p.diary) b
+same_pending texts None None s = refl
+same_pending texts (Some v) (Some p) s = ap Some s.sending.pending
+same_pending texts None (Some p) s = absurd s
+same_pending texts (Some v) None s = absurd s
 
-pub same_ended : (a : Option Present) (b : Option Past) → SameAt a b → option_map (λ (v : Present). v.ended) a ≡ option_map (λ (p : Past). has_failed p.diary) b
-same_ended None None s = refl
-same_ended (Some v) (Some p) s = ap Some s.ended
-same_ended None (Some p) s = absurd s
-same_ended (Some v) None s = absurd s
+pub same_ended : (texts : Look) (a : Option Present) (b : Option Past) → SameAt texts a b → option_map (λ (v : Present). v.ended) a ≡ option_map (λ (p : Past). has_failed p.diary) b
+same_ended texts None None s = refl
+same_ended texts (Some v) (Some p) s = ap Some s.ended
+same_ended texts None (Some p) s = absurd s
+same_ended texts (Some v) None s = absurd s
 
 abbrev to_open : Bool → ℕ → Option EventRefusal
 to_open there n = if there then Some ConnectionExists else if nat_le connection_limit n then Some TooManyConnections else None
 
-same_by_what : (w : WhatValue) (vs : List Served) (l : Lone) → ((c : ℕ) → SameAt (connection_at c vs) (open_at c l.connections)) → length vs ≡ length (open_ones l.connections) → refusal_by_what w vs ≡ refusal_of_what w l
-same_by_what (opened c) vs l s n =
-    ap (λ (b : Bool). to_open b (length vs)) (same_presence _ _ (s c)) ∙ ap (λ (m : ℕ). to_open (is_some (open_at c l.connections)) m) n
-same_by_what (received c bytes) vs l s n = same_unless _ _ (Some NoSuchConnection) (s c)
-same_by_what (took c count) vs l s n = same_take count _ _ (Some NoSuchConnection) (s c)
-same_by_what (closed c) vs l s n = same_unless _ _ (Some NoSuchConnection) (s c)
-same_by_what tick vs l s n = refl
-same_by_what (ended job outcome) vs l s n = refl
+same_by_what : (texts : Look) (w : WhatValue) (vs : List Served) (l : Lone) → ((c : ℕ) → SameAt texts (connection_at c vs) (open_at c l.connections)) → length vs ≡ length (open_ones l.connections) → refusal_by_what w vs ≡ refusal_of_what w l
+same_by_what texts (opened c) vs l s n =
+    ap (λ (b : Bool). to_open b (length vs)) (same_presence texts _ _ (s c)) ∙ ap (λ (m : ℕ). to_open (is_some (open_at c l.connections)) m) n
+same_by_what texts (received c bytes) vs l s n = same_unless texts _ _ (Some NoSuchConnection) (s c)
+same_by_what texts (took c count) vs l s n = same_take texts count _ _ (Some NoSuchConnection) (s c)
+same_by_what texts (closed c) vs l s n = same_unless texts _ _ (Some NoSuchConnection) (s c)
+same_by_what texts tick vs l s n = refl
+same_by_what texts (ended job outcome) vs l s n = refl
 
-pub same_refusal : (e : EventValue) (v : ServedState) (l : Lone) → StandsFor v l → refusal_by e v ≡ refusal_of e l
-same_refusal e v l s =
-    ap (λ (m : ℕ). if nat_lt e.moment m then Some TimeWentBack else refusal_by_what e.what v.connections) s.moment
-    ∙ ap (λ (r : Option EventRefusal). if nat_lt e.moment l.moment then Some TimeWentBack else r) (same_by_what e.what v.connections l (λ c. same_at c v.connections l.connections s.connections) (same_length v.connections (open_ones l.connections) s.connections))
+pub same_refusal : (p : Slots) (e : EventValue) (v : ServedSlots) (l : Lone) → StandsFor (served_in p v) l → refusal_by e v ≡ refusal_of e l
+same_refusal p e v l s =
+    let texts = text_at p in
+    let vs = v.connections in
+    let stand = plain_served texts vs (open_ones l.connections) s.connections in
+    ap (λ (x : InstanceState). if nat_lt e.moment x.moment then Some TimeWentBack else refusal_by_what e.what vs) s.state
+    ∙ ap (λ (r : Option EventRefusal). if nat_lt e.moment l.state.moment then Some TimeWentBack else r) (same_by_what texts e.what vs l (λ c. same_at texts c vs l.connections stand) (same_length texts vs (open_ones l.connections) stand))
 
 -- ---- what comes of an event
 
@@ -90,8 +100,8 @@ reason_by_what (closed c) vs = reason_at (connection_at c vs) (λ x. None) (λ x
 reason_by_what tick vs = tt
 reason_by_what (ended job outcome) vs = tt
 
-is_reason : (e : EventValue) (v : ServedState) → IsReason (refusal_by e v)
-is_reason e v = reason_if (nat_lt e.moment v.moment) TimeWentBack (refusal_by_what e.what v.connections) tt (reason_by_what e.what v.connections)
+is_reason : (e : EventValue) (v : ServedSlots) → IsReason (refusal_by e v)
+is_reason e v = reason_if (nat_lt e.moment v.instance.moment) TimeWentBack (refusal_by_what e.what v.connections) tt (reason_by_what e.what v.connections)
 
 outcome_of : (A : Type 0) (r : EventRefusal) (reason : Option EventRefusal) → IsReason (Some r) → reason ≡ Some r → IsOutcome {A = A} (Err r) reason
 outcome_of A NoSuchInstance reason h e = e
@@ -103,39 +113,40 @@ outcome_of A TimeWentBack reason h e = e
 outcome_of A TookTooMuch reason h e = e
 outcome_of A NoMemory reason h e = absurd h
 
-pub no_reason : (e : EventValue) (v : ServedState) (l : Lone) → None ≡ refusal_by e v → StandsFor v l → refusal_of e l ≡ None
-no_reason e v l h s = sym (same_refusal e v l s) ∙ sym h
+pub no_reason : (p : Slots) (e : EventValue) (v : ServedSlots) (l : Lone) → None ≡ refusal_by e v → StandsFor (served_in p v) l → refusal_of e l ≡ None
+no_reason p e v l h s = sym (same_refusal p e v l s) ∙ sym h
 
-reason : (e : EventValue) (v : ServedState) (l : Lone) (r : EventRefusal) → Some r ≡ refusal_by e v → StandsFor v l → refusal_of e l ≡ Some r
-reason e v l r h s = sym (same_refusal e v l s) ∙ sym h
+reason : (p : Slots) (e : EventValue) (v : ServedSlots) (l : Lone) (r : EventRefusal) → Some r ≡ refusal_by e v → StandsFor (served_in p v) l → refusal_of e l ≡ Some r
+reason p e v l r h s = sym (same_refusal p e v l s) ∙ sym h
 
-pub refused_outcome : (A : Type 0) (e : EventValue) (v : ServedState) (l : Lone) (r : EventRefusal) → Some r ≡ refusal_by e v → StandsFor v l → IsOutcome {A = A} (Err r) (refusal_of e l)
-refused_outcome A e v l r h s = outcome_of A r (refusal_of e l) (subst IsReason (sym h) (is_reason e v)) (reason e v l r h s)
+pub refused_outcome : (p : Slots) (A : Type 0) (e : EventValue) (v : ServedSlots) (l : Lone) (r : EventRefusal) → Some r ≡ refusal_by e v → StandsFor (served_in p v) l → IsOutcome {A = A} (Err r) (refusal_of e l)
+refused_outcome p A e v l r h s = outcome_of A r (refusal_of e l) (subst IsReason (sym h) (is_reason e v)) (reason p e v l r h s)
 
-pub kept_at_refusal : (e : EventValue) (v : ServedState) (l : Lone) (r : EventRefusal) → Some r ≡ refusal_by e v → StandsFor v l → StandsFor v (lone_step e l)
-kept_at_refusal e v l r h s =
-    let P : Option EventRefusal → Type 0 = λ o. StandsFor v (stepped e l o) in
-    subst P (sym (reason e v l r h s)) s
+pub kept_at_refusal : (p : Slots) (e : EventValue) (v : ServedSlots) (l : Lone) (r : EventRefusal) → Some r ≡ refusal_by e v → StandsFor (served_in p v) l → StandsFor (served_in p v) (lone_step e l)
+kept_at_refusal p e v l r h s =
+    let P : Option EventRefusal → Type 0 = λ o. StandsFor (served_in p v) (stepped e l o) in
+    subst P (sym (reason p e v l r h s)) s
 
-pub stands_accepted : (e : EventValue) (v w : ServedState) (l : Lone) → None ≡ refusal_by e v → StandsFor v l → StandsFor w (accepted e l) → StandsFor w (lone_step e l)
-stands_accepted e v w l h s a =
+pub stands_accepted : (p : Slots) (e : EventValue) (v : ServedSlots) (w : ServedState) (l : Lone) → None ≡ refusal_by e v → StandsFor (served_in p v) l → StandsFor w (accepted e l) → StandsFor w (lone_step e l)
+stands_accepted p e v w l h s a =
     let P : Option EventRefusal → Type 0 = λ o. StandsFor w (stepped e l o) in
-    subst P (sym (no_reason e v l h s)) a
+    subst P (sym (no_reason p e v l h s)) a
 
-pub settled_accepted : (e : EventValue) (v : ServedState) (l : Lone) → None ≡ refusal_by e v → StandsFor v l → AreSettled (accepted e l) → AreSettled (lone_step e l)
-settled_accepted e v l h s a =
+pub settled_accepted : (p : Slots) (e : EventValue) (v : ServedSlots) (l : Lone) → None ≡ refusal_by e v → StandsFor (served_in p v) l → AreSettled (accepted e l) → AreSettled (lone_step e l)
+settled_accepted p e v l h s a =
     let P : Option EventRefusal → Type 0 = λ o. AreSettled (stepped e l o) in
-    subst P (sym (no_reason e v l h s)) a
+    subst P (sym (no_reason p e v l h s)) a
 
-pub same_moment : (v : ServedState) (l : Lone) (m : ℕ) → StandsFor v l → StandsFor (record v { moment = m }) (record l { moment = m })
-same_moment v l m s = record { state = s.state; moment = refl; connections = s.connections }
+-- an event comes
+pub came_stands : (texts : Look) (m : ℕ) (s t : InstanceState) (os : List OpenConnection) (l : Lone) → t ≡ at_moment m s → StandsBy texts s os l → StandsBy texts t os (came_at m l)
+came_stands texts m s t os l e st = record { state = e ∙ ap (at_moment m) st.state; connections = st.connections }
 
-pub not_elsewhere : (e : EventValue) (v : ServedState) (r : EventRefusal) → Some r ≡ refusal_by e v → r ≡ NoSuchInstance → ⊥
+pub not_elsewhere : (e : EventValue) (v : ServedSlots) (r : EventRefusal) → Some r ≡ refusal_by e v → r ≡ NoSuchInstance → ⊥
 not_elsewhere e v r h x =
     let P : EventRefusal → Type 0 = λ y. IsReason (Some y) in
     subst P x (subst IsReason (sym h) (is_reason e v))
 
-pub not_for_memory : (e : EventValue) (v : ServedState) (r : EventRefusal) → Some r ≡ refusal_by e v → r ≡ NoMemory → ⊥
+pub not_for_memory : (e : EventValue) (v : ServedSlots) (r : EventRefusal) → Some r ≡ refusal_by e v → r ≡ NoMemory → ⊥
 not_for_memory e v r h x =
     let P : EventRefusal → Type 0 = λ y. IsReason (Some y) in
     subst P x (subst IsReason (sym h) (is_reason e v))
@@ -144,5 +155,5 @@ what_by : (b : Bool) (r : Option EventRefusal) → (if b then Some TimeWentBack 
 what_by true r h = cc
 what_by false r h = h
 
-pub accepted_what : (e : EventValue) (v : ServedState) → refusal_by e v ≡ None → refusal_by_what e.what v.connections ≡ None
-accepted_what e v h = what_by (nat_lt e.moment v.moment) (refusal_by_what e.what v.connections) h
+pub accepted_what : (e : EventValue) (v : ServedSlots) → refusal_by e v ≡ None → refusal_by_what e.what v.connections ≡ None
+accepted_what e v h = what_by (nat_lt e.moment v.instance.moment) (refusal_by_what e.what v.connections) h

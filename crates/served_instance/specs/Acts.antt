@@ -4,13 +4,17 @@ use Rattle.std.specs.Option.{option_map_or}
 use Rattle.conn_core.specs.declared.event.CallEvent.{CallEvent}
 use Rattle.conn_core.specs.declared.event.CallEvent.TheVariants.{Cancel}
 use Rattle.conn_core.specs.Past.{Past}
-use Rattle.conn_core.specs.StandsFor.{Present, StandsFor as IsConnection, Popped, FrameRead, unread, live_calls}
-use Rattle.grpc_sending.specs.StandsFor.{new_sending}
+use Rattle.conn_core.specs.StandsFor.{Present, StandsFor as IsConnection, Becomes, Pops as PopsOne, ReadsFrame as ReadsOneFrame, unread, live_calls}
+use Rattle.grpc_sending.specs.Kept.{Look, AgreeOn, new_kept}
 use Rattle.instance_core.specs.State.{InstanceState}
 use Rattle.served_instance.specs.declared.open_connection.OpenConnection.{OpenConnection}
-use Rattle.served_instance.specs.Connections.{open_at}
+use Rattle.served_instance.specs.Connections.{open_at, open_ones}
 use Rattle.served_instance.specs.Lone.{Lone, all_read}
-use Rattle.served_instance.specs.StandsFor.{ServedState, StandsFor, connection_at}
+use Rattle.served_instance.specs.StandsFor.{AreServed, connection_at}
+use Rattle.served_instance.specs.Ranges.{KeepRanges, sources_at}
+use Rattle.served_instance.specs.Slots.{ServedSlots}
+use Rattle.instance_core.specs.Slots.{InstanceSlots, state_in}
+use Rattle.blob_pool.specs.Held.{Slots, text_at}
 use Rattle.served_instance.specs.Shown.{served}
 
 -- ---- one connection
@@ -34,23 +38,24 @@ Changed c os ns R = ChangedFrom (kept_at c os) c os ns R
 
 -- this step
 abbrev pub Takes : (Past → Past) → Present → Present → Type 0
-Takes step v w = (p : Past) → IsConnection v p → IsConnection w (step p)
+Takes step v w = Becomes v step w
 
 -- nothing else than what is to be sent has changed
 abbrev pub SendsMore : Present → Present → Type 0
 SendsMore v w = w ≡ record v { sending = w.sending }
 
-pub record Owes (step : Past → Past) (v w : Present) : Type 0 where
-  pub taken : Takes step v w
+-- this step, which reads the texts of sources
+pub record Owes (step : Look → Past → Past) (v w : Present) : Type 0 where
+  pub taken : (texts : Look) (p : Past) → IsConnection texts v p → IsConnection texts w (step texts p)
   pub rest : SendsMore v w
 
 pub record Pops (given : Option CallEvent) (v w : Present) : Type 0 where
-  pub event : (p : Past) → IsConnection v p → Popped p given w
+  pub event : PopsOne v given w
   pub fewer : OnSome given (length w.due < length v.due)
   pub rest : w ≡ record v { due = w.due }
 
 pub record ReadsFrame (more : Bool) (v w : Present) : Type 0 where
-  pub frame : (p : Past) → IsConnection v p → FrameRead p more w
+  pub frame : ReadsOneFrame v more w
   pub fewer : IsTrue more → unread w < unread v
 
 -- ---- measures
@@ -63,23 +68,53 @@ unread_at c os = option_map_or unread (kept_at c os) 0
 
 -- ---- an instance and its connections
 
-abbrev pub state_at : ℕ → InstanceState → List OpenConnection → ServedState
-state_at m s os = record { state = s; moment = m; connections = map served os }
+-- they stand for this, with these texts of the sources of ranges
+pub record StandsBy (texts : Look) (s : InstanceState) (os : List OpenConnection) (l : Lone) : Type 0 where
+  pub state : s ≡ l.state
+  pub connections : AreServed texts (map served os) (open_ones l.connections)
 
--- they take this step
+-- they take this step, by these texts before and by others afterwards
+abbrev pub ActsBy : Look → InstanceState → List OpenConnection → Look → InstanceState → List OpenConnection → (Lone → Lone) → Type 0
+ActsBy texts s os others t ns step = (l : Lone) → StandsBy texts s os l → StandsBy others t ns (step l)
+
+-- .. whatever the texts are
 abbrev pub Acts : InstanceState → List OpenConnection → InstanceState → List OpenConnection → (Lone → Lone) → Type 0
-Acts s os t ns step = (m : ℕ) (l : Lone) → StandsFor (state_at m s os) l → StandsFor (state_at m t ns) (step l)
+Acts s os t ns step = (texts : Look) → ActsBy texts s os texts t ns step
+
+-- .. by those of a pool
+abbrev pub ActsIn : Slots → InstanceSlots → List OpenConnection → Slots → InstanceSlots → List OpenConnection → (Lone → Lone) → Type 0
+ActsIn p i os q j ns step = ActsBy (text_at p) (state_in p i) os (text_at q) (state_in q j) ns step
 
 abbrev pub without_sending : Present → Present
-without_sending v = record v { sending = new_sending }
+without_sending v = record v { sending = new_kept }
+
+-- an instance with its connections, as the code keeps it
+abbrev pub slots_of : InstanceSlots → List OpenConnection → ServedSlots
+slots_of i os = record { instance = i; connections = map served os }
+
+-- each range finds the text in the one pool that it found in the other
+abbrev pub FindAlike : Slots → Slots → List OpenConnection → Type 0
+FindAlike p q os = AgreeOn (sources_at (map served os)) (text_at p) (text_at q)
+
+-- the same sources of ranges are held
+abbrev pub HoldAlike : List OpenConnection → List OpenConnection → Type 0
+HoldAlike os ns = KeepRanges (map served os) (map served ns)
 
 -- nothing else than what is to be sent has changed
 abbrev pub Keeps : List OpenConnection → List OpenConnection → Type 0
 Keeps os ns = (c : ℕ) → option_map without_sending (kept_at c ns) ≡ option_map without_sending (kept_at c os)
 
 -- they are at a state from which this leads to the same
+abbrev pub LeadsBy : Look → InstanceState → List OpenConnection → Look → InstanceState → List OpenConnection → (Lone → Lone) → (Lone → Lone) → Type 0
+LeadsBy texts s os others t ns before after = (l : Lone) → StandsBy texts s os l → (k : Lone) × StandsBy others t ns k × (after k ≡ before l)
+
+-- .. whatever the texts are
 abbrev pub LeadsOn : InstanceState → List OpenConnection → InstanceState → List OpenConnection → (Lone → Lone) → (Lone → Lone) → Type 0
-LeadsOn s os t ns before after = (m : ℕ) (l : Lone) → StandsFor (state_at m s os) l → (k : Lone) × StandsFor (state_at m t ns) k × (after k ≡ before l)
+LeadsOn s os t ns before after = (texts : Look) → LeadsBy texts s os texts t ns before after
+
+-- .. by those of a pool
+abbrev pub LeadsIn : Slots → InstanceSlots → List OpenConnection → Slots → InstanceSlots → List OpenConnection → (Lone → Lone) → (Lone → Lone) → Type 0
+LeadsIn p i os q j ns before after = LeadsBy (text_at p) (state_in p i) os (text_at q) (state_in q j) ns before after
 
 -- all that was received on connection c and not read yet is read
 abbrev pub rest_read : ℕ → Lone → Lone

@@ -4,6 +4,8 @@ pub mod Codes
 pub mod Lone
 pub mod Refusals
 pub mod StandsFor
+pub mod Ranges
+pub mod Given
 pub mod Slots
 pub mod Shown
 pub mod Present

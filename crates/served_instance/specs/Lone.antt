@@ -18,31 +18,30 @@ use Rattle.conn_core.specs.declared.event.CallEvent.{CallEvent}
 use Rattle.conn_core.specs.Received.{raw_received}
 use Rattle.conn_core.specs.Calls.{cancels}
 use Rattle.conn_core.specs.Past.{Past, opening, with_frame, with_fault, with_taken, with_pumped}
-use Rattle.instance_core.specs.Calls.{CallEventValue}
-use Rattle.instance_core.specs.State.{InstanceState, opened as opened_instance}
-use Rattle.instance_core.specs.Answer.{ReplyValue, answer, after}
+use Rattle.instance_core.specs.Calls.{CallEventValue, tick as time_passes}
+use Rattle.instance_core.specs.State.{InstanceState, opened as opened_instance, at_moment}
+use Rattle.instance_core.specs.Replies.{ReplyValue}
+use Rattle.instance_core.specs.Answer.{answer, after}
 use Rattle.server_events.specs.Events.{EventValue, WhatValue, opened, received, took, closed, tick, ended}
 use Rattle.served_instance.specs.Connections.{LoneConnection, open_at, at_open, closed_at, at_all_open}
 use Rattle.served_instance.specs.Calls.{call_event_on, items_of, with_items}
 
 pub record Lone : Type 0 where
-  -- its texts, and its calls in course
+  -- the moment of the last event that was accepted, its texts, and its calls in course
   pub state : InstanceState
-  -- of the last event that was accepted
-  pub moment : ℕ
   -- all connections that were ever opened, in order
   pub connections : List LoneConnection
 
 -- at first nothing has happened
 abbrev pub start : List ℕ → ℕ → ℕ → Lone
-start name quota slots = record { state = opened_instance name quota slots; moment = 0; connections = [] }
+start name quota slots = record { state = opened_instance name quota slots; connections = [] }
 
 -- ---- calls
 
--- a reply is owed to the stream of its call
+-- the items of a reply are owed to the stream of its call
 abbrev pub replied : List ReplyValue → Lone → Lone
 replied [] l = l
-replied (reply ∷ replies) l = replied replies (record l { connections = at_open reply.call.connection (with_items reply.call.stream (items_of reply.outcome)) l.connections })
+replied (reply ∷ replies) l = replied replies (record l { connections = at_open reply.call.connection (with_items reply.call.stream (items_of reply.items)) l.connections })
 
 -- something happens to a call: the instance answers
 abbrev pub happened : CallEventValue → Lone → Lone
@@ -119,15 +118,19 @@ acted (opened c) l = was_opened c l
 acted (received c bytes) l = bytes_came c bytes l
 acted (took c n) l = record l { connections = at_open c (λ p. with_taken p n) l.connections }
 acted (closed c) l = was_closed c l
-acted tick l = l
+acted tick l = happened time_passes l
 acted (ended job outcome) l = l
 
 -- all that can be put is put, on each open connection
 abbrev pub pumped_all : Lone → Lone
 pumped_all l = record l { connections = at_all_open with_pumped l.connections }
 
+-- an event comes at this moment
+abbrev pub came_at : ℕ → Lone → Lone
+came_at moment l = record l { state = at_moment moment l.state }
+
 abbrev pub accepted : EventValue → Lone → Lone
-accepted e l = pumped_all (acted e.what (record l { moment = e.moment }))
+accepted e l = pumped_all (acted e.what (came_at e.moment l))
 
 -- ---- what came of it
 

@@ -7,7 +7,8 @@ use Rattle.served_instance.specs.declared.open_connection.OpenConnection.{OpenCo
 use Rattle.served_instance.specs.declared.refusal.EventRefusal.{EventRefusal}
 use Rattle.served_instance.specs.declared.refusal.EventRefusal.TheVariants.{TimeWentBack, ConnectionExists, TooManyConnections, NoSuchConnection, TookTooMuch, NoSuchJob}
 use Rattle.served_instance.specs.Refusals.{connection_limit}
-use Rattle.served_instance.specs.StandsFor.{Served, ServedState, connection_at}
+use Rattle.served_instance.specs.StandsFor.{Served, connection_at}
+use Rattle.served_instance.specs.Slots.{ServedSlots}
 
 abbrev pub is_numbered : ℕ → OpenConnection → Bool
 is_numbered c kept = kept.number == c
@@ -35,8 +36,8 @@ refusal_by_what (closed c) vs = unless_kept c vs
 refusal_by_what tick vs = None
 refusal_by_what (ended job outcome) vs = Some NoSuchJob
 
-abbrev pub refusal_by : EventValue → ServedState → Option EventRefusal
-refusal_by e v = if nat_lt e.moment v.moment then Some TimeWentBack else refusal_by_what e.what v.connections
+abbrev pub refusal_by : EventValue → ServedSlots → Option EventRefusal
+refusal_by e v = if nat_lt e.moment v.instance.moment then Some TimeWentBack else refusal_by_what e.what v.connections
 
 -- no more than waits
 abbrev pub CanTake : ℕ → Option Present → Type 0

@@ -30,7 +30,7 @@ refusal_of_what (ended job outcome) l = Some NoSuchJob
 
 -- time does not go back
 abbrev pub refusal_of : EventValue → Lone → Option EventRefusal
-refusal_of e l = if nat_lt e.moment l.moment then Some TimeWentBack else refusal_of_what e.what l
+refusal_of e l = if nat_lt e.moment l.state.moment then Some TimeWentBack else refusal_of_what e.what l
 
 -- a refused event changes nothing
 abbrev pub stepped : EventValue → Lone → Option EventRefusal → Lone

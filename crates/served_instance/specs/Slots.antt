@@ -1,31 +1,40 @@
 -- What an instance with its connections keeps of its own, and what that is in a pool of texts.
-use Rattle.std.specs.Prelude.{ℕ, List}
-use Rattle.blob_pool.specs.Held.{Slots}
-use Rattle.blob_pool.specs.Moves.{Holders, AreHeld}
+use Rattle.std.specs.Prelude.{ℕ, ◌+◌, ◌≤◌, ◌<◌, ◌^◌, List, map}
+use Rattle.blob_pool.specs.Held.{Slots, text_at, count_at}
+use Rattle.blob_pool.specs.Moves.{Holders}
 use Rattle.instance_core.specs.Slots.{InstanceSlots, state_in, holders_of as holders_of_instance}
 use Rattle.served_instance.specs.Connections.{open_ones}
 use Rattle.served_instance.specs.Lone.{Lone}
 use Rattle.served_instance.specs.StandsFor.{Served, ServedState, AreServed, IsWithin}
+use Rattle.served_instance.specs.Ranges.{served_with, sources_at, range_holders, AreFit, HaveFew}
 
--- the instance, whose texts stand in slots; the moment of its last event, and its open connections
+-- the instance, whose texts stand in slots, and its open connections, whose ranges are of texts in slots
 pub record ServedSlots : Type 0 where
   pub instance : InstanceSlots
-  pub moment : ℕ
   pub connections : List Served
 
--- with the texts that its slots have in a pool
+-- with the texts that a pool has in the slots
 abbrev pub served_in : Slots → ServedSlots → ServedState
-served_in p v = record { state = state_in p v.instance; moment = v.moment; connections = v.connections }
+served_in p v = record {
+  state = state_in p v.instance;
+  connections = map (served_with (text_at p)) v.connections;
+  ranges = map (text_at p) (sources_at v.connections);
+}
 
--- how often it holds each slot: by the entries of its instance
+-- how often it holds each slot: by the entries of its instance, and by the ranges of its connections
 abbrev pub holders_of : ServedSlots → Holders
-holders_of v = holders_of_instance v.instance
+holders_of v k = holders_of_instance v.instance k + range_holders v.connections k
 
 -- the pool counts it among its holders, and it keeps its limits
 pub record IsKept (p : Slots) (v : ServedSlots) : Type 0 where
-  pub held : AreHeld p (holders_of v)
+  pub counted : (k : ℕ) → holders_of v k ≤ count_at p k
+  -- but for it there are fewer than 2^125 holders of any slot
+  pub others : (k : ℕ) → count_at p k < holders_of v k + 2 ^ 125
   pub within : IsWithin (served_in p v)
+  pub fit : AreFit (text_at p) v.connections
+  pub few : HaveFew v.connections
 
--- its open connections stand for those of an instance by itself
-abbrev pub HasConnections : ServedSlots → Lone → Type 0
-HasConnections v l = AreServed v.connections (open_ones l.connections)
+-- its open connections stand for those of an instance by itself, by the texts of some pool
+pub record HasConnections (v : ServedSlots) (l : Lone) : Type 0 where
+  pub pool : Slots
+  pub stand : AreServed (text_at pool) v.connections (open_ones l.connections)

@@ -2,6 +2,7 @@
 use Rattle.std.specs.Prelude.{◌≡◌, ◌≤◌, ◌==◌, ℕ, if◌then◌else◌, List, [], ◌∷◌, length, Option, Some, None}
 use Rattle.std.specs.List.{AllByRecursion}
 use Rattle.grpc_sending.specs.Settled.{IsSettled}
+use Rattle.grpc_sending.specs.Kept.{Look}
 use Rattle.conn_core.specs.StandsFor.{Present, StandsFor as IsConnection}
 use Rattle.instance_core.specs.State.{InstanceState, WithinLimits}
 use Rattle.served_instance.specs.Connections.{LoneConnection, open_ones}
@@ -15,19 +16,24 @@ pub record Served : Type 0 where
 
 pub record ServedState : Type 0 where
   pub state : InstanceState
-  pub moment : ℕ
-  -- the open connections, in order of opening
+  -- the open connections, in order of opening; of each range the messages stand there that are to be put
   pub connections : List Served
+  -- the text of each range, as often as it is held: until the range is wholly put, or its stream is over
+  pub ranges : List (List ℕ)
 
-abbrev pub AreServed : List Served → List LoneConnection → Type 0
-AreServed [] [] = Unit {0}
-AreServed (v ∷ vs) (k ∷ ks) = (v.number ≡ k.number) × IsConnection v.connection k.past × AreServed vs ks
-AreServed vs ks = ⊥
+-- with these texts of the sources of their ranges
+abbrev pub AreServed : Look → List Served → List LoneConnection → Type 0
+AreServed texts [] [] = Unit {0}
+AreServed texts (v ∷ vs) (k ∷ ks) = (v.number ≡ k.number) × IsConnection texts v.connection k.past × AreServed texts vs ks
+AreServed texts vs ks = ⊥
+
+-- where no range is left no text is looked up
+abbrev pub no_texts : Look
+no_texts n = []
 
 pub record StandsFor (v : ServedState) (l : Lone) : Type 0 where
   pub state : v.state ≡ l.state
-  pub moment : v.moment ≡ l.moment
-  pub connections : AreServed v.connections (open_ones l.connections)
+  pub connections : AreServed no_texts v.connections (open_ones l.connections)
 
 -- the limits that a served instance keeps
 pub record IsWithin (v : ServedState) : Type 0 where

@@ -1,16 +1,20 @@
 //! What happens to the calls on an instance's connections.
 
-ghost use Rattle.std.specs.Prelude.{◌≡◌, ◌<◌, ◌≤◌, ℕ, List, false, IsTrue, IfOk, OnOk, length};
+ghost use Rattle.std.specs.Prelude.{◌≡◌, ◌<◌, ◌≤◌, ℕ, List, false, IsTrue, IfOk, OnOk, length, map};
 ghost use Rattle.instance_core.specs.Calls.{IsShortEvent};
 ghost use Rattle.instance_core.specs.Shown.{event_shown};
-ghost use Rattle.instance_core.specs.Slots.{state_in, holders_of, IsKept};
-ghost use Rattle.blob_pool.specs.Held.{Slots};
+ghost use Rattle.instance_core.specs.Slots.{state_in, holders_of as holders_of_instance, IsKept as IsInstanceKept};
+ghost use Rattle.served_instance.specs.Slots.{holders_of, IsKept};
+ghost use Rattle.blob_pool.specs.Held.{Slots, count_at};
 ghost use Rattle.blob_pool.specs.Moves.{Moves};
 ghost use Rattle.served_instance.specs.declared.open_connection.OpenConnection.{OpenConnection};
-ghost use Rattle.served_instance.specs.Acts.{Acts, LeadsOn, Keeps, kept_at, unread_at, rest_read, cancels_of};
+ghost use Rattle.served_instance.specs.Acts.{Acts, ActsIn, LeadsIn, Keeps, kept_at, slots_of, unread_at, rest_read, cancels_of};
+ghost use Rattle.served_instance.specs.Ranges.{Releases, range_holders};
+ghost use Rattle.served_instance.specs.Shown.{served};
 ghost use Rattle.served_instance.specs.Lone.{Lone, happened, all_happened, due_happened, bytes_came, was_closed};
 
 use crate::open_connection::{OpenConnection, feed, find, pop_event, read_frame};
+use crate::release::release_spent;
 use crate::replies::{call_event_on, give_all};
 use blob_pool::Pool;
 use conn_core::Connection;
@@ -26,15 +30,16 @@ fn happen(
     event: CallEvent,
 ) -> Result<(), AllocError>
     requires short { IsShortEvent (event_shown event) }
-    requires kept { IsKept pool.old instance.old }
-    ensures happened { OnOk result (Acts (state_in pool.old instance.old) connections.old
-        (state_in pool.new instance.new) connections.new (happened (event_shown event))) }
+    requires kept { IsKept pool.old (slots_of instance.old connections.old) }
+    ensures happened { OnOk result (ActsIn pool.old instance.old connections.old
+        pool.new instance.new connections.new (happened (event_shown event))) }
     ensures rest { OnOk result (Keeps connections.old connections.new) }
-    ensures moves { Moves pool.old pool.new (holders_of instance.old) (holders_of instance.new) }
-    ensures kept { IsKept pool.new instance.new }
+    ensures moves { Moves pool.old pool.new (holders_of (slots_of instance.old connections.old))
+        (holders_of (slots_of instance.new connections.new)) }
+    ensures kept { IsKept pool.new (slots_of instance.new connections.new) }
 {
     let replies = instance.call_event(alloc, pool, event)?;
-    give_all(connections, &replies)
+    give_all(pool, connections, &replies)
 }
 
 /// What is due on the connection happens.
@@ -45,13 +50,14 @@ fn give_due(
     connections: &mut [OpenConnection],
     number: u32,
 ) -> Result<(), AllocError>
-    requires kept { IsKept pool.old instance.old }
-    ensures due { OnOk result (Acts (state_in pool.old instance.old) connections.old
-        (state_in pool.new instance.new) connections.new (due_happened number)) }
+    requires kept { IsKept pool.old (slots_of instance.old connections.old) }
+    ensures due { OnOk result (ActsIn pool.old instance.old connections.old
+        pool.new instance.new connections.new (due_happened number)) }
     ensures unread { OnOk result (unread_at number connections.new
         ≡ unread_at number connections.old) }
-    ensures moves { Moves pool.old pool.new (holders_of instance.old) (holders_of instance.new) }
-    ensures kept { IsKept pool.new instance.new }
+    ensures moves { Moves pool.old pool.new (holders_of (slots_of instance.old connections.old))
+        (holders_of (slots_of instance.new connections.new)) }
+    ensures kept { IsKept pool.new (slots_of instance.new connections.new) }
 {
     'events: while let Some(event) = pop_event(connections, number) {
         let event = call_event_on(number, event);
@@ -68,16 +74,16 @@ fn read_next(
     connections: &mut [OpenConnection],
     number: u32,
 ) -> Result<bool, AllocError>
-    requires kept { IsKept pool.old instance.old }
-    ensures reads { OnOk result (LeadsOn (state_in pool.old instance.old) connections.old
-        (state_in pool.new instance.new) connections.new (rest_read number) (rest_read number)) }
-    ensures ends { IfOk result (λ more. more ≡ false
-        → Acts (state_in pool.old instance.old) connections.old (state_in pool.new instance.new)
-        connections.new (rest_read number)) }
+    requires kept { IsKept pool.old (slots_of instance.old connections.old) }
+    ensures reads { OnOk result (LeadsIn pool.old instance.old connections.old
+        pool.new instance.new connections.new (rest_read number) (rest_read number)) }
+    ensures ends { IfOk result (λ more. more ≡ false → ActsIn pool.old instance.old connections.old
+        pool.new instance.new connections.new (rest_read number)) }
     ensures fewer { IfOk result (λ more. IsTrue more
         → unread_at number connections.new < unread_at number connections.old) }
-    ensures moves { Moves pool.old pool.new (holders_of instance.old) (holders_of instance.new) }
-    ensures kept { IsKept pool.new instance.new }
+    ensures moves { Moves pool.old pool.new (holders_of (slots_of instance.old connections.old))
+        (holders_of (slots_of instance.new connections.new)) }
+    ensures kept { IsKept pool.new (slots_of instance.new connections.new) }
 {
     if read_frame(connections, number)? {
         give_due(alloc, pool, instance, connections, number)?;
@@ -96,30 +102,43 @@ pub(crate) fn receive(
     number: u32,
     bytes: &[u8],
 ) -> Result<(), AllocError>
-    requires kept { IsKept pool.old instance.old }
-    ensures came { OnOk result (Acts (state_in pool.old instance.old) connections.old
-        (state_in pool.new instance.new) connections.new (bytes_came number bytes.now)) }
-    ensures moves { Moves pool.old pool.new (holders_of instance.old) (holders_of instance.new) }
-    ensures kept { IsKept pool.new instance.new }
+    requires kept { IsKept pool.old (slots_of instance.old connections.old) }
+    ensures came { OnOk result (ActsIn pool.old instance.old connections.old
+        pool.new instance.new connections.new (bytes_came number bytes.now)) }
+    ensures moves { Moves pool.old pool.new (holders_of (slots_of instance.old connections.old))
+        (holders_of (slots_of instance.new connections.new)) }
+    ensures kept { IsKept pool.new (slots_of instance.new connections.new) }
 {
     feed(connections, number, bytes)?;
     'frames: while read_next(alloc, pool, instance, connections, number)? {}
     Ok(())
 }
 
-/// The connection goes, and each of its calls is given up. This takes no memory.
-pub(crate) fn close(instance: &mut Instance, connections: &mut Vec<OpenConnection>, number: u32)
+/// The connection goes, each of its calls is given up, and the sources of its ranges are released. This takes no
+/// memory.
+pub(crate) fn close(
+    pool: &mut Pool,
+    instance: &mut Instance,
+    connections: &mut Vec<OpenConnection>,
+    number: u32,
+)
+    requires { (k : ℕ) → range_holders (map served connections.old.items) k ≤ count_at pool.old k }
     ensures closed { (p : Slots) → Acts (state_in p instance.old) connections.old.items
         (state_in p instance.new) connections.new.items (was_closed number) }
     ensures fewer { length connections.new.items ≤ length connections.old.items }
-    ensures holders { (k : ℕ) → holders_of instance.new k ≡ holders_of instance.old k }
-    ensures kept { (p : Slots) → IsKept p instance.old → IsKept p instance.new }
+    ensures releases { Releases pool.old (map served connections.old.items)
+        pool.new (map served connections.new.items) }
+    ensures holders { (k : ℕ) → holders_of_instance instance.new k
+        ≡ holders_of_instance instance.old k }
+    ensures kept { (p : Slots) → IsInstanceKept p instance.old → IsInstanceKept p instance.new }
 {
     match find(connections, number) {
         None => {}
         Some(place) => {
-            let closed = connections.remove(place);
-            give_up(instance, number, closed.connection)
+            let mut closed = connections.remove(place).connection;
+            closed.close();
+            release_spent(pool, &mut closed);
+            give_up(instance, number, closed)
         }
     }
 }
@@ -129,8 +148,9 @@ fn give_up(instance: &mut Instance, number: u32, mut closed: Connection)
     ensures cancelled { (p : Slots) (others : List OpenConnection)
         → Acts (state_in p instance.old) others (state_in p instance.new) others
         (all_happened number (cancels_of closed)) }
-    ensures holders { (k : ℕ) → holders_of instance.new k ≡ holders_of instance.old k }
-    ensures kept { (p : Slots) → IsKept p instance.old → IsKept p instance.new }
+    ensures holders { (k : ℕ) → holders_of_instance instance.new k
+        ≡ holders_of_instance instance.old k }
+    ensures kept { (p : Slots) → IsInstanceKept p instance.old → IsInstanceKept p instance.new }
 {
     'calls: while let Some(stream) = closed.pop_call() {
         instance.cancel(CallId {

@@ -1,6 +1,6 @@
 //! One instance and its connections.
 
-ghost use Rattle.std.specs.Prelude.{◌≡◌, ◌≢◌, ◌≤◌, ◌<◌, ◌^◌, ℕ, List, None, length, map, Option, option_map, string_bytes, IfSome, IfOk, OnOk, OnErr, IfErr};
+ghost use Rattle.std.specs.Prelude.{◌≡◌, ◌≢◌, ◌≤◌, ◌<◌, ◌^◌, ℕ, List, [], None, length, map, Option, option_map, string_bytes, IfSome, IfOk, OnOk, OnErr, IfErr};
 ghost use Rattle.server_events.specs.Shown.{event_value, what_value};
 ghost use Rattle.grpc_sending.specs.Bytes.{most_untaken, pending};
 ghost use Rattle.http2_streams.specs.Diary.{has_failed};
@@ -11,16 +11,19 @@ ghost use Rattle.served_instance.specs.Refusals.{NeedsNoMemory, refusal_of, lone
 ghost use Rattle.served_instance.specs.StandsFor.{StandsFor, IsWithin, AreServed, AreSettled};
 ghost use Rattle.served_instance.specs.Present.{refusal_by, refusal_by_what, refusal_to_open, unless_kept, refusal_to_take};
 ghost use Rattle.served_instance.specs.Shown.{served};
-ghost use Rattle.served_instance.specs.Acts.{Acts};
+ghost use Rattle.served_instance.specs.Acts.{Acts, ActsIn, HoldAlike, slots_of};
+ghost use Rattle.served_instance.specs.Ranges.{AreFit, Releases, range_holders, spent_at};
 ghost use Rattle.instance_core.specs.State.{InstanceState};
-ghost use Rattle.instance_core.specs.Slots.{state_in, holders_of as instance_holders, IsKept as IsInstanceKept};
+ghost use Rattle.instance_core.specs.Slots.{state_in};
 ghost use Rattle.served_instance.specs.Slots.{served_in, holders_of, IsKept, HasConnections};
-ghost use Rattle.blob_pool.specs.Held.{Slots};
+ghost use Rattle.blob_pool.specs.Held.{Slots, text_at, count_at};
 ghost use Rattle.blob_pool.specs.Moves.{Moves, nobody};
 
 use crate::calls::{close, receive};
 use crate::open_connection::{OpenConnection, connection_at, take};
+use crate::pool_parts::PoolParts;
 use crate::refusal::EventRefusal;
+use crate::release::release_all;
 use blob_pool::Pool;
 use conn_core::Connection;
 use instance_core::Instance;
@@ -37,8 +40,6 @@ pub struct ServedInstance {
     instance: Instance,
     /// In order of opening.
     connections: Vec<OpenConnection>,
-    /// Of the last event that was accepted, in milliseconds.
-    moment: u64,
 }
 
 impl Model for ServedInstance {
@@ -48,7 +49,8 @@ impl Model for ServedInstance {
 
     ghost Value = { ServedSlots };
 
-    ghost view = { λ s. record { instance = s.instance; moment = s.moment; connections = map served s.connections.items } };
+    ghost view = { λ s.
+        record { instance = s.instance; connections = map served s.connections.items } };
 
     ghost invariant = { λ s. length s.connections.items ≤ 64 };
 }
@@ -65,7 +67,6 @@ impl ServedInstance {
         Ok(ServedInstance {
             instance: Instance::new(alloc, &config.name, config.quota, config.slots)?,
             connections: Vec::new(alloc),
-            moment: 0,
         })
     }
 
@@ -87,13 +88,15 @@ impl ServedInstance {
             → (self.new ≡ self.old) × (pool.new ≡ pool.old)) }
         ensures settled { OnOk result ((l : Lone) → StandsFor (served_in pool.old self.old) l
             → AreSettled (lone_step (event_value event.now) l)) }
+        // No source is held of a range that is over.
+        ensures released { OnOk result (spent_at self.new.connections ≡ []) }
         ensures moves { Moves pool.old pool.new (holders_of self.old) (holders_of self.new) }
         ensures kept { IsKept pool.new self.new }
     {
         if let Some(refusal) = self.refusal(event) {
             return Err(refusal);
         }
-        self.moment = event.moment;
+        self.instance.set_moment(event.moment);
         let alloc = *self.connections.allocator();
         match act(
             alloc,
@@ -104,7 +107,7 @@ impl ServedInstance {
         ) {
             Err(_) => Err(EventRefusal::NoMemory),
             Ok(()) => {
-                self.pump();
+                self.pump(pool);
                 Ok(())
             }
         }
@@ -136,9 +139,9 @@ impl ServedInstance {
 
     /// Why the event is refused, if it is.
     fn refusal(&self, event: &Event) -> Option<EventRefusal>
-        ensures { (p : Slots) → result ≡ refusal_by (event_value event.now) (served_in p self.now) }
+        ensures { result ≡ refusal_by (event_value event.now) self.now }
     {
-        if event.moment < self.moment {
+        if event.moment < self.instance.moment() {
             return Some(EventRefusal::TimeWentBack);
         }
         let connections = &self.connections;
@@ -151,14 +154,16 @@ impl ServedInstance {
         }
     }
 
-    /// Puts all that can be put, on each open connection.
-    fn pump(&mut self)
-        ensures stands { (p : Slots) (l : Lone) → StandsFor (served_in p self.old) l
-            → StandsFor (served_in p self.new) (pumped_all l) }
-        ensures instance { self.new.instance ≡ self.old.instance }
-        ensures few { length self.new.connections ≤ 64 }
+    /// Puts all that can be put, on each open connection, and releases what no range is left of.
+    fn pump(&mut self, pool: &mut Pool)
+        requires { IsKept pool.old self.old }
+        ensures stands { (l : Lone) → StandsFor (served_in pool.old self.old) l
+            → StandsFor (served_in pool.new self.new) (pumped_all l) }
+        ensures released { spent_at self.new.connections ≡ [] }
+        ensures moves { Moves pool.old pool.new (holders_of self.old) (holders_of self.new) }
+        ensures kept { IsKept pool.new self.new }
     {
-        pump_all(&mut self.connections);
+        pump_all(pool, &mut self.connections);
     }
 }
 
@@ -172,15 +177,14 @@ fn act(
 ) -> Result<(), AllocError>
     requires accepted { refusal_by_what (what_value what.now) (map served connections.old.items)
         ≡ None }
-    requires kept { IsInstanceKept pool.old instance.old }
-    requires few { length connections.old.items ≤ 64 }
-    ensures acted { OnOk result (Acts (state_in pool.old instance.old) connections.old.items
-        (state_in pool.new instance.new) connections.new.items (acted (what_value what.now))) }
+    requires kept { IsKept pool.old (slots_of instance.old connections.old.items) }
+    ensures acted { OnOk result (ActsIn pool.old instance.old connections.old.items
+        pool.new instance.new connections.new.items (acted (what_value what.now))) }
     ensures memory_free { OnErr result (NeedsNoMemory (what_value what.now) → ⊥) }
-    ensures moves { Moves pool.old pool.new (instance_holders instance.old)
-        (instance_holders instance.new) }
-    ensures kept { IsInstanceKept pool.new instance.new }
-    ensures few { length connections.new.items ≤ 64 }
+    ensures moves { Moves pool.old pool.new
+        (holders_of (slots_of instance.old connections.old.items))
+        (holders_of (slots_of instance.new connections.new.items)) }
+    ensures kept { IsKept pool.new (slots_of instance.new connections.new.items) }
 {
     match what {
         What::Open(number) => open(alloc, connections, *number),
@@ -190,10 +194,14 @@ fn act(
             Ok(())
         }
         What::Closed(number) => {
-            close(instance, connections, *number);
+            close(pool, instance, connections, *number);
             Ok(())
         }
-        What::Tick | What::Outcome(..) => Ok(()),
+        What::Tick => {
+            instance.tick();
+            Ok(())
+        }
+        What::Outcome(..) => Ok(()),
     }
 }
 
@@ -203,21 +211,44 @@ fn open(alloc: Global, connections: &mut Vec<OpenConnection>, number: u32) -> Re
     ensures opened { OnOk result ((s : InstanceState)
         → Acts s connections.old.items s connections.new.items (was_opened number)) }
     ensures few { length connections.new.items ≤ 64 }
+    ensures holds { HoldAlike connections.old.items connections.new.items }
 {
     let connection = Connection::new(alloc)?;
     connections.push(OpenConnection { number, connection })?;
     Ok(())
 }
 
-/// Puts all that can be put, on each connection.
-fn pump_all(connections: &mut [OpenConnection])
-    ensures stands { (ks : List LoneConnection) → AreServed (map served connections.old)
-        (open_ones ks) → AreServed (map served connections.new)
+/// Puts all that can be put, on each connection, and releases what no range is left of.
+fn pump_all(pool: &mut Pool, connections: &mut [OpenConnection])
+    requires fit { AreFit (text_at pool.old) (map served connections.old) }
+    requires counted { (k : ℕ) → range_holders (map served connections.old) k
+        ≤ count_at pool.old k }
+    ensures stands { (ks : List LoneConnection)
+        → AreServed (text_at pool.old) (map served connections.old) (open_ones ks)
+        → AreServed (text_at pool.old) (map served connections.new)
         (open_ones (at_all_open with_pumped ks)) }
+    ensures none { spent_at (map served connections.new) ≡ [] }
+    ensures releases { Releases pool.old (map served connections.old)
+        pool.new (map served connections.new) }
     ensures count { length connections.new ≡ length connections.old }
 {
+    pump_each(pool, connections);
+    release_all(pool, connections);
+}
+
+/// Puts all that can be put, on each connection, with the texts of the pool.
+fn pump_each(pool: &Pool, connections: &mut [OpenConnection])
+    requires { AreFit (text_at pool.now) (map served connections.old) }
+    ensures stands { (ks : List LoneConnection)
+        → AreServed (text_at pool.now) (map served connections.old) (open_ones ks)
+        → AreServed (text_at pool.now) (map served connections.new)
+        (open_ones (at_all_open with_pumped ks)) }
+    ensures holds { HoldAlike connections.old connections.new }
+    ensures count { length connections.new ≡ length connections.old }
+{
+    let parts = PoolParts { pool };
     for kept in connections.iter_mut() {
-        kept.connection.pump();
+        kept.connection.pump(&parts);
     }
 }
 

@@ -5,7 +5,9 @@
 mod calls;
 mod instance;
 mod open_connection;
+mod pool_parts;
 mod refusal;
+mod release;
 mod replies;
 
 pub use instance::{CONNECTION_LIMIT, ServedInstance};

@@ -3,7 +3,7 @@
 ghost use Rattle.std.specs.Prelude.{◌≡◌, ◌++◌, ◌<◌, ◌≤◌, false, None, map, option_map, position, IfOk, OnOk, length};
 ghost use Rattle.std.specs.Option.{option_map_or};
 ghost use Rattle.conn_core.specs.Past.{Past, with_taken};
-ghost use Rattle.served_instance.specs.Acts.{Changed, Takes, Pops, ReadsFrame, kept_at};
+ghost use Rattle.served_instance.specs.Acts.{Changed, Takes, Pops, ReadsFrame, kept_at, HoldAlike};
 ghost use Rattle.served_instance.specs.Shown.{served};
 ghost use Rattle.served_instance.specs.Present.{is_numbered, CanTake};
 ghost use Rattle.served_instance.specs.StandsFor.{connection_at};
@@ -45,8 +45,9 @@ pub(crate) fn feed(
     number: u32,
     bytes: &[u8],
 ) -> Result<(), AllocError>
-    ensures { OnOk result (Changed number connections.old connections.new
+    ensures fed { OnOk result (Changed number connections.old connections.new
         (Takes (λ p. record p { text = p.text ++ bytes.now }))) }
+    ensures holds { HoldAlike connections.old connections.new }
 {
     match find(connections, number) {
         None => Ok(()),
@@ -62,6 +63,7 @@ pub(crate) fn read_frame(
     ensures read { IfOk result (λ more. Changed number connections.old connections.new
         (ReadsFrame more)) }
     ensures none { IfOk result (λ more. kept_at number connections.old ≡ None → more ≡ false) }
+    ensures holds { HoldAlike connections.old connections.new }
 {
     match find(connections, number) {
         None => Ok(false),
@@ -73,6 +75,7 @@ pub(crate) fn read_frame(
 pub(crate) fn pop_event(connections: &mut [OpenConnection], number: u32) -> Option<CallEvent>
     ensures event { Changed number connections.old connections.new (Pops result) }
     ensures none { kept_at number connections.old ≡ None → result ≡ None }
+    ensures holds { HoldAlike connections.old connections.new }
 {
     match find(connections, number) {
         None => None,
@@ -83,7 +86,9 @@ pub(crate) fn pop_event(connections: &mut [OpenConnection], number: u32) -> Opti
 /// The client of the connection took so many of the bytes that wait for it.
 pub(crate) fn take(connections: &mut [OpenConnection], number: u32, count: usize)
     requires { CanTake count (kept_at number connections.old) }
-    ensures { Changed number connections.old connections.new (Takes (λ p. with_taken p count)) }
+    ensures taken { Changed number connections.old connections.new
+        (Takes (λ p. with_taken p count)) }
+    ensures holds { HoldAlike connections.old connections.new }
 {
     match find(connections, number) {
         None => {}

@@ -1,23 +1,28 @@
 //! What replies owe to streams, and how events of a connection's calls are named.
 
-ghost use Rattle.std.specs.Prelude.{◌≡◌, ◌<◌, ◌^◌, IfOk, OnOk, length, map};
+ghost use Rattle.std.specs.Prelude.{◌≡◌, ◌≤◌, ◌<◌, ◌^◌, ℕ, OnOk, length, map};
 ghost use Rattle.std.specs.List.{AllByRecursion};
-ghost use Rattle.conn_core.specs.Past.{Past};
-ghost use Rattle.conn_core.specs.StandsFor.{StandsFor};
-ghost use Rattle.instance_core.specs.Answer.{IsShortReply};
+ghost use Rattle.conn_core.specs.Past.{Past, with_item};
+ghost use Rattle.grpc_sending.specs.Kept.{Look};
+ghost use Rattle.blob_pool.specs.Held.{count_at};
+ghost use Rattle.blob_pool.specs.Moves.{Moves, nobody, one_at};
 ghost use Rattle.instance_core.specs.Calls.{IsShortEvent};
-ghost use Rattle.instance_core.specs.Shown.{event_shown, reply_shown, outcome_shown};
+ghost use Rattle.instance_core.specs.Given.{item_holders, items_holders, replies_holders};
+ghost use Rattle.instance_core.specs.Shown.{event_shown};
+ghost use Rattle.conn_core.specs.StandsFor.{OwesRange};
 ghost use Rattle.served_instance.specs.Acts.{Changed, Owes, Keeps};
-ghost use Rattle.served_instance.specs.Calls.{call_event_on, items_of, with_items};
+ghost use Rattle.served_instance.specs.Calls.{call_event_on, item_of};
 ghost use Rattle.served_instance.specs.Connections.{LoneConnection, open_ones};
 ghost use Rattle.served_instance.specs.Lone.{Lone, replied};
+ghost use Rattle.served_instance.specs.Given.{item_by, reply_by, with_owed, CanBeOwed, ReplyCanBeOwed, EndsWithin, ItemsEndWithin, ReplyEndsWithin, RepliesEndWithin, TakesRanges, TakeRanges};
 ghost use Rattle.served_instance.specs.Shown.{served};
 ghost use Rattle.served_instance.specs.StandsFor.{AreServed};
 
 use crate::open_connection::{OpenConnection, find};
+use blob_pool::{Pool, release_kept};
 use conn_core::{CallEvent as Seen, Connection};
 use grpc_calls::{ResponseBlock, Status};
-use instance_core::{CallEvent, CallId, Outcome, Reply};
+use instance_core::{CallEvent, CallId, GivenRange, Reply, ReplyItem};
 use std::alloc::AllocError;
 
 /// An event of a call on this connection, as the instance takes it.
@@ -36,53 +41,165 @@ pub(crate) fn call_event_on(connection: u32, event: Seen) -> CallEvent
     }
 }
 
-/// Owes each reply to the stream of its call, where its connection is open.
+/// Owes each reply to the stream of its call, where its connection is open. The ranges that no connection takes are
+/// released: those of other connections, and where memory is refused those that are left.
 pub(crate) fn give_all(
+    pool: &mut Pool,
     connections: &mut [OpenConnection],
     replies: &[Reply],
 ) -> Result<(), AllocError>
-    requires short { AllByRecursion IsShortReply (map reply_shown replies.now) }
-    ensures given { OnOk result ((l : Lone) → AreServed (map served connections.old)
-        (open_ones l.connections) → AreServed (map served connections.new)
-        (open_ones (replied (map reply_shown replies.now) l).connections)) }
+    requires owed { AllByRecursion ReplyCanBeOwed replies.now }
+    requires counted { (k : ℕ) → replies_holders replies.now k ≤ count_at pool.old k }
+    ensures given { OnOk result ((texts : Look) (l : Lone)
+        → AreServed texts (map served connections.old) (open_ones l.connections)
+        → AreServed texts (map served connections.new)
+        (open_ones (replied (map (reply_by texts) replies.now) l).connections)) }
     ensures rest { OnOk result (Keeps connections.old connections.new) }
+    ensures takes { TakeRanges (replies_holders replies.now) (RepliesEndWithin replies.now)
+        pool.old (map served connections.old) pool.new (map served connections.new) }
 {
-    for reply in replies {
-        give(connections, reply)?;
+    let mut left = replies;
+    'replies: while let [first, rest @ ..] = left {
+        if let Err(refused) = give(pool, connections, first) {
+            release_replies(pool, rest);
+            return Err(refused);
+        }
+        left = rest;
     }
     Ok(())
 }
 
-/// Owes the reply to the stream of its call, where its connection is open.
-fn give(connections: &mut [OpenConnection], reply: &Reply) -> Result<(), AllocError>
-    requires short { IsShortReply (reply_shown reply.now) }
-    ensures { OnOk result (Changed reply.now.call.connection connections.old connections.new
-        (Owes (with_items reply.now.call.stream (items_of (outcome_shown reply.now.outcome))))) }
+/// Owes the items of the reply to the stream of its call, where its connection is open, and else releases its ranges.
+fn give(
+    pool: &mut Pool,
+    connections: &mut [OpenConnection],
+    reply: &Reply,
+) -> Result<(), AllocError>
+    requires owed { ReplyCanBeOwed reply.now }
+    requires counted { (k : ℕ) → items_holders reply.now.items.items k ≤ count_at pool.old k }
+    ensures given { OnOk result (Changed reply.now.call.connection connections.old connections.new
+        (Owes (with_owed reply.now.call.stream reply.now.items.items))) }
+    ensures takes { TakeRanges (items_holders reply.now.items.items) (ReplyEndsWithin reply.now)
+        pool.old (map served connections.old) pool.new (map served connections.new) }
 {
     match find(connections, reply.call.connection) {
-        None => Ok(()),
+        None => {
+            release_items(pool, &reply.items);
+            Ok(())
+        }
         Some(place) => owe(
+            pool,
             &mut connections[place].connection,
             reply.call.stream,
-            &reply.outcome,
+            &reply.items,
         ),
     }
 }
 
-/// Owes a whole response to the stream.
-fn owe(connection: &mut Connection, stream: u32, outcome: &Outcome) -> Result<(), AllocError>
-    requires short { IfOk (outcome_shown outcome.now) (λ bytes. length bytes < 2 ^ 32) }
-    ensures { OnOk result (Owes (with_items stream (items_of (outcome_shown outcome.now)))
-        connection.old connection.new) }
+/// Owes items to the stream, one after another. Where memory is refused the ranges that are left are released.
+fn owe(
+    pool: &mut Pool,
+    connection: &mut Connection,
+    stream: u32,
+    items: &[ReplyItem],
+) -> Result<(), AllocError>
+    requires owed { AllByRecursion CanBeOwed items.now }
+    requires counted { (k : ℕ) → items_holders items.now k ≤ count_at pool.old k }
+    ensures owes { OnOk result (Owes (with_owed stream items.now) connection.old connection.new) }
+    ensures takes { TakesRanges (items_holders items.now) (ItemsEndWithin items.now)
+        pool.old connection.old pool.new connection.new }
 {
-    match outcome {
-        Outcome::Message(bytes) => {
-            connection.owe_block(stream, ResponseBlock::Head)?;
-            connection.owe_message(stream, bytes)?;
+    let mut left = items;
+    'items: while let [first, rest @ ..] = left {
+        if let Err(refused) = owe_item(pool, connection, stream, first) {
+            release_items(pool, rest);
+            return Err(refused);
+        }
+        left = rest;
+    }
+    Ok(())
+}
+
+/// Owes an item to the stream. Where memory is refused its range is released.
+fn owe_item(
+    pool: &mut Pool,
+    connection: &mut Connection,
+    stream: u32,
+    item: &ReplyItem,
+) -> Result<(), AllocError>
+    requires owed { CanBeOwed item.now }
+    requires counted { (k : ℕ) → item_holders item.now k ≤ count_at pool.old k }
+    ensures owes { OnOk result (Owes
+        (λ texts p. with_item p stream (item_of (item_by texts item.now)))
+        connection.old connection.new) }
+    ensures takes { TakesRanges (item_holders item.now) (EndsWithin item.now)
+        pool.old connection.old pool.new connection.new }
+{
+    match item {
+        ReplyItem::Begins => connection.owe_block(stream, ResponseBlock::Head),
+        ReplyItem::Says(bytes) => connection.owe_message(stream, bytes),
+        ReplyItem::Gives(range) => owe_range(pool, connection, stream, range),
+        ReplyItem::Ends => {
             connection.owe_block(stream, ResponseBlock::Trailers(Status::Success))
         }
-        Outcome::Refused(refusal) => {
+        ReplyItem::Refuses(refusal) => {
             connection.owe_block(stream, ResponseBlock::TrailersOnly(*refusal))
         }
+    }
+}
+
+/// Owes a range to the stream. Where memory is refused it is released.
+fn owe_range(
+    pool: &mut Pool,
+    connection: &mut Connection,
+    stream: u32,
+    range: &GivenRange,
+) -> Result<(), AllocError>
+    requires ends { range.now.from ≤ range.now.until }
+    requires held { 0 < count_at pool.old range.now.text }
+    ensures owes { OnOk result (OwesRange stream range.now.text range.now.from range.now.until
+        connection.old connection.new) }
+    ensures rest { connection.new ≡ record connection.old { sending = connection.new.sending } }
+    ensures takes { TakesRanges (one_at range.now.text)
+        (λ texts. range.now.until ≤ length (texts range.now.text))
+        pool.old connection.old pool.new connection.new }
+{
+    let owed = connection.owe_range(stream, range.text.number(), range.from, range.until);
+    if owed.is_err() {
+        release_kept(pool, range.text);
+    }
+    owed
+}
+
+/// Releases the ranges of the replies.
+fn release_replies(pool: &mut Pool, replies: &[Reply])
+    requires { (k : ℕ) → replies_holders replies.now k ≤ count_at pool.old k }
+    ensures { Moves pool.old pool.new (replies_holders replies.now) nobody }
+{
+    let mut left = replies;
+    'replies: while let [first, rest @ ..] = left {
+        release_items(pool, &first.items);
+        left = rest;
+    }
+}
+
+/// Releases the ranges among the items.
+fn release_items(pool: &mut Pool, items: &[ReplyItem])
+    requires { (k : ℕ) → items_holders items.now k ≤ count_at pool.old k }
+    ensures { Moves pool.old pool.new (items_holders items.now) nobody }
+{
+    let mut left = items;
+    'items: while let [first, rest @ ..] = left {
+        release_item(pool, first);
+        left = rest;
+    }
+}
+
+fn release_item(pool: &mut Pool, item: &ReplyItem)
+    requires { (k : ℕ) → item_holders item.now k ≤ count_at pool.old k }
+    ensures { Moves pool.old pool.new (item_holders item.now) nobody }
+{
+    if let ReplyItem::Gives(range) = item {
+        release_kept(pool, range.text);
     }
 }

@@ -1,9 +1,10 @@
 -- A server and its records at their beginning.
 use Rattle.std.proofs.Common.{◌≡◌, ℕ, ◌+◌, ◌^◌, ◌<◌, ◌≤◌, List, [], ◌∷◌, ◌++◌, length, get_or, take, map, refl, ap, ◌∙◌, sym, subst, arith, inl, inr, All}
-use Rattle.std.specs.Prelude.{Some, string_bytes}
+use Rattle.std.specs.Prelude.{◌==◌, true, cond, Some, string_bytes}
+use Rattle.std.proofs.lemmas.Bool.Decides.{nat_tests}
 use Rattle.std.specs.List.{slice_get, AllByRecursion}
 use Rattle.std.proofs.lemmas.Option.{slice_get_within, get_or_from_slice_get}
-use Rattle.blob_pool.specs.Held.{Slots, count_at}
+use Rattle.blob_pool.specs.Held.{Slots, text_at, count_at}
 use Rattle.std.proofs.lemmas.Bool.{cases_lt}
 use Rattle.std.proofs.lemmas.List.{get_or-map, map_more, length-map}
 use Rattle.std.proofs.lemmas.Grind.{common_steps}
@@ -12,9 +13,13 @@ use Rattle.server_events.specs.Configs.{ConfigValue, instance_limit}
 use Rattle.server_events.specs.Faults.{IsConfig}
 use Rattle.server_events.specs.Shown.{config_value}
 use Rattle.served_instance.specs.Lone.{start}
-use Rattle.served_instance.specs.StandsFor.{ServedState, StandsFor as IsServed, IsWithin}
+use Rattle.served_instance.specs.StandsFor.{Served, ServedState, StandsFor as IsServed, IsWithin}
 use Rattle.served_instance.specs.Slots.{ServedSlots, served_in, holders_of}
-use Rattle.server_core.specs.Shared.{all_in, all_holders, IsServer}
+use Rattle.grpc_sending.specs.Sources.{count_of}
+use Rattle.grpc_sending.specs.Kept.{Look, sources_of}
+use Rattle.served_instance.specs.Ranges.{sources_at, range_holders, AreFit, HaveFew}
+use Rattle.served_instance.proofs.Ranges.{count_append, fit_none}
+use Rattle.server_core.specs.Shared.{all_in, all_holders, HasRanges, IsServer}
 use Rattle.run_record.specs.Runs.{begun}
 use Rattle.run_record.specs.StandsFor.{RecordValue, StandsFor as IsRecord}
 use Rattle.server_core.specs.Lone.{config_at}
@@ -86,12 +91,41 @@ nobody_pushed xs v ys is none own k =
     let same : all_holders ys k ≡ all_holders (xs ++ v ∷ []) k = ap (λ (zs : List ServedSlots). all_holders zs k) is in
     omega (arith, same, holders_pushed xs v k, none k, own k)
 
+-- ---- ranges, where no slot is held
+
+none_of : (ns : List ℕ) → ((k : ℕ) → count_of k ns ≡ 0) → ns ≡ []
+none_of [] none = refl
+none_of (n ∷ ns) none =
+    let own : (n == n) ≡ true = grind (arith, nat_tests) in
+    let one : cond {A = ℕ} (n == n) 1 0 ≡ 1 = ap (λ b. cond b 1 0) own in
+    absurd (omega (arith, one, none n))
+
+fit_bare : (texts : Look) (vs : List Served) → ((k : ℕ) → range_holders vs k ≡ 0) → AreFit texts vs
+fit_bare texts [] none = tt
+fit_bare texts (v ∷ vs) none =
+    let both : (k : ℕ) → range_holders (v ∷ vs) k ≡ count_of k (sources_of v.connection.sending) + range_holders vs k = λ k. count_append k (sources_of v.connection.sending) (sources_at vs) in
+    let own = none_of (sources_of v.connection.sending) (λ k. omega (arith, none k, both k)) in
+    (fit_none texts v.connection.sending own, fit_bare texts vs (λ k. omega (arith, none k, both k)))
+
+few_bare : (vs : List Served) → ((k : ℕ) → range_holders vs k ≡ 0) → HaveFew vs
+few_bare [] none = tt
+few_bare (v ∷ vs) none =
+    let both : (k : ℕ) → range_holders (v ∷ vs) k ≡ count_of k (sources_of v.connection.sending) + range_holders vs k = λ k. count_append k (sources_of v.connection.sending) (sources_at vs) in
+    (λ k. omega (arith, none k, both k), few_bare vs (λ k. omega (arith, none k, both k)))
+
+ranges_bare : (p : Slots) (xs : List ServedSlots) → ((k : ℕ) → all_holders xs k ≡ 0) → AllByRecursion (HasRanges p) xs
+ranges_bare p [] none = tt
+ranges_bare p (x ∷ xs) none =
+    let own : (k : ℕ) → range_holders x.connections k ≡ 0 = λ k. omega (arith, none k) in
+    (record { fit = fit_bare (text_at p) x.connections own; few = few_bare x.connections own }, ranges_bare p xs (λ k. omega (arith, none k)))
+
 -- a server that holds nothing
 pub server_begun : (p : Slots) (xs : List ServedSlots) → p ≡ [] → length xs ≤ instance_limit → ((k : ℕ) → all_holders xs k ≡ 0) → AllByRecursion IsWithin (all_in p xs) → IsServer p xs
 server_begun p xs empty few none within = record {
   exact = λ k. ap (λ (q : Slots). count_at q k) empty ∙ no_count k ∙ sym (none k);
   few = few;
   within = within;
+  ranges = ranges_bare p xs none;
 }
   where
     no_count : (k : ℕ) → count_at [] k ≡ 0

@@ -1,5 +1,6 @@
 mod Lists
 mod Others
+mod Slots
 mod Storing
 mod Pooled
 mod Begins

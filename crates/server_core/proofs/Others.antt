@@ -1,14 +1,18 @@
 -- What one instance does in the pool, and what the others find there.
 use Rattle.std.proofs.Common.{◌≡◌, ◌≢◌, ℕ, zero, suc, ◌+◌, ◌*◌, ◌<◌, ◌≤◌, ◌^◌, List, [], ◌∷◌, length, get_or, map, refl, sym, ap, subst, ◌∙◌, arith, inl, inr}
-use Rattle.std.specs.Prelude.{◌⊎◌, Option, Some, None, Result, Ok, Err, IfErr}
+use Rattle.std.specs.Prelude.{◌⊎◌, ◌==◌, true, cond, Option, Some, None, Result, Ok, Err, IfErr}
 use Rattle.std.specs.Option.{option_map}
 use Rattle.std.specs.List.{slice_get, AllByRecursion}
 use Rattle.std.proofs.Math.ListN.{set}
 use Rattle.std.proofs.lemmas.Bool.{cases_eq}
+use Rattle.std.proofs.lemmas.Bool.Decides.{nat_tests}
+use Rattle.std.proofs.Math.Nat.{mul-le-mul_right}
 use Rattle.std.proofs.lemmas.List.{length-set, length-map}
 use Rattle.std.proofs.lemmas.Option.{slice_get-map, slice_get_within, same_Some}
-use Rattle.blob_pool.specs.Held.{Slots}
-use Rattle.blob_pool.specs.Moves.{Moves, AreHeld}
+use Rattle.blob_pool.specs.Held.{Slots, text_at}
+use Rattle.blob_pool.specs.Moves.{Moves}
+use Rattle.grpc_sending.specs.Sources.{count_of}
+use Rattle.grpc_sending.specs.Kept.{Look, AgreeOn, sources_of}
 use Rattle.instance_view.specs.Visible.{Blob}
 use Rattle.instance_view.proofs.Held.{shown_same, holders-few}
 use Rattle.quota_evict.proofs.Steps.{length-shown}
@@ -16,9 +20,13 @@ use Rattle.instance_core.specs.State.{most_blobs}
 use Rattle.served_instance.specs.declared.refusal.EventRefusal.{EventRefusal}
 use Rattle.served_instance.specs.declared.refusal.EventRefusal.TheVariants.{NoMemory}
 use Rattle.served_instance.specs.Lone.{Lone}
-use Rattle.served_instance.specs.StandsFor.{ServedState, StandsFor as IsServed, IsWithin}
+use Rattle.served_instance.specs.Connections.{open_ones}
+use Rattle.served_instance.specs.StandsFor.{Served, ServedState, StandsFor as IsServed, IsWithin}
+use Rattle.served_instance.specs.Ranges.{served_with, sources_at, range_holders}
+use Rattle.served_instance.specs.Refusals.{connection_limit}
+use Rattle.served_instance.proofs.Ranges.{count_append, fit_agreed_each, plain_served, same_served}
 use Rattle.served_instance.specs.Slots.{ServedSlots, served_in, holders_of, IsKept, HasConnections}
-use Rattle.server_core.specs.Shared.{all_in, all_holders, IsServer}
+use Rattle.server_core.specs.Shared.{all_in, all_holders, IsServer, HasRanges}
 use Rattle.server_core.specs.StandsFor.{StandsAt, instance_at}
 use Rattle.server_core.proofs.Lists.{get-set_same, get-set_other}
 
@@ -72,6 +80,9 @@ others_few m (x ∷ xs) (suc i) a k few at =
 
 -- ---- what an instance may rely on
 
+abbrev HaveFewer : ℕ → List Served → Type 0
+HaveFewer m vs = AllByRecursion (λ s. (k : ℕ) → count_of k (sources_of s.connection.sending) < m) vs
+
 within_at : (p : Slots) (xs : List ServedSlots) (i : ℕ) (a : ServedSlots) → AllByRecursion IsWithin (all_in p xs) → slice_get xs i ≡ Some a → IsWithin (served_in p a)
 within_at p [] i a w at = cc
 within_at p (x ∷ xs) zero a w at = let same : x ≡ a = first x a at in subst (λ (y : ServedSlots). IsWithin (served_in p y)) same w.0
@@ -80,23 +91,51 @@ within_at p (x ∷ xs) zero a w at = let same : x ≡ a = first x a at in subst 
     first x a e = cc
 within_at p (x ∷ xs) (suc i) a w at = within_at p xs i a w.1 at
 
+-- no connection has more ranges of a slot than m
+ranges_few : (m : ℕ) (vs : List Served) → HaveFewer m vs → (k : ℕ) → range_holders vs k ≤ length vs * m
+ranges_few m [] few k = omega arith
+ranges_few m (v ∷ vs) few k =
+    let ih = ranges_few m vs few.1 k in
+    let first = few.0 k in
+    let both = count_append k (sources_of v.connection.sending) (sources_at vs) in
+    let more : (1 + length vs) * m ≡ m + length vs * m = grind arith in
+    omega (arith, ih, first, both, more)
+
+-- by its entries, and by the ranges of its connections
+abbrev most_held : ℕ
+most_held = most_blobs + connection_limit * 2 ^ 64
+
 -- an instance has no more entries than it may have texts
-holds_few : (p : Slots) (a : ServedSlots) → IsWithin (served_in p a) → (k : ℕ) → holders_of a k ≤ most_blobs
-holds_few p a w k =
+holds_few : (p : Slots) (a : ServedSlots) → IsWithin (served_in p a) → HasRanges p a → (k : ℕ) → holders_of a k ≤ most_held
+holds_few p a w r k =
     let long = length-shown p a.instance.view in
     let entries = w.instance.texts.entries in
     let most = holders-few a.instance.view.entries k in
-    omega (arith, long, entries, most)
+    let ranges = ranges_few (2 ^ 64) a.connections r.few k in
+    let many : length a.connections ≤ connection_limit = omega (arith, w.connections, length-map a.connections (served_with (text_at p))) in
+    let all = mul-le-mul_right (2 ^ 64) many in
+    omega (arith, long, entries, most, ranges, all)
+
+ranges_at : (p : Slots) (xs : List ServedSlots) (i : ℕ) (a : ServedSlots) → AllByRecursion (HasRanges p) xs → slice_get xs i ≡ Some a → HasRanges p a
+ranges_at p [] i a w at = cc
+ranges_at p (x ∷ xs) zero a w at = let same : x ≡ a = first x a at in subst (λ (y : ServedSlots). HasRanges p y) same w.0
+  where
+    first : (x a : ServedSlots) → Some x ≡ Some a → x ≡ a
+    first x a e = cc
+ranges_at p (x ∷ xs) (suc i) a w at = ranges_at p xs i a w.1 at
 
 pub kept_at : (p : Slots) (xs : List ServedSlots) (i : ℕ) (a : ServedSlots) → slice_get xs i ≡ Some a → IsServer p xs → IsKept p a
 kept_at p xs i a at s =
-    let few : HoldFew most_blobs xs = λ j x is k. holds_few p x (within_at p xs j x s.within is) k in
+    let few : HoldFew most_held xs = λ j x is k. holds_few p x (within_at p xs j x s.within is) (ranges_at p xs j x s.ranges is) k in
+    let own = ranges_at p xs i a s.ranges at in
     record {
-      held = record {
-        counted = λ k. omega (arith, s.exact k, one_le xs i a k at);
-        others = λ k. omega (arith, s.exact k, others_few most_blobs xs i a k few at, s.few);
-      };
+      counted = λ k. omega (arith, s.exact k, one_le xs i a k at);
+      others = λ k.
+          let all = mul-le-mul_right most_held s.few in
+          omega (arith, s.exact k, others_few most_held xs i a k few at, all);
       within = within_at p xs i a s.within at;
+      fit = own.fit;
+      few = own.few;
     }
 
 -- ---- others find their texts
@@ -104,9 +143,35 @@ kept_at p xs i a at s =
 abbrev with_visible : ServedState → List Blob → ServedState
 with_visible v bs = record v { state = record v.state { visible = bs } }
 
+abbrev with_connections : ServedState → List Served → List (List ℕ) → ServedState
+with_connections v cs ts = record { state = v.state; connections = cs; ranges = ts }
+
+same_texts : (t u : Look) (ns : List ℕ) → AgreeOn ns t u → map t ns ≡ map u ns
+same_texts t u [] h = refl
+same_texts t u (n ∷ ns) h =
+    let own : (n == n) ≡ true = grind (arith, nat_tests) in
+    let one : cond {A = ℕ} (n == n) 1 0 ≡ 1 = ap (λ b. cond b 1 0) own in
+    ap (λ (x : List ℕ). x ∷ map t ns) (h n (omega (arith, one)))
+    ∙ ap (λ (xs : List (List ℕ)). u n ∷ xs) (same_texts t u ns (λ k some. h k (omega (arith, some))))
+
+-- what another instance holds has its text still
+apart : (p q : Slots) (xs : List ServedSlots) (i j : ℕ) (a b x : ServedSlots) → i ≢ j → slice_get xs i ≡ Some a → slice_get xs j ≡ Some x → IsServer p xs → Moves p q (holders_of a) (holders_of b) → (k : ℕ) → 0 < holders_of x k → text_at q k ≡ text_at p k
+apart p q xs i j a b x ne at there s m k some = m.texts k (omega (arith, s.exact k, pair_le xs i j a x k ne at there, some))
+
 pub other_same : (p q : Slots) (xs : List ServedSlots) (i j : ℕ) (a b x : ServedSlots) → i ≢ j → slice_get xs i ≡ Some a → slice_get xs j ≡ Some x → IsServer p xs → Moves p q (holders_of a) (holders_of b) → served_in q x ≡ served_in p x
 other_same p q xs i j a b x ne at there s m =
-    ap (with_visible (served_in p x)) (shown_same p q x.instance.view.entries (λ k some. m.texts k (omega (arith, s.exact k, pair_le xs i j a x k ne at there, some))))
+    let same : (k : ℕ) → 0 < holders_of x k → text_at q k ≡ text_at p k = apart p q xs i j a b x ne at there s m in
+    let find : AgreeOn (sources_at x.connections) (text_at q) (text_at p) = λ k some. same k (omega (arith, some)) in
+    let entries = shown_same p q x.instance.view.entries (λ k some. same k (omega (arith, some))) in
+    ap (λ (cs : List Served). with_connections (served_in q x) cs (map (text_at q) (sources_at x.connections))) (same_served (text_at q) (text_at p) x.connections find)
+    ∙ ap (with_connections (served_in q x) (map (served_with (text_at p)) x.connections)) (same_texts (text_at q) (text_at p) (sources_at x.connections) find)
+    ∙ ap (with_visible (served_in p x)) entries
+
+other_ranges : (p q : Slots) (xs : List ServedSlots) (i j : ℕ) (a b x : ServedSlots) → i ≢ j → slice_get xs i ≡ Some a → slice_get xs j ≡ Some x → IsServer p xs → Moves p q (holders_of a) (holders_of b) → HasRanges q x
+other_ranges p q xs i j a b x ne at there s m =
+    let own = ranges_at p xs j x s.ranges there in
+    let find : AgreeOn (sources_at x.connections) (text_at p) (text_at q) = λ k some. sym (apart p q xs i j a b x ne at there s m k (omega (arith, some))) in
+    record { fit = fit_agreed_each (text_at p) (text_at q) x.connections find own.fit; few = own.few }
 
 pub others_after : (p q : Slots) (xs : List ServedSlots) (i : ℕ) (a b : ServedSlots) → slice_get xs i ≡ Some a → IsServer p xs → Moves p q (holders_of a) (holders_of b)
     → (j : ℕ) → j ≢ i → instance_at j (all_in q (set xs i b)) ≡ instance_at j (all_in p xs)
@@ -122,25 +187,39 @@ others_after p q xs i a b at s m j ne =
 
 -- ---- the server afterwards
 
-within_by : (p q : Slots) (xs : List ServedSlots) → ((j : ℕ) (x : ServedSlots) → slice_get xs j ≡ Some x → IsWithin (served_in q x)) → AllByRecursion IsWithin (all_in q xs)
-within_by p q [] each = tt
-within_by p q (x ∷ xs) each = (each 0 x refl, within_by p q xs (λ j y at. each (suc j) y at))
+within_by : (q : Slots) (xs : List ServedSlots) → ((j : ℕ) (x : ServedSlots) → slice_get xs j ≡ Some x → IsWithin (served_in q x)) → AllByRecursion IsWithin (all_in q xs)
+within_by q [] each = tt
+within_by q (x ∷ xs) each = (each 0 x refl, within_by q xs (λ j y at. each (suc j) y at))
+
+ranges_by : (q : Slots) (xs : List ServedSlots) → ((j : ℕ) (x : ServedSlots) → slice_get xs j ≡ Some x → HasRanges q x) → AllByRecursion (HasRanges q) xs
+ranges_by q [] each = tt
+ranges_by q (x ∷ xs) each = (each 0 x refl, ranges_by q xs (λ j y at. each (suc j) y at))
+
+-- what stands there afterwards is the instance that acted, or one that stood there
+abbrev HasActed : List ServedSlots → ℕ → ℕ → ServedSlots → ServedSlots → Type 0
+HasActed xs i j b x = (b ≡ x) ⊎ ((i ≢ j) × (slice_get xs j ≡ Some x))
+
+has_acted : (xs : List ServedSlots) (i j : ℕ) (a b x : ServedSlots) → slice_get xs i ≡ Some a → slice_get (set xs i b) j ≡ Some x → HasActed xs i j b x
+has_acted xs i j a b x at there = elim (cases_eq j i) [
+  | inl e ↦
+      let own : Some b ≡ Some x = sym (get-set_same xs i b (slice_get_within xs i a at)) ∙ ap (slice_get (set xs i b)) (sym e) ∙ there in
+      inl (same_Some b x own)
+  | inr ne ↦ inr ((λ e. ne (sym e)), sym (get-set_other xs i j b ne) ∙ there)
+]
 
 pub server_after : (p q : Slots) (xs : List ServedSlots) (i : ℕ) (a b : ServedSlots) → slice_get xs i ≡ Some a → IsServer p xs → Moves p q (holders_of a) (holders_of b) → IsKept q b → IsServer q (set xs i b)
 server_after p q xs i a b at s m kept = record {
   exact = λ k. omega (arith, s.exact k, m.counts k, set_holders xs i a b k at);
   few = omega (arith, length-set xs i b, s.few);
-  within = within_by p q (set xs i b) (λ j x there. split j x there (cases_eq j i));
+  within = within_by q (set xs i b) (λ j x there. elim (has_acted xs i j a b x at there) [
+    | inl own ↦ subst (λ (y : ServedSlots). IsWithin (served_in q y)) own kept.within
+    | inr other ↦ subst IsWithin (sym (other_same p q xs i j a b x other.0 at other.1 s m)) (within_at p xs j x s.within other.1)
+  ]);
+  ranges = ranges_by q (set xs i b) (λ j x there. elim (has_acted xs i j a b x at there) [
+    | inl own ↦ subst (HasRanges q) own (record { fit = kept.fit; few = kept.few })
+    | inr other ↦ other_ranges p q xs i j a b x other.0 at other.1 s m
+  ]);
 }
-  where
-    split : (j : ℕ) (x : ServedSlots) → slice_get (set xs i b) j ≡ Some x → (j ≡ i) ⊎ (j ≡ i → ⊥) → IsWithin (served_in q x)
-    split j x there (inl e) =
-        let own : Some b ≡ Some x = sym (get-set_same xs i b (slice_get_within xs i a at)) ∙ ap (slice_get (set xs i b)) (sym e) ∙ there in
-        let same : b ≡ x = cc in
-        subst (λ (y : ServedSlots). IsWithin (served_in q y)) same kept.within
-    split j x there (inr ne) =
-        let old : slice_get xs j ≡ Some x = sym (get-set_other xs i j b ne) ∙ there in
-        subst IsWithin (sym (other_same p q xs i j a b x (λ e. ne (sym e)) at old s m)) (within_at p xs j x s.within old)
 
 -- ---- the instance itself
 
@@ -178,7 +257,10 @@ refused_after (Err refusal) p q xs i a b at h = λ ne.
     ∙ ap (λ (y : ServedSlots). all_in p (set xs i y)) same.0
     ∙ ap (all_in p) (set-same xs i a at)
 
--- what is seen of an instance by its own
+-- what an instance by itself is seen to have on its connections
+pub connections_of : (p : Slots) (v : ServedSlots) (l : Lone) → IsServed (served_in p v) l → HasConnections v l
+connections_of p v l st = record { pool = p; stand = plain_served (text_at p) v.connections (open_ones l.connections) st.connections }
+
 pub connections_there : (p : Slots) (vs : List ServedState) (i : ℕ) (v : ServedSlots) (l : Lone) → Some (served_in p v) ≡ instance_at i vs → StandsAt i vs l → HasConnections v l
 connections_there p vs i v l there s =
-    (subst (λ (w : ServedState). IsServed w l) (same_Some s.0 (served_in p v) (sym s.1 ∙ sym there)) s.2).connections
+    connections_of p v l (subst (λ (w : ServedState). IsServed w l) (same_Some s.0 (served_in p v) (sym s.1 ∙ sym there)) s.2)

@@ -1,20 +1,18 @@
 -- The pool's counts are those of the texts that instances hold.
-use Rattle.std.proofs.Common.{◌≡◌, ◌≢◌, ◌⊎◌, ℕ, zero, suc, ◌+◌, ◌<◌, ◌==◌, Bool, true, false, cond, List, [], ◌∷◌, ◌++◌, refl, sym, ap, ◌∙◌, arith, inl, inr}
+use Rattle.std.proofs.Common.{◌≡◌, ◌≢◌, ℕ, ◌+◌, ◌<◌, ◌==◌, Bool, true, false, cond, List, [], ◌∷◌, map, refl, sym, ap, ◌∙◌, arith, inl, inr}
 use Rattle.std.specs.Prelude.{None}
 use Rattle.std.specs.Str.{bytes_eq}
 use Rattle.std.proofs.lemmas.Bool.Decides.{nat_tests}
 use Rattle.std.proofs.lemmas.Slice.Eq.{bytes_eq-Decides}
 use Rattle.blob_pool.specs.Held.{Slots, held_at, text_at, count_at, IsShared}
 use Rattle.blob_pool.specs.Moves.{one_at}
-use Rattle.instance_view.specs.Visible.{Blob}
-use Rattle.instance_view.specs.Shown.{Entry, blobs_in, entry_holders}
-use Rattle.served_instance.specs.StandsFor.{ServedState}
-use Rattle.served_instance.specs.Slots.{ServedSlots, holders_of}
-use Rattle.server_core.specs.Shared.{all_in, all_holders, IsServer}
-use Rattle.server_core.specs.StandsFor.{ServerState}
-use Rattle.server_core.specs.Stored.{texts_of, texts_of_all, Among}
-use Rattle.server_core.specs.Pooled.{times_in, times_in_all, times_held, StandsIn, IsPoolOf}
-use Rattle.server_core.proofs.Storing.{IsHeldAt, all_slot, among_left, among_right}
+use Rattle.grpc_sending.specs.Sources.{count_of}
+use Rattle.served_instance.specs.Slots.{ServedSlots}
+use Rattle.server_core.specs.Shared.{all_in, IsServer}
+use Rattle.server_core.specs.Stored.{texts_of_all, Among}
+use Rattle.server_core.specs.Pooled.{times_in, IsPoolOf}
+use Rattle.server_core.proofs.Slots.{slots_of_all, holders_are, texts_are}
+use Rattle.server_core.proofs.Storing.{IsHeldAt, all_slot}
 
 -- ---- a slot's holders are those of its text
 
@@ -38,53 +36,37 @@ one_same p e k shared here there = go (k == e) (bytes_eq (text_at p e) (text_at 
 one_own : (k : ℕ) → one_at k k ≡ 1
 one_own k = grind (arith, nat_tests)
 
--- each slot that they hold has holders
-abbrev AreThere : Slots → (ℕ → ℕ) → Type 0
-AreThere p holders = (j : ℕ) → 0 < holders j → 0 < count_at p j
+-- each of these slots has holders
+abbrev AreThere : Slots → List ℕ → Type 0
+AreThere p ns = (j : ℕ) → 0 < count_of j ns → 0 < count_at p j
 
-entries_same : (p : Slots) (es : List Entry) (k : ℕ) → IsShared p → AreThere p (entry_holders es) → 0 < count_at p k → entry_holders es k ≡ times_in (text_at p k) (blobs_in p es)
-entries_same p [] k shared there held = refl
-entries_same p (e ∷ es) k shared there held =
-    let own : 0 < entry_holders (e ∷ es) e.1 = let one = one_own e.1 in omega (arith, one) in
-    let first = one_same p e.1 k shared (there e.1 own) held in
-    let later = entries_same p es k shared (λ j some. there j (omega (arith, some))) held in
-    ap (λ (n : ℕ). n + entry_holders es k) first ∙ ap (λ (n : ℕ). number (bytes_eq (text_at p e.1) (text_at p k)) + n) later
-
-all_same : (p : Slots) (xs : List ServedSlots) (k : ℕ) → IsShared p → AreThere p (all_holders xs) → 0 < count_at p k → all_holders xs k ≡ times_in_all (text_at p k) (all_in p xs)
-all_same p [] k shared there held = refl
-all_same p (x ∷ xs) k shared there held =
-    let first = entries_same p x.instance.view.entries k shared (λ j some. there j (omega (arith, some))) held in
-    let later = all_same p xs k shared (λ j some. there j (omega (arith, some))) held in
-    ap (λ (n : ℕ). n + all_holders xs k) first ∙ ap (λ (n : ℕ). times_in (text_at p k) (blobs_in p x.instance.view.entries) + n) later
+slots_same : (p : Slots) (ns : List ℕ) (k : ℕ) → IsShared p → AreThere p ns → 0 < count_at p k → count_of k ns ≡ times_in (text_at p k) (map (text_at p) ns)
+slots_same p [] k shared there held = refl
+slots_same p (n ∷ ns) k shared there held =
+    let own : 0 < count_of n (n ∷ ns) = let one = one_own n in omega (arith, one) in
+    let first = one_same p n k shared (there n own) held in
+    let later = slots_same p ns k shared (λ j some. there j (omega (arith, some))) held in
+    ap (λ (m : ℕ). m + count_of k ns) first ∙ ap (λ (m : ℕ). number (bytes_eq (text_at p n) (text_at p k)) + m) later
 
 -- ---- a text that is held is among those of the instances
 
-in_texts : (t : List ℕ) (bs : List Blob) → 0 < times_in t bs → Among t (texts_of bs)
+in_texts : (t : List ℕ) (xs : List (List ℕ)) → 0 < times_in t xs → Among t xs
 in_texts t [] some = absurd (omega arith)
-in_texts t (b ∷ bs) some = go (bytes_eq b.1 t) refl (in_texts t bs) where
-  go : (e : Bool) → bytes_eq b.1 t ≡ e → (0 < times_in t bs → Among t (texts_of bs)) → Among t (texts_of (b ∷ bs))
-  go true is later = inl ((bytes_eq-Decides b.1 t).0 is)
+in_texts t (x ∷ xs) some = go (bytes_eq x t) refl (in_texts t xs) where
+  go : (e : Bool) → bytes_eq x t ≡ e → (0 < times_in t xs → Among t xs) → Among t (x ∷ xs)
+  go true is later = inl ((bytes_eq-Decides x t).0 is)
   go false is later =
-      let none : number (bytes_eq b.1 t) ≡ number false = ap number is in
+      let none : number (bytes_eq x t) ≡ number false = ap number is in
       inr (later (omega (arith, some, none)))
-
-in_all_texts : (t : List ℕ) (vs : List ServedState) → 0 < times_in_all t vs → Among t (texts_of_all vs)
-in_all_texts t [] some = absurd (omega arith)
-in_all_texts t (v ∷ vs) some = elim (either (times_in t v.state.visible) (times_in_all t vs) some) [
-  | inl own ↦ among_left t (texts_of v.state.visible) (texts_of_all vs) (in_texts t v.state.visible own)
-  | inr others ↦ among_right t (texts_of v.state.visible) (texts_of_all vs) (in_all_texts t vs others)
-]
-  where
-    either : (a b : ℕ) → 0 < a + b → (0 < a) ⊎ (0 < b)
-    either zero b some = inr (omega (arith, some))
-    either (suc a) b some = inl (omega arith)
 
 pub is_pool_of : (p : Slots) (xs : List ServedSlots) (failed : Bool) → IsServer p xs → IsShared p → ((k : ℕ) → held_at p k ≢ None → 0 < count_at p k) → IsPoolOf p (record { instances = all_in p xs; failed = failed })
 is_pool_of p xs failed s shared held = record {
   all = λ t some.
-      let r : IsHeldAt p (all_holders xs) t = all_slot p xs t (in_all_texts t (all_in p xs) some) in
-      record { slot = r.slot; held = omega (arith, s.exact r.slot, r.some); text = r.text };
+      let r : IsHeldAt p (slots_of_all xs) t = all_slot p xs t (in_texts t (texts_of_all (all_in p xs)) some) in
+      record { slot = r.slot; held = omega (arith, s.exact r.slot, holders_are xs r.slot, r.some); text = r.text };
   once = shared;
-  counts = λ k some. s.exact k ∙ all_same p xs k shared (λ j more. omega (arith, s.exact j, more)) some;
+  counts = λ k some.
+      let there : AreThere p (slots_of_all xs) = λ j more. omega (arith, s.exact j, holders_are xs j, more) in
+      s.exact k ∙ holders_are xs k ∙ slots_same p (slots_of_all xs) k shared there some ∙ ap (times_in (text_at p k)) (sym (texts_are p xs));
   only = held;
 }

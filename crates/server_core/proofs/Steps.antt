@@ -18,6 +18,7 @@ use Rattle.server_core.specs.Lone.{stray_at}
 use Rattle.server_core.specs.RunTo.{IsNotedAt, HasRun}
 use Rattle.server_core.specs.StandsFor.{StandsAt, instance_at}
 use Rattle.server_core.proofs.Lists.{get-set_same, get-set_other, length-none}
+use Rattle.server_core.proofs.Others.{connections_of}
 
 abbrev pub Own : EventValue → List ServedState → List ServedState → Type 0
 Own e vs ws = (l : Lone) → StandsAt e.instance vs l → StandsAt e.instance ws (lone_step e l)
@@ -60,7 +61,7 @@ noted_runs outcome e vs ws records p served d new own others gave here notes i r
           let t = own r.lone s in
           let is : t.0 ≡ served_in p served = same_Some t.0 (served_in p served) (sym t.1 ∙ here) in
           let old : k.0 ≡ get_or records n d = sym (get_or_from_slice_get records n k.0 d k.1) in
-          let new_record : IsRecord new (run_step r e) = notes r (subst (λ (v : RecordValue). IsRecord v r) old k.2) (gave r.lone s) (subst (λ (v : ServedState). IsServed v (lone_step e r.lone)) is t.2).connections in
+          let new_record : IsRecord new (run_step r e) = notes r (subst (λ (v : RecordValue). IsRecord v r) old k.2) (gave r.lone s) (connections_of p served (lone_step e r.lone) (subst (λ (v : ServedState). IsServed v (lone_step e r.lone)) is t.2)) in
           let b : (e.instance == i) ≡ true = eq-eqb e.instance i (sym same) in
           let it : HasRun n ws (set records n new) (run_step r e) = record {
             stands = t;

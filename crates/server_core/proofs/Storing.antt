@@ -1,14 +1,15 @@
 -- The pool's texts are those that instances hold.
-use Rattle.std.proofs.Common.{◌≡◌, ◌≢◌, ℕ, zero, suc, ◌+◌, ◌<◌, ◌==◌, Bool, true, false, cond, List, [], ◌∷◌, ◌++◌, length, map, refl, sym, ap, subst, ◌∙◌, arith, inl, inr, nat_lt}
-use Rattle.std.specs.Prelude.{◌⊎◌, Option, Some, None}
+use Rattle.std.proofs.Common.{◌≡◌, ◌≢◌, ℕ, zero, suc, ◌+◌, ◌<◌, ◌==◌, Bool, true, false, cond, List, [], ◌∷◌, length, map, refl, sym, ap, subst, ◌∙◌, arith, inl, inr, nat_lt}
+use Rattle.std.specs.Prelude.{Option, Some, None}
 use Rattle.std.proofs.lemmas.Bool.Decides.{nat_tests}
 use Rattle.std.proofs.lemmas.List.Sums.{sum_by-cons}
 use Rattle.blob_pool.specs.Held.{Held, Slots, held_at, text_at, count_at, is_held, IsShared, texts_stored, bytes_stored}
 use Rattle.blob_pool.specs.Moves.{one_at}
-use Rattle.instance_view.specs.Shown.{Entry, blobs_in, entry_holders}
-use Rattle.served_instance.specs.Slots.{ServedSlots, holders_of}
+use Rattle.grpc_sending.specs.Sources.{count_of}
+use Rattle.served_instance.specs.Slots.{ServedSlots}
 use Rattle.server_core.specs.Shared.{all_in, all_holders, IsServer}
-use Rattle.server_core.specs.Stored.{texts_of, texts_of_all, Among, AreDistinct, bytes_of, AreStored}
+use Rattle.server_core.specs.Stored.{texts_of_all, Among, AreDistinct, bytes_of, AreStored}
+use Rattle.server_core.proofs.Slots.{slots_of_all, holders_are, texts_are}
 
 abbrev pub in_slots : Slots → List (List ℕ)
 in_slots [] = []
@@ -63,76 +64,47 @@ sized [] = refl
 sized (None ∷ p) = let ih = sized p in omega (arith, ih)
 sized (Some x ∷ p) = let ih = sized p in omega (arith, ih)
 
--- ---- entries and slots
-
-pub among_left : (t : List ℕ) (xs ys : List (List ℕ)) → Among t xs → Among t (xs ++ ys)
-among_left t [] ys h = absurd h
-among_left t (x ∷ xs) ys h = elim h [
-  | inl here ↦ inl here
-  | inr later ↦ inr (among_left t xs ys later)
-]
-
-pub among_right : (t : List ℕ) (xs ys : List (List ℕ)) → Among t ys → Among t (xs ++ ys)
-among_right t [] ys h = h
-among_right t (x ∷ xs) ys h = inr (among_right t xs ys h)
-
-among_cases : (t : List ℕ) (xs ys : List (List ℕ)) → Among t (xs ++ ys) → Among t xs ⊎ Among t ys
-among_cases t [] ys h = inr h
-among_cases t (x ∷ xs) ys h = elim h [
-  | inl here ↦ inl (inl here)
-  | inr later ↦ elim (among_cases t xs ys later) [
-    | inl a ↦ inl (inr a)
-    | inr b ↦ inr b
-  ]
-]
+-- ---- slots that are held, and their texts
 
 one_own : (k : ℕ) → one_at k k ≡ 1
 one_own k = grind (arith, nat_tests)
 
--- a text of an entry stands in the slot that it holds
-pub record IsHeldAt (p : Slots) (h : ℕ → ℕ) (t : List ℕ) : Type 0 where
+-- a text stands in a slot that is held
+pub record IsHeldAt (p : Slots) (ns : List ℕ) (t : List ℕ) : Type 0 where
   pub slot : ℕ
-  pub some : 0 < h slot
+  pub some : 0 < count_of slot ns
   pub text : text_at p slot ≡ t
 
-entry_slot : (p : Slots) (v : List Entry) (t : List ℕ) → Among t (texts_of (blobs_in p v)) → IsHeldAt p (entry_holders v) t
-entry_slot p [] t h = absurd h
-entry_slot p (e ∷ v) t h = elim h [
-  | inl here ↦ record { slot = e.1; some = let one = one_own e.1 in omega (arith, one); text = here }
-  | inr later ↦ let r = entry_slot p v t later in record { slot = r.slot; some = omega (arith, r.some); text = r.text }
+text_slot : (p : Slots) (ns : List ℕ) (t : List ℕ) → Among t (map (text_at p) ns) → IsHeldAt p ns t
+text_slot p [] t h = absurd h
+text_slot p (n ∷ ns) t h = elim h [
+  | inl here ↦ record { slot = n; some = let one = one_own n in omega (arith, one); text = here }
+  | inr later ↦ let r = text_slot p ns t later in record { slot = r.slot; some = omega (arith, r.some); text = r.text }
 ]
 
-pub all_slot : (p : Slots) (xs : List ServedSlots) (t : List ℕ) → Among t (texts_of_all (all_in p xs)) → IsHeldAt p (all_holders xs) t
-all_slot p [] t h = absurd h
-all_slot p (a ∷ xs) t h = elim (among_cases t (texts_of (blobs_in p a.instance.view.entries)) (texts_of_all (all_in p xs)) h) [
-  | inl own ↦ let r = entry_slot p a.instance.view.entries t own in record { slot = r.slot; some = omega (arith, r.some); text = r.text }
-  | inr others ↦ let r = all_slot p xs t others in record { slot = r.slot; some = omega (arith, r.some); text = r.text }
-]
-
-slot_entry : (p : Slots) (v : List Entry) (k : ℕ) → 0 < entry_holders v k → Among (text_at p k) (texts_of (blobs_in p v))
-slot_entry p [] k h = absurd (omega arith)
-slot_entry p (e ∷ v) k h = go (k == e.1) refl (λ later. slot_entry p v k later) where
-  go : (b : Bool) → (k == e.1) ≡ b → (0 < entry_holders v k → Among (text_at p k) (texts_of (blobs_in p v))) → Among (text_at p k) (texts_of (blobs_in p (e ∷ v)))
-  go true test ih = let same : e.1 ≡ k = grind (arith, nat_tests) in inl (ap (text_at p) same)
+slot_text : (p : Slots) (ns : List ℕ) (k : ℕ) → 0 < count_of k ns → Among (text_at p k) (map (text_at p) ns)
+slot_text p [] k h = absurd (omega arith)
+slot_text p (n ∷ ns) k h = go (k == n) refl (λ later. slot_text p ns k later) where
+  go : (b : Bool) → (k == n) ≡ b → (0 < count_of k ns → Among (text_at p k) (map (text_at p) ns)) → Among (text_at p k) (map (text_at p) (n ∷ ns))
+  go true test ih = let same : n ≡ k = grind (arith, nat_tests) in inl (ap (text_at p) same)
   go false test ih =
       let number : Bool → ℕ = λ b. cond b 1 0 in
-      let none : number (k == e.1) ≡ number false = ap number test in
+      let none : number (k == n) ≡ number false = ap number test in
       inr (ih (omega (arith, h, none)))
 
+pub all_slot : (p : Slots) (xs : List ServedSlots) (t : List ℕ) → Among t (texts_of_all (all_in p xs)) → IsHeldAt p (slots_of_all xs) t
+all_slot p xs t h = text_slot p (slots_of_all xs) t (subst (Among t) (texts_are p xs) h)
+
 slot_held : (p : Slots) (xs : List ServedSlots) (k : ℕ) → 0 < all_holders xs k → Among (text_at p k) (texts_of_all (all_in p xs))
-slot_held p [] k h = absurd (omega arith)
-slot_held p (a ∷ xs) k h = go (nat_lt 0 (holders_of a k)) refl (λ later. slot_held p xs k later) where
-  go : (b : Bool) → nat_lt 0 (holders_of a k) ≡ b → (0 < all_holders xs k → Among (text_at p k) (texts_of_all (all_in p xs))) → Among (text_at p k) (texts_of_all (all_in p (a ∷ xs)))
-  go true test ih = among_left (text_at p k) (texts_of (blobs_in p a.instance.view.entries)) (texts_of_all (all_in p xs)) (slot_entry p a.instance.view.entries k (grind (arith, nat_tests)))
-  go false test ih =
-      let none : holders_of a k ≡ 0 = grind (arith, nat_tests) in
-      among_right (text_at p k) (texts_of (blobs_in p a.instance.view.entries)) (texts_of_all (all_in p xs)) (ih (omega (arith, h, none)))
+slot_held p xs k h =
+    let some : 0 < count_of k (slots_of_all xs) = omega (arith, h, holders_are xs k) in
+    subst (Among (text_at p k)) (sym (texts_are p xs)) (slot_text p (slots_of_all xs) k some)
 
 pub stored_are : (p : Slots) (xs : List ServedSlots) (n b : ℕ) → IsServer p xs → IsShared p → ((k : ℕ) → held_at p k ≢ None → 0 < count_at p k) → n ≡ texts_stored p → b ≡ bytes_stored p → AreStored (texts_of_all (all_in p xs)) n b
 stored_are p xs n b s shared held count bytes = record {
   texts = in_slots p;
   distinct = distinct p shared held;
-  all = λ t h. let r = all_slot p xs t h in subst (λ (u : List ℕ). Among u (in_slots p)) r.text (in_slot p r.slot (omega (arith, s.exact r.slot, r.some)));
+  all = λ t h. let r = all_slot p xs t h in subst (λ (u : List ℕ). Among u (in_slots p)) r.text (in_slot p r.slot (omega (arith, s.exact r.slot, holders_are xs r.slot, r.some)));
   only = λ t h. let r = at_slot p t h in subst (λ (u : List ℕ). Among u (texts_of_all (all_in p xs))) r.text (slot_held p xs r.slot (omega (arith, s.exact r.slot, held r.slot r.some)));
   count_is = count ∙ counted p held;
   bytes_is = bytes ∙ sized p;

@@ -2,22 +2,17 @@
 use Rattle.std.specs.Prelude.{◌≡◌, ◌≢◌, ◌<◌, ◌+◌, ℕ, List, [], ◌∷◌, None, if◌then◌else◌}
 use Rattle.std.specs.Str.{bytes_eq}
 use Rattle.blob_pool.specs.Held.{Slots, held_at, text_at, count_at, IsShared}
-use Rattle.instance_view.specs.Visible.{Blob}
-use Rattle.served_instance.specs.StandsFor.{ServedState}
 use Rattle.server_core.specs.StandsFor.{ServerState}
+use Rattle.server_core.specs.Stored.{texts_held}
 
 -- how often a text stands among these
-abbrev pub times_in : List ℕ → List Blob → ℕ
+abbrev pub times_in : List ℕ → List (List ℕ) → ℕ
 times_in t [] = 0
-times_in t (b ∷ bs) = (if bytes_eq b.1 t then 1 else 0) + times_in t bs
+times_in t (x ∷ xs) = (if bytes_eq x t then 1 else 0) + times_in t xs
 
-abbrev pub times_in_all : List ℕ → List ServedState → ℕ
-times_in_all t [] = 0
-times_in_all t (v ∷ vs) = times_in t v.state.visible + times_in_all t vs
-
--- how often the instances hold a text, all together
+-- how often the instances hold a text, all together: for blobs, and for ranges that are still to be put
 abbrev pub times_held : List ℕ → ServerState → ℕ
-times_held t s = times_in_all t s.instances
+times_held t s = times_in t (texts_held s)
 
 -- a slot that has some holders, and this text
 pub record StandsIn (p : Slots) (t : List ℕ) : Type 0 where

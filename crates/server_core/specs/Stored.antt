@@ -8,10 +8,14 @@ abbrev pub texts_of : List Blob → List (List ℕ)
 texts_of [] = []
 texts_of (b ∷ bs) = b.1 ∷ texts_of bs
 
+-- those of an instance: of its blobs, and of ranges that are still to be put on its connections
+abbrev pub own_texts : ServedState → List (List ℕ)
+own_texts v = texts_of v.state.visible ++ v.ranges
+
 -- each text of each instance, with repeats
 abbrev pub texts_of_all : List ServedState → List (List ℕ)
 texts_of_all [] = []
-texts_of_all (v ∷ vs) = texts_of v.state.visible ++ texts_of_all vs
+texts_of_all (v ∷ vs) = own_texts v ++ texts_of_all vs
 
 abbrev pub texts_held : ServerState → List (List ℕ)
 texts_held s = texts_of_all s.instances

@@ -136,8 +136,9 @@ impl Server {
         self.instance(instance)?.ended(connection)
     }
 
-    /// How many different texts the instances hold, and how many bytes these have together. A text that several of
-    /// them hold counts once.
+    /// How many different texts the instances hold, and how many bytes these have together. An instance holds the
+    /// texts of its blobs, and each text of which a range is still to be put. One that is held several times counts
+    /// once.
     pub fn stored(&self) -> (u64, u128)
         ensures { AreStored (texts_held self.now) result.0 result.1 }
     {
@@ -145,7 +146,7 @@ impl Server {
     }
 
     /// The pool of texts. After every event, also a refused one, it has each text that an instance holds in one slot,
-    /// which counts how often the instances hold it, and nothing else.
+    /// which counts how often the instances hold it, for blobs and for ranges, and nothing else.
     pub fn pool(&self) -> &Pool
         ensures { IsPoolOf result.now self.now }
     {

@@ -1,4 +1,4 @@
-ghost use Rattle.std.specs.Prelude.{◌≡◌, ◌≤◌, ◌^◌, ℕ, [], IsSome, OnOk, OnErr, length, option_map};
+ghost use Rattle.std.specs.Prelude.{◌≡◌, ◌≤◌, ◌^◌, ℕ, [], IsSome, IfSome, OnOk, OnErr, length, option_map};
 ghost use Rattle.blob_pool.specs.Moves.{Moves};
 ghost use Rattle.instance_view.specs.Shown.{shown, holders};
 ghost use Rattle.quota_evict.specs.Admission.{admitted};
@@ -46,7 +46,8 @@ impl Uploads {
 
     /// How many bytes of an upload there are so far, where it is there.
     pub fn committed(&self, key: &UploadKey) -> Option<u64>
-        ensures { result ≡ option_map (λ upload. length upload.text) (upload_at (key_shown key.now) self.now) }
+        ensures value { result ≡ option_map (λ upload. length upload.text) (upload_at (key_shown key.now) self.now) }
+        ensures most { IfSome result (λ count. count ≤ 2 ^ 48) }
     {
         match find(&self.table, key) {
             Some(upload) => Some(upload.draft.length()),

@@ -7,7 +7,7 @@ use hpack::Position;
 use std::alloc::Global;
 use std::io::{self, Write};
 
-static REFUSALS: [Refusal; 15] = [
+static REFUSALS: [Refusal; 21] = [
     Refusal::UnknownMethod,
     Refusal::CompressedMessage,
     Refusal::MessageTooLarge,
@@ -23,6 +23,12 @@ static REFUSALS: [Refusal; 15] = [
     Refusal::DigestDoesNotMatch,
     Refusal::QuotaExceeded,
     Refusal::BlobNotFound,
+    Refusal::BadResourceName,
+    Refusal::NegativeLimit,
+    Refusal::OffsetOutOfRange,
+    Refusal::WrongOffset,
+    Refusal::TooManyUploads,
+    Refusal::UploadNotFound,
 ];
 
 static OTHERS: [(&str, ResponseBlock); 4] = [

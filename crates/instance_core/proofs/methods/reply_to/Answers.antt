@@ -8,9 +8,9 @@ use Rattle.instance_core.proofs.methods.reply_to.Goals as goal
 pub returns-in-FindMissingBlobs-clause-changed : goal.returns-in-FindMissingBlobs-clause-changed
 returns-in-FindMissingBlobs-clause-changed c =
     let p = c.args.pool.now in
-    let view = c.args.view.now in
+    let view = c.args.contents.now.view in
     let quota = c.args.settings.now.quota in
-    λ calls.
+    λ moment calls.
     rw (c.in-FindMissingBlobs.is, ← c.deref.ensures)
     (uses_answered c.find_missing.result (digests_asked c.deref.result.now c.args.message.now) (λ digests. missing_reply (missing (shown p view) digests)) view.limit most_blobs quota p view c.find_missing.new.view
     c.requires.limit (c.find_missing.ensures.reply p) (c.find_missing.ensures.used p quota) c.find_missing.ensures.err)
@@ -18,9 +18,9 @@ returns-in-FindMissingBlobs-clause-changed c =
 pub returns-in-BatchReadBlobs-clause-changed : goal.returns-in-BatchReadBlobs-clause-changed
 returns-in-BatchReadBlobs-clause-changed c =
     let p = c.args.pool.now in
-    let view = c.args.view.now in
+    let view = c.args.contents.now.view in
     let quota = c.args.settings.now.quota in
-    λ calls.
+    λ moment calls.
     rw (c.in-BatchReadBlobs.is, ← c.deref-in-BatchReadBlobs.ensures)
     (uses_answered c.batch_read.result (digests_to_read c.deref-in-BatchReadBlobs.result.now c.args.message.now) (λ digests. read_reply (shown p view) digests) view.limit most_blobs quota p view c.batch_read.new.view
     c.requires.limit c.batch_read.ensures.reply (c.batch_read.ensures.used p quota) c.batch_read.ensures.err)

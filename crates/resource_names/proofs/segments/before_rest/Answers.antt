@@ -1,4 +1,4 @@
-use Rattle.std.proofs.Common.{refl, ◌≡◌, ◌-◌, ◌<◌, ◌≤◌, length, slice_index_or, arith, sym, ◌∙◌, ap, Some, take}
+use Rattle.std.proofs.Common.{refl, ◌≡◌, ◌-◌, length, arith, sym, ◌∙◌, ap, Some, take}
 use Rattle.std.specs.Prelude.{slice_range}
 use Rattle.resource_names.proofs.SegmentLemmas.{rest-short, joined-none, joined-some, slash-before}
 use Rattle.resource_names.proofs.segments.before_rest.Goals as goal

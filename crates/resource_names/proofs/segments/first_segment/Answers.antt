@@ -1,4 +1,4 @@
-use Rattle.std.proofs.Common.{rules, lit<}
+use Rattle.std.proofs.Common.{lit<}
 use Rattle.std.proofs.lemmas.Str.Pattern.{split_once_first}
 use Rattle.resource_names.proofs.SegmentLemmas.{segments_of-cut, segments_of-last}
 use Rattle.resource_names.proofs.segments.first_segment.Goals as goal

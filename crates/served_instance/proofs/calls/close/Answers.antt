@@ -1,7 +1,12 @@
-use Rattle.std.proofs.Common.{sym, ap, ◌∙◌}
+use Rattle.std.proofs.Common.{◌≡◌, sym, ap, ◌∙◌, subst, List}
+use Rattle.conn_core.specs.declared.event.CallEvent.{CallEvent}
+use Rattle.served_instance.specs.Acts.{Acts, cancels_of}
+use Rattle.served_instance.specs.Lone.{all_happened}
 use Rattle.std.specs.Prelude.{position}
 use Rattle.instance_core.specs.Slots.{state_in}
 use Rattle.served_instance.specs.Present.{is_numbered}
+use Rattle.blob_pool.specs.Held.{count_at}
+use Rattle.served_instance.proofs.Releasing.{closed_few, releases_closed}
 use Rattle.served_instance.proofs.Closes.{closes_none, closes_by}
 use Rattle.served_instance.proofs.calls.close.Goals as goal
 
@@ -12,9 +17,22 @@ returns-in-None-clause-closed c = λ p.
 
 pub returns-in-Some-clause-closed : goal.returns-in-Some-clause-closed
 returns-in-Some-clause-closed c = λ p.
-    let left = c.remove-closed.new.self.items in
-    closes_by c.args.number (state_in p c.args.instance.now) (state_in p c.give_up.new.instance) c.args.connections.now.items left c.in-Some.place c.remove-closed.result
+    let left = c.remove.new.self.items in
+    let same : cancels_of c.release_spent.new.connection ≡ cancels_of c.remove.result.connection = ap cancels_of c.release_spent.ensures.rest ∙ ap cancels_of c.close.ensures.rest in
+    closes_by c.args.number (state_in p c.args.instance.now) (state_in p c.give_up.new.instance) c.args.connections.now.items left c.in-Some.place c.remove.result
     (sym (c.find.ensures ∙ ap (position (is_numbered c.args.number)) c.deref.ensures.value) ∙ c.in-Some.is)
-    c.remove-closed.ensures.value
-    c.remove-closed.ensures.by_index.2
-    (c.give_up.ensures.cancelled p left)
+    c.remove.ensures.value
+    c.remove.ensures.by_index.2
+    (subst (λ (es : List CallEvent). Acts (state_in p c.args.instance.now) left (state_in p c.give_up.new.instance) left (all_happened c.args.number es)) same (c.give_up.ensures.cancelled p left))
+
+pub release_spent-requires : goal.release_spent-requires
+release_spent-requires c = λ k.
+    closed_few c.args.number c.args.connections.now.items c.in-Some.place c.remove.result c.close.new.self.sending (count_at c.args.pool.now k) k
+    (sym (c.find.ensures ∙ ap (position (is_numbered c.args.number)) c.deref.ensures.value) ∙ c.in-Some.is)
+    c.remove.ensures.value c.close.ensures.sources c.close.ensures.dropped (c.requires k)
+
+pub returns-in-Some-clause-releases : goal.returns-in-Some-clause-releases
+returns-in-Some-clause-releases c =
+    releases_closed c.args.number c.args.pool.now c.release_spent.new.pool c.args.connections.now.items c.remove.new.self.items c.in-Some.place c.remove.result c.close.new.self.sending
+    (sym (c.find.ensures ∙ ap (position (is_numbered c.args.number)) c.deref.ensures.value) ∙ c.in-Some.is)
+    c.remove.ensures.value c.remove.ensures.by_index.2 c.close.ensures.sources c.close.ensures.dropped c.release_spent.ensures.moves

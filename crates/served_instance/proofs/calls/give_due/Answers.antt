@@ -1,22 +1,39 @@
-use Rattle.std.proofs.Common.{◌≡◌, ◌<◌, ◌∙◌, sym, subst, refl, ℕ, length}
+use Rattle.std.proofs.Common.{◌≡◌, ◌<◌, ◌∙◌, sym, subst, refl, ℕ, length, map}
 use Rattle.std.specs.Prelude.{Option, Some, None}
 use Rattle.conn_core.specs.declared.event.CallEvent.{CallEvent}
+use Rattle.blob_pool.specs.Held.{text_at}
 use Rattle.blob_pool.proofs.Moves.{moves_none, moves_trans}
-use Rattle.instance_core.specs.Slots.{state_in, holders_of}
+use Rattle.instance_core.specs.Slots.{state_in}
 use Rattle.instance_core.specs.Shown.{event_shown}
 use Rattle.served_instance.specs.Lone.{due_happened}
-use Rattle.served_instance.specs.Acts.{Changed, Pops, due_count, kept_at}
+use Rattle.served_instance.specs.Acts.{Changed, Pops, due_count, kept_at, slots_of}
+use Rattle.served_instance.specs.Shown.{served}
+use Rattle.served_instance.specs.Slots.{holders_of}
 use Rattle.served_instance.proofs.Changes.{changed_fewer, keeps_due, keeps_unread}
-use Rattle.served_instance.proofs.Leads.{leads_here, leads_acts, due_leads, popped_all, popped_unread}
+use Rattle.served_instance.proofs.Kept.{alike_moves}
+use Rattle.served_instance.proofs.Leads.{leads_here, leads_acts_by, due_leads, popped_all, popped_unread}
+use Rattle.served_instance.proofs.Writes.{alike_writes}
 use Rattle.served_instance.proofs.calls.give_due.Goals as goal
 
 pub events-init : goal.events-init
-events-init c = record {
-  leads = leads_here (state_in c.args.pool.now c.args.instance.now) c.args.connections.now (due_happened c.args.number);
-  unread = refl;
-  moves = moves_none c.args.pool.now (holders_of c.args.instance.now) (holders_of c.args.instance.now) (λ k. refl);
-  kept = c.requires.kept;
-}
+events-init c =
+    let p = c.args.pool.now in
+    let here = slots_of c.args.instance.now c.args.connections.now in
+    record {
+      leads = leads_here (state_in p c.args.instance.now) c.args.connections.now (due_happened c.args.number) (text_at p);
+      unread = refl;
+      moves = moves_none p (holders_of here) (holders_of here) (λ k. refl);
+      kept = c.requires.kept;
+    }
+
+pub happen-requires : goal.happen-requires
+happen-requires c =
+    let os = c.events.connections in
+    let ns = c.pop_event.new.connections in
+    record {
+      short = c.call_event_on-event.ensures.short;
+      kept = alike_writes c.events.pool c.events.instance os os ns ns refl refl c.pop_event.auto.connections c.events.invariant.kept c.pop_event.ensures.holds;
+    }
 
 pub events-smaller : goal.events-smaller
 events-smaller c =
@@ -31,27 +48,55 @@ events-smaller c =
 pub events-preserved : goal.events-preserved
 events-preserved c =
     let n = c.args.number in
+    let p = c.args.pool.now in
+    let q = c.events.pool in
+    let r = c.happen.new.pool in
     let os = c.events.connections in
     let ns = c.pop_event.new.connections in
     let xs = c.happen.new.connections in
     let there : kept_at n os ≡ None → ⊥ = λ none. let e = c.in-Some.ensures.none none in cc in
+    let first = holders_of (slots_of c.args.instance.now c.args.connections.now) in
+    let before = holders_of (slots_of c.events.instance os) in
+    let between = holders_of (slots_of c.events.instance ns) in
+    let after = holders_of (slots_of c.happen.new.instance xs) in
     record {
-      leads = due_leads n (state_in c.args.pool.now c.args.instance.now) (state_in c.events.pool c.events.instance) (state_in c.happen.new.pool c.happen.new.instance) c.args.connections.now os ns xs c.in-Some.event (event_shown c.call_event_on-event.result)
+      leads = due_leads (text_at p) (text_at q) (text_at r) n (state_in p c.args.instance.now) (state_in q c.events.instance) (state_in r c.happen.new.instance) c.args.connections.now os ns xs c.in-Some.event (event_shown c.call_event_on-event.result)
           c.events.invariant.leads c.in-Some.ensures.event there c.call_event_on-event.ensures.event c.in_ok-happen.ensures.happened;
       unread = keeps_unread n ns xs c.in_ok-happen.ensures.rest ∙ popped_unread n os ns (Some c.in-Some.event) c.in-Some.ensures.event ∙ c.events.invariant.unread;
-      moves = moves_trans c.args.pool.now c.events.pool c.happen.new.pool (holders_of c.args.instance.now) (holders_of c.events.instance) (holders_of c.happen.new.instance) c.events.invariant.moves c.in_ok-happen.ensures.moves;
-      kept = c.in_ok-happen.ensures.kept;
+      moves = moves_trans p q r first before after c.events.invariant.moves
+          (moves_trans q q r before between after (alike_moves q c.events.instance (map served os) (map served ns) c.pop_event.ensures.holds) c.happen.ensures.moves);
+      kept = c.happen.ensures.kept;
     }
 
 pub returns : goal.returns
 returns c =
     let n = c.args.number in
+    let p = c.args.pool.now in
+    let q = c.events.pool in
     let os = c.events.connections in
     let ns = c.pop_event.new.connections in
     let popped : Changed n os ns (Pops None) = subst (λ (o : Option CallEvent). Changed n os ns (Pops o)) c.in_default.is c.pop_event.ensures.event in
+    let first = holders_of (slots_of c.args.instance.now c.args.connections.now) in
+    let before = holders_of (slots_of c.events.instance os) in
+    let after = holders_of (slots_of c.events.instance ns) in
     record {
-      due = leads_acts (state_in c.args.pool.now c.args.instance.now) (state_in c.events.pool c.events.instance) (state_in c.events.pool c.events.instance) c.args.connections.now os ns (due_happened n) (due_happened n) c.events.invariant.leads (popped_all n (state_in c.events.pool c.events.instance) os ns popped);
+      due = leads_acts_by (text_at p) (text_at q) (text_at q) (state_in p c.args.instance.now) (state_in q c.events.instance) (state_in q c.events.instance) c.args.connections.now os ns (due_happened n) (due_happened n)
+          c.events.invariant.leads (popped_all n (state_in q c.events.instance) os ns popped (text_at q));
       unread = popped_unread n os ns None popped ∙ c.events.invariant.unread;
-      moves = c.events.invariant.moves;
-      kept = c.events.invariant.kept;
+      moves = moves_trans p q q first before after c.events.invariant.moves (alike_moves q c.events.instance (map served os) (map served ns) c.pop_event.ensures.holds);
+      kept = alike_writes q c.events.instance os os ns ns refl refl c.pop_event.auto.connections c.events.invariant.kept c.pop_event.ensures.holds;
     }
+
+pub returns-in_err-happen-clause-moves : goal.returns-in_err-happen-clause-moves
+returns-in_err-happen-clause-moves c =
+    let p = c.args.pool.now in
+    let q = c.events.pool in
+    let r = c.happen.new.pool in
+    let os = c.events.connections in
+    let ns = c.pop_event.new.connections in
+    let first = holders_of (slots_of c.args.instance.now c.args.connections.now) in
+    let before = holders_of (slots_of c.events.instance os) in
+    let between = holders_of (slots_of c.events.instance ns) in
+    let after = holders_of (slots_of c.happen.new.instance c.happen.new.connections) in
+    moves_trans p q r first before after c.events.invariant.moves
+    (moves_trans q q r before between after (alike_moves q c.events.instance (map served os) (map served ns) c.pop_event.ensures.holds) c.happen.ensures.moves)

@@ -1,19 +1,82 @@
-use Rattle.std.proofs.Common.{◌∙◌, sym, ap, subst, List}
-use Rattle.std.specs.Prelude.{map}
+use Rattle.std.proofs.Common.{◌+◌, ◌∙◌, sym, ap, subst, List, map, arith, refl}
 use Rattle.std.specs.List.{AllByRecursion}
+use Rattle.std.proofs.lemmas.List.{length-map}
+use Rattle.blob_pool.specs.Moves.{Moves, nobody}
 use Rattle.instance_core.specs.declared.event.Reply.{Reply}
-use Rattle.instance_core.specs.Answer.{IsShortReply}
+use Rattle.instance_core.specs.Given.{replies_holders}
+use Rattle.instance_core.specs.Replies.{IsShortReply}
 use Rattle.instance_core.specs.Shown.{event_shown, reply_shown}
-use Rattle.instance_core.specs.Slots.{state_in}
-use Rattle.served_instance.proofs.Gives.{happens}
+use Rattle.instance_core.specs.Slots.{holders_of as holders_of_instance}
+use Rattle.served_instance.specs.Given.{ReplyCanBeOwed, RepliesEndWithin}
+use Rattle.served_instance.specs.Shown.{served}
+use Rattle.served_instance.specs.Acts.{slots_of}
+use Rattle.served_instance.proofs.Kept.{few_connections, instance_kept}
+use Rattle.served_instance.proofs.Taking.{take_none}
+use Rattle.served_instance.proofs.Happens.{replies_owed, replies_end, answered_kept, happens}
 use Rattle.served_instance.proofs.calls.happen.Goals as goal
 
-pub give_all-requires : goal.give_all-requires
-give_all-requires c = record {
-  short = subst (λ (rs : List Reply). AllByRecursion IsShortReply (map reply_shown rs)) (sym c.deref.ensures.value) c.in_ok-replies.ensures.short;
-}
+pub call_event-requires-clause-kept : goal.call_event-requires-clause-kept
+call_event-requires-clause-kept c =
+    let here = slots_of c.args.instance.now c.args.connections.now in
+    instance_kept c.args.pool.now here here refl c.requires.kept
+
+-- nothing is given for want of memory
+pub returns-in_err-replies-clause-kept : goal.returns-in_err-replies-clause-kept
+returns-in_err-replies-clause-kept c =
+    let p = c.args.pool.now in
+    let q = c.call_event.new.pool in
+    let i = c.args.instance.now in
+    let os = c.args.connections.now in
+    let vs = map served os in
+    answered_kept nobody (λ texts. Unit {0}) p q q i c.call_event.new.self vs vs (record {
+      kept = c.requires.kept;
+      moves = c.in_err-replies.ensures.moves;
+      takes = take_none nobody (λ texts. Unit {0}) q vs (λ k. refl);
+      within = c.call_event.ensures.within;
+      good = tt;
+    })
+    (omega (arith, few_connections p (slots_of i os) c.requires.kept))
+
+pub give_all-requires-clause-owed : goal.give_all-requires-clause-owed
+give_all-requires-clause-owed c =
+    subst (λ (rs : List Reply). AllByRecursion ReplyCanBeOwed rs) (sym c.deref.ensures.value) (replies_owed c.call_event.new.pool c.in_ok-replies.replies.items c.in_ok-replies.ensures.short)
 
 pub returns-clause-happened : goal.returns-clause-happened
 returns-clause-happened c =
-    happens c.give_all.result (state_in c.args.pool.now c.args.instance.now) (state_in c.call_event.new.pool c.call_event.new.self) c.args.connections.now c.give_all.new.connections (event_shown c.args.event) (map reply_shown c.deref.result.now)
-    (ap (map reply_shown) c.deref.ensures.value ∙ c.in_ok-replies.ensures.replies) c.in_ok-replies.ensures.changed c.give_all.ensures.given
+    let p = c.args.pool.now in
+    let q = c.call_event.new.pool in
+    let r = c.give_all.new.pool in
+    let i = c.args.instance.now in
+    let j = c.call_event.new.self in
+    let rs = c.deref.result.now in
+    let S : List Reply → Type 0 = λ ys. AllByRecursion IsShortReply (map (reply_shown q) ys) in
+    let M : List Reply → Type 0 = λ ys. Moves p q (holders_of_instance i) (λ k. holders_of_instance j k + replies_holders ys k) in
+    happens c.give_all.result p q r i j c.args.connections.now c.give_all.new.connections (event_shown c.args.event) rs (record {
+      kept = c.requires.kept;
+      moves = subst M (sym c.deref.ensures.value) c.in_ok-replies.ensures.moves;
+      takes = c.give_all.ensures.takes;
+      within = c.call_event.ensures.within;
+      good = replies_end q rs (subst S (sym c.deref.ensures.value) c.in_ok-replies.ensures.short);
+    })
+    (ap (map (reply_shown q)) c.deref.ensures.value ∙ c.in_ok-replies.ensures.replies) c.in_ok-replies.ensures.changed c.give_all.ensures.given
+
+pub returns-clause-kept : goal.returns-clause-kept
+returns-clause-kept c =
+    let p = c.args.pool.now in
+    let q = c.call_event.new.pool in
+    let r = c.give_all.new.pool in
+    let i = c.args.instance.now in
+    let j = c.call_event.new.self in
+    let os = c.args.connections.now in
+    let ns = c.give_all.new.connections in
+    let rs = c.deref.result.now in
+    let S : List Reply → Type 0 = λ ys. AllByRecursion IsShortReply (map (reply_shown q) ys) in
+    let M : List Reply → Type 0 = λ ys. Moves p q (holders_of_instance i) (λ k. holders_of_instance j k + replies_holders ys k) in
+    answered_kept (replies_holders rs) (RepliesEndWithin rs) p q r i j (map served os) (map served ns) (record {
+      kept = c.requires.kept;
+      moves = subst M (sym c.deref.ensures.value) c.in_ok-replies.ensures.moves;
+      takes = c.give_all.ensures.takes;
+      within = c.call_event.ensures.within;
+      good = replies_end q rs (subst S (sym c.deref.ensures.value) c.in_ok-replies.ensures.short);
+    })
+    (omega (arith, c.give_all.auto.connections, few_connections p (slots_of i os) c.requires.kept, length-map os served, length-map ns served))

@@ -1,18 +1,32 @@
-use Rattle.std.proofs.Common.{◌≡◌, subst}
+use Rattle.std.proofs.Common.{◌≡◌, refl, subst, map}
 use Rattle.std.specs.Prelude.{Bool, None}
+use Rattle.blob_pool.specs.Held.{text_at}
+use Rattle.blob_pool.proofs.Moves.{moves_trans}
 use Rattle.instance_core.specs.Slots.{state_in}
-use Rattle.served_instance.specs.Acts.{Changed, ReadsFrame, kept_at}
+use Rattle.served_instance.specs.Acts.{Changed, ReadsFrame, kept_at, slots_of}
+use Rattle.served_instance.specs.Shown.{served}
+use Rattle.served_instance.specs.Slots.{holders_of}
+use Rattle.served_instance.proofs.Kept.{alike_moves}
 use Rattle.served_instance.proofs.Leads.{read_leads, read_done, done_leads, read_fewer}
+use Rattle.served_instance.proofs.Writes.{alike_writes}
 use Rattle.served_instance.proofs.calls.read_next.Goals as goal
+
+pub give_due-requires : goal.give_due-requires
+give_due-requires c =
+    let os = c.args.connections.now in
+    let ns = c.read_frame.new.connections in
+    record { kept = alike_writes c.args.pool.now c.args.instance.now os os ns ns refl refl c.read_frame.auto.connections c.requires.kept c.read_frame.ensures.holds }
 
 pub returns-in_ok-give_due-clause-reads : goal.returns-in_ok-give_due-clause-reads
 returns-in_ok-give_due-clause-reads c =
     let n = c.args.number in
+    let p = c.args.pool.now in
+    let q = c.give_due.new.pool in
     let os = c.args.connections.now in
     let ns = c.read_frame.new.connections in
     let read = subst (λ (b : Bool). Changed n os ns (ReadsFrame b)) c.if-branch.true c.in_ok-read_frame.ensures.read in
     let there : kept_at n os ≡ None → ⊥ = λ none. let e = c.in_ok-read_frame.ensures.none none in cc in
-    read_leads n (state_in c.args.pool.now c.args.instance.now) (state_in c.give_due.new.pool c.give_due.new.instance) os ns c.give_due.new.connections read there c.in_ok-give_due.ensures.due
+    read_leads (text_at p) (text_at q) n (state_in p c.args.instance.now) (state_in q c.give_due.new.instance) os ns c.give_due.new.connections read there c.in_ok-give_due.ensures.due
 
 pub returns-in_ok-give_due-clause-fewer : goal.returns-in_ok-give_due-clause-fewer
 returns-in_ok-give_due-clause-fewer c = λ more.
@@ -23,12 +37,46 @@ returns-in_ok-give_due-clause-fewer c = λ more.
     let there : kept_at n os ≡ None → ⊥ = λ none. let e = c.in_ok-read_frame.ensures.none none in cc in
     read_fewer n os ns c.give_due.new.connections read there c.in_ok-give_due.ensures.unread
 
+pub returns-in_ok-give_due-clause-moves : goal.returns-in_ok-give_due-clause-moves
+returns-in_ok-give_due-clause-moves c =
+    let p = c.args.pool.now in
+    let os = c.args.connections.now in
+    let ns = c.read_frame.new.connections in
+    moves_trans p p c.give_due.new.pool (holders_of (slots_of c.args.instance.now os)) (holders_of (slots_of c.args.instance.now ns)) (holders_of (slots_of c.give_due.new.instance c.give_due.new.connections))
+    (alike_moves p c.args.instance.now (map served os) (map served ns) c.read_frame.ensures.holds) c.give_due.ensures.moves
+
+pub returns-in_err-give_due-clause-moves : goal.returns-in_err-give_due-clause-moves
+returns-in_err-give_due-clause-moves c =
+    let p = c.args.pool.now in
+    let os = c.args.connections.now in
+    let ns = c.read_frame.new.connections in
+    moves_trans p p c.give_due.new.pool (holders_of (slots_of c.args.instance.now os)) (holders_of (slots_of c.args.instance.now ns)) (holders_of (slots_of c.give_due.new.instance c.give_due.new.connections))
+    (alike_moves p c.args.instance.now (map served os) (map served ns) c.read_frame.ensures.holds) c.give_due.ensures.moves
+
+pub returns-in_err-read_frame-clause-moves : goal.returns-in_err-read_frame-clause-moves
+returns-in_err-read_frame-clause-moves c = alike_moves c.args.pool.now c.args.instance.now (map served c.args.connections.now) (map served c.read_frame.new.connections) c.read_frame.ensures.holds
+
+pub returns-in_err-read_frame-clause-kept : goal.returns-in_err-read_frame-clause-kept
+returns-in_err-read_frame-clause-kept c =
+    let os = c.args.connections.now in
+    let ns = c.read_frame.new.connections in
+    alike_writes c.args.pool.now c.args.instance.now os os ns ns refl refl c.read_frame.auto.connections c.requires.kept c.read_frame.ensures.holds
+
 pub returns-else-branch-clause-reads : goal.returns-else-branch-clause-reads
 returns-else-branch-clause-reads c =
     let read = subst (λ (b : Bool). Changed c.args.number c.args.connections.now c.read_frame.new.connections (ReadsFrame b)) c.if-branch.false c.in_ok-read_frame.ensures.read in
-    done_leads c.args.number (state_in c.args.pool.now c.args.instance.now) c.args.connections.now c.read_frame.new.connections read
+    done_leads c.args.number (state_in c.args.pool.now c.args.instance.now) c.args.connections.now c.read_frame.new.connections read (text_at c.args.pool.now)
 
 pub returns-else-branch-clause-ends : goal.returns-else-branch-clause-ends
 returns-else-branch-clause-ends c = λ last.
     let read = subst (λ (b : Bool). Changed c.args.number c.args.connections.now c.read_frame.new.connections (ReadsFrame b)) c.if-branch.false c.in_ok-read_frame.ensures.read in
-    read_done c.args.number (state_in c.args.pool.now c.args.instance.now) c.args.connections.now c.read_frame.new.connections read
+    read_done c.args.number (state_in c.args.pool.now c.args.instance.now) c.args.connections.now c.read_frame.new.connections read (text_at c.args.pool.now)
+
+pub returns-else-branch-clause-moves : goal.returns-else-branch-clause-moves
+returns-else-branch-clause-moves c = alike_moves c.args.pool.now c.args.instance.now (map served c.args.connections.now) (map served c.read_frame.new.connections) c.read_frame.ensures.holds
+
+pub returns-else-branch-clause-kept : goal.returns-else-branch-clause-kept
+returns-else-branch-clause-kept c =
+    let os = c.args.connections.now in
+    let ns = c.read_frame.new.connections in
+    alike_writes c.args.pool.now c.args.instance.now os os ns ns refl refl c.read_frame.auto.connections c.requires.kept c.read_frame.ensures.holds

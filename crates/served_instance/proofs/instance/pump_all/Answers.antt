@@ -1,17 +1,18 @@
-use Rattle.std.proofs.Common.{◌<◌, length, arith, add-one, get_or, refl}
-use Rattle.served_instance.specs.declared.open_connection.OpenConnection.{OpenConnection}
-use Rattle.served_instance.proofs.Serves.{Pumps, pumped_more, pump_serves}
+use Rattle.std.proofs.Common.{arith, map}
+use Rattle.blob_pool.specs.Held.{text_at}
+use Rattle.conn_core.specs.Past.{with_pumped}
+use Rattle.served_instance.specs.Connections.{open_ones, at_all_open}
+use Rattle.served_instance.specs.Shown.{served}
+use Rattle.served_instance.proofs.Releasing.{alike_releases}
 use Rattle.served_instance.proofs.instance.pump_all.Goals as goal
 
-pub loop-kept-preserved : goal.loop-kept-preserved
-loop-kept-preserved c =
-    let i = c.loop-kept.kept-index in
-    let ns = c.loop-kept.connections in
-    let x = get_or ns i c.kept-item.result in
-    let lt : i < length ns = omega arith in
-    let w : OpenConnection = record { number = x.number; connection = c.pump.new.self } in
-    let h : Pumps x w = (refl, c.pump.ensures.stands) in
-    rw add-one (pumped_more i c.args.connections.now ns c.kept-item.result w lt h c.loop-kept.invariant)
+pub release_all-requires : goal.release_all-requires
+release_all-requires c = λ k. omega (arith, c.pump_each.ensures.holds.sources k, c.requires.counted k)
 
 pub returns-clause-stands : goal.returns-clause-stands
-returns-clause-stands c = pump_serves c.loop-kept.kept-index c.args.connections.now c.loop-kept.connections (omega arith) c.loop-kept.invariant
+returns-clause-stands c = λ ks s. c.release_all.ensures.stands (text_at c.args.pool.now) (open_ones (at_all_open with_pumped ks)) (c.pump_each.ensures.stands ks s)
+
+pub returns-clause-releases : goal.returns-clause-releases
+returns-clause-releases c =
+    alike_releases c.args.pool.now c.release_all.new.pool (map served c.args.connections.now) (map served c.pump_each.new.connections) (map served c.release_all.new.connections)
+    c.pump_each.ensures.holds c.release_all.ensures.releases

@@ -1,38 +1,44 @@
-use Rattle.std.proofs.Common.{get_or, sym, subst, refl, List}
-use Rattle.std.proofs.lemmas.List.{take_all}
+use Rattle.std.proofs.Common.{get_or, map, subst, arith, ℕ, ◌≤◌, ◌+◌}
+use Rattle.blob_pool.specs.Held.{count_at}
 use Rattle.instance_core.specs.declared.event.Reply.{Reply}
-use Rattle.instance_core.specs.Answer.{IsShortReply}
-use Rattle.instance_core.specs.Shown.{reply_shown, outcome_shown}
-use Rattle.served_instance.specs.Calls.{items_of, with_items}
+use Rattle.instance_core.specs.Given.{items_holders}
 use Rattle.served_instance.specs.Acts.{Changed, Owes}
-use Rattle.served_instance.proofs.Gives.{AreGiven, short_at, give_more, give_keeps}
+use Rattle.served_instance.specs.Given.{ReplyEndsWithin, TakeRanges, with_owed}
+use Rattle.served_instance.specs.Shown.{served}
+use Rattle.served_instance.proofs.Gives.{give_more, give_keeps, keeps_trans}
+use Rattle.served_instance.proofs.Taking.{replies_left, rest_replies_owed, take_more, take_end, take_released}
 use Rattle.served_instance.proofs.replies.give_all.Goals as goal
 
-pub give-requires : goal.give-requires
-give-requires c = record {
-  short = subst (λ (r : Reply). IsShortReply (reply_shown r)) (sym c.reply-item.is) (short_at c.args.replies.now c.loop-reply.reply-index c.reply-item.result c.loop-reply-test.true c.requires.short);
-}
-
-pub loop-reply-init : goal.loop-reply-init
-loop-reply-init c = record { given = λ l s. s; rest = λ d. refl }
-
-pub loop-reply-preserved : goal.loop-reply-preserved
-loop-reply-preserved c =
-    let rs = c.args.replies.now in
-    let i = c.loop-reply.reply-index in
-    let d = c.reply-item.result in
-    let ns = c.loop-reply.connections in
-    let xs = c.give.new.connections in
-    let r = get_or rs i d in
-    let P : Reply → Type 0 = λ y. Changed y.call.connection ns xs (Owes (with_items y.call.stream (items_of (outcome_shown y.outcome)))) in
-    let e = subst P c.reply-item.is c.in_ok-give.ensures in
+pub replies-preserved : goal.replies-preserved
+replies-preserved c =
+    let rs = c.replies.left.now in
+    let d = c.first-item.result in
+    let p = c.replies.pool in
+    let q = c.give.new.pool in
+    let os = c.replies.connections in
+    let ns = c.give.new.connections in
+    let r = get_or rs 0 d in
+    let given = subst (λ (y : Reply). Changed y.call.connection os ns (Owes (with_owed y.call.stream y.items.items))) c.first-item.is c.in_default-give.ensures.given in
+    let takes = subst (λ (y : Reply). TakeRanges (items_holders y.items.items) (ReplyEndsWithin y) p (map served os) q (map served ns)) c.first-item.is c.give.ensures.takes in
+    let less : (k : ℕ) → count_at p k ≤ count_at q k + items_holders r.items.items k = λ k. omega (arith, takes.moves.counts k, takes.fewer k) in
     record {
-      given = give_more rs i d c.args.connections.now ns xs c.loop-reply-test.true c.loop-reply.invariant.given e;
-      rest = give_keeps r.call.connection (with_items r.call.stream (items_of (outcome_shown r.outcome))) c.args.connections.now ns xs c.loop-reply.invariant.rest e;
+      given = λ xs more. c.replies.invariant.given xs (give_more rs d os ns xs c.in-len1-up.len_at_least given more);
+      rest = keeps_trans c.args.connections.now os ns c.replies.invariant.rest (give_keeps r.call.connection (with_owed r.call.stream r.items.items) os ns given);
+      takes = λ x ws more. c.replies.invariant.takes x ws (take_more rs d p q x (map served os) (map served ns) ws c.in-len1-up.len_at_least takes more);
+      counted = replies_left p q rs d c.in-len1-up.len_at_least c.replies.invariant.counted less;
+      owed = rest_replies_owed rs c.replies.invariant.owed;
     }
 
-pub returns : goal.returns
-returns c = record {
-  given = subst (λ (rs : List Reply). AreGiven rs c.args.connections.now c.loop-reply.connections) (take_all c.loop-reply.reply-index c.args.replies.now c.loop-reply-test.false) c.loop-reply.invariant.given;
-  rest = c.loop-reply.invariant.rest;
-}
+pub returns-in-Err-clause-takes : goal.returns-in-Err-clause-takes
+returns-in-Err-clause-takes c =
+    let rs = c.replies.left.now in
+    let p = c.replies.pool in
+    let q = c.give.new.pool in
+    let r = c.release_replies.new.pool in
+    let os = c.replies.connections in
+    let ns = c.give.new.connections in
+    let takes = subst (λ (y : Reply). TakeRanges (items_holders y.items.items) (ReplyEndsWithin y) p (map served os) q (map served ns)) c.first-item.is c.give.ensures.takes in
+    c.replies.invariant.takes r (map served ns) (take_more rs c.first-item.result p q r (map served os) (map served ns) (map served ns) c.in-len1-up.len_at_least takes (take_released _ _ q r (map served ns) c.release_replies.ensures))
+
+pub returns-clause-takes : goal.returns-clause-takes
+returns-clause-takes c = c.replies.invariant.takes c.replies.pool (map served c.replies.connections) (take_end c.replies.left.now c.replies.pool (map served c.replies.connections) c.in_default.len_below)

@@ -1,5 +1,12 @@
 use Rattle.conn_core.proofs.Pumps.{pumped_by}
+use Rattle.conn_core.proofs.Looks.{fit_by, fit_same}
 use Rattle.conn_core.proofs.connection.Connection.pump.Goals as goal
 
 pub returns-clause-stands : goal.returns-clause-stands
-returns-clause-stands c = pumped_by (record { reader = c.self.inside.reader; streams = c.self.inside.streams; sending = c.self.inside.sender; calls = c.self.inside.calls.items; due = c.self.inside.due.items; ended = c.self.inside.ended }) c.args.self.now c.pump.new.streams c.pump.new.self c.self.view_is c.pump.ensures.streams c.pump.ensures.sending
+returns-clause-stands g c = pumped_by (g.P.Parts.text_of c.args.parts.now) (record { reader = c.self.inside.reader; streams = c.self.inside.streams; sending = c.self.inside.sender; calls = c.self.inside.calls.items; due = c.self.inside.due.items; ended = c.self.inside.ended }) c.args.self.now c.pump.new.streams c.pump.new.self c.self.view_is c.pump.ensures.streams c.pump.ensures.sending
+
+pub pump-requires : goal.pump-requires
+pump-requires g c = record { fit = fit_same (record { reader = c.self.inside.reader; streams = c.self.inside.streams; sending = c.self.inside.sender; calls = c.self.inside.calls.items; due = c.self.inside.due.items; ended = c.self.inside.ended }) c.args.self.now c.self.view_is (g.P.Parts.text_of c.args.parts.now) c.requires.fit }
+
+pub returns-clause-fit : goal.returns-clause-fit
+returns-clause-fit g c = fit_by (record { reader = c.self.inside.reader; streams = c.self.inside.streams; sending = c.self.inside.sender; calls = c.self.inside.calls.items; due = c.self.inside.due.items; ended = c.self.inside.ended }) c.args.self.now c.pump.new.self.queues c.self.view_is c.pump.ensures.fit

@@ -12,3 +12,12 @@ returns-then-not-put_one-3-clause-puts c = stops_third c.args.answer.now c.args.
 
 pub returns-clause-puts : goal.returns-clause-puts
 returns-clause-puts c = comes_to_end c.args.answer.now c.args.self.now c.put_one.new.self c.put_one-2.new.self c.put_one-3.new.self c.put_one-4.new.self c.put_one.result c.put_one-2.result c.put_one-3.result c.put_one-4.result c.if-not-put_one.false c.if-not-put_one-2.false c.if-not-put_one-3.false c.put_one.ensures.puts c.put_one-2.ensures.puts c.put_one-3.ensures.puts c.put_one-4.ensures.puts
+
+pub returns-then-not-put_one-2-clause-fit : goal.returns-then-not-put_one-2-clause-fit
+returns-then-not-put_one-2-clause-fit c = λ texts h. c.put_one-2.ensures.fit texts (c.put_one.ensures.fit texts h)
+
+pub returns-then-not-put_one-3-clause-fit : goal.returns-then-not-put_one-3-clause-fit
+returns-then-not-put_one-3-clause-fit c = λ texts h. c.put_one-3.ensures.fit texts (c.put_one-2.ensures.fit texts (c.put_one.ensures.fit texts h))
+
+pub returns-clause-fit : goal.returns-clause-fit
+returns-clause-fit c = λ texts h. c.put_one-4.ensures.fit texts (c.put_one-3.ensures.fit texts (c.put_one-2.ensures.fit texts (c.put_one.ensures.fit texts h)))

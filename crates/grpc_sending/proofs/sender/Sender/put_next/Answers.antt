@@ -1,95 +1,143 @@
-use Rattle.std.proofs.Common.{ap, sym, subst, ◌∙◌, ◌≡◌, ◌<◌, arith, length, List}
+use Rattle.std.proofs.Common.{ap, sym, subst, ◌∙◌, ◌≡◌, ◌<◌, ◌≤◌, ◌++◌, arith, length, take, List}
 use Rattle.std.specs.Prelude.{Some, None, false}
 use Rattle.std.proofs.lemmas.Bool.{true≢false}
 use Rattle.http2_flow.specs.Credit.{left}
+use Rattle.http2_frames.specs.declared.frame.Frame.TheVariants.{Data}
+use Rattle.http2_frames.specs.Writing.{text_of}
 use Rattle.http2_streams.specs.Sending.{CanSend}
-use Rattle.grpc_sending.specs.declared.queue.Queue.{Queue}
-use Rattle.grpc_sending.specs.declared.turn.Turn.TheVariants.{Head, Content}
-use Rattle.grpc_sending.specs.StandsFor.{Sending}
-use Rattle.grpc_sending.specs.Step.{next_turn, Rests}
-use Rattle.grpc_sending.proofs.Rounds.{head_lives, sends, rests_lacking, rests_none, HasPut, puts_block_by, puts_last_by, puts_part_by}
+use Rattle.grpc_sending.specs.declared.queue.StoredQueue.{StoredQueue}
+use Rattle.grpc_sending.specs.declared.turn.Due.TheVariants.{Opens, Gives}
+use Rattle.grpc_sending.specs.Kept.{Kept, Fit, sending_in, stored_on, front_bytes, next_due}
+use Rattle.grpc_sending.proofs.Stored.{fit_removed, fit_taken}
+use Rattle.grpc_sending.proofs.Dues.{given, puts_given, rests_given, rests_undue, opens_lives, HasOpened, opens_block, opens_last}
+use Rattle.grpc_sending.proofs.Keeping.{keeps_by}
 use Rattle.grpc_sending.proofs.sender.Sender.put_next.Goals as goal
 
 pub on_headers_put-requires : goal.on_headers_put-requires
-on_headers_put-requires c =
-    let turn : next_turn c.self.inside.queues.items (left c.args.streams.now.connection_window) c.args.streams.now.live ≡ Some (Head c.in-Some-Head.stream c.in-Some-Head.block c.in-Some-Head.ended_by_client) =
-    sym (c.next_turn.ensures ∙ ap (λ (qs : List Queue). next_turn qs (left c.args.streams.now.connection_window) c.args.streams.now.live) c.deref.ensures.value) ∙ c.in-Some-Head.is ∙ ap Some c.in-Some-Head.field-0-is in
-    head_lives c.self.inside.queues.items (left c.args.streams.now.connection_window) c.args.streams.now.live c.in-Some-Head.stream c.in-Some-Head.block c.in-Some-Head.ended_by_client turn
+on_headers_put-requires g c =
+    let fit : Fit (g.P.Parts.text_of c.args.parts.now) c.self.inside.backlog.queues = subst (λ (x : Kept). Fit (g.P.Parts.text_of c.args.parts.now) x.queues) (sym c.self.view_is) c.requires.fit in
+    let turn : next_due c.self.inside.backlog.queues (left c.args.streams.now.connection_window) c.args.streams.now.live ≡ Some (Opens c.in-Some-Opens.stream c.in-Some-Opens.block c.in-Some-Opens.ended_by_client) =
+    sym (c.next_due.ensures ∙ ap (λ (qs : List StoredQueue). next_due qs (left c.args.streams.now.connection_window) c.args.streams.now.live) c.queues.ensures) ∙ c.in-Some-Opens.is ∙ ap Some c.in-Some-Opens.field-0-is in
+    opens_lives (g.P.Parts.text_of c.args.parts.now) c.self.inside.backlog.queues (left c.args.streams.now.connection_window) c.args.streams.now.live c.in-Some-Opens.stream c.in-Some-Opens.block c.in-Some-Opens.ended_by_client fit turn
 
 pub overflow_cast-count : goal.overflow_cast-count
-overflow_cast-count c =
-    let turn : next_turn c.self.inside.queues.items (left c.args.streams.now.connection_window) c.args.streams.now.live ≡ Some (Content c.in-Some-Content.stream c.in-Some-Content.part) =
-    sym (c.next_turn.ensures ∙ ap (λ (qs : List Queue). next_turn qs (left c.args.streams.now.connection_window) c.args.streams.now.live) c.deref.ensures.value) ∙ c.in-Some-Content.is ∙ ap Some c.in-Some-Content.field-0-is in
-    let s = sends c.self.inside.queues.items (left c.args.streams.now.connection_window) c.args.streams.now.live c.in-Some-Content.stream c.in-Some-Content.part turn in
-    omega (arith, s.short, c.len-count.ensures)
+overflow_cast-count g c =
+    let fit : Fit (g.P.Parts.text_of c.args.parts.now) c.self.inside.backlog.queues = subst (λ (x : Kept). Fit (g.P.Parts.text_of c.args.parts.now) x.queues) (sym c.self.view_is) c.requires.fit in
+    let turn : next_due c.self.inside.backlog.queues (left c.args.streams.now.connection_window) c.args.streams.now.live ≡ Some (Gives c.in-Some-Gives.stream c.in-Some-Gives.count) =
+    sym (c.next_due.ensures ∙ ap (λ (qs : List StoredQueue). next_due qs (left c.args.streams.now.connection_window) c.args.streams.now.live) c.queues.ensures) ∙ c.in-Some-Gives.is ∙ ap Some c.in-Some-Gives.field-0-is in
+    omega (arith, (given (g.P.Parts.text_of c.args.parts.now) c.self.inside.backlog.queues (left c.args.streams.now.connection_window) c.args.streams.now.live c.in-Some-Gives.stream c.in-Some-Gives.count fit turn).short)
 
-pub overflow_cast-count-in-Some-Content : goal.overflow_cast-count-in-Some-Content
-overflow_cast-count-in-Some-Content c =
-    let turn : next_turn c.self.inside.queues.items (left c.args.streams.now.connection_window) c.args.streams.now.live ≡ Some (Content c.in-Some-Content.stream c.in-Some-Content.part) =
-    sym (c.next_turn.ensures ∙ ap (λ (qs : List Queue). next_turn qs (left c.args.streams.now.connection_window) c.args.streams.now.live) c.deref.ensures.value) ∙ c.in-Some-Content.is ∙ ap Some c.in-Some-Content.field-0-is in
-    let s = sends c.self.inside.queues.items (left c.args.streams.now.connection_window) c.args.streams.now.live c.in-Some-Content.stream c.in-Some-Content.part turn in
-    omega (arith, s.short, c.len-count.ensures)
+pub overflow_cast-count-in-Some-Gives : goal.overflow_cast-count-in-Some-Gives
+overflow_cast-count-in-Some-Gives g c =
+    let fit : Fit (g.P.Parts.text_of c.args.parts.now) c.self.inside.backlog.queues = subst (λ (x : Kept). Fit (g.P.Parts.text_of c.args.parts.now) x.queues) (sym c.self.view_is) c.requires.fit in
+    let turn : next_due c.self.inside.backlog.queues (left c.args.streams.now.connection_window) c.args.streams.now.live ≡ Some (Gives c.in-Some-Gives.stream c.in-Some-Gives.count) =
+    sym (c.next_due.ensures ∙ ap (λ (qs : List StoredQueue). next_due qs (left c.args.streams.now.connection_window) c.args.streams.now.live) c.queues.ensures) ∙ c.in-Some-Gives.is ∙ ap Some c.in-Some-Gives.field-0-is in
+    omega (arith, (given (g.P.Parts.text_of c.args.parts.now) c.self.inside.backlog.queues (left c.args.streams.now.connection_window) c.args.streams.now.live c.in-Some-Gives.stream c.in-Some-Gives.count fit turn).short)
 
-pub put-requires-clause-short : goal.put-requires-clause-short
-put-requires-clause-short c =
-    let turn : next_turn c.self.inside.queues.items (left c.args.streams.now.connection_window) c.args.streams.now.live ≡ Some (Content c.in-Some-Content.stream c.in-Some-Content.part) =
-    sym (c.next_turn.ensures ∙ ap (λ (qs : List Queue). next_turn qs (left c.args.streams.now.connection_window) c.args.streams.now.live) c.deref.ensures.value) ∙ c.in-Some-Content.is ∙ ap Some c.in-Some-Content.field-0-is in
-    (sends c.self.inside.queues.items (left c.args.streams.now.connection_window) c.args.streams.now.live c.in-Some-Content.stream c.in-Some-Content.part turn).short
+pub put_content-requires-clause-some : goal.put_content-requires-clause-some
+put_content-requires-clause-some g c =
+    let fit : Fit (g.P.Parts.text_of c.args.parts.now) c.self.inside.backlog.queues = subst (λ (x : Kept). Fit (g.P.Parts.text_of c.args.parts.now) x.queues) (sym c.self.view_is) c.requires.fit in
+    let turn : next_due c.self.inside.backlog.queues (left c.args.streams.now.connection_window) c.args.streams.now.live ≡ Some (Gives c.in-Some-Gives.stream c.in-Some-Gives.count) =
+    sym (c.next_due.ensures ∙ ap (λ (qs : List StoredQueue). next_due qs (left c.args.streams.now.connection_window) c.args.streams.now.live) c.queues.ensures) ∙ c.in-Some-Gives.is ∙ ap Some c.in-Some-Gives.field-0-is in
+    (given (g.P.Parts.text_of c.args.parts.now) c.self.inside.backlog.queues (left c.args.streams.now.connection_window) c.args.streams.now.live c.in-Some-Gives.stream c.in-Some-Gives.count fit turn).some
 
-pub put-requires-clause-room : goal.put-requires-clause-room
-put-requires-clause-room c =
-    let turn : next_turn c.self.inside.queues.items (left c.args.streams.now.connection_window) c.args.streams.now.live ≡ Some (Content c.in-Some-Content.stream c.in-Some-Content.part) =
-    sym (c.next_turn.ensures ∙ ap (λ (qs : List Queue). next_turn qs (left c.args.streams.now.connection_window) c.args.streams.now.live) c.deref.ensures.value) ∙ c.in-Some-Content.is ∙ ap Some c.in-Some-Content.field-0-is in
-    let s = sends c.self.inside.queues.items (left c.args.streams.now.connection_window) c.args.streams.now.live c.in-Some-Content.stream c.in-Some-Content.part turn in
+pub put_content-requires-clause-short : goal.put_content-requires-clause-short
+put_content-requires-clause-short g c =
+    let fit : Fit (g.P.Parts.text_of c.args.parts.now) c.self.inside.backlog.queues = subst (λ (x : Kept). Fit (g.P.Parts.text_of c.args.parts.now) x.queues) (sym c.self.view_is) c.requires.fit in
+    let turn : next_due c.self.inside.backlog.queues (left c.args.streams.now.connection_window) c.args.streams.now.live ≡ Some (Gives c.in-Some-Gives.stream c.in-Some-Gives.count) =
+    sym (c.next_due.ensures ∙ ap (λ (qs : List StoredQueue). next_due qs (left c.args.streams.now.connection_window) c.args.streams.now.live) c.queues.ensures) ∙ c.in-Some-Gives.is ∙ ap Some c.in-Some-Gives.field-0-is in
+    (given (g.P.Parts.text_of c.args.parts.now) c.self.inside.backlog.queues (left c.args.streams.now.connection_window) c.args.streams.now.live c.in-Some-Gives.stream c.in-Some-Gives.count fit turn).short
+
+pub put_content-requires-clause-room : goal.put_content-requires-clause-room
+put_content-requires-clause-room g c =
+    let fit : Fit (g.P.Parts.text_of c.args.parts.now) c.self.inside.backlog.queues = subst (λ (x : Kept). Fit (g.P.Parts.text_of c.args.parts.now) x.queues) (sym c.self.view_is) c.requires.fit in
+    let turn : next_due c.self.inside.backlog.queues (left c.args.streams.now.connection_window) c.args.streams.now.live ≡ Some (Gives c.in-Some-Gives.stream c.in-Some-Gives.count) =
+    sym (c.next_due.ensures ∙ ap (λ (qs : List StoredQueue). next_due qs (left c.args.streams.now.connection_window) c.args.streams.now.live) c.queues.ensures) ∙ c.in-Some-Gives.is ∙ ap Some c.in-Some-Gives.field-0-is in
     let room : length c.self.inside.buffer < 65536 = omega (arith, c.if-len-ge-PUMP_LIMIT.false, c.len.ensures) in
-    omega (arith, s.short, room)
+    omega (arith, (given (g.P.Parts.text_of c.args.parts.now) c.self.inside.backlog.queues (left c.args.streams.now.connection_window) c.args.streams.now.live c.in-Some-Gives.stream c.in-Some-Gives.count fit turn).short, room)
+
+pub put_content-requires-clause-there : goal.put_content-requires-clause-there
+put_content-requires-clause-there g c =
+    let fit : Fit (g.P.Parts.text_of c.args.parts.now) c.self.inside.backlog.queues = subst (λ (x : Kept). Fit (g.P.Parts.text_of c.args.parts.now) x.queues) (sym c.self.view_is) c.requires.fit in
+    let turn : next_due c.self.inside.backlog.queues (left c.args.streams.now.connection_window) c.args.streams.now.live ≡ Some (Gives c.in-Some-Gives.stream c.in-Some-Gives.count) =
+    sym (c.next_due.ensures ∙ ap (λ (qs : List StoredQueue). next_due qs (left c.args.streams.now.connection_window) c.args.streams.now.live) c.queues.ensures) ∙ c.in-Some-Gives.is ∙ ap Some c.in-Some-Gives.field-0-is in
+    subst (λ (qs : List StoredQueue). c.in-Some-Gives.count ≤ length (front_bytes (g.P.Parts.text_of c.args.parts.now) (stored_on c.in-Some-Gives.stream qs))) (sym c.queues-in-Some-Gives.ensures) (given (g.P.Parts.text_of c.args.parts.now) c.self.inside.backlog.queues (left c.args.streams.now.connection_window) c.args.streams.now.live c.in-Some-Gives.stream c.in-Some-Gives.count fit turn).there
 
 pub returns-in-None-clause-rests : goal.returns-in-None-clause-rests
-returns-in-None-clause-rests c = λ no'.
-    let turn : next_turn c.self.inside.queues.items (left c.args.streams.now.connection_window) c.args.streams.now.live ≡ None =
-    sym (c.next_turn.ensures ∙ ap (λ (qs : List Queue). next_turn qs (left c.args.streams.now.connection_window) c.args.streams.now.live) c.deref.ensures.value) ∙ c.in-None.is in
+returns-in-None-clause-rests g c =
+    let fit : Fit (g.P.Parts.text_of c.args.parts.now) c.self.inside.backlog.queues = subst (λ (x : Kept). Fit (g.P.Parts.text_of c.args.parts.now) x.queues) (sym c.self.view_is) c.requires.fit in
+    let turn : next_due c.self.inside.backlog.queues (left c.args.streams.now.connection_window) c.args.streams.now.live ≡ None =
+    sym (c.next_due.ensures ∙ ap (λ (qs : List StoredQueue). next_due qs (left c.args.streams.now.connection_window) c.args.streams.now.live) c.queues.ensures) ∙ c.in-None.is in
     let alive : c.args.streams.now.failed ≡ false = sym c.has_failed.ensures ∙ c.if-has_failed.false in
     let room : length c.self.inside.buffer < 65536 = omega (arith, c.if-len-ge-PUMP_LIMIT.false, c.len.ensures) in
-    subst (λ (x : Sending). Rests c.args.streams.now x) c.self.view_is (rests_none c.args.streams.now (record { pending = c.self.inside.buffer; position = c.self.inside.position; queues = c.self.inside.queues.items }) alive room turn)
+    λ no'. rests_undue (g.P.Parts.text_of c.args.parts.now) c.args.streams.now (record { pending = c.self.inside.buffer; position = c.self.inside.position; queues = c.self.inside.backlog.queues; spent = c.self.inside.backlog.spent }) c.args.self.now c.self.view_is alive room fit turn
 
 pub returns-then-not-can_send-clause-rests : goal.returns-then-not-can_send-clause-rests
-returns-then-not-can_send-clause-rests c = λ no'.
-    let turn : next_turn c.self.inside.queues.items (left c.args.streams.now.connection_window) c.args.streams.now.live ≡ Some (Content c.in-Some-Content.stream c.in-Some-Content.part) =
-    sym (c.next_turn.ensures ∙ ap (λ (qs : List Queue). next_turn qs (left c.args.streams.now.connection_window) c.args.streams.now.live) c.deref.ensures.value) ∙ c.in-Some-Content.is ∙ ap Some c.in-Some-Content.field-0-is in
+returns-then-not-can_send-clause-rests g c =
+    let fit : Fit (g.P.Parts.text_of c.args.parts.now) c.self.inside.backlog.queues = subst (λ (x : Kept). Fit (g.P.Parts.text_of c.args.parts.now) x.queues) (sym c.self.view_is) c.requires.fit in
+    let turn : next_due c.self.inside.backlog.queues (left c.args.streams.now.connection_window) c.args.streams.now.live ≡ Some (Gives c.in-Some-Gives.stream c.in-Some-Gives.count) =
+    sym (c.next_due.ensures ∙ ap (λ (qs : List StoredQueue). next_due qs (left c.args.streams.now.connection_window) c.args.streams.now.live) c.queues.ensures) ∙ c.in-Some-Gives.is ∙ ap Some c.in-Some-Gives.field-0-is in
     let alive : c.args.streams.now.failed ≡ false = sym c.has_failed.ensures ∙ c.if-has_failed.false in
-    let lacking : CanSend c.args.streams.now c.in-Some-Content.stream (length c.in-Some-Content.part) → ⊥ =
-    λ can. true≢false (sym (c.can_send.ensures.1 (subst (λ n. CanSend c.args.streams.now c.in-Some-Content.stream n) (sym c.len-count.ensures) can)) ∙ c.if-not-can_send.true) in
-    subst (λ (x : Sending). Rests c.args.streams.now x) c.self.view_is (rests_lacking c.args.streams.now (record { pending = c.self.inside.buffer; position = c.self.inside.position; queues = c.self.inside.queues.items }) c.in-Some-Content.stream c.in-Some-Content.part alive turn lacking)
+    let lacking : CanSend c.args.streams.now c.in-Some-Gives.stream c.in-Some-Gives.count → ⊥ = λ can. true≢false (sym (c.can_send.ensures.1 can) ∙ c.if-not-can_send.true) in
+    λ no'. rests_given (g.P.Parts.text_of c.args.parts.now) c.args.streams.now (record { pending = c.self.inside.buffer; position = c.self.inside.position; queues = c.self.inside.backlog.queues; spent = c.self.inside.backlog.spent }) c.args.self.now c.in-Some-Gives.stream c.in-Some-Gives.count c.self.view_is alive fit turn lacking
 
 pub returns-then-is_last-clause-puts : goal.returns-then-is_last-clause-puts
-returns-then-is_last-clause-puts c = λ yes'.
-    let turn : next_turn c.self.inside.queues.items (left c.args.streams.now.connection_window) c.args.streams.now.live ≡ Some (Head c.in-Some-Head.stream c.in-Some-Head.block c.in-Some-Head.ended_by_client) =
-    sym (c.next_turn.ensures ∙ ap (λ (qs : List Queue). next_turn qs (left c.args.streams.now.connection_window) c.args.streams.now.live) c.deref.ensures.value) ∙ c.in-Some-Head.is ∙ ap Some c.in-Some-Head.field-0-is in
+returns-then-is_last-clause-puts g c =
+    let fit : Fit (g.P.Parts.text_of c.args.parts.now) c.self.inside.backlog.queues = subst (λ (x : Kept). Fit (g.P.Parts.text_of c.args.parts.now) x.queues) (sym c.self.view_is) c.requires.fit in
+    let turn : next_due c.self.inside.backlog.queues (left c.args.streams.now.connection_window) c.args.streams.now.live ≡ Some (Opens c.in-Some-Opens.stream c.in-Some-Opens.block c.in-Some-Opens.ended_by_client) =
+    sym (c.next_due.ensures ∙ ap (λ (qs : List StoredQueue). next_due qs (left c.args.streams.now.connection_window) c.args.streams.now.live) c.queues.ensures) ∙ c.in-Some-Opens.is ∙ ap Some c.in-Some-Opens.field-0-is in
     let alive : c.args.streams.now.failed ≡ false = sym c.has_failed.ensures ∙ c.if-has_failed.false in
     let room : length c.self.inside.buffer < 65536 = omega (arith, c.if-len-ge-PUMP_LIMIT.false, c.len.ensures) in
-    let h : HasPut (record { pending = c.self.inside.buffer; position = c.self.inside.position; queues = c.self.inside.queues.items }) c.in-Some-Head.stream c.in-Some-Head.block c.is_last-is_last.result c.as_slice.result.now c.put_block.new.self c.remove_first.new.queues.items = record { ends = c.is_last-is_last.ensures; encoded = c.as_slice.ensures.text; put = c.put_block.ensures.bytes; queues = c.remove_first.ensures } in
-    puts_last_by c.args.streams.now c.on_headers_put.new.self c.finish.new.streams (record { pending = c.self.inside.buffer; position = c.self.inside.position; queues = c.self.inside.queues.items }) c.args.self.now c.finish.new.self c.in-Some-Head.stream c.in-Some-Head.block c.in-Some-Head.ended_by_client c.is_last-is_last.result c.as_slice.result.now c.put_block.new.self c.remove_first.new.queues.items c.self.view_is alive room turn c.if-is_last.true c.on_headers_put.ensures.stands c.on_headers_put.ensures.highest h c.finish.ensures.finishes
+    let h : HasOpened (record { pending = c.self.inside.buffer; position = c.self.inside.position; queues = c.self.inside.backlog.queues; spent = c.self.inside.backlog.spent }) c.in-Some-Opens.stream c.in-Some-Opens.block c.is_last-is_last.result c.as_slice.result.now c.put_block.new.self c.remove_first.new.self.queues = record { ends = c.is_last-is_last.ensures; encoded = c.as_slice.ensures.text; put = c.put_block.ensures.bytes; queues = c.remove_first.ensures.queues } in
+    λ yes'. opens_last (g.P.Parts.text_of c.args.parts.now) c.args.streams.now c.on_headers_put.new.self c.finish.new.streams (record { pending = c.self.inside.buffer; position = c.self.inside.position; queues = c.self.inside.backlog.queues; spent = c.self.inside.backlog.spent }) c.args.self.now (sending_in (g.P.Parts.text_of c.args.parts.now) c.finish.new.self) c.in-Some-Opens.stream c.in-Some-Opens.block c.in-Some-Opens.ended_by_client c.is_last-is_last.result c.as_slice.result.now c.put_block.new.self c.remove_first.new.self.queues c.self.view_is alive room fit turn c.if-is_last.true c.on_headers_put.ensures.stands c.on_headers_put.ensures.highest h (c.finish.ensures.finishes (g.P.Parts.text_of c.args.parts.now))
 
 pub returns-else-is_last-clause-puts : goal.returns-else-is_last-clause-puts
-returns-else-is_last-clause-puts c = λ yes'.
-    let turn : next_turn c.self.inside.queues.items (left c.args.streams.now.connection_window) c.args.streams.now.live ≡ Some (Head c.in-Some-Head.stream c.in-Some-Head.block c.in-Some-Head.ended_by_client) =
-    sym (c.next_turn.ensures ∙ ap (λ (qs : List Queue). next_turn qs (left c.args.streams.now.connection_window) c.args.streams.now.live) c.deref.ensures.value) ∙ c.in-Some-Head.is ∙ ap Some c.in-Some-Head.field-0-is in
+returns-else-is_last-clause-puts g c =
+    let fit : Fit (g.P.Parts.text_of c.args.parts.now) c.self.inside.backlog.queues = subst (λ (x : Kept). Fit (g.P.Parts.text_of c.args.parts.now) x.queues) (sym c.self.view_is) c.requires.fit in
+    let turn : next_due c.self.inside.backlog.queues (left c.args.streams.now.connection_window) c.args.streams.now.live ≡ Some (Opens c.in-Some-Opens.stream c.in-Some-Opens.block c.in-Some-Opens.ended_by_client) =
+    sym (c.next_due.ensures ∙ ap (λ (qs : List StoredQueue). next_due qs (left c.args.streams.now.connection_window) c.args.streams.now.live) c.queues.ensures) ∙ c.in-Some-Opens.is ∙ ap Some c.in-Some-Opens.field-0-is in
     let alive : c.args.streams.now.failed ≡ false = sym c.has_failed.ensures ∙ c.if-has_failed.false in
     let room : length c.self.inside.buffer < 65536 = omega (arith, c.if-len-ge-PUMP_LIMIT.false, c.len.ensures) in
-    let h : HasPut (record { pending = c.self.inside.buffer; position = c.self.inside.position; queues = c.self.inside.queues.items }) c.in-Some-Head.stream c.in-Some-Head.block c.is_last-is_last.result c.as_slice.result.now c.put_block.new.self c.remove_first.new.queues.items = record { ends = c.is_last-is_last.ensures; encoded = c.as_slice.ensures.text; put = c.put_block.ensures.bytes; queues = c.remove_first.ensures } in
-    puts_block_by c.args.streams.now c.on_headers_put.new.self (record { pending = c.self.inside.buffer; position = c.self.inside.position; queues = c.self.inside.queues.items }) c.args.self.now c.in-Some-Head.stream c.in-Some-Head.block c.in-Some-Head.ended_by_client c.is_last-is_last.result c.as_slice.result.now c.put_block.new.self c.remove_first.new.queues.items c.self.view_is alive room turn c.if-is_last.false c.on_headers_put.ensures.stands h
+    let h : HasOpened (record { pending = c.self.inside.buffer; position = c.self.inside.position; queues = c.self.inside.backlog.queues; spent = c.self.inside.backlog.spent }) c.in-Some-Opens.stream c.in-Some-Opens.block c.is_last-is_last.result c.as_slice.result.now c.put_block.new.self c.remove_first.new.self.queues = record { ends = c.is_last-is_last.ensures; encoded = c.as_slice.ensures.text; put = c.put_block.ensures.bytes; queues = c.remove_first.ensures.queues } in
+    λ yes'. opens_block (g.P.Parts.text_of c.args.parts.now) c.args.streams.now c.on_headers_put.new.self (record { pending = c.self.inside.buffer; position = c.self.inside.position; queues = c.self.inside.backlog.queues; spent = c.self.inside.backlog.spent }) c.args.self.now c.in-Some-Opens.stream c.in-Some-Opens.block c.in-Some-Opens.ended_by_client c.is_last-is_last.result c.as_slice.result.now c.put_block.new.self c.remove_first.new.self.queues c.self.view_is alive room fit turn c.if-is_last.false c.on_headers_put.ensures.stands h
 
 pub returns-else-not-can_send-clause-puts : goal.returns-else-not-can_send-clause-puts
-returns-else-not-can_send-clause-puts c = λ yes'.
-    let turn : next_turn c.self.inside.queues.items (left c.args.streams.now.connection_window) c.args.streams.now.live ≡ Some (Content c.in-Some-Content.stream c.in-Some-Content.part) =
-    sym (c.next_turn.ensures ∙ ap (λ (qs : List Queue). next_turn qs (left c.args.streams.now.connection_window) c.args.streams.now.live) c.deref.ensures.value) ∙ c.in-Some-Content.is ∙ ap Some c.in-Some-Content.field-0-is in
+returns-else-not-can_send-clause-puts g c =
+    let fit : Fit (g.P.Parts.text_of c.args.parts.now) c.self.inside.backlog.queues = subst (λ (x : Kept). Fit (g.P.Parts.text_of c.args.parts.now) x.queues) (sym c.self.view_is) c.requires.fit in
+    let turn : next_due c.self.inside.backlog.queues (left c.args.streams.now.connection_window) c.args.streams.now.live ≡ Some (Gives c.in-Some-Gives.stream c.in-Some-Gives.count) =
+    sym (c.next_due.ensures ∙ ap (λ (qs : List StoredQueue). next_due qs (left c.args.streams.now.connection_window) c.args.streams.now.live) c.queues.ensures) ∙ c.in-Some-Gives.is ∙ ap Some c.in-Some-Gives.field-0-is in
     let alive : c.args.streams.now.failed ≡ false = sym c.has_failed.ensures ∙ c.if-has_failed.false in
     let room : length c.self.inside.buffer < 65536 = omega (arith, c.if-len-ge-PUMP_LIMIT.false, c.len.ensures) in
-    puts_part_by c.args.streams.now c.on_data_put.new.self (record { pending = c.self.inside.buffer; position = c.self.inside.position; queues = c.self.inside.queues.items }) c.args.self.now c.in-Some-Content.stream c.len-count.result c.in-Some-Content.part c.put.new.self c.take_off.new.queues.items c.self.view_is alive room turn c.len-count.ensures c.on_data_put.ensures.stands c.put.ensures.bytes c.take_off.ensures
+    λ yes'.
+    let bytes = c.put_content.ensures.bytes ∙ ap (λ (qs : List StoredQueue). c.self.inside.buffer ++ text_of (Data c.in-Some-Gives.stream false (take c.in-Some-Gives.count (front_bytes (g.P.Parts.text_of c.args.parts.now) (stored_on c.in-Some-Gives.stream qs))))) c.queues-in-Some-Gives.ensures in
+    puts_given (g.P.Parts.text_of c.args.parts.now) c.args.streams.now c.on_data_put.new.self (record { pending = c.self.inside.buffer; position = c.self.inside.position; queues = c.self.inside.backlog.queues; spent = c.self.inside.backlog.spent }) c.args.self.now c.in-Some-Gives.stream c.in-Some-Gives.count c.put_content.new.buffer c.take_off.new.self.queues c.self.view_is alive room fit turn c.on_data_put.ensures.stands bytes c.take_off.ensures.queues
 
 pub returns-else-not-can_send-clause-room : goal.returns-else-not-can_send-clause-room
-returns-else-not-can_send-clause-room c = λ yes'.
-    let turn : next_turn c.self.inside.queues.items (left c.args.streams.now.connection_window) c.args.streams.now.live ≡ Some (Content c.in-Some-Content.stream c.in-Some-Content.part) =
-    sym (c.next_turn.ensures ∙ ap (λ (qs : List Queue). next_turn qs (left c.args.streams.now.connection_window) c.args.streams.now.live) c.deref.ensures.value) ∙ c.in-Some-Content.is ∙ ap Some c.in-Some-Content.field-0-is in
-    let s = sends c.self.inside.queues.items (left c.args.streams.now.connection_window) c.args.streams.now.live c.in-Some-Content.stream c.in-Some-Content.part turn in
-    omega (arith, c.put.ensures.size, s.short, c.if-len-ge-PUMP_LIMIT.false, c.len.ensures)
+returns-else-not-can_send-clause-room g c =
+    let fit : Fit (g.P.Parts.text_of c.args.parts.now) c.self.inside.backlog.queues = subst (λ (x : Kept). Fit (g.P.Parts.text_of c.args.parts.now) x.queues) (sym c.self.view_is) c.requires.fit in
+    let turn : next_due c.self.inside.backlog.queues (left c.args.streams.now.connection_window) c.args.streams.now.live ≡ Some (Gives c.in-Some-Gives.stream c.in-Some-Gives.count) =
+    sym (c.next_due.ensures ∙ ap (λ (qs : List StoredQueue). next_due qs (left c.args.streams.now.connection_window) c.args.streams.now.live) c.queues.ensures) ∙ c.in-Some-Gives.is ∙ ap Some c.in-Some-Gives.field-0-is in
+    λ yes'. omega (arith, c.put_content.ensures.size, (given (g.P.Parts.text_of c.args.parts.now) c.self.inside.backlog.queues (left c.args.streams.now.connection_window) c.args.streams.now.live c.in-Some-Gives.stream c.in-Some-Gives.count fit turn).short, c.if-len-ge-PUMP_LIMIT.false, c.len.ensures)
+
+pub returns-then-is_last-clause-fit : goal.returns-then-is_last-clause-fit
+returns-then-is_last-clause-fit g c = λ texts h. c.finish.ensures.fit texts (fit_removed texts c.in-Some-Opens.stream c.self.inside.backlog.queues c.remove_first.new.self.queues c.remove_first.ensures.queues (subst (λ (x : Kept). Fit texts x.queues) (sym c.self.view_is) h))
+
+pub returns-else-is_last-clause-fit : goal.returns-else-is_last-clause-fit
+returns-else-is_last-clause-fit g c = λ texts h. fit_removed texts c.in-Some-Opens.stream c.self.inside.backlog.queues c.remove_first.new.self.queues c.remove_first.ensures.queues (subst (λ (x : Kept). Fit texts x.queues) (sym c.self.view_is) h)
+
+pub returns-else-not-can_send-clause-fit : goal.returns-else-not-can_send-clause-fit
+returns-else-not-can_send-clause-fit g c = λ texts h. fit_taken texts c.in-Some-Gives.stream c.in-Some-Gives.count c.self.inside.backlog.queues c.take_off.new.self.queues c.take_off.ensures.queues (subst (λ (x : Kept). Fit texts x.queues) (sym c.self.view_is) h)
+
+pub returns-then-is_last-clause-sources : goal.returns-then-is_last-clause-sources
+returns-then-is_last-clause-sources g c = λ k. c.finish.ensures.sources k ∙ keeps_by (record { pending = c.self.inside.buffer; position = c.self.inside.position; queues = c.self.inside.backlog.queues; spent = c.self.inside.backlog.spent }) c.args.self.now c.remove_first.new.self c.self.view_is c.remove_first.ensures.sources k
+
+pub returns-else-is_last-clause-sources : goal.returns-else-is_last-clause-sources
+returns-else-is_last-clause-sources g c = keeps_by (record { pending = c.self.inside.buffer; position = c.self.inside.position; queues = c.self.inside.backlog.queues; spent = c.self.inside.backlog.spent }) c.args.self.now c.remove_first.new.self c.self.view_is c.remove_first.ensures.sources
+
+pub returns-else-not-can_send-clause-sources : goal.returns-else-not-can_send-clause-sources
+returns-else-not-can_send-clause-sources g c = keeps_by (record { pending = c.self.inside.buffer; position = c.self.inside.position; queues = c.self.inside.backlog.queues; spent = c.self.inside.backlog.spent }) c.args.self.now c.take_off.new.self c.self.view_is c.take_off.ensures.sources
+
+pub put_content-requires-clause-fit : goal.put_content-requires-clause-fit
+put_content-requires-clause-fit g c =
+    let fit : Fit (g.P.Parts.text_of c.args.parts.now) c.self.inside.backlog.queues = subst (λ (x : Kept). Fit (g.P.Parts.text_of c.args.parts.now) x.queues) (sym c.self.view_is) c.requires.fit in
+    subst (λ (qs : List StoredQueue). Fit (g.P.Parts.text_of c.args.parts.now) qs) (sym c.queues-in-Some-Gives.ensures) fit

@@ -1,64 +1,80 @@
-use Rattle.std.proofs.Common.{◌≡◌, sym, ◌∙◌, subst}
+use Rattle.std.proofs.Common.{◌≡◌, refl, sym, ◌∙◌, subst}
 use Rattle.std.specs.Prelude.{map, None}
+use Rattle.blob_pool.specs.Held.{text_at}
 use Rattle.served_instance.specs.Shown.{served}
 use Rattle.server_events.specs.Shown.{event_value}
 use Rattle.served_instance.specs.declared.refusal.EventRefusal.TheVariants.{NoSuchInstance, NoMemory}
 use Rattle.served_instance.specs.Present.{refusal_by}
-use Rattle.served_instance.specs.Lone.{Lone, acted}
+use Rattle.instance_core.specs.Slots.{state_in}
+use Rattle.served_instance.specs.Lone.{came_at, acted}
 use Rattle.served_instance.specs.StandsFor.{StandsFor}
-use Rattle.served_instance.specs.Slots.{ServedSlots, served_in}
-use Rattle.served_instance.proofs.Refuses.{no_reason, refused_outcome, kept_at_refusal, stands_accepted, settled_accepted, same_moment, accepted_what, not_elsewhere, not_for_memory}
+use Rattle.served_instance.specs.Slots.{ServedSlots, served_in, IsKept}
+use Rattle.served_instance.proofs.Refuses.{no_reason, refused_outcome, kept_at_refusal, stands_accepted, settled_accepted, came_stands, accepted_what, not_elsewhere, not_for_memory}
 use Rattle.served_instance.proofs.Serves.{pump_settles}
-use Rattle.served_instance.proofs.Kept.{slots_at, instance_kept}
+use Rattle.served_instance.proofs.Kept.{slots_at, instance_kept, moment_keeps}
+use Rattle.served_instance.proofs.Stands.{stands_by, stands_for}
 use Rattle.served_instance.proofs.instance.ServedInstance.step.Goals as goal
 
 pub returns-in-Some-clause-outcome : goal.returns-in-Some-clause-outcome
-returns-in-Some-clause-outcome c = λ l s. refused_outcome (Unit {0}) (event_value c.args.event.now) (served_in c.args.pool.now c.args.self.now) l c.in-Some.refusal (c.in-Some.ensures c.args.pool.now) s
+returns-in-Some-clause-outcome c = λ l s. refused_outcome c.args.pool.now (Unit {0}) (event_value c.args.event.now) c.args.self.now l c.in-Some.refusal c.in-Some.ensures s
 
 pub returns-in-Some-clause-stands : goal.returns-in-Some-clause-stands
-returns-in-Some-clause-stands c = λ l s n. kept_at_refusal (event_value c.args.event.now) (served_in c.args.pool.now c.args.self.now) l c.in-Some.refusal (c.in-Some.ensures c.args.pool.now) s
+returns-in-Some-clause-stands c = λ l s n. kept_at_refusal c.args.pool.now (event_value c.args.event.now) c.args.self.now l c.in-Some.refusal c.in-Some.ensures s
 
 pub returns-in-Err-clause-outcome : goal.returns-in-Err-clause-outcome
-returns-in-Err-clause-outcome c = λ l s. no_reason (event_value c.args.event.now) (served_in c.args.pool.now c.args.self.now) l (sym c.in_default.is ∙ c.refusal.ensures c.args.pool.now) s
+returns-in-Err-clause-outcome c = λ l s. no_reason c.args.pool.now (event_value c.args.event.now) c.args.self.now l (sym c.in_default.is ∙ c.refusal.ensures) s
 
 pub returns-in-Ok-clause-outcome : goal.returns-in-Ok-clause-outcome
-returns-in-Ok-clause-outcome c = λ l s. no_reason (event_value c.args.event.now) (served_in c.args.pool.now c.args.self.now) l (sym c.in_default.is ∙ c.refusal.ensures c.args.pool.now) s
+returns-in-Ok-clause-outcome c = λ l s. no_reason c.args.pool.now (event_value c.args.event.now) c.args.self.now l (sym c.in_default.is ∙ c.refusal.ensures) s
 
 pub returns-in-Ok-clause-stands : goal.returns-in-Ok-clause-stands
 returns-in-Ok-clause-stands c = λ l s n.
     let e = event_value c.args.event.now in
-    let m : Lone = record l { moment = e.moment } in
-    let P : ServedSlots → Type 0 = λ v. StandsFor (record (served_in c.args.pool.now v) { moment = e.moment }) m in
-    let acts = c.in-Ok.ensures.acted e.moment m (subst P (sym c.self.view_is) (same_moment (served_in c.args.pool.now c.args.self.now) l e.moment s)) in
-    stands_accepted e (served_in c.args.pool.now c.args.self.now) (served_in c.act.new.pool c.pump.new.self) l (sym c.in_default.is ∙ c.refusal.ensures c.args.pool.now) s (c.pump.ensures.stands c.act.new.pool (acted e.what m) acts)
+    let p = c.args.pool.now in
+    let i = c.self.inside.instance in
+    let os = c.self.inside.connections.items in
+    let m = came_at e.moment l in
+    let P : ServedSlots → Type 0 = λ v. StandsFor (served_in p v) l in
+    let came = came_stands (text_at p) e.moment (state_in p i) (state_in p c.set_moment.new.self) os l (c.set_moment.ensures.changed p) (stands_by p i os l (subst P (sym c.self.view_is) s)) in
+    let acts = c.in-Ok.ensures.acted m came in
+    let q = c.act.new.pool in
+    let here = stands_for q q c.act.new.instance c.act.new.connections.items (acted e.what m) (λ k some. refl) acts in
+    stands_accepted p e c.args.self.now (served_in c.pump.new.pool c.pump.new.self) l (sym c.in_default.is ∙ c.refusal.ensures) s (c.pump.ensures.stands (acted e.what m) here)
 
 pub returns-in-Ok-clause-settled : goal.returns-in-Ok-clause-settled
 returns-in-Ok-clause-settled c = λ l s.
     let e = event_value c.args.event.now in
-    let m : Lone = record l { moment = e.moment } in
-    let P : ServedSlots → Type 0 = λ v. StandsFor (record (served_in c.args.pool.now v) { moment = e.moment }) m in
-    let acts = c.in-Ok.ensures.acted e.moment m (subst P (sym c.self.view_is) (same_moment (served_in c.args.pool.now c.args.self.now) l e.moment s)) in
-    settled_accepted e (served_in c.args.pool.now c.args.self.now) l (sym c.in_default.is ∙ c.refusal.ensures c.args.pool.now) s (pump_settles (map served c.act.new.connections.items) (acted e.what m).connections acts.connections)
+    let p = c.args.pool.now in
+    let i = c.self.inside.instance in
+    let os = c.self.inside.connections.items in
+    let m = came_at e.moment l in
+    let P : ServedSlots → Type 0 = λ v. StandsFor (served_in p v) l in
+    let came = came_stands (text_at p) e.moment (state_in p i) (state_in p c.set_moment.new.self) os l (c.set_moment.ensures.changed p) (stands_by p i os l (subst P (sym c.self.view_is) s)) in
+    let acts = c.in-Ok.ensures.acted m came in
+    settled_accepted p e c.args.self.now l (sym c.in_default.is ∙ c.refusal.ensures) s (pump_settles (text_at c.act.new.pool) (map served c.act.new.connections.items) (acted e.what m).connections acts.connections)
 
 pub act-requires : goal.act-requires
 act-requires c =
     let e = event_value c.args.event.now in
     let p = c.args.pool.now in
-    let P : ServedSlots → Type 0 = λ v. refusal_by e (served_in p v) ≡ None in
-    let at : ServedSlots = slots_at c.self.inside.instance c.self.inside.moment (map served c.self.inside.connections.items) in
-    let none : refusal_by e (served_in p c.args.self.now) ≡ None = sym (c.refusal.ensures p) ∙ c.in_default.is in
+    let P : ServedSlots → Type 0 = λ v. refusal_by e v ≡ None in
+    let vs = map served c.self.inside.connections.items in
+    let at : ServedSlots = slots_at c.self.inside.instance vs in
+    let none : refusal_by e c.args.self.now ≡ None = sym c.refusal.ensures ∙ c.in_default.is in
+    let Q : ServedSlots → Type 0 = λ v. IsKept p v in
+    let kept : IsKept p at = subst Q (sym c.self.view_is) c.requires.kept in
     record {
-      accepted = accepted_what e (served_in p at) (subst P (sym c.self.view_is) none);
-      kept = instance_kept p c.args.self.now at c.self.view_is c.requires.kept;
-      few = c.self.invariant;
+      accepted = accepted_what e at (subst P (sym c.self.view_is) none);
+      kept = moment_keeps p c.self.inside.instance c.set_moment.new.self vs kept c.set_moment.ensures.holders
+          (c.set_moment.ensures.kept p (instance_kept p at at refl kept));
     }
 
 pub returns-in-Some-clause-here : goal.returns-in-Some-clause-here
 returns-in-Some-clause-here c = λ h.
     let same : c.in-Some.refusal ≡ NoSuchInstance = cc in
-    not_elsewhere (event_value c.args.event.now) (served_in c.args.pool.now c.args.self.now) c.in-Some.refusal (c.in-Some.ensures c.args.pool.now) same
+    not_elsewhere (event_value c.args.event.now) c.args.self.now c.in-Some.refusal c.in-Some.ensures same
 
 pub returns-in-Some-clause-memory_free : goal.returns-in-Some-clause-memory_free
 returns-in-Some-clause-memory_free c = λ free h.
     let same : c.in-Some.refusal ≡ NoMemory = cc in
-    not_for_memory (event_value c.args.event.now) (served_in c.args.pool.now c.args.self.now) c.in-Some.refusal (c.in-Some.ensures c.args.pool.now) same
+    not_for_memory (event_value c.args.event.now) c.args.self.now c.in-Some.refusal c.in-Some.ensures same

@@ -1,0 +1,5 @@
+pub mod Refusals
+pub mod Reading
+pub mod Querying
+pub mod Writing
+pub mod Shown

@@ -1,0 +1,50 @@
+-- What faults of names and uploads are to a call.
+use Rattle.std.specs.Prelude.{Result, Ok, Err}
+use Rattle.call_status.specs.declared.refusal.Refusal.{Refusal}
+use Rattle.call_status.specs.declared.refusal.Refusal.TheVariants.{BadResourceName, UnsupportedCompressor, BadDigest, WrongOffset, DigestDoesNotMatch, TooManyUploads, QuotaExceeded}
+use Rattle.cas_service.specs.declared.error.CallError.{CallError}
+use Rattle.cas_service.specs.declared.error.CallError.TheVariants.{Refused, NoMemory}
+use Rattle.resource_names.specs.declared.name.NameError.{NameError}
+use Rattle.resource_names.specs.declared.name.NameError.TheVariants.{Form, Hash, Size, Compressed}
+use Rattle.uploads.specs.declared.error.UploadError.{UploadError}
+use Rattle.uploads.specs.declared.error.UploadError.TheVariants as Upload
+
+abbrev pub name_refusal : NameError → Refusal
+name_refusal Form = BadResourceName
+name_refusal Hash = BadDigest
+name_refusal Size = BadDigest
+name_refusal Compressed = UnsupportedCompressor
+
+-- a name, or the refusal of a text that is none
+abbrev pub named : {A : Type 0} → Result A NameError → Result A Refusal
+named (Ok name) = Ok name
+named (Err e) = Err (name_refusal e)
+
+abbrev pub upload_error : UploadError → CallError
+upload_error Upload.Offset = Refused WrongOffset
+upload_error Upload.Size = Refused DigestDoesNotMatch
+upload_error Upload.Hash = Refused DigestDoesNotMatch
+upload_error Upload.TooMany = Refused TooManyUploads
+upload_error Upload.OverQuota = Refused QuotaExceeded
+upload_error Upload.NoMemory = NoMemory
+
+-- the same of an answer's meaning, in which no memory is refused
+abbrev pub upload_meaning : Result Unit UploadError → Result Unit Refusal
+upload_meaning (Ok _) = Ok tt
+upload_meaning (Err Upload.Offset) = Err WrongOffset
+upload_meaning (Err Upload.Size) = Err DigestDoesNotMatch
+upload_meaning (Err Upload.Hash) = Err DigestDoesNotMatch
+upload_meaning (Err Upload.TooMany) = Err TooManyUploads
+upload_meaning (Err Upload.OverQuota) = Err QuotaExceeded
+upload_meaning (Err Upload.NoMemory) = Ok tt
+
+-- P, if the call was answered, by a refusal too
+abbrev pub IfAnswered : {A : Type 0} → Result A CallError → Type 0 → Type 0
+IfAnswered (Ok x) P = P
+IfAnswered (Err (Refused refusal)) P = P
+IfAnswered (Err NoMemory) P = Unit {0}
+
+-- P, if memory ran out
+abbrev pub IfNoMemory : {A : Type 0} → Result A CallError → Type 0 → Type 0
+IfNoMemory (Err NoMemory) P = P
+IfNoMemory r P = Unit {0}

@@ -1,0 +1,42 @@
+//! Names of byte streams, with the refusals of those that are none.
+
+ghost use Rattle.std.specs.Prelude.{◌≡◌, ◌<◌, ◌≤◌, ◌^◌, length, IfOk};
+ghost use Rattle.reapi_messages.specs.Results.{Gives};
+ghost use Rattle.resource_names.specs.Names as names;
+ghost use Rattle.resource_names.specs.Shown.{read_name_shown, write_name_shown};
+ghost use Rattle.bytestream.specs.Refusals.{named, name_refusal};
+
+use call_status::Refusal;
+use resource_names::{NameError, ReadName, WriteName, parse_read, parse_write};
+
+fn refusal(error: NameError) -> Refusal
+    ensures { result ≡ name_refusal error }
+{
+    match error {
+        NameError::Form => Refusal::BadResourceName,
+        NameError::Hash | NameError::Size => Refusal::BadDigest,
+        NameError::Compressed => Refusal::UnsupportedCompressor,
+    }
+}
+
+/// What a `Read` names.
+pub(crate) fn read_name(text: &str) -> Result<ReadName<'_>, Refusal>
+    ensures { Gives read_name_shown result (named (names.read_name text.now)) }
+{
+    match parse_read(text) {
+        Ok(name) => Ok(name),
+        Err(error) => Err(refusal(error)),
+    }
+}
+
+/// What a `Write` or a `QueryWriteStatus` names.
+pub(crate) fn write_name(text: &str) -> Result<WriteName<'_>, Refusal>
+    ensures name { Gives write_name_shown result (named (names.write_name text.now)) }
+    ensures most { IfOk result (λ name. name.digest.size < 2 ^ 63) }
+    ensures uuid { IfOk result (λ name. length name.uuid.now ≤ 128) }
+{
+    match parse_write(text) {
+        Ok(name) => Ok(name),
+        Err(error) => Err(refusal(error)),
+    }
+}

@@ -1,0 +1,143 @@
+//! A message's piece of an upload.
+
+ghost use Rattle.std.specs.Prelude.{◌≡◌, ◌≤◌, ◌^◌, true, false, IsSome};
+ghost use Rattle.blob_pool.specs.Moves.{Moves};
+ghost use Rattle.instance_view.specs.Shown.{shown, holders};
+ghost use Rattle.quota_evict.specs.Kept.{AreKept};
+ghost use Rattle.cas_service.specs.Answers.{Answers};
+ghost use Rattle.uploads.specs.Uploads.{WithinLimits, upload_at};
+ghost use Rattle.bytestream.specs.Refusals.{IfAnswered, IfNoMemory, upload_error};
+ghost use Rattle.bytestream.specs.Writing.{state_of, end_answer, part_answer, after_end, after_part, IsOldOrTaken};
+ghost use Rattle.bytestream.specs.Shown.{part_shown};
+
+use blob_pool::Pool;
+use call_status::Refusal;
+use cas_service::CallError;
+use instance_view::View;
+use std::alloc::Global;
+use uploads::{Piece, UploadError, UploadKey, Uploads};
+
+/// A message's piece of an upload, and whether it is the last (bytestream.proto, `finish_write`).
+#[derive(Clone, Copy)]
+pub struct Part<'a> {
+    pub key: &'a UploadKey,
+    pub piece: Piece<'a>,
+    pub is_last: bool,
+}
+
+fn call_error(error: UploadError) -> CallError
+    ensures { result ≡ upload_error error }
+{
+    match error {
+        UploadError::Offset => CallError::Refused(Refusal::WrongOffset),
+        UploadError::Size | UploadError::Hash => CallError::Refused(Refusal::DigestDoesNotMatch),
+        UploadError::TooMany => CallError::Refused(Refusal::TooManyUploads),
+        UploadError::OverQuota => CallError::Refused(Refusal::QuotaExceeded),
+        UploadError::NoMemory => CallError::NoMemory,
+    }
+}
+
+/// Ends an upload whose piece was taken, where that was its last, and says whether it was.
+pub(crate) fn finish_last(
+    alloc: Global,
+    quota: u64,
+    view: &mut View,
+    pool: &mut Pool,
+    uploads: &mut Uploads,
+    part: &Part<'_>,
+) -> Result<bool, CallError>
+    requires quota { quota ≤ 2 ^ 40 }
+    requires kept { AreKept quota pool.old view.old }
+    requires within { WithinLimits quota uploads.old }
+    requires there { IsSome (upload_at (part_shown part.now).key uploads.old) }
+    ensures answer { Answers (λ complete. complete) result
+        (end_answer (part_shown part.now) uploads.old) }
+    ensures visible { IfAnswered result (shown pool.new view.new
+        ≡ (after_end view.old.limit quota (part_shown part.now)
+        (state_of (shown pool.old view.old) uploads.old)).visible) }
+    ensures uploads { IfAnswered result (uploads.new
+        ≡ (after_end view.old.limit quota (part_shown part.now)
+        (state_of (shown pool.old view.old) uploads.old)).uploads) }
+    ensures memory { IfNoMemory result ((view.new ≡ view.old) × (pool.new ≡ pool.old)
+        × (uploads.new ≡ uploads.old)) }
+    ensures within { WithinLimits quota uploads.new }
+    ensures moves { Moves pool.old pool.new (holders view.old) (holders view.new) }
+    ensures kept { AreKept quota pool.new view.new }
+    ensures limit { view.new.limit ≡ view.old.limit }
+{
+    if !part.is_last {
+        return Ok(false);
+    }
+    match uploads.finish(alloc, quota, view, pool, part.key) {
+        Ok(()) => Ok(true),
+        Err(error) => Err(call_error(error)),
+    }
+}
+
+/// Takes the part of a call's first message, and says whether it completes the upload.
+pub(crate) fn take_first(
+    alloc: Global,
+    quota: u64,
+    moment: u64,
+    view: &mut View,
+    pool: &mut Pool,
+    uploads: &mut Uploads,
+    part: &Part<'_>,
+) -> Result<bool, CallError>
+    requires quota { quota ≤ 2 ^ 40 }
+    requires kept { AreKept quota pool.old view.old }
+    requires within { WithinLimits quota uploads.old }
+    ensures answer { Answers (λ complete. complete) result
+        (part_answer true quota moment (part_shown part.now) uploads.old) }
+    ensures visible { IfAnswered result (shown pool.new view.new
+        ≡ (after_part true view.old.limit quota moment (part_shown part.now)
+        (state_of (shown pool.old view.old) uploads.old)).visible) }
+    ensures uploads { IfAnswered result (uploads.new
+        ≡ (after_part true view.old.limit quota moment (part_shown part.now)
+        (state_of (shown pool.old view.old) uploads.old)).uploads) }
+    ensures memory { IfNoMemory result ((view.new ≡ view.old) × (pool.new ≡ pool.old)
+        × IsOldOrTaken true quota moment (part_shown part.now) uploads.old uploads.new) }
+    ensures within { WithinLimits quota uploads.new }
+    ensures moves { Moves pool.old pool.new (holders view.old) (holders view.new) }
+    ensures kept { AreKept quota pool.new view.new }
+    ensures limit { view.new.limit ≡ view.old.limit }
+{
+    match uploads.begin(alloc, quota, moment, part.key, &part.piece) {
+        Ok(()) => finish_last(alloc, quota, view, pool, uploads, part),
+        Err(error) => Err(call_error(error)),
+    }
+}
+
+/// Takes the part of a later message, and says whether it completes the upload.
+pub(crate) fn take_next(
+    alloc: Global,
+    quota: u64,
+    moment: u64,
+    view: &mut View,
+    pool: &mut Pool,
+    uploads: &mut Uploads,
+    part: &Part<'_>,
+) -> Result<bool, CallError>
+    requires quota { quota ≤ 2 ^ 40 }
+    requires kept { AreKept quota pool.old view.old }
+    requires within { WithinLimits quota uploads.old }
+    ensures answer { Answers (λ complete. complete) result
+        (part_answer false quota moment (part_shown part.now) uploads.old) }
+    ensures visible { IfAnswered result (shown pool.new view.new
+        ≡ (after_part false view.old.limit quota moment (part_shown part.now)
+        (state_of (shown pool.old view.old) uploads.old)).visible) }
+    ensures uploads { IfAnswered result (uploads.new
+        ≡ (after_part false view.old.limit quota moment (part_shown part.now)
+        (state_of (shown pool.old view.old) uploads.old)).uploads) }
+    ensures memory { IfNoMemory result ((view.new ≡ view.old) × (pool.new ≡ pool.old)
+        × IsOldOrTaken false quota moment (part_shown part.now) uploads.old uploads.new) }
+    ensures within { WithinLimits quota uploads.new }
+    ensures moves { Moves pool.old pool.new (holders view.old) (holders view.new) }
+    ensures kept { AreKept quota pool.new view.new }
+    ensures limit { view.new.limit ≡ view.old.limit }
+{
+    match uploads.append(alloc, quota, moment, part.key, &part.piece) {
+        Ok(()) => finish_last(alloc, quota, view, pool, uploads, part),
+        Err(error) => Err(call_error(error)),
+    }
+}

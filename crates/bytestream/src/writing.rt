@@ -1,0 +1,229 @@
+ghost use Rattle.std.specs.Prelude.{◌≡◌, ◌≤◌, ◌<◌, ◌^◌, length, IfOk, option_map};
+ghost use Rattle.blob_pool.specs.Moves.{Moves};
+ghost use Rattle.instance_view.specs.Shown.{shown, holders};
+ghost use Rattle.quota_evict.specs.Kept.{AreKept};
+ghost use Rattle.cas_service.specs.Answers.{Answers};
+ghost use Rattle.uploads.specs.Uploads.{WithinLimits};
+ghost use Rattle.uploads.specs.Shown.{key_shown};
+ghost use Rattle.bytestream.specs.Refusals.{IfAnswered, IfNoMemory};
+ghost use Rattle.bytestream.specs.Writing as writing;
+ghost use Rattle.bytestream.specs.Writing.{state_of, same_name, write_reply, unfinished_reply, first_answer, next_answer, after_first, after_next, IsFirstOldOrTaken, IsNextOldOrTaken};
+ghost use Rattle.bytestream.specs.Shown.{part_shown, first_part_shown, open_write_shown, written_shown, IfGoes};
+
+use crate::names::write_name;
+use crate::part::{Part, take_first, take_next};
+use blob_pool::Pool;
+use call_status::Refusal;
+use cas_service::{CallError, check_instance};
+use digest::Digest;
+use instance_view::View;
+use reapi_messages::{Message, WriteRequest, WriteResponse};
+use std::alloc::{AllocError, Global};
+use uploads::{Piece, UploadKey, Uploads};
+
+/// A `Write` in course.
+#[derive(Drop)]
+pub struct OpenWrite {
+    /// The resource name that its first message had.
+    pub name: String,
+    /// The upload that it names.
+    pub key: UploadKey,
+}
+
+/// What a message of a `Write` is answered.
+#[derive(Drop)]
+pub enum Written {
+    /// Nothing yet: the call goes on.
+    Goes(OpenWrite),
+    /// The reply's message: the call is complete.
+    Answered(Vec<u8>),
+}
+
+/// The first message of a `Write`.
+#[derive(Clone, Copy)]
+pub struct FirstPart<'a> {
+    pub name: &'a str,
+    pub uuid: &'a str,
+    pub digest: Digest,
+    pub piece: Piece<'a>,
+    pub is_last: bool,
+}
+
+/// What the first message of a call asks for.
+#[tactic(auto, unfolding(crate::specs::Writing::first_asked))]
+fn first_asked<'a>(alloc: Global, own: &str, message: &'a [u8]) -> Result<FirstPart<'a>, CallError>
+    ensures asked { Answers first_part_shown result (writing.first_asked own.now message.now) }
+    ensures most { IfOk result (λ first. first.digest.size < 2 ^ 63) }
+    ensures uuid { IfOk result (λ first. length first.uuid.now ≤ 128) }
+{
+    let request = WriteRequest::decode(alloc, message)?;
+    let name = write_name(request.resource_name)?;
+    check_instance(own, name.instance)?;
+    Ok(FirstPart {
+        name: request.resource_name,
+        uuid: name.uuid,
+        digest: name.digest,
+        piece: Piece {
+            offset: request.write_offset,
+            bytes: request.content,
+        },
+        is_last: request.finish_write,
+    })
+}
+
+/// A later message has the name of the first, or none.
+fn check_same_name(name: &str, again: &str) -> Result<(), Refusal>
+    ensures { result ≡ same_name name.now again.now }
+{
+    if again.is_empty() || again == name {
+        return Ok(());
+    }
+    Err(Refusal::BadResourceName)
+}
+
+/// What a later message of a call asks for.
+#[tactic(auto, unfolding(crate::specs::Writing::next_asked))]
+fn next_asked<'a>(
+    alloc: Global,
+    call: &'a OpenWrite,
+    message: &'a [u8],
+) -> Result<Part<'a>, CallError>
+    ensures asked { Answers part_shown result
+        (writing.next_asked (open_write_shown call.now) message.now) }
+    ensures key { IfOk result (λ part. (part_shown part).key ≡ (open_write_shown call.now).key) }
+{
+    let request = WriteRequest::decode(alloc, message)?;
+    check_same_name(call.name.as_str(), request.resource_name)?;
+    Ok(Part {
+        key: &call.key,
+        piece: Piece {
+            offset: request.write_offset,
+            bytes: request.content,
+        },
+        is_last: request.finish_write,
+    })
+}
+
+/// The message that tells how many bytes are there.
+fn reply_of(alloc: Global, committed: u64) -> Result<Vec<u8>, AllocError>
+    requires { committed < 2 ^ 63 }
+    ensures { IfOk result (λ reply. reply.items ≡ write_reply committed) }
+{
+    let response = WriteResponse {
+        committed_size: committed as i64,
+    };
+    let mut reply = Vec::new(alloc);
+    response.encode_into(&mut reply)?;
+    Ok(reply)
+}
+
+/// The reply to a request that ends without its last piece: how many bytes of its upload are there, and 0 where that
+/// is gone. The upload stays.
+pub fn ended_unfinished(
+    alloc: Global,
+    uploads: &Uploads,
+    key: &UploadKey,
+) -> Result<Vec<u8>, AllocError>
+    ensures { IfOk result (λ reply. reply.items
+        ≡ unfinished_reply (key_shown key.now) uploads.now) }
+{
+    let committed = uploads.committed(key).unwrap_or(0);
+    reply_of(alloc, committed)
+}
+
+/// Takes the first message of a `Write`. A blob that the instance `own` has is used, and the call is answered at once;
+/// else the message's piece is added to the upload that it names, which ends where it is the last. The refusals come
+/// in this order: the message does not read, its name is none, its instance is not `own`, the upload is larger than
+/// the quota, there are 64 others, the piece is not at its place, it goes past the size, all uploads would be larger
+/// than the quota, the digest does not name the text.
+pub fn write_first(
+    alloc: Global,
+    own: &str,
+    quota: u64,
+    moment: u64,
+    view: &mut View,
+    pool: &mut Pool,
+    uploads: &mut Uploads,
+    message: &[u8],
+) -> Result<Written, CallError>
+    requires quota { quota ≤ 2 ^ 40 }
+    requires kept { AreKept quota pool.old view.old }
+    requires within { WithinLimits quota uploads.old }
+    ensures answer { Answers written_shown result
+        (first_answer own.now quota moment
+        (state_of (shown pool.old view.old) uploads.old) message.now) }
+    ensures named { IfGoes result (λ call. (open_write_shown call).key.digest.size < 2 ^ 63) }
+    ensures visible { IfAnswered result (shown pool.new view.new
+        ≡ (after_first own.now view.old.limit quota moment message.now
+        (state_of (shown pool.old view.old) uploads.old)).visible) }
+    ensures uploads { IfAnswered result (uploads.new
+        ≡ (after_first own.now view.old.limit quota moment message.now
+        (state_of (shown pool.old view.old) uploads.old)).uploads) }
+    ensures memory { IfNoMemory result ((view.new ≡ view.old) × (pool.new ≡ pool.old)
+        × IsFirstOldOrTaken quota moment (writing.first_asked own.now message.now)
+        uploads.old uploads.new) }
+    ensures within { WithinLimits quota uploads.new }
+    ensures moves { Moves pool.old pool.new (holders view.old) (holders view.new) }
+    ensures kept { AreKept quota pool.new view.new }
+    ensures limit { view.new.limit ≡ view.old.limit }
+{
+    let first = first_asked(alloc, own, message)?;
+    let reply = reply_of(alloc, first.digest.size)?;
+    let name = String::from_str(alloc, first.name)?;
+    if view.touch(&first.digest) {
+        return Ok(Written::Answered(reply));
+    }
+    let key = UploadKey::new(first.uuid, first.digest);
+    let part = Part {
+        key: &key,
+        piece: first.piece,
+        is_last: first.is_last,
+    };
+    if take_first(alloc, quota, moment, view, pool, uploads, &part)? {
+        return Ok(Written::Answered(reply));
+    }
+    Ok(Written::Goes(OpenWrite { name, key }))
+}
+
+/// Takes a later message of a `Write`: its piece is added to the upload of the call, which ends where it is the last,
+/// and then the reply's message is given. The refusals come in this order: the message does not read, it names
+/// another upload, the upload is gone or the piece is not at its place, it goes past the size, all uploads would be
+/// larger than the quota, the digest does not name the text.
+pub fn write_next(
+    alloc: Global,
+    quota: u64,
+    moment: u64,
+    view: &mut View,
+    pool: &mut Pool,
+    uploads: &mut Uploads,
+    call: &OpenWrite,
+    message: &[u8],
+) -> Result<Option<Vec<u8>>, CallError>
+    requires quota { quota ≤ 2 ^ 40 }
+    requires named { (open_write_shown call.now).key.digest.size < 2 ^ 63 }
+    requires kept { AreKept quota pool.old view.old }
+    requires within { WithinLimits quota uploads.old }
+    ensures answer { Answers (option_map (λ reply. reply.items)) result
+        (next_answer (open_write_shown call.now) quota moment uploads.old message.now) }
+    ensures visible { IfAnswered result (shown pool.new view.new
+        ≡ (after_next (open_write_shown call.now) view.old.limit quota moment message.now
+        (state_of (shown pool.old view.old) uploads.old)).visible) }
+    ensures uploads { IfAnswered result (uploads.new
+        ≡ (after_next (open_write_shown call.now) view.old.limit quota moment message.now
+        (state_of (shown pool.old view.old) uploads.old)).uploads) }
+    ensures memory { IfNoMemory result ((view.new ≡ view.old) × (pool.new ≡ pool.old)
+        × IsNextOldOrTaken quota moment
+        (writing.next_asked (open_write_shown call.now) message.now)
+        uploads.old uploads.new) }
+    ensures within { WithinLimits quota uploads.new }
+    ensures moves { Moves pool.old pool.new (holders view.old) (holders view.new) }
+    ensures kept { AreKept quota pool.new view.new }
+    ensures limit { view.new.limit ≡ view.old.limit }
+{
+    let part = next_asked(alloc, call, message)?;
+    let reply = reply_of(alloc, part.key.digest().size)?;
+    if take_next(alloc, quota, moment, view, pool, uploads, &part)? {
+        return Ok(Some(reply));
+    }
+    Ok(None)
+}

@@ -1,0 +1,7 @@
+use Rattle.std.proofs.Common.{arith}
+use Rattle.grpc_sending.specs.Sources.{sources_held}
+use Rattle.grpc_sending.proofs.Sources.{room_of}
+use Rattle.grpc_sending.proofs.backlog.Backlog.take_off.Goals as goal
+
+pub invariant_of-self : goal.invariant_of-self
+invariant_of-self c = (room_of (sources_held c.self.inside.queues.items) (sources_held c.take_off.new.queues.items) c.self.inside.spent.items c.take_off.new.spent.items c.self.inside.sources c.self.inside.sources c.take_off.ensures.sources c.self.invariant.0 (omega arith), omega (arith, c.self.invariant.1, c.take_off.ensures.capacity))

@@ -1,0 +1,232 @@
+-- What the code keeps for sending, and what it is seen as through a look-up of the texts of sources.
+use Rattle.std.specs.Prelude.{◌≡◌, ◌<◌, ◌≤◌, ◌-◌, ◌^◌, ℕ, suc, true, ℤ, ◌==◌, nat_lt, if◌then◌else◌, Bool, false, List, [], ◌∷◌, ◌++◌, length, take, drop, map, Option, Some, None, MatchOption}
+use Rattle.std.specs.List.{flat_map, AllByRecursion}
+use Rattle.hpack.specs.declared.encoder.Position.{Position}
+use Rattle.hpack.specs.declared.encoder.Position.TheVariants.{First}
+use Rattle.http2_flow.specs.Credit.{left}
+use Rattle.http2_frames.specs.declared.frame.Frame.TheVariants.{Data}
+use Rattle.http2_frames.specs.Writing.{text_of}
+use Rattle.http2_streams.specs.Diary.{Entry, is_live, has_failed}
+use Rattle.http2_streams.specs.declared.stream.Stream.{Stream}
+use Rattle.http2_streams.specs.Standing.{Standing}
+use Rattle.http2_streams.specs.StandsFor.{StandsFor as AreStreams}
+use Rattle.digest.specs.declared.Digest.{Digest}
+use Rattle.grpc_sending.specs.declared.piece.StoredPiece.{StoredPiece}
+use Rattle.grpc_sending.specs.declared.piece.StoredPiece.TheVariants.{Encoded, Framed, Ranged}
+use Rattle.grpc_sending.specs.declared.queue.StoredQueue.{StoredQueue}
+use Rattle.grpc_sending.specs.declared.turn.Due.{Due}
+use Rattle.grpc_sending.specs.declared.turn.Due.TheVariants.{Opens, Gives}
+use Rattle.grpc_sending.specs.Pieces.{Piece, Block, Part, Queue, most_read}
+use Rattle.grpc_sending.specs.Sources.{count_of, sources_held}
+use Rattle.grpc_sending.specs.Spans.{Span, span_pieces, span_front, span_size, span_after, IsSpan}
+use Rattle.grpc_sending.specs.Owed.{Owed, Item, Range, left_on}
+use Rattle.grpc_sending.specs.Pump.{part_size, first_of, pumped}
+use Rattle.grpc_sending.specs.Step.{Puts, Resets, Finishes}
+use Rattle.grpc_sending.specs.StandsFor.{Sending, IsSending, owed_more}
+
+-- the text of each source
+abbrev pub Look : Type 0
+Look = ℕ → List ℕ
+
+pub record Kept : Type 0 where
+  -- the bytes that were put and not taken
+  pub pending : List ℕ
+  -- the place of the next header block
+  pub position : Position
+  -- what is still to be put on each stream
+  pub queues : List StoredQueue
+  -- sources whose ranges are over, and which were not told yet
+  pub spent : List ℕ
+
+abbrev pub new_kept : Kept
+new_kept = record { pending = []; position = First; queues = []; spent = [] }
+
+-- ---- as it is seen
+
+abbrev pub shown : Look → StoredPiece → List Piece
+shown texts (Encoded block) = Block block ∷ []
+shown texts (Framed bytes) = Part bytes ∷ []
+shown texts (Ranged s) = span_pieces most_read s (texts s.source)
+
+abbrev pub queue_in : Look → StoredQueue → Queue
+queue_in texts q = record { stream = q.stream; pieces = flat_map (shown texts) q.pieces }
+
+abbrev pub sending_in : Look → Kept → Sending
+sending_in texts w = record { pending = w.pending; position = w.position; queues = map (queue_in texts) w.queues }
+
+-- what is kept stands for a diary and for all that was ever owed
+abbrev pub StandsFor : Look → Kept → List Entry → List Owed → Type 0
+StandsFor texts w d os = IsSending (sending_in texts w) d os
+
+-- ---- sources
+
+-- each source as often as it is held: for a range that is not wholly put, or until it was told to be spent
+abbrev pub sources_of : Kept → List ℕ
+sources_of w = sources_held w.queues ++ w.spent
+
+-- two look-ups have the same text for each of these sources
+abbrev pub AgreeOn : List ℕ → Look → Look → Type 0
+AgreeOn ns texts others = (n : ℕ) → 0 < count_of n ns → texts n ≡ others n
+
+-- .. for each source of a range
+abbrev pub AgreeFor : Look → Look → Kept → Type 0
+AgreeFor texts others w = AgreeOn (sources_held w.queues) texts others
+
+-- the same sources are held, each as often
+abbrev pub KeepsSources : Kept → Kept → Type 0
+KeepsSources v w = (k : ℕ) → count_of k (sources_of w) ≡ count_of k (sources_of v)
+
+-- each is held fewer times than 64 bits can count
+abbrev pub HasFew : Kept → Type 0
+HasFew w = (k : ℕ) → count_of k (sources_of w) < 2 ^ 64
+
+-- one more is held
+abbrev pub HoldsMore : ℕ → Kept → Kept → Type 0
+HoldsMore n v w = (k : ℕ) → count_of k (sources_of w) ≡ count_of k (n ∷ sources_of v)
+
+-- the last of these is told, if there is one
+abbrev pub Tells : Option ℕ → List ℕ → List ℕ → Type 0
+Tells o ns ms = MatchOption o (ns ≡ []) (λ n. ns ≡ ms ++ n ∷ [])
+
+-- ---- the queues
+
+abbrev pub stored_on : ℕ → List StoredQueue → List StoredPiece
+stored_on s [] = []
+stored_on s (q ∷ qs) = if q.stream == s then q.pieces else stored_on s qs
+
+-- each range that is kept ends within the text of its source
+abbrev pub IsFit : Look → StoredPiece → Type 0
+IsFit texts (Encoded block) = Unit {0}
+IsFit texts (Framed bytes) = Unit {0}
+IsFit texts (Ranged s) = IsSpan most_read s (texts s.source)
+
+abbrev pub AreFit : Look → List StoredPiece → Type 0
+AreFit texts ps = AllByRecursion (IsFit texts) ps
+
+abbrev pub Fit : Look → List StoredQueue → Type 0
+Fit texts qs = (s : ℕ) → AreFit texts (stored_on s qs)
+
+-- ---- what a call comes to, whatever the texts are
+
+-- what is kept stands by the one look-up for all that it stands for by the other
+abbrev pub StandsAlike : Look → Look → Kept → Type 0
+StandsAlike texts others w = (d : List Entry) (os : List Owed) → StandsFor texts w d os → StandsFor others w d os
+
+abbrev pub FitsAlike : Look → Look → Kept → Type 0
+FitsAlike texts others w = Fit texts w.queues → Fit others w.queues
+
+-- an entry was added to the diary
+abbrev pub Enters : Kept → Entry → Kept → Type 0
+Enters v e w = (texts : Look) (d : List Entry) (os : List Owed) → StandsFor texts v d os → StandsFor texts w (d ++ e ∷ []) os
+
+-- what was dropped is owed to no live stream: stream s is closed, or the connection met an error
+abbrev pub DropsClosed : ℕ → Kept → Kept → Type 0
+DropsClosed s v w = (texts : Look) (d : List Entry) (os : List Owed) → is_live d s ≡ false → StandsFor texts v d os → StandsFor texts w d os
+
+abbrev pub DropsAll : Kept → Kept → Type 0
+DropsAll v w = (texts : Look) (d : List Entry) (os : List Owed) → has_failed d ≡ true → StandsFor texts v d os → StandsFor texts w d os
+
+-- an item is owed to stream s
+abbrev pub Owes : Standing → ℕ → Item → Kept → Kept → Type 0
+Owes streams s item v w = (texts : Look) (d : List Entry) (os : List Owed) → AreStreams streams d → StandsFor texts v d os → StandsFor texts w d (owed_more d os s item)
+
+-- the text of a source from a place until another is, by whatever digest names it
+abbrev pub OwesRange : Standing → ℕ → ℕ → ℕ → ℕ → Kept → Kept → Type 0
+OwesRange streams s source from until v w = (texts : Look) (digest : Digest) (d : List Entry) (os : List Owed) → AreStreams streams d → StandsFor texts v d os → StandsFor texts w d (owed_more d os s (Range digest (texts source) from (until - from)))
+
+-- all was put that can be
+abbrev pub PumpsStreams : Look → Standing → Kept → Standing → Type 0
+PumpsStreams texts streams v after = (d : List Entry) (os : List Owed) → AreStreams streams d → StandsFor texts v d os → AreStreams after (pumped d os)
+
+abbrev pub PumpsSending : Look → Standing → Kept → Kept → Type 0
+PumpsSending texts streams v w = (d : List Entry) (os : List Owed) → AreStreams streams d → StandsFor texts v d os → StandsFor texts w (pumped d os) os
+
+-- what one turn does
+abbrev pub PutsBy : Look → Standing → Kept → Standing → Kept → Type 0
+PutsBy texts streams v after w = Puts streams (sending_in texts v) after (sending_in texts w)
+
+abbrev pub ResetsBy : Standing → Kept → ℕ → Standing → Kept → Type 0
+ResetsBy streams v s after w = (texts : Look) → Resets streams (sending_in texts v) s after (sending_in texts w)
+
+abbrev pub FinishesBy : Standing → Kept → ℕ → Bool → Standing → Kept → Type 0
+FinishesBy streams v s ended_by_client after w = (texts : Look) → Finishes streams (sending_in texts v) s ended_by_client after (sending_in texts w)
+
+-- what is kept for a live stream is what is left of all that was owed to it
+abbrev pub KeepsWhatIsLeft : Look → Kept → List Entry → List Owed → Type 0
+KeepsWhatIsLeft texts w d os = StandsFor texts w d os → has_failed d ≡ false → (s : ℕ) → is_live d s ≡ true → flat_map (shown texts) (stored_on s w.queues) ≡ left_on d os s
+
+-- each range that is kept stays within the text of its source
+abbrev pub KeepsFit : Kept → Kept → Type 0
+KeepsFit v w = (texts : Look) → Fit texts v.queues → Fit texts w.queues
+
+-- where the text of a source goes on until there
+abbrev pub KeepsFitWith : ℕ → ℕ → Kept → Kept → Type 0
+KeepsFitWith source until v w = (texts : Look) → until ≤ length (texts source) → Fit texts v.queues → Fit texts w.queues
+
+-- ---- changes of the queues
+
+-- the place of the first queue of stream s
+abbrev pub first_at : ℕ → List StoredQueue → ℕ
+first_at s [] = 0
+first_at s (q ∷ qs) = if q.stream == s then 0 else suc (first_at s qs)
+
+-- nothing is to be put any more on stream s
+abbrev pub cleared_at : ℕ → StoredQueue → StoredQueue
+cleared_at s q = if q.stream == s then record q { pieces = [] } else q
+
+abbrev pub with_piece : StoredPiece → StoredQueue → StoredQueue
+with_piece p q = record q { pieces = q.pieces ++ p ∷ [] }
+
+-- a piece was appended to those of stream s
+abbrev pub Appends : ℕ → StoredPiece → List StoredQueue → List StoredQueue → Type 0
+Appends s p qs rs = (t : ℕ) → stored_on t rs ≡ (if s == t then stored_on t qs ++ p ∷ [] else stored_on t qs)
+
+-- n bytes of the first piece were put
+abbrev pub stored_front : ℕ → List StoredPiece → List StoredPiece
+stored_front n [] = []
+stored_front n (Encoded block ∷ ps) = Encoded block ∷ ps
+stored_front n (Framed bytes ∷ ps) = if nat_lt n (length bytes) then Framed (drop n bytes) ∷ ps else ps
+stored_front n (Ranged s ∷ ps) = map Ranged (span_after most_read n s) ++ ps
+
+abbrev pub stored_first_at : ℕ → StoredQueue → StoredQueue
+stored_first_at s q = if q.stream == s then record q { pieces = drop 1 q.pieces } else q
+
+abbrev pub stored_front_at : ℕ → ℕ → StoredQueue → StoredQueue
+stored_front_at s n q = if q.stream == s then record q { pieces = stored_front n q.pieces } else q
+
+-- the bytes that are left of the first message of a range
+abbrev pub front_in : Look → Span → List ℕ
+front_in texts s = span_front most_read s (texts s.source)
+
+-- a DATA frame with n of them
+abbrev pub range_frame : Look → ℕ → ℕ → Span → List ℕ
+range_frame texts stream n s = text_of (Data stream false (take n (front_in texts s)))
+
+-- the bytes of the first piece
+abbrev pub front_bytes : Look → List StoredPiece → List ℕ
+front_bytes texts [] = []
+front_bytes texts (Encoded block ∷ ps) = []
+front_bytes texts (Framed bytes ∷ ps) = bytes
+front_bytes texts (Ranged s ∷ ps) = span_front most_read s (texts s.source)
+
+-- a DATA frame with n of them
+abbrev pub front_frame : Look → ℕ → ℕ → List StoredPiece → List ℕ
+front_frame texts stream n ps = text_of (Data stream false (take n (front_bytes texts ps)))
+
+-- ---- whose turn it is
+
+abbrev pub count_due : ℕ → ℕ → Option Due
+count_due s n = if n == 0 then None else Some (Gives s n)
+
+abbrev pub due_of : ℤ → Stream → List StoredPiece → Option Due
+due_of connection_window x [] = None
+due_of connection_window x (Encoded block ∷ ps) = Some (Opens x.number block x.ended_by_client)
+due_of connection_window x (Framed bytes ∷ ps) = count_due x.number (part_size (length bytes) (left x.window) connection_window)
+due_of connection_window x (Ranged s ∷ ps) = count_due x.number (part_size (span_size most_read s) (left x.window) connection_window)
+
+abbrev pub due_on : List StoredQueue → ℤ → Stream → Option Due
+due_on qs connection_window x = due_of connection_window x (stored_on x.number qs)
+
+-- the turn of the first stream that has one
+abbrev pub next_due : List StoredQueue → ℤ → List Stream → Option Due
+next_due qs connection_window xs = first_of (due_on qs connection_window) xs

@@ -1,0 +1,70 @@
+-- What a Read does to an instance's texts.
+use Rattle.std.proofs.Common.{◌≡◌, ◌≢◌, ℕ, ◌≤◌, List, [], ◌∷◌, ◌++◌, Result, Ok, Err, refl, sym, ap, subst, arith}
+use Rattle.call_methods.specs.declared.method.Method.{Method}
+use Rattle.call_methods.specs.declared.method.Method.TheVariants.{FindMissingBlobs, BatchUpdateBlobs, BatchReadBlobs, GetTree, GetActionResult, UpdateActionResult, Execute, WaitExecution, GetCapabilities, Read, Write, QueryWriteStatus}
+use Rattle.call_status.specs.declared.refusal.Refusal.{Refusal}
+use Rattle.blob_pool.specs.Held.{Slots, count_at}
+use Rattle.blob_pool.specs.Moves.{Holders, Moves, nobody, HasRoom}
+use Rattle.instance_view.specs.Visible.{Blob}
+use Rattle.instance_view.specs.Shown.{ViewValue, shown, holders}
+use Rattle.instance_view.proofs.Held.{shown_apart, room_for_one}
+use Rattle.quota_evict.specs.Within.{Within}
+use Rattle.quota_evict.specs.Kept.{AreKept}
+use Rattle.quota_evict.proofs.Limits.{used_within}
+use Rattle.quota_evict.proofs.Steps.{entries_fit}
+use Rattle.cas_service.specs.Changes as Texts
+use Rattle.cas_service.specs.declared.error.CallError.{CallError}
+use Rattle.cas_service.specs.declared.error.CallError.TheVariants.{Refused, NoMemory}
+use Rattle.bytestream.specs.Refusals.{IfAnswered}
+use Rattle.bytestream.specs.declared.reading.ReadAsked.{ReadAsked}
+use Rattle.bytestream.specs.Reading.{after_asking}
+use Rattle.instance_core.specs.Replies.{items_of}
+use Rattle.instance_core.specs.Methods.{reply_to, items_to, use_asked}
+use Rattle.instance_core.specs.State.{InstanceState, most_blobs}
+
+pub read_uses : (asked : Result ReadAsked Refusal) (limit quota : ℕ) (old : List Blob) → after_asking asked old ≡ Texts.changed limit quota (use_asked asked) old
+read_uses (Ok asked) limit quota old = refl
+read_uses (Err refusal) limit quota old = refl
+
+append_nil : (cs : List Texts.Change) → cs ≡ cs ++ []
+append_nil [] = refl
+append_nil (c ∷ cs) = ap (λ (xs : List Texts.Change). c ∷ xs) (append_nil cs)
+
+-- all of the changes are a front of them, and none
+pub all_made : (limit quota : ℕ) (cs : List Texts.Change) (old new : List Blob) → new ≡ Texts.changed limit quota cs old → Texts.MadeInPart limit quota cs old new
+all_made limit quota cs old new is = record { made = cs; left = []; front = append_nil cs; so_far = is }
+
+pub none_made : (limit quota : ℕ) (cs : List Texts.Change) (old new : List Blob) → new ≡ old → Texts.MadeInPart limit quota cs old new
+none_made limit quota cs old new is = record { made = []; left = cs; front = refl; so_far = is }
+
+pub read_keeps : (asked : Result ReadAsked Refusal) (limit quota : ℕ) (old new : List Blob) → new ≡ after_asking asked old → Within limit quota old → Within limit quota new
+read_keeps (Ok asked) limit quota old new is within = subst (Within limit quota) (sym is) (used_within limit quota asked.digest old within)
+read_keeps (Err refusal) limit quota old new is within = subst (Within limit quota) (sym is) within
+
+pub if_refused : {A : Type 0} (r : Result A CallError) (e : CallError) (refusal : Refusal) (P : Type 0) → r ≡ Err e → e ≡ Refused refusal → IfAnswered r P → P
+if_refused (Ok x) e refusal P is same h = absurd cc
+if_refused (Err (Refused other)) e refusal P is same h = h
+if_refused (Err NoMemory) e refusal P is same h = absurd cc
+
+-- a holder more leaves what an instance shows
+pub read_shown : (p q : Slots) (v w : ViewValue) (given : Holders) → Moves p q nobody given → ((k : ℕ) → holders w k ≡ holders v k) → ((k : ℕ) → holders v k ≤ count_at p k) → shown q w ≡ shown p w
+read_shown p q v w given m same held = shown_apart p q w.entries nobody given m (λ k. omega (arith, same k, held k))
+
+pub room_kept : (quota : ℕ) (p : Slots) (v : ViewValue) → AreKept quota p v → v.limit ≡ most_blobs → HasRoom p
+room_kept quota p v kept limit =
+    let few = entries_fit quota p v kept in
+    room_for_one p v.entries kept.held (omega (arith, few, limit))
+
+pub items_unread : (method : Method) (s : InstanceState) (message : List ℕ) → method ≢ Read → items_to method s message ≡ items_of (reply_to method s message)
+items_unread Read s message other = absurd (other refl)
+items_unread FindMissingBlobs s message other = refl
+items_unread BatchUpdateBlobs s message other = refl
+items_unread BatchReadBlobs s message other = refl
+items_unread GetTree s message other = refl
+items_unread GetActionResult s message other = refl
+items_unread UpdateActionResult s message other = refl
+items_unread Execute s message other = refl
+items_unread WaitExecution s message other = refl
+items_unread GetCapabilities s message other = refl
+items_unread Write s message other = refl
+items_unread QueryWriteStatus s message other = refl

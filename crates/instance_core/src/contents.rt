@@ -1,0 +1,19 @@
+//! What an instance is configured as, and what it keeps of texts.
+
+use instance_view::View;
+use uploads::Uploads;
+
+/// What an instance is configured as.
+#[derive(Drop)]
+pub struct Settings {
+    pub name: String,
+    pub quota: u64,
+    pub slots: u32,
+}
+
+/// The texts of an instance, and its unfinished uploads.
+#[derive(Drop)]
+pub struct Contents {
+    pub view: View,
+    pub uploads: Uploads,
+}

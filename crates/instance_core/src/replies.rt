@@ -1,0 +1,92 @@
+//! Replies to calls.
+
+ghost use Rattle.std.specs.Prelude.{◌≡◌, ℕ, [], ◌∷◌, map, IfOk, OnOk, OnErr};
+ghost use Rattle.blob_pool.specs.Held.{Slots};
+ghost use Rattle.blob_pool.specs.Moves.{one_at};
+ghost use Rattle.cas_service.specs.declared.error.CallError.TheVariants.{Refused, NoMemory};
+ghost use Rattle.instance_core.specs.Replies.{begins, gives, ends, items_of};
+ghost use Rattle.instance_core.specs.Answer.{items_sent, reply_with};
+ghost use Rattle.instance_core.specs.Shown.{Gives, item_shown, outcome_shown, range_shown};
+ghost use Rattle.instance_core.specs.Given.{items_holders, holders_given};
+
+use crate::event::{CallId, GivenRange, Reply, ReplyItem};
+use call_status::Refusal;
+use cas_service::CallError;
+use std::alloc::{AllocError, Global};
+
+/// What a call is refused for, unless memory ran out.
+pub fn refusal_in(error: CallError) -> Result<Refusal, AllocError>
+    ensures refused { IfOk result (λ refusal. error ≡ Refused refusal) }
+    ensures memory { OnErr result (error ≡ NoMemory) }
+{
+    match error {
+        CallError::Refused(refusal) => Ok(refusal),
+        CallError::NoMemory => Err(AllocError),
+    }
+}
+
+/// What is sent in answer to a call: one message with status OK, or a refusal.
+fn items_of(alloc: Global, outcome: Result<Vec<u8>, Refusal>) -> Result<Vec<ReplyItem>, AllocError>
+    ensures items { (p : Slots) → IfOk result (λ items.
+        map (item_shown p) items.items ≡ items_of (outcome_shown outcome)) }
+    ensures given { (k : ℕ) → IfOk result (λ items. items_holders items.items k ≡ 0) }
+{
+    let mut items = Vec::new(alloc);
+    match outcome {
+        Ok(message) => {
+            items.push(ReplyItem::Begins)?;
+            items.push(ReplyItem::Says(message))?;
+            items.push(ReplyItem::Ends)?;
+        }
+        Err(refusal) => items.push(ReplyItem::Refuses(refusal))?,
+    }
+    Ok(items)
+}
+
+/// These items, sent in answer to a call.
+fn reply_of(alloc: Global, call: CallId, items: Vec<ReplyItem>) -> Result<Vec<Reply>, AllocError>
+    ensures replies { (p : Slots) →
+        Gives p result (items_sent call (map (item_shown p) items.items)) }
+    ensures given { (k : ℕ) → OnOk result (holders_given result k ≡ items_holders items.items k) }
+{
+    let mut replies = Vec::new(alloc);
+    replies.push(Reply { call, items })?;
+    Ok(replies)
+}
+
+/// The one answer to a call: one message with status OK, or a refusal.
+pub fn reply_with(
+    alloc: Global,
+    call: CallId,
+    outcome: Result<Vec<u8>, Refusal>,
+) -> Result<Vec<Reply>, AllocError>
+    ensures replies { (p : Slots) → Gives p result (reply_with call (outcome_shown outcome)) }
+    ensures given { (k : ℕ) → holders_given result k ≡ 0 }
+{
+    let items = items_of(alloc, outcome)?;
+    reply_of(alloc, call, items)
+}
+
+/// A whole reply without a message.
+pub fn empty_reply(alloc: Global, call: CallId) -> Result<Vec<Reply>, AllocError>
+    ensures replies { (p : Slots) → Gives p result (items_sent call (begins ∷ ends ∷ [])) }
+    ensures given { (k : ℕ) → holders_given result k ≡ 0 }
+{
+    let mut items = Vec::new(alloc);
+    items.push(ReplyItem::Begins)?;
+    items.push(ReplyItem::Ends)?;
+    reply_of(alloc, call, items)
+}
+
+/// A whole reply of one range.
+pub fn range_reply(alloc: Global, call: CallId, range: GivenRange) -> Result<Vec<Reply>, AllocError>
+    ensures replies { (p : Slots) →
+        Gives p result (items_sent call (begins ∷ gives (range_shown p range) ∷ ends ∷ [])) }
+    ensures given { (k : ℕ) → OnOk result (holders_given result k ≡ one_at range.text k) }
+{
+    let mut items = Vec::new(alloc);
+    items.push(ReplyItem::Begins)?;
+    items.push(ReplyItem::Gives(range))?;
+    items.push(ReplyItem::Ends)?;
+    reply_of(alloc, call, items)
+}

@@ -1,0 +1,154 @@
+//! What the messages of a `Write` are answered.
+
+ghost use Rattle.std.specs.Prelude.{◌≡◌, ◌≤◌, ◌<◌, ◌^◌, ℕ, List, [], Option, option_map, Result, OnOk, OnErr};
+ghost use Rattle.blob_pool.specs.Held.{Slots};
+ghost use Rattle.blob_pool.specs.Moves.{Moves};
+ghost use Rattle.call_methods.specs.declared.method.Method.TheVariants.{Write};
+ghost use Rattle.call_status.specs.declared.refusal.Refusal.{Refusal};
+ghost use Rattle.instance_view.specs.Shown.{shown, holders};
+ghost use Rattle.quota_evict.specs.Kept.{AreKept};
+ghost use Rattle.quota_evict.specs.Within.{Within};
+ghost use Rattle.uploads.specs.Uploads.{WithinLimits};
+ghost use Rattle.cas_service.specs.Answers.{Answers};
+ghost use Rattle.bytestream.specs.Refusals.{IfNoMemory};
+ghost use Rattle.bytestream.specs.Writing.{WrittenValue};
+ghost use Rattle.bytestream.specs.Shown.{open_write_shown, written_shown, IfGoes};
+ghost use Rattle.instance_core.specs.Calls.{without_call, AreInCourse};
+ghost use Rattle.instance_core.specs.State.{most_blobs};
+ghost use Rattle.instance_core.specs.Answer.{ended, first_written, next_written, with_first};
+ghost use Rattle.instance_core.specs.Shown.{Gives, ChangesCalls, Makes, state_of, outcome_shown};
+ghost use Rattle.instance_core.specs.Given.{holders_given};
+
+use crate::calls::{Call, Calls, Progress};
+use crate::contents::{Contents, Settings};
+use crate::event::{CallId, Reply};
+use crate::replies::{refusal_in, reply_with};
+use blob_pool::Pool;
+use bytestream::{Written, write_first};
+use call_methods::Method;
+use call_status::Refusal;
+use cas_service::CallError;
+use std::alloc::{AllocError, Global};
+
+/// Answers a call that is in course, which ends.
+pub fn finish(
+    alloc: Global,
+    calls: &mut Calls,
+    id: CallId,
+    outcome: Result<Vec<u8>, Refusal>,
+) -> Result<Vec<Reply>, AllocError>
+    requires calls { AreInCourse calls.old }
+    ensures replies { (p : Slots) → Gives p result (ended id (outcome_shown outcome)).replies }
+    ensures given { (k : ℕ) → holders_given result k ≡ 0 }
+    ensures changed { ChangesCalls result (ended id (outcome_shown outcome)) calls.old calls.new }
+    ensures err { OnErr result (calls.new ≡ calls.old) }
+    ensures calls { AreInCourse calls.new }
+{
+    let replies = reply_with(alloc, id, outcome)?;
+    calls.end(id);
+    Ok(replies)
+}
+
+/// Does to a call what the first message of a `Write` was answered: the call goes on, or is answered and ends. Memory
+/// that had run out is passed on.
+fn settle_first(
+    alloc: Global,
+    calls: &mut Calls,
+    id: CallId,
+    written: Result<Written, CallError>,
+) -> Result<Vec<Reply>, AllocError>
+    requires calls { AreInCourse calls.old }
+    requires named { IfGoes written (λ write. (open_write_shown write).key.digest.size < 2 ^ 63) }
+    ensures replies { (answer : Result WrittenValue Refusal) → Answers written_shown written answer
+        → (p : Slots) → Gives p result (first_written id Write [] answer).replies }
+    ensures given { (k : ℕ) → holders_given result k ≡ 0 }
+    ensures changed { (answer : Result WrittenValue Refusal) → Answers written_shown written answer
+        → ChangesCalls result (first_written id Write [] answer) calls.old calls.new }
+    ensures memory { IfNoMemory written (OnOk result ⊥) }
+    ensures err { OnErr result (calls.new ≡ calls.old) }
+    ensures calls { AreInCourse calls.new }
+{
+    match written {
+        Ok(Written::Goes(write)) => {
+            calls.put(id, Call::new(Method::Write, Progress::Writes(write)))?;
+            Ok(Vec::new(alloc))
+        }
+        Ok(Written::Answered(reply)) => finish(alloc, calls, id, Ok(reply)),
+        Err(error) => {
+            let refusal = refusal_in(error)?;
+            finish(alloc, calls, id, Err(refusal))
+        }
+    }
+}
+
+/// Does to a call what a later message of a `Write` was answered: it goes on, or is answered and ends. Memory that had
+/// run out is passed on.
+pub fn settle_next(
+    alloc: Global,
+    calls: &mut Calls,
+    id: CallId,
+    outcome: Result<Option<Vec<u8>>, CallError>,
+) -> Result<Vec<Reply>, AllocError>
+    requires calls { AreInCourse calls.old }
+    ensures replies { (answer : Result (Option (List ℕ)) Refusal)
+        → Answers (option_map (λ reply. reply.items)) outcome answer
+        → (p : Slots) → Gives p result (next_written id [] answer).replies }
+    ensures given { (k : ℕ) → holders_given result k ≡ 0 }
+    ensures changed { (answer : Result (Option (List ℕ)) Refusal)
+        → Answers (option_map (λ reply. reply.items)) outcome answer
+        → ChangesCalls result (next_written id [] answer) calls.old calls.new }
+    ensures memory { IfNoMemory outcome (OnOk result ⊥) }
+    ensures err { OnErr result (calls.new ≡ calls.old) }
+    ensures calls { AreInCourse calls.new }
+{
+    match outcome {
+        Ok(None) => Ok(Vec::new(alloc)),
+        Ok(Some(reply)) => finish(alloc, calls, id, Ok(reply)),
+        Err(error) => {
+            let refusal = refusal_in(error)?;
+            finish(alloc, calls, id, Err(refusal))
+        }
+    }
+}
+
+/// Carries out the first message of a `Write`. For want of memory its piece may have been taken.
+pub fn on_first_part(
+    alloc: Global,
+    settings: &Settings,
+    moment: u64,
+    contents: &mut Contents,
+    pool: &mut Pool,
+    calls: &mut Calls,
+    id: CallId,
+    message: &[u8],
+) -> Result<Vec<Reply>, AllocError>
+    requires quota { settings.now.quota ≤ 2 ^ 40 }
+    requires limit { contents.old.view.limit ≡ most_blobs }
+    requires kept { AreKept settings.now.quota pool.old contents.old.view }
+    requires uploads { WithinLimits settings.now.quota contents.old.uploads }
+    requires calls { AreInCourse calls.old }
+    ensures replies { let old = state_of settings.now moment pool.old contents.old calls.old in
+        (p : Slots) → Gives p result (with_first old id Write message.now).replies }
+    ensures given { (k : ℕ) → holders_given result k ≡ 0 }
+    ensures changed { let old = state_of settings.now moment pool.old contents.old calls.old in
+        let new = state_of settings.now moment pool.new contents.new calls.new in
+        Makes result (with_first old id Write message.now).changes old new }
+    ensures moves { Moves pool.old pool.new (holders contents.old.view)
+        (holders contents.new.view) }
+    ensures limit { contents.new.view.limit ≡ most_blobs }
+    ensures within { Within most_blobs settings.now.quota (shown pool.new contents.new.view) }
+    ensures uploads { WithinLimits settings.now.quota contents.new.uploads }
+    ensures calls { AreInCourse calls.new }
+{
+    let written = write_first(
+        alloc,
+        &settings.name,
+        settings.quota,
+        moment,
+        &mut contents.view,
+        pool,
+        &mut contents.uploads,
+        message,
+    );
+    settle_first(alloc, calls, id, written)
+}

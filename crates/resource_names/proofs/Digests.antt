@@ -1,0 +1,172 @@
+-- Digests as names write them.
+use Rattle.std.proofs.Common.{◌≡◌, ℕ, pos, ◌*◌, ◌<◌, ◌==◌, ◌^◌, Bool, true, false, not, cond, ◌&&◌, ◌||◌, List, [], ◌∷◌, ◌++◌, length, get_or, Option, Some, None, Result, Ok, Err, refl, sym, ap, subst, ◌∙◌, arith, inl, inr}
+use Rattle.std.specs.Prelude.{nat_lt, nat_eq, codes}
+use Rattle.std.specs.List.{list_all}
+use Rattle.std.specs.Str.{bytes_eq}
+use Rattle.std.specs.Str.Parse.{AllDigits, digits_value}
+use Rattle.std.specs.Fmt.{decimal}
+use Rattle.std.proofs.lemmas.Bool.{and_parts, cases_eq}
+use Rattle.std.proofs.lemmas.Bool.Decides.{nat_tests}
+use Rattle.std.proofs.lemmas.Str.Parse.{IsNumeralModel, tells_digits, numerals_by_value, digit_from_value}
+use Rattle.std.proofs.lemmas.Fmt.{decimal-digits_value, digits_value-decimal, digits_decimal, decimal_digit, decimal_nonempty, first_decimal}
+use Rattle.hex.specs.declared.error.FromHexError.{FromHexError}
+use Rattle.hex.specs.Hex.{IsBytes, encode_lower, decode_sized}
+use Rattle.hex.proofs.HexLemmas.{decode_sized-ok, decode_sized-twice, decode_of-ok}
+use Rattle.digest.specs.declared.Digest.{Digest}
+use Rattle.digest.specs.Text.{IsWritten, hash_text, hash_in, is_lower_digit, decoded, with_hash}
+use Rattle.digest.proofs.Writings.{is_written, is_read}
+use Rattle.resource_names.specs.declared.name.NameError.TheVariants.{Hash, Size}
+use Rattle.resource_names.specs.Names.{◌>>=◌, or_fault, digest_of_segments}
+use Rattle.resource_names.specs.Size.{is_decimal_digit, is_numeral, size_in}
+use Rattle.resource_names.specs.Written.{HasNoSlash, IsNameable, digest_text}
+use Rattle.resource_names.proofs.SizeLemmas.{numeral_digits, AllDigits-from_list_all}
+
+-- a text is the written form of a hash
+record IsHashText (text bytes : List ℕ) : Type 0 where
+  text_is : text ≡ encode_lower bytes
+  size : length bytes ≡ 32
+  bytes_are : IsBytes bytes
+  clean : HasNoSlash text
+
+lower_clean : (text : List ℕ) → list_all is_lower_digit text ≡ true → HasNoSlash text
+lower_clean [] h = tt
+lower_clean (byte ∷ text) h =
+    let parts = and_parts (is_lower_digit byte) (list_all is_lower_digit text) h in
+    let digit = parts.0 in
+    (grind (arith, nat_tests), lower_clean text parts.1)
+
+hash_found : (text bytes : List ℕ) → hash_in text ≡ Some bytes → IsHashText text bytes
+hash_found text bytes h = go (list_all is_lower_digit text) (decode_sized text 32) refl refl h where
+  written : IsWritten (record { hash = bytes; size = 0 }) text (pos 0)
+  written = is_written text (pos 0) (Some (record { hash = bytes; size = 0 })) (sym (ap (with_hash 0) h))
+
+  go : (t : Bool) (r : Result (List ℕ) FromHexError) → list_all is_lower_digit text ≡ t → decode_sized text 32 ≡ r → cond t (decoded r) None ≡ Some bytes → IsHashText text bytes
+  go true (Ok bs) lower is e =
+      let same : bs ≡ bytes = cc in
+      let sized : decode_sized text 32 ≡ Ok bytes = is ∙ ap (λ (x : List ℕ). Ok x) same in
+      let digits = decode_sized-ok text 32 bytes sized in
+      let read = decode_of-ok text bytes (sym (decode_sized-twice text 32 digits) ∙ sized) in
+      let twice : length text ≡ 2 * length bytes = read.2 in
+      record { text_is = written.hash_is; size = omega arith; bytes_are = read.3; clean = lower_clean text lower }
+  go true (Err e') lower is e = cc
+  go false r lower is e = cc
+
+abbrev hash_or : Option Digest → List ℕ
+hash_or (Some d) = d.hash
+hash_or None = []
+
+hash_read : (bytes : List ℕ) → length bytes ≡ 32 → IsBytes bytes → hash_in (encode_lower bytes) ≡ Some bytes
+hash_read bytes size are = go (hash_in (encode_lower bytes)) read where
+  read : with_hash 0 (hash_in (encode_lower bytes)) ≡ Some (record { hash = bytes; size = 0 })
+  read = is_read (record { hash = bytes; size = 0 }) (encode_lower bytes) (pos 0) size are (record { hash_is = refl; size_is = refl })
+
+  go : (h : Option (List ℕ)) → with_hash 0 h ≡ Some (record { hash = bytes; size = 0 }) → h ≡ Some bytes
+  go None e = cc
+  go (Some bs) e = ap Some (ap hash_or e)
+
+-- a text is the written form of a size
+record IsSizeText (text : List ℕ) (size : ℕ) : Type 0 where
+  text_is : text ≡ decimal size
+  most : size < 2 ^ 63
+  clean : HasNoSlash text
+
+digits_clean : (text : List ℕ) → list_all is_decimal_digit text ≡ true → HasNoSlash text
+digits_clean [] h = tt
+digits_clean (byte ∷ text) h =
+    let parts = and_parts (is_decimal_digit byte) (list_all is_decimal_digit text) h in
+    let digit = parts.0 in
+    (grind (arith, nat_tests), digits_clean text parts.1)
+
+own : IsNumeralModel (AllDigits 10) (digits_value 10)
+own = numerals_by_value (AllDigits 10) tells_digits
+
+not_numeral : (some all : Bool) → (false || (some && false && all)) ≡ true → ⊥
+not_numeral true all h = cc
+not_numeral false all h = cc
+
+-- a numeral of several digits does not begin with `0`
+leading : (text : List ℕ) → is_numeral text ≡ true → get_or text 0 0 ≡ 48 → length text ≡ 1
+leading [] h z = cc
+leading (byte ∷ []) h z = refl
+leading (byte ∷ next ∷ text) h z =
+    let numeral = subst (λ (b : ℕ). is_numeral (b ∷ next ∷ text) ≡ true) z h in
+    absurd (not_numeral (not (length (48 ∷ next ∷ text) == 0)) (list_all is_decimal_digit (48 ∷ next ∷ text)) numeral)
+
+size_found : (text : List ℕ) (size : ℕ) → size_in text ≡ Some size → IsSizeText text size
+size_found text size h = go (is_numeral text) (nat_lt (digits_value 10 text) (2 ^ 63)) refl refl h where
+  go : (a b : Bool) → is_numeral text ≡ a → nat_lt (digits_value 10 text) (2 ^ 63) ≡ b → cond (a && b) (Some (digits_value 10 text)) None ≡ Some size → IsSizeText text size
+  go true true numeral fits e =
+      let same : digits_value 10 text ≡ size = cc in
+      let below : digits_value 10 text < 2 ^ 63 = grind (arith, nat_tests) in
+      let digits = numeral_digits text numeral in
+      let written : decimal (digits_value 10 text) ≡ text = decimal-digits_value own text (AllDigits-from_list_all text digits.1) digits.0 (leading text numeral) (omega arith) in
+      record { text_is = sym written ∙ ap decimal same; most = rw (← same) below; clean = digits_clean text digits.1 }
+  go true false numeral fits e = cc
+  go false b numeral fits e = cc
+
+list_all-digits : (text : List ℕ) → AllDigits 10 text → list_all is_decimal_digit text ≡ true
+list_all-digits [] h = refl
+list_all-digits (byte ∷ text) h =
+    let range = digit_from_value byte h.0 in
+    let digit : is_decimal_digit byte ≡ true = grind (arith, nat_tests, range.0, range.1) in
+    rw (digit, list_all-digits text h.1) refl
+
+or_true : (a : Bool) → (a || true) ≡ true
+or_true true = refl
+or_true false = refl
+
+numeral_first : (text : List ℕ) → 0 < length text → 48 < get_or text 0 0 → AllDigits 10 text → is_numeral text ≡ true
+numeral_first [] some first digits = absurd (omega arith)
+numeral_first (byte ∷ text) some first digits =
+    let other : nat_eq 48 byte ≡ false = grind (arith, nat_tests) in
+    let filled : (length (byte ∷ text) == 0) ≡ false = grind (arith, nat_tests) in
+    let all = list_all-digits (byte ∷ text) digits in
+    rw (other, filled, all) (or_true (bytes_eq (byte ∷ text) (codes "0")))
+
+decimal_numeral : (n : ℕ) → n < 2 ^ 64 → is_numeral (decimal n) ≡ true
+decimal_numeral n lt = elim (cases_eq n 0) [
+  | inl none ↦ rw (none, decimal_digit 0 (omega arith)) refl
+  | inr some ↦ numeral_first (decimal n) (decimal_nonempty n lt) (first_decimal n (omega arith) lt) (digits_decimal own n lt)
+]
+
+size_read : (n : ℕ) → n < 2 ^ 63 → size_in (decimal n) ≡ Some n
+size_read n lt =
+    let wide : n < 2 ^ 64 = omega arith in
+    let value = digits_value-decimal own n wide in
+    let below : nat_lt n (2 ^ 63) ≡ true = grind (arith, nat_tests) in
+    rw (decimal_numeral n wide, value, below) refl
+
+-- two segments are the written form of a digest
+pub record IsDigestText (hash size : List ℕ) (d : Digest) : Type 0 where
+  pub hash_is : hash ≡ hash_text d
+  pub size_is : size ≡ decimal d.size
+  pub nameable : IsNameable d
+  pub hash_clean : HasNoSlash hash
+  pub size_clean : HasNoSlash size
+
+pub same_digest : (hash size : List ℕ) (d : Digest) → IsDigestText hash size d → hash ++ 47 ∷ size ≡ digest_text d
+same_digest hash size d w = rw (w.hash_is, w.size_is) refl
+
+pub digest_found : (hash size : List ℕ) (d : Digest) → digest_of_segments hash size ≡ Ok d → IsDigestText hash size d
+digest_found hash size d e = go (hash_in hash) (size_in size) refl refl e where
+  go : (h : Option (List ℕ)) (n : Option ℕ) → hash_in hash ≡ h → size_in size ≡ n
+      → (or_fault Hash h >>= λ bytes. or_fault Size n >>= λ count. Ok (record { hash = bytes; size = count })) ≡ Ok d → IsDigestText hash size d
+  go (Some bytes) (Some count) h n same' =
+      let same : d ≡ record { hash = bytes; size = count } = cc in
+      let a = hash_found hash bytes h in
+      let b = size_found size count n in
+      rw same (record {
+        hash_is = a.text_is;
+        size_is = b.text_is;
+        nameable = record { hash = a.size; bytes = a.bytes_are; size = b.most };
+        hash_clean = a.clean;
+        size_clean = b.clean;
+      })
+  go (Some bytes) None h n same' = cc
+  go None n' h n same' = cc
+
+pub digest_read : (d : Digest) → IsNameable d → digest_of_segments (hash_text d) (decimal d.size) ≡ Ok d
+digest_read d n = rw (hash_read d.hash n.hash n.bytes, size_read d.size n.size) refl
+
+pub written_digest : (d : Digest) → IsNameable d → IsDigestText (hash_text d) (decimal d.size) d
+written_digest d n = digest_found (hash_text d) (decimal d.size) d (digest_read d n)

@@ -1,0 +1,216 @@
+-- Connections take the ranges of replies, and those that none takes are released.
+use Rattle.std.proofs.Common.{◌≡◌, refl, sym, ap, ◌∙◌, subst, zero, suc, ◌+◌, ◌-◌, ◌<◌, ◌≤◌, arith, get_or, take, drop}
+use Rattle.std.proofs.Math.ListN.{set}
+use Rattle.std.proofs.lemmas.List.{take_all}
+use Rattle.std.specs.Prelude.{ℕ, false, List, [], ◌∷◌, map, length, position, Some, Result, Ok, Err, OnOk}
+use Rattle.std.specs.Result.{is_err}
+use Rattle.std.specs.List.{AllByRecursion}
+use Rattle.blob_pool.specs.Held.{Slots, count_at}
+use Rattle.blob_pool.specs.Moves.{Holders, Moves, nobody, one_at}
+use Rattle.blob_pool.proofs.Moves.{moves_none}
+use Rattle.grpc_sending.specs.Sources.{count_of}
+use Rattle.grpc_sending.specs.Kept.{Look, HasFew, HoldsMore, KeepsFitWith, sources_of}
+use Rattle.conn_core.specs.StandsFor.{Present}
+use Rattle.instance_core.specs.declared.event.Reply.{Reply}
+use Rattle.instance_core.specs.declared.event.ReplyItem.{ReplyItem}
+use Rattle.instance_core.specs.Given.{item_holders, items_holders, replies_holders}
+use Rattle.served_instance.specs.declared.open_connection.OpenConnection.{OpenConnection}
+use Rattle.served_instance.specs.StandsFor.{Served}
+use Rattle.served_instance.specs.Ranges.{KeepsRanges, sources_at}
+use Rattle.served_instance.specs.Given.{CanBeOwed, ReplyCanBeOwed, EndsWithin, ItemsEndWithin, ReplyEndsWithin, RepliesEndWithin, TakesRanges, TakeRanges}
+use Rattle.served_instance.specs.Shown.{served}
+use Rattle.served_instance.specs.Present.{is_numbered}
+use Rattle.served_instance.proofs.Places.{IsPlace, is_place}
+use Rattle.served_instance.proofs.Ranges.{count_append}
+
+-- ---- some are released, and then others
+
+pub moves_both : (p q r : Slots) (a b : Holders) → Moves p q a nobody → Moves q r b nobody → Moves p r (λ k. a k + b k) nobody
+moves_both p q r a b m n = record {
+  counts = λ k. omega (arith, m.counts k, n.counts k);
+  texts = λ k few. n.texts k (omega (arith, few, m.counts k)) ∙ m.texts k (omega (arith, few));
+}
+
+pub items_released : (p q r : Slots) (items : List ReplyItem) (d : ReplyItem) → 1 ≤ length items → Moves p q (item_holders (get_or items 0 d)) nobody → Moves q r (items_holders (take (length items - 1) (drop 1 items))) nobody → Moves p r (items_holders items) nobody
+items_released p q r [] d some m n = absurd (omega arith)
+items_released p q r (item ∷ items) d some m n =
+    let all : take (length (item ∷ items) - 1) items ≡ items = take_all (length (item ∷ items) - 1) items (omega arith) in
+    moves_both p q r (item_holders item) (items_holders items) m (subst (λ (xs : List ReplyItem). Moves q r (items_holders xs) nobody) all n)
+
+pub replies_released : (p q r : Slots) (rs : List Reply) (d : Reply) → 1 ≤ length rs → Moves p q (items_holders (get_or rs 0 d).items.items) nobody → Moves q r (replies_holders (take (length rs - 1) (drop 1 rs))) nobody → Moves p r (replies_holders rs) nobody
+replies_released p q r [] d some m n = absurd (omega arith)
+replies_released p q r (x ∷ rs) d some m n =
+    let all : take (length (x ∷ rs) - 1) rs ≡ rs = take_all (length (x ∷ rs) - 1) rs (omega arith) in
+    moves_both p q r (items_holders x.items.items) (replies_holders rs) m (subst (λ (xs : List Reply). Moves q r (replies_holders xs) nobody) all n)
+
+-- what is left is held
+pub items_left : (p q : Slots) (items : List ReplyItem) (d : ReplyItem) → 1 ≤ length items → ((k : ℕ) → items_holders items k ≤ count_at p k) → ((k : ℕ) → count_at p k ≤ count_at q k + item_holders (get_or items 0 d) k) →
+    (k : ℕ) → items_holders (take (length items - 1) (drop 1 items)) k ≤ count_at q k
+items_left p q [] d some held less = absurd (omega arith)
+items_left p q (item ∷ items) d some held less = λ k.
+    let all : take (length (item ∷ items) - 1) items ≡ items = take_all (length (item ∷ items) - 1) items (omega arith) in
+    let same : items_holders (take (length (item ∷ items) - 1) items) k ≡ items_holders items k = ap (λ (xs : List ReplyItem). items_holders xs k) all in
+    omega (arith, same, held k, less k)
+
+pub replies_left : (p q : Slots) (rs : List Reply) (d : Reply) → 1 ≤ length rs → ((k : ℕ) → replies_holders rs k ≤ count_at p k) → ((k : ℕ) → count_at p k ≤ count_at q k + items_holders (get_or rs 0 d).items.items k) →
+    (k : ℕ) → replies_holders (take (length rs - 1) (drop 1 rs)) k ≤ count_at q k
+replies_left p q [] d some held less = absurd (omega arith)
+replies_left p q (x ∷ rs) d some held less = λ k.
+    let all : take (length (x ∷ rs) - 1) rs ≡ rs = take_all (length (x ∷ rs) - 1) rs (omega arith) in
+    let same : replies_holders (take (length (x ∷ rs) - 1) rs) k ≡ replies_holders rs k = ap (λ (xs : List Reply). replies_holders xs k) all in
+    omega (arith, same, held k, less k)
+
+pub rest_owed : (items : List ReplyItem) → AllByRecursion CanBeOwed items → AllByRecursion CanBeOwed (take (length items - 1) (drop 1 items))
+rest_owed [] h = tt
+rest_owed (item ∷ items) h =
+    let all : take (length (item ∷ items) - 1) items ≡ items = take_all (length (item ∷ items) - 1) items (omega arith) in
+    subst (λ (xs : List ReplyItem). AllByRecursion CanBeOwed xs) (sym all) h.1
+
+pub rest_replies_owed : (rs : List Reply) → AllByRecursion ReplyCanBeOwed rs → AllByRecursion ReplyCanBeOwed (take (length rs - 1) (drop 1 rs))
+rest_replies_owed [] h = tt
+rest_replies_owed (x ∷ rs) h =
+    let all : take (length (x ∷ rs) - 1) rs ≡ rs = take_all (length (x ∷ rs) - 1) rs (omega arith) in
+    subst (λ (xs : List Reply). AllByRecursion ReplyCanBeOwed xs) (sym all) h.1
+
+-- ---- one connection
+
+pub takes_none : (given : Holders) (IsGood : Look → Type 0) (p : Slots) (v w : Present) → ((k : ℕ) → given k ≡ 0) → KeepsRanges v w → TakesRanges given IsGood p v p w
+takes_none given IsGood p v w none keeps = record {
+  gone = nobody;
+  fewer = λ k. omega arith;
+  sources = λ k. omega (arith, keeps.sources k, none k);
+  few = λ f k. omega (arith, keeps.sources k, f k);
+  fit = λ texts good h. keeps.fit texts h;
+  moves = moves_none p nobody nobody (λ k. refl);
+}
+
+-- none is taken
+pub takes_released : (given : Holders) (IsGood : Look → Type 0) (p q : Slots) (v w : Present) → w ≡ v → Moves p q given nobody → TakesRanges given IsGood p v q w
+takes_released given IsGood p q v w same m = subst (λ (x : Present). TakesRanges given IsGood p v q x) (sym same) (record {
+  gone = given;
+  fewer = λ k. omega arith;
+  sources = λ k. refl;
+  few = λ f. f;
+  fit = λ texts good h. h;
+  moves = m;
+})
+
+pub takes_range : (n until : ℕ) (p : Slots) (v w : Present) → HoldsMore n v.sending w.sending → HasFew w.sending → KeepsFitWith n until v.sending w.sending → TakesRanges (one_at n) (λ texts. until ≤ length (texts n)) p v p w
+takes_range n until p v w more few fit = record {
+  gone = nobody;
+  fewer = λ k. omega arith;
+  sources = λ k.
+      let e : count_of k (n ∷ sources_of v.sending) ≡ one_at n k + count_of k (sources_of v.sending) = refl in
+      omega (arith, more k, e);
+  few = λ f. few;
+  fit = fit;
+  moves = moves_none p nobody nobody (λ k. refl);
+}
+
+takes_both : (g h : Holders) (IsGood IsFine : Look → Type 0) (p q r : Slots) (u v w : Present) → TakesRanges g IsGood p u q v → TakesRanges h IsFine q v r w → TakesRanges (λ k. g k + h k) (λ texts. IsGood texts × IsFine texts) p u r w
+takes_both g h IsGood IsFine p q r u v w a b = record {
+  gone = λ k. a.gone k + b.gone k;
+  fewer = λ k. omega (arith, a.fewer k, b.fewer k);
+  sources = λ k. omega (arith, a.sources k, b.sources k);
+  few = λ f. b.few (a.few f);
+  fit = λ texts good f. b.fit texts good.1 (a.fit texts good.0 f);
+  moves = moves_both p q r a.gone b.gone a.moves b.moves;
+}
+
+-- an item is taken, and then those behind it
+pub takes_more : (items : List ReplyItem) (d : ReplyItem) (p q r : Slots) (u v w : Present) → 1 ≤ length items → TakesRanges (item_holders (get_or items 0 d)) (EndsWithin (get_or items 0 d)) p u q v →
+    TakesRanges (items_holders (take (length items - 1) (drop 1 items))) (ItemsEndWithin (take (length items - 1) (drop 1 items))) q v r w → TakesRanges (items_holders items) (ItemsEndWithin items) p u r w
+takes_more [] d p q r u v w some a b = absurd (omega arith)
+takes_more (item ∷ items) d p q r u v w some a b =
+    let all : take (length (item ∷ items) - 1) items ≡ items = take_all (length (item ∷ items) - 1) items (omega arith) in
+    takes_both (item_holders item) (items_holders items) (EndsWithin item) (ItemsEndWithin items) p q r u v w a
+    (subst (λ (xs : List ReplyItem). TakesRanges (items_holders xs) (ItemsEndWithin xs) q v r w) all b)
+
+pub takes_end : (items : List ReplyItem) (p : Slots) (v : Present) → length items < 1 → TakesRanges (items_holders items) (ItemsEndWithin items) p v p v
+takes_end [] p v none = takes_none (items_holders []) (ItemsEndWithin []) p v v (λ k. refl) (record { sources = λ k. refl; fit = λ texts h. h })
+takes_end (item ∷ items) p v none = absurd (omega arith)
+
+-- ---- all connections
+
+pub take_none : (given : Holders) (IsGood : Look → Type 0) (p : Slots) (vs : List Served) → ((k : ℕ) → given k ≡ 0) → TakeRanges given IsGood p vs p vs
+take_none given IsGood p vs none = record {
+  gone = nobody;
+  fewer = λ k. omega arith;
+  sources = λ k. omega (arith, none k);
+  few = λ f. f;
+  fit = λ texts good h. h;
+  moves = moves_none p nobody nobody (λ k. refl);
+}
+
+pub take_released : (given : Holders) (IsGood : Look → Type 0) (p q : Slots) (vs : List Served) → Moves p q given nobody → TakeRanges given IsGood p vs q vs
+take_released given IsGood p q vs m = record {
+  gone = given;
+  fewer = λ k. omega arith;
+  sources = λ k. refl;
+  few = λ f. f;
+  fit = λ texts good h. h;
+  moves = m;
+}
+
+take_both : (g h : Holders) (IsGood IsFine : Look → Type 0) (p q r : Slots) (us vs ws : List Served) → TakeRanges g IsGood p us q vs → TakeRanges h IsFine q vs r ws → TakeRanges (λ k. g k + h k) (λ texts. IsGood texts × IsFine texts) p us r ws
+take_both g h IsGood IsFine p q r us vs ws a b = record {
+  gone = λ k. a.gone k + b.gone k;
+  fewer = λ k. omega (arith, a.fewer k, b.fewer k);
+  sources = λ k. omega (arith, a.sources k, b.sources k);
+  few = λ f. b.few (a.few f);
+  fit = λ texts good f. b.fit texts good.1 (a.fit texts good.0 f);
+  moves = moves_both p q r a.gone b.gone a.moves b.moves;
+}
+
+pub take_more : (rs : List Reply) (d : Reply) (p q r : Slots) (us vs ws : List Served) → 1 ≤ length rs → TakeRanges (items_holders (get_or rs 0 d).items.items) (ReplyEndsWithin (get_or rs 0 d)) p us q vs →
+    TakeRanges (replies_holders (take (length rs - 1) (drop 1 rs))) (RepliesEndWithin (take (length rs - 1) (drop 1 rs))) q vs r ws → TakeRanges (replies_holders rs) (RepliesEndWithin rs) p us r ws
+take_more [] d p q r us vs ws some a b = absurd (omega arith)
+take_more (x ∷ rs) d p q r us vs ws some a b =
+    let all : take (length (x ∷ rs) - 1) rs ≡ rs = take_all (length (x ∷ rs) - 1) rs (omega arith) in
+    take_both (items_holders x.items.items) (replies_holders rs) (ReplyEndsWithin x) (RepliesEndWithin rs) p q r us vs ws a
+    (subst (λ (xs : List Reply). TakeRanges (replies_holders xs) (RepliesEndWithin xs) q vs r ws) all b)
+
+pub take_end : (rs : List Reply) (p : Slots) (vs : List Served) → length rs < 1 → TakeRanges (replies_holders rs) (RepliesEndWithin rs) p vs p vs
+take_end [] p vs none = take_none (replies_holders []) (RepliesEndWithin []) p vs (λ k. refl)
+take_end (x ∷ rs) p vs none = absurd (omega arith)
+
+-- ---- one connection among others
+
+take_first : (given : Holders) (IsGood : Look → Type 0) (p q : Slots) (v w : Served) (vs : List Served) → TakesRanges given IsGood p v.connection q w.connection → TakeRanges given IsGood p (v ∷ vs) q (w ∷ vs)
+take_first given IsGood p q v w vs t = record {
+  gone = t.gone;
+  fewer = t.fewer;
+  sources = λ k. omega (arith, t.sources k, count_append k (sources_of v.connection.sending) (sources_at vs), count_append k (sources_of w.connection.sending) (sources_at vs));
+  few = λ f. (t.few f.0, f.1);
+  fit = λ texts good f. (t.fit texts good f.0, f.1);
+  moves = t.moves;
+}
+
+take_behind : (given : Holders) (IsGood : Look → Type 0) (p q : Slots) (v : Served) (vs ws : List Served) → TakeRanges given IsGood p vs q ws → TakeRanges given IsGood p (v ∷ vs) q (v ∷ ws)
+take_behind given IsGood p q v vs ws t = record {
+  gone = t.gone;
+  fewer = t.fewer;
+  sources = λ k. omega (arith, t.sources k, count_append k (sources_of v.connection.sending) (sources_at vs), count_append k (sources_of v.connection.sending) (sources_at ws));
+  few = λ f. (f.0, t.few f.1);
+  fit = λ texts good f. (f.0, t.fit texts good f.1);
+  moves = t.moves;
+}
+
+take_place : (given : Holders) (IsGood : Look → Type 0) (p q : Slots) (c : ℕ) (os : List OpenConnection) (i : ℕ) (d : OpenConnection) (w : Present) → IsPlace c os i → TakesRanges given IsGood p (get_or os i d).connection q w →
+    TakeRanges given IsGood p (map served os) q (map served (set os i (record { number = (get_or os i d).number; connection = w })))
+take_place given IsGood p q c [] i d w at t = absurd at
+take_place given IsGood p q c (o ∷ os) zero d w at t = take_first given IsGood p q (served o) (served (record { number = o.number; connection = w })) (map served os) t
+take_place given IsGood p q c (o ∷ os) (suc i) d w at t = take_behind given IsGood p q (served o) (map served os) _ (take_place given IsGood p q c os i d w at.1 t)
+
+-- the connection of number c takes them
+pub take_at : (given : Holders) (IsGood : Look → Type 0) (p q : Slots) (c : ℕ) (os : List OpenConnection) (i : ℕ) (d : OpenConnection) (w : Present) → position (is_numbered c) os ≡ Some i → TakesRanges given IsGood p (get_or os i d).connection q w →
+    TakeRanges given IsGood p (map served os) q (map served (set os i (record { number = (get_or os i d).number; connection = w })))
+take_at given IsGood p q c os i d w at t = take_place given IsGood p q c os i d w (is_place c os i at) t
+
+-- ---- by a result
+
+pub range_taken : {T E : Type 0} (r : Result T E) (n m until : ℕ) (p : Slots) (v w : Present) → n ≡ m → is_err r ≡ false → OnOk r (HoldsMore n v.sending w.sending) → OnOk r (HasFew w.sending) → KeepsFitWith n until v.sending w.sending →
+    TakesRanges (one_at m) (λ texts. until ≤ length (texts m)) p v p w
+range_taken (Ok x) n m until p v w same ok more few fit =
+    subst (λ (k : ℕ). TakesRanges (one_at k) (λ texts. until ≤ length (texts k)) p v p w) same (takes_range n until p v w more few fit)
+range_taken (Err e) n m until p v w same ok more few fit = cc

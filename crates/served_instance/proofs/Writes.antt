@@ -1,0 +1,34 @@
+-- All connections were written through a slice of them.
+use Rattle.std.proofs.Common.{◌≡◌, ◌≤◌, List, length, map, sym, subst, arith, ap, ◌∙◌}
+use Rattle.std.proofs.lemmas.List.{length-map}
+use Rattle.blob_pool.specs.Held.{Slots}
+use Rattle.blob_pool.specs.Moves.{Moves}
+use Rattle.instance_core.specs.Slots.{InstanceSlots}
+use Rattle.served_instance.specs.declared.open_connection.OpenConnection.{OpenConnection}
+use Rattle.served_instance.specs.Slots.{holders_of, IsKept}
+use Rattle.served_instance.specs.Shown.{served}
+use Rattle.served_instance.specs.Acts.{HoldAlike, slots_of}
+use Rattle.served_instance.proofs.Kept.{alike_keeps, few_connections}
+
+-- os were seen as xs, which became ns, and are zs now
+pub alike_written : (os xs ns zs : List OpenConnection) → xs ≡ os → zs ≡ ns → HoldAlike xs ns → HoldAlike os zs
+alike_written os xs ns zs seen back alike =
+    subst (λ (ys : List OpenConnection). HoldAlike ys zs) seen (subst (λ (ys : List OpenConnection). HoldAlike xs ys) (sym back) alike)
+
+pub few_written : (p : Slots) (i : InstanceSlots) (os xs ns zs : List OpenConnection) → xs ≡ os → zs ≡ ns → length ns ≡ length xs → IsKept p (slots_of i os) → length (map served zs) ≤ 64
+few_written p i os xs ns zs seen back same kept =
+    let long : length zs ≡ length os = ap length back ∙ same ∙ ap length seen in
+    omega (arith, long, few_connections p (slots_of i os) kept, length-map os served, length-map zs served)
+
+pub alike_writes : (p : Slots) (i : InstanceSlots) (os xs ns zs : List OpenConnection) → xs ≡ os → zs ≡ ns → length ns ≡ length xs → IsKept p (slots_of i os) → HoldAlike xs ns → IsKept p (slots_of i zs)
+alike_writes p i os xs ns zs seen back same kept alike =
+    alike_keeps p i (map served os) (map served zs) kept (alike_written os xs ns zs seen back alike) (few_written p i os xs ns zs seen back same kept)
+
+-- what is said of an instance with the connections that were seen, of one with those that are there
+pub seen_kept : (p : Slots) (i : InstanceSlots) (os xs : List OpenConnection) → xs ≡ os → IsKept p (slots_of i os) → IsKept p (slots_of i xs)
+seen_kept p i os xs seen kept = subst (λ (ys : List OpenConnection). IsKept p (slots_of i ys)) (sym seen) kept
+
+pub moves_written : (p q : Slots) (i j : InstanceSlots) (os xs ns zs : List OpenConnection) → xs ≡ os → zs ≡ ns → Moves p q (holders_of (slots_of i xs)) (holders_of (slots_of j ns)) → Moves p q (holders_of (slots_of i os)) (holders_of (slots_of j zs))
+moves_written p q i j os xs ns zs seen back m =
+    subst (λ (ys : List OpenConnection). Moves p q (holders_of (slots_of i ys)) (holders_of (slots_of j zs))) seen
+    (subst (λ (ys : List OpenConnection). Moves p q (holders_of (slots_of i xs)) (holders_of (slots_of j ys))) (sym back) m)

@@ -1,0 +1,20 @@
+use Rattle.std.proofs.Common.{ℕ, ◌≤◌, length}
+use Rattle.std.specs.List.{AllByRecursion}
+use Rattle.blob_pool.specs.Held.{Slots, count_at}
+use Rattle.conn_core.specs.StandsFor.{Present}
+use Rattle.instance_core.specs.Given.{items_holders}
+use Rattle.served_instance.specs.Acts.{Owes}
+use Rattle.served_instance.specs.Given.{CanBeOwed, ItemsEndWithin, TakesRanges, with_owed}
+use Rattle.served_instance.proofs.replies.owe.Given as goal
+
+-- what is left is owed behind what was, and its ranges are held
+abbrev pub invariant-items : goal.invariant-items
+invariant-items l = record {
+  owes : (w : Present) → Owes (with_owed l.stream l.left) l.connection w → Owes (with_owed l.stream l.items) l.fn.connection w;
+  takes : (r : Slots) (w : Present) → TakesRanges (items_holders l.left) (ItemsEndWithin l.left) l.pool l.connection r w → TakesRanges (items_holders l.items) (ItemsEndWithin l.items) l.fn.pool l.fn.connection r w;
+  counted : (k : ℕ) → items_holders l.left k ≤ count_at l.pool k;
+  owed : AllByRecursion CanBeOwed l.left;
+}
+
+abbrev pub decreases-items : goal.decreases-items
+decreases-items l = length l.left

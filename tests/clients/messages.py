@@ -78,8 +78,32 @@ def capabilities(instance):
     return field(1, instance)
 
 
+def read_name(blob_hash, size, instance=""):
+    return (instance + "/" if instance else "") + f"blobs/{blob_hash}/{size}"
+
+
+def write_name(uuid, blob_hash, size, instance=""):
+    return (instance + "/" if instance else "") + f"uploads/{uuid}/blobs/{blob_hash}/{size}"
+
+
+def read(name, offset=0, limit=0):
+    return field(1, name) + field(2, offset) + field(3, limit)
+
+
+def write(name, offset, content, finish=False):
+    return field(1, name) + field(2, offset) + field(3, finish and 1) + field(10, content)
+
+
+def query_write_status(name):
+    return field(1, name)
+
+
 CAS = "/build.bazel.remote.execution.v2.ContentAddressableStorage/"
 FIND_MISSING = CAS + "FindMissingBlobs"
 BATCH_UPDATE = CAS + "BatchUpdateBlobs"
 BATCH_READ = CAS + "BatchReadBlobs"
 CAPABILITIES = "/build.bazel.remote.execution.v2.Capabilities/GetCapabilities"
+STREAM = "/google.bytestream.ByteStream/"
+READ = STREAM + "Read"
+WRITE = STREAM + "Write"
+QUERY = STREAM + "QueryWriteStatus"

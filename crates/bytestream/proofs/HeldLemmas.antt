@@ -1,7 +1,7 @@
 -- Texts that a pool counts.
 use Rattle.std.proofs.Common.{◌≡◌, ℕ, ◌≤◌, Option, Some, None, Result, Ok, Err, sym, subst, arith}
 use Rattle.std.specs.Prelude.{IfSome, IfOk}
-use Rattle.call_status.specs.declared.refusal.Refusal.{Refusal}
+use Rattle.rpc.specs.declared.refusal.Refusal.{Refusal}
 use Rattle.instance_view.specs.declared.view.Seen.{Seen}
 use Rattle.instance_view.specs.Shown.{holders_seen}
 use Rattle.bytestream.specs.declared.reading.Source.{Source}

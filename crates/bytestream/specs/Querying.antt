@@ -4,8 +4,8 @@ use Rattle.reapi_messages.specs.Results.{◌>>=◌}
 use Rattle.reapi_messages.specs.Fields.{decoded}
 use Rattle.reapi_messages.specs.Parts.{text_for}
 use Rattle.reapi_messages.specs.ByteStream.{QueryWriteStatusResponseValue, query_write_status_request_of, query_write_status_response_records}
-use Rattle.call_status.specs.declared.refusal.Refusal.{Refusal}
-use Rattle.call_status.specs.declared.refusal.Refusal.TheVariants.{UploadNotFound}
+use Rattle.rpc.specs.declared.refusal.Refusal.{Refusal}
+use Rattle.rpc.specs.declared.refusal.Refusal.TheVariants.{UploadNotFound}
 use Rattle.instance_view.specs.Visible.{Blob, seen}
 use Rattle.cas_service.specs.Requests.{readable, own_instance}
 use Rattle.resource_names.specs.Names.{WriteNameValue, write_name}

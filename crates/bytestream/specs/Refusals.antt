@@ -1,7 +1,7 @@
 -- What faults of names and uploads are to a call.
 use Rattle.std.specs.Prelude.{Result, Ok, Err}
-use Rattle.call_status.specs.declared.refusal.Refusal.{Refusal}
-use Rattle.call_status.specs.declared.refusal.Refusal.TheVariants.{BadResourceName, UnsupportedCompressor, BadDigest, WrongOffset, DigestDoesNotMatch, TooManyUploads, QuotaExceeded}
+use Rattle.rpc.specs.declared.refusal.Refusal.{Refusal}
+use Rattle.rpc.specs.declared.refusal.Refusal.TheVariants.{BadResourceName, UnsupportedCompressor, BadDigest, WrongOffset, DigestDoesNotMatch, TooManyUploads, QuotaExceeded}
 use Rattle.cas_service.specs.declared.error.CallError.{CallError}
 use Rattle.cas_service.specs.declared.error.CallError.TheVariants.{Refused, NoMemory}
 use Rattle.resource_names.specs.declared.name.NameError.{NameError}

@@ -6,8 +6,8 @@ use Rattle.reapi_messages.specs.Results.{◌>>=◌}
 use Rattle.reapi_messages.specs.Fields.{decoded}
 use Rattle.reapi_messages.specs.Parts.{text_for}
 use Rattle.reapi_messages.specs.ByteStream.{write_request_of, write_response_records}
-use Rattle.call_status.specs.declared.refusal.Refusal.{Refusal}
-use Rattle.call_status.specs.declared.refusal.Refusal.TheVariants.{BadResourceName}
+use Rattle.rpc.specs.declared.refusal.Refusal.{Refusal}
+use Rattle.rpc.specs.declared.refusal.Refusal.TheVariants.{BadResourceName}
 use Rattle.instance_view.specs.Visible.{Blob, seen, used}
 use Rattle.quota_evict.specs.Admission.{admitted}
 use Rattle.cas_service.specs.Requests.{readable, own_instance}

@@ -6,8 +6,8 @@ ghost use Rattle.resource_names.specs.Names as names;
 ghost use Rattle.resource_names.specs.Shown.{read_name_shown, write_name_shown};
 ghost use Rattle.bytestream.specs.Refusals.{named, name_refusal};
 
-use call_status::Refusal;
 use resource_names::{NameError, ReadName, WriteName, parse_read, parse_write};
+use rpc::Refusal;
 
 fn refusal(error: NameError) -> Refusal
     ensures { result ≡ name_refusal error }

@@ -11,9 +11,9 @@ ghost use Rattle.bytestream.specs.Writing.{state_of, end_answer, part_answer, af
 ghost use Rattle.bytestream.specs.Shown.{part_shown};
 
 use blob_pool::Pool;
-use call_status::Refusal;
 use cas_service::CallError;
 use instance_view::View;
+use rpc::Refusal;
 use std::alloc::Global;
 use uploads::{Piece, UploadError, UploadKey, Uploads};
 

@@ -9,10 +9,10 @@ ghost use Rattle.bytestream.specs.Querying as querying;
 ghost use Rattle.bytestream.specs.Querying.{status_of, query_reply};
 
 use crate::names::write_name;
-use call_status::Refusal;
 use cas_service::{CallError, check_instance};
 use instance_view::View;
 use reapi_messages::{Message, QueryWriteStatusRequest, QueryWriteStatusResponse};
+use rpc::Refusal;
 use std::alloc::Global;
 use uploads::{UploadKey, Uploads};
 

@@ -12,11 +12,11 @@ ghost use Rattle.bytestream.specs.Shown.{source_shown};
 
 use crate::names::read_name;
 use blob_pool::{Pool, keep};
-use call_status::Refusal;
 use cas_service::{CallError, check_instance};
 use digest::Digest;
 use instance_view::{Seen, View};
 use reapi_messages::{Message, ReadRequest};
+use rpc::Refusal;
 use std::alloc::Global;
 
 /// A range of a blob: its bytes from one place until before another. It is another holder of the blob's text.

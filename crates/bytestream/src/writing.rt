@@ -13,11 +13,11 @@ ghost use Rattle.bytestream.specs.Shown.{part_shown, first_part_shown, open_writ
 use crate::names::write_name;
 use crate::part::{Part, take_first, take_next};
 use blob_pool::Pool;
-use call_status::Refusal;
 use cas_service::{CallError, check_instance};
 use digest::Digest;
 use instance_view::View;
 use reapi_messages::{Message, WriteRequest, WriteResponse};
+use rpc::Refusal;
 use std::alloc::{AllocError, Global};
 use uploads::{Piece, UploadKey, Uploads};
 

@@ -5,12 +5,12 @@ ghost use Rattle.quota_evict.specs.Kept.{AreKept};
 
 use blob_pool::{Pool, keep};
 use bytestream::{Source, read};
-use call_status::Refusal;
 use cas_service::CallError;
 use digest::Digest;
 use instance_view::{Seen, View};
 use quota_evict::admit;
 use reapi_messages::{Message, ReadRequest};
+use rpc::Refusal;
 use std::alloc::{AllocError, Global};
 
 /// The instance's quota, in bytes.

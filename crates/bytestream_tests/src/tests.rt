@@ -3,8 +3,8 @@ use crate::{
     keeps_sixty_four, misanswered_calls, misanswered_messages, misread, misread_range,
     reads_over_two_pages,
 };
-use call_status::Refusal;
 use resource_names::NameError;
+use rpc::Refusal;
 use std::alloc::{AllocError, Global};
 use std::test::*;
 

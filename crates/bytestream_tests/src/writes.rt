@@ -5,11 +5,11 @@ ghost use Rattle.bytestream.specs.Shown.{open_write_shown};
 
 use blob_pool::Pool;
 use bytestream::{OpenWrite, Written, ended_unfinished, query, write_first, write_next};
-use call_status::Refusal;
 use cas_service::CallError;
 use instance_view::View;
 use reapi_messages::{Message, QueryWriteStatusRequest, WriteRequest};
 use resource_names::parse_write;
+use rpc::Refusal;
 use std::alloc::{AllocError, Global};
 use uploads::{UploadKey, Uploads};
 

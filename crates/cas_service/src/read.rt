@@ -16,9 +16,9 @@ use crate::requests::{
 };
 use crate::statuses::{ok_status, refused_status};
 use blob_pool::{Pool, keep};
-use call_status::Refusal;
 use instance_view::{Seen, View};
 use reapi_messages::{BatchReadBlobsRequest, BatchReadBlobsResponse, Message, ReadBlobResponse};
+use rpc::Refusal;
 use std::alloc::{AllocError, Global};
 
 /// The sizes that the digests state have to be at most 4,000,000 together.

@@ -11,10 +11,10 @@ ghost use Rattle.cas_service.specs.Requests.{own_instance, known_function, diges
 ghost use Rattle.cas_service.specs.Shown.{named, sent};
 
 use crate::error::CallError;
-use call_status::Refusal;
 use digest::Digest;
 use instance_view::View;
 use reapi_messages as messages;
+use rpc::Refusal;
 use std::alloc::{AllocError, Global};
 
 /// How many bytes the blobs of a batch have at most together.

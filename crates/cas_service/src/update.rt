@@ -2,7 +2,7 @@ ghost use Rattle.std.specs.Prelude.{◌≡◌, ◌≤◌, ◌^◌, ℕ, List, ma
 ghost use Rattle.reapi_messages.specs.Digests.{digest_shown};
 ghost use Rattle.reapi_messages.specs.Batches.{update_blob_request_shown, update_blob_response_shown};
 ghost use Rattle.reapi_messages.specs.Statuses.{status_shown};
-ghost use Rattle.call_status.specs.declared.refusal.Refusal.{Refusal};
+ghost use Rattle.rpc.specs.declared.refusal.Refusal.{Refusal};
 ghost use Rattle.digest.specs.Naming.{Names};
 ghost use Rattle.quota_evict.specs.Admission.{admitted};
 ghost use Rattle.blob_pool.specs.Moves.{Moves};
@@ -20,7 +20,6 @@ use crate::error::CallError;
 use crate::requests::{MOST_BATCH_BYTES, check_function, check_instance, read_digest};
 use crate::statuses::{ok_status, refused_status};
 use blob_pool::Pool;
-use call_status::Refusal;
 use digest::Digest;
 use instance_view::View;
 use quota_evict::{AdmitError, admit};
@@ -29,6 +28,7 @@ use reapi_messages::{
     BatchUpdateBlobsRequest, BatchUpdateBlobsResponse, Message, Status, UpdateBlobRequest,
     UpdateBlobResponse,
 };
+use rpc::Refusal;
 use std::alloc::{AllocError, Global};
 
 /// A blob that a request sends, and the digest under which it is stored or why it is not.

@@ -20,7 +20,7 @@ use Rattle.http2_frames.specs.Writing.{IsStream, IsWritable}
 use Rattle.http2_headers.specs.HeaderBlock.{HeaderBlock, begun, continued, is_excessive}
 use Rattle.http2_headers.specs.declared.header_blocks.HeaderList.{HeaderList}
 use Rattle.http2_headers.specs.Decoding.{given, given_next, list_of}
-use Rattle.http2_requests.specs.Request.{is_well_formed_request}
+use Rattle.http2_headers.specs.Request.{is_well_formed_request}
 use Rattle.http2_streams.specs.declared.event.Event.{Event}
 use Rattle.http2_streams.specs.declared.event.Event.TheVariants.{Nothing}
 use Rattle.http2_streams.specs.declared.event.StreamEvent.{StreamEvent}

@@ -13,7 +13,7 @@ use Rattle.http2_streams.specs.LiveStreams.{live_after_end}
 use Rattle.http2_streams.specs.Rules.{number_is}
 use Rattle.http2_streams.specs.Standing.{Standing, stream_at}
 use Rattle.http2_streams.specs.StandsFor.{StandsFor as AreStreams}
-use Rattle.call_methods.specs.declared.method.Method.{Method}
+use Rattle.rpc.specs.declared.method.Method.{Method}
 use Rattle.grpc_calls.specs.declared.request.HeadFault.{HeadFault}
 use Rattle.grpc_calls.specs.declared.response.ResponseBlock.{ResponseBlock}
 use Rattle.grpc_calls.specs.Requests.{head_of}

@@ -6,7 +6,7 @@ use Rattle.http2_streams.specs.declared.stream.Stream.{Stream}
 use Rattle.http2_streams.specs.Rules.{number_is}
 use Rattle.grpc_messages.specs.declared.error.MessagesError.{MessagesError}
 use Rattle.grpc_messages.specs.Reader.{StandsFor as AreMessages}
-use Rattle.call_methods.specs.declared.method.Method.{Method}
+use Rattle.rpc.specs.declared.method.Method.{Method}
 use Rattle.conn_core.specs.declared.call.Call.{Call}
 use Rattle.conn_core.specs.declared.event.CallEvent.{CallEvent}
 use Rattle.conn_core.specs.declared.event.CallEvent.TheVariants.{Head, Message, Cancel}

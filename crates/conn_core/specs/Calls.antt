@@ -9,9 +9,9 @@ use Rattle.grpc_messages.specs.declared.error.MessagesError.{MessagesError}
 use Rattle.grpc_messages.specs.declared.error.MessagesError.TheVariants.{Compressed, TooLarge}
 use Rattle.grpc_messages.specs.Wire.{Split}
 use Rattle.grpc_messages.specs.Reading.{split}
-use Rattle.call_status.specs.declared.refusal.Refusal.{Refusal}
-use Rattle.call_status.specs.declared.refusal.Refusal.TheVariants.{CompressedMessage, MessageTooLarge, MessageCutOff}
-use Rattle.call_methods.specs.declared.method.Method.{Method}
+use Rattle.rpc.specs.declared.refusal.Refusal.{Refusal}
+use Rattle.rpc.specs.declared.refusal.Refusal.TheVariants.{CompressedMessage, MessageTooLarge, MessageCutOff}
+use Rattle.rpc.specs.declared.method.Method.{Method}
 use Rattle.grpc_calls.specs.declared.request.HeadFault.{HeadFault}
 use Rattle.grpc_calls.specs.Requests.{head_of}
 use Rattle.grpc_calls.specs.Responses.{response_to}

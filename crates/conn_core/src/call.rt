@@ -12,10 +12,10 @@ ghost use Rattle.conn_core.specs.CallSteps.{TakesAll, TakesOn, BeginsCall, place
 ghost use Rattle.conn_core.specs.declared.event.CallEvent.TheVariants.{Fault};
 
 use crate::event::CallEvent;
-use call_status::Refusal;
 use grpc_calls::Method;
 use grpc_messages::{Messages, MessagesError};
 use http2_streams::Stream;
+use rpc::Refusal;
 use std::alloc::{AllocError, Global};
 use std::collections::VecDeque;
 

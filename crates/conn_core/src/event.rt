@@ -1,8 +1,8 @@
 //! What happens to a call.
 
-use call_status::Refusal;
 use grpc_calls::Method;
 use grpc_messages::Message;
+use rpc::Refusal;
 
 /// An event of a call, which the number of its stream names. Messages, faults and ends still come for a call
 /// that was answered: whoever answers drops them.

@@ -10,9 +10,9 @@ use Rattle.hpack.specs.StaticTable.{static_table, name_index}
 use Rattle.hpack.specs.declared.encoder.Position.{Position}
 use Rattle.hpack.specs.declared.encoder.Position.TheVariants.{First, Later}
 use Rattle.hpack.proofs.Encodings.{first_read, later_read}
-use Rattle.call_status.specs.declared.refusal.Refusal.{Refusal}
-use Rattle.call_status.specs.declared.refusal.Refusal.TheVariants.{UnknownMethod}
-use Rattle.call_status.specs.Status.{code_of, text_of}
+use Rattle.rpc.specs.declared.refusal.Refusal.{Refusal}
+use Rattle.rpc.specs.declared.refusal.Refusal.TheVariants.{UnknownMethod}
+use Rattle.rpc.specs.Status.{code_of, text_of}
 use Rattle.grpc_calls.specs.declared.response.Status.TheVariants.{Success, Refused}
 use Rattle.grpc_calls.specs.declared.response.ResponseBlock.{ResponseBlock}
 use Rattle.grpc_calls.specs.declared.response.ResponseBlock.TheVariants.{Head, Trailers, TrailersOnly, MethodNotAllowed, UnsupportedMediaType}

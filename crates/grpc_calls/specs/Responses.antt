@@ -3,8 +3,8 @@ use Rattle.std.specs.Prelude.{ℕ, ◌+◌, ◌/◌, ◌%◌, Bool, true, false,
 use Rattle.std.specs.List.{flat_map}
 use Rattle.std.specs.Fmt.{decimal}
 use Rattle.hpack.specs.Header.{Header}
-use Rattle.call_status.specs.declared.refusal.Refusal.TheVariants.{UnknownMethod}
-use Rattle.call_status.specs.Status.{code_of, text_of}
+use Rattle.rpc.specs.declared.refusal.Refusal.TheVariants.{UnknownMethod}
+use Rattle.rpc.specs.Status.{code_of, text_of}
 use Rattle.grpc_calls.specs.declared.request.HeadFault.{HeadFault}
 use Rattle.grpc_calls.specs.declared.request.HeadFault.TheVariants.{Method as BadMethod, ContentType as BadContentType, Path as BadPath}
 use Rattle.grpc_calls.specs.declared.response.Status.{Status}

@@ -7,12 +7,12 @@ ghost use Rattle.hpack.specs.Block.{block_of};
 ghost use Rattle.hpack.specs.Encoding.{block_text};
 ghost use Rattle.hpack.specs.declared.encoder.Position.{Position};
 ghost use Rattle.hpack.specs.declared.encoder.Position.TheVariants.{First, Later};
-ghost use Rattle.call_status.specs.declared.refusal.Refusal.{Refusal};
-ghost use Rattle.call_status.specs.Status.{code_of, text_of};
-ghost use Rattle.call_methods.specs.declared.method.Method.{Method};
+ghost use Rattle.rpc.specs.declared.refusal.Refusal.{Refusal};
+ghost use Rattle.rpc.specs.Status.{code_of, text_of};
+ghost use Rattle.rpc.specs.declared.method.Method.{Method};
 ghost use Rattle.grpc_calls.specs.declared.request.HeadFault.{HeadFault};
 ghost use Rattle.grpc_calls.specs.declared.response.ResponseBlock.{ResponseBlock};
-ghost use Rattle.call_methods.specs.Methods.{path_of, method_at};
+ghost use Rattle.rpc.specs.Methods.{path_of, method_at};
 ghost use Rattle.grpc_calls.specs.Requests.{IsCall, IsPost, IsGrpc, HasPathOf, head_of};
 ghost use Rattle.grpc_calls.specs.Responses.{fields_of, percent_encoded};
 

@@ -7,9 +7,8 @@ ghost use Rattle.grpc_calls.specs.Requests.{head_of, is_grpc_type};
 ghost use Rattle.grpc_calls.specs.Responses.{response_to};
 
 use crate::response::ResponseBlock;
-use call_methods::Method;
-use call_status::Refusal;
 use hpack::{HeaderField, Headers};
+use rpc::{Method, Refusal};
 
 /// Why a request is no call.
 #[derive(Clone, Copy, PartialEq, Eq)]

@@ -2,13 +2,13 @@
 
 ghost use Rattle.std.specs.Prelude.{◌≡◌, ◌<◌, ◌++◌, OnOk, OnErr, codes};
 ghost use Rattle.std.specs.Fmt.{decimal};
-ghost use Rattle.call_status.specs.Status.{code_of, text_of};
+ghost use Rattle.rpc.specs.Status.{code_of, text_of};
 ghost use Rattle.hpack.specs.Encoding.{block_text};
 ghost use Rattle.hpack.specs.Shown.{field_shown};
 ghost use Rattle.grpc_calls.specs.Responses.{fields_of, is_last, header, percent_encoded};
 
-use call_status::Refusal;
 use hpack::{Field, Position, encode_into};
+use rpc::Refusal;
 use std::alloc::AllocError;
 
 /// How a call ends.

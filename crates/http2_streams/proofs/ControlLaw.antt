@@ -16,7 +16,7 @@ use Rattle.http2_frames.specs.Writing.{raw_of}
 use Rattle.http2_headers.specs.HeaderBlock.{begun}
 use Rattle.http2_headers.specs.declared.header_blocks.HeaderList.{HeaderList}
 use Rattle.http2_headers.specs.Decoding.{given, given_next}
-use Rattle.http2_requests.specs.Request.{is_well_formed_request}
+use Rattle.http2_headers.specs.Request.{is_well_formed_request}
 use Rattle.http2_streams.specs.declared.event.Event.{Event}
 use Rattle.http2_streams.specs.declared.event.Event.TheVariants.{Nothing}
 use Rattle.http2_streams.specs.declared.event.StreamEvent.{StreamEvent}

@@ -16,7 +16,7 @@ use Rattle.http2_frames.specs.declared.settings.Setting.{Setting}
 use Rattle.http2_headers.specs.HeaderBlock.{HeaderBlock, begun, continued, is_excessive}
 use Rattle.http2_headers.specs.declared.header_blocks.HeaderList.{HeaderList}
 use Rattle.http2_headers.specs.Decoding.{HeaderState, given, kept, given_next, kept_next, list_of}
-use Rattle.http2_requests.specs.Request.{is_well_formed_request}
+use Rattle.http2_headers.specs.Request.{is_well_formed_request}
 use Rattle.http2_streams.specs.declared.stream.Stream.{Stream}
 use Rattle.http2_streams.specs.declared.event.Event.{Event}
 use Rattle.http2_streams.specs.declared.event.Event.TheVariants.{Nothing, Request, Content, Trailers, Cancel}

@@ -20,7 +20,7 @@ use Rattle.http2_headers.specs.declared.header_blocks.HeaderList.{HeaderList}
 use Rattle.http2_headers.specs.declared.fault.H2Fault.{H2Fault}
 use Rattle.http2_headers.specs.declared.fault.H2Fault.TheVariants.{Connection, NoMemory}
 use Rattle.http2_headers.specs.Decoding.{given, kept, given_next, kept_next, Gives}
-use Rattle.http2_requests.specs.Request.{is_well_formed_request}
+use Rattle.http2_headers.specs.Request.{is_well_formed_request}
 use Rattle.http2_streams.specs.declared.event.Event.{Event}
 use Rattle.http2_streams.specs.declared.event.Event.TheVariants.{Nothing}
 use Rattle.http2_streams.specs.declared.event.StreamEvent.{StreamEvent}

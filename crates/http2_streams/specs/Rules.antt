@@ -21,7 +21,7 @@ use Rattle.http2_frames.specs.Frames.{has_flag, frame_of}
 use Rattle.http2_headers.specs.HeaderBlock.{HeaderBlock, begun}
 use Rattle.http2_headers.specs.declared.header_blocks.HeaderList.{HeaderList}
 use Rattle.http2_headers.specs.Decoding.{given, given_next}
-use Rattle.http2_requests.specs.Request.{is_well_formed_request}
+use Rattle.http2_headers.specs.Request.{is_well_formed_request}
 use Rattle.http2_streams.specs.declared.stream.Stream.{Stream}
 use Rattle.http2_streams.specs.declared.event.Event.{Event}
 use Rattle.http2_streams.specs.declared.event.Event.TheVariants.{Nothing, Request, Content, Trailers, Cancel}

@@ -5,10 +5,10 @@ use Rattle.std.specs.List.{AllByRecursion}
 use Rattle.std.specs.declared.alloc.Global.{Global}
 use Rattle.std.specs.declared.alloc.AllocError.{AllocError}
 use Rattle.std.specs.declared.vec.Vec.{Vec}
-use Rattle.call_methods.specs.declared.method.Method.{Method}
-use Rattle.call_methods.specs.declared.method.Method.TheVariants.{FindMissingBlobs, BatchUpdateBlobs, BatchReadBlobs, GetTree, GetActionResult, UpdateActionResult, Execute, WaitExecution, GetCapabilities, Read, Write, QueryWriteStatus}
-use Rattle.call_status.specs.declared.refusal.Refusal.{Refusal}
-use Rattle.call_status.specs.declared.refusal.Refusal.TheVariants.{UnknownMethod}
+use Rattle.rpc.specs.declared.method.Method.{Method}
+use Rattle.rpc.specs.declared.method.Method.TheVariants.{FindMissingBlobs, BatchUpdateBlobs, BatchReadBlobs, GetTree, GetActionResult, UpdateActionResult, Execute, WaitExecution, GetCapabilities, Read, Write, QueryWriteStatus}
+use Rattle.rpc.specs.declared.refusal.Refusal.{Refusal}
+use Rattle.rpc.specs.declared.refusal.Refusal.TheVariants.{UnknownMethod}
 use Rattle.protobuf_wire.proofs.Tools.{bind_ok, ok_is}
 use Rattle.blob_pool.specs.Held.{Slots}
 use Rattle.instance_view.specs.Visible.{Blob, seen}

@@ -4,9 +4,9 @@ use Rattle.std.specs.Prelude.{IfSome, IsErr, OnOk, OnErr}
 use Rattle.std.specs.declared.alloc.Global.{Global}
 use Rattle.std.specs.declared.alloc.AllocError.{AllocError}
 use Rattle.std.specs.declared.vec.Vec.{Vec}
-use Rattle.call_methods.specs.declared.method.Method.{Method}
+use Rattle.rpc.specs.declared.method.Method.{Method}
 use Rattle.reapi_messages.specs.Results.{◌>>=◌}
-use Rattle.call_status.specs.declared.refusal.Refusal.{Refusal}
+use Rattle.rpc.specs.declared.refusal.Refusal.{Refusal}
 use Rattle.digest.specs.declared.Digest.{Digest}
 use Rattle.blob_pool.specs.Held.{Slots}
 use Rattle.instance_view.specs.Visible.{Blob}

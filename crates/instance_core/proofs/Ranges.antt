@@ -1,8 +1,8 @@
 -- What a Read does to an instance's texts.
 use Rattle.std.proofs.Common.{◌≡◌, ◌≢◌, ℕ, ◌≤◌, List, [], ◌∷◌, ◌++◌, Result, Ok, Err, refl, sym, ap, subst, arith}
-use Rattle.call_methods.specs.declared.method.Method.{Method}
-use Rattle.call_methods.specs.declared.method.Method.TheVariants.{FindMissingBlobs, BatchUpdateBlobs, BatchReadBlobs, GetTree, GetActionResult, UpdateActionResult, Execute, WaitExecution, GetCapabilities, Read, Write, QueryWriteStatus}
-use Rattle.call_status.specs.declared.refusal.Refusal.{Refusal}
+use Rattle.rpc.specs.declared.method.Method.{Method}
+use Rattle.rpc.specs.declared.method.Method.TheVariants.{FindMissingBlobs, BatchUpdateBlobs, BatchReadBlobs, GetTree, GetActionResult, UpdateActionResult, Execute, WaitExecution, GetCapabilities, Read, Write, QueryWriteStatus}
+use Rattle.rpc.specs.declared.refusal.Refusal.{Refusal}
 use Rattle.blob_pool.specs.Held.{Slots, count_at}
 use Rattle.blob_pool.specs.Moves.{Holders, Moves, nobody, HasRoom}
 use Rattle.instance_view.specs.Visible.{Blob}

@@ -13,12 +13,12 @@ use Rattle.message_fields.specs.Parts.{text_for, each_field, string_field, int64
 use Rattle.reapi_messages.specs.Digests.{DigestValue, digest_of, digest_records}
 use Rattle.reapi_messages.specs.Statuses.{StatusValue, status_records}
 use Rattle.reapi_messages.specs.Batches.{UpdateBlobRequestValue, read_blob_response_records, batch_read_blobs_request_of, update_blob_request_of, batch_update_blobs_request_of, update_blob_response_records}
-use Rattle.call_status.specs.declared.refusal.Refusal.TheVariants.{UnknownMethod, CompressedMessage, MessageTooLarge, MessageCutOff, NoMessage, MoreThanOneMessage, MalformedMessage, UnknownInstance, UnsupportedDigestFunction, UnsupportedCompressor, BadDigest, BatchTooLarge, DigestDoesNotMatch, QuotaExceeded, BlobNotFound, BadResourceName, NegativeLimit, OffsetOutOfRange, WrongOffset, TooManyUploads, UploadNotFound}
-use Rattle.call_status.specs.Status.{code_of, text_of}
+use Rattle.rpc.specs.declared.refusal.Refusal.TheVariants.{UnknownMethod, CompressedMessage, MessageTooLarge, MessageCutOff, NoMessage, MoreThanOneMessage, MalformedMessage, UnknownInstance, UnsupportedDigestFunction, UnsupportedCompressor, BadDigest, BatchTooLarge, DigestDoesNotMatch, QuotaExceeded, BlobNotFound, BadResourceName, NegativeLimit, OffsetOutOfRange, WrongOffset, TooManyUploads, UploadNotFound}
+use Rattle.rpc.specs.Status.{code_of, text_of}
 use Rattle.cas_service.specs.Statuses.{ok_status, refused_status, status_of_result}
 use Rattle.cas_service.specs.BatchUpdate.{blobs_sent, sent_size, stored_under, update_response, update_reply, batch_update_reply}
 use Rattle.reapi_messages.specs.FindMissing.{find_missing_blobs_request_of}
-use Rattle.call_status.specs.declared.refusal.Refusal.{Refusal}
+use Rattle.rpc.specs.declared.refusal.Refusal.{Refusal}
 use Rattle.digest.specs.declared.Digest.{Digest}
 use Rattle.digest.specs.Text.{digest_in}
 use Rattle.reapi_messages.specs.Capabilities.{sem_ver_records, cache_capabilities_records, execution_capabilities_records}

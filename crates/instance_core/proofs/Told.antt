@@ -7,7 +7,7 @@ use Rattle.protobuf_wire.proofs.Tools.{bind_ok, ok_is}
 use Rattle.message_fields.specs.Fields.{decoded}
 use Rattle.message_fields.specs.Parts.{text_for, flag_field}
 use Rattle.reapi_messages.specs.ByteStream.{write_request_of, query_write_status_request_of, query_write_status_response_records}
-use Rattle.call_status.specs.declared.refusal.Refusal.{Refusal}
+use Rattle.rpc.specs.declared.refusal.Refusal.{Refusal}
 use Rattle.resource_names.specs.Names.{write_name}
 use Rattle.instance_view.specs.Visible.{Blob, seen}
 use Rattle.cas_service.specs.Requests.{readable, own_instance}

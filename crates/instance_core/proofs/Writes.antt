@@ -4,9 +4,9 @@ use Rattle.std.specs.Prelude.{OnOk, OnErr, option_map}
 use Rattle.std.specs.declared.alloc.Global.{Global}
 use Rattle.std.specs.declared.alloc.AllocError.{AllocError}
 use Rattle.std.specs.declared.vec.Vec.{Vec}
-use Rattle.call_methods.specs.declared.method.Method.{Method}
-use Rattle.call_methods.specs.declared.method.Method.TheVariants.{Write}
-use Rattle.call_status.specs.declared.refusal.Refusal.{Refusal}
+use Rattle.rpc.specs.declared.method.Method.{Method}
+use Rattle.rpc.specs.declared.method.Method.TheVariants.{Write}
+use Rattle.rpc.specs.declared.refusal.Refusal.{Refusal}
 use Rattle.blob_pool.specs.Held.{Slots}
 use Rattle.instance_view.specs.Visible.{Blob}
 use Rattle.instance_view.specs.Shown.{ViewValue, shown}

@@ -4,7 +4,7 @@ use Rattle.reapi_messages.specs.Results.{◌>>=◌}
 use Rattle.reapi_messages.specs.Fields.{decoded}
 use Rattle.reapi_messages.specs.Parts.{text_for}
 use Rattle.reapi_messages.specs.Capabilities.{SemVerValue, ActionCacheUpdateCapabilitiesValue, CacheCapabilitiesValue, ExecutionCapabilitiesValue, ServerCapabilitiesValue, get_capabilities_request_of, server_capabilities_records}
-use Rattle.call_status.specs.declared.refusal.Refusal.{Refusal}
+use Rattle.rpc.specs.declared.refusal.Refusal.{Refusal}
 use Rattle.cas_service.specs.Requests.{readable, own_instance}
 
 -- version 2.0 of the interface

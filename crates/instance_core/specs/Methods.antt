@@ -1,9 +1,9 @@
 -- What each method but Write answers to the one message of its request, and what it does to the texts.
 use Rattle.std.specs.Prelude.{ℕ, Bool, true, false, List, [], ◌∷◌, Result, Ok, Err}
-use Rattle.call_methods.specs.declared.method.Method.{Method}
-use Rattle.call_methods.specs.declared.method.Method.TheVariants.{FindMissingBlobs, BatchUpdateBlobs, BatchReadBlobs, GetCapabilities, Read, Write, QueryWriteStatus}
-use Rattle.call_status.specs.declared.refusal.Refusal.{Refusal}
-use Rattle.call_status.specs.declared.refusal.Refusal.TheVariants.{UnknownMethod}
+use Rattle.rpc.specs.declared.method.Method.{Method}
+use Rattle.rpc.specs.declared.method.Method.TheVariants.{FindMissingBlobs, BatchUpdateBlobs, BatchReadBlobs, GetCapabilities, Read, Write, QueryWriteStatus}
+use Rattle.rpc.specs.declared.refusal.Refusal.{Refusal}
+use Rattle.rpc.specs.declared.refusal.Refusal.TheVariants.{UnknownMethod}
 use Rattle.cas_service.specs.Changes as Texts
 use Rattle.cas_service.specs.FindMissing.{find_missing_reply, find_missing_changes}
 use Rattle.cas_service.specs.BatchUpdate.{batch_update_reply, batch_update_changes}

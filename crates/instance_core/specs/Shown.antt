@@ -4,7 +4,7 @@ use Rattle.std.specs.List.{AllByRecursion}
 use Rattle.std.specs.declared.alloc.AllocError.{AllocError}
 use Rattle.std.specs.declared.alloc.Global.{Global}
 use Rattle.std.specs.declared.vec.Vec.{Vec}
-use Rattle.call_status.specs.declared.refusal.Refusal.{Refusal}
+use Rattle.rpc.specs.declared.refusal.Refusal.{Refusal}
 use Rattle.instance_core.specs.declared.event.CallEvent.{CallEvent}
 use Rattle.instance_core.specs.declared.event.CallEvent.TheVariants as Code
 use Rattle.instance_core.specs.declared.event.GivenRange.{GivenRange}

@@ -1,6 +1,6 @@
 -- What a message of a Write is answered, and what it does to an instance (bytestream.proto).
 use Rattle.std.specs.Prelude.{ℕ, Bool, true, false, List, [], ◌∷◌, Option, Result, Ok, Err}
-use Rattle.call_status.specs.declared.refusal.Refusal.{Refusal}
+use Rattle.rpc.specs.declared.refusal.Refusal.{Refusal}
 use Rattle.uploads.specs.declared.error.UploadError.{UploadError}
 use Rattle.uploads.specs.Writing.{after_piece}
 use Rattle.bytestream.specs.Writing.{OpenWriteValue, PartValue, WrittenValue, WriteState, FirstAsked, state_of, first_asked, next_asked, piece_taken, first_answer, next_answer, after_first, after_next}

@@ -21,8 +21,7 @@ use crate::replies::reply_with;
 use crate::writing::{finish, on_first_part, settle_next};
 use blob_pool::Pool;
 use bytestream::{ended_unfinished, write_next};
-use call_methods::Method;
-use call_status::Refusal;
+use rpc::{Method, Refusal};
 use std::alloc::{AllocError, Global};
 
 /// A call begins.

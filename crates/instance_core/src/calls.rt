@@ -7,8 +7,8 @@ ghost use Rattle.instance_core.specs.Shown.{progress_shown};
 
 use crate::event::CallId;
 use bytestream::OpenWrite;
-use call_methods::Method;
 use indexmap::IndexMap;
+use rpc::Method;
 use std::alloc::{AllocError, Global};
 use std::marker::Model;
 

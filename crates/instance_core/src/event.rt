@@ -1,9 +1,8 @@
 //! What happens to calls, and what is answered.
 
 use blob_pool::Kept;
-use call_methods::Method;
-use call_status::Refusal;
 use digest::Digest;
+use rpc::{Method, Refusal};
 
 /// What names a call.
 #[derive(Clone, Copy, PartialEq, Eq, Hash)]

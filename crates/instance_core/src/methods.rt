@@ -3,7 +3,7 @@
 ghost use Rattle.std.specs.Prelude.{◌≡◌, ◌≢◌, ◌≤◌, ◌+◌, ◌^◌, ℕ, OnOk, OnErr};
 ghost use Rattle.blob_pool.specs.Held.{Slots};
 ghost use Rattle.blob_pool.specs.Moves.{Moves};
-ghost use Rattle.call_methods.specs.declared.method.Method.TheVariants.{Read};
+ghost use Rattle.rpc.specs.declared.method.Method.TheVariants.{Read};
 ghost use Rattle.instance_view.specs.Shown.{shown, holders};
 ghost use Rattle.quota_evict.specs.Kept.{AreKept};
 ghost use Rattle.quota_evict.specs.Within.{Within};
@@ -24,9 +24,8 @@ use crate::reading::answer_read;
 use crate::replies::{refusal_in, reply_with};
 use blob_pool::Pool;
 use bytestream::query;
-use call_methods::Method;
-use call_status::Refusal;
 use cas_service::{CallError, batch_read, batch_update, find_missing};
+use rpc::{Method, Refusal};
 use std::alloc::{AllocError, Global};
 
 /// Whether calls of the method are served.

@@ -10,8 +10,8 @@ ghost use Rattle.instance_core.specs.Shown.{Gives, item_shown, outcome_shown, ra
 ghost use Rattle.instance_core.specs.Given.{items_holders, holders_given};
 
 use crate::event::{CallId, GivenRange, Reply, ReplyItem};
-use call_status::Refusal;
 use cas_service::CallError;
+use rpc::Refusal;
 use std::alloc::{AllocError, Global};
 
 /// What a call is refused for, unless memory ran out.

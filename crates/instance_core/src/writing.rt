@@ -3,8 +3,8 @@
 ghost use Rattle.std.specs.Prelude.{◌≡◌, ◌≤◌, ◌<◌, ◌^◌, ℕ, List, [], Option, option_map, Result, OnOk, OnErr};
 ghost use Rattle.blob_pool.specs.Held.{Slots};
 ghost use Rattle.blob_pool.specs.Moves.{Moves};
-ghost use Rattle.call_methods.specs.declared.method.Method.TheVariants.{Write};
-ghost use Rattle.call_status.specs.declared.refusal.Refusal.{Refusal};
+ghost use Rattle.rpc.specs.declared.method.Method.TheVariants.{Write};
+ghost use Rattle.rpc.specs.declared.refusal.Refusal.{Refusal};
 ghost use Rattle.instance_view.specs.Shown.{shown, holders};
 ghost use Rattle.quota_evict.specs.Kept.{AreKept};
 ghost use Rattle.quota_evict.specs.Within.{Within};
@@ -25,9 +25,8 @@ use crate::event::{CallId, Reply};
 use crate::replies::{refusal_in, reply_with};
 use blob_pool::Pool;
 use bytestream::{Written, write_first};
-use call_methods::Method;
-use call_status::Refusal;
 use cas_service::CallError;
+use rpc::{Method, Refusal};
 use std::alloc::{AllocError, Global};
 
 /// Answers a call that is in course, which ends.

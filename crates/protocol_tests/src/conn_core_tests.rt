@@ -1,9 +1,9 @@
 ghost use Rattle.grpc_sending.specs.Kept.{Look, Fit};
 
 use crate::one_byte::OneByte;
-use call_status::Refusal;
 use conn_core::*;
 use grpc_calls::{Method, ResponseBlock, Status};
+use rpc::Refusal;
 use std::alloc::AllocError;
 use std::test::*;
 

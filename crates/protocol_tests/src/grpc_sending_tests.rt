@@ -2,11 +2,11 @@ ghost use Rattle.std.specs.Prelude.{◌<◌, ◌^◌, length};
 ghost use Rattle.grpc_sending.specs.Kept.{Look, Fit};
 
 use crate::one_byte::OneByte;
-use call_status::Refusal;
 use grpc_calls::{ResponseBlock, Status};
 use grpc_sending::*;
 use http2_frames::{Frame, FrameReader};
 use http2_streams::Streams;
+use rpc::Refusal;
 use std::alloc::{AllocError, Global};
 use std::test::*;
 

@@ -8,8 +8,8 @@ use Rattle.std.specs.Prelude.{nat_lt, is_none, option_map, option_and_then}
 use Rattle.std.specs.Str.{bytes_eq, IsUtf8}
 use Rattle.script.specs.Number.{decimal_of}
 use Rattle.script.specs.Parts.{words_of, lines_of}
-use Rattle.instance_config.specs.Instance.{is_instance_name}
-use Rattle.instance_config.proofs.NameLemmas.{IsInstanceName-from_test, IsUtf8-instance_name}
+use Rattle.server_events.specs.Instance.{is_instance_name}
+use Rattle.server_events.proofs.NameLemmas.{IsInstanceName-from_test, IsUtf8-instance_name}
 use Rattle.server_events.specs.declared.fault.ConfigFault.{ConfigFault}
 use Rattle.server_events.specs.Configs.{ConfigValue, config_fault, first_own_fault, instance_limit, own_fault}
 use Rattle.replay_script.specs.Arguments.{number_of, three_of}

@@ -9,7 +9,7 @@ use Rattle.digest.specs.Naming.{Names, same}
 use Rattle.instance_view.specs.Visible.{Blob, seen, used, fronted}
 use Rattle.quota_evict.specs.Admission.{longest_front, admitted}
 use Rattle.quota_evict.proofs.Limits.{take-all}
-use Rattle.call_status.specs.declared.refusal.Refusal.{Refusal}
+use Rattle.rpc.specs.declared.refusal.Refusal.{Refusal}
 use Rattle.uploads.specs.declared.error.UploadError.{UploadError}
 use Rattle.uploads.specs.Uploads.{KeyValue, text_so_far}
 use Rattle.uploads.specs.Writing.{finish_answer, after_piece}

@@ -8,7 +8,7 @@ use Rattle.grpc_messages.specs.declared.error.MessagesError.{MessagesError}
 use Rattle.grpc_messages.specs.Wire.{size_of}
 use Rattle.grpc_messages.specs.Reading.{whole_at, message_at, split_by, split_in}
 use Rattle.grpc_messages.proofs.Fronts.{whole_is}
-use Rattle.call_methods.specs.declared.method.Method.{Method}
+use Rattle.rpc.specs.declared.method.Method.{Method}
 use Rattle.http2_frames.specs.declared.frame.RawFrame.{RawFrame}
 use Rattle.grpc_calls.specs.declared.request.HeadFault.{HeadFault}
 use Rattle.grpc_calls.specs.Requests.{head_of}

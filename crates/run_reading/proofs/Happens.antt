@@ -14,7 +14,7 @@ use Rattle.http2_streams.specs.declared.event.Event.{Event}
 use Rattle.http2_streams.specs.declared.event.Event.TheVariants.{Nothing, Request, Content, Trailers, Cancel as StreamCancel}
 use Rattle.http2_streams.specs.Diary.{Entry, has_failed, live}
 use Rattle.http2_streams.specs.Rules.{reading_fault}
-use Rattle.call_methods.specs.declared.method.Method.{Method}
+use Rattle.rpc.specs.declared.method.Method.{Method}
 use Rattle.grpc_calls.specs.declared.request.HeadFault.{HeadFault}
 use Rattle.grpc_calls.specs.Requests.{head_of}
 use Rattle.grpc_sending.specs.Owed.{Owed, Item, owed_on}

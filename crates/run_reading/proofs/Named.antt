@@ -10,11 +10,11 @@ use Rattle.instance_view.specs.Visible.{seen}
 use Rattle.quota_evict.proofs.Seen.{seen_named}
 use Rattle.reapi_messages.specs.Results.{◌>>=◌}
 use Rattle.reapi_messages.specs.Statuses.{StatusValue}
-use Rattle.call_status.specs.declared.refusal.Refusal.{Refusal}
-use Rattle.call_status.specs.declared.refusal.Refusal.TheVariants.{BlobNotFound, OffsetOutOfRange}
+use Rattle.rpc.specs.declared.refusal.Refusal.{Refusal}
+use Rattle.rpc.specs.declared.refusal.Refusal.TheVariants.{BlobNotFound, OffsetOutOfRange}
 use Rattle.grpc_sending.specs.Owed.{Item, Headed, Message, Range}
-use Rattle.call_methods.specs.declared.method.Method.{Method}
-use Rattle.call_methods.specs.declared.method.Method.TheVariants.{FindMissingBlobs, BatchUpdateBlobs, BatchReadBlobs, GetTree, GetActionResult, UpdateActionResult, Execute, WaitExecution, GetCapabilities, Read, Write, QueryWriteStatus}
+use Rattle.rpc.specs.declared.method.Method.{Method}
+use Rattle.rpc.specs.declared.method.Method.TheVariants.{FindMissingBlobs, BatchUpdateBlobs, BatchReadBlobs, GetTree, GetActionResult, UpdateActionResult, Execute, WaitExecution, GetCapabilities, Read, Write, QueryWriteStatus}
 use Rattle.cas_service.specs.Requests.{digest_value}
 use Rattle.cas_service.specs.Statuses.{ok_status, refused_status}
 use Rattle.cas_service.specs.BatchRead.{digests_to_read, read_response, read_reply}

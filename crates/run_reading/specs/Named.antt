@@ -13,8 +13,8 @@ use Rattle.cas_service.specs.Statuses.{ok_status}
 use Rattle.bytestream.specs.declared.reading.ReadAsked.{ReadAsked}
 use Rattle.bytestream.specs.Reading.{SourceValue, read_asked}
 use Rattle.grpc_sending.specs.Owed.{Item, Headed, Message, Range}
-use Rattle.call_methods.specs.declared.method.Method.{Method}
-use Rattle.call_methods.specs.declared.method.Method.TheVariants.{BatchReadBlobs, Read}
+use Rattle.rpc.specs.declared.method.Method.{Method}
+use Rattle.rpc.specs.declared.method.Method.TheVariants.{BatchReadBlobs, Read}
 use Rattle.instance_core.specs.Calls.{ProgressValue, waits, has, writes, CallEventValue, end, tick, call_at}
 use Rattle.instance_core.specs.Replies.{ReplyItemValue, begins, says, gives, ends, refuses, ReplyValue}
 use Rattle.instance_core.specs.Answer.{answer, after}

@@ -1,3 +1,4 @@
 pub mod FaultLemmas
 pub mod ListLemmas
 pub mod OwnLemmas
+pub mod NameLemmas

@@ -7,8 +7,8 @@ use Rattle.std.proofs.lemmas.Slice.Eq.{bytes_eq-Decides}
 use Rattle.std.specs.List.{All}
 use Rattle.std.specs.Prelude.{nat_le}
 use Rattle.std.specs.Str.{bytes_eq}
-use Rattle.instance_config.specs.Instance.{IsInstanceName, is_instance_name, quota_limit, slots_limit}
-use Rattle.instance_config.proofs.NameLemmas.{IsInstanceName-from_test, is_instance_name-true}
+use Rattle.server_events.specs.Instance.{IsInstanceName, is_instance_name, quota_limit, slots_limit}
+use Rattle.server_events.proofs.NameLemmas.{IsInstanceName-from_test, is_instance_name-true}
 use Rattle.server_events.specs.declared.fault.ConfigFault.{ConfigFault}
 use Rattle.server_events.specs.declared.fault.ConfigFault.TheVariants.{BadName, BadQuota, BadSlots, DuplicateName, TooMany, NoMemory}
 use Rattle.server_events.specs.Configs.{ConfigValue, is_named_among, own_fault}

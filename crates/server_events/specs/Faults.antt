@@ -1,7 +1,7 @@
 -- Which configurations a server may have, and which fault others have, in words of their own.
 use Rattle.std.specs.Prelude.{◌≡◌, ◌≢◌, ◌<◌, ◌≤◌, ◌⊎◌, List, ◌∷◌, ◌++◌, length}
 use Rattle.std.specs.List.{All, AllPairs}
-use Rattle.instance_config.specs.Instance.{IsInstanceName, quota_limit, slots_limit}
+use Rattle.server_events.specs.Instance.{IsInstanceName, quota_limit, slots_limit}
 use Rattle.server_events.specs.declared.fault.ConfigFault.{ConfigFault}
 use Rattle.server_events.specs.declared.fault.ConfigFault.TheVariants.{BadName, BadQuota, BadSlots, DuplicateName, TooMany, NoMemory}
 use Rattle.server_events.specs.Configs.{ConfigValue, instance_limit}

@@ -4,7 +4,7 @@ ghost use Rattle.server_events.specs.Configs.{config_fault, own_fault, first_own
 ghost use Rattle.server_events.specs.Shown.{config_value};
 
 use crate::fault::ConfigFault;
-use instance_config::{is_instance_name, is_quota, is_slot_count};
+use crate::instance::{is_instance_name, is_quota, is_slot_count};
 use std::marker::Model;
 
 /// The most instances that a server has.

@@ -1,12 +1,15 @@
 //! What a server of build instances is started with and what happens to it: the configurations of its
-//! instances, and the events of its connections, its clock and the programs that it runs.
+//! instances, which names, quotas and slot counts these may have, and the events of its connections, its
+//! clock and the programs that it runs.
 #![tactic(auto)]
 
 mod configs;
 mod event;
 mod fault;
+mod instance;
 pub mod laws;
 
 pub use crate::configs::{Configs, INSTANCE_LIMIT, InstanceConfig, own_fault};
 pub use crate::event::{Event, Outcome, OutputFile, What};
 pub use crate::fault::ConfigFault;
+pub use crate::instance::{QUOTA_LIMIT, SLOTS_LIMIT, is_instance_name, is_quota, is_slot_count};

@@ -1,10 +1,10 @@
 #![tactic(auto)]
-//! Tests of `digest`, `instance_config`, `server_events`, `server_core`.
+//! Tests of `digest`, `server_events`, `server_core`.
 
 #[cfg(test)]
 mod digest_tests;
 #[cfg(test)]
-mod instance_config_tests;
+mod instance_tests;
 #[cfg(test)]
 mod server_core_tests;
 #[cfg(test)]

@@ -7,7 +7,7 @@ use Rattle.std.proofs.lemmas.List.{append_assoc, append-nil, length-set, drop_mo
 use Rattle.unary_script.specs.declared.command.Command.{Command}
 use Rattle.unary_script.specs.declared.command.Instance.{Instance}
 use Rattle.unary_script.specs.Shown.{command_value, instance_value}
-use Rattle.instance_config.specs.Instance.{quota_limit}
+use Rattle.server_events.specs.Instance.{quota_limit}
 use Rattle.unary_script.specs.Script.{InstanceValue}
 use Rattle.unary_script.specs.Lines.{instance_place}
 use Rattle.unary.specs.Session.{StoreValue, opened, line_of, store_of, stores_after, lines_of_commands, written}

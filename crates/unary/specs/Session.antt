@@ -7,8 +7,8 @@ use Rattle.unary_script.specs.declared.method.Method.{Method}
 use Rattle.unary_script.specs.declared.method.Method.TheVariants.{FindMissingBlobs, BatchUpdateBlobs, BatchReadBlobs}
 use Rattle.unary_script.specs.Script.{InstanceValue, CommandValue, ScriptValue, put, call, script_of}
 use Rattle.unary_script.specs.Lines.{instance_place}
-use Rattle.call_status.specs.declared.refusal.Refusal.{Refusal}
-use Rattle.call_status.specs.Status.{code_of, text_of}
+use Rattle.rpc.specs.declared.refusal.Refusal.{Refusal}
+use Rattle.rpc.specs.Status.{code_of, text_of}
 use Rattle.digest.specs.Naming.{digest_of}
 use Rattle.instance_view.specs.Visible.{Blob, seen}
 use Rattle.quota_evict.specs.Admission.{admitted}

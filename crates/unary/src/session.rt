@@ -2,12 +2,12 @@ ghost use Rattle.std.specs.Prelude.{◌≡◌, ◌++◌, ◌<◌, ◌≤◌, ◌
 ghost use Rattle.std.specs.List.{All};
 ghost use Rattle.unary_script.specs.Shown.{instance_value, command_value};
 ghost use Rattle.unary_script.specs.Lines.{instance_place};
-ghost use Rattle.call_status.specs.declared.refusal.Refusal.{Refusal};
+ghost use Rattle.rpc.specs.declared.refusal.Refusal.{Refusal};
 ghost use Rattle.unary.specs.Session.{opened, reply_to, ok_line, status_line, line_of, after, store_of, stores_after};
 
 use crate::store::Store;
-use call_status::Refusal;
 use cas_service::CallError;
+use rpc::Refusal;
 use script::write_hex;
 use std::alloc::{AllocError, Global};
 use unary_script::{Command, Instance};

@@ -14,8 +14,8 @@ use Rattle.script.specs.Parts.{words_of}
 use Rattle.script.proofs.HexadecimalLemmas.{IsBytes-bytes_of_hex, Lacks_space-hex_word, bytes_of_hex-hex_word, hex_word-bytes_of_hex}
 use Rattle.script.proofs.NumberLemmas.{digits-decimal_of}
 use Rattle.script.proofs.SplitLemmas.{Lacks, Lacks-passing, parts_of-join}
-use Rattle.instance_config.specs.Instance.{IsInstanceName, is_name_byte, quota_limit}
-use Rattle.instance_config.proofs.NameLemmas.{is_instance_name-true}
+use Rattle.server_events.specs.Instance.{IsInstanceName, is_name_byte, quota_limit}
+use Rattle.server_events.proofs.NameLemmas.{is_instance_name-true}
 use Rattle.unary_script.specs.declared.method.Method.{Method}
 use Rattle.unary_script.specs.declared.method.Method.TheVariants.{FindMissingBlobs, BatchUpdateBlobs, BatchReadBlobs}
 use Rattle.unary_script.specs.Lines.{HasGoodInstances, IsCallLine, IsGoodLine, IsInstanceLine, IsPutLine, spaced}

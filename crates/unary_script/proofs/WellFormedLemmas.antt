@@ -15,8 +15,8 @@ use Rattle.unary_script.specs.Shown.{script_value, command_value}
 use Rattle.script.specs.Hexadecimal.{bytes_of_hex}
 use Rattle.script.specs.Number.{decimal_of}
 use Rattle.script.specs.Parts.{words_of, lines_of}
-use Rattle.instance_config.specs.Instance.{IsInstanceName, is_instance_name, quota_limit}
-use Rattle.instance_config.proofs.NameLemmas.{IsInstanceName-from_test}
+use Rattle.server_events.specs.Instance.{IsInstanceName, is_instance_name, quota_limit}
+use Rattle.server_events.proofs.NameLemmas.{IsInstanceName-from_test}
 use Rattle.unary_script.specs.Lines.{HasGoodInstances, KnowsInstances, Leads, instance_place}
 use Rattle.unary_script.specs.Method.{method_named}
 use Rattle.unary_script.specs.Script.{InstanceValue, CommandValue, ScriptValue, put, call, after_line, after_words, call_of, empty_script, instance_if_good, instance_of, place_of, put_of, script_of, with_command, with_instance}

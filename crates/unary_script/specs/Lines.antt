@@ -3,7 +3,7 @@ use Rattle.std.specs.Prelude.{◌≡◌, ◌≢◌, ℕ, ◌+◌, ◌<◌, ◌�
 use Rattle.std.specs.List.{All, AllPairs, join_with_byte}
 use Rattle.script.specs.Hexadecimal.{IsBytes, hex_word}
 use Rattle.script.specs.Number.{decimal_of}
-use Rattle.instance_config.specs.Instance.{IsInstanceName, quota_limit}
+use Rattle.server_events.specs.Instance.{IsInstanceName, quota_limit}
 use Rattle.unary_script.specs.declared.method.Method.{Method}
 use Rattle.unary_script.specs.Method.{method_name}
 use Rattle.unary_script.specs.Script.{InstanceValue, CommandValue, ScriptValue, put, call, after_line, empty_script, place_of, with_command, with_instance}

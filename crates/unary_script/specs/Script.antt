@@ -6,7 +6,7 @@ use Rattle.std.specs.Str.{bytes_eq}
 use Rattle.script.specs.Hexadecimal.{bytes_of_hex}
 use Rattle.script.specs.Number.{decimal_of}
 use Rattle.script.specs.Parts.{lines_of, words_of}
-use Rattle.instance_config.specs.Instance.{is_instance_name, quota_limit}
+use Rattle.server_events.specs.Instance.{is_instance_name, quota_limit}
 use Rattle.unary_script.specs.declared.method.Method.{Method}
 use Rattle.unary_script.specs.Method.{method_named}
 

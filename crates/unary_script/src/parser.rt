@@ -8,8 +8,8 @@ ghost use Rattle.unary_script.specs.Shown.{instance_value, command_value, script
 use crate::command::{Command, Instance, Script};
 use crate::fault::{LineFault, ScriptFault};
 use crate::method::Method;
-use instance_config::{is_instance_name, is_quota};
 use script::{Parts, decimal, hex_bytes, lines, words};
+use server_events::{is_instance_name, is_quota};
 use std::alloc::Global;
 use std::str;
 

@@ -4,7 +4,7 @@ use crate::octets::{octets, show};
 use grpc_calls::{HeadFault, head};
 use hpack::{Decoder, Headers};
 use hpack_huffman::{HuffmanError, decode_into};
-use http2_requests::is_well_formed_request;
+use http2_headers::is_well_formed_request;
 use std::alloc::Global;
 use std::io::{self, Write};
 

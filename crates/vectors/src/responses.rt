@@ -1,9 +1,9 @@
 //! The header blocks of responses.
 
 use crate::octets::show;
-use call_status::Refusal;
 use grpc_calls::{ResponseBlock, Status};
 use hpack::Position;
+use rpc::Refusal;
 use std::alloc::Global;
 use std::io::{self, Write};
 

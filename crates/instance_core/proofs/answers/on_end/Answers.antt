@@ -1,6 +1,6 @@
 use Rattle.std.proofs.Common.{◌≡◌, ap, refl, ◌∙◌, Err, Ok}
 use Rattle.instance_view.specs.Shown.{shown}
-use Rattle.call_status.specs.declared.refusal.Refusal.TheVariants.{NoMessage}
+use Rattle.rpc.specs.declared.refusal.Refusal.TheVariants.{NoMessage}
 use Rattle.bytestream.specs.Shown.{open_write_shown}
 use Rattle.bytestream.specs.Writing.{unfinished_reply}
 use Rattle.instance_core.specs.Calls.{waits, has, writes, call_at}

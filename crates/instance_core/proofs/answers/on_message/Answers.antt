@@ -1,5 +1,5 @@
 use Rattle.std.proofs.Common.{◌≡◌, refl, Err}
-use Rattle.call_status.specs.declared.refusal.Refusal.TheVariants.{MoreThanOneMessage}
+use Rattle.rpc.specs.declared.refusal.Refusal.TheVariants.{MoreThanOneMessage}
 use Rattle.bytestream.specs.Shown.{open_write_shown}
 use Rattle.instance_core.specs.Calls.{has, writes, call_at}
 use Rattle.instance_core.specs.Answer.{ended}

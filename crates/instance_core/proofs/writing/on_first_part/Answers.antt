@@ -1,5 +1,5 @@
 use Rattle.std.proofs.Common.{refl}
-use Rattle.call_methods.specs.declared.method.Method.TheVariants.{Write}
+use Rattle.rpc.specs.declared.method.Method.TheVariants.{Write}
 use Rattle.instance_core.specs.Shown.{state_of}
 use Rattle.instance_core.specs.Writes.{first_changes, first_outcome}
 use Rattle.instance_core.proofs.Writes.{first_replies, first_done}

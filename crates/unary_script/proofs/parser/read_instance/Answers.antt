@@ -1,4 +1,4 @@
-use Rattle.instance_config.proofs.NameLemmas.{IsUtf8-instance_name}
+use Rattle.server_events.proofs.NameLemmas.{IsUtf8-instance_name}
 use Rattle.unary_script.proofs.parser.read_instance.Goals as goal
 
 pub returns-in_default-clause-bad : goal.returns-in_default-clause-bad

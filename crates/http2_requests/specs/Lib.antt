@@ -1,2 +1,0 @@
-pub mod FieldSyntax
-pub mod Request

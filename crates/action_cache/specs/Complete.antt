@@ -1,5 +1,5 @@
--- Which results can be answered: those that can be read, whose trees can, and of which each blob is there
--- (remote_execution.proto, ActionCache.GetActionResult).
+-- Which results can be answered: those that can be read, whose trees can, and of which each blob is
+-- there (remote_execution.proto, ActionCache.GetActionResult).
 use Rattle.std.specs.Prelude.{ℕ, List, [], ◌∷◌, ◌++◌, Option, Some, None, Result, Ok, Err, is_some, if◌then◌else◌}
 use Rattle.message_fields.specs.declared.error.MessageError.{MessageError}
 use Rattle.message_fields.specs.Fields.{decoded}

@@ -1,5 +1,5 @@
--- The results that an instance has: pairs of an action's digest and the bytes of its ActionResult, the most
--- recently used first.
+-- The results that an instance has: pairs of an action's digest and the bytes of its ActionResult,
+-- the most recently used first.
 use Rattle.std.specs.Prelude.{ℕ, zero, suc, ◌-◌, List, [], ◌∷◌, length, nat_le, nat_lt, Option, Some, None, if◌then◌else◌}
 use Rattle.std.specs.Map.{remove_entry}
 use Rattle.std.specs.declared.alloc.Global.{Global}
@@ -18,8 +18,8 @@ front_within zero room rs = []
 front_within (suc count) room [] = []
 front_within (suc count) room (r ∷ rs) = if nat_le (length r.1) room then r ∷ front_within count (room - length r.1) rs else []
 
--- a result goes first in the place of an earlier one, and the oldest go past 10,000 results or 67,108,864 bytes;
--- one that has more bytes changes nothing
+-- a result goes first in the place of an earlier one, and the oldest go past 10,000 results or
+-- 67,108,864 bytes; one that has more bytes changes nothing
 abbrev pub stored : Digest → List ℕ → List Blob → List Blob
 stored d text results = if nat_lt 67108864 (length text) then results else front_within 10000 67108864 ((d, text) ∷ remove_entry (same d) results)
 

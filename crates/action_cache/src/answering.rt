@@ -15,11 +15,13 @@ use input_tree::use_all;
 use instance_view::View;
 use std::alloc::{AllocError, Global};
 
-/// The bytes of an action's result, as they were stored, or `None` where there is none or it is not complete.
+/// The bytes of an action's result, as they were stored, or `None` where there is none or it is not
+/// complete.
 ///
-/// A result is complete where it can be read, its trees can, and each blob is there that it names: output files,
-/// trees with the files of their roots and children, and standard output and error where they are set. The result
-/// that is answered becomes the most recently used, and its blobs are used in this order. Nothing else is changed.
+/// A result is complete where it can be read, its trees can, and each blob is there that it names:
+/// output files, trees with the files of their roots and children, and standard output and error
+/// where they are set. The result that is answered becomes the most recently used, and its blobs
+/// are used in this order. Nothing else is changed.
 pub fn get_result(
     alloc: Global,
     results: &mut Results,
@@ -28,9 +30,13 @@ pub fn get_result(
     action: &Digest,
 ) -> Result<Option<Vec<u8>>, AllocError>
     requires held { (k : ℕ) → holders view.old k ≤ count_at pool.now k }
-    ensures answer { IfOk result (λ answer. option_map (λ text. text.items) answer ≡ result_for (texts_of pool.now view.old) action.now results.old) }
-    ensures results { OnOk result (results.new ≡ results_after (texts_of pool.now view.old) action.now results.old) }
-    ensures used { (p : Slots) → OnOk result (shown p view.new ≡ all_used (blobs_used (texts_of pool.now view.old) action.now results.old) (shown p view.old)) }
+    ensures answer { IfOk result (λ answer. option_map (λ text. text.items) answer
+        ≡ result_for (texts_of pool.now view.old) action.now results.old) }
+    ensures results { OnOk result (results.new
+        ≡ results_after (texts_of pool.now view.old) action.now results.old) }
+    ensures used { (p : Slots) → OnOk result
+        (shown p view.new ≡ all_used
+        (blobs_used (texts_of pool.now view.old) action.now results.old) (shown p view.old)) }
     ensures err { OnErr result ((results.new ≡ results.old) × (view.new ≡ view.old)) }
     ensures holders { (k : ℕ) → holders view.new k ≡ holders view.old k }
     ensures limit { view.new.limit ≡ view.old.limit }

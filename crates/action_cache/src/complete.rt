@@ -1,4 +1,5 @@
-//! Which results are complete: those that can be read, whose trees can, and of which each blob is there.
+//! Which results are complete: those that can be read, whose trees can, and of which each blob is
+//! there.
 
 ghost use Rattle.std.specs.Prelude.{◌≡◌, ◌≤◌, ℕ, map, is_some, option_map, IfOk};
 ghost use Rattle.message_fields.specs.Fields.{decoded};
@@ -33,7 +34,9 @@ fn name_blob(
     mut named: Vec<Digest>,
     written: &Option<messages::Digest<'_>>,
 ) -> Result<Option<Vec<Digest>>, AllocError>
-    ensures { IfOk result (λ all. option_map (λ v. v.items) all ≡ with_blob (texts_of pool.now view.now) named.items (option_map digest_shown written.now)) }
+    ensures { IfOk result (λ all. option_map (λ v. v.items) all
+        ≡ with_blob (texts_of pool.now view.now) named.items
+        (option_map digest_shown written.now)) }
 {
     match digest_written(written) {
         Some(digest) if is_there(view, pool, &digest) => {
@@ -51,7 +54,8 @@ fn name_set(
     named: Vec<Digest>,
     written: &Option<messages::Digest<'_>>,
 ) -> Result<Option<Vec<Digest>>, AllocError>
-    ensures { IfOk result (λ all. option_map (λ v. v.items) all ≡ with_set (texts_of pool.now view.now) named.items (option_map digest_shown written.now)) }
+    ensures { IfOk result (λ all. option_map (λ v. v.items) all
+        ≡ with_set (texts_of pool.now view.now) named.items (option_map digest_shown written.now)) }
 {
     match written {
         None => Ok(Some(named)),
@@ -66,7 +70,8 @@ fn name_files(
     named: Vec<Digest>,
     files: &[FileNode<'_>],
 ) -> Result<Option<Vec<Digest>>, AllocError>
-    ensures { IfOk result (λ all. option_map (λ v. v.items) all ≡ with_files (texts_of pool.now view.now) named.items (map file_node_shown files.now)) }
+    ensures { IfOk result (λ all. option_map (λ v. v.items) all
+        ≡ with_files (texts_of pool.now view.now) named.items (map file_node_shown files.now)) }
 {
     let mut named = named;
     let mut left = files;
@@ -87,7 +92,9 @@ fn name_directories(
     named: Vec<Digest>,
     directories: &[Directory<'_>],
 ) -> Result<Option<Vec<Digest>>, AllocError>
-    ensures { IfOk result (λ all. option_map (λ v. v.items) all ≡ with_directories (texts_of pool.now view.now) named.items (map directory_shown directories.now)) }
+    ensures { IfOk result (λ all. option_map (λ v. v.items) all
+        ≡ with_directories (texts_of pool.now view.now) named.items
+        (map directory_shown directories.now)) }
 {
     let mut named = named;
     let mut left = directories;
@@ -108,7 +115,9 @@ fn name_root(
     named: Vec<Digest>,
     root: &Option<Directory<'_>>,
 ) -> Result<Option<Vec<Digest>>, AllocError>
-    ensures { IfOk result (λ all. option_map (λ v. v.items) all ≡ with_root (texts_of pool.now view.now) named.items (option_map directory_shown root.now)) }
+    ensures { IfOk result (λ all. option_map (λ v. v.items) all
+        ≡ with_root (texts_of pool.now view.now) named.items
+        (option_map directory_shown root.now)) }
 {
     match root {
         None => Ok(Some(named)),
@@ -124,7 +133,8 @@ fn name_tree(
     named: Vec<Digest>,
     text: &[u8],
 ) -> Result<Option<Vec<Digest>>, AllocError>
-    ensures { IfOk result (λ all. option_map (λ v. v.items) all ≡ with_tree (texts_of pool.now view.now) named.items (decoded tree_of text.now)) }
+    ensures { IfOk result (λ all. option_map (λ v. v.items) all
+        ≡ with_tree (texts_of pool.now view.now) named.items (decoded tree_of text.now)) }
 {
     let tree = match Tree::decode(alloc, text) {
         Ok(tree) => tree,
@@ -146,7 +156,9 @@ fn name_output_directory(
     directory: &OutputDirectory<'_>,
 ) -> Result<Option<Vec<Digest>>, AllocError>
     requires { (k : ℕ) → holders view.now k ≤ count_at pool.now k }
-    ensures { IfOk result (λ all. option_map (λ v. v.items) all ≡ with_output_directory (texts_of pool.now view.now) named.items (output_directory_shown directory.now)) }
+    ensures { IfOk result (λ all. option_map (λ v. v.items) all
+        ≡ with_output_directory (texts_of pool.now view.now) named.items
+        (output_directory_shown directory.now)) }
 {
     match digest_written(&directory.tree_digest) {
         Some(digest) if is_there(view, pool, &digest) => {
@@ -167,7 +179,9 @@ fn name_output_directories(
     directories: &[OutputDirectory<'_>],
 ) -> Result<Option<Vec<Digest>>, AllocError>
     requires { (k : ℕ) → holders view.now k ≤ count_at pool.now k }
-    ensures { IfOk result (λ all. option_map (λ v. v.items) all ≡ with_output_directories (texts_of pool.now view.now) named.items (map output_directory_shown directories.now)) }
+    ensures { IfOk result (λ all. option_map (λ v. v.items) all
+        ≡ with_output_directories (texts_of pool.now view.now) named.items
+        (map output_directory_shown directories.now)) }
 {
     let mut named = named;
     let mut left = directories;
@@ -188,7 +202,9 @@ fn name_output_files(
     named: Vec<Digest>,
     files: &[OutputFile<'_>],
 ) -> Result<Option<Vec<Digest>>, AllocError>
-    ensures { IfOk result (λ all. option_map (λ v. v.items) all ≡ with_output_files (texts_of pool.now view.now) named.items (map output_file_shown files.now)) }
+    ensures { IfOk result (λ all. option_map (λ v. v.items) all
+        ≡ with_output_files (texts_of pool.now view.now) named.items
+        (map output_file_shown files.now)) }
 {
     let mut named = named;
     let mut left = files;
@@ -211,7 +227,8 @@ pub fn blobs_of(
     text: &[u8],
 ) -> Result<Option<Vec<Digest>>, AllocError>
     requires { (k : ℕ) → holders view.now k ≤ count_at pool.now k }
-    ensures { IfOk result (λ all. option_map (λ v. v.items) all ≡ blobs_of (texts_of pool.now view.now) text.now) }
+    ensures { IfOk result (λ all. option_map (λ v. v.items) all
+        ≡ blobs_of (texts_of pool.now view.now) text.now) }
 {
     let result = match ActionResult::decode(alloc, text) {
         Ok(result) => result,

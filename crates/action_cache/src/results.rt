@@ -24,7 +24,8 @@ type Cache = LruCache<Digest, Vec<u8>>;
 
 /// Makes the pair of the digest the most recently used.
 fn promote(cache: &mut Cache, digest: &Digest)
-    ensures used { map shown cache.new.entries ≡ fronted (same digest.now) (map shown cache.old.entries) }
+    ensures used { map shown cache.new.entries
+        ≡ fronted (same digest.now) (map shown cache.old.entries) }
     ensures total { total (map shown cache.new.entries) ≡ total (map shown cache.old.entries) }
     ensures length { length cache.new.entries ≡ length cache.old.entries }
     ensures cap { cache.new.cap ≡ cache.old.cap }
@@ -61,12 +62,15 @@ fn text_length(pair: Option<(Digest, Vec<u8>)>) -> usize
     }
 }
 
-/// Puts a pair first, in the place of an earlier one, and says how long the earlier one's bytes were.
+/// Puts a pair first, in the place of an earlier one, and says how long the earlier one's bytes
+/// were.
 fn put(cache: &mut Cache, digest: Digest, text: Vec<u8>) -> Result<usize, AllocError>
     requires cap { cache.old.cap ≡ 10001 }
     requires length { length cache.old.entries ≤ 10000 }
-    ensures put { OnOk result (map shown cache.new.entries ≡ (digest, text.items) ∷ remove_entry (same digest) (map shown cache.old.entries)) }
-    ensures dropped { IfOk result (λ dropped. total (map shown cache.new.entries) + dropped ≡ total (map shown cache.old.entries) + length text.items) }
+    ensures put { OnOk result (map shown cache.new.entries ≡ (digest, text.items)
+        ∷ remove_entry (same digest) (map shown cache.old.entries)) }
+    ensures dropped { IfOk result (λ dropped. total (map shown cache.new.entries) + dropped
+        ≡ total (map shown cache.old.entries) + length text.items) }
     ensures cap { cache.new.cap ≡ cache.old.cap }
     ensures err { OnErr result (cache.new ≡ cache.old) }
 {
@@ -77,7 +81,8 @@ fn put(cache: &mut Cache, digest: Digest, text: Vec<u8>) -> Result<usize, AllocE
 /// Takes out the least recently used pair, and says how long its bytes were.
 fn pop(cache: &mut Cache) -> usize
     ensures shorter { map shown cache.new.entries ≡ without_oldest (map shown cache.old.entries) }
-    ensures dropped { total (map shown cache.new.entries) + result ≡ total (map shown cache.old.entries) }
+    ensures dropped { total (map shown cache.new.entries) + result
+        ≡ total (map shown cache.old.entries) }
     ensures length { length cache.new.entries ≡ length cache.old.entries - 1 }
     ensures cap { cache.new.cap ≡ cache.old.cap }
 {
@@ -96,7 +101,8 @@ fn is_over(cache: &Cache, bytes: u64) -> bool
 /// Takes out the least recently used pairs until the limits are kept.
 fn trim(cache: &mut Cache, bytes: &mut u64)
     requires bytes { bytes.old ≡ total (map shown cache.old.entries) }
-    ensures entries { map shown cache.new.entries ≡ front_within 10000 67108864 (map shown cache.old.entries) }
+    ensures entries { map shown cache.new.entries
+        ≡ front_within 10000 67108864 (map shown cache.old.entries) }
     ensures bytes { bytes.new ≡ total (map shown cache.new.entries) }
     ensures few { length cache.new.entries ≤ 10000 }
     ensures short { bytes.new ≤ 67108864 }
@@ -119,7 +125,9 @@ fn store(
     requires few { length cache.old.entries ≤ 10000 }
     requires short { bytes.old ≤ 67108864 }
     requires fits { length text.items ≤ 67108864 }
-    ensures entries { OnOk result (map shown cache.new.entries ≡ front_within 10000 67108864 ((digest, text.items) ∷ remove_entry (same digest) (map shown cache.old.entries))) }
+    ensures entries { OnOk result (map shown cache.new.entries
+        ≡ front_within 10000 67108864
+        ((digest, text.items) ∷ remove_entry (same digest) (map shown cache.old.entries))) }
     ensures bytes { bytes.new ≡ total (map shown cache.new.entries) }
     ensures few { length cache.new.entries ≤ 10000 }
     ensures short { bytes.new ≤ 67108864 }
@@ -133,7 +141,8 @@ fn store(
     Ok(())
 }
 
-/// An instance's results under the digests of their actions, the most recently used first. They own their bytes.
+/// An instance's results under the digests of their actions, the most recently used first. They own
+/// their bytes.
 #[derive(Drop)]
 pub struct Results {
     cache: Cache,
@@ -149,7 +158,8 @@ impl Model for Results {
 
     ghost view = { λ r. map shown r.cache.entries };
 
-    ghost invariant = { λ r. (r.bytes ≡ total (map shown r.cache.entries)) × (r.cache.cap ≡ 10001) × (length r.cache.entries ≤ 10000) × (r.bytes ≤ 67108864) };
+    ghost invariant = { λ r. (r.bytes ≡ total (map shown r.cache.entries)) × (r.cache.cap ≡ 10001)
+        × (length r.cache.entries ≤ 10000) × (r.bytes ≤ 67108864) };
 }
 
 impl Results {
@@ -176,8 +186,9 @@ impl Results {
         promote(&mut self.cache, action);
     }
 
-    /// Stores the bytes of an action's result, in the place of an earlier one. Of all results the longest front
-    /// stays that has at most 10,000 results and 67,108,864 bytes; one that has more bytes changes nothing.
+    /// Stores the bytes of an action's result, in the place of an earlier one. Of all results the
+    /// longest front stays that has at most 10,000 results and 67,108,864 bytes; one that has more
+    /// bytes changes nothing.
     pub fn update(&mut self, action: &Digest, text: Vec<u8>) -> Result<(), AllocError>
         ensures ok { OnOk result (self.new ≡ stored action.now text.items self.old) }
         ensures err { OnErr result (self.new ≡ self.old) }

@@ -61,8 +61,8 @@ fn remove(numbers: &mut Vec<usize>, number: usize)
     }
 }
 
-/// The slots by the digests of their texts: for each digest the first, and apart those that came when their digest
-/// had one already.
+/// The slots by the digests of their texts: for each digest the first, and apart those that came
+/// when their digest had one already.
 #[derive(Drop)]
 pub struct Index {
     firsts: Firsts,

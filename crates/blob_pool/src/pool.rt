@@ -68,8 +68,8 @@ impl Pool {
         Draft::of(self.alloc, digest, bytes)
     }
 
-    /// Holds the text of a draft: in the slot that has it already, or in a free one. The draft is given back for want
-    /// of memory only.
+    /// Holds the text of a draft: in the slot that has it already, or in a free one. The draft is
+    /// given back for want of memory only.
     pub fn seal(&mut self, draft: Draft) -> Result<Hold, Draft>
         requires { HasRoom self.old }
         ensures text { IfOk result (λ hold. text_at self.new hold ≡ draft.text) }
@@ -153,8 +153,8 @@ impl Pool {
         text(&self.slots, hold.slot()).len()
     }
 
-    /// What the text has from a place on, up to the end of its page of 65,536 bytes and to `most` bytes. It takes no
-    /// memory.
+    /// What the text has from a place on, up to the end of its page of 65,536 bytes and to `most`
+    /// bytes. It takes no memory.
     pub fn part(&self, hold: &Hold, from: u64, most: u32) -> &[u8]
         requires { 0 < count_at self.now hold.now }
         ensures { result.now ≡ part_of 65536 (text_at self.now hold.now) from most }

@@ -61,7 +61,11 @@ fn add_holder(slots: &mut Slab<Slot>, slot: usize)
     requires held { 0 < count_at slots.old.slots slot }
     requires room { count_at slots.old.slots slot < 2 ^ 127 }
     ensures { Puts slots.old.slots slots.new.slots slot
-        (Some (record { text = text_at slots.old.slots slot; count = count_at slots.old.slots slot + 1 })) }
+        (Some (record {
+          text = text_at slots.old.slots slot;
+          count = count_at slots.old.slots
+              slot + 1;
+        })) }
 {
     if let Some(held) = slots.get_mut(slot) {
         held.add_holder();
@@ -84,7 +88,11 @@ pub fn hold_again(slots: &mut Slab<Slot>, slot: usize)
 fn take_holder(slots: &mut Slab<Slot>, slot: usize)
     requires { 1 < count_at slots.old.slots slot }
     ensures { Puts slots.old.slots slots.new.slots slot
-        (Some (record { text = text_at slots.old.slots slot; count = count_at slots.old.slots slot - 1 })) }
+        (Some (record {
+          text = text_at slots.old.slots slot;
+          count = count_at slots.old.slots
+              slot - 1;
+        })) }
 {
     if let Some(held) = slots.get_mut(slot) {
         held.take_holder();
@@ -101,7 +109,8 @@ fn count(slots: &Slab<Slot>, slot: usize) -> u128
     }
 }
 
-/// Holds a text: in the slot that has it already, or in a free one. The draft is given back for want of memory only.
+/// Holds a text: in the slot that has it already, or in a free one. The draft is given back for
+/// want of memory only.
 pub fn put_text(
     slots: &mut Slab<Slot>,
     index: &mut Index,

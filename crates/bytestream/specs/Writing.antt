@@ -1,5 +1,5 @@
--- Write (bytestream.proto): what each message of a call is answered, and what it does to the instance's texts and
--- unfinished uploads.
+-- Write (bytestream.proto): what each message of a call is answered, and what it does to the
+-- instance's texts and unfinished uploads.
 use Rattle.std.specs.Prelude.{◌≡◌, ◌⊎◌, ℕ, pos, Bool, true, false, ◌||◌, ◌==◌, is_some, if◌then◌else◌, List, length, Option, Some, None, Result, Ok, Err}
 use Rattle.std.specs.Str.{bytes_eq}
 use Rattle.reapi_messages.specs.Results.{◌>>=◌}
@@ -103,7 +103,8 @@ after_taking limit quota moment part (Err e) s = record s { uploads = after_piec
 abbrev pub after_part : Bool → ℕ → ℕ → ℕ → PartValue → WriteState → WriteState
 after_part first limit quota moment part s = after_taking limit quota moment part (piece_taken first quota part s.uploads) s
 
--- what want of memory leaves of the uploads: all as they were, or with a piece that was taken and not ended
+-- what want of memory leaves of the uploads: all as they were, or with a piece that was taken and
+-- not ended
 abbrev pub IsOldOrTaken : Bool → ℕ → ℕ → PartValue → UploadList → UploadList → Type 0
 IsOldOrTaken first quota moment part old new =
     (new ≡ old) ⊎ ((piece_taken first quota part old ≡ Ok tt) × (new ≡ after_piece moment part.key part.piece (Ok tt) old))

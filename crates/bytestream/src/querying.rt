@@ -54,8 +54,8 @@ fn status(
     }
 }
 
-/// Answers `QueryWriteStatus`: how many bytes of an upload are there, and whether its blob is complete, as one that
-/// the instance `own` has is. It is no use of the blob, and changes nothing.
+/// Answers `QueryWriteStatus`: how many bytes of an upload are there, and whether its blob is
+/// complete, as one that the instance `own` has is. It is no use of the blob, and changes nothing.
 pub fn query(
     alloc: Global,
     own: &str,

@@ -19,7 +19,8 @@ use reapi_messages::{Message, ReadRequest};
 use rpc::Refusal;
 use std::alloc::Global;
 
-/// A range of a blob: its bytes from one place until before another. It is another holder of the blob's text.
+/// A range of a blob: its bytes from one place until before another. It is another holder of the
+/// blob's text.
 #[derive(Clone, Copy)]
 pub struct Source {
     pub digest: Digest,

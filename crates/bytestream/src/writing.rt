@@ -117,8 +117,8 @@ fn reply_of(alloc: Global, committed: u64) -> Result<Vec<u8>, AllocError>
     Ok(reply)
 }
 
-/// The reply to a request that ends without its last piece: how many bytes of its upload are there, and 0 where that
-/// is gone. The upload stays.
+/// The reply to a request that ends without its last piece: how many bytes of its upload are there,
+/// and 0 where that is gone. The upload stays.
 pub fn ended_unfinished(
     alloc: Global,
     uploads: &Uploads,
@@ -131,11 +131,12 @@ pub fn ended_unfinished(
     reply_of(alloc, committed)
 }
 
-/// Takes the first message of a `Write`. A blob that the instance `own` has is used, and the call is answered at once;
-/// else the message's piece is added to the upload that it names, which ends where it is the last. The refusals come
-/// in this order: the message does not read, its name is none, its instance is not `own`, the upload is larger than
-/// the quota, there are 64 others, the piece is not at its place, it goes past the size, all uploads would be larger
-/// than the quota, the digest does not name the text.
+/// Takes the first message of a `Write`. A blob that the instance `own` has is used, and the call
+/// is answered at once; else the message's piece is added to the upload that it names, which ends
+/// where it is the last. The refusals come in this order: the message does not read, its name is
+/// none, its instance is not `own`, the upload is larger than the quota, there are 64 others, the
+/// piece is not at its place, it goes past the size, all uploads would be larger than the quota,
+/// the digest does not name the text.
 pub fn write_first(
     alloc: Global,
     own: &str,
@@ -185,10 +186,11 @@ pub fn write_first(
     Ok(Written::Goes(OpenWrite { name, key }))
 }
 
-/// Takes a later message of a `Write`: its piece is added to the upload of the call, which ends where it is the last,
-/// and then the reply's message is given. The refusals come in this order: the message does not read, it names
-/// another upload, the upload is gone or the piece is not at its place, it goes past the size, all uploads would be
-/// larger than the quota, the digest does not name the text.
+/// Takes a later message of a `Write`: its piece is added to the upload of the call, which ends
+/// where it is the last, and then the reply's message is given. The refusals come in this order:
+/// the message does not read, it names another upload, the upload is gone or the piece is not at
+/// its place, it goes past the size, all uploads would be larger than the quota, the digest does
+/// not name the text.
 pub fn write_next(
     alloc: Global,
     quota: u64,

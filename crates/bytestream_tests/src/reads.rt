@@ -52,7 +52,8 @@ fn message_of(alloc: Global, case: &ReadCase) -> Result<Vec<u8>, AllocError> {
     Ok(message)
 }
 
-/// Whether the source's text has these bytes from where the source begins to the end of a page, and those from there.
+/// Whether the source's text has these bytes from where the source begins to the end of a page, and
+/// those from there.
 fn has_parts(pool: &Pool, source: &Source, page: u64, first: &[u8], second: &[u8]) -> bool
     requires { (k : ℕ) → holders_seen source.now.text k ≤ count_at pool.now k }
 {
@@ -78,7 +79,8 @@ fn answer_beside(
 ) -> Result<Source, CallError>
     requires kept { AreKept 1000000 pool.old view.old }
     requires few { view.old.limit ≤ 100 }
-    ensures held { (k : ℕ) → IfOk result (λ source. holders_seen source.text k ≤ count_at pool.new k) }
+    ensures held { (k : ℕ) → IfOk result
+        (λ source. holders_seen source.text k ≤ count_at pool.new k) }
 {
     match admit(view, pool, QUOTA, &Digest::of(text), text) {
         Ok(()) => read(alloc, "main", view, pool, message),
@@ -109,7 +111,8 @@ pub fn misread_range(
     Ok(None)
 }
 
-/// Whether the bytes that a `Read` is given stand in two pages, the second of which begins at `page`.
+/// Whether the bytes that a `Read` is given stand in two pages, the second of which begins at
+/// `page`.
 pub fn reads_over_two_pages(
     alloc: Global,
     text: &[u8],

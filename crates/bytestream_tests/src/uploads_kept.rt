@@ -8,7 +8,8 @@ use uploads::{Piece, UploadError, UploadKey, Uploads};
 /// The quota of these tests, in bytes.
 const QUOTA: u64 = 100;
 
-/// Whether an upload that was last written to at this moment is kept by one tick and forgotten by another.
+/// Whether an upload that was last written to at this moment is kept by one tick and forgotten by
+/// another.
 fn is_kept_and_forgotten(
     uploads: &mut Uploads,
     alloc: Global,
@@ -30,7 +31,8 @@ fn is_kept_and_forgotten(
     begun && is_kept && uploads.committed(&key).is_none()
 }
 
-/// Whether an upload that was last written to at one moment is kept at another and forgotten at a third.
+/// Whether an upload that was last written to at one moment is kept at another and forgotten at a
+/// third.
 pub fn forgets_after_ten_minutes(alloc: Global, written: u64, kept: u64, forgotten: u64) -> bool {
     let mut uploads = Uploads::new(alloc);
     is_kept_and_forgotten(&mut uploads, alloc, written, kept, forgotten)

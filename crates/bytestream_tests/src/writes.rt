@@ -211,7 +211,8 @@ fn misanswered_after(
     }
 }
 
-/// What the first message of a call is about that is answered otherwise, where the call begins with `first`.
+/// What the first message of a call is about that is answered otherwise, where the call begins with
+/// `first`.
 pub fn misanswered_messages(
     alloc: Global,
     first: &WriteCase,

@@ -44,7 +44,8 @@ fn is_there(view: &View, digest: &Digest) -> bool
     view.contains(digest)
 }
 
-/// The digests that are not there, in order. What is there is told by the digests alone, so any pool serves to say so.
+/// The digests that are not there, in order. What is there is told by the digests alone, so any
+/// pool serves to say so.
 fn missing<'a>(
     alloc: Global,
     view: &View,
@@ -79,8 +80,9 @@ fn reply_to(alloc: Global, view: &View, asked: &[Asked<'_>]) -> Result<Vec<u8>, 
     Ok(reply)
 }
 
-/// Answers `FindMissingBlobs`: the digests of the request that the instance `own` has not, in order and with repeats.
-/// Each digest that is asked for is used, in order. A refused call changes nothing.
+/// Answers `FindMissingBlobs`: the digests of the request that the instance `own` has not, in order
+/// and with repeats. Each digest that is asked for is used, in order. A refused call changes
+/// nothing.
 pub fn find_missing(
     alloc: Global,
     own: &str,

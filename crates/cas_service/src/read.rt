@@ -180,8 +180,9 @@ fn reply_to(
     Ok(reply)
 }
 
-/// Answers `BatchReadBlobs`: the text of each digest of the request, or `NOT_FOUND` for one that the instance `own`
-/// has not, in order and with repeats. Each digest is then used, in order. A refused call changes nothing.
+/// Answers `BatchReadBlobs`: the text of each digest of the request, or `NOT_FOUND` for one that
+/// the instance `own` has not, in order and with repeats. Each digest is then used, in order. A
+/// refused call changes nothing.
 pub fn batch_read(
     alloc: Global,
     own: &str,

@@ -272,9 +272,9 @@ fn store_all(
     Ok(())
 }
 
-/// Answers `BatchUpdateBlobs`: what became of each blob of the request, in order. The blobs that are not refused are
-/// stored, in order, within `quota` bytes. A refused call changes nothing; one that ends for want of memory may have
-/// stored the first of the blobs.
+/// Answers `BatchUpdateBlobs`: what became of each blob of the request, in order. The blobs that
+/// are not refused are stored, in order, within `quota` bytes. A refused call changes nothing; one
+/// that ends for want of memory may have stored the first of the blobs.
 pub fn batch_update(
     alloc: Global,
     own: &str,

@@ -1,4 +1,5 @@
--- Where an answer is owed to its stream: to any other stream nothing is (grpc_sending, StandsFor.antt).
+-- Where an answer is owed to its stream: to any other stream nothing is (grpc_sending,
+-- StandsFor.antt).
 use Rattle.std.specs.Prelude.{◌≡◌, ℕ, true, false, List, []}
 use Rattle.std.specs.List.{AllByRecursion}
 use Rattle.http2_frames.specs.declared.frame.RawFrame.{RawFrame}

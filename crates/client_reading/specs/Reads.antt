@@ -20,7 +20,8 @@ use Rattle.client_reading.specs.Responses.{stream_parts, response_of, IsBeginnin
 
 -- ---- frames
 
--- the bytes divide into the frames that were put and nothing is left over, and each is understood as it was meant
+-- the bytes divide into the frames that were put and nothing is left over, and each is understood
+-- as it was meant
 pub record ReadsFrames (d : List Entry) : Type 0 where
   pub divided : split [] (bytes_put d) ≡ record { frames = map raw_of (sent d); end = Ok [] }
   pub understood : AllByRecursion (λ f. frame_of (raw_of f) ≡ Ok f) (sent d)
@@ -50,9 +51,9 @@ is_control (Headers s end_stream end_headers fragment) = false
 is_control (Data s end_stream bytes) = false
 is_control _ = true
 
--- what an entry causes to be put besides HEADERS and DATA: a received frame its answers, bytes that are no frame
--- GOAWAY, and a block with END_STREAM, where the client has not ended its side, RST_STREAM with NO_ERROR
--- (section 8.1)
+-- what an entry causes to be put besides HEADERS and DATA: a received frame its answers, bytes that
+-- are no frame GOAWAY, and a block with END_STREAM, where the client has not ended its side,
+-- RST_STREAM with NO_ERROR (section 8.1)
 abbrev pub caused_by : List Entry → Entry → List Frame
 caused_by before (In f) = (outcome before f).put
 caused_by before (Unreadable e) = option_map_or (fault_frames (has_failed before) (highest before)) (reading_fault e) []
@@ -69,7 +70,8 @@ ReadsControl d = (later : List Entry) × (d ≡ greeting ∷ later) × (filter i
 
 -- ---- all of it
 
--- where a client takes every message that was owed, each stream has a beginning of what was owed to it
+-- where a client takes every message that was owed, each stream has a beginning of what was owed to
+-- it
 abbrev pub ReadsResponses : Past → Type 0
 ReadsResponses p = (limit : ℕ) → limit < 2 ^ 32 → IsTakable limit p.owed → (s : ℕ) → IsBeginning limit (stream_parts p.diary s) (response_of (owed_on s p.owed))
 

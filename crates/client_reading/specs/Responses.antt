@@ -1,5 +1,6 @@
--- What a client makes of the HEADERS and DATA of a stream: header blocks by HPACK (RFC 7541), and messages by gRPC
--- over HTTP2 (Length-Prefixed-Message). Nothing here reads what the server meant to send.
+-- What a client makes of the HEADERS and DATA of a stream: header blocks by HPACK (RFC 7541), and
+-- messages by gRPC over HTTP2 (Length-Prefixed-Message). Nothing here reads what the server meant
+-- to send.
 use Rattle.std.specs.Prelude.{◌≡◌, ◌<◌, ◌≤◌, ◌==◌, if◌then◌else◌, ℕ, zero, suc, nat_lt, take, drop, Bool, true, List, [], ◌∷◌, ◌++◌, length, map, Option, Some, Result, Ok, Err}
 use Rattle.std.specs.List.{AllByRecursion, flat_map}
 use Rattle.hpack.specs.declared.error.HpackError.{HpackError}
@@ -54,8 +55,8 @@ stream_parts d s = stream_parts_from s (Some new_table) (sent d)
 pub data ResponsePart : Type 0 where
   Block : Bool → List Header → ResponsePart
   WholeMessage : List ℕ → ResponsePart
-  -- anything that is no part of a response: what is garbled, messages that are refused or cut off by a block,
-  -- DATA with END_STREAM
+  -- anything that is no part of a response: what is garbled, messages that are refused or cut off
+  -- by a block, DATA with END_STREAM
   Fault : ResponsePart
 
 abbrev pub behind_messages : Result (List ℕ) MessagesError → List ResponsePart
@@ -67,7 +68,8 @@ behind_messages (Err e) = Fault ∷ []
 abbrev pub messages_to_end : Split → List ResponsePart
 messages_to_end s = map WholeMessage s.messages ++ behind_messages s.end
 
--- adjacent DATA is joined and divided into messages of at most `limit` bytes; `text` stands before what is left
+-- adjacent DATA is joined and divided into messages of at most `limit` bytes; `text` stands before
+-- what is left
 abbrev pub response_from : ℕ → List ℕ → List StreamPart → List ResponsePart
 response_from limit text [] = map WholeMessage (split limit text).messages
 response_from limit text (Bytes end_stream bytes ∷ hs) = if end_stream then Fault ∷ [] else response_from limit (text ++ bytes) hs
@@ -106,7 +108,8 @@ IsMessageFront (Ok []) later = Unit {0}
 IsMessageFront (Ok (b ∷ bs)) (WholeMessage message ∷ later) = (more : List ℕ) × (0 < length more) × (framed message ≡ (b ∷ bs) ++ more)
 IsMessageFront _ later = ⊥
 
--- what is read is a beginning of this response: some of its parts whole, then perhaps a front of the next
+-- what is read is a beginning of this response: some of its parts whole, then perhaps a front of
+-- the next
 pub record IsBeginning (limit : ℕ) (received : List StreamPart) (response : List ResponsePart) : Type 0 where
   pub later : List ResponsePart
   pub divided : response ≡ response_from limit [] received ++ later

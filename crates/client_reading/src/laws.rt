@@ -11,7 +11,8 @@ ghost use Rattle.client_reading.specs.Responses.{read_messages};
 ghost use Rattle.client_reading.specs.Ranges.{BringBytes};
 ghost use Rattle.client_reading.specs.Reads.{Reads};
 
-/// Whatever bytes come, the frames that they divide into are frames (RFC 9113 sections 4.1 and 4.2).
+/// Whatever bytes come, the frames that they divide into are frames (RFC 9113 sections 4.1 and
+/// 4.2).
 pub fn received_frames_are_frames()
     ensures { (preface text : List ℕ) → AllByRecursion IsReceivable (split preface text).frames }
 {}
@@ -22,22 +23,25 @@ pub fn changes_make_pasts()
     ensures change { (p : Past) (c : Change) → IsChange c → IsPast p → IsPast (change p c) }
 {}
 
-/// All that a client reads of the bytes that were put: frames as they were meant (RFC 9113), HEADERS and DATA on live
-/// streams and within the windows, control frames that were caused, in order, and on each stream a beginning of
-/// what was owed to it (RFC 7541 for its header blocks, gRPC over HTTP2 for its messages).
+/// All that a client reads of the bytes that were put: frames as they were meant (RFC 9113),
+/// HEADERS and DATA on live streams and within the windows, control frames that were caused, in
+/// order, and on each stream a beginning of what was owed to it (RFC 7541 for its header blocks,
+/// gRPC over HTTP2 for its messages).
 pub fn what_a_client_reads()
     ensures { (p : Past) → IsPast p → Reads p }
 {}
 
-/// The messages that are read of a range bring all its bytes, in order: each is a ReadResponse whose data are 1 to 65,536
-/// of them (bytestream.proto).
+/// The messages that are read of a range bring all its bytes, in order: each is a ReadResponse
+/// whose data are 1 to 65,536 of them (bytestream.proto).
 pub fn ranges_bring_their_bytes()
     ensures { (bytes : List ℕ) → BringBytes 65536 bytes (read_messages bytes) }
 {}
 
-/// What a frame brings to calls is on streams that are live after it, and so is a request that is answered at once,
-/// unless the call is given up: an answer to it is owed to its stream, and never dropped.
+/// What a frame brings to calls is on streams that are live after it, and so is a request that is
+/// answered at once, unless the call is given up: an answer to it is owed to its stream, and never
+/// dropped.
 pub fn answers_are_owed()
-    ensures calls { (p : Past) (f : RawFrame) → IsPast p → CanGoOn p → AreAnswerableCalls (with_frame p f) }
+    ensures calls { (p : Past) (f : RawFrame) → IsPast p → CanGoOn p →
+        AreAnswerableCalls (with_frame p f) }
     ensures requests { (p : Past) (f : RawFrame) → IsPast p → CanGoOn p → AnswersOnStreams p f }
 {}

@@ -115,7 +115,8 @@ file_or_probe_by name given =
 abbrev pub task_by : Text → List Row → Option TaskValue
 task_by name given = if bytes_eq name (codes "serve") then serve_of given else file_or_probe_by name given
 
--- what the command that the words name asks for; where they name none, it is the script on standard input
+-- what the command that the words name asks for; where they name none, it is the script on standard
+-- input
 abbrev pub task_of : Option (Text × List Row) → Option TaskValue
 task_of None = Some (unary None)
 task_of (Some (name, given)) = task_by name given

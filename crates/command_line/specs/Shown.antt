@@ -25,7 +25,8 @@ asked words = task_of (subcommand_of command_line words)
 abbrev pub HasNoFault : List Text → Type 0
 HasNoFault words = fault_of command_line words ≡ []
 
--- the text is for one of the faults that `clap` finds in the words, or for a missing argument where they ask for nothing
+-- the text is for one of the faults that `clap` finds in the words, or for a missing argument where
+-- they ask for nothing
 abbrev pub IsFaultOf : List Text → CommandLineError → Type 0
 IsFaultOf words NoMemory = ⊤
 IsFaultOf words (Answered error) =

@@ -34,8 +34,8 @@ pub enum Task<'a> {
         /// A word `NAME:PORT:QUOTA:SLOTS` for each instance.
         instances: Vec<&'a str>,
     },
-    /// Sends the bytes of a file to a port of this host, and prints the first `want` that come back,
-    /// in at most that many turns.
+    /// Sends the bytes of a file to a port of this host, and prints the first `want` that come
+    /// back, in at most that many turns.
     Probe {
         port: u16,
         send: &'a str,
@@ -188,7 +188,8 @@ fn command<'a>(alloc: Global) -> Result<Command<'a>, AllocError>
 }
 
 fn text<'a>(found: &ArgMatches<'a>, name: &str) -> Option<&'a str>
-    ensures { option_map (λ text. text.now) result ≡ first_of name.now (rows_of (found_of found.now)) }
+    ensures { option_map (λ text. text.now) result
+        ≡ first_of name.now (rows_of (found_of found.now)) }
 {
     found.get_str(name)
 }
@@ -216,7 +217,8 @@ fn texts<'a>(
     found: &ArgMatches<'a>,
     name: &str,
 ) -> Result<Option<Vec<&'a str>>, AllocError>
-    ensures { IfOk result (λ texts. option_map (λ v. map (λ text. text.now) v.items) texts ≡ all_of name.now (rows_of (found_of found.now))) }
+    ensures { IfOk result (λ texts. option_map (λ v. map (λ text. text.now) v.items) texts
+        ≡ all_of name.now (rows_of (found_of found.now))) }
 {
     match found.get_strs(name) {
         Some(texts) => Ok(Some(Vec::from_slice(alloc, texts)?)),
@@ -228,7 +230,8 @@ fn requested_serve<'a>(
     alloc: Global,
     found: &ArgMatches<'a>,
 ) -> Result<Option<Task<'a>>, AllocError>
-    ensures { IfOk result (λ task. option_map task_value task ≡ serve_of (rows_of (found_of found.now))) }
+    ensures { IfOk result (λ task. option_map task_value task
+        ≡ serve_of (rows_of (found_of found.now))) }
 {
     let Some(work) = text(found, "work") else {
         return Ok(None);
@@ -247,7 +250,8 @@ fn requested_serve<'a>(
 }
 
 fn requested_file_or_probe<'a>(name: &str, found: &ArgMatches<'a>) -> Option<Task<'a>>
-    ensures { option_map task_value result ≡ file_or_probe_by name.now (rows_of (found_of found.now)) }
+    ensures { option_map task_value result
+        ≡ file_or_probe_by name.now (rows_of (found_of found.now)) }
 {
     match name {
         "unary" => Some(Task::Unary {
@@ -265,7 +269,8 @@ fn requested_by<'a>(
     name: &str,
     found: &ArgMatches<'a>,
 ) -> Result<Option<Task<'a>>, AllocError>
-    ensures { IfOk result (λ task. option_map task_value task ≡ task_by name.now (rows_of (found_of found.now))) }
+    ensures { IfOk result (λ task. option_map task_value task
+        ≡ task_by name.now (rows_of (found_of found.now))) }
 {
     if name == "serve" {
         requested_serve(alloc, found)
@@ -275,7 +280,8 @@ fn requested_by<'a>(
 }
 
 fn requested<'a>(alloc: Global, matches: &ArgMatches<'a>) -> Result<Option<Task<'a>>, AllocError>
-    ensures { IfOk result (λ task. option_map task_value task ≡ task_of (subcommand_rows_of matches.now)) }
+    ensures { IfOk result (λ task. option_map task_value task
+        ≡ task_of (subcommand_rows_of matches.now)) }
 {
     match matches.subcommand() {
         Some((name, found)) => requested_by(alloc, name, found),
@@ -288,7 +294,8 @@ fn requested<'a>(alloc: Global, matches: &ArgMatches<'a>) -> Result<Option<Task<
 pub enum CommandLineError {
     /// A request for memory was refused.
     NoMemory,
-    /// There is a text and a status for whoever wrote them: a mistake, or the answer to `--help` or `--version`.
+    /// There is a text and a status for whoever wrote them: a mistake, or the answer to `--help` or
+    /// `--version`.
     Answered(Error),
 }
 
@@ -324,7 +331,8 @@ fn missing(command: &mut Command<'_>) -> CommandLineError
 
 /// What the words of a command line ask for.
 pub fn parse<'a>(alloc: Global, words: &'a [String]) -> Result<Task<'a>, CommandLineError>
-    ensures task { IfOk result (λ task. asked (map string_bytes words.entry.now) ≡ Some (task_value task)) }
+    ensures task { IfOk result (λ task. asked (map string_bytes words.entry.now)
+        ≡ Some (task_value task)) }
     ensures faultless { IfOk result (λ _. HasNoFault (map string_bytes words.entry.now)) }
     ensures fault { IfErr result (IsFaultOf (map string_bytes words.entry.now)) }
 {
@@ -340,11 +348,13 @@ pub fn parse<'a>(alloc: Global, words: &'a [String]) -> Result<Task<'a>, Command
     }
 }
 
-/// The status with which the program ends once an error was printed: 0 after help and the version, and 2 after a
-/// mistake.
+/// The status with which the program ends once an error was printed: 0 after help and the version,
+/// and 2 after a mistake.
 pub fn status(error: &Error) -> u8
-    ensures shown { (kind_of error.now ≡ DisplayHelp) ⊎ (kind_of error.now ≡ DisplayVersion) → result ≡ 0 }
-    ensures mistake { (kind_of error.now ≢ DisplayHelp) → (kind_of error.now ≢ DisplayVersion) → result ≡ 2 }
+    ensures shown { (kind_of error.now ≡ DisplayHelp) ⊎ (kind_of error.now ≡ DisplayVersion) →
+        result ≡ 0 }
+    ensures mistake { (kind_of error.now ≢ DisplayHelp) → (kind_of error.now ≢ DisplayVersion) →
+        result ≡ 2 }
 {
     error.exit_code() as u8
 }

@@ -1,4 +1,5 @@
--- What one step does to the calls that are kept. For the code alone: no public contract speaks of it.
+-- What one step does to the calls that are kept. For the code alone: no public contract speaks of
+-- it.
 use Rattle.std.specs.Prelude.{◌≡◌, ◌==◌, ℕ, suc, if◌then◌else◌, Bool, false, not, List, [], ◌∷◌, ◌++◌, map, filter, Some, None, Result, ◌⊎◌}
 use Rattle.std.specs.List.{list_any}
 use Rattle.std.specs.Result.{is_ok}

@@ -58,7 +58,8 @@ message_limit = 4194304
 abbrev pub messages_of : List ℕ → Split
 messages_of bytes = split message_limit bytes
 
--- a compressed message is refused otherwise than one that is too large; a text of messages has no other fault
+-- a compressed message is refused otherwise than one that is too large; a text of messages has no
+-- other fault
 abbrev pub refusal_of : MessagesError → Refusal
 refusal_of Compressed = CompressedMessage
 refusal_of TooLarge = MessageTooLarge
@@ -74,8 +75,8 @@ abbrev pub behind_messages : ℕ → Bool → Result (List ℕ) MessagesError �
 behind_messages s end_stream (Ok rest) = if end_stream then at_end s rest else []
 behind_messages s end_stream (Err e) = Fault s (refusal_of e) ∷ []
 
--- what stands in a text behind a front of it that had so many messages: the messages after these, and then the first
--- fault or the end
+-- what stands in a text behind a front of it that had so many messages: the messages after these,
+-- and then the first fault or the end
 abbrev pub behind_front : ℕ → Bool → ℕ → Split → List CallEvent
 behind_front s end_stream count whole = map (Message s) (drop count whole.messages) ++ behind_messages s end_stream whole.end
 
@@ -105,7 +106,8 @@ call_events_of d (Content s content end_stream) = if is_call d s then more_text 
 call_events_of d (Trailers s) = if is_call d s then more_text s (text d s) [] true else []
 call_events_of d (Cancel s) = if is_call d s then CallCancel s ∷ [] else []
 
--- the calls on live streams, which end with the connection; after an error of the connection none is left
+-- the calls on live streams, which end with the connection; after an error of the connection none
+-- is left
 abbrev pub calls_left : List Entry → List ℕ
 calls_left d = if has_failed d then [] else filter (is_call d) (live d)
 

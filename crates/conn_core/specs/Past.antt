@@ -38,7 +38,8 @@ owe_all d os (x ∷ xs) = owe_all d (owed_more d os x.0 x.1) xs
 abbrev pub with_text : List ℕ → Past → Past
 with_text bytes p = record p { text = p.text ++ bytes }
 
--- the next frame: what is put for it at once, what its request is answered at once, and what it brings to calls
+-- the next frame: what is put for it at once, what its request is answered at once, and what it
+-- brings to calls
 abbrev pub with_frame : Past → RawFrame → Past
 with_frame p f = record p {
   diary = p.diary ++ entries p.diary f;

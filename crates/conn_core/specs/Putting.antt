@@ -1,4 +1,5 @@
--- What is put for a frame, and what ends with the connection. For the code alone: no public contract speaks of them.
+-- What is put for a frame, and what ends with the connection. For the code alone: no public
+-- contract speaks of them.
 use Rattle.std.specs.Prelude.{◌≡◌, ◌+◌, ◌==◌, ◌||◌, if◌then◌else◌, ℕ, Bool, true, false, List, [], ◌∷◌, ◌++◌, length, map, filter, Option, Some, None, Ok}
 use Rattle.std.specs.List.{list_any, flat_map}
 use Rattle.http2_frames.specs.declared.codes.ErrorCode.{ErrorCode}

@@ -1,5 +1,5 @@
--- What a received frame comes to, beside what it causes by the rules of streams: the server does not let the
--- bytes grow without end that answer frames.
+-- What a received frame comes to, beside what it causes by the rules of streams: the server does
+-- not let the bytes grow without end that answer frames.
 use Rattle.std.specs.Prelude.{ℕ, ◌+◌, nat_le, if◌then◌else◌, Bool, true, false, List, [], ◌∷◌, ◌++◌, length, map, Option, Some, None, Result, Ok, Err}
 use Rattle.std.specs.List.{filter_map}
 use Rattle.http2_frames.specs.declared.codes.ErrorCode.{ErrorCode}
@@ -52,7 +52,8 @@ pub record Outcome : Type 0 where
 abbrev pub fault : List Frame → ℕ → ErrorCode → Outcome
 fault put last_stream code = record { put = put ++ goaway last_stream code ∷ []; event = Nothing; fails = true }
 
--- n bytes are untaken; refused and malformed requests are opened, too, so the GOAWAY for want of room comes after the frame
+-- n bytes are untaken; refused and malformed requests are opened, too, so the GOAWAY for want of
+-- room comes after the frame
 abbrev pub outcome_of : ℕ → ℕ → ℕ → Result StreamEvent ErrorCode → Outcome
 outcome_of n highest_before highest_after (Err code) = fault [] highest_before code
 outcome_of n highest_before highest_after (Ok a) =

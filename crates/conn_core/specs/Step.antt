@@ -1,4 +1,5 @@
--- The parts of one step through the received bytes. For the code alone: no public contract speaks of them.
+-- The parts of one step through the received bytes. For the code alone: no public contract speaks
+-- of them.
 use Rattle.std.specs.Prelude.{◌≡◌, ◌<◌, ◌≤◌, ◌==◌, ℕ, true, false, List, [], ◌∷◌, ◌++◌, length, map, filter}
 use Rattle.std.specs.List.{list_any}
 use Rattle.http2_frames.specs.declared.frame.RawFrame.{RawFrame}

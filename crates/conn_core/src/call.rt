@@ -45,8 +45,10 @@ impl Call {
         due: &mut VecDeque<CallEvent>,
     ) -> Result<(), AllocError>
         ensures stream { self.new.stream ≡ self.old.stream }
-        ensures messages { OnOk result ((t : List ℕ) → self.old.messages ≡ (messages_of t).end → self.new.messages ≡ (messages_of (t ++ content.now)).end) }
-        ensures events { OnOk result ((t : List ℕ) → self.old.messages ≡ (messages_of t).end → due.new.items ≡ due.old.items ++ more_text self.old.stream t content.now end_stream) }
+        ensures messages { OnOk result ((t : List ℕ) → self.old.messages ≡ (messages_of t).end →
+            self.new.messages ≡ (messages_of (t ++ content.now)).end) }
+        ensures events { OnOk result ((t : List ℕ) → self.old.messages ≡ (messages_of t).end →
+            due.new.items ≡ due.old.items ++ more_text self.old.stream t content.now end_stream) }
     {
         match self.messages.feed(content) {
             Ok(()) => {}
@@ -63,7 +65,8 @@ impl Call {
     /// Says whether there was no fault.
     fn take_messages(&mut self, due: &mut VecDeque<CallEvent>) -> Result<bool, AllocError>
         ensures stream { self.new.stream ≡ self.old.stream }
-        ensures all { IfOk result (λ whole. TakesAll self.old.stream whole self.old.messages self.new.messages due.old.items due.new.items) }
+        ensures all { IfOk result (λ whole. TakesAll self.old.stream whole self.old.messages
+            self.new.messages due.old.items due.new.items) }
     {
         'messages: loop {
             match self.messages.next() {
@@ -82,7 +85,8 @@ impl Call {
 
     /// The request ends; it was divided into messages up to here.
     fn take_end(&self, due: &mut VecDeque<CallEvent>) -> Result<(), AllocError>
-        ensures { OnOk result (due.new.items ≡ due.old.items ++ at_end self.now.stream (bytes_left self.now.messages)) }
+        ensures { OnOk result (due.new.items ≡ due.old.items
+            ++ at_end self.now.stream (bytes_left self.now.messages)) }
     {
         let stream = self.stream;
         if self.messages.is_empty() {
@@ -100,7 +104,8 @@ fn push_fault(
     fault: MessagesError,
     due: &mut VecDeque<CallEvent>,
 ) -> Result<(), AllocError>
-    ensures events { OnOk result (due.new.items ≡ due.old.items ++ Fault stream (refusal_of fault) ∷ []) }
+    ensures events { OnOk result (due.new.items ≡ due.old.items ++ Fault stream (refusal_of fault)
+        ∷ []) }
     ensures memory { OnOk result (fault ≢ MessagesError.NoMemory) }
 {
     let refusal = match fault {
@@ -137,7 +142,8 @@ pub(crate) fn take_more(
     end_stream: bool,
     due: &mut VecDeque<CallEvent>,
 ) -> Result<(), AllocError>
-    ensures { OnOk result (TakesOn stream content.now end_stream calls.old.items calls.new.items due.old.items due.new.items) }
+    ensures { OnOk result (TakesOn stream content.now end_stream calls.old.items calls.new.items
+        due.old.items due.new.items) }
 {
     let place = place_of(calls, stream);
     if place >= calls.len() {
@@ -146,8 +152,8 @@ pub(crate) fn take_more(
     calls[place].take(content, end_stream, due)
 }
 
-/// A call begins. Where there are more calls than live streams, those on closed streams are dropped first, so there
-/// is never more than one call too many.
+/// A call begins. Where there are more calls than live streams, those on closed streams are dropped
+/// first, so there is never more than one call too many.
 pub(crate) fn begin_call(
     calls: &mut Vec<Call>,
     live: &[Stream],
@@ -156,7 +162,8 @@ pub(crate) fn begin_call(
     end_stream: bool,
     due: &mut VecDeque<CallEvent>,
 ) -> Result<(), AllocError>
-    ensures { OnOk result (BeginsCall stream method end_stream live.now calls.old.items calls.new.items due.old.items due.new.items) }
+    ensures { OnOk result (BeginsCall stream method end_stream live.now calls.old.items
+        calls.new.items due.old.items due.new.items) }
 {
     if calls.len() > live.len() {
         drop_closed(calls, live);
@@ -181,7 +188,8 @@ pub(crate) fn cancel_call(
     due: &mut VecDeque<CallEvent>,
 ) -> Result<(), AllocError>
     ensures calls { OnOk result (calls.new.items ≡ without_call stream calls.old.items) }
-    ensures events { OnOk result (due.new.items ≡ due.old.items ++ cancel_if (has_call stream calls.old.items) stream) }
+    ensures events { OnOk result (due.new.items ≡ due.old.items
+        ++ cancel_if (has_call stream calls.old.items) stream) }
 {
     let begun = has_call(calls, stream);
     remove(calls, stream);
@@ -206,7 +214,8 @@ fn remove(calls: &mut Vec<Call>, stream: u32)
 /// Takes the first call on a live stream.
 pub(crate) fn pop_live_call(calls: &mut Vec<Call>, live: &[Stream]) -> Option<u32>
     ensures first { option_to_list result ≡ take 1 (live_numbers live.now calls.old.items) }
-    ensures rest { live_numbers live.now calls.new.items ≡ drop 1 (live_numbers live.now calls.old.items) }
+    ensures rest { live_numbers live.now calls.new.items
+        ≡ drop 1 (live_numbers live.now calls.old.items) }
     ensures fewer { OnSome result (length calls.new.items < length calls.old.items) }
 {
     'calls: while !calls.is_empty() {

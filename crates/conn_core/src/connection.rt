@@ -33,7 +33,8 @@ use std::marker::Model;
 /// SETTINGS_MAX_CONCURRENT_STREAMS is 100 (RFC 9113 section 6.5.2), as in a payload.
 const MAX_CONCURRENT_STREAMS: &[u8] = b"\x00\x03\x00\x00\x00\x64";
 
-/// One connection of the server. After `feed` or `read_frame` was refused memory it is to be closed.
+/// One connection of the server. After `feed` or `read_frame` was refused memory it is to be
+/// closed.
 #[derive(Drop)]
 pub struct Connection {
     reader: FrameReader,
@@ -81,8 +82,8 @@ impl Connection {
         })
     }
 
-    /// Takes received bytes. After an error of the connection they are ignored. Where memory is refused all but
-    /// what is still to be read is as before.
+    /// Takes received bytes. After an error of the connection they are ignored. Where memory is
+    /// refused all but what is still to be read is as before.
     pub fn feed(&mut self, piece: &[u8]) -> Result<(), AllocError>
         ensures rest { self.new ≡ record self.old { reader = self.new.reader } }
         ensures stands { OnOk result (Becomes self.old (with_text piece.now) self.new) }
@@ -102,9 +103,9 @@ impl Connection {
         self.due.pop_front()
     }
 
-    /// Takes the next whole frame, or the fault of bytes that are none, and says whether there was one. Nothing
-    /// follows an error of the connection. Where memory is refused the connection stands for no past any more: it is
-    /// to be closed, and holds each source as before.
+    /// Takes the next whole frame, or the fault of bytes that are none, and says whether there was
+    /// one. Nothing follows an error of the connection. Where memory is refused the connection
+    /// stands for no past any more: it is to be closed, and holds each source as before.
     pub fn read_frame(&mut self) -> Result<bool, AllocError>
         ensures frame { IfOk result (λ read. ReadsFrame self.old read self.new) }
         ensures fewer { IfOk result (λ read. IsTrue read → unread self.new < unread self.old) }
@@ -195,13 +196,14 @@ impl Connection {
         ensures stands { Pumps (P.text_of parts.now) self.old self.new }
         ensures fit { KeepsFit self.old.sending self.new.sending }
         ensures sources { KeepsSources self.old.sending self.new.sending }
-        ensures rest { self.new ≡ record self.old { streams = self.new.streams; sending = self.new.sending } }
+        ensures rest { self.new ≡ record self.old
+            { streams = self.new.streams; sending = self.new.sending } }
     {
         self.sender.pump(&mut self.streams, parts);
     }
 
-    /// Tells a source whose range is over: it was wholly put, or its stream ended before that. Each is told once for
-    /// each range that was owed of it.
+    /// Tells a source whose range is over: it was wholly put, or its stream ended before that. Each
+    /// is told once for each range that was owed of it.
     pub fn spent(&mut self) -> Option<usize>
         ensures source { Tells result self.old.sending.spent self.new.sending.spent }
         ensures none { result ≡ None → self.new ≡ self.old }
@@ -212,7 +214,8 @@ impl Connection {
         self.sender.spent()
     }
 
-    /// All that is owed is dropped, and the sources of all ranges are spent, before the connection is let go.
+    /// All that is owed is dropped, and the sources of all ranges are spent, before the connection
+    /// is let go.
     pub fn close(&mut self)
         ensures dropped { self.new.sending.queues ≡ [] }
         ensures sources { KeepsSources self.old.sending self.new.sending }
@@ -236,8 +239,8 @@ impl Connection {
         self.ended
     }
 
-    /// Gives up the first of the calls on live streams, and gives its stream. After an error of the connection
-    /// there is none.
+    /// Gives up the first of the calls on live streams, and gives its stream. After an error of the
+    /// connection there is none.
     pub fn pop_call(&mut self) -> Option<u32>
         ensures first { option_to_list result ≡ take 1 (live_calls self.old) }
         ensures rest { live_calls self.new ≡ drop 1 (live_calls self.old) }
@@ -264,8 +267,8 @@ impl Connection {
         }
     }
 
-    /// Puts the answer to a frame, and acts on what it brought. An answer that does not fit is an error of the
-    /// connection.
+    /// Puts the answer to a frame, and acts on what it brought. An answer that does not fit is an
+    /// error of the connection.
     fn take_answer(&mut self, answer: StreamEvent<'_>) -> Result<(), AllocError>
         requires { self.old.ended ≡ false }
         ensures stands { OnOk result (Answers self.old answer.entry self.new) }
@@ -305,7 +308,8 @@ impl Connection {
 
     /// Puts the control frames of an answer, up to the first for which there is no room.
     fn put_all(&mut self, answer: &StreamEvent<'_>) -> bool
-        ensures puts { are_answers (control_frames answer.now) ≡ true → Puts self.old (control_frames answer.now) result self.new }
+        ensures puts { are_answers (control_frames answer.now) ≡ true →
+            Puts self.old (control_frames answer.now) result self.new }
         ensures rest { self.new ≡ record self.old { sending = self.new.sending } }
         ensures fit { KeepsFit self.old.sending self.new.sending }
         ensures sources { KeepsSources self.old.sending self.new.sending }
@@ -323,7 +327,8 @@ impl Connection {
     }
 
     fn put_one(&mut self, frame: &Option<Frame<'_>>) -> bool
-        ensures puts { are_answers (option_to_list frame.now) ≡ true → Puts self.old (option_to_list frame.now) result self.new }
+        ensures puts { are_answers (option_to_list frame.now) ≡ true →
+            Puts self.old (option_to_list frame.now) result self.new }
         ensures rest { self.new ≡ record self.old { sending = self.new.sending } }
         ensures fit { KeepsFit self.old.sending self.new.sending }
         ensures sources { KeepsSources self.old.sending self.new.sending }
@@ -352,7 +357,8 @@ impl Connection {
 
     /// A request came: a call begins, or the answer to what is no call is owed.
     fn begin(&mut self, stream: u32, fields: &Headers, end_stream: bool) -> Result<(), AllocError>
-        ensures stands { OnOk result (Brings self.old (Request stream fields.now end_stream) self.new) }
+        ensures stands { OnOk result (Brings self.old
+            (Request stream fields.now end_stream) self.new) }
         ensures rest { OnOk result (ChangesCalls self.old self.new) }
         ensures fit { KeepsFit self.old.sending self.new.sending }
         ensures sources { KeepsSources self.old.sending self.new.sending }
@@ -373,7 +379,8 @@ impl Connection {
     }
 
     fn take_text(&mut self, stream: u32, content: &[u8], end_stream: bool) -> Result<(), AllocError>
-        ensures stands { OnOk result (Brings self.old (Content stream content.now end_stream) self.new) }
+        ensures stands { OnOk result (Brings self.old
+            (Content stream content.now end_stream) self.new) }
         ensures rest { OnOk result (ChangesCalls self.old self.new) }
         ensures fit { KeepsFit self.old.sending self.new.sending }
         ensures sources { KeepsSources self.old.sending self.new.sending }
@@ -401,8 +408,8 @@ impl Connection {
         cancel_call(&mut self.calls, stream, &mut self.due)
     }
 
-    /// An error of the connection: GOAWAY is put, and the calls on live streams end, with one that was reset in
-    /// vain.
+    /// An error of the connection: GOAWAY is put, and the calls on live streams end, with one that
+    /// was reset in vain.
     fn fail(&mut self, code: ErrorCode, reset: Option<u32>) -> Result<(), AllocError>
         requires { self.old.ended ≡ false }
         ensures fails { OnOk result (Fails self.old code reset self.new) }
@@ -438,7 +445,8 @@ fn end_calls(
     reset: Option<u32>,
     due: &mut VecDeque<CallEvent>,
 ) -> Result<(), AllocError>
-    ensures { OnOk result (due.new.items ≡ due.old.items ++ ended_calls live.now reset (map stream_of calls.now)) }
+    ensures { OnOk result (due.new.items ≡ due.old.items
+        ++ ended_calls live.now reset (map stream_of calls.now)) }
 {
     for call in calls {
         end_call(call.stream, live, reset, due)?;
@@ -452,7 +460,8 @@ fn end_call(
     reset: Option<u32>,
     due: &mut VecDeque<CallEvent>,
 ) -> Result<(), AllocError>
-    ensures { OnOk result (due.new.items ≡ due.old.items ++ ended_calls live.now reset (stream ∷ [])) }
+    ensures { OnOk result (due.new.items ≡ due.old.items
+        ++ ended_calls live.now reset (stream ∷ [])) }
 {
     if !is_ending(live, reset, stream) {
         return Ok(());

@@ -4,8 +4,8 @@ use grpc_calls::Method;
 use grpc_messages::Message;
 use rpc::Refusal;
 
-/// An event of a call, which the number of its stream names. Messages, faults and ends still come for a call
-/// that was answered: whoever answers drops them.
+/// An event of a call, which the number of its stream names. Messages, faults and ends still come
+/// for a call that was answered: whoever answers drops them.
 #[derive(Drop)]
 pub enum CallEvent {
     /// The call begins.
@@ -16,7 +16,7 @@ pub enum CallEvent {
     Fault { stream: u32, refusal: Refusal },
     /// The request is at its end, after whole messages.
     End { stream: u32 },
-    /// The stream ended before the call's response was put whole: by the client, by an error, or with the
-    /// connection. Nothing follows.
+    /// The stream ended before the call's response was put whole: by the client, by an error, or
+    /// with the connection. Nothing follows.
     Cancel { stream: u32 },
 }

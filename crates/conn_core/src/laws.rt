@@ -8,13 +8,16 @@ ghost use Rattle.conn_core.specs.Past.{Past};
 ghost use Rattle.conn_core.specs.StandsFor.{Present, StandsFor, StandsAlike, live_calls};
 ghost use Rattle.conn_core.specs.declared.event.CallEvent.TheVariants.{Cancel};
 
-/// The calls that `pop_call` gives up are those of the past that stand on live streams, and an error cancels them.
+/// The calls that `pop_call` gives up are those of the past that stand on live streams, and an
+/// error cancels them.
 pub fn calls_on_live_streams()
-    ensures calls { (texts : Look) (v : Present) (p : Past) → StandsFor texts v p → live_calls v ≡ calls_left p.diary }
+    ensures calls { (texts : Look) (v : Present) (p : Past) → StandsFor texts v p →
+        live_calls v ≡ calls_left p.diary }
     ensures cancels { (d : List Entry) → cancels d ≡ map Cancel (calls_left d) }
 {}
 
-/// What is kept of a connection stands for the same by any look-up that has the texts of the sources of its ranges.
+/// What is kept of a connection stands for the same by any look-up that has the texts of the
+/// sources of its ranges.
 pub fn only_texts_of_a_connections_ranges_matter()
     ensures { (t u : Look) (v : Present) → AgreeFor t u v.sending → StandsAlike t u v }
 {}

@@ -1,5 +1,5 @@
-//! One connection of the server: from the bytes that a client sends to the events of its calls, and from what
-//! calls are answered to the bytes that are sent.
+//! One connection of the server: from the bytes that a client sends to the events of its calls, and
+//! from what calls are answered to the bytes that are sent.
 #![tactic(auto, using(std::proofs::lemmas::Int::ints))]
 
 mod call;

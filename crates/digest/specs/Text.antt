@@ -1,4 +1,5 @@
--- How messages write a digest: the hash as 64 lower-case hexadecimal digits, the size as a number that is not negative.
+-- How messages write a digest: the hash as 64 lower-case hexadecimal digits, the size as a number
+-- that is not negative.
 use Rattle.std.specs.Prelude.{◌≡◌, ℕ, ℤ, pos, negsuc, Bool, List, Option, Some, None, Result, Ok, Err, nat_le, ◌&&◌, ◌||◌, if◌then◌else◌}
 use Rattle.std.specs.List.{list_all}
 use Rattle.hex.specs.declared.error.FromHexError.{FromHexError}

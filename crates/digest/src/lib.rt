@@ -31,12 +31,14 @@ impl Digest {
         }
     }
 
-    /// The digest that a message writes: 64 lower-case hexadecimal digits, and a size that is not negative.
+    /// The digest that a message writes: 64 lower-case hexadecimal digits, and a size that is not
+    /// negative.
     pub fn parse(hash: &str, size: i64) -> Option<Digest>
         ensures value { result ≡ digest_in hash.now size }
         ensures written { IfSome result (λ d. IsWritten d hash.now size) }
         // Nothing else is refused.
-        ensures refused { IsNone result → (d : Digest) → length d.hash ≡ 32 → IsBytes d.hash → ¬ (IsWritten d hash.now size) }
+        ensures refused { IsNone result → (d : Digest) → length d.hash ≡ 32 → IsBytes d.hash →
+            ¬ (IsWritten d hash.now size) }
     {
         read(hash, size)
     }

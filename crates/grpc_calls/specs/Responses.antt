@@ -19,7 +19,8 @@ header name value = record { name = name; value = value }
 abbrev pub head_fields : List Header
 head_fields = header (codes ":status") (codes "200") ∷ header (codes "content-type") (codes "application/grpc") ∷ []
 
--- Status-Message: a byte from space to `~` stands for itself, but for `%`; any other is `%` and its two hexadecimal digits
+-- Status-Message: a byte from space to `~` stands for itself, but for `%`; any other is `%` and its
+-- two hexadecimal digits
 abbrev pub is_plain : ℕ → Bool
 is_plain b = nat_le 32 b && nat_lt b 127 && (if b == 37 then false else true)
 
@@ -52,7 +53,8 @@ is_last (TrailersOnly r) = true
 is_last MethodNotAllowed = true
 is_last UnsupportedMediaType = true
 
--- how a request is answered that is no call (RFC 9110, sections 15.5.6 and 15.5.16, and gRPC's UNIMPLEMENTED)
+-- how a request is answered that is no call (RFC 9110, sections 15.5.6 and 15.5.16, and gRPC's
+-- UNIMPLEMENTED)
 abbrev pub response_to : HeadFault → ResponseBlock
 response_to BadMethod = MethodNotAllowed
 response_to BadContentType = UnsupportedMediaType

@@ -21,8 +21,11 @@ ghost use Rattle.grpc_calls.specs.Responses.{fields_of, percent_encoded};
 pub fn the_head_says_which_call()
     ensures call { (hs : List Header) (m : Method) → (head_of hs ≡ Ok m) ↔ IsCall hs m }
     ensures method { (hs : List Header) → (head_of hs ≡ Err HeadFault.Method) ↔ (¬ IsPost hs) }
-    ensures content_type { (hs : List Header) → (head_of hs ≡ Err HeadFault.ContentType) ↔ (IsPost hs × ¬ IsGrpc hs) }
-    ensures path { (hs : List Header) → (head_of hs ≡ Err HeadFault.Path) ↔ (IsPost hs × IsGrpc hs × ((m : Method) → ¬ HasPathOf m hs)) }
+    ensures content_type { (hs : List Header) →
+        (head_of hs ≡ Err HeadFault.ContentType) ↔ (IsPost hs × ¬ IsGrpc hs) }
+    ensures path { (hs : List Header) →
+        (head_of hs ≡ Err HeadFault.Path)
+        ↔ (IsPost hs × IsGrpc hs × ((m : Method) → ¬ HasPathOf m hs)) }
 {}
 
 /// A path names one method at most, and the methods' paths alone name one.
@@ -32,13 +35,17 @@ pub fn a_path_names_one_method()
 
 /// A peer's decoder reads each block back to its fields, at whatever table it stands.
 pub fn response_blocks_are_read_back()
-    ensures first { (table : Table) (block : ResponseBlock) → block_of table (block_text First (fields_of block)) ≡ Ok (fields_of block, record { maximum = 0; entries = [] }) }
-    ensures later { (table : Table) (block : ResponseBlock) → block_of table (block_text Later (fields_of block)) ≡ Ok (fields_of block, table) }
+    ensures first { (table : Table) (block : ResponseBlock) →
+        block_of table (block_text First (fields_of block))
+        ≡ Ok (fields_of block, record { maximum = 0; entries = [] }) }
+    ensures later { (table : Table) (block : ResponseBlock) →
+        block_of table (block_text Later (fields_of block)) ≡ Ok (fields_of block, table) }
 {}
 
 /// A block fits in one frame.
 pub fn response_blocks_are_short()
-    ensures { (position : Position) (block : ResponseBlock) → length (block_text position (fields_of block)) ≤ 128 }
+    ensures { (position : Position) (block : ResponseBlock) →
+        length (block_text position (fields_of block)) ≤ 128 }
 {}
 
 /// The texts of refusals are written as they are.

@@ -47,7 +47,8 @@ impl ResponseBlock {
 
     /// Appends the block as HPACK writes it. Where memory is refused the bytes are as before.
     pub fn encode_into(self, position: Position, out: &mut Vec<u8>) -> Result<(), AllocError>
-        ensures ok { OnOk result (out.new.items ≡ out.old.items ++ block_text position (fields_of self)) }
+        ensures ok { OnOk result (out.new.items ≡ out.old.items
+            ++ block_text position (fields_of self)) }
         ensures err { OnErr result (out.new.items ≡ out.old.items) }
     {
         match self {
@@ -114,7 +115,8 @@ fn code(refusal: Refusal) -> Field<'static>
 
 /// No text of a refusal has a byte that is written otherwise.
 fn message(refusal: Refusal) -> Field<'static>
-    ensures { field_shown result ≡ header (codes "grpc-message") (percent_encoded (text_of refusal)) }
+    ensures { field_shown result
+        ≡ header (codes "grpc-message") (percent_encoded (text_of refusal)) }
 {
     Field {
         name: b"grpc-message",

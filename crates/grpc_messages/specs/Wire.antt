@@ -1,4 +1,5 @@
--- Messages on the wire (gRPC over HTTP2, Length-Prefixed-Message): which bytes are a message, and how the data of a call divides into messages.
+-- Messages on the wire (gRPC over HTTP2, Length-Prefixed-Message): which bytes are a message, and
+-- how the data of a call divides into messages.
 use Rattle.std.specs.Prelude.{◌≡◌, ◌≢◌, ℕ, ◌+◌, ◌<◌, ◌≤◌, ◌⊎◌, List, [], ◌∷◌, ◌++◌, length, drop, slice_index, Result, Ok, Err}
 use Rattle.byteorder.specs.Endian.{big_number}
 use Rattle.grpc_messages.specs.declared.error.MessagesError.{MessagesError}
@@ -28,7 +29,8 @@ size_of bytes = big_number 4 (drop 1 bytes)
 abbrev pub IsUnfinished : ℕ → List ℕ → Type 0
 IsUnfinished limit bytes = (length bytes < 5) ⊎ (flag_of bytes ≡ 0) × (size_of bytes ≤ limit) × (length bytes < 5 + size_of bytes)
 
--- what stands behind the last whole message: an unfinished one, or the first five bytes of one that is refused
+-- what stands behind the last whole message: an unfinished one, or the first five bytes of one that
+-- is refused
 abbrev pub IsEnd : ℕ → List ℕ → Result (List ℕ) MessagesError → Type 0
 IsEnd limit bytes (Ok rest) = (bytes ≡ rest) × IsUnfinished limit bytes
 IsEnd limit bytes (Err Compressed) = (5 ≤ length bytes) × (flag_of bytes ≢ 0)

@@ -60,9 +60,12 @@ impl Messages {
     /// Takes the next piece of the request's data. A reader that refused repeats its refusal.
     pub fn feed(&mut self, piece: &[u8]) -> Result<(), MessagesError>
         ensures ok { OnOk result (self.new ≡ followed_by self.old piece.now) }
-        ensures stands { OnOk result ((text : List ℕ) (given : List (List ℕ)) → StandsFor MESSAGE_LIMIT self.old text given → StandsFor MESSAGE_LIMIT self.new (text ++ piece.now) given) }
+        ensures stands { OnOk result ((text : List ℕ) (given : List (List ℕ)) →
+            StandsFor MESSAGE_LIMIT self.old text given →
+            StandsFor MESSAGE_LIMIT self.new (text ++ piece.now) given) }
         ensures repeated { IfErr self.old (λ refusal. result ≡ Err refusal) }
-        ensures refused { IsOk self.old → IfErr result (λ refusal. refusal ≡ MessagesError.NoMemory) }
+        ensures refused { IsOk self.old → IfErr result
+            (λ refusal. refusal ≡ MessagesError.NoMemory) }
         ensures err { OnErr result (self.new ≡ self.old) }
     {
         self.append(piece)
@@ -71,7 +74,8 @@ impl Messages {
     fn append(&mut self, piece: &[u8]) -> Result<(), MessagesError>
         ensures ok { OnOk result (self.new ≡ followed_by self.old piece.now) }
         ensures repeated { IfErr self.old (λ refusal. result ≡ Err refusal) }
-        ensures refused { IsOk self.old → IfErr result (λ refusal. refusal ≡ MessagesError.NoMemory) }
+        ensures refused { IsOk self.old → IfErr result
+            (λ refusal. refusal ≡ MessagesError.NoMemory) }
         ensures err { OnErr result (self.new ≡ self.old) }
     {
         if let Some(refusal) = self.refusal {
@@ -93,23 +97,36 @@ impl Messages {
         }
     }
 
-    /// The next message, or `None` where no further one is whole. A reader that refused repeats its refusal.
+    /// The next message, or `None` where no further one is whole. A reader that refused repeats its
+    /// refusal.
     pub fn next(&mut self) -> Result<Option<Message>, MessagesError>
-        ensures stands { (text : List ℕ) (given : List (List ℕ)) → StandsFor MESSAGE_LIMIT self.old text given → StandsFor MESSAGE_LIMIT self.new text (given ++ messages_in result) }
-        ensures message { IfOk result (λ message. IfSome message (λ bytes. length bytes ≤ MESSAGE_LIMIT)) }
-        ensures shorter { IfOk result (λ message. OnSome message (length (bytes_left self.new) < length (bytes_left self.old))) }
+        ensures stands { (text : List ℕ) (given : List (List ℕ)) →
+            StandsFor MESSAGE_LIMIT self.old text given →
+            StandsFor MESSAGE_LIMIT self.new text (given ++ messages_in result) }
+        ensures message { IfOk result (λ message. IfSome message
+            (λ bytes. length bytes ≤ MESSAGE_LIMIT)) }
+        ensures shorter { IfOk result (λ message. OnSome message
+            (length (bytes_left self.new) < length (bytes_left self.old))) }
 
         // At the end all messages of the text were given, and less than a message is kept.
-        ensures none { IfOk result (λ message. IfNone message ((text : List ℕ) (given : List (List ℕ)) → StandsFor MESSAGE_LIMIT self.old text given → split MESSAGE_LIMIT text ≡ record { messages = given; end = Ok (bytes_left self.new) })) }
-        ensures unfinished { IfOk result (λ message. IfNone message (length (bytes_left self.new) < 5 + MESSAGE_LIMIT)) }
+        ensures none { IfOk result (λ message. IfNone message
+            ((text : List ℕ) (given : List (List ℕ)) → StandsFor MESSAGE_LIMIT self.old text given →
+            split MESSAGE_LIMIT text
+            ≡ record { messages = given; end = Ok (bytes_left self.new) })) }
+        ensures unfinished { IfOk result (λ message. IfNone message
+            (length (bytes_left self.new) < 5 + MESSAGE_LIMIT)) }
 
         // A fault stands where the messages end, and is there for good.
-        ensures refused { IfErr result (λ refusal. refusal ≢ MessagesError.NoMemory → (text : List ℕ) (given : List (List ℕ)) → StandsFor MESSAGE_LIMIT self.old text given → split MESSAGE_LIMIT text ≡ record { messages = given; end = Err refusal }) }
-        ensures lasts { IfErr result (λ refusal. refusal ≢ MessagesError.NoMemory → self.new ≡ Err refusal) }
+        ensures refused { IfErr result (λ refusal. refusal ≢ MessagesError.NoMemory →
+            (text : List ℕ) (given : List (List ℕ)) → StandsFor MESSAGE_LIMIT self.old text given →
+            split MESSAGE_LIMIT text ≡ record { messages = given; end = Err refusal }) }
+        ensures lasts { IfErr result (λ refusal. refusal ≢ MessagesError.NoMemory →
+            self.new ≡ Err refusal) }
         ensures repeated { IfErr self.old (λ refusal. result ≡ Err refusal) }
 
         // Memory is asked for only where a message is whole, and nothing is lost without it.
-        ensures memory { IsErrOf result MessagesError.NoMemory → (self.new ≡ self.old) × ((split_left MESSAGE_LIMIT self.old).messages ≢ []) }
+        ensures memory { IsErrOf result MessagesError.NoMemory →
+            (self.new ≡ self.old) × ((split_left MESSAGE_LIMIT self.old).messages ≢ []) }
     {
         self.take()
     }
@@ -139,9 +156,14 @@ impl Messages {
     /// Says that the request ends here. Where all its messages were taken, the answer is whether
     /// it ends with a message, or else why not. A message that was not taken counts as cut off.
     pub fn end(&mut self) -> Result<(), MessagesError>
-        ensures answer { (text : List ℕ) (given : List (List ℕ)) (end : Result (List ℕ) MessagesError) → StandsFor MESSAGE_LIMIT self.old text given → split MESSAGE_LIMIT text ≡ record { messages = given; end = end } → result ≡ ended end }
-        ensures whole { OnOk result ((text : List ℕ) (given : List (List ℕ)) → StandsFor MESSAGE_LIMIT self.old text given → split MESSAGE_LIMIT text ≡ record { messages = given; end = Ok [] }) }
-        ensures untaken { (split_left MESSAGE_LIMIT self.old).messages ≢ [] → result ≡ Err MessagesError.CutOff }
+        ensures answer { (text : List ℕ) (given : List (List ℕ))
+            (end : Result (List ℕ) MessagesError) → StandsFor MESSAGE_LIMIT self.old text given →
+            split MESSAGE_LIMIT text ≡ record { messages = given; end = end } → result ≡ ended end }
+        ensures whole { OnOk result ((text : List ℕ) (given : List (List ℕ)) →
+            StandsFor MESSAGE_LIMIT self.old text given →
+            split MESSAGE_LIMIT text ≡ record { messages = given; end = Ok [] }) }
+        ensures untaken { (split_left MESSAGE_LIMIT self.old).messages ≢ [] →
+            result ≡ Err MessagesError.CutOff }
         ensures repeated { IfErr self.old (λ refusal. result ≡ Err refusal) }
         ensures ok { OnOk result (self.new ≡ self.old) }
         ensures lasts { IfErr result (λ refusal. self.new ≡ Err refusal) }

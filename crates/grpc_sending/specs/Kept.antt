@@ -1,4 +1,5 @@
--- What the code keeps for sending, and what it is seen as through a look-up of the texts of sources.
+-- What the code keeps for sending, and what it is seen as through a look-up of the texts of
+-- sources.
 use Rattle.std.specs.Prelude.{◌≡◌, ◌<◌, ◌≤◌, ◌-◌, ◌^◌, ℕ, suc, true, ℤ, ◌==◌, nat_lt, if◌then◌else◌, Bool, false, List, [], ◌∷◌, ◌++◌, length, take, drop, map, Option, Some, None, MatchOption}
 use Rattle.std.specs.List.{flat_map, AllByRecursion}
 use Rattle.hpack.specs.declared.encoder.Position.{Position}
@@ -60,7 +61,8 @@ StandsFor texts w d os = IsSending (sending_in texts w) d os
 
 -- ---- sources
 
--- each source as often as it is held: for a range that is not wholly put, or until it was told to be spent
+-- each source as often as it is held: for a range that is not wholly put, or until it was told to
+-- be spent
 abbrev pub sources_of : Kept → List ℕ
 sources_of w = sources_held w.queues ++ w.spent
 

@@ -13,8 +13,8 @@ use Rattle.grpc_sending.specs.Pieces.{Piece, Block, Part, read_pieces}
 pub data Item : Type 0 where
   Headed : ResponseBlock → Item
   Message : List ℕ → Item
-  -- bytes of a blob, by its digest: its whole text, the place of the first of them, and how many; each 65,536 are a
-  -- message
+  -- bytes of a blob, by its digest: its whole text, the place of the first of them, and how many;
+  -- each 65,536 are a message
   Range : Digest → List ℕ → ℕ → ℕ → Item
 
 -- an item that was given to a stream
@@ -29,8 +29,8 @@ item_on s o = if o.stream == s then o.item ∷ [] else []
 abbrev pub owed_on : ℕ → List Owed → List Item
 owed_on s os = flat_map (item_on s) os
 
--- an item as it is to be put: a header block, the bytes of a message with its prefix, or those of each message of a
--- range
+-- an item as it is to be put: a header block, the bytes of a message with its prefix, or those of
+-- each message of a range
 abbrev pub pieces_of : Item → List Piece
 pieces_of (Headed block) = Block block ∷ []
 pieces_of (Message message) = Part (framed message) ∷ []
@@ -42,7 +42,8 @@ without_front n [] = []
 without_front n (Block block ∷ ps) = Block block ∷ ps
 without_front n (Part bytes ∷ ps) = if nat_lt n (length bytes) then Part (drop n bytes) ∷ ps else ps
 
--- what a frame leaves of what is to be put on stream s: HEADERS puts a block, DATA a part of a message
+-- what a frame leaves of what is to be put on stream s: HEADERS puts a block, DATA a part of a
+-- message
 abbrev pub put_by : ℕ → List Piece → Frame → List Piece
 put_by s ps (Headers t end_stream end_headers fragment) = if t == s then drop 1 ps else ps
 put_by s ps (Data t end_stream bytes) = if t == s then without_front (length bytes) ps else ps

@@ -5,7 +5,8 @@ use Rattle.grpc_messages.specs.Writing.{framed}
 use Rattle.grpc_sending.specs.Pieces.{Piece, length_text, read_message, cut}
 use Rattle.grpc_sending.specs.Owed.{without_front}
 
--- a source of which the text from a place until another is to be put, and how many bytes of the first message were
+-- a source of which the text from a place until another is to be put, and how many bytes of the
+-- first message were
 pub record Span : Type 0 where
   pub source : ℕ
   pub from : ℕ

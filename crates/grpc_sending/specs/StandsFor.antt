@@ -25,7 +25,8 @@ abbrev pub pieces_on : ℕ → List Queue → List Piece
 pieces_on s [] = []
 pieces_on s (q ∷ qs) = if q.stream == s then q.pieces else pieces_on s qs
 
--- the queue of stream s is what is left of the items owed to it, and more items would stand behind it
+-- the queue of stream s is what is left of the items owed to it, and more items would stand behind
+-- it
 abbrev pub IsQueue : List Entry → List Owed → List Queue → ℕ → Type 0
 IsQueue d os qs s = (more : List Piece) → left_by (sent d) s (flat_map pieces_of (owed_on s os) ++ more) ≡ pieces_on s qs ++ more
 

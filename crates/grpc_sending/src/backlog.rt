@@ -11,14 +11,15 @@ use crate::range::Cursor;
 use std::alloc::{AllocError, Global};
 use std::marker::Model;
 
-/// What is still to be put on the streams of a connection. The source of a range that is over is spent, and is told
-/// once for it. No call but `push`, `push_range` and `spend` takes memory.
+/// What is still to be put on the streams of a connection. The source of a range that is over is
+/// spent, and is told once for it. No call but `push`, `push_range` and `spend` takes memory.
 #[derive(Drop)]
 pub(crate) struct Backlog {
     queues: Vec<StoredQueue>,
     /// The sources of ranges that are over, which were not told yet.
     spent: Vec<usize>,
-    /// How many sources there are, the spent ones with them. There is room for all of them in `spent`.
+    /// How many sources there are, the spent ones with them. There is room for all of them in
+    /// `spent`.
     sources: usize,
 }
 
@@ -30,7 +31,8 @@ impl Model for Backlog {
 
     ghost view = { λ b. record { queues = b.queues.items; spent = b.spent.items } };
 
-    ghost invariant = { λ b. HasRoom b.queues.items b.spent.items b.sources × (b.sources ≤ vec_capacity b.spent) };
+    ghost invariant = { λ b. HasRoom b.queues.items b.spent.items b.sources
+        × (b.sources ≤ vec_capacity b.spent) };
 }
 
 impl Backlog {
@@ -99,7 +101,8 @@ impl Backlog {
     /// Appends a range to what is to be put on the stream.
     pub(crate) fn push_range(&mut self, stream: u32, range: Cursor) -> Result<(), AllocError>
         ensures ok { OnOk result (Appends stream (Ranged range) self.old.queues self.new.queues) }
-        ensures sources { OnOk result (AreSame (range.source ∷ held_by self.old) (held_by self.new)) }
+        ensures sources { OnOk result (AreSame (range.source ∷ held_by self.old)
+            (held_by self.new)) }
         ensures few { OnOk result (length (held_by self.new) < 2 ^ 64) }
         ensures err { OnErr result (self.new ≡ self.old) }
     {
@@ -111,7 +114,8 @@ impl Backlog {
 
     /// Takes a source of which nothing is to be put.
     pub(crate) fn spend(&mut self, source: usize) -> Result<(), AllocError>
-        ensures ok { OnOk result (self.new ≡ record self.old { spent = self.old.spent ++ source ∷ [] }) }
+        ensures ok { OnOk result (self.new
+            ≡ record self.old { spent = self.old.spent ++ source ∷ [] }) }
         ensures few { OnOk result (length (held_by self.new) < 2 ^ 64) }
         ensures err { OnErr result (self.new ≡ self.old) }
     {

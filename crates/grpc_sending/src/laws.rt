@@ -13,7 +13,8 @@ ghost use Rattle.grpc_sending.specs.Kept.{Look, Kept, Enters, AgreeFor, StandsAl
 
 /// The pump leaves nothing that could be put.
 pub fn the_pump_settles()
-    ensures { (d : List Entry) (os : List Owed) → taken d ≤ length (bytes_put d) → IsSettled (pumped d os) os }
+    ensures { (d : List Entry) (os : List Owed) → taken d ≤ length (bytes_put d) →
+        IsSettled (pumped d os) os }
 {}
 
 /// What is received changes nothing of what is sent.
@@ -28,12 +29,15 @@ pub fn only_texts_of_ranges_matter()
     ensures fit { (t u : Look) (w : Kept) → AgreeFor t u w → FitsAlike t u w }
 {}
 
-/// What is kept for a live stream is what is left of all that was owed to it: of each range, what was not put.
+/// What is kept for a live stream is what is left of all that was owed to it: of each range, what
+/// was not put.
 pub fn what_is_kept_is_what_is_left()
-    ensures { (texts : Look) (w : Kept) (d : List Entry) (os : List Owed) → KeepsWhatIsLeft texts w d os }
+    ensures { (texts : Look) (w : Kept) (d : List Entry) (os : List Owed) →
+        KeepsWhatIsLeft texts w d os }
 {}
 
-/// A message of a range is a ReadResponse (bytestream.proto) with these bytes as its data, which is field 10.
+/// A message of a range is a ReadResponse (bytestream.proto) with these bytes as its data, which is
+/// field 10.
 pub fn a_range_is_put_as_field_ten()
     ensures { (bytes : List ℕ) → 0 < length bytes → length bytes < 2097152 → IsFieldTen bytes }
 {}

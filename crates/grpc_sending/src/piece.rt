@@ -152,8 +152,10 @@ impl StoredPiece {
     /// The first bytes were put. Says whether they were the last ones.
     pub(crate) fn take_off(&mut self, count: usize) -> bool
         ensures source { source_of self.new ≡ source_of self.old }
-        ensures whole { result ≡ true → (ps : List StoredPiece) → stored_front count (self.old ∷ ps) ≡ ps }
-        ensures part { result ≡ false → (ps : List StoredPiece) → stored_front count (self.old ∷ ps) ≡ self.new ∷ ps }
+        ensures whole { result ≡ true → (ps : List StoredPiece) →
+            stored_front count (self.old ∷ ps) ≡ ps }
+        ensures part { result ≡ false → (ps : List StoredPiece) →
+            stored_front count (self.old ∷ ps) ≡ self.new ∷ ps }
     {
         match self {
             StoredPiece::Encoded(_) => false,
@@ -170,7 +172,8 @@ impl StoredPiece {
 
     /// The piece is over: the source of a range is spent.
     pub(crate) fn spend(&self, spent: &mut Vec<usize>)
-        requires room { length spent.old.items + length (source_of self.now) ≤ vec_capacity spent.old }
+        requires room { length spent.old.items + length (source_of self.now)
+            ≤ vec_capacity spent.old }
         ensures items { spent.new.items ≡ spent.old.items ++ source_of self.now }
         ensures capacity { vec_capacity spent.old ≤ vec_capacity spent.new }
     {

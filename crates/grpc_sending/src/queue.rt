@@ -243,7 +243,8 @@ impl StoredQueue {
 
 /// What is to be put first on the stream.
 pub(crate) fn first_on(queues: &[StoredQueue], stream: u32) -> Option<&StoredPiece>
-    ensures { MatchOption result (stored_on stream queues.now ≡ []) (λ p. stored_on stream queues.now ≡ p.now ∷ drop 1 (stored_on stream queues.now)) }
+    ensures { MatchOption result (stored_on stream queues.now ≡ [])
+        (λ p. stored_on stream queues.now ≡ p.now ∷ drop 1 (stored_on stream queues.now)) }
 {
     let mut left = queues;
     'queues: while let [queue, rest @ ..] = left {
@@ -297,7 +298,9 @@ fn push_at(
     piece: StoredPiece,
 ) -> Result<(), AllocError>
     requires { place < length queues.old.items }
-    ensures ok { OnOk result ((q : StoredQueue) → queues.new.items ≡ slice_set queues.old.items place (with_piece piece (slice_index_or queues.old.items place q))) }
+    ensures ok { OnOk result ((q : StoredQueue) →
+        queues.new.items ≡ slice_set queues.old.items place
+        (with_piece piece (slice_index_or queues.old.items place q))) }
     ensures err { OnErr result (queues.new.items ≡ queues.old.items) }
 {
     queues[place].pieces.push(piece)

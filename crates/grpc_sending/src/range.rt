@@ -13,8 +13,8 @@ const MOST_READ: u64 = 65_536;
 /// The tag of field 10 of ReadResponse (bytestream.proto), whose value has a length.
 const DATA_TAG: u8 = 82;
 
-/// What stands before the bytes of the text in a framed ReadResponse: the message's prefix, the field's tag and its
-/// length.
+/// What stands before the bytes of the text in a framed ReadResponse: the message's prefix, the
+/// field's tag and its length.
 #[derive(Drop)]
 pub(crate) struct ReadHead {
     bytes: [u8; 9],

@@ -30,10 +30,12 @@ use std::marker::Model;
 /// While fewer bytes are untaken the pump puts more.
 const PUMP_LIMIT: usize = 65_536;
 
-/// The most untaken bytes with a control frame other than GOAWAY, for which there is always room then.
+/// The most untaken bytes with a control frame other than GOAWAY, for which there is always room
+/// then.
 pub const CONTROL_LIMIT: usize = 131_055;
 
-/// What is sent on one connection: the bytes that were put and not taken, and what is owed to each stream.
+/// What is sent on one connection: the bytes that were put and not taken, and what is owed to each
+/// stream.
 #[derive(Drop)]
 pub struct Sender {
     buffer: OutBuffer,
@@ -82,7 +84,8 @@ impl Sender {
     /// Whether a control frame other than GOAWAY may be put.
     pub fn has_room(&self, frame: &Frame<'_>) -> bool
         requires { length (raw_of frame.now).payload ≤ 16384 }
-        ensures { IsTrue result ↔ ((length self.now.pending + (9 + length (raw_of frame.now).payload)) ≤ CONTROL_LIMIT) }
+        ensures { IsTrue result ↔ ((length self.now.pending +
+            (9 + length (raw_of frame.now).payload)) ≤ CONTROL_LIMIT) }
     {
         9 + payload_length(frame) <= CONTROL_LIMIT - self.buffer.len().min(CONTROL_LIMIT)
     }
@@ -91,17 +94,19 @@ impl Sender {
     pub fn put_control(&mut self, frame: &Frame<'_>)
         requires control { IsControl frame.now }
         requires short { length (raw_of frame.now).payload ≤ 16384 }
-        requires room { (length self.old.pending + (9 + length (raw_of frame.now).payload)) ≤ CAPACITY }
+        requires room { (length self.old.pending + (9 + length (raw_of frame.now).payload))
+            ≤ CAPACITY }
         ensures stands { Enters self.old (Out frame.now) self.new }
         ensures pending { self.new.pending ≡ self.old.pending ++ text_of frame.now }
-        ensures size { length self.new.pending ≡ length self.old.pending + (9 + length (raw_of frame.now).payload) }
+        ensures size { length self.new.pending
+            ≡ length self.old.pending + (9 + length (raw_of frame.now).payload) }
         ensures rest { self.new ≡ record self.old { pending = self.new.pending } }
     {
         self.buffer.put(frame);
     }
 
-    /// A stream was reset by one of the two sides: what it is owed is dropped, and the sources of its ranges are
-    /// spent.
+    /// A stream was reset by one of the two sides: what it is owed is dropped, and the sources of
+    /// its ranges are spent.
     pub fn forget(&mut self, stream: u32)
         ensures stands { DropsClosed stream self.old self.new }
         ensures dropped { stored_on stream self.new.queues ≡ [] }
@@ -112,8 +117,8 @@ impl Sender {
         self.backlog.forget(stream);
     }
 
-    /// The connection met an error, or is closed: all that is owed is dropped, and the sources of all ranges are
-    /// spent.
+    /// The connection met an error, or is closed: all that is owed is dropped, and the sources of
+    /// all ranges are spent.
     pub fn forget_all(&mut self)
         ensures stands { DropsAll self.old self.new }
         ensures dropped { self.new.queues ≡ [] }
@@ -123,8 +128,8 @@ impl Sender {
         self.backlog.forget_all();
     }
 
-    /// Tells a source whose range is over: it was wholly put, or its stream ended before that. Each is told once for
-    /// each range that was owed of it.
+    /// Tells a source whose range is over: it was wholly put, or its stream ended before that. Each
+    /// is told once for each range that was owed of it.
     pub fn spent(&mut self) -> Option<usize>
         ensures source { Tells result self.old.spent self.new.spent }
         ensures none { result ≡ None → self.new ≡ self.old }
@@ -186,7 +191,8 @@ impl Sender {
         until: u64,
     ) -> Result<(), AllocError>
         requires { from ≤ until }
-        ensures ok { OnOk result (OwesRange streams.now stream source from until self.old self.new) }
+        ensures ok { OnOk result (OwesRange streams.now stream source from until self.old
+            self.new) }
         ensures fit { KeepsFitWith source until self.old self.new }
         ensures sources { OnOk result (HoldsMore source self.old self.new) }
         ensures few { OnOk result (HasFew self.new) }
@@ -214,7 +220,8 @@ impl Sender {
         ensures sources { KeepsSources self.old self.new }
 
         // A GOAWAY has room after it.
-        ensures room { length self.old.pending ≤ CONTROL_LIMIT → length self.new.pending ≤ CONTROL_LIMIT }
+        ensures room { length self.old.pending ≤ CONTROL_LIMIT →
+            length self.new.pending ≤ CONTROL_LIMIT }
     {
         'turns: while self.put_next(streams, parts) {}
     }
@@ -222,10 +229,13 @@ impl Sender {
     /// Puts what comes next, if anything can be put.
     fn put_next<P: Parts>(&mut self, streams: &mut Streams, parts: &P) -> bool
         requires fit { Fit (P.text_of parts.now) self.old.queues }
-        ensures puts { IsTrue result → PutsBy (P.text_of parts.now) streams.old self.old streams.new self.new }
-        ensures grows { IsTrue result → ((length self.old.pending < length self.new.pending) × (length self.old.pending < 65536)) }
+        ensures puts { IsTrue result → PutsBy
+            (P.text_of parts.now) streams.old self.old streams.new self.new }
+        ensures grows { IsTrue result → ((length self.old.pending < length self.new.pending)
+            × (length self.old.pending < 65536)) }
         ensures room { IsTrue result → length self.new.pending ≤ CONTROL_LIMIT }
-        ensures rests { result ≡ false → Rests streams.old (sending_in (P.text_of parts.now) self.old) }
+        ensures rests { result ≡ false →
+            Rests streams.old (sending_in (P.text_of parts.now) self.old) }
         ensures streams { result ≡ false → streams.new ≡ streams.old }
         ensures same { result ≡ false → self.new ≡ self.old }
         ensures fit { KeepsFit self.old self.new }
@@ -272,11 +282,12 @@ impl Sender {
         }
     }
 
-    /// The last block of a response was put on the stream: nothing follows but, where the client has not ended
-    /// the stream, RST_STREAM (RFC 9113 section 8.1).
+    /// The last block of a response was put on the stream: nothing follows but, where the client
+    /// has not ended the stream, RST_STREAM (RFC 9113 section 8.1).
     fn finish(&mut self, streams: &mut Streams, stream: u32, ended_by_client: bool)
         requires { length self.old.pending + 13 ≤ CAPACITY }
-        ensures finishes { FinishesBy streams.old self.old stream ended_by_client streams.new self.new }
+        ensures finishes { FinishesBy streams.old self.old stream ended_by_client streams.new
+            self.new }
         ensures fit { KeepsFit self.old self.new }
         ensures sources { KeepsSources self.old self.new }
         ensures grows { length self.old.pending ≤ length self.new.pending }
@@ -325,10 +336,12 @@ fn put_content<P: Parts>(
 )
     requires some { 0 < count }
     requires fit { Fit (P.text_of parts.now) queues.now }
-    requires there { count ≤ length (front_bytes (P.text_of parts.now) (stored_on stream queues.now)) }
+    requires there { count ≤ length (front_bytes (P.text_of parts.now)
+        (stored_on stream queues.now)) }
     requires short { count ≤ 16384 }
     requires room { length buffer.old + (9 + count) ≤ CAPACITY }
-    ensures bytes { buffer.new ≡ buffer.old ++ front_frame (P.text_of parts.now) stream count (stored_on stream queues.now) }
+    ensures bytes { buffer.new ≡ buffer.old
+        ++ front_frame (P.text_of parts.now) stream count (stored_on stream queues.now) }
     ensures size { length buffer.new ≡ length buffer.old + (9 + count) }
 {
     let first = queue::first_on(queues, stream);
@@ -350,7 +363,8 @@ fn put_piece<P: Parts>(
     requires there { count ≤ length (front_bytes (P.text_of parts.now) (piece.now ∷ [])) }
     requires short { count ≤ 16384 }
     requires room { length buffer.old + (9 + count) ≤ CAPACITY }
-    ensures bytes { buffer.new ≡ buffer.old ++ front_frame (P.text_of parts.now) stream count (piece.now ∷ []) }
+    ensures bytes { buffer.new ≡ buffer.old
+        ++ front_frame (P.text_of parts.now) stream count (piece.now ∷ []) }
     ensures size { length buffer.new ≡ length buffer.old + (9 + count) }
 {
     match piece {
@@ -364,7 +378,8 @@ fn put_message(buffer: &mut OutBuffer, stream: u32, count: usize, message: &Fram
     requires there { count ≤ length message.now }
     requires short { count ≤ 16384 }
     requires room { length buffer.old + (9 + count) ≤ CAPACITY }
-    ensures bytes { buffer.new ≡ buffer.old ++ text_of (Data stream false (take count message.now)) }
+    ensures bytes { buffer.new ≡ buffer.old
+        ++ text_of (Data stream false (take count message.now)) }
     ensures size { length buffer.new ≡ length buffer.old + (9 + count) }
 {
     let frame = Frame::Data {

@@ -10,8 +10,9 @@ use std::net::{Ipv4Addr, Shutdown, SocketAddr};
 use std::thread;
 use std::time::{Duration, Instant};
 
-/// For how many milliseconds a closed connection is kept at most, for what its client still sends. If it went at once
-/// while such bytes are unread, the system would reset it, and the client might lose what it was sent last.
+/// For how many milliseconds a closed connection is kept at most, for what its client still sends.
+/// If it went at once while such bytes are unread, the system would reset it, and the client might
+/// lose what it was sent last.
 const LINGER: u64 = 2_000;
 
 /// How many closed connections are kept so at a time. Any further one goes at once.
@@ -40,8 +41,8 @@ impl Lingering {
 
 /// Ports, connections and a clock of this host.
 ///
-/// A connection that is closed sends no more at once. What its client still sends is read and dropped, until the client
-/// closes it too, for two seconds at most.
+/// A connection that is closed sends no more at once. What its client still sends is read and
+/// dropped, until the client closes it too, for two seconds at most.
 #[derive(Drop)]
 pub struct HostSockets<'a> {
     rt: &'a HostRuntime,
@@ -93,7 +94,8 @@ impl<'a> HostSockets<'a> {
             return Err(io::Error::from(ErrorKind::WouldBlock));
         };
         let (stream, _) = listener.accept()?;
-        // Otherwise the end of a response waits for the client's acknowledgement of what was before it.
+        // Otherwise the end of a response waits for the client's acknowledgement of what was before
+        // it.
         stream.set_nodelay(true)?;
         match self.streams.insert(socket, stream) {
             Ok(_) => Ok(()),

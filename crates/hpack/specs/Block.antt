@@ -28,7 +28,8 @@ abbrev pub AreFields : List ℕ → Table → List Header → Table → Type 0
 AreFields bytes table [] after = (bytes ≡ []) × (after ≡ table)
 AreFields bytes table (h ∷ hs) after = (front : List ℕ) × (rest : List ℕ) × (between : Table) × (bytes ≡ front ++ rest) × IsField table front h between × AreFields rest between hs after
 
--- a block is size updates and then header fields: it gives the fields hs, and turns the one table into the other
+-- a block is size updates and then header fields: it gives the fields hs, and turns the one table
+-- into the other
 pub record IsBlock (bytes : List ℕ) (table : Table) (hs : List Header) (after : Table) : Type 0 where
   pub updates : List ℕ
   pub maxima : List ℕ
@@ -48,14 +49,15 @@ abbrev pub update_at : List ℕ → Result (ℕ × List ℕ) HpackError
 update_at [] = Err SizeUpdate
 update_at (b ∷ bs) = integer_at 31 (b - 32) bs >>= λ m. if nat_lt largest_table m.0 then Err SizeUpdate else Ok m
 
--- the table after all size updates at the front, of which there are at most so many, and what follows them
+-- the table after all size updates at the front, of which there are at most so many, and what
+-- follows them
 unfoldable pub updates_in : ℕ → Table → List ℕ → Result (Table × List ℕ) HpackError
 updates_in zero table bytes = Ok (table, bytes)
 updates_in (suc more) table bytes =
     if begins_update bytes then (update_at bytes >>= λ m. updates_in more (resized m.0 table) m.1) else Ok (table, bytes)
 
--- the fields, of which there are at most so many as octets and whose sizes together are no more than the room,
--- and the table after them
+-- the fields, of which there are at most so many as octets and whose sizes together are no more
+-- than the room, and the table after them
 unfoldable pub fields_in : ℕ → ℕ → Table → List ℕ → Result (List Header × Table) HpackError
 fields_in more room table [] = Ok ([], table)
 fields_in zero room table (b ∷ bs) = Ok ([], table)
@@ -91,7 +93,8 @@ abbrev pub Refuses : List Header → Table → List ℕ → HpackError → Type 
 Refuses [] table rest e = MatchBool (begins_update rest) (update_at rest ≡ Err e) (field_at table rest ≡ Err e)
 Refuses (h ∷ hs) table rest e = field_at table rest ≡ Err e
 
--- a front is a block within the limit, and what follows begins with a representation that is refused
+-- a front is a block within the limit, and what follows begins with a representation that is
+-- refused
 pub record FaultsAt (bytes : List ℕ) (table : Table) (e : HpackError) : Type 0 where
   pub front : List ℕ
   pub rest : List ℕ

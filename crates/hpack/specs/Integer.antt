@@ -12,9 +12,9 @@ AreGroups [] n = ⊥
 AreGroups (b ∷ []) n = (b < 128) × (n ≡ b)
 AreGroups (b ∷ c ∷ bs) n = (128 ≤ b) × (high : ℕ) × (n ≡ 128 * high + (b - 128)) × AreGroups (c ∷ bs) high
 
--- A number begins in the low bits of an octet, the prefix, below its other bits, the flags. It stands there
--- if it is less than full, the prefix of ones alone; otherwise those ones stand there, and groups with what
--- is beyond follow. Taken are at most five of these, and numbers below 2^32.
+-- A number begins in the low bits of an octet, the prefix, below its other bits, the flags. It
+-- stands there if it is less than full, the prefix of ones alone; otherwise those ones stand there,
+-- and groups with what is beyond follow. Taken are at most five of these, and numbers below 2^32.
 abbrev pub IsInteger : ℕ → ℕ → List ℕ → ℕ → Type 0
 IsInteger flags full [] n = ⊥
 IsInteger flags full (b ∷ []) n = (b ≡ flags + n) × (n < full)

@@ -52,7 +52,8 @@ fn read_updates<'a>(table: &mut DynamicTable, bytes: &'a [u8]) -> Result<&'a [u8
 
 /// Reads header fields to the end, as far as the field list may be large.
 fn read_fields(table: &mut DynamicTable, bytes: &[u8]) -> Result<Vec<HeaderField>, HpackError>
-    ensures { GivesInMemory (λ fields. (fields.items, table.new)) result (fields_of list_limit table.old bytes.now) }
+    ensures { GivesInMemory (λ fields. (fields.items, table.new)) result
+        (fields_of list_limit table.old bytes.now) }
 {
     let mut fields = Vec::new(table.allocator());
     let mut room = LIST_LIMIT;
@@ -75,7 +76,8 @@ pub(crate) fn read_block(
     table: &mut DynamicTable,
     bytes: &[u8],
 ) -> Result<Vec<HeaderField>, HpackError>
-    ensures { GivesInMemory (λ fields. (fields.items, table.new)) result (block_of table.old bytes.now) }
+    ensures { GivesInMemory (λ fields. (fields.items, table.new)) result
+        (block_of table.old bytes.now) }
 {
     let rest = read_updates(table, bytes)?;
     read_fields(table, rest)

@@ -13,8 +13,8 @@ use crate::headers::Headers;
 use std::alloc::Global;
 use std::marker::Model;
 
-/// Reads the header blocks of a connection, one after another. Contracts see the dynamic table at which it
-/// stands, or `None` once it has refused a block.
+/// Reads the header blocks of a connection, one after another. Contracts see the dynamic table at
+/// which it stands, or `None` once it has refused a block.
 #[derive(Drop)]
 pub struct Decoder {
     table: Option<DynamicTable>,

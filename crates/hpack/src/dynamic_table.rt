@@ -16,7 +16,8 @@ use std::marker::Model;
 /// The greatest maximum that a size update may set, and the first one (RFC 9113, section 6.5.2).
 pub(crate) const LARGEST_TABLE: u32 = 4096;
 
-/// Drops the oldest entries until the others have at most `room` octets, and says how many these have.
+/// Drops the oldest entries until the others have at most `room` octets, and says how many these
+/// have.
 fn evict(entries: &mut VecDeque<HeaderField>, size: usize, room: usize) -> usize
     requires { size ≡ total_size entries.old.items }
     ensures entries { entries.new.items ≡ longest_front room entries.old.items }

@@ -1,4 +1,5 @@
-//! The blocks that a server writes. They add nothing to a dynamic table, so that no encoder has to be kept.
+//! The blocks that a server writes. They add nothing to a dynamic table, so that no encoder has to
+//! be kept.
 
 ghost use Rattle.std.specs.Prelude.{◌≡◌, ◌++◌, ◌<◌, OnOk, OnErr, map, length};
 ghost use Rattle.std.specs.List.{flat_map};
@@ -29,7 +30,8 @@ pub struct Field<'a> {
 }
 
 fn push_name(out: &mut Vec<u8>, name: &[u8]) -> Result<(), AllocError>
-    ensures { OnOk result (out.new.items ≡ out.old.items ++ spec.name_text (table.name_index name.now) name.now) }
+    ensures { OnOk result (out.new.items ≡ out.old.items
+        ++ spec.name_text (table.name_index name.now) name.now) }
 {
     let index = name_index(name);
     if index == 0 {
@@ -51,7 +53,8 @@ fn push_field(out: &mut Vec<u8>, field: &Field<'_>) -> Result<(), AllocError>
 }
 
 fn push_fields(out: &mut Vec<u8>, fields: &[Field<'_>]) -> Result<(), AllocError>
-    ensures { OnOk result (out.new.items ≡ out.old.items ++ flat_map field_text (map field_shown fields.now)) }
+    ensures { OnOk result (out.new.items ≡ out.old.items
+        ++ flat_map field_text (map field_shown fields.now)) }
 {
     for field in fields {
         push_field(out, field)?;
@@ -59,15 +62,16 @@ fn push_fields(out: &mut Vec<u8>, fields: &[Field<'_>]) -> Result<(), AllocError
     Ok(())
 }
 
-/// Adds a block with these fields. A status of 200 is an index (RFC 7541, section 6.1), each other field a literal
-/// without indexing (section 6.2.2) and without Huffman coding, with the index of its name where the static table
-/// has it. A refused vector is as before.
+/// Adds a block with these fields. A status of 200 is an index (RFC 7541, section 6.1), each other
+/// field a literal without indexing (section 6.2.2) and without Huffman coding, with the index of
+/// its name where the static table has it. A refused vector is as before.
 pub fn encode_into(
     position: Position,
     fields: &[Field<'_>],
     out: &mut Vec<u8>,
 ) -> Result<(), AllocError>
-    ensures ok { OnOk result (out.new.items ≡ out.old.items ++ block_text position (map field_shown fields.now)) }
+    ensures ok { OnOk result (out.new.items ≡ out.old.items
+        ++ block_text position (map field_shown fields.now)) }
     ensures err { OnErr result (out.new.items ≡ out.old.items) }
 {
     let mut block = Vec::new(*out.allocator());

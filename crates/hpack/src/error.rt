@@ -10,7 +10,8 @@ use std::alloc::{AllocError, AllocFailed};
 pub enum HpackError {
     /// An index is 0 or past the tables (RFC 7541, section 2.3.3).
     Index,
-    /// An integer is cut off, has more than five octets after its prefix, or is 2^32 or more (section 5.1).
+    /// An integer is cut off, has more than five octets after its prefix, or is 2^32 or more
+    /// (section 5.1).
     Integer,
     /// A string is cut off (section 5.2).
     String,
@@ -18,7 +19,8 @@ pub enum HpackError {
     Huffman,
     /// A size update is above 4,096 or follows a header field (sections 4.2 and 6.3).
     SizeUpdate,
-    /// The fields up to this one have more than 65,536 octets, counting 32 more for each (RFC 9113, section 6.5.2).
+    /// The fields up to this one have more than 65,536 octets, counting 32 more for each (RFC 9113,
+    /// section 6.5.2).
     ListTooLarge,
     /// Memory could not be had.
     NoMemory,

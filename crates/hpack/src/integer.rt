@@ -18,7 +18,8 @@ fn below_limit(number: u64, rest: &[u8]) -> Result<(u32, &[u8]), HpackError>
     }
 }
 
-/// The number that groups of seven bits give, the low group first, and what follows its at most `left` groups.
+/// The number that groups of seven bits give, the low group first, and what follows its at most
+/// `left` groups.
 #[tactic(auto, unfolding(crate::specs::Integer::groups_at))]
 fn read_groups(left: u8, bytes: &[u8]) -> Result<(u32, &[u8]), HpackError>
     ensures { Gives (λ x. (x.0, x.1.now)) result (groups_at left bytes.now) }
@@ -36,7 +37,8 @@ fn read_groups(left: u8, bytes: &[u8]) -> Result<(u32, &[u8]), HpackError>
     }
 }
 
-/// The integer whose prefix was read, where `full` is the prefix of ones alone, and what follows it.
+/// The integer whose prefix was read, where `full` is the prefix of ones alone, and what follows
+/// it.
 #[tactic(auto, unfolding(crate::specs::Integer::integer_at))]
 pub(crate) fn read_integer(full: u8, prefix: u8, bytes: &[u8]) -> Result<(u32, &[u8]), HpackError>
     requires { prefix ≤ full }
@@ -62,7 +64,8 @@ fn push_groups(out: &mut Vec<u8>, number: usize) -> Result<(), AllocError>
     Ok(())
 }
 
-/// Adds an integer to the flags that stand above its prefix, where `full` is the prefix of ones alone.
+/// Adds an integer to the flags that stand above its prefix, where `full` is the prefix of ones
+/// alone.
 #[tactic(auto, unfolding(crate::specs::Integer::integer_text))]
 pub(crate) fn push_integer(
     out: &mut Vec<u8>,

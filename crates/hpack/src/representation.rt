@@ -21,7 +21,8 @@ fn read_name<'a>(
     bytes: &'a [u8],
 ) -> Result<(Vec<u8>, &'a [u8]), HpackError>
     requires { prefix ≤ full }
-    ensures { GivesInMemory (λ x. (x.0.items, x.1.now)) result (name_at table.now full prefix bytes.now) }
+    ensures { GivesInMemory (λ x. (x.0.items, x.1.now)) result
+        (name_at table.now full prefix bytes.now) }
 {
     let (index, rest) = read_integer(full, prefix, bytes)?;
     if index == 0 {
@@ -43,7 +44,8 @@ fn read_literal<'a>(
     bytes: &'a [u8],
 ) -> Result<(HeaderField, &'a [u8]), HpackError>
     requires { prefix ≤ full }
-    ensures { GivesInMemory (λ x. (x.0, x.1.now)) result (literal_at table.now full prefix bytes.now) }
+    ensures { GivesInMemory (λ x. (x.0, x.1.now)) result
+        (literal_at table.now full prefix bytes.now) }
 {
     let (name, rest) = read_name(alloc, table, full, prefix, bytes)?;
     let (value, rest) = read_string(alloc, rest)?;

@@ -1,6 +1,6 @@
--- The code of RFC 7541, section 5.2 and appendix B. It is the canonical code of its lengths: shorter codes
--- come first, and among those of one length the symbols rise; each code is the one before plus one, shifted
--- left where the length grows.
+-- The code of RFC 7541, section 5.2 and appendix B. It is the canonical code of its lengths:
+-- shorter codes come first, and among those of one length the symbols rise; each code is the one
+-- before plus one, shifted left where the length grows.
 use Rattle.std.specs.Prelude.{ℕ, zero, suc, ◌+◌, ◌*◌, ◌/◌, ◌%◌, ◌^◌, List, [], ◌∷◌, take, slice_index, count_by, ◌==◌}
 use Rattle.std.specs.List.{flat_map}
 use Rattle.hpack_huffman.specs.Lengths.{lengths}
@@ -30,7 +30,8 @@ unfoldable pub first_code : ℕ → ℕ
 first_code zero = 0
 first_code (suc n) = 2 * (first_code n + count_of n lengths)
 
--- a symbol's code as a number: the first of its length, and one more for each lower symbol of that length
+-- a symbol's code as a number: the first of its length, and one more for each lower symbol of that
+-- length
 unfoldable pub code_number : ℕ → ℕ
 code_number symbol = first_code (code_length symbol) + count_of (code_length symbol) (take symbol lengths)
 

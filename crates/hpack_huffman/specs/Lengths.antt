@@ -1,5 +1,5 @@
--- How many bits the code of each symbol has: RFC 7541, appendix B, sixteen symbols a row from 0 on, and
--- EOS, the symbol 256, at the end. All else that is said of the code follows from this table.
+-- How many bits the code of each symbol has: RFC 7541, appendix B, sixteen symbols a row from 0 on,
+-- and EOS, the symbol 256, at the end. All else that is said of the code follows from this table.
 use Rattle.std.specs.Prelude.{ℕ, List, [], ◌∷◌}
 
 unfoldable pub lengths : List ℕ

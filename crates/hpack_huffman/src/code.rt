@@ -1,4 +1,5 @@
-//! The code of RFC 7541, appendix B, for a decoder: the codes of each length are consecutive numbers.
+//! The code of RFC 7541, appendix B, for a decoder: the codes of each length are consecutive
+//! numbers.
 
 ghost use Rattle.std.specs.Prelude.{◌<◌};
 ghost use Rattle.hpack_huffman.specs.Table.{AreShort, IsAmong, IsIn, OpensWith};
@@ -167,7 +168,8 @@ const SYMBOLS: [u8; 256] = [
     29, 30, 31, 127, 220, 249, 10, 13, 22,
 ];
 
-/// For each octet, the bits of the code that it begins with, or 0 where that code is longer than the octet.
+/// For each octet, the bits of the code that it begins with, or 0 where that code is longer than
+/// the octet.
 const SHORT_LENGTHS: [u8; 256] = [
     5, 5, 5, 5, 5, 5, 5, 5, 5, 5, 5, 5, 5, 5, 5, 5, 5, 5, 5, 5, 5, 5, 5, 5, 5, 5, 5, 5, 5, 5, 5, 5,
     5, 5, 5, 5, 5, 5, 5, 5, 5, 5, 5, 5, 5, 5, 5, 5, 5, 5, 5, 5, 5, 5, 5, 5, 5, 5, 5, 5, 5, 5, 5, 5,

@@ -13,7 +13,8 @@ fn append_text(octets: &[u8], text: &mut Vec<u8>) -> Result<(), HuffmanError>
     ensures appended { OnOk result (Appends (decoded octets.now) text.old.items text.new.items) }
     ensures front { take (length text.old.items) text.new.items ≡ text.old.items }
     ensures refused { IfErr result (λ e. Refuses e (decoded octets.now)) }
-    ensures full { result ≡ Err NoMemory → 5 * (vec_capacity text.old - vec_len text.old) < 8 * length octets.now }
+    ensures full { result ≡ Err NoMemory →
+        5 * (vec_capacity text.old - vec_len text.old) < 8 * length octets.now }
 {
     let mut reader = BitReader::new(octets);
     while let Some(symbol) = reader.next()? {
@@ -31,7 +32,8 @@ pub fn decode_into(octets: &[u8], text: &mut Vec<u8>) -> Result<(), HuffmanError
     ensures refused { IfErr result (λ e. Refuses e (decoded octets.now)) }
 
     // No code has fewer than five bits, so room for eight octets in place of each five is enough.
-    ensures full { result ≡ Err NoMemory → 5 * (vec_capacity text.old - vec_len text.old) < 8 * length octets.now }
+    ensures full { result ≡ Err NoMemory →
+        5 * (vec_capacity text.old - vec_len text.old) < 8 * length octets.now }
 {
     let before = text.len();
     let answer = append_text(octets, text);

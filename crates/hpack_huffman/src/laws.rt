@@ -17,7 +17,9 @@ pub fn reading_is_the_grammar()
     ensures spelled { (octets text : List ℕ) → decoded octets ≡ Ok text → IsHuffman octets text }
     ensures eos_met { (octets : List ℕ) → HasEos octets → decoded octets ≡ Err Eos }
     ensures eos_stands { (octets : List ℕ) → decoded octets ≡ Err Eos → HasEos octets }
-    ensures refused { (octets : List ℕ) → ((text : List ℕ) → ¬ IsHuffman octets text) → ¬ HasEos octets → decoded octets ≡ Err Padding }
-    ensures no_text { (octets : List ℕ) → decoded octets ≡ Err Padding → (text : List ℕ) → ¬ IsHuffman octets text }
+    ensures refused { (octets : List ℕ) → ((text : List ℕ) → ¬ IsHuffman octets text) →
+        ¬ HasEos octets → decoded octets ≡ Err Padding }
+    ensures no_text { (octets : List ℕ) → decoded octets ≡ Err Padding → (text : List ℕ) →
+        ¬ IsHuffman octets text }
     ensures no_eos { (octets : List ℕ) → decoded octets ≡ Err Padding → ¬ HasEos octets }
 {}

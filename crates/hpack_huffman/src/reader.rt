@@ -68,7 +68,8 @@ impl<'a> BitReader<'a> {
     fn end(&self) -> Result<(), HuffmanError>
         requires enough { self.now.held < 30 → self.now.octets.now ≡ [] }
         requires ones { bits 30 EOS ≡ window_of (bits_left self.now) }
-        ensures reads { MatchResult result (λ _. text_of_bits (bits_left self.now) ≡ Ok []) (λ e. text_of_bits (bits_left self.now) ≡ Err e) }
+        ensures reads { MatchResult result (λ _. text_of_bits (bits_left self.now) ≡ Ok [])
+            (λ e. text_of_bits (bits_left self.now) ≡ Err e) }
         ensures no_memory { IfErr result (λ e. e ≢ NoMemory) }
     {
         match self.held {
@@ -81,8 +82,10 @@ impl<'a> BitReader<'a> {
     /// The next symbol, or `None` where what is left is padding.
     pub(crate) fn next(&mut self) -> Result<Option<u8>, HuffmanError>
         requires { self.old.held ≤ 64 }
-        ensures reads { text_of_bits (bits_left self.old) ≡ reads_then result (text_of_bits (bits_left self.new)) }
-        ensures shorter { IfOk result (λ symbol. IsSome symbol → length (bits_left self.new) + 5 ≤ length (bits_left self.old)) }
+        ensures reads { text_of_bits (bits_left self.old)
+            ≡ reads_then result (text_of_bits (bits_left self.new)) }
+        ensures shorter { IfOk result (λ symbol. IsSome symbol →
+            length (bits_left self.new) + 5 ≤ length (bits_left self.old)) }
         ensures held { self.new.held ≤ 64 }
         ensures no_memory { IfErr result (λ e. e ≢ NoMemory) }
     {

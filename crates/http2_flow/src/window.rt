@@ -37,7 +37,8 @@ impl Model for Window {
 
     ghost view = { λ w. record { initial = w.initial; change = w.change } };
 
-    ghost invariant = { λ w. (w.initial < 2 ^ 31) × (pos 0 <ℤ (w.change +ℤ pos (2 ^ 31))) × ((pos w.initial +ℤ w.change) <ℤ pos (2 ^ 31)) };
+    ghost invariant = { λ w. (w.initial < 2 ^ 31) × (pos 0 <ℤ (w.change +ℤ pos (2 ^ 31)))
+        × ((pos w.initial +ℤ w.change) <ℤ pos (2 ^ 31)) };
 }
 
 impl Window {
@@ -58,11 +59,14 @@ impl Window {
         self.initial as i64 + self.change
     }
 
-    /// Adds the increment of a WINDOW_UPDATE, in bytes (RFC 9113, section 6.9). An error changes nothing.
+    /// Adds the increment of a WINDOW_UPDATE, in bytes (RFC 9113, section 6.9). An error changes
+    /// nothing.
     pub fn grant(&mut self, increment: u32) -> Result<(), FlowError>
-        ensures ok { OnOk result (self.new ≡ record self.old { change = self.old.change +ℤ pos increment }) }
+        ensures ok { OnOk result (self.new
+            ≡ record self.old { change = self.old.change +ℤ pos increment }) }
         ensures zero { IsErrOf result FlowError.Zero ↔ (increment ≡ 0) }
-        ensures too_large { IsErrOf result FlowError.TooLarge ↔ ((increment ≢ 0) × (pos (2 ^ 31) ≤ℤ (left self.old +ℤ pos increment))) }
+        ensures too_large { IsErrOf result FlowError.TooLarge
+            ↔ ((increment ≢ 0) × (pos (2 ^ 31) ≤ℤ (left self.old +ℤ pos increment))) }
         ensures enough { IsErrOf result FlowError.NotEnough → ⊥ }
         ensures err { OnErr result (self.new ≡ self.old) }
     {
@@ -79,7 +83,8 @@ impl Window {
     /// Takes off the bytes of a DATA frame that is sent (RFC 9113, section 6.9.1). An error changes
     /// nothing.
     pub fn spend(&mut self, bytes: u32) -> Result<(), FlowError>
-        ensures ok { OnOk result (self.new ≡ record self.old { change = self.old.change -ℤ pos bytes }) }
+        ensures ok { OnOk result (self.new
+            ≡ record self.old { change = self.old.change -ℤ pos bytes }) }
         ensures not_enough { IsErrOf result FlowError.NotEnough ↔ (left self.old <ℤ pos bytes) }
         ensures kind { IsOk result ⊎ IsErrOf result FlowError.NotEnough }
         ensures err { OnErr result (self.new ≡ self.old) }
@@ -104,7 +109,8 @@ impl Window {
     pub fn shift(&mut self, initial: u32) -> Result<(), FlowError>
         requires { initial < 2 ^ 31 }
         ensures ok { OnOk result (self.new ≡ record self.old { initial = initial }) }
-        ensures too_large { IsErrOf result FlowError.TooLarge ↔ (pos (2 ^ 31) ≤ℤ (pos initial +ℤ self.old.change)) }
+        ensures too_large { IsErrOf result FlowError.TooLarge
+            ↔ (pos (2 ^ 31) ≤ℤ (pos initial +ℤ self.old.change)) }
         ensures kind { IsOk result ⊎ IsErrOf result FlowError.TooLarge }
         ensures err { OnErr result (self.new ≡ self.old) }
     {

@@ -65,7 +65,8 @@ content_of f =
     else if f.kind == CONTINUATION then Continuation f.stream (has_flag f END_HEADERS) f.payload
     else Unknown f.kind f.flags f.stream f.payload
 
--- what the frame says, or the first fault by stream number, length and padding, each of the connection
+-- what the frame says, or the first fault by stream number, length and padding, each of the
+-- connection
 abbrev pub frame_of : RawFrame → Result Frame ErrorCode
 frame_of f =
     if is_misaddressed f then Err ProtocolError
@@ -73,7 +74,8 @@ frame_of f =
     else if is_overpadded f then Err ProtocolError
     else Ok (content_of f)
 
--- the payload is the fields in front, the content, and as many bytes of padding as the first field says
+-- the payload is the fields in front, the content, and as many bytes of padding as the first field
+-- says
 pub record IsPadded (f : RawFrame) (content : List ℕ) : Type 0 where
   pub fields : List ℕ
   pub padding : List ℕ

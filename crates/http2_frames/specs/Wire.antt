@@ -1,4 +1,5 @@
--- Frames on the wire (RFC 9113, section 4.1): which bytes are a frame, and how a text divides into frames.
+-- Frames on the wire (RFC 9113, section 4.1): which bytes are a frame, and how a text divides into
+-- frames.
 use Rattle.std.specs.Prelude.{◌≡◌, ◌≢◌, ℕ, ◌+◌, ◌%◌, ◌^◌, ◌<◌, ◌≤◌, ◌⊎◌, List, [], ◌∷◌, ◌++◌, length, Result, Ok, Err}
 use Rattle.byteorder.specs.Endian.{big_number}
 use Rattle.http2_frames.specs.declared.error.FrameError.{FrameError}

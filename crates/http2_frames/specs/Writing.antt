@@ -1,4 +1,5 @@
--- How frames are written (RFC 9113, sections 4.1 and 6): without padding and priority, the reserved bit 0.
+-- How frames are written (RFC 9113, sections 4.1 and 6): without padding and priority, the reserved
+-- bit 0.
 use Rattle.std.specs.Prelude.{◌≡◌, ℕ, ◌+◌, ◌*◌, ◌<◌, ◌≤◌, ◌^◌, if◌then◌else◌, Bool, true, List, [], ◌∷◌, ◌++◌, length}
 use Rattle.std.specs.List.{AllByRecursion}
 use Rattle.byteorder.specs.Endian.{big_bytes}

@@ -3,8 +3,8 @@
 use crate::octets::{Octets, Payload};
 use crate::settings::SettingsList;
 
-/// A frame as it stands on the wire (RFC 9113, section 4.1), without its length, which is that of the
-/// payload, and without the reserved bit.
+/// A frame as it stands on the wire (RFC 9113, section 4.1), without its length, which is that of
+/// the payload, and without the reserved bit.
 #[derive(Drop)]
 pub struct RawFrame {
     pub kind: u8,

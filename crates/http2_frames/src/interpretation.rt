@@ -166,7 +166,8 @@ fn unpadded(frame: &RawFrame) -> &[u8]
 
 fn go_away(payload: &[u8]) -> Frame<'_>
     requires { 8 ≤ length payload.now }
-    ensures { result ≡ Frame.GoAway (big_number 4 payload.now % 2 ^ 31) (big_number 4 (drop 4 payload.now)) (drop 8 payload.now) }
+    ensures { result ≡ Frame.GoAway (big_number 4 payload.now % 2 ^ 31)
+        (big_number 4 (drop 4 payload.now)) (drop 8 payload.now) }
 {
     Frame::GoAway {
         last_stream: BigEndian::read_u32(payload) % (1 << 31),

@@ -13,22 +13,29 @@ ghost use Rattle.http2_frames.specs.Reading.{split};
 /// A text divides into frames in one way alone, and that is how it is read.
 pub fn a_text_divides_in_one_way()
     ensures found { (preface text : List ℕ) → IsSplit preface text (split preface text) }
-    ensures only { (preface text : List ℕ) (s : Split) → IsSplit preface text s → split preface text ≡ s }
+    ensures only { (preface text : List ℕ) (s : Split) → IsSplit preface text s →
+        split preface text ≡ s }
 {}
 
 /// More bytes add frames and change none, and after a fault they add nothing.
 pub fn more_bytes_add_frames()
-    ensures frames { (preface text more : List ℕ) → (later : List RawFrame) × ((split preface (text ++ more)).frames ≡ (split preface text).frames ++ later) }
-    ensures fault { (preface text more : List ℕ) (fault : FrameError) → (split preface text).end ≡ Err fault → split preface (text ++ more) ≡ split preface text }
+    ensures frames { (preface text more : List ℕ) →
+        (later : List RawFrame)
+        × ((split preface (text ++ more)).frames ≡ (split preface text).frames ++ later) }
+    ensures fault { (preface text more : List ℕ) (fault : FrameError) →
+        (split preface text).end ≡ Err fault → split preface (text ++ more) ≡ split preface text }
 {}
 
 /// Frames that are written are read again, and understood as they were meant.
 pub fn written_frames_are_read_again()
-    ensures text { (preface : List ℕ) (frames : List Frame) → AllByRecursion IsWritable frames → split preface (preface ++ flat_map text_of frames) ≡ record { frames = map raw_of frames; end = Ok [] } }
+    ensures text { (preface : List ℕ) (frames : List Frame) → AllByRecursion IsWritable frames →
+        split preface (preface ++ flat_map text_of frames)
+        ≡ record { frames = map raw_of frames; end = Ok [] } }
     ensures content { (frame : Frame) → IsWritable frame → frame_of (raw_of frame) ≡ Ok frame }
 {}
 
 /// What DATA and HEADERS hold stands between their fields and their padding.
 pub fn padding_surrounds_the_content()
-    ensures { (raw : RawFrame) (frame : Frame) → may_be_padded raw ≡ true → frame_of raw ≡ Ok frame → IsPadded raw (unpadded raw) }
+    ensures { (raw : RawFrame) (frame : Frame) → may_be_padded raw ≡ true →
+        frame_of raw ≡ Ok frame → IsPadded raw (unpadded raw) }
 {}

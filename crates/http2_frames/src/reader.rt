@@ -47,7 +47,8 @@ impl Model for FrameReader {
 
     ghost view = { λ r. unread_of r.preface.now (drop r.read r.received.items) r.fault };
 
-    ghost invariant = { λ r. (r.read ≤ length r.received.items) × (length r.preface.now ≤ 24) × (r.fault ≢ Some NoMemory) };
+    ghost invariant = { λ r. (r.read ≤ length r.received.items) × (length r.preface.now ≤ 24)
+        × (r.fault ≢ Some NoMemory) };
 }
 
 impl FrameReader {
@@ -76,15 +77,18 @@ impl FrameReader {
     }
 
     /// Takes the next piece of what is received, of any length. Its frames are then asked for by
-    /// [`FrameReader::next`] until it answers `None`, so that no more than an unfinished frame is kept.
-    /// Where memory was refused the piece counts as not received.
+    /// [`FrameReader::next`] until it answers `None`, so that no more than an unfinished frame is
+    /// kept. Where memory was refused the piece counts as not received.
     pub fn feed(&mut self, piece: &[u8]) -> Result<(), FrameError>
-        ensures stands { OnOk result ((preface text : List ℕ) (given : List RawFrame) → StandsFor preface self.old text given → StandsFor preface self.new (text ++ piece.now) given) }
+        ensures stands { OnOk result ((preface text : List ℕ) (given : List RawFrame) →
+            StandsFor preface self.old text given →
+            StandsFor preface self.new (text ++ piece.now) given) }
         ensures ok { OnOk result (self.new ≡ followed_by self.old piece.now) }
 
         // It is refused for want of memory, or as before.
         ensures err { OnErr result (self.new ≡ self.old) }
-        ensures refused { IfErr result (λ fault. fault ≢ FrameError.NoMemory → self.old ≡ Err fault) }
+        ensures refused { IfErr result (λ fault. fault ≢ FrameError.NoMemory →
+            self.old ≡ Err fault) }
         ensures repeats { (fault : FrameError) → self.old ≡ Err fault → result ≡ Err fault }
     {
         if let Some(fault) = self.fault {
@@ -96,22 +100,33 @@ impl FrameReader {
         Ok(())
     }
 
-    /// The next frame, or `None` where no further one is whole. A preface or a length that is refused
-    /// (RFC 9113, sections 3.4 and 4.2) is refused again by each later call; where memory was refused
-    /// the frame is still to come.
+    /// The next frame, or `None` where no further one is whole. A preface or a length that is
+    /// refused (RFC 9113, sections 3.4 and 4.2) is refused again by each later call; where memory
+    /// was refused the frame is still to come.
     pub fn next(&mut self) -> Result<Option<RawFrame>, FrameError>
-        ensures stands { (preface text : List ℕ) (given : List RawFrame) → StandsFor preface self.old text given → StandsFor preface self.new text (given ++ frames_in result) }
+        ensures stands { (preface text : List ℕ) (given : List RawFrame) →
+            StandsFor preface self.old text given →
+            StandsFor preface self.new text (given ++ frames_in result) }
         ensures frame { IfOk result (λ frame. IfSome frame IsFrame) }
-        ensures shorter { IfOk result (λ frame. OnSome frame (length (text_left self.new) < length (text_left self.old))) }
+        ensures shorter { IfOk result (λ frame. OnSome frame
+            (length (text_left self.new) < length (text_left self.old))) }
 
         // At the end all frames of the text were given, and less than a frame is kept.
-        ensures none { IfOk result (λ frame. IfNone frame ((preface text : List ℕ) (given : List RawFrame) → StandsFor preface self.old text given → split preface text ≡ record { frames = given; end = Ok (text_left self.new) })) }
-        ensures kept { IfOk result (λ frame. IfNone frame (length (text_left self.new) < 9 + 16384)) }
+        ensures none { IfOk result (λ frame. IfNone frame
+            ((preface text : List ℕ) (given : List RawFrame) →
+            StandsFor preface self.old text given →
+            split preface text ≡ record { frames = given; end = Ok (text_left self.new) })) }
+        ensures kept { IfOk result (λ frame. IfNone frame
+            (length (text_left self.new) < 9 + 16384)) }
 
         // A fault stands where the frames end, and is there for good.
-        ensures refused { IfErr result (λ fault. fault ≢ FrameError.NoMemory → (preface text : List ℕ) (given : List RawFrame) → StandsFor preface self.old text given → split preface text ≡ record { frames = given; end = Err fault }) }
+        ensures refused { IfErr result (λ fault. fault ≢ FrameError.NoMemory →
+            (preface text : List ℕ) (given : List RawFrame) →
+            StandsFor preface self.old text given →
+            split preface text ≡ record { frames = given; end = Err fault }) }
         ensures lasts { IfErr result (λ fault. fault ≢ FrameError.NoMemory → self.new ≡ Err fault) }
-        ensures repeats { (fault : FrameError) → self.old ≡ Err fault → (result ≡ Err fault) × (self.new ≡ Err fault) }
+        ensures repeats { (fault : FrameError) → self.old ≡ Err fault →
+            (result ≡ Err fault) × (self.new ≡ Err fault) }
 
         // Memory is asked for only where a frame is whole.
         ensures memory { IsErrOf result FrameError.NoMemory → (split_left self.old).frames ≢ [] }

@@ -37,7 +37,8 @@ fn set_if(is: bool, flag: u8) -> u8
 fn put(out: &mut Vec<u8>, kind: u8, flags: u8, stream: u32, payload: &[u8])
     requires room { vec_len out.old + (9 + length payload.now) ≤ vec_capacity out.old }
     requires short { length payload.now ≤ 16384 }
-    ensures items { out.new.items ≡ out.old.items ++ (header_text (length payload.now) kind flags stream ++ payload.now) }
+    ensures items { out.new.items ≡ out.old.items
+        ++ (header_text (length payload.now) kind flags stream ++ payload.now) }
     ensures capacity { vec_capacity out.old ≤ vec_capacity out.new }
 {
     put_header(out, payload.len(), kind, flags, stream);
@@ -46,7 +47,8 @@ fn put(out: &mut Vec<u8>, kind: u8, flags: u8, stream: u32, payload: &[u8])
 
 fn put_number(out: &mut Vec<u8>, kind: u8, stream: u32, number: u32)
     requires { vec_len out.old + 13 ≤ vec_capacity out.old }
-    ensures items { out.new.items ≡ out.old.items ++ (header_text 4 kind 0 stream ++ big_bytes 4 number) }
+    ensures items { out.new.items ≡ out.old.items
+        ++ (header_text 4 kind 0 stream ++ big_bytes 4 number) }
     ensures capacity { vec_capacity out.old ≤ vec_capacity out.new }
 {
     let mut bytes = [0u8; 4];
@@ -57,7 +59,8 @@ fn put_number(out: &mut Vec<u8>, kind: u8, stream: u32, number: u32)
 /// Appends what stands before the debug data of a GOAWAY.
 fn put_numbers(out: &mut Vec<u8>, last_stream: u32, error_code: u32)
     requires { vec_len out.old + 8 ≤ vec_capacity out.old }
-    ensures items { out.new.items ≡ out.old.items ++ (big_bytes 4 last_stream ++ big_bytes 4 error_code) }
+    ensures items { out.new.items ≡ out.old.items
+        ++ (big_bytes 4 last_stream ++ big_bytes 4 error_code) }
     ensures capacity { vec_capacity out.old ≤ vec_capacity out.new }
 {
     let mut bytes = [0u8; 8];
@@ -70,7 +73,8 @@ fn put_numbers(out: &mut Vec<u8>, last_stream: u32, error_code: u32)
 fn put_go_away(out: &mut Vec<u8>, last_stream: u32, error_code: u32, debug_data: &[u8])
     requires room { vec_len out.old + (17 + length debug_data.now) ≤ vec_capacity out.old }
     requires short { 8 + length debug_data.now ≤ 16384 }
-    ensures items { out.new.items ≡ out.old.items ++ text_of (Frame.GoAway last_stream error_code debug_data.now) }
+    ensures items { out.new.items ≡ out.old.items
+        ++ text_of (Frame.GoAway last_stream error_code debug_data.now) }
     ensures capacity { vec_capacity out.old ≤ vec_capacity out.new }
 {
     put_header(out, 8 + debug_data.len(), frame_type::GOAWAY, 0, 0);
@@ -103,7 +107,8 @@ pub fn payload_length(frame: &Frame<'_>) -> usize
 
 /// Appends the frame. There is room for it, so no memory is asked for.
 pub fn put_frame(out: &mut Vec<u8>, frame: &Frame<'_>)
-    requires room { vec_len out.old + (9 + length (raw_of frame.now).payload) ≤ vec_capacity out.old }
+    requires room { vec_len out.old + (9 + length (raw_of frame.now).payload)
+        ≤ vec_capacity out.old }
     requires short { length (raw_of frame.now).payload ≤ 16384 }
     ensures items { out.new.items ≡ out.old.items ++ text_of frame.now }
     ensures capacity { vec_capacity out.old ≤ vec_capacity out.new }

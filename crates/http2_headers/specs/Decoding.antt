@@ -23,7 +23,8 @@ new_state = record { unfinished = None; table = Some new_table }
 abbrev pub failed_state : HeaderState
 failed_state = record { unfinished = None; table = None }
 
--- section 4.3: a block that cannot be decoded; a list that is too large to be taken is no fault of its coding
+-- section 4.3: a block that cannot be decoded; a list that is too large to be taken is no fault of
+-- its coding
 abbrev pub fault_of : HpackError → ErrorCode
 fault_of ListTooLarge = EnhanceYourCalm
 fault_of _ = CompressionError

@@ -1,4 +1,5 @@
--- Header blocks (RFC 9113 section 4.3): the fragments of one HEADERS frame and the CONTINUATION frames after it.
+-- Header blocks (RFC 9113 section 4.3): the fragments of one HEADERS frame and the CONTINUATION
+-- frames after it.
 use Rattle.std.specs.Prelude.{ℕ, ◌+◌, ◌||◌, ◌++◌, nat_lt, Bool, List, length}
 
 pub record HeaderBlock : Type 0 where

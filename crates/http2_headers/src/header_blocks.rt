@@ -52,7 +52,8 @@ impl Model for HeaderBlocks {
 
     ghost Value = { HeaderState };
 
-    ghost view = { λ h. record { unfinished = option_map block_shown h.unfinished; table = table_shown h.decoder } };
+    ghost view = { λ h. record
+        { unfinished = option_map block_shown h.unfinished; table = table_shown h.decoder } };
 
     ghost invariant = { λ h. IsBounded (option_map block_shown h.unfinished) };
 }
@@ -78,7 +79,8 @@ impl HeaderBlocks {
         }
     }
 
-    /// Takes a HEADERS frame, with which a block begins. Its fields are there where it has END_HEADERS.
+    /// Takes a HEADERS frame, with which a block begins. Its fields are there where it has
+    /// END_HEADERS.
     pub fn begin(
         &mut self,
         stream: u32,
@@ -86,8 +88,10 @@ impl HeaderBlocks {
         end_headers: bool,
         fragment: &[u8],
     ) -> Result<Option<HeaderList>, H2Fault>
-        ensures given { Gives result (given self.old.table end_headers (begun stream end_stream fragment.now)) }
-        ensures kept { OnOk result (self.new ≡ kept self.old.table end_headers (begun stream end_stream fragment.now)) }
+        ensures given { Gives result (given self.old.table end_headers
+            (begun stream end_stream fragment.now)) }
+        ensures kept { OnOk result (self.new
+            ≡ kept self.old.table end_headers (begun stream end_stream fragment.now)) }
         ensures failed { OnErr result (self.new ≡ failed_state) }
     {
         let outcome = self.begin_block(stream, end_stream, end_headers, fragment);
@@ -97,14 +101,17 @@ impl HeaderBlocks {
         outcome
     }
 
-    /// Takes a CONTINUATION frame of the unfinished block. Its fields are there where this has END_HEADERS.
+    /// Takes a CONTINUATION frame of the unfinished block. Its fields are there where this has
+    /// END_HEADERS.
     pub fn go_on(
         &mut self,
         end_headers: bool,
         fragment: &[u8],
     ) -> Result<Option<HeaderList>, H2Fault>
-        ensures given { Gives result (given_next self.old.table self.old.unfinished end_headers fragment.now) }
-        ensures kept { OnOk result (self.new ≡ kept_next self.old.table self.old.unfinished end_headers fragment.now) }
+        ensures given { Gives result (given_next self.old.table self.old.unfinished end_headers
+            fragment.now) }
+        ensures kept { OnOk result (self.new
+            ≡ kept_next self.old.table self.old.unfinished end_headers fragment.now) }
         ensures failed { OnErr result (self.new ≡ failed_state) }
     {
         let outcome = self.go_on_with_block(end_headers, fragment);
@@ -128,8 +135,10 @@ impl HeaderBlocks {
         end_headers: bool,
         fragment: &[u8],
     ) -> Result<Option<HeaderList>, H2Fault>
-        ensures given { Gives result (given self.old.table end_headers (begun stream end_stream fragment.now)) }
-        ensures kept { OnOk result (self.new ≡ kept self.old.table end_headers (begun stream end_stream fragment.now)) }
+        ensures given { Gives result (given self.old.table end_headers
+            (begun stream end_stream fragment.now)) }
+        ensures kept { OnOk result (self.new
+            ≡ kept self.old.table end_headers (begun stream end_stream fragment.now)) }
     {
         self.unfinished = None;
         if fragment.len() > MAX_BLOCK {
@@ -153,8 +162,10 @@ impl HeaderBlocks {
         end_headers: bool,
         fragment: &[u8],
     ) -> Result<Option<HeaderList>, H2Fault>
-        ensures given { Gives result (given_next self.old.table self.old.unfinished end_headers fragment.now) }
-        ensures kept { OnOk result (self.new ≡ kept_next self.old.table self.old.unfinished end_headers fragment.now) }
+        ensures given { Gives result (given_next self.old.table self.old.unfinished end_headers
+            fragment.now) }
+        ensures kept { OnOk result (self.new
+            ≡ kept_next self.old.table self.old.unfinished end_headers fragment.now) }
     {
         let Some(mut block) = mem::replace(&mut self.unfinished, None) else {
             return Err(OUT_OF_PLACE);
@@ -182,7 +193,8 @@ impl HeaderBlocks {
     ) -> Result<Option<HeaderList>, H2Fault>
         requires { self.old.unfinished ≡ None }
         ensures given { Gives result (list_of stream end_stream (step self.old.table bytes.now).0) }
-        ensures kept { OnOk result (self.new ≡ record { unfinished = None; table = (step self.old.table bytes.now).1 }) }
+        ensures kept { OnOk result (self.new
+            ≡ record { unfinished = None; table = (step self.old.table bytes.now).1 }) }
     {
         let Some(decoder) = &mut self.decoder else {
             return Err(UNDECODABLE);

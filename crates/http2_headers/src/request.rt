@@ -8,7 +8,8 @@ ghost use Rattle.http2_headers.specs.Request.{is_lawful, is_pseudo_field, is_nam
 use crate::field_syntax::{is_request_field, names_pseudo};
 use hpack::HeaderField;
 
-/// Whether a block with these fields is a request. One that is not is malformed (RFC 9113 section 8.1.1).
+/// Whether a block with these fields is a request. One that is not is malformed (RFC 9113 section
+/// 8.1.1).
 pub fn is_well_formed_request(fields: &[HeaderField]) -> bool
     ensures { result ≡ is_well_formed_request fields.now }
 {

@@ -1,5 +1,5 @@
--- What passed on a connection, the oldest first, and what follows from the whole of it. Each notion is a
--- function of the frames that were received and of those that were put.
+-- What passed on a connection, the oldest first, and what follows from the whole of it. Each notion
+-- is a function of the frames that were received and of those that were put.
 use Rattle.std.specs.Prelude.{ℕ, ◌-◌, ◌==◌, nat_lt, max, if◌then◌else◌, Bool, true, false, not, ◌&&◌, ◌||◌, List, [], ◌∷◌, ◌++◌, length, map, filter, fold, sum_by, drop, Option, Some, None, pos, ◌-ℤ◌}
 use Rattle.std.specs.List.{filter_map, list_any}
 use Rattle.std.specs.Option.{option_map_or}
@@ -101,7 +101,8 @@ abbrev pub rising : ℕ → List ℕ → List ℕ
 rising highest [] = []
 rising highest (s ∷ ss) = if nat_lt highest s then s ∷ rising s ss else rising highest ss
 
--- the streams that the client opened, each by a block and each above those before it (section 5.1.1)
+-- the streams that the client opened, each by a block and each above those before it (section
+-- 5.1.1)
 abbrev pub opened : List Entry → List ℕ
 opened d = rising 0 (map stream_of (blocks d))
 
@@ -153,7 +154,8 @@ reset_by _ = None
 abbrev pub last : {A : Type 0} → ℕ → List A → List A
 last n xs = drop (length xs - n) xs
 
--- the last 128 streams that the server reset, on which frames may still be on their way (section 5.4.2)
+-- the last 128 streams that the server reset, on which frames may still be on their way (section
+-- 5.4.2)
 abbrev pub remembered : List Entry → List ℕ
 remembered d = last 128 (filter_map reset_by (sent d))
 

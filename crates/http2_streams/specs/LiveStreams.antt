@@ -1,5 +1,5 @@
--- What the streams are that an event names, and which are live after the frame that brought it (RFC 9113
--- section 5.1).
+-- What the streams are that an event names, and which are live after the frame that brought it (RFC
+-- 9113 section 5.1).
 use Rattle.std.specs.Prelude.{◌≡◌, ◌<◌, ℕ, ◌==◌, if◌then◌else◌, Bool, true, not, List, [], ◌∷◌, ◌++◌, filter, Option, Some, None}
 use Rattle.std.specs.List.{list_any}
 use Rattle.http2_streams.specs.declared.event.Event.{Event}

@@ -1,5 +1,5 @@
--- What a received frame causes, by what the diary comes to. Sections are those of RFC 9113. The tests stand
--- in the order in which they are made.
+-- What a received frame causes, by what the diary comes to. Sections are those of RFC 9113. The
+-- tests stand in the order in which they are made.
 use Rattle.std.specs.Prelude.{ℕ, ◌%◌, ◌^◌, ◌==◌, nat_lt, nat_le, if◌then◌else◌, Bool, true, not, ◌&&◌, ◌||◌, List, [], ◌∷◌, ◌++◌, length, map, Option, Some, None, Result, Ok, Err, pos, ◌+ℤ◌}
 use Rattle.std.specs.List.{list_any}
 use Rattle.std.specs.Option.{option_map_or, option_to_list}
@@ -47,7 +47,8 @@ is_receiving v s = list_any (receives s) v.live
 abbrev pub is_remembered : Standing → ℕ → Bool
 is_remembered v s = list_any (λ t. t == s) v.remembered
 
--- idle (section 5.1): not opened yet, or of the server's numbers, of which it uses none (section 5.1.1)
+-- idle (section 5.1): not opened yet, or of the server's numbers, of which it uses none (section
+-- 5.1.1)
 abbrev pub is_idle : Standing → ℕ → Bool
 is_idle v s = nat_lt v.highest s || (s % 2 == 0 && not (s == 0))
 

@@ -29,8 +29,8 @@ pub enum Event<'a> {
     },
 }
 
-/// What a received frame causes, where it is no fault of the connection: the frames that answer it, to be put
-/// in the order of these fields and before the event is acted on, and the event.
+/// What a received frame causes, where it is no fault of the connection: the frames that answer it,
+/// to be put in the order of these fields and before the event is acted on, and the event.
 #[derive(Drop)]
 pub struct StreamEvent<'a> {
     /// SETTINGS or PING with ACK.

@@ -1,4 +1,5 @@
-//! The streams of an HTTP/2 connection (RFC 9113 sections 5 and 6): what each received frame causes.
+//! The streams of an HTTP/2 connection (RFC 9113 sections 5 and 6): what each received frame
+//! causes.
 #![tactic(auto, using(std::proofs::lemmas::Int::ints))]
 
 mod event;

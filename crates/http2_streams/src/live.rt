@@ -53,7 +53,8 @@ pub(crate) fn end_by_client(live: &mut Vec<Stream>, number: u32)
 }
 
 fn remove_ended_by_server(live: &mut Vec<Stream>, number: u32)
-    ensures list { live.new.items ≡ filter (λ x. not (x.number == number && x.ended_by_server)) live.old.items }
+    ensures list { live.new.items ≡ filter
+        (λ x. not (x.number == number && x.ended_by_server)) live.old.items }
     ensures few { length live.new.items ≤ length live.old.items }
     ensures room { vec_capacity live.new ≡ vec_capacity live.old }
 {
@@ -78,7 +79,8 @@ pub(crate) fn end_by_server(live: &mut Vec<Stream>, number: u32)
 }
 
 fn remove_ended_by_client(live: &mut Vec<Stream>, number: u32)
-    ensures list { live.new.items ≡ filter (λ x. not (x.number == number && x.ended_by_client)) live.old.items }
+    ensures list { live.new.items ≡ filter
+        (λ x. not (x.number == number && x.ended_by_client)) live.old.items }
     ensures few { length live.new.items ≤ length live.old.items }
     ensures room { vec_capacity live.new ≡ vec_capacity live.old }
 {

@@ -54,7 +54,9 @@ impl Model for Streams {
 
     ghost view = { λ s. record { failed = s.failed; begun = s.begun; highest = s.highest; live = s.live.items; remembered = s.remembered.items; initial_window_size = s.initial_window_size; connection_window = s.connection_window; unfinished = s.headers.unfinished; table = s.headers.table } };
 
-    ghost invariant = { λ s. (length s.live.items ≤ 100) × (100 ≤ vec_capacity s.live) × (length s.remembered.items ≤ 128) × (128 ≤ vec_capacity s.remembered) × (s.initial_window_size < 2 ^ 31) };
+    ghost invariant = { λ s. (length s.live.items ≤ 100) × (100 ≤ vec_capacity s.live)
+        × (length s.remembered.items ≤ 128) × (128 ≤ vec_capacity s.remembered)
+        × (s.initial_window_size < 2 ^ 31) };
 }
 
 impl Streams {
@@ -74,11 +76,14 @@ impl Streams {
         })
     }
 
-    /// Takes a frame of the client. What it causes follows from all that passed on the connection before.
+    /// Takes a frame of the client. What it causes follows from all that passed on the connection
+    /// before.
     pub fn on_frame<'a>(&mut self, frame: &'a RawFrame) -> Result<StreamEvent<'a>, H2Fault>
         requires { length frame.now.payload ≤ MAX_FRAME_SIZE }
-        ensures causes { (d : List Entry) → StandsFor self.old d → Gives result (causes d frame.now) }
-        ensures stands { InMemory result ((d : List Entry) → StandsFor self.old d → StandsFor self.new (d ++ entries_of d frame.now)) }
+        ensures causes { (d : List Entry) → StandsFor self.old d →
+            Gives result (causes d frame.now) }
+        ensures stands { InMemory result ((d : List Entry) → StandsFor self.old d →
+            StandsFor self.new (d ++ entries_of d frame.now)) }
 
         // After an error the streams stand as they did, for those who have to end them.
         ensures failed { OnErr result (self.new.failed ≡ true) }
@@ -128,8 +133,8 @@ impl Streams {
         self.connection_window.left()
     }
 
-    /// Whether DATA of so many bytes may be put on the stream: it is live, and both windows allow it (RFC 9113
-    /// section 6.9.1).
+    /// Whether DATA of so many bytes may be put on the stream: it is live, and both windows allow
+    /// it (RFC 9113 section 6.9.1).
     pub fn can_send(&self, stream: u32, count: u32) -> bool
         ensures { IsTrue result ↔ CanSend self.now stream count }
     {
@@ -141,7 +146,9 @@ impl Streams {
     /// DATA of so many bytes was put.
     pub fn on_data_put(&mut self, stream: u32, count: u32, end_stream: bool)
         requires { CanSend self.old stream count }
-        ensures stands { (d : List Entry) (content : List ℕ) → length content ≡ count → StandsFor self.old d → StandsFor self.new (d ++ Out (Data stream end_stream content) ∷ []) }
+        ensures stands { (d : List Entry) (content : List ℕ) → length content ≡ count →
+            StandsFor self.old d →
+            StandsFor self.new (d ++ Out (Data stream end_stream content) ∷ []) }
         ensures highest { self.new.highest ≡ self.old.highest }
     {
         self.put_data(stream, count, end_stream);
@@ -150,7 +157,9 @@ impl Streams {
     /// HEADERS was put: a response's header list or, with END_STREAM, its end.
     pub fn on_headers_put(&mut self, stream: u32, end_stream: bool)
         requires { is_live_at self.old stream ≡ true }
-        ensures stands { (d : List Entry) (end_headers : Bool) (fragment : List ℕ) → StandsFor self.old d → StandsFor self.new (d ++ Out (Headers stream end_stream end_headers fragment) ∷ []) }
+        ensures stands { (d : List Entry) (end_headers : Bool) (fragment : List ℕ) →
+            StandsFor self.old d →
+            StandsFor self.new (d ++ Out (Headers stream end_stream end_headers fragment) ∷ []) }
         ensures highest { self.new.highest ≡ self.old.highest }
     {
         self.end_by_server(stream, end_stream);
@@ -159,15 +168,16 @@ impl Streams {
     /// RST_STREAM was put, beside those that answer frames. The stream is remembered.
     pub fn on_reset_put(&mut self, stream: u32)
         requires { stream ≤ self.old.highest }
-        ensures stands { (d : List Entry) (code : ℕ) → StandsFor self.old d → StandsFor self.new (d ++ Out (RstStream stream code) ∷ []) }
+        ensures stands { (d : List Entry) (code : ℕ) → StandsFor self.old d →
+            StandsFor self.new (d ++ Out (RstStream stream code) ∷ []) }
         ensures highest { self.new.highest ≡ self.old.highest }
     {
         self.reset(stream);
     }
 
-    /// GOAWAY was put for a reason of the caller's own, as where the frames of a [`StreamEvent`] found no room.
-    /// Of such an event a `Cancel` still has to be acted on, beside the end of each live stream, since its stream
-    /// is not live any more; nothing else of it has.
+    /// GOAWAY was put for a reason of the caller's own, as where the frames of a [`StreamEvent`]
+    /// found no room. Of such an event a `Cancel` still has to be acted on, beside the end of each
+    /// live stream, since its stream is not live any more; nothing else of it has.
     pub fn fail(&mut self)
         ensures stands { (d : List Entry) → has_failed d ≡ true → StandsFor self.new d }
         ensures rest { self.new ≡ record self.old { failed = true } }
@@ -216,7 +226,8 @@ impl Streams {
         }
     }
 
-    /// Whether the frame may stand here: first the preface's SETTINGS, and a header block without a gap.
+    /// Whether the frame may stand here: first the preface's SETTINGS, and a header block without a
+    /// gap.
     fn is_in_turn(&self, frame: &RawFrame) -> bool
         ensures { result ≡ in_turn self.now frame.now }
     {
@@ -232,7 +243,8 @@ impl Streams {
     fn on_content<'a>(&mut self, length: u32, frame: Frame<'a>) -> Result<StreamEvent<'a>, H2Fault>
         requires { length < 2 ^ 31 }
         ensures answer { Gives result (on_content self.old length frame.entry) }
-        ensures state { IfOk result (λ a. self.new ≡ answered a (frame_taken self.old frame.entry)) }
+        ensures state { IfOk result (λ a. self.new
+            ≡ answered a (frame_taken self.old frame.entry)) }
         ensures live { OnErr result (self.new.live ≡ self.old.live) }
         ensures highest { OnErr result (self.new.highest ≡ self.old.highest) }
     {
@@ -312,7 +324,8 @@ impl Streams {
         content: Octets<'a>,
     ) -> Result<StreamEvent<'a>, H2Fault>
         ensures answer { Gives result (on_data self.old length stream end_stream content.entry) }
-        ensures state { IfOk result (λ a. self.new ≡ answered a (client_ends self.old stream end_stream)) }
+        ensures state { IfOk result (λ a. self.new
+            ≡ answered a (client_ends self.old stream end_stream)) }
         ensures err { OnErr result (self.new ≡ self.old) }
     {
         if self.is_idle(stream) {
@@ -360,8 +373,13 @@ impl Streams {
         end_headers: bool,
         fragment: &[u8],
     ) -> Result<StreamEvent<'a>, H2Fault>
-        ensures answer { Gives result (on_given self.old (given self.old.table end_headers (begun stream end_stream fragment.now))) }
-        ensures state { IfOk result (λ a. self.new ≡ answered a (block_taken (with_headers self.old (kept self.old.table end_headers (begun stream end_stream fragment.now))) (given self.old.table end_headers (begun stream end_stream fragment.now)))) }
+        ensures answer { Gives result (on_given self.old
+            (given self.old.table end_headers (begun stream end_stream fragment.now))) }
+        ensures state { IfOk result (λ a. self.new
+            ≡ answered a (block_taken
+            (with_headers self.old
+            (kept self.old.table end_headers (begun stream end_stream fragment.now)))
+            (given self.old.table end_headers (begun stream end_stream fragment.now)))) }
         ensures live { OnErr result (self.new.live ≡ self.old.live) }
         ensures highest { OnErr result (self.new.highest ≡ self.old.highest) }
     {
@@ -379,8 +397,13 @@ impl Streams {
         end_headers: bool,
         fragment: &[u8],
     ) -> Result<StreamEvent<'a>, H2Fault>
-        ensures answer { Gives result (on_given self.old (given_next self.old.table self.old.unfinished end_headers fragment.now)) }
-        ensures state { IfOk result (λ a. self.new ≡ answered a (block_taken (with_headers self.old (kept_next self.old.table self.old.unfinished end_headers fragment.now)) (given_next self.old.table self.old.unfinished end_headers fragment.now))) }
+        ensures answer { Gives result (on_given self.old
+            (given_next self.old.table self.old.unfinished end_headers fragment.now)) }
+        ensures state { IfOk result (λ a. self.new
+            ≡ answered a (block_taken
+            (with_headers self.old
+            (kept_next self.old.table self.old.unfinished end_headers fragment.now))
+            (given_next self.old.table self.old.unfinished end_headers fragment.now))) }
         ensures live { OnErr result (self.new.live ≡ self.old.live) }
         ensures highest { OnErr result (self.new.highest ≡ self.old.highest) }
     {
@@ -393,7 +416,8 @@ impl Streams {
     /// Takes a whole header block, which was decoded whatever becomes of its stream.
     fn on_block<'a>(&mut self, block: HeaderList) -> Result<StreamEvent<'a>, H2Fault>
         ensures answer { Gives result (on_block self.old block) }
-        ensures state { IfOk result (λ a. self.new ≡ answered a (block_in self.old block.stream block.end_stream)) }
+        ensures state { IfOk result (λ a. self.new
+            ≡ answered a (block_in self.old block.stream block.end_stream)) }
         ensures live { OnErr result (self.new.live ≡ self.old.live) }
         ensures highest { OnErr result (self.new.highest ≡ self.old.highest) }
     {
@@ -416,7 +440,8 @@ impl Streams {
     fn on_request<'a>(&mut self, block: HeaderList) -> StreamEvent<'a>
         requires { self.old.highest < block.stream }
         ensures answer { result ≡ on_request self.old block }
-        ensures state { self.new ≡ answered result (block_in self.old block.stream block.end_stream) }
+        ensures state { self.new ≡ answered result
+            (block_in self.old block.stream block.end_stream) }
     {
         let HeaderList {
             stream,
@@ -441,7 +466,8 @@ impl Streams {
     /// Adds a live stream.
     fn open(&mut self, stream: u32, end_stream: bool)
         requires { length self.old.live < 100 }
-        ensures { self.new ≡ with_live self.old (self.old.live ++ fresh self.old.initial_window_size stream end_stream ∷ []) }
+        ensures { self.new ≡ with_live self.old
+            (self.old.live ++ fresh self.old.initial_window_size stream end_stream ∷ []) }
     {
         let window = Window::new(self.initial_window_size);
         self.live
@@ -468,7 +494,8 @@ impl Streams {
 
     fn on_reset<'a>(&mut self, stream: u32) -> Result<StreamEvent<'a>, H2Fault>
         ensures answer { Gives result (on_reset self.old stream) }
-        ensures state { IfOk result (λ a. self.new ≡ answered a (with_live self.old (without stream self.old.live))) }
+        ensures state { IfOk result (λ a. self.new
+            ≡ answered a (with_live self.old (without stream self.old.live))) }
         ensures err { OnErr result (self.new ≡ self.old) }
     {
         if self.is_idle(stream) {
@@ -485,7 +512,8 @@ impl Streams {
         settings: SettingsList<'a>,
     ) -> Result<StreamEvent<'a>, H2Fault>
         ensures answer { Gives result (on_settings self.old ack settings.entry) }
-        ensures state { IfOk result (λ a. self.new ≡ answered a (if ack then self.old else settings_in self.old settings.entry)) }
+        ensures state { IfOk result (λ a. self.new
+            ≡ answered a (if ack then self.old else settings_in self.old settings.entry)) }
         ensures err { OnErr result (self.new ≡ self.old) }
     {
         if ack {
@@ -515,8 +543,10 @@ impl Streams {
         stream: u32,
         increment: u32,
     ) -> Result<StreamEvent<'a>, H2Fault>
-        ensures answer { Gives result (if stream == 0 then on_connection_update self.old increment else on_stream_update self.old stream increment) }
-        ensures state { IfOk result (λ a. self.new ≡ answered a (update_in self.old stream increment)) }
+        ensures answer { Gives result (if stream == 0 then on_connection_update self.old increment
+            else on_stream_update self.old stream increment) }
+        ensures state { IfOk result (λ a. self.new
+            ≡ answered a (update_in self.old stream increment)) }
         ensures err { OnErr result (self.new ≡ self.old) }
     {
         if stream == 0 {
@@ -639,7 +669,8 @@ fn read_settings(live: &[Stream], mut settings: SettingsList<'_>) -> Result<Opti
     ensures fault { IfErr result (λ code. settings_fault live.now settings.entry ≡ Some code) }
     ensures faultless { OnOk result (settings_fault live.now settings.entry ≡ None) }
     ensures size { IfOk result (λ size. size ≡ fold size_in None settings.entry) }
-    ensures fits { IfOk result (λ size. IfSome size (λ n. (n < 2 ^ 31) × (list_any (is_above n) live.now ≡ false))) }
+    ensures fits { IfOk result (λ size. IfSome size
+        (λ n. (n < 2 ^ 31) × (list_any (is_above n) live.now ≡ false))) }
 {
     let mut size = None;
     while let Some(setting) = settings.pop_first() {

@@ -1,4 +1,5 @@
--- The directories of a tree, as GetTree lists them (remote_execution.proto, ContentAddressableStorage).
+-- The directories of a tree, as GetTree lists them (remote_execution.proto,
+-- ContentAddressableStorage).
 use Rattle.std.specs.Prelude.{◌≡◌, true, ℕ, ◌+◌, zero, suc, List, [], ◌∷◌, ◌++◌, Option, Some, None, Result, Ok, Err, is_some, slice_get, unwrap_or, if◌then◌else◌}
 use Rattle.std.specs.List.{list_any}
 use Rattle.std.specs.Option.{option_map_or}
@@ -41,7 +42,8 @@ abbrev pub listed_from : ℕ → Lookup → Digest → Option (List ℕ) → Res
 listed_from most look root None = Err NotFound
 listed_from most look root (Some text) = if is_some (children_in text) then listed_along most look (root ∷ []) 0 else Err BadDirectory
 
--- the list begins with the root; going along it, each directory that a listed one has goes last, unless it is listed
+-- the list begins with the root; going along it, each directory that a listed one has goes last,
+-- unless it is listed
 abbrev pub tree_list : Lookup → Digest → Result (List Digest) GetTreeError
 tree_list look root = listed_from 10000 look root (look root)
 

@@ -52,7 +52,8 @@ pub fn check(directory: &Directory<'_>) -> bool
 
 /// The digests that directory nodes write, in order.
 fn digests_of(alloc: Global, nodes: &[DirectoryNode<'_>]) -> Result<Vec<Digest>, AllocError>
-    ensures { IfOk result (λ digests. digests.items ≡ filter_map child_digest (map directory_node_shown nodes.now)) }
+    ensures { IfOk result (λ digests. digests.items
+        ≡ filter_map child_digest (map directory_node_shown nodes.now)) }
 {
     let mut digests = Vec::new(alloc);
     let mut left = nodes;
@@ -68,7 +69,8 @@ fn digests_of(alloc: Global, nodes: &[DirectoryNode<'_>]) -> Result<Vec<Digest>,
 /// The digests of the directories in the directory that a text spells, or `None` where it spells
 /// none that is taken.
 pub fn children_in(alloc: Global, text: &[u8]) -> Result<Option<Vec<Digest>>, AllocError>
-    ensures { IfOk result (λ found. option_map (λ digests. digests.items) found ≡ children_in text.now) }
+    ensures { IfOk result (λ found. option_map (λ digests. digests.items) found
+        ≡ children_in text.now) }
 {
     if text.len() > MOST_DIRECTORY_BYTES {
         return Ok(None);
@@ -83,7 +85,8 @@ pub fn children_in(alloc: Global, text: &[u8]) -> Result<Option<Vec<Digest>>, Al
 /// The same for a text that a pool holds, whose length is looked at before its bytes.
 fn children_held(alloc: Global, pool: &Pool, hold: &Hold) -> Result<Option<Vec<Digest>>, AllocError>
     requires { 0 < count_at pool.now hold.now }
-    ensures { IfOk result (λ found. option_map (λ digests. digests.items) found ≡ children_in (text_at pool.now hold.now)) }
+    ensures { IfOk result (λ found. option_map (λ digests. digests.items) found
+        ≡ children_in (text_at pool.now hold.now)) }
 {
     if pool.length(hold) > MOST_DIRECTORY_BYTES as u64 {
         return Ok(None);
@@ -96,7 +99,8 @@ fn children_held(alloc: Global, pool: &Pool, hold: &Hold) -> Result<Option<Vec<D
 /// The same for a text that an instance has.
 fn children_seen(alloc: Global, pool: &Pool, seen: Seen) -> Result<Option<Vec<Digest>>, AllocError>
     requires { (k : ℕ) → holders_seen seen k ≤ count_at pool.now k }
-    ensures { IfOk result (λ found. option_map (λ digests. digests.items) found ≡ children_in (text_seen pool.now seen)) }
+    ensures { IfOk result (λ found. option_map (λ digests. digests.items) found
+        ≡ children_in (text_seen pool.now seen)) }
 {
     match seen {
         Seen::Empty => children_in(alloc, &[]),
@@ -118,7 +122,8 @@ pub fn children(
     digest: &Digest,
 ) -> Result<Option<Vec<Digest>>, AllocError>
     requires { (k : ℕ) → holders view.now k ≤ count_at pool.now k }
-    ensures { IfOk result (λ found. option_map (λ digests. digests.items) found ≡ children (texts_of pool.now view.now) digest.now) }
+    ensures { IfOk result (λ found. option_map (λ digests. digests.items) found
+        ≡ children (texts_of pool.now view.now) digest.now) }
 {
     match view.get(digest) {
         None => Ok(None),
@@ -149,7 +154,8 @@ pub fn text_or_none(
     digest: &Digest,
 ) -> Result<Vec<u8>, AllocError>
     requires { (k : ℕ) → holders view.now k ≤ count_at pool.now k }
-    ensures { IfOk result (λ text. text.items ≡ text_or_none (texts_of pool.now view.now) digest.now) }
+    ensures { IfOk result (λ text. text.items
+        ≡ text_or_none (texts_of pool.now view.now) digest.now) }
 {
     match view.get(digest) {
         None => Ok(Vec::new(alloc)),

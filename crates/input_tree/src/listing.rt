@@ -35,7 +35,8 @@ fn list_one(
 ) -> Result<(), AllocError>
     requires held { (k : ℕ) → holders view.now k ≤ count_at pool.now k }
     requires others { AreNone (texts_of pool.now view.now) listing.old.others.keys }
-    ensures listed { OnOk result (listing.new.listed.keys ≡ with_listed (texts_of pool.now view.now) listing.old.listed.keys digest.now) }
+    ensures listed { OnOk result (listing.new.listed.keys
+        ≡ with_listed (texts_of pool.now view.now) listing.old.listed.keys digest.now) }
     ensures others { OnOk result (AreNone (texts_of pool.now view.now) listing.new.others.keys) }
 {
     if listing.listed.contains(digest) || listing.others.contains(digest) {
@@ -59,7 +60,8 @@ fn list_each(
 ) -> Result<(), AllocError>
     requires held { (k : ℕ) → holders view.now k ≤ count_at pool.now k }
     requires others { AreNone (texts_of pool.now view.now) listing.old.others.keys }
-    ensures listed { OnOk result (listing.new.listed.keys ≡ with_all_listed (texts_of pool.now view.now) listing.old.listed.keys digests.now) }
+    ensures listed { OnOk result (listing.new.listed.keys
+        ≡ with_all_listed (texts_of pool.now view.now) listing.old.listed.keys digests.now) }
     ensures others { OnOk result (AreNone (texts_of pool.now view.now) listing.new.others.keys) }
 {
     let mut left = digests;
@@ -80,7 +82,8 @@ fn list_children(
 ) -> Result<(), AllocError>
     requires held { (k : ℕ) → holders view.now k ≤ count_at pool.now k }
     requires others { AreNone (texts_of pool.now view.now) listing.old.others.keys }
-    ensures listed { OnOk result (listing.new.listed.keys ≡ with_children (texts_of pool.now view.now) listing.old.listed.keys digest.now) }
+    ensures listed { OnOk result (listing.new.listed.keys
+        ≡ with_children (texts_of pool.now view.now) listing.old.listed.keys digest.now) }
     ensures others { OnOk result (AreNone (texts_of pool.now view.now) listing.new.others.keys) }
 {
     match children(alloc, view, pool, digest)? {
@@ -99,8 +102,10 @@ fn list_along(
 ) -> Result<(), GetTreeError>
     requires held { (k : ℕ) → holders view.now k ≤ count_at pool.now k }
     requires others { AreNone (texts_of pool.now view.now) listing.old.others.keys }
-    ensures ok { OnOk result (listed_along 10000 (texts_of pool.now view.now) listing.old.listed.keys 0 ≡ Ok listing.new.listed.keys) }
-    ensures err { IfErr result (λ e. Fails e (listed_along 10000 (texts_of pool.now view.now) listing.old.listed.keys 0)) }
+    ensures ok { OnOk result (listed_along 10000
+        (texts_of pool.now view.now) listing.old.listed.keys 0 ≡ Ok listing.new.listed.keys) }
+    ensures err { IfErr result (λ e. Fails e
+        (listed_along 10000 (texts_of pool.now view.now) listing.old.listed.keys 0)) }
 {
     let mut place = 0;
     'directories: while let Some(directory) = listing.listed.get_index(place) {

@@ -48,7 +48,8 @@ pub fn are_rising<N: Node>(nodes: &[N]) -> bool
 
 /// The nodes from the first on whose name does not precede a name.
 fn from_name<'a, N: Node>(nodes: &'a [N], name: &str) -> &'a [N]
-    ensures { map N.name_of (map N.shown result.now) ≡ from_name name.now (map N.name_of (map N.shown nodes.now)) }
+    ensures { map N.name_of (map N.shown result.now)
+        ≡ from_name name.now (map N.name_of (map N.shown nodes.now)) }
 {
     let mut left = nodes;
     'nodes: while let [first, rest @ ..] = left {
@@ -76,7 +77,8 @@ fn begin_with<N: Node>(nodes: &[N], name: &str) -> bool
 
 /// Whether no name is met while both lists are gone along.
 fn never_meet<M: Node, N: Node>(some: &[M], others: &[N]) -> bool
-    ensures { result ≡ never_meet (map M.name_of (map M.shown some.now)) (map N.name_of (map N.shown others.now)) }
+    ensures { result ≡ never_meet (map M.name_of (map M.shown some.now))
+        (map N.name_of (map N.shown others.now)) }
 {
     let mut left = some;
     let mut right = others;
@@ -94,7 +96,8 @@ fn never_meet<M: Node, N: Node>(some: &[M], others: &[N]) -> bool
 pub fn are_apart<M: Node, N: Node>(some: &[M], others: &[N]) -> bool
     requires some { are_rising (map M.name_of (map M.shown some.now)) ≡ true }
     requires others { are_rising (map N.name_of (map N.shown others.now)) ≡ true }
-    ensures { result ≡ are_apart (map M.name_of (map M.shown some.now)) (map N.name_of (map N.shown others.now)) }
+    ensures { result ≡ are_apart (map M.name_of (map M.shown some.now))
+        (map N.name_of (map N.shown others.now)) }
 {
     never_meet(some, others)
 }

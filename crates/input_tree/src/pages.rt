@@ -15,7 +15,8 @@ pub const MOST_PAGE_BYTES: usize = 4_000_000;
 /// The most directories of a page.
 pub const MOST_PAGE_DIRECTORIES: usize = 1_000;
 
-/// How many directories a request wants on a page at most, or `None` where it says a negative number.
+/// How many directories a request wants on a page at most, or `None` where it says a negative
+/// number.
 pub fn size_asked(page_size: i32) -> Option<usize>
     ensures { result ≡ size_asked page_size }
 {
@@ -58,7 +59,12 @@ fn response(
     directories: Vec<&[u8]>,
     next_page_token: &str,
 ) -> Result<Vec<u8>, AllocError>
-    ensures { IfOk result (λ message. message.items ≡ page_text (record { directories = map (λ b. b.now) directories.entry.items; next_page_token = next_page_token.now })) }
+    ensures { IfOk result (λ message. message.items
+        ≡ page_text (record {
+          directories = map
+              (λ b. b.now) directories.entry.items;
+          next_page_token = next_page_token.now;
+        })) }
 {
     let response = GetTreeResponse {
         directories,
@@ -75,7 +81,12 @@ fn response_before(
     directories: Vec<&[u8]>,
     place: usize,
 ) -> Result<Vec<u8>, AllocError>
-    ensures { IfOk result (λ message. message.items ≡ page_text (record { directories = map (λ b. b.now) directories.entry.items; next_page_token = decimal place })) }
+    ensures { IfOk result (λ message. message.items
+        ≡ page_text (record {
+          directories = map
+              (λ b. b.now) directories.entry.items;
+          next_page_token = decimal place;
+        })) }
 {
     let token = place.to_string(alloc)?;
     response(alloc, directories, &token)
@@ -105,8 +116,11 @@ fn page_for<'a>(
     goes_on: bool,
     place: usize,
 ) -> Result<Vec<&'a [u8]>, AllocError>
-    ensures pages { OnOk result (map (λ p. p.items) pages.new.items ≡ map (λ p. p.items) pages.old.items ++ page_before goes_on place (map (λ b. b.now) page.entry.items)) }
-    ensures page { IfOk result (λ next. map (λ b. b.now) next.items ≡ page_from goes_on (map (λ b. b.now) page.entry.items)) }
+    ensures pages { OnOk result (map (λ p. p.items) pages.new.items
+        ≡ map (λ p. p.items) pages.old.items
+        ++ page_before goes_on place (map (λ b. b.now) page.entry.items)) }
+    ensures page { IfOk result (λ next. map (λ b. b.now) next.items
+        ≡ page_from goes_on (map (λ b. b.now) page.entry.items)) }
 {
     if goes_on {
         return Ok(page);
@@ -124,7 +138,8 @@ pub fn pages(
     place: usize,
 ) -> Result<Vec<Vec<u8>>, AllocError>
     requires { place + length directories.now < 2 ^ 64 }
-    ensures { IfOk result (λ pages. map (λ page. page.items) pages.items ≡ pages_along size place [] (map (λ t. t.items) directories.now)) }
+    ensures { IfOk result (λ pages. map (λ page. page.items) pages.items
+        ≡ pages_along size place [] (map (λ t. t.items) directories.now)) }
 {
     let mut pages = Vec::new(alloc);
     let mut page = Vec::new(alloc);

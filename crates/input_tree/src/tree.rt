@@ -27,7 +27,8 @@ fn copies(
     digests: &[Digest],
 ) -> Result<Vec<Vec<u8>>, AllocError>
     requires { (k : ℕ) → holders view.now k ≤ count_at pool.now k }
-    ensures { IfOk result (λ copies. map (λ t. t.items) copies.items ≡ texts (texts_of pool.now view.now) digests.now) }
+    ensures { IfOk result (λ copies. map (λ t. t.items) copies.items
+        ≡ texts (texts_of pool.now view.now) digests.now) }
 {
     let mut copies = Vec::new(alloc);
     let mut left = digests;
@@ -49,7 +50,8 @@ fn responses(
 ) -> Result<Vec<Vec<u8>>, GetTreeError>
     requires held { (k : ℕ) → holders view.now k ≤ count_at pool.now k }
     requires short { length listed.now < 2 ^ 63 }
-    ensures { Answers (λ pages. map (λ page. page.items) pages.items) result (pages_of (texts_of pool.now view.now) page_size page_token.now listed.now) }
+    ensures { Answers (λ pages. map (λ page. page.items) pages.items) result
+        (pages_of (texts_of pool.now view.now) page_size page_token.now listed.now) }
 {
     let (Some(size), Some(place)) = (size_asked(page_size), place_asked(page_token, listed.len()))
     else {
@@ -77,8 +79,11 @@ pub fn get_tree(
     page_token: &str,
 ) -> Result<Vec<Vec<u8>>, GetTreeError>
     requires held { (k : ℕ) → holders view.old k ≤ count_at pool.now k }
-    ensures pages { Answers (λ pages. map (λ page. page.items) pages.items) result (get_tree_reply (texts_of pool.now view.old) root.now page_size page_token.now) }
-    ensures used { (p : Slots) → OnOk result (shown p view.new ≡ all_used (digests_of (tree_list (texts_of pool.now view.old) root.now)) (shown p view.old)) }
+    ensures pages { Answers (λ pages. map (λ page. page.items) pages.items) result
+        (get_tree_reply (texts_of pool.now view.old) root.now page_size page_token.now) }
+    ensures used { (p : Slots) → OnOk result
+        (shown p view.new ≡ all_used (digests_of (tree_list (texts_of pool.now view.old) root.now))
+        (shown p view.old)) }
     ensures err { OnErr result (view.new ≡ view.old) }
     ensures holders { (k : ℕ) → holders view.new k ≡ holders view.old k }
     ensures limit { view.new.limit ≡ view.old.limit }

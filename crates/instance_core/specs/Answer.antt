@@ -1,12 +1,13 @@
--- What an instance answers to an event of a call. A Write is answered as soon as its upload is complete; each other
--- method takes one message, and is answered at the end of its request. What comes for a call that is not in course is
--- dropped: it was answered before, or given up.
--- To be read from the last definitions up: `answer` has a case for each event. A call is named by the numbers of its
--- connection and of its stream (`CallId`). `items_to` is what a method sends for its one message, and `text_changes`
--- what it does to the instance's texts (Methods.antt); `first_outcome` and `next_outcome` are what the messages of a
--- Write are answered (Writes.antt). A change is `Text`, a use or an admission of a text, `Wrote`, the texts and uploads
--- that a message of a Write leaves, `Goes`, a call begins or goes on, `Ends`, a call ends, or `Expires`, old uploads are
--- forgotten (Changes.antt).
+-- What an instance answers to an event of a call. A Write is answered as soon as its upload is
+-- complete; each other method takes one message, and is answered at the end of its request. What
+-- comes for a call that is not in course is dropped: it was answered before, or given up. To be
+-- read from the last definitions up: `answer` has a case for each event. A call is named by the
+-- numbers of its connection and of its stream (`CallId`). `items_to` is what a method sends for its
+-- one message, and `text_changes` what it does to the instance's texts (Methods.antt);
+-- `first_outcome` and `next_outcome` are what the messages of a Write are answered (Writes.antt). A
+-- change is `Text`, a use or an admission of a text, `Wrote`, the texts and uploads that a message
+-- of a Write leaves, `Goes`, a call begins or goes on, `Ends`, a call ends, or `Expires`, old
+-- uploads are forgotten (Changes.antt).
 use Rattle.std.specs.Prelude.{ℕ, List, [], ◌∷◌, ◌++◌, map, Option, Some, None, Result, Ok, Err, if◌then◌else◌}
 use Rattle.rpc.specs.declared.method.Method.{Method}
 use Rattle.rpc.specs.declared.method.Method.TheVariants as Called
@@ -41,7 +42,8 @@ goes_on id call = record { replies = []; changes = Goes id call ∷ [] }
 abbrev pub ended : CallId → Result (List ℕ) Refusal → Answer
 ended id outcome = record { replies = reply_with id outcome; changes = Ends id ∷ [] }
 
--- a call of a method that is not served is answered at once; a call that is in course does not begin again
+-- a call of a method that is not served is answered at once; a call that is in course does not
+-- begin again
 abbrev pub at_head : CallId → Method → Option CallValue → Answer
 at_head id method (Some call) = nothing
 at_head id method None = if is_served method then goes_on id (record { method = method; progress = waits }) else record { replies = reply_with id (Err UnknownMethod); changes = [] }

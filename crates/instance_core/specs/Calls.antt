@@ -39,8 +39,8 @@ with_call id call (c ∷ cs) = if same_call id c.0 then (c.0, call) ∷ cs else 
 abbrev pub without_call : CallId → Calls → Calls
 without_call id calls = remove_entry (same_call id) calls
 
--- what happens to a call: it begins, a whole message of its request comes, its data are no messages, its request
--- ends, or it is given up; and time passes
+-- what happens to a call: it begins, a whole message of its request comes, its data are no
+-- messages, its request ends, or it is given up; and time passes
 pub data CallEventValue : Type 0 where
   head : CallId → Method → CallEventValue
   message : CallId → List ℕ → CallEventValue
@@ -57,8 +57,8 @@ abbrev pub IsShortEvent : CallEventValue → Type 0
 IsShortEvent (message id bytes) = IsShortRequest bytes
 IsShortEvent _ = Unit {0}
 
--- no message that is kept is longer, and the size of an upload that is written can be told (bytestream.proto,
--- committed_size)
+-- no message that is kept is longer, and the size of an upload that is written can be told
+-- (bytestream.proto, committed_size)
 abbrev pub IsShortProgress : ProgressValue → Type 0
 IsShortProgress waits = Unit {0}
 IsShortProgress (has bytes) = IsShortRequest bytes

@@ -14,8 +14,8 @@ version = record { major = pos 2; minor = pos 0 }
 abbrev pub updates : ActionCacheUpdateCapabilitiesValue
 updates = record { update_enabled = true }
 
--- digests are SHA-256 (DigestFunction.Value 1), a batch has at most 4,000,000 bytes, absolute targets of symbolic
--- links are DISALLOWED (SymlinkAbsolutePathStrategy.Value 1)
+-- digests are SHA-256 (DigestFunction.Value 1), a batch has at most 4,000,000 bytes, absolute
+-- targets of symbolic links are DISALLOWED (SymlinkAbsolutePathStrategy.Value 1)
 abbrev pub cache : CacheCapabilitiesValue
 cache = record { digest_functions = pos 1 ∷ []; action_cache_update_capabilities = Some updates; max_batch_total_size_bytes = pos 4000000; symlink_absolute_path_strategy = pos 1 }
 

@@ -1,4 +1,5 @@
--- What each method but Write answers to the one message of its request, and what it does to the texts.
+-- What each method but Write answers to the one message of its request, and what it does to the
+-- texts.
 use Rattle.std.specs.Prelude.{ℕ, Bool, true, false, List, [], ◌∷◌, Result, Ok, Err}
 use Rattle.rpc.specs.declared.method.Method.{Method}
 use Rattle.rpc.specs.declared.method.Method.TheVariants.{FindMissingBlobs, BatchUpdateBlobs, BatchReadBlobs, GetCapabilities, Read, Write, QueryWriteStatus}

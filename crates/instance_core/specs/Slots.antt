@@ -1,5 +1,5 @@
--- What an instance keeps of its own: of each text its digest, and the slot where a pool that it shares with other
--- instances has the text.
+-- What an instance keeps of its own: of each text its digest, and the slot where a pool that it
+-- shares with other instances has the text.
 use Rattle.std.specs.Prelude.{ℕ, List}
 use Rattle.blob_pool.specs.Held.{Slots}
 use Rattle.blob_pool.specs.Moves.{Holders, AreHeld}

@@ -1,5 +1,6 @@
--- An instance: its name, its quota in bytes, how many actions it may run at once, the moment of what happens to it in
--- milliseconds, its texts (the most recently used first), its unfinished uploads and its calls in course.
+-- An instance: its name, its quota in bytes, how many actions it may run at once, the moment of
+-- what happens to it in milliseconds, its texts (the most recently used first), its unfinished
+-- uploads and its calls in course.
 use Rattle.std.specs.Prelude.{ℕ, ◌≤◌, ◌^◌, List, []}
 use Rattle.std.specs.List.{IsDistinct}
 use Rattle.std.specs.Map.{keys_of}

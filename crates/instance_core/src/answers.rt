@@ -49,7 +49,8 @@ pub fn on_head(
     Ok(Vec::new(alloc))
 }
 
-/// A whole message of a request comes: that of a `Write` is carried out, the first of another method is kept.
+/// A whole message of a request comes: that of a `Write` is carried out, the first of another
+/// method is kept.
 pub fn on_message(
     alloc: Global,
     settings: &Settings,

@@ -28,8 +28,8 @@ pub enum CallEvent {
     Tick,
 }
 
-/// A range of a blob: its bytes from one place until before another, of which there is one at least. It is a holder of
-/// the blob's text in the pool, until the text is released.
+/// A range of a blob: its bytes from one place until before another, of which there is one at
+/// least. It is a holder of the blob's text in the pool, until the text is released.
 #[derive(Clone, Copy)]
 pub struct GivenRange {
     pub digest: Digest,

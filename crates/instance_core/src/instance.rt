@@ -90,10 +90,10 @@ impl Instance {
         self.moment = moment;
     }
 
-    /// Carries out an event of a call, and gives the replies that it brings. An event of a call that is not in course,
-    /// or no more, brings none. One that ends for want of memory may have made the first of its changes. Other holders
-    /// of the pool find their texts as before. The text of each range that is given is held: whoever takes the range
-    /// releases it.
+    /// Carries out an event of a call, and gives the replies that it brings. An event of a call
+    /// that is not in course, or no more, brings none. One that ends for want of memory may have
+    /// made the first of its changes. Other holders of the pool find their texts as before. The
+    /// text of each range that is given is held: whoever takes the range releases it.
     pub fn call_event(
         &mut self,
         alloc: Global,
@@ -148,8 +148,8 @@ impl Instance {
         }
     }
 
-    /// Time passes: uploads whose last write is 600,000 or more milliseconds old are forgotten. This brings no reply,
-    /// takes no memory, and is the same over every pool.
+    /// Time passes: uploads whose last write is 600,000 or more milliseconds old are forgotten.
+    /// This brings no reply, takes no memory, and is the same over every pool.
     pub fn tick(&mut self)
         ensures replies { (p : Slots) → (answer (state_in p self.old) tick).replies ≡ [] }
         ensures changed { (p : Slots) → state_in p self.new ≡ after (state_in p self.old) tick }
@@ -161,8 +161,8 @@ impl Instance {
         self.contents.uploads.expire(self.moment);
     }
 
-    /// Nobody waits for the call any more: it ends without a reply. This takes no memory, and is the same over every
-    /// pool.
+    /// Nobody waits for the call any more: it ends without a reply. This takes no memory, and is
+    /// the same over every pool.
     pub fn cancel(&mut self, call: CallId)
         ensures replies { (p : Slots) → (answer (state_in p self.old) (cancel call)).replies ≡ [] }
         ensures changed { (p : Slots) →

@@ -148,7 +148,8 @@ fn answer_by_message(
     }
 }
 
-/// Answers a call by the one message of its request. The texts of the ranges that it gives are held.
+/// Answers a call by the one message of its request. The texts of the ranges that it gives are
+/// held.
 pub fn answer_request(
     alloc: Global,
     settings: &Settings,

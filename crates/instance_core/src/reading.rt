@@ -21,7 +21,8 @@ use bytestream::{Source, read};
 use instance_view::{Seen, View};
 use std::alloc::{AllocError, Global};
 
-/// Gives a range that is held. Where it has no bytes, or the reply is refused for want of memory, its text is released.
+/// Gives a range that is held. Where it has no bytes, or the reply is refused for want of memory,
+/// its text is released.
 fn give(
     alloc: Global,
     pool: &mut Pool,
@@ -56,8 +57,8 @@ fn give(
     }
 }
 
-/// Answers a `Read` of the instance `own`: the range that it asks for, or a refusal. The blob is used. For want of
-/// memory it may have been used too.
+/// Answers a `Read` of the instance `own`: the range that it asks for, or a refusal. The blob is
+/// used. For want of memory it may have been used too.
 pub fn answer_read(
     alloc: Global,
     own: &str,

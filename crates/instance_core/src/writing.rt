@@ -48,8 +48,8 @@ pub fn finish(
     Ok(replies)
 }
 
-/// Does to a call what the first message of a `Write` was answered: the call goes on, or is answered and ends. Memory
-/// that had run out is passed on.
+/// Does to a call what the first message of a `Write` was answered: the call goes on, or is
+/// answered and ends. Memory that had run out is passed on.
 fn settle_first(
     alloc: Global,
     calls: &mut Calls,
@@ -80,8 +80,8 @@ fn settle_first(
     }
 }
 
-/// Does to a call what a later message of a `Write` was answered: it goes on, or is answered and ends. Memory that had
-/// run out is passed on.
+/// Does to a call what a later message of a `Write` was answered: it goes on, or is answered and
+/// ends. Memory that had run out is passed on.
 pub fn settle_next(
     alloc: Global,
     calls: &mut Calls,

@@ -103,7 +103,8 @@ impl Model for View {
 
     ghost view = { λ v. record { entries = v.cache.entries; limit = v.limit } };
 
-    ghost invariant = { λ v. (v.bytes ≡ sizes v.cache.entries) × (v.cache.cap ≡ v.limit + 1) × (0 < v.limit) × (v.limit ≤ 2 ^ 31) };
+    ghost invariant = { λ v. (v.bytes ≡ sizes v.cache.entries) × (v.cache.cap ≡ v.limit + 1)
+        × (0 < v.limit) × (v.limit ≤ 2 ^ 31) };
 }
 
 impl View {
@@ -165,7 +166,8 @@ impl View {
         self.get(digest).is_some()
     }
 
-    /// Makes the text of the digest the most recently used, and says whether there is one. It takes no memory.
+    /// Makes the text of the digest the most recently used, and says whether there is one. It takes
+    /// no memory.
     pub fn touch(&mut self, digest: &Digest) -> bool
         ensures seen { (p : Slots) → result ≡ is_some (seen digest.now (shown p self.old)) }
         ensures used { (p : Slots) → shown p self.new ≡ used digest.now (shown p self.old) }
@@ -176,7 +178,8 @@ impl View {
         promote(&mut self.cache, digest) || digest.is_empty()
     }
 
-    /// Adds a text that is not there, as the most recently used. The draft is given back for want of memory only.
+    /// Adds a text that is not there, as the most recently used. The draft is given back for want
+    /// of memory only.
     pub fn add(&mut self, pool: &mut Pool, digest: &Digest, draft: Draft) -> Result<(), Draft>
         requires absent { (p : Slots) → seen digest.now (shown p self.old) ≡ None }
         requires held { AreHeld pool.old (holders self.old) }

@@ -72,7 +72,8 @@ int32 field rs = int32_of (last_or 0 (numbers field rs))
 abbrev pub flag : ℕ → List Record → Bool
 flag field rs = nat_lt 0 (last_or 0 (numbers field rs))
 
--- the numbers of a repeated field in one record: one by itself, or several packed (Encoding, "Packed Repeated Fields")
+-- the numbers of a repeated field in one record: one by itself, or several packed (Encoding,
+-- "Packed Repeated Fields")
 abbrev pub value_numbers : Value → Result (List ℕ) MessageError
 value_numbers (Number n) = Ok (n ∷ [])
 value_numbers (Eight b) = Ok []
@@ -123,7 +124,8 @@ abbrev pub whole : {V : Type 0} → (List Record → Result V MessageError) → 
 whole value_of [] = Ok None
 whole value_of (b ∷ bs) = decoded value_of (concat (b ∷ bs)) >>= λ v. Ok (Some v)
 
--- each payload is well formed by itself (Encoding, "Last One Wins": records of one embedded message are merged)
+-- each payload is well formed by itself (Encoding, "Last One Wins": records of one embedded message
+-- are merged)
 abbrev pub embedded : {V : Type 0} → (List Record → Result V MessageError) → ℕ → List Record → Result (Option V) MessageError
 embedded value_of field rs = each_of parsed (payloads field rs) >>= λ _. whole value_of (payloads field rs)
 

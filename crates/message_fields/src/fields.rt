@@ -139,7 +139,8 @@ pub fn repeated_string<'a>(
     records: &[Field<'a>],
     field: u32,
 ) -> Result<Vec<&'a str>, MessageError>
-    ensures { Means (λ v. map (λ s. s.now) v.items) result (repeated_string field (map view records.now)) }
+    ensures { Means (λ v. map (λ s. s.now) v.items) result
+        (repeated_string field (map view records.now)) }
 {
     let mut texts = Vec::new(alloc);
     let mut left = records;
@@ -159,7 +160,8 @@ pub fn repeated_octets<'a>(
     records: &[Field<'a>],
     field: u32,
 ) -> Result<Vec<&'a [u8]>, AllocError>
-    ensures { IfOk result (λ v. map (λ b. b.now) v.items ≡ repeated_octets field (map view records.now)) }
+    ensures { IfOk result (λ v. map (λ b. b.now) v.items
+        ≡ repeated_octets field (map view records.now)) }
 {
     let mut all = Vec::new(alloc);
     let mut left = records;
@@ -174,7 +176,8 @@ pub fn repeated_octets<'a>(
 
 /// Adds the numbers of a packed field's payload, each as an enum.
 fn add_packed(values: &mut Vec<i32>, payload: &[u8]) -> Result<(), MessageError>
-    ensures { Means (λ _. values.new.items) result (with_numbers values.old.items (lifted (numbers_of payload.now))) }
+    ensures { Means (λ _. values.new.items) result
+        (with_numbers values.old.items (lifted (numbers_of payload.now))) }
 {
     let mut numbers = PackedReader::new(payload);
     while let Some(number) = numbers.next()? {
@@ -185,7 +188,8 @@ fn add_packed(values: &mut Vec<i32>, payload: &[u8]) -> Result<(), MessageError>
 
 /// Adds the numbers of one record, which holds one by itself or several packed.
 fn add_numbers(values: &mut Vec<i32>, entry: &Field<'_>, field: u32) -> Result<(), MessageError>
-    ensures { Means (λ _. values.new.items) result (with_numbers values.old.items (record_numbers field (view entry.now))) }
+    ensures { Means (λ _. values.new.items) result
+        (with_numbers values.old.items (record_numbers field (view entry.now))) }
 {
     if entry.number != field {
         return Ok(());
@@ -223,7 +227,8 @@ fn with_payload<'a>(
     joined: Option<Vec<Field<'a>>>,
     payload: &'a [u8],
 ) -> Result<Vec<Field<'a>>, MessageError>
-    ensures { Means (λ v. map view v.items) result (with_records (option_map (λ v. map view v.items) joined.entry) payload.now) }
+    ensures { Means (λ v. map view v.items) result
+        (with_records (option_map (λ v. map view v.items) joined.entry) payload.now) }
 {
     let mut more = fields_of(alloc, payload)?;
     match joined {
@@ -242,7 +247,8 @@ pub fn joined<'a>(
     records: &[Field<'a>],
     field: u32,
 ) -> Result<Option<Vec<Field<'a>>>, MessageError>
-    ensures { Means (option_map (λ v. map view v.items)) result (joined_records None (payloads field (map view records.now))) }
+    ensures { Means (option_map (λ v. map view v.items)) result
+        (joined_records None (payloads field (map view records.now))) }
 {
     let mut joined = None;
     let mut left = records;
@@ -257,7 +263,8 @@ pub fn joined<'a>(
 
 /// The payload behind those that were joined so far.
 fn with_bytes(alloc: Global, joined: Option<Vec<u8>>, payload: &[u8]) -> Result<Vec<u8>, AllocError>
-    ensures { IfOk result (λ v. Some v.items ≡ payloads_after (option_map (λ v. v.items) joined) (payload.now ∷ [])) }
+    ensures { IfOk result (λ v. Some v.items
+        ≡ payloads_after (option_map (λ v. v.items) joined) (payload.now ∷ [])) }
 {
     let mut bytes = joined.unwrap_or(Vec::new(alloc));
     bytes.extend_from_slice(payload)?;
@@ -272,7 +279,8 @@ pub fn as_sent(
     records: &[Field<'_>],
     field: u32,
 ) -> Result<Option<Vec<u8>>, AllocError>
-    ensures { IfOk result (λ sent. option_map (λ v. v.items) sent ≡ as_sent field (map view records.now)) }
+    ensures { IfOk result (λ sent. option_map (λ v. v.items) sent
+        ≡ as_sent field (map view records.now)) }
 {
     let mut joined = None;
     let mut left = records;

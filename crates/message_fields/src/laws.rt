@@ -14,20 +14,40 @@ use crate::message::Message;
 
 /// A field that is written is read again, whatever other fields stand beside it.
 pub fn a_field_is_read_again()
-    ensures int64 { (field : ℕ) (z : ℤ) (rs : List Record) → FitsSigned w64 z → HasField field (int64_field field z) rs → int64 field rs ≡ z }
-    ensures int32 { (field : ℕ) (z : ℤ) (rs : List Record) → FitsSigned w32 z → HasField field (int32_field field z) rs → int32 field rs ≡ z }
-    ensures flag { (field : ℕ) (b : Bool) (rs : List Record) → HasField field (flag_field field b) rs → flag field rs ≡ b }
-    ensures octets { (field : ℕ) (t : List ℕ) (rs : List Record) → HasField field (bytes_field field t) rs → octets field rs ≡ t }
-    ensures string { (field : ℕ) (t : List ℕ) (rs : List Record) → is_utf8 t ≡ true → HasField field (string_field field t) rs → string field rs ≡ Ok t }
-    ensures repeated_string { (field : ℕ) (ts : List (List ℕ)) (rs : List Record) → AllByRecursion (λ t. is_utf8 t ≡ true) ts → HasField field (repeated_string_field field ts) rs → repeated_string field rs ≡ Ok ts }
-    ensures repeated_octets { (field : ℕ) (ts : List (List ℕ)) (rs : List Record) → HasField field (repeated_octets_field field ts) rs → repeated_octets field rs ≡ ts }
-    ensures repeated_enum { (field : ℕ) (zs : List ℤ) (rs : List Record) → AllByRecursion (FitsSigned w32) zs → HasField field (repeated_enum_field field zs) rs → repeated_enum field rs ≡ Ok zs }
+    ensures int64 { (field : ℕ) (z : ℤ) (rs : List Record) → FitsSigned w64 z →
+        HasField field (int64_field field z) rs → int64 field rs ≡ z }
+    ensures int32 { (field : ℕ) (z : ℤ) (rs : List Record) → FitsSigned w32 z →
+        HasField field (int32_field field z) rs → int32 field rs ≡ z }
+    ensures flag { (field : ℕ) (b : Bool) (rs : List Record) →
+        HasField field (flag_field field b) rs → flag field rs ≡ b }
+    ensures octets { (field : ℕ) (t : List ℕ) (rs : List Record) →
+        HasField field (bytes_field field t) rs → octets field rs ≡ t }
+    ensures string { (field : ℕ) (t : List ℕ) (rs : List Record) → is_utf8 t ≡ true →
+        HasField field (string_field field t) rs → string field rs ≡ Ok t }
+    ensures repeated_string { (field : ℕ) (ts : List (List ℕ)) (rs : List Record) →
+        AllByRecursion (λ t. is_utf8 t ≡ true) ts →
+        HasField field (repeated_string_field field ts) rs → repeated_string field rs ≡ Ok ts }
+    ensures repeated_octets { (field : ℕ) (ts : List (List ℕ)) (rs : List Record) →
+        HasField field (repeated_octets_field field ts) rs → repeated_octets field rs ≡ ts }
+    ensures repeated_enum { (field : ℕ) (zs : List ℤ) (rs : List Record) →
+        AllByRecursion (FitsSigned w32) zs → HasField field (repeated_enum_field field zs) rs →
+        repeated_enum field rs ≡ Ok zs }
 {}
 
 /// Messages that are written as fields are read again, where each of them by itself is.
 pub fn a_message_field_is_read_again<'a, M: Message<'a>>()
-    ensures set { (field : ℕ) (v : M.Value) (rs : List Record) → IsReadAgain M.value_of M.records_for v → HasField field (embedded_field M.records_for field (Some v)) rs → embedded M.value_of field rs ≡ Ok (Some v) }
-    ensures absent { (field : ℕ) (rs : List Record) → HasField field (embedded_field M.records_for field None) rs → embedded M.value_of field rs ≡ Ok None }
-    ensures repeated { (field : ℕ) (vs : List M.Value) (rs : List Record) → AllByRecursion (IsReadAgain M.value_of M.records_for) vs → HasField field (repeated_field M.records_for field vs) rs → repeated M.value_of field rs ≡ Ok vs }
-    ensures sent { (field : ℕ) (o : Option (List ℕ)) (rs : List Record) → IfSome o (λ t. IsOk (decoded M.value_of t)) → HasField field (sent_field field o) rs → sent M.value_of field rs ≡ Ok o }
+    ensures set { (field : ℕ) (v : M.Value) (rs : List Record) →
+        IsReadAgain M.value_of M.records_for v →
+        HasField field (embedded_field M.records_for field (Some v)) rs →
+        embedded M.value_of field rs ≡ Ok (Some v) }
+    ensures absent { (field : ℕ) (rs : List Record) →
+        HasField field (embedded_field M.records_for field None) rs →
+        embedded M.value_of field rs ≡ Ok None }
+    ensures repeated { (field : ℕ) (vs : List M.Value) (rs : List Record) →
+        AllByRecursion (IsReadAgain M.value_of M.records_for) vs →
+        HasField field (repeated_field M.records_for field vs) rs →
+        repeated M.value_of field rs ≡ Ok vs }
+    ensures sent { (field : ℕ) (o : Option (List ℕ)) (rs : List Record) →
+        IfSome o (λ t. IsOk (decoded M.value_of t)) → HasField field (sent_field field o) rs →
+        sent M.value_of field rs ≡ Ok o }
 {}

@@ -38,7 +38,8 @@ pub trait Message<'a>: Sized + Drop {
 
     /// Adds the canonical text of the message. A refused vector is as before.
     final fn encode_into(&self, out: &mut Vec<u8>) -> Result<(), AllocError>
-        ensures ok { OnOk result (out.new.items ≡ out.old.items ++ text_for records_for (shown self.now)) }
+        ensures ok { OnOk result (out.new.items ≡ out.old.items
+            ++ text_for records_for (shown self.now)) }
         ensures err { OnErr result (out.new.items ≡ out.old.items) }
     {
         let mut writer = Writer::new(*out.allocator());
@@ -64,7 +65,8 @@ fn one_of_joined<'a, M: Message<'a>>(
     records: &[Field<'a>],
     field: u32,
 ) -> Result<Option<M>, MessageError>
-    ensures { Means (option_map M.shown) result (embedded_joined M.value_of field (map view records.now)) }
+    ensures { Means (option_map M.shown) result
+        (embedded_joined M.value_of field (map view records.now)) }
 {
     match joined(alloc, records, field)? {
         None => Ok(None),
@@ -91,7 +93,8 @@ pub fn sent<'a, M: Message<'a>>(
     records: &[Field<'a>],
     field: u32,
 ) -> Result<Option<Vec<u8>>, MessageError>
-    ensures { Means (option_map (λ v. v.items)) result (sent M.value_of field (map view records.now)) }
+    ensures { Means (option_map (λ v. v.items)) result
+        (sent M.value_of field (map view records.now)) }
 {
     let _message: Option<M> = embedded(alloc, records, field)?;
     Ok(as_sent(alloc, records, field)?)
@@ -104,7 +107,8 @@ pub fn repeated<'a, M: Message<'a>>(
     records: &[Field<'a>],
     field: u32,
 ) -> Result<Vec<M>, MessageError>
-    ensures { Means (λ v. map M.shown v.items) result (repeated M.value_of field (map view records.now)) }
+    ensures { Means (λ v. map M.shown v.items) result
+        (repeated M.value_of field (map view records.now)) }
 {
     let mut messages = Vec::new(alloc);
     let mut left = records;
@@ -124,7 +128,8 @@ fn put_message<'a, M: Message<'a>>(
 ) -> Result<(), AllocError>
     requires positive { 0 < field }
     requires small { field < 2 ^ 29 }
-    ensures { OnOk result (writer.new ≡ writer.old ++ text (message_field field (text_for M.records_for (M.shown message.now)))) }
+    ensures { OnOk result (writer.new ≡ writer.old
+        ++ text (message_field field (text_for M.records_for (M.shown message.now)))) }
 {
     let mut inner = writer.empty();
     message.write(&mut inner)?;
@@ -139,7 +144,8 @@ pub fn put_embedded<'a, M: Message<'a>>(
 ) -> Result<(), AllocError>
     requires positive { 0 < field }
     requires small { field < 2 ^ 29 }
-    ensures { OnOk result (writer.new ≡ writer.old ++ text (embedded_field M.records_for field (option_map M.shown message.now))) }
+    ensures { OnOk result (writer.new ≡ writer.old
+        ++ text (embedded_field M.records_for field (option_map M.shown message.now))) }
 {
     match message {
         None => Ok(()),
@@ -155,7 +161,8 @@ pub fn put_repeated<'a, M: Message<'a>>(
 ) -> Result<(), AllocError>
     requires positive { 0 < field }
     requires small { field < 2 ^ 29 }
-    ensures { OnOk result (writer.new ≡ writer.old ++ text (repeated_field M.records_for field (map M.shown messages.now))) }
+    ensures { OnOk result (writer.new ≡ writer.old
+        ++ text (repeated_field M.records_for field (map M.shown messages.now))) }
 {
     for message in messages {
         put_message(writer, field, message)?;

@@ -60,7 +60,8 @@ pub fn put_repeated_string(
 ) -> Result<(), AllocError>
     requires positive { 0 < field }
     requires small { field < 2 ^ 29 }
-    ensures { OnOk result (writer.new ≡ writer.old ++ text (repeated_string_field field (map (λ s. s.now) values.now))) }
+    ensures { OnOk result (writer.new ≡ writer.old
+        ++ text (repeated_string_field field (map (λ s. s.now) values.now))) }
 {
     for value in values {
         writer.message(field, value.as_bytes())?;
@@ -76,7 +77,8 @@ pub fn put_repeated_octets(
 ) -> Result<(), AllocError>
     requires positive { 0 < field }
     requires small { field < 2 ^ 29 }
-    ensures { OnOk result (writer.new ≡ writer.old ++ text (repeated_octets_field field (map (λ b. b.now) values.now))) }
+    ensures { OnOk result (writer.new ≡ writer.old
+        ++ text (repeated_octets_field field (map (λ b. b.now) values.now))) }
 {
     for value in values {
         writer.message(field, value)?;
@@ -92,7 +94,8 @@ pub fn put_sent(
 ) -> Result<(), AllocError>
     requires positive { 0 < field }
     requires small { field < 2 ^ 29 }
-    ensures { OnOk result (writer.new ≡ writer.old ++ text (sent_field field (option_map (λ v. v.items) message.now))) }
+    ensures { OnOk result (writer.new ≡ writer.old
+        ++ text (sent_field field (option_map (λ v. v.items) message.now))) }
 {
     match message {
         None => Ok(()),

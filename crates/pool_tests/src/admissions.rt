@@ -64,7 +64,8 @@ pub fn keeps_the_limit(alloc: Global) -> Result<bool, AllocError> {
     drops_the_least_recently_used(&mut view, &mut pool)
 }
 
-/// A text of the quota's size drops all others, one that is larger is refused, and the empty one costs nothing.
+/// A text of the quota's size drops all others, one that is larger is refused, and the empty one
+/// costs nothing.
 fn drops_for_the_quota(view: &mut View, pool: &mut Pool) -> Result<bool, AllocError>
     requires { AreKept 10 pool.old view.old }
 {

@@ -43,8 +43,8 @@ fn is_given_back(
     is_read
 }
 
-/// Whether two texts beside one digest both stand and are given back as themselves, and one text beside two digests
-/// stands once.
+/// Whether two texts beside one digest both stand and are given back as themselves, and one text
+/// beside two digests stands once.
 pub fn both_stand(alloc: Global) -> Result<bool, AllocError> {
     let mut pool = Pool::new(alloc);
     let named = Digest::of(b"first");

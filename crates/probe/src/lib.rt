@@ -40,7 +40,8 @@ fn is_not_ready(error: &io::Error) -> bool {
 
 /// Sends what can be sent without waiting, and gives the rest.
 fn send<'a, W: Write>(unsent: &'a [u8], peer: &mut W) -> Result<&'a [u8], Fault>
-    ensures { IfOk result (λ rest. IsSent unsent.entry.now rest.now (W.contents peer.old) (W.contents peer.new)) }
+    ensures { IfOk result (λ rest. IsSent unsent.entry.now rest.now (W.contents peer.old)
+        (W.contents peer.new)) }
 {
     if unsent.is_empty() {
         return Ok(unsent);
@@ -55,7 +56,8 @@ fn send<'a, W: Write>(unsent: &'a [u8], peer: &mut W) -> Result<&'a [u8], Fault>
 /// Adds the bytes that are there, `want` in all at most, and says whether no more will come.
 fn receive<R: Read>(peer: &mut R, received: &mut Vec<u8>, want: u64) -> Result<bool, Fault>
     requires { vec_len received.old ≤ want }
-    ensures bytes { OnOk result (IsReceived received.old.items received.new.items (R.remaining peer.old) (R.remaining peer.new)) }
+    ensures bytes { OnOk result (IsReceived received.old.items received.new.items
+        (R.remaining peer.old) (R.remaining peer.new)) }
     ensures bound { OnOk result (vec_len received.new ≤ want) }
 {
     let missing = want - received.len() as u64;
@@ -83,8 +85,10 @@ fn exchange<'a, C: Clock, R: Read, W: Write>(
     from_peer: &mut R,
     to_peer: &mut W,
 ) -> Result<Exchanged<'a>, Fault>
-    ensures sent { IfOk result (λ done. IsSent request.entry.bytes.now done.unsent.now (W.contents to_peer.old) (W.contents to_peer.new)) }
-    ensures received { IfOk result (λ done. Consumes (R.remaining from_peer.old) (R.remaining from_peer.new) done.received.items) }
+    ensures sent { IfOk result (λ done. IsSent request.entry.bytes.now done.unsent.now
+        (W.contents to_peer.old) (W.contents to_peer.new)) }
+    ensures received { IfOk result (λ done. Consumes (R.remaining from_peer.old)
+        (R.remaining from_peer.new) done.received.items) }
     ensures bound { IfOk result (λ done. vec_len done.received ≤ request.entry.want) }
 {
     let mut unsent = request.bytes;
@@ -107,8 +111,10 @@ fn exchange<'a, C: Clock, R: Read, W: Write>(
 
 /// Writes bytes in lower-case hexadecimal, and a newline.
 fn show<O: Write>(alloc: Global, bytes: &[u8], output: &mut O) -> Result<(), Fault>
-    ensures line { OnOk result (Appends (O.contents output.old) (O.contents output.new) (hex_line bytes.now)) }
-    ensures memory { result ≡ Err OutOfMemory → Keeps (O.contents output.old) (O.contents output.new) }
+    ensures line { OnOk result (Appends (O.contents output.old) (O.contents output.new)
+        (hex_line bytes.now)) }
+    ensures memory { result ≡ Err OutOfMemory →
+        Keeps (O.contents output.old) (O.contents output.new) }
 {
     let mut line = hex::encode(alloc, bytes)?;
     line.push('\n')?;
@@ -126,7 +132,9 @@ fn run<C: Clock, R: Read, W: Write, O: Write>(
     to_peer: &mut W,
     output: &mut O,
 ) -> Status
-    ensures { IsOutcome request.entry result (W.contents to_peer.old) (W.contents to_peer.new) (R.remaining from_peer.old) (R.remaining from_peer.new) (O.contents output.old) (O.contents output.new) }
+    ensures { IsOutcome request.entry result (W.contents to_peer.old) (W.contents to_peer.new)
+        (R.remaining from_peer.old) (R.remaining from_peer.new) (O.contents output.old)
+        (O.contents output.new) }
 {
     let Exchanged { unsent, received } = match exchange(clock, alloc, request, from_peer, to_peer) {
         Ok(done) => done,
@@ -158,9 +166,12 @@ pub fn probe<C: Clock, R: Read, W: Write, O: Write, E: Write>(
     output: &mut O,
     errors: &mut E,
 ) -> Status
-    ensures outcome { IsOutcome request.entry result (W.contents to_peer.old) (W.contents to_peer.new) (R.remaining from_peer.old) (R.remaining from_peer.new) (O.contents output.old) (O.contents output.new) }
+    ensures outcome { IsOutcome request.entry result (W.contents to_peer.old)
+        (W.contents to_peer.new) (R.remaining from_peer.old) (R.remaining from_peer.new)
+        (O.contents output.old) (O.contents output.new) }
     // Where the line could not be written, the status is `Failed`.
-    ensures told { result ≢ Failed → Appends (E.contents errors.old) (E.contents errors.new) (fault_line result) }
+    ensures told { result ≢ Failed →
+        Appends (E.contents errors.old) (E.contents errors.new) (fault_line result) }
 {
     let status = run(clock, alloc, request, from_peer, to_peer, output);
     match status.tell(errors) {

@@ -1,4 +1,5 @@
-//! How a run of the program ends: its status and the line that says why; and the reading of a whole input or file.
+//! How a run of the program ends: its status and the line that says why; and the reading of a whole
+//! input or file.
 #![tactic(auto)]
 
 ghost use Rattle.std.specs.Prelude.{◌≡◌, ◌≢◌, OnOk, IfOk, IsSome, IfSome, Ok, None};
@@ -41,7 +42,8 @@ impl Status {
 
     /// Writes the line that says why a run ended, if it was not done. That takes no memory.
     pub fn tell<E: Write>(self, errors: &mut E) -> io::Result<()>
-        ensures { OnOk result (Appends (E.contents errors.old) (E.contents errors.new) (fault_line self)) }
+        ensures { OnOk result (Appends (E.contents errors.old) (E.contents errors.new)
+            (fault_line self)) }
     {
         match self {
             Status::Done => Ok(()),
@@ -66,7 +68,8 @@ impl Fault {
     /// Which of the two an error of reading, writing or connecting is.
     pub fn of(error: &io::Error) -> Fault
         ensures memory { error_kind error.now ≡ ErrorKind.OutOfMemory → result ≡ Fault.OutOfMemory }
-        ensures other { error_kind error.now ≢ ErrorKind.OutOfMemory → result ≡ Fault.InputOrOutput }
+        ensures other { error_kind error.now ≢ ErrorKind.OutOfMemory →
+            result ≡ Fault.InputOrOutput }
     {
         match error.kind() {
             ErrorKind::OutOfMemory => Fault::OutOfMemory,
@@ -106,15 +109,17 @@ pub fn read_all<I: Read>(alloc: Global, input: &mut I) -> Result<Vec<u8>, Fault>
     }
 }
 
-/// The bytes of a file; where it cannot be read, that is told, and there are none. An error is a refused request for
-/// memory, or that telling failed.
+/// The bytes of a file; where it cannot be read, that is told, and there are none. An error is a
+/// refused request for memory, or that telling failed.
 pub fn read_file<E: Write>(
     rt: &HostRuntime,
     file: &str,
     errors: &mut E,
 ) -> io::Result<Option<Vec<u8>>>
-    ensures told { result ≡ Ok None → Appends (E.contents errors.old) (E.contents errors.new) (unread_line file.now) }
-    ensures quiet { IfOk result (λ read. IsSome read → E.contents errors.new ≡ E.contents errors.old) }
+    ensures told { result ≡ Ok None →
+        Appends (E.contents errors.old) (E.contents errors.new) (unread_line file.now) }
+    ensures quiet { IfOk result (λ read. IsSome read →
+        E.contents errors.new ≡ E.contents errors.old) }
 {
     match fs::read(rt, file) {
         Ok(bytes) => Ok(Some(bytes)),

@@ -5,7 +5,8 @@ use std::process::Abort;
 use std::rt::Clock;
 use std::test::*;
 
-// A peer that at each read gives a few of its bytes or has nothing, in turn, and then ends or fails.
+// A peer that at each read gives a few of its bytes or has nothing, in turn, and then ends or
+// fails.
 #[derive(Drop)]
 struct Peer<'a> {
     bytes: &'a [u8],

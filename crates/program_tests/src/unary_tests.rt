@@ -19,7 +19,8 @@ fn prints(alloc: Global, script: &[u8], printed: &[u8]) -> bool {
 struct Upload {
     /// How many digits the blob is written in.
     digits: usize,
-    /// The digits that stand before it: the length of the request, the digest, and the length of the blob.
+    /// The digits that stand before it: the length of the request, the digest, and the length of
+    /// the blob.
     front: &'static str,
     printed: &'static str,
 }

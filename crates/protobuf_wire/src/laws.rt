@@ -18,8 +18,10 @@ pub fn reading_is_the_grammar()
 /// A text is refused where its first records are followed by bytes that begin with none, with the
 /// fault that stands there.
 pub fn refusal_is_the_first_fault()
-    ensures stands { (t : List ℕ) (e : WireError) → records_of t ≡ Err e → FaultsAt IsRecord FaultsAsRecord t e }
-    ensures comes { (t : List ℕ) (e : WireError) → FaultsAt IsRecord FaultsAsRecord t e → records_of t ≡ Err e }
+    ensures stands { (t : List ℕ) (e : WireError) → records_of t ≡ Err e →
+        FaultsAt IsRecord FaultsAsRecord t e }
+    ensures comes { (t : List ℕ) (e : WireError) → FaultsAt IsRecord FaultsAsRecord t e →
+        records_of t ≡ Err e }
 {}
 
 /// What is written spells what it was written for.
@@ -36,11 +38,14 @@ pub fn packed_reading_is_the_grammar()
 /// A payload is refused where its first numbers are followed by bytes that begin with none, with
 /// the fault that stands there.
 pub fn packed_refusal_is_the_first_fault()
-    ensures stands { (t : List ℕ) (e : WireError) → numbers_of t ≡ Err e → FaultsAt IsVarint FaultsAsVarint t e }
-    ensures comes { (t : List ℕ) (e : WireError) → FaultsAt IsVarint FaultsAsVarint t e → numbers_of t ≡ Err e }
+    ensures stands { (t : List ℕ) (e : WireError) → numbers_of t ≡ Err e →
+        FaultsAt IsVarint FaultsAsVarint t e }
+    ensures comes { (t : List ℕ) (e : WireError) → FaultsAt IsVarint FaultsAsVarint t e →
+        numbers_of t ≡ Err e }
 {}
 
 /// A packed payload that is written spells its numbers.
 pub fn packed_writing_is_read_again()
-    ensures { (ns : List ℕ) → AllByRecursion (λ n. n < 2 ^ 64) ns → SpellsNumbers (packed_text ns) ns }
+    ensures { (ns : List ℕ) → AllByRecursion (λ n. n < 2 ^ 64) ns →
+        SpellsNumbers (packed_text ns) ns }
 {}

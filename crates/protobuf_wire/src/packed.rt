@@ -72,8 +72,10 @@ impl<'a> PackedReader<'a> {
     /// repeats its refusal.
     pub fn next(&mut self) -> Result<Option<u64>, WireError>
         // The numbers are those that the payload spells, and the end means all of them.
-        ensures reads { items_left number_at self.old ≡ reads_then result (items_left number_at self.new) }
-        ensures shorter { IfOk result (λ number. IsSome number → bytes_left self.new < bytes_left self.old) }
+        ensures reads { items_left number_at self.old
+            ≡ reads_then result (items_left number_at self.new) }
+        ensures shorter { IfOk result (λ number. IsSome number →
+            bytes_left self.new < bytes_left self.old) }
         ensures answer { result ≡ (step number_at self.old).0 }
         ensures after { self.new ≡ (step number_at self.old).1 }
     {

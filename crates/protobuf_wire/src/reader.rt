@@ -143,8 +143,10 @@ impl<'a> Reader<'a> {
     /// repeats its refusal.
     pub fn next(&mut self) -> Result<Option<Field<'a>>, WireError>
         // The records are those that the text spells, and the end means all of them.
-        ensures reads { items_left record_at self.old ≡ reads_then (shown result) (items_left record_at self.new) }
-        ensures shorter { IfOk result (λ field. IsSome field → bytes_left self.new < bytes_left self.old) }
+        ensures reads { items_left record_at self.old
+            ≡ reads_then (shown result) (items_left record_at self.new) }
+        ensures shorter { IfOk result (λ field. IsSome field →
+            bytes_left self.new < bytes_left self.old) }
         ensures answer { shown result ≡ (step record_at self.old).0 }
         ensures after { self.new ≡ (step record_at self.old).1 }
     {

@@ -26,7 +26,8 @@ fn push_varint(out: &mut Vec<u8>, value: u64) -> Result<(), AllocError>
 #[tactic(auto, using(crate::proofs::Fronts::begins_itself, crate::proofs::Fronts::begins_more, crate::proofs::Fronts::begins_behind))]
 fn push_payload(out: &mut Vec<u8>, number: u32, payload: &[u8]) -> Result<(), AllocError>
     requires { number < 2 ^ 29 }
-    ensures ok { OnOk result (out.new.items ≡ out.old.items ++ text (message_field number payload.now)) }
+    ensures ok { OnOk result (out.new.items ≡ out.old.items
+        ++ text (message_field number payload.now)) }
     ensures err { OnErr result (BeginsWith out.new.items out.old.items) }
 {
     push_varint(out, u64::from(number) * 8 + 2)?;
@@ -74,7 +75,8 @@ fn add_varint(out: &mut Vec<u8>, value: u64) -> Result<(), AllocError>
 #[tactic(auto, using(crate::proofs::Fronts::begins_back))]
 fn add_payload(out: &mut Vec<u8>, number: u32, payload: &[u8]) -> Result<(), AllocError>
     requires { number < 2 ^ 29 }
-    ensures ok { OnOk result (out.new.items ≡ out.old.items ++ text (message_field number payload.now)) }
+    ensures ok { OnOk result (out.new.items ≡ out.old.items
+        ++ text (message_field number payload.now)) }
     ensures err { OnErr result (out.new.items ≡ out.old.items) }
 {
     let length = out.len();

@@ -220,7 +220,8 @@ fn puts_pings(sender: &mut Sender) -> usize {
     count
 }
 
-/// Whether there is room for one more after as many bytes were taken, and the same number waits then.
+/// Whether there is room for one more after as many bytes were taken, and the same number waits
+/// then.
 fn puts_one_more(sender: &mut Sender) -> bool {
     let ping = Frame::Ping {
         ack: true,

@@ -1,4 +1,5 @@
-//! What is sent between received frames. What received frames cause is shown by the stored scripts of `acceptance`.
+//! What is sent between received frames. What received frames cause is shown by the stored scripts
+//! of `acceptance`.
 
 ghost use Rattle.std.specs.Prelude.{◌≤◌, length};
 

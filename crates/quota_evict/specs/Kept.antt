@@ -5,7 +5,8 @@ use Rattle.blob_pool.specs.Moves.{AreHeld}
 use Rattle.instance_view.specs.Shown.{ViewValue, shown, holders}
 use Rattle.quota_evict.specs.Within.{Within}
 
--- the pool counts the instance's entries among its holders, and the texts that they find keep the limits
+-- the pool counts the instance's entries among its holders, and the texts that they find keep the
+-- limits
 pub record AreKept (quota : ℕ) (p : Slots) (v : ViewValue) : Type 0 where
   pub held : AreHeld p (holders v)
   pub within : Within v.limit quota (shown p v)

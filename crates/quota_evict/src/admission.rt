@@ -91,8 +91,8 @@ fn store(
     Ok(())
 }
 
-/// Stores the text of a draft under its digest, if the quota allows it. What is there is used; a refusal gives the
-/// draft back and changes nothing.
+/// Stores the text of a draft under its digest, if the quota allows it. What is there is used; a
+/// refusal gives the draft back and changes nothing.
 pub fn admit_draft(
     view: &mut View,
     pool: &mut Pool,
@@ -127,7 +127,8 @@ pub fn admit_draft(
     }
 }
 
-/// Stores bytes under their digest, if the quota allows it. What is there is used; a refusal changes nothing.
+/// Stores bytes under their digest, if the quota allows it. What is there is used; a refusal
+/// changes nothing.
 pub fn admit(
     view: &mut View,
     pool: &mut Pool,

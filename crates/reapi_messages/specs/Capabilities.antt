@@ -57,7 +57,8 @@ action_cache_update_capabilities_of rs = Ok (record { update_enabled = flag 1 rs
 abbrev pub action_cache_update_capabilities_records : ActionCacheUpdateCapabilitiesValue → List Record
 action_cache_update_capabilities_records v = flag_field 1 v.update_enabled
 
--- digest_functions 1 repeated, action_cache_update_capabilities 2, max_batch_total_size_bytes 4, symlink_absolute_path_strategy 5
+-- digest_functions 1 repeated, action_cache_update_capabilities 2, max_batch_total_size_bytes 4,
+-- symlink_absolute_path_strategy 5
 pub record CacheCapabilitiesValue : Type 0 where
   pub digest_functions : List ℤ
   pub action_cache_update_capabilities : Option ActionCacheUpdateCapabilitiesValue

@@ -16,8 +16,10 @@ pub fn digests_are_read_again()
 
 /// FindMissingBlobs: a request and a response that are written are read again.
 pub fn find_missing_blobs_is_read_again()
-    ensures request { AreReadAgain find_missing_blobs_request_of find_missing_blobs_request_records FitsFindMissingBlobsRequest }
-    ensures response { AreReadAgain find_missing_blobs_response_of find_missing_blobs_response_records FitsFindMissingBlobsResponse }
+    ensures request { AreReadAgain find_missing_blobs_request_of find_missing_blobs_request_records
+        FitsFindMissingBlobsRequest }
+    ensures response { AreReadAgain find_missing_blobs_response_of
+        find_missing_blobs_response_records FitsFindMissingBlobsResponse }
 {}
 
 /// A status and its details that are written are read again.
@@ -28,20 +30,26 @@ pub fn statuses_are_read_again()
 
 /// BatchUpdateBlobs: a request and a response that are written are read again.
 pub fn batch_update_blobs_is_read_again()
-    ensures request { AreReadAgain batch_update_blobs_request_of batch_update_blobs_request_records FitsBatchUpdateBlobsRequest }
-    ensures response { AreReadAgain batch_update_blobs_response_of batch_update_blobs_response_records FitsBatchUpdateBlobsResponse }
+    ensures request { AreReadAgain batch_update_blobs_request_of batch_update_blobs_request_records
+        FitsBatchUpdateBlobsRequest }
+    ensures response { AreReadAgain batch_update_blobs_response_of
+        batch_update_blobs_response_records FitsBatchUpdateBlobsResponse }
 {}
 
 /// BatchReadBlobs: a request and a response that are written are read again.
 pub fn batch_read_blobs_is_read_again()
-    ensures request { AreReadAgain batch_read_blobs_request_of batch_read_blobs_request_records FitsBatchReadBlobsRequest }
-    ensures response { AreReadAgain batch_read_blobs_response_of batch_read_blobs_response_records FitsBatchReadBlobsResponse }
+    ensures request { AreReadAgain batch_read_blobs_request_of batch_read_blobs_request_records
+        FitsBatchReadBlobsRequest }
+    ensures response { AreReadAgain batch_read_blobs_response_of batch_read_blobs_response_records
+        FitsBatchReadBlobsResponse }
 {}
 
 /// GetCapabilities: a request and a response that are written are read again.
 pub fn capabilities_are_read_again()
-    ensures request { AreReadAgain get_capabilities_request_of get_capabilities_request_records FitsGetCapabilitiesRequest }
-    ensures response { AreReadAgain server_capabilities_of server_capabilities_records FitsServerCapabilities }
+    ensures request { AreReadAgain get_capabilities_request_of get_capabilities_request_records
+        FitsGetCapabilitiesRequest }
+    ensures response { AreReadAgain server_capabilities_of server_capabilities_records
+        FitsServerCapabilities }
 {}
 
 /// google.bytestream: requests and responses that are written are read again.
@@ -49,7 +57,10 @@ pub fn byte_stream_is_read_again()
     ensures read_request { AreReadAgain read_request_of read_request_records FitsReadRequest }
     ensures read_response { AreReadAgain read_response_of read_response_records FitsReadResponse }
     ensures write_request { AreReadAgain write_request_of write_request_records FitsWriteRequest }
-    ensures write_response { AreReadAgain write_response_of write_response_records FitsWriteResponse }
-    ensures query_write_status_request { AreReadAgain query_write_status_request_of query_write_status_request_records FitsQueryWriteStatusRequest }
-    ensures query_write_status_response { AreReadAgain query_write_status_response_of query_write_status_response_records FitsQueryWriteStatusResponse }
+    ensures write_response { AreReadAgain write_response_of write_response_records
+        FitsWriteResponse }
+    ensures query_write_status_request { AreReadAgain query_write_status_request_of
+        query_write_status_request_records FitsQueryWriteStatusRequest }
+    ensures query_write_status_response { AreReadAgain query_write_status_response_of
+        query_write_status_response_records FitsQueryWriteStatusResponse }
 {}

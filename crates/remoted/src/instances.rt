@@ -97,8 +97,8 @@ fn fault_of(fault: ConfigFault) -> InstancesFault {
     }
 }
 
-/// The instances of the words, or the first fault: in a word by itself; else in the configurations; else a port that is
-/// given again.
+/// The instances of the words, or the first fault: in a word by itself; else in the configurations;
+/// else a port that is given again.
 pub fn instances_of(alloc: Global, words: &[&str]) -> Result<Instances, InstancesFault> {
     let mut configs = Vec::new(alloc);
     let mut ports: Vec<u16> = Vec::new(alloc);

@@ -41,7 +41,8 @@ fn tell_fault<E: Write>(words: &[&str], fault: InstancesFault, errors: &mut E) -
     Ok(BAD_WORDS)
 }
 
-/// Listens on the port of each instance; where it cannot on one, that is told, and the answer is no.
+/// Listens on the port of each instance; where it cannot on one, that is told, and the answer is
+/// no.
 fn listen<E: Write>(
     sockets: &mut HostSockets<'_>,
     ports: &[u16],
@@ -69,7 +70,8 @@ fn announce<O: Write>(instances: &Instances, output: &mut O) -> io::Result<()> {
     output.flush()
 }
 
-/// Makes the folder for the work of actions, if it is not there; where it cannot, that is told, and the answer is no.
+/// Makes the folder for the work of actions, if it is not there; where it cannot, that is told, and
+/// the answer is no.
 fn make_folder<E: Write>(rt: &HostRuntime, work: &str, errors: &mut E) -> io::Result<bool> {
     match fs::create_dir_all(rt, work) {
         Ok(()) => Ok(true),
@@ -81,8 +83,8 @@ fn make_folder<E: Write>(rt: &HostRuntime, work: &str, errors: &mut E) -> io::Re
     }
 }
 
-/// Serves instances on ports of 127.0.0.1, and gives the status with which the program ends. An error is one of the
-/// streams, or want of memory.
+/// Serves instances on ports of 127.0.0.1, and gives the status with which the program ends. An
+/// error is one of the streams, or want of memory.
 pub fn serve_ports<O: Write, E: Write>(
     rt: &HostRuntime,
     served: &Served<'_>,

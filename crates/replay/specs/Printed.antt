@@ -1,4 +1,5 @@
--- What a script of events prints: the outputs of its instances, each alone, and then the events of no instance.
+-- What a script of events prints: the outputs of its instances, each alone, and then the events of
+-- no instance.
 use Rattle.std.specs.Prelude.{ℕ, ◌+◌, List, [], ◌∷◌, ◌++◌, Result, Ok, Err}
 use Rattle.served_instance.specs.declared.refusal.EventRefusal.{EventRefusal}
 use Rattle.served_instance.specs.Codes.{code_of}
@@ -28,7 +29,8 @@ abbrev pub stray_lines : List ℕ → List ℕ
 stray_lines [] = []
 stray_lines (place ∷ rest) = stray_line place ++ stray_lines rest
 
--- what came of each instance, of which the first has this number: each gives what it would give alone
+-- what came of each instance, of which the first has this number: each gives what it would give
+-- alone
 abbrev pub lone_lines : ℕ → List ConfigValue → List EventValue → List ℕ
 lone_lines instance [] events = []
 lone_lines instance (config ∷ configs) events =

@@ -10,7 +10,8 @@ use server_core::Outputs;
 use std::alloc::{AllocError, Global};
 
 fn write_all_sent(text: &mut Vec<u8>, instance: u32, sent: &[SentBytes]) -> Result<(), AllocError>
-    ensures { OnOk result (text.new.items ≡ text.old.items ++ sent_lines instance (map sent_shown sent.now)) }
+    ensures { OnOk result (text.new.items ≡ text.old.items
+        ++ sent_lines instance (map sent_shown sent.now)) }
 {
     let mut left = sent;
     'sent: while let [first, rest @ ..] = left {
@@ -25,7 +26,8 @@ fn write_all_refused(
     instance: u32,
     refused: &[RefusedEvent],
 ) -> Result<(), AllocError>
-    ensures { OnOk result (text.new.items ≡ text.old.items ++ refusal_lines instance (map refused_shown refused.now)) }
+    ensures { OnOk result (text.new.items ≡ text.old.items
+        ++ refusal_lines instance (map refused_shown refused.now)) }
 {
     let mut left = refused;
     'refused: while let [first, rest @ ..] = left {
@@ -40,7 +42,8 @@ fn write_output(
     instance: u32,
     output: &InstanceOutput,
 ) -> Result<(), AllocError>
-    ensures { OnOk result (text.new.items ≡ text.old.items ++ output_lines instance (output_shown output.now)) }
+    ensures { OnOk result (text.new.items ≡ text.old.items
+        ++ output_lines instance (output_shown output.now)) }
 {
     write_all_sent(text, instance, &output.sent)?;
     write_all_refused(text, instance, &output.refusals)
@@ -48,7 +51,8 @@ fn write_output(
 
 fn write_outputs(text: &mut Vec<u8>, outputs: &[InstanceOutput]) -> Result<(), AllocError>
     requires { length outputs.now < 2 ^ 32 }
-    ensures { OnOk result (text.new.items ≡ text.old.items ++ outputs_lines 0 (map output_shown outputs.now)) }
+    ensures { OnOk result (text.new.items ≡ text.old.items
+        ++ outputs_lines 0 (map output_shown outputs.now)) }
 {
     let mut instance = 0;
     let mut left = outputs;
@@ -74,7 +78,9 @@ fn write_strays(text: &mut Vec<u8>, strays: &[u64]) -> Result<(), AllocError>
 /// The lines that outputs print.
 pub fn lines(alloc: Global, outputs: &Outputs) -> Result<Vec<u8>, AllocError>
     requires { vec_len outputs.now.instances < 2 ^ 32 }
-    ensures { IfOk result (λ text. text.items ≡ outputs_lines 0 (map output_shown outputs.now.instances.items) ++ stray_lines outputs.now.strays.items) }
+    ensures { IfOk result (λ text. text.items
+        ≡ outputs_lines 0 (map output_shown outputs.now.instances.items)
+        ++ stray_lines outputs.now.strays.items) }
 {
     let mut text = Vec::new(alloc);
     write_outputs(&mut text, &outputs.instances)?;

@@ -40,7 +40,9 @@ fn replayed(alloc: Global, text: &[u8]) -> Result<Vec<u8>, ScriptFault>
 }
 
 fn perform<I: Read, O: Write>(alloc: Global, input: &mut I, output: &mut O) -> Status
-    ensures { IfSome (I.remaining input.old) (λ text. IsOutcome (printed_by text) result (O.contents output.old) (O.contents output.new)) }
+    ensures { IfSome (I.remaining input.old)
+        (λ text. IsOutcome (printed_by text) result (O.contents output.old)
+        (O.contents output.new)) }
 {
     let text = match read_all(alloc, input) {
         Ok(text) => text,
@@ -57,18 +59,21 @@ fn perform<I: Read, O: Write>(alloc: Global, input: &mut I, output: &mut O) -> S
     }
 }
 
-/// Reads a script of events, runs it on a server of its own, and writes what each instance sent on its
-/// connections and refused, and which events were no instance's. A fault is told in one line on `errors`.
-/// Where a line is bad, nothing is carried out.
+/// Reads a script of events, runs it on a server of its own, and writes what each instance sent on
+/// its connections and refused, and which events were no instance's. A fault is told in one line on
+/// `errors`. Where a line is bad, nothing is carried out.
 pub fn replay<I: Read, O: Write, E: Write>(
     alloc: Global,
     input: &mut I,
     output: &mut O,
     errors: &mut E,
 ) -> Status
-    ensures outcome { IfSome (I.remaining input.old) (λ text. IsOutcome (printed_by text) result (O.contents output.old) (O.contents output.new)) }
+    ensures outcome { IfSome (I.remaining input.old)
+        (λ text. IsOutcome (printed_by text) result (O.contents output.old)
+        (O.contents output.new)) }
     // Where the line could not be written, the status is `Failed`.
-    ensures told { result ≢ Failed → Appends (E.contents errors.old) (E.contents errors.new) (fault_line result) }
+    ensures told { result ≢ Failed →
+        Appends (E.contents errors.old) (E.contents errors.new) (fault_line result) }
 {
     let status = perform(alloc, input, output);
     match status.tell(errors) {

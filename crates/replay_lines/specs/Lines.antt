@@ -1,5 +1,5 @@
--- The lines that tell what a server did. An instance goes by its number from 0, an event by its place from 1
--- among the instance's own, or among all where it is no instance's.
+-- The lines that tell what a server did. An instance goes by its number from 0, an event by its
+-- place from 1 among the instance's own, or among all where it is no instance's.
 use Rattle.std.specs.Prelude.{ℕ, List, ◌++◌, codes}
 use Rattle.std.specs.Fmt.{decimal}
 use Rattle.script.specs.Hexadecimal.{hex_word}

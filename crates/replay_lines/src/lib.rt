@@ -1,6 +1,6 @@
-//! The lines that tell what a server did with a script of events: for each instance the bytes that it
-//! sent on each connection, the orders that it gave and the events that it refused; and the events that
-//! were no instance's.
+//! The lines that tell what a server did with a script of events: for each instance the bytes that
+//! it sent on each connection, the orders that it gave and the events that it refused; and the
+//! events that were no instance's.
 #![tactic(auto)]
 
 ghost use Rattle.std.specs.Prelude.{◌≡◌, ◌++◌, ◌≤◌, length, take, OnOk, OnErr};
@@ -10,15 +10,16 @@ ghost use Rattle.replay_lines.specs.Lines.{sent_line, start_line, kill_line, ref
 use script::write_hex;
 use std::alloc::AllocError as NoMemory;
 
-/// Appends `out I C HEX` and a newline: the bytes that an instance put on a connection. Where memory is
-/// refused, `out` has the items that it had.
+/// Appends `out I C HEX` and a newline: the bytes that an instance put on a connection. Where
+/// memory is refused, `out` has the items that it had.
 pub fn write_sent(
     out: &mut Vec<u8>,
     instance: u32,
     connection: u32,
     bytes: &[u8],
 ) -> Result<(), NoMemory>
-    ensures written { OnOk result (out.new.items ≡ out.old.items ++ sent_line instance connection bytes.now) }
+    ensures written { OnOk result (out.new.items ≡ out.old.items
+        ++ sent_line instance connection bytes.now) }
     ensures refused { OnErr result (out.new.items ≡ out.old.items) }
 {
     let before = out.len();
@@ -35,7 +36,8 @@ fn append_sent(
     connection: u32,
     bytes: &[u8],
 ) -> Result<(), NoMemory>
-    ensures written { OnOk result (out.new.items ≡ out.old.items ++ sent_line instance connection bytes.now) }
+    ensures written { OnOk result (out.new.items ≡ out.old.items
+        ++ sent_line instance connection bytes.now) }
     ensures kept { take (length out.old.items) out.new.items ≡ out.old.items }
 {
     let start = format!(in *out.allocator(); "out {instance} {connection} ")?;
@@ -45,8 +47,8 @@ fn append_sent(
     Ok(())
 }
 
-/// Appends `order I K start JOB` and a newline: at its event of that place, counted from 1, the instance
-/// had the job started. Where memory is refused, `out` has the items that it had.
+/// Appends `order I K start JOB` and a newline: at its event of that place, counted from 1, the
+/// instance had the job started. Where memory is refused, `out` has the items that it had.
 pub fn write_start(out: &mut Vec<u8>, instance: u32, place: u64, job: u64) -> Result<(), NoMemory>
     ensures written { OnOk result (out.new.items ≡ out.old.items ++ start_line instance place job) }
     ensures refused { OnErr result (out.new.items ≡ out.old.items) }
@@ -55,8 +57,8 @@ pub fn write_start(out: &mut Vec<u8>, instance: u32, place: u64, job: u64) -> Re
     out.extend_from_slice(line.as_bytes())
 }
 
-/// Appends `order I K kill JOB` and a newline: at its event of that place, counted from 1, the instance
-/// had the job's program killed. Where memory is refused, `out` has the items that it had.
+/// Appends `order I K kill JOB` and a newline: at its event of that place, counted from 1, the
+/// instance had the job's program killed. Where memory is refused, `out` has the items that it had.
 pub fn write_kill(out: &mut Vec<u8>, instance: u32, place: u64, job: u64) -> Result<(), NoMemory>
     ensures written { OnOk result (out.new.items ≡ out.old.items ++ kill_line instance place job) }
     ensures refused { OnErr result (out.new.items ≡ out.old.items) }
@@ -73,7 +75,8 @@ pub fn write_refusal(
     place: u64,
     code: u32,
 ) -> Result<(), NoMemory>
-    ensures written { OnOk result (out.new.items ≡ out.old.items ++ refusal_line instance place code) }
+    ensures written { OnOk result (out.new.items ≡ out.old.items
+        ++ refusal_line instance place code) }
     ensures refused { OnErr result (out.new.items ≡ out.old.items) }
 {
     let line = format!(in *out.allocator(); "refused {instance} {place} {code}\n")?;

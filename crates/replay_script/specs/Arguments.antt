@@ -12,7 +12,8 @@ below limit word = option_and_then (λ number. if nat_lt number limit then Some 
 abbrev pub number_of : List ℕ → Option ℕ
 number_of word = below (2 ^ 32) word
 
--- the number from -2^31 to 2^31 - 1 that a word writes in decimal, perhaps with a minus (byte 45) before it
+-- the number from -2^31 to 2^31 - 1 that a word writes in decimal, perhaps with a minus (byte 45)
+-- before it
 abbrev pub exit_code_of : List ℕ → Option ℤ
 exit_code_of [] = None
 exit_code_of (byte ∷ word) =

@@ -56,7 +56,8 @@ outputs_of [] = Some []
 outputs_of (word ∷ words) =
     option_and_then (λ output. option_map (λ outputs. output ∷ outputs) (outputs_of words)) (output_of word)
 
--- JOB CODE HEX HEX PATH=HEX ..: the job's program exited with a code, standard output, standard error and files
+-- JOB CODE HEX HEX PATH=HEX ..: the job's program exited with a code, standard output, standard
+-- error and files
 abbrev pub exit_of : List (List ℕ) → Option WhatValue
 exit_of (job ∷ code ∷ stdout ∷ stderr ∷ files) =
     option_and_then (λ number. option_and_then (λ status. option_and_then (λ out. option_and_then (λ err.

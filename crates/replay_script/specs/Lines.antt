@@ -28,7 +28,8 @@ IsExitCode word code =
     ((number : ℕ) × IsNumber (2 ^ 31) word number × (code ≡ pos number))
     ⊎ ((digits : List ℕ) × (number : ℕ) × (word ≡ 45 ∷ digits) × IsNumber (2 ^ 31 + 1) digits number × (code ≡ neg_ℤ (pos number)))
 
--- a word of ASCII, PATH=HEX, is a file that may not be executed; its path may have `=` (byte 61) in it
+-- a word of ASCII, PATH=HEX, is a file that may not be executed; its path may have `=` (byte 61) in
+-- it
 pub record IsFile (word : List ℕ) (output : OutputValue) : Type 0 where
   pub form : word ≡ output.path ++ 61 ∷ hex_word output.content
   pub ascii : AllPass is_ascii word

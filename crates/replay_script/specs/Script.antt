@@ -40,8 +40,8 @@ with_config script config = record script { configs = script.configs ++ config �
 abbrev pub with_event : ScriptValue → EventValue → ScriptValue
 with_event script event = record script { events = script.events ++ event ∷ [] }
 
--- the script with one more line of these words; none where they have no form, or where they configure an
--- instance after an event or one that may not follow those before it
+-- the script with one more line of these words; none where they have no form, or where they
+-- configure an instance after an event or one that may not follow those before it
 abbrev pub after_words : ScriptValue → List (List ℕ) → Option ScriptValue
 after_words script [] = None
 after_words script (kind ∷ arguments) =

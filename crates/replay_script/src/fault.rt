@@ -7,8 +7,9 @@ use std::alloc::{AllocError, AllocFailed};
 /// Why a script was not read.
 #[derive(Clone, Copy)]
 pub enum ScriptFault {
-    /// The line of this number, counted from 1, is bad, and none before it: it has no form, configures
-    /// an instance after an event, or configures an instance that may not follow those before it.
+    /// The line of this number, counted from 1, is bad, and none before it: it has no form,
+    /// configures an instance after an event, or configures an instance that may not follow those
+    /// before it.
     BadLine(u64),
     /// Memory for the script was refused.
     NoMemory,

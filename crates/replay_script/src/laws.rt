@@ -7,12 +7,15 @@ ghost use Rattle.replay_script.specs.Script.{ScriptValue, after_line, empty_scri
 /// A text writes a script exactly where its lines lead there from nothing, and has a bad line of a
 /// number exactly where that line is bad and none before it is.
 pub fn bad_line_is_the_first(text: &[u8])
-    ensures script { (script : ScriptValue) → (script_of text.now ≡ Ok script) ↔ Leads empty_script (lines_of text.now) script }
-    ensures bad_line { (number : ℕ) → (script_of text.now ≡ Err number) ↔ IsFirstBadLine (lines_of text.now) number }
+    ensures script { (script : ScriptValue) →
+        (script_of text.now ≡ Ok script) ↔ Leads empty_script (lines_of text.now) script }
+    ensures bad_line { (number : ℕ) → (script_of text.now ≡ Err number)
+        ↔ IsFirstBadLine (lines_of text.now) number }
 {}
 
-/// A line leads from a script to the next exactly where it is empty or one of the eight lines: their
-/// words with one space between each two, and nothing else.
+/// A line leads from a script to the next exactly where it is empty or one of the eight lines:
+/// their words with one space between each two, and nothing else.
 pub fn a_good_line_has_a_form(line: &[u8])
-    ensures { (before after : ScriptValue) → (after_line before line.now ≡ Some after) ↔ IsGoodLine before line.now after }
+    ensures { (before after : ScriptValue) →
+        (after_line before line.now ≡ Some after) ↔ IsGoodLine before line.now after }
 {}

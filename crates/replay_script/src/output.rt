@@ -13,7 +13,8 @@ use std::str;
 
 /// The files of words PATH=HEX.
 pub(crate) fn read_outputs(alloc: Global, words: Parts) -> Result<Vec<OutputFile>, LineFault>
-    ensures read { IfOk result (λ outputs. outputs_of words.entry ≡ Some (map output_value outputs.items)) }
+    ensures read { IfOk result (λ outputs. outputs_of words.entry
+        ≡ Some (map output_value outputs.items)) }
     ensures bad { result ≡ Err LineFault.Bad → outputs_of words.entry ≡ None }
 {
     let mut outputs = Vec::new(alloc);
@@ -40,7 +41,8 @@ fn read_output(alloc: Global, word: &[u8]) -> Result<OutputFile, LineFault>
 
 // What stands before and after the last `=` of a word of ASCII.
 fn path_and_content(word: &[u8]) -> Option<(&str, &str)>
-    ensures { option_map (λ split. (split.0.now, split.1.now)) result ≡ path_and_content_of word.now }
+    ensures { option_map (λ split. (split.0.now, split.1.now)) result
+        ≡ path_and_content_of word.now }
 {
     if !are_ascii(word) {
         return None;

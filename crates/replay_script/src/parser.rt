@@ -26,7 +26,8 @@ pub fn parse(alloc: Global, text: &[u8]) -> Result<ReplayScript, ScriptFault>
     ensures bad_line { IfErr result (IsFaultOf (script_of text.now)) }
 
     // A server may have the instances.
-    ensures configs { IfOk result (λ script. config_fault (map config_value script.configs.items) ≡ None) }
+    ensures configs { IfOk result (λ script. config_fault (map config_value script.configs.items)
+        ≡ None) }
 {
     let mut script = ReplayScript {
         configs: Vec::new(alloc),
@@ -46,8 +47,10 @@ pub fn parse(alloc: Global, text: &[u8]) -> Result<ReplayScript, ScriptFault>
 
 // Adds what one more line says.
 fn read_line(alloc: Global, script: &mut ReplayScript, line: &[u8]) -> Result<(), LineFault>
-    ensures read { OnOk result (after_line (script_value script.old) line.now ≡ Some (script_value script.new)) }
-    ensures bad { result ≡ Err LineFault.Bad → after_line (script_value script.old) line.now ≡ None }
+    ensures read { OnOk result (after_line (script_value script.old) line.now
+        ≡ Some (script_value script.new)) }
+    ensures bad { result ≡ Err LineFault.Bad →
+        after_line (script_value script.old) line.now ≡ None }
 {
     if line.is_empty() {
         return Ok(());
@@ -73,8 +76,10 @@ fn read_config(
     before: &[InstanceConfig],
     words: Parts,
 ) -> Result<InstanceConfig, LineFault>
-    ensures read { IfOk result (λ config. config_of (map config_value before.now) words.entry ≡ Some (config_value config)) }
-    ensures bad { result ≡ Err LineFault.Bad → config_of (map config_value before.now) words.entry ≡ None }
+    ensures read { IfOk result (λ config. config_of (map config_value before.now) words.entry
+        ≡ Some (config_value config)) }
+    ensures bad { result ≡ Err LineFault.Bad →
+        config_of (map config_value before.now) words.entry ≡ None }
 {
     let (name, quota, slots) = three(words).ok_or(LineFault::Bad)?;
     let quota = decimal(quota).ok_or(LineFault::Bad)?;
@@ -90,8 +95,10 @@ fn config_if_good(
     quota: u64,
     slots: u32,
 ) -> Result<InstanceConfig, LineFault>
-    ensures made { IfOk result (λ made. config_if_good (map config_value before.now) (config name.now quota slots) ≡ Some (config_value made)) }
-    ensures bad { result ≡ Err LineFault.Bad → config_if_good (map config_value before.now) (config name.now quota slots) ≡ None }
+    ensures made { IfOk result (λ made. config_if_good (map config_value before.now)
+        (config name.now quota slots) ≡ Some (config_value made)) }
+    ensures bad { result ≡ Err LineFault.Bad →
+        config_if_good (map config_value before.now) (config name.now quota slots) ≡ None }
 {
     let Ok(name) = str::from_utf8(name) else {
         return Err(LineFault::Bad);

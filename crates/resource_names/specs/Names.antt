@@ -1,4 +1,5 @@
--- Resource names (remote_execution.proto, "ContentAddressableStorage"; bytestream.proto, `resource_name`).
+-- Resource names (remote_execution.proto, "ContentAddressableStorage"; bytestream.proto,
+-- `resource_name`).
 use Rattle.std.specs.Prelude.{◌≡◌, ℕ, Bool, ◌||◌, ◌&&◌, ◌==◌, nat_le, List, [], ◌∷◌, length, Option, Some, None, Result, Ok, Err, if◌then◌else◌, codes}
 use Rattle.std.specs.Str.{bytes_eq}
 use Rattle.digest.specs.declared.Digest.{Digest}

@@ -17,8 +17,8 @@ abbrev pub joined : List (List ℕ) → Option (List ℕ)
 joined [] = None
 joined (segment ∷ segments) = Some (join_with_byte 47 (segment ∷ segments))
 
--- a text around the segment that it is divided at: what stands before the slash before it, where there is one, that
--- segment, and those after it
+-- a text around the segment that it is divided at: what stands before the slash before it, where
+-- there is one, that segment, and those after it
 pub record Divided : Type 0 where
   pub before : Option (List ℕ)
   pub segment : List ℕ

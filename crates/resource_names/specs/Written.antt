@@ -45,7 +45,8 @@ pub record IsNameable (d : Digest) : Type 0 where
   pub bytes : IsBytes d.hash
   pub size : d.size < 2 ^ 63
 
--- a text writes the name of a blob for a Read, in whose instance no segment is `blobs` or `compressed-blobs`
+-- a text writes the name of a blob for a Read, in whose instance no segment is `blobs` or
+-- `compressed-blobs`
 pub record WritesRead (text : List ℕ) (name : ReadNameValue) : Type 0 where
   pub text_is : text ≡ read_text name
   pub apart : NoneDivides divides_read (segments_of name.instance)

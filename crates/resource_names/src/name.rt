@@ -21,7 +21,8 @@ pub struct ReadName<'a> {
     pub digest: Digest,
 }
 
-/// What a `Write` names: `{instance}/uploads/{uuid}/blobs/{hash}/{size}`, and perhaps further segments.
+/// What a `Write` names: `{instance}/uploads/{uuid}/blobs/{hash}/{size}`, and perhaps further
+/// segments.
 #[derive(Clone, Copy)]
 pub struct WriteName<'a> {
     /// The instance's name, empty where the name has none.

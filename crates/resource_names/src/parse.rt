@@ -72,8 +72,8 @@ fn digest_alone(left: Option<&str>) -> Result<Digest, NameError>
     digest(hash, size)
 }
 
-/// Reads the `resource_name` of a `Read` or refuses it for the first of these: it names compressed bytes, it has not
-/// the form, its hash, its size.
+/// Reads the `resource_name` of a `Read` or refuses it for the first of these: it names compressed
+/// bytes, it has not the form, its hash, its size.
 #[tactic(auto, unfolding(crate::specs::Names::read_name))]
 pub fn parse_read(text: &str) -> Result<ReadName<'_>, NameError>
     ensures name { Gives read_name_shown result (read_name text.now) }
@@ -121,8 +121,8 @@ fn upload<'a>(instance: &'a str, left: Option<&'a str>) -> Result<WriteName<'a>,
     })
 }
 
-/// Reads the `resource_name` of a `Write` or a `QueryWriteStatus`, or refuses it for the first of these: it names
-/// compressed bytes, it has not the form, its hash, its size.
+/// Reads the `resource_name` of a `Write` or a `QueryWriteStatus`, or refuses it for the first of
+/// these: it names compressed bytes, it has not the form, its hash, its size.
 #[tactic(auto, unfolding(crate::specs::Names::write_name))]
 pub fn parse_write(text: &str) -> Result<WriteName<'_>, NameError>
     ensures name { Gives write_name_shown result (write_name text.now) }

@@ -63,7 +63,8 @@ pub(crate) fn divide(text: &str, divider: Divider) -> Option<Division<'_>>
     None
 }
 
-/// What stands before the slash before the last bytes of a text, and `None` where they are all of it.
+/// What stands before the slash before the last bytes of a text, and `None` where they are all of
+/// it.
 fn before_rest<'a>(text: &'a str, rest: &str) -> Option<&'a str>
     requires { IsRest text.now rest.now }
     ensures { (passed : List (List ℕ)) → segments_of text.now ≡ passed ++ segments_of rest.now

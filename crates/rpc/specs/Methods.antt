@@ -1,4 +1,5 @@
--- The methods that are known, and their paths (gRPC over HTTP2, Path: the service's name and the method's).
+-- The methods that are known, and their paths (gRPC over HTTP2, Path: the service's name and the
+-- method's).
 use Rattle.std.specs.Prelude.{ℕ, List, [], ◌∷◌, Option, Some, None, codes, if◌then◌else◌}
 use Rattle.std.specs.Str.{bytes_eq}
 use Rattle.rpc.specs.declared.method.Method.{Method}

@@ -11,16 +11,16 @@ ghost use Rattle.server_events.specs.Events.{EventValue};
 ghost use Rattle.run_record.specs.Runs.{run_of};
 ghost use Rattle.run_limits.specs.Named.{StoresNamed};
 
-/// A call stores bytes only under the digest that names them, whatever its request says: a batch, and a Write too,
-/// message by message.
+/// A call stores bytes only under the digest that names them, whatever its request says: a batch,
+/// and a Write too, message by message.
 pub fn calls_store_named_texts()
     ensures { (s : InstanceState) (event : CallEventValue)
         → AllByRecursion (StoresNamed s.visible) (answer s event).changes }
 {}
 
-/// An instance by itself keeps its limits through every run. So its texts never have more bytes together than its
-/// quota, nor have its unfinished uploads, of which there are 64 at most; and each text is what its digest says: the
-/// hash is the text's SHA-256, and the size its length.
+/// An instance by itself keeps its limits through every run. So its texts never have more bytes
+/// together than its quota, nor have its unfinished uploads, of which there are 64 at most; and
+/// each text is what its digest says: the hash is the text's SHA-256, and the size its length.
 pub fn a_run_keeps_its_limits()
     ensures { (config : ConfigValue) (events : List EventValue) → config.quota ≤ 2 ^ 40
         → WithinLimits (run_of config events).lone.state }

@@ -1,6 +1,6 @@
--- What happens in a run that matters to answers: moments come, time passes, requests come that are no calls, and
--- events of calls, in order. Each definition here goes beside one of Lone.antt of served_instance, whose steps it
--- follows, and lists what happens in it.
+-- What happens in a run that matters to answers: moments come, time passes, requests come that are
+-- no calls, and events of calls, in order. Each definition here goes beside one of Lone.antt of
+-- served_instance, whose steps it follows, and lists what happens in it.
 use Rattle.std.specs.Prelude.{ℕ, suc, if◌then◌else◌, List, [], ◌∷◌, ◌++◌, map, Option, Some, None, Result, Ok, Err}
 use Rattle.std.specs.Option.{option_map_or}
 use Rattle.http2_frames.specs.declared.reader.TheConstants.{CLIENT_PREFACE}
@@ -27,7 +27,8 @@ pub data Happening : Type 0 where
   MomentCame : ℕ → Happening
   -- old uploads are forgotten
   TimePassed : Happening
-  -- the request on this stream, of the connection at this place, is no call: this item is owed to it at once
+  -- the request on this stream, of the connection at this place, is no call: this item is owed to
+  -- it at once
   RequestAnswered : ℕ → ℕ → Item → Happening
   -- something happens to a call on the connection at this place
   CallEventCame : ℕ → CallEventValue → Happening

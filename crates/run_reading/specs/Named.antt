@@ -1,4 +1,5 @@
--- What is served under a digest is what the digest says: the hash is its SHA-256, and the size its length.
+-- What is served under a digest is what the digest says: the hash is its SHA-256, and the size its
+-- length.
 use Rattle.std.specs.Prelude.{◌≡◌, ◌-◌, ◌==◌, ℕ, pos, if◌then◌else◌, List, [], ◌∷◌, take, drop, Option, Some, None, Ok}
 use Rattle.std.specs.List.{AllByRecursion}
 use Rattle.std.specs.Option.{option_map_or}
@@ -65,8 +66,8 @@ request_at s _ = None
 abbrev pub bytes_from : ℕ → ℕ → List ℕ → List ℕ
 bytes_from offset limit text = if limit == 0 then drop offset text else take limit (drop offset text)
 
--- a range is of the text that the instance itself has under the digest in the resource name, and that the digest
--- names; its bytes are those from read_offset on, at most read_limit of them
+-- a range is of the text that the instance itself has under the digest in the resource name, and
+-- that the digest names; its bytes are those from read_offset on, at most read_limit of them
 pub record IsNamedRange (s : InstanceState) (message : List ℕ) (given : SourceValue) : Type 0 where
   pub asked : ReadAsked
   pub asks : read_asked s.name message ≡ Ok asked
@@ -78,7 +79,8 @@ pub record IsNamedRange (s : InstanceState) (message : List ℕ) (given : Source
 
 -- ---- BatchReadBlobs (remote_execution.proto)
 
--- a response for each digest that was asked for, in order, and data with status OK are what that digest says
+-- a response for each digest that was asked for, in order, and data with status OK are what that
+-- digest says
 abbrev pub AreNamed : List Digest → List ReadBlobResponseValue → Type 0
 AreNamed [] [] = Unit {0}
 AreNamed (d ∷ ds) (r ∷ rs) = (r.digest ≡ Some (digest_value d)) × (r.status ≡ Some ok_status → Names d r.content) × AreNamed ds rs
@@ -94,7 +96,8 @@ pub record IsNamedBatch (s : InstanceState) (message bytes : List ℕ) : Type 0 
 
 -- ---- each blob that is served
 
--- a range is given to a Read alone, and is named by the digest that it asks for; so are the blobs of a batch
+-- a range is given to a Read alone, and is named by the digest that it asks for; so are the blobs
+-- of a batch
 abbrev pub IsNamedItem : InstanceState → Option Request → ReplyItemValue → Type 0
 IsNamedItem s (Some request) (gives given) = (request.method ≡ Read) × IsNamedRange s request.message given
 IsNamedItem s None (gives given) = ⊥

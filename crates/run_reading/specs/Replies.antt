@@ -1,6 +1,7 @@
--- What the streams of a run's connections are given for all that happens: at a request that is no call the answer to
--- it, and at an event of a call what the instance replies (`answer` of instance_core). Its state is a run of such
--- answers, of the moments at which they are given and of the passing of time, and of nothing else.
+-- What the streams of a run's connections are given for all that happens: at a request that is no
+-- call the answer to it, and at an event of a call what the instance replies (`answer` of
+-- instance_core). Its state is a run of such answers, of the moments at which they are given and of
+-- the passing of time, and of nothing else.
 use Rattle.std.specs.Prelude.{◌≡◌, ℕ, ◌==◌, ◌&&◌, suc, if◌then◌else◌, List, [], ◌∷◌, ◌++◌, map, fold}
 use Rattle.std.specs.List.{flat_map}
 use Rattle.http2_frames.specs.declared.reader.TheConstants.{CLIENT_PREFACE}
@@ -76,11 +77,13 @@ run_state config events = fold state_after (opened_by config) (run_happenings co
 abbrev pub run_connections : ConfigValue → List EventValue → List LoneConnection
 run_connections config events = (run_of config events).lone.connections
 
--- the longest message that the four bytes in front of it can state (gRPC over HTTP2, Length-Prefixed-Message)
+-- the longest message that the four bytes in front of it can state (gRPC over HTTP2,
+-- Length-Prefixed-Message)
 abbrev pub longest_message : ℕ
 longest_message = 4294967295
 
--- the frames that were received are those of the bytes that came, in order; some may be left behind an error
+-- the frames that were received are those of the bytes that came, in order; some may be left behind
+-- an error
 abbrev pub ReadsText : Past → Type 0
 ReadsText p = (later : List RawFrame) × ((split CLIENT_PREFACE.now p.text).frames ≡ raw_received p.diary ++ later)
 

@@ -10,9 +10,9 @@ ghost use Rattle.server_core.specs.Lone.{lone};
 ghost use Rattle.run_reading.specs.Replies.{run_connections, run_given, run_state, AreRead};
 ghost use Rattle.run_reading.specs.Named.{run_answerings, ServesNamed, GivesNamed};
 
-/// On each connection of a run the client reads what the streams were given: frames as they were meant, HEADERS and
-/// DATA on live streams and within the windows, control frames that were caused, and on each stream a beginning of
-/// the answers to its request, of which none is dropped.
+/// On each connection of a run the client reads what the streams were given: frames as they were
+/// meant, HEADERS and DATA on live streams and within the windows, control frames that were caused,
+/// and on each stream a beginning of the answers to its request, of which none is dropped.
 pub fn replies_are_read()
     ensures sent { (config : ConfigValue) (events : List EventValue)
         → (lone config events).sent ≡ map sent_on (run_connections config events) }
@@ -20,18 +20,19 @@ pub fn replies_are_read()
         → AreRead 0 (run_given config events) (run_connections config events) }
 {}
 
-/// The replies of a run are those that the instance gives to the events of its calls, one after another, from the
-/// state in which it was opened, each at its moment: nothing else makes its state, but that time passes.
+/// The replies of a run are those that the instance gives to the events of its calls, one after
+/// another, from the state in which it was opened, each at its moment: nothing else makes its
+/// state, but that time passes.
 pub fn replies_are_the_instances()
     ensures { (config : ConfigValue) (events : List EventValue)
         → (run_of config events).lone.state ≡ run_state config events }
 {}
 
-/// Each blob that is served in a run is named by the digest that was asked for: its SHA-256 is the hash, and its length
-/// the size. What a Read is given is a range of the text that the instance itself has under the digest in the
-/// resource name, from read_offset on and at most read_limit bytes (bytestream.proto). A reply to BatchReadBlobs has
-/// a response for each digest asked for, in order, and data with status OK are what that digest says
-/// (remote_execution.proto).
+/// Each blob that is served in a run is named by the digest that was asked for: its SHA-256 is the
+/// hash, and its length the size. What a Read is given is a range of the text that the instance
+/// itself has under the digest in the resource name, from read_offset on and at most read_limit
+/// bytes (bytestream.proto). A reply to BatchReadBlobs has a response for each digest asked for, in
+/// order, and data with status OK are what that digest says (remote_execution.proto).
 pub fn blobs_served_are_named()
     ensures answers { (config : ConfigValue) (events : List EventValue) → config.quota ≤ 2 ^ 40
         → AllByRecursion ServesNamed (run_answerings config events) }

@@ -11,8 +11,8 @@ use Rattle.run_record.specs.declared.record.OpenRecord.{OpenRecord}
 abbrev pub taken_on : ℕ → ℕ → OpenRecord → OpenRecord
 taken_on c n o = if o.number == c then record o { untaken = o.untaken - n } else o
 
--- which connections are open after an event, and how many bytes that were noted are not taken; before it there were
--- so many connections
+-- which connections are open after an event, and how many bytes that were noted are not taken;
+-- before it there were so many connections
 abbrev pub open_after : WhatValue → ℕ → List OpenRecord → List OpenRecord
 open_after (opened c) count os = os ++ record { number = c; place = count; untaken = 0 } ∷ []
 open_after (took c n) count os = map (taken_on c n) os

@@ -1,5 +1,6 @@
--- The run of one instance by itself: event after event, and what comes of them. Why an event is refused
--- (`refusal_of`), and what it makes of the instance (`lone_step`), is in served_instance, Refusals.antt.
+-- The run of one instance by itself: event after event, and what comes of them. Why an event is
+-- refused (`refusal_of`), and what it makes of the instance (`lone_step`), is in served_instance,
+-- Refusals.antt.
 use Rattle.std.specs.Prelude.{ℕ, ◌+◌, List, [], ◌∷◌, ◌++◌, fold, Option, Some, None}
 use Rattle.server_events.specs.Configs.{ConfigValue}
 use Rattle.server_events.specs.Events.{EventValue}

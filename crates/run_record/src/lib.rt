@@ -1,5 +1,5 @@
-//! The record of an instance's run: the bytes that were put on each of its connections, and the events that were
-//! refused.
+//! The record of an instance's run: the bytes that were put on each of its connections, and the
+//! events that were refused.
 #![tactic(auto)]
 
 mod outputs;

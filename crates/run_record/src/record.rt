@@ -44,7 +44,13 @@ impl Model for InstanceRecord {
 
     ghost Value = { RecordValue };
 
-    ghost view = { λ r. record { count = r.count; refusals = map refused_shown r.refusals.items; sent = map sent_shown r.sent.items; live = r.live.items } };
+    ghost view = { λ r. record {
+      count = r.count;
+      refusals = map refused_shown r.refusals.items;
+      sent = map sent_shown
+          r.sent.items;
+      live = r.live.items;
+    } };
 }
 
 impl InstanceRecord {
@@ -60,9 +66,9 @@ impl InstanceRecord {
         }
     }
 
-    /// Notes an event that the instance took or refused, and the bytes that it put. The instance is as the event
-    /// left it. Where memory is refused the event is counted, no refusal is noted, and of the bytes some may be: the
-    /// record stands for no run any more, and is to be dropped.
+    /// Notes an event that the instance took or refused, and the bytes that it put. The instance is
+    /// as the event left it. Where memory is refused the event is counted, no refusal is noted, and
+    /// of the bytes some may be: the record stands for no run any more, and is to be dropped.
     pub fn note(
         &mut self,
         instance: &ServedInstance,
@@ -183,8 +189,8 @@ fn gather(
     Ok(())
 }
 
-/// Appends what was put on an open connection since the last event. In a record of a run no more is untaken than is
-/// pending.
+/// Appends what was put on an open connection since the last event. In a record of a run no more is
+/// untaken than is pending.
 fn gather_from(
     sent: &mut Vec<SentBytes>,
     connection: &OpenRecord,
@@ -204,7 +210,8 @@ fn gather_from(
     }
 }
 
-/// More bytes of the connection at this place. In a record of a run each open connection has its place in `sent`.
+/// More bytes of the connection at this place. In a record of a run each open connection has its
+/// place in `sent`.
 fn append(sent: &mut Vec<SentBytes>, place: usize, more: &[u8]) -> Result<(), AllocError>
     ensures { OnOk result (map sent_shown sent.new.items
         ≡ more_at place more.now (map sent_shown sent.old.items)) }

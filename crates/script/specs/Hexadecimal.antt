@@ -1,4 +1,5 @@
--- Bytes in lower-case hexadecimal, two digits a byte, the high four bits first, and `-` for no bytes.
+-- Bytes in lower-case hexadecimal, two digits a byte, the high four bits first, and `-` for no
+-- bytes.
 use Rattle.std.specs.Prelude.{ℕ, Bool, ◌&&◌, ◌||◌, nat_le, if◌then◌else◌, List, [], ◌∷◌, codes, Option, Some, None}
 use Rattle.std.specs.List.{list_all}
 use Rattle.std.specs.Result.{result_ok}

@@ -3,7 +3,8 @@ use Rattle.std.specs.Prelude.{ℕ, ◌==◌, List, [], Option, Some, None}
 use Rattle.std.specs.Borrow.{Bor}
 use Rattle.std.specs.List.{slice_split}
 
--- the parts of a text between the bytes equal to the separator; one part more than there are separators
+-- the parts of a text between the bytes equal to the separator; one part more than there are
+-- separators
 abbrev pub parts_of : ℕ → List ℕ → List (List ℕ)
 parts_of separator text = slice_split (λ byte. byte == separator) text
 

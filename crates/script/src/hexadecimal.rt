@@ -10,7 +10,8 @@ use std::alloc::{AllocError as NoMemory, Global};
 /// The bytes that a word writes in lower-case hexadecimal, `-` for no bytes; `None` where the word
 /// writes none: an empty one, one of odd length, or one with another byte in it.
 pub fn hex_bytes(alloc: Global, word: &[u8]) -> Result<Option<Vec<u8>>, NoMemory>
-    ensures { IfOk result (λ found. option_map (λ bytes. bytes.items) found ≡ bytes_of_hex word.now) }
+    ensures { IfOk result (λ found. option_map (λ bytes. bytes.items) found
+        ≡ bytes_of_hex word.now) }
 {
     match word {
         [] => Ok(None),
@@ -21,7 +22,8 @@ pub fn hex_bytes(alloc: Global, word: &[u8]) -> Result<Option<Vec<u8>>, NoMemory
 
 // The bytes of pairs of lower-case digits.
 fn digits_bytes(alloc: Global, digits: &[u8]) -> Result<Option<Vec<u8>>, NoMemory>
-    ensures { IfOk result (λ found. option_map (λ bytes. bytes.items) found ≡ digits_bytes digits.now) }
+    ensures { IfOk result (λ found. option_map (λ bytes. bytes.items) found
+        ≡ digits_bytes digits.now) }
 {
     if !are_lower_digits(digits) {
         return Ok(None);
@@ -41,8 +43,8 @@ fn are_lower_digits(digits: &[u8]) -> bool
         .all(|byte| matches!(byte, b'0'..=b'9' | b'a'..=b'f'))
 }
 
-/// Appends the word that writes the bytes: lower-case hexadecimal, or `-` for no bytes. Where memory
-/// is refused, `out` has the items that it had.
+/// Appends the word that writes the bytes: lower-case hexadecimal, or `-` for no bytes. Where
+/// memory is refused, `out` has the items that it had.
 pub fn write_hex(out: &mut Vec<u8>, bytes: &[u8]) -> Result<(), NoMemory>
     ensures written { OnOk result (out.new.items ≡ out.old.items ++ hex_word bytes.now) }
     ensures refused { OnErr result (out.new.items ≡ out.old.items) }

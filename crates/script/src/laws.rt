@@ -11,7 +11,8 @@ ghost use Rattle.script.specs.Parts.{parts_of};
 pub fn parts_are_the_only_split(text: &[u8], separator: u8)
     ensures joined { join_with_byte separator (parts_of separator text.now) ≡ text.now }
     ensures apart { All (All (λ byte. byte ≢ separator)) (parts_of separator text.now) }
-    ensures only { (part : List ℕ) (parts : List (List ℕ)) → join_with_byte separator (part ∷ parts) ≡ text.now
+    ensures only { (part : List ℕ) (parts : List (List ℕ)) →
+        join_with_byte separator (part ∷ parts) ≡ text.now
         → All (All (λ byte. byte ≢ separator)) (part ∷ parts)
         → part ∷ parts ≡ parts_of separator text.now }
 {}
@@ -19,7 +20,8 @@ pub fn parts_are_the_only_split(text: &[u8], separator: u8)
 /// Bytes are read back from the word that writes them, and no other word is read as them.
 pub fn hexadecimal_is_read_back(bytes: &[u8])
     ensures read { bytes_of_hex (hex_word bytes.now) ≡ Some bytes.now }
-    ensures only { (word : List ℕ) → bytes_of_hex word ≡ Some bytes.now → word ≡ hex_word bytes.now }
+    ensures only { (word : List ℕ) → bytes_of_hex word ≡ Some bytes.now →
+        word ≡ hex_word bytes.now }
 {}
 
 /// A number is read back from its usual decimal digits, with any zeros before them.

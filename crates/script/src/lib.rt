@@ -1,8 +1,8 @@
 //! The words of the program's text files.
 //!
 //! A file is a list of lines, each ended by a newline; a last line without its newline is still a
-//! line. Between two words of a line stands one space. A word may stand for a decimal number, or for
-//! bytes in hexadecimal.
+//! line. Between two words of a line stands one space. A word may stand for a decimal number, or
+//! for bytes in hexadecimal.
 #![tactic(auto)]
 
 mod hexadecimal;

@@ -7,15 +7,16 @@ use Rattle.served_instance.specs.Lone.{Lone}
 use Rattle.run_record.specs.Runs.{run_of}
 use Rattle.serve.specs.declared.sockets.Socket.{Socket}
 
--- at a port a connection was accepted under a number; these bytes were read from it; these were written to it; or it
--- was closed
+-- at a port a connection was accepted under a number; these bytes were read from it; these were
+-- written to it; or it was closed
 pub data PortEvent : Type 0 where
   accepted : ℕ → PortEvent
   read : ℕ → List ℕ → PortEvent
   written : ℕ → List ℕ → PortEvent
   shut : ℕ → PortEvent
 
--- the clock was read, in milliseconds; or something happened at the port of the instance of a number
+-- the clock was read, in milliseconds; or something happened at the port of the instance of a
+-- number
 pub data SocketEvent : Type 0 where
   clock : ℕ → SocketEvent
   port : ℕ → PortEvent → SocketEvent

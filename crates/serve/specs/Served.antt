@@ -21,8 +21,8 @@ AreNextOn c l bytes = IsSomeAnd (open_at c l.connections) (λ p. StartsWith (pen
 abbrev pub IsWritten : ℕ → ℕ → ℕ → List ℕ → Lone → Type 0
 IsWritten m i c bytes l = AreNextOn c l bytes × (refusal_of (record { moment = m; instance = i; what = took c (length bytes) }) l ≡ None)
 
--- a connection is accepted under a number that no open one has, and what is written to one is what its instance alone
--- has waiting on it by then, and counts as taken
+-- a connection is accepted under a number that no open one has, and what is written to one is what
+-- its instance alone has waiting on it by then, and counts as taken
 abbrev pub IsFaithful : List ConfigValue → List SocketEvent → SocketEvent → Type 0
 IsFaithful configs before (port i (written c bytes)) = (config : ConfigValue) → config_at i configs ≡ Some config → IsWritten (moment_of before) i c bytes (lone_of config i before)
 IsFaithful configs before (port i (accepted c)) = (config : ConfigValue) → config_at i configs ≡ Some config → open_at c (lone_of config i before).connections ≡ None

@@ -20,8 +20,8 @@ pub(crate) enum Tried {
     Over,
 }
 
-/// Tells the server what happens to an instance, and says whether it accepted that. An error is want of memory,
-/// after which it accepts nothing more.
+/// Tells the server what happens to an instance, and says whether it accepted that. An error is
+/// want of memory, after which it accepts nothing more.
 pub(crate) fn tell(
     server: &mut Server,
     moment: u64,
@@ -73,7 +73,8 @@ fn receive<S: Sockets>(
     }
 }
 
-/// Sends the bytes that wait for the client, as far as the socket takes them, and tells the server so.
+/// Sends the bytes that wait for the client, as far as the socket takes them, and tells the server
+/// so.
 fn send<S: Sockets>(
     server: &mut Server,
     sockets: &mut S,
@@ -136,8 +137,8 @@ pub(crate) fn close<S: Sockets>(
     Ok(())
 }
 
-/// Receives and sends, and closes the connection where its client is gone, or where an error of it was met and the
-/// client was sent all that waited for it: then the connection is over.
+/// Receives and sends, and closes the connection where its client is gone, or where an error of it
+/// was met and the client was sent all that waited for it: then the connection is over.
 pub(crate) fn exchange<S: Sockets>(
     alloc: Global,
     server: &mut Server,

@@ -33,7 +33,8 @@ struct Serving {
 impl Serving {
     /// A server of instances with these configurations, and no connections.
     fn new(alloc: Global, configs: &Configs) -> Result<Serving, AllocError>
-        ensures serving { IfOk result (λ s. IsServing configs.now (Some []) s.server.instances s.moment) }
+        ensures serving { IfOk result (λ s. IsServing configs.now
+            (Some []) s.server.instances s.moment) }
         ensures instances { IfOk result (λ s. s.instances ≡ length configs.now) }
     {
         Ok(Serving {
@@ -47,13 +48,14 @@ impl Serving {
         })
     }
 
-    /// Tells the time, tries each port, but only once a millisecond, and tries each connection. It says whether
-    /// anything moved.
+    /// Tells the time, tries each port, but only once a millisecond, and tries each connection. It
+    /// says whether anything moved.
     fn turn<S: Sockets>(&mut self, sockets: &mut S) -> Result<bool, AllocError>
         ensures serving { (configs : List ConfigValue)
             → length configs ≤ self.old.instances
             → IsServing configs (S.happened sockets.old) self.old.server.instances self.old.moment
-            → IsAfter result configs (S.happened sockets.new) self.new.server.instances self.new.moment }
+            → IsAfter result configs
+            (S.happened sockets.new) self.new.server.instances self.new.moment }
         ensures instances { OnOk result (self.new.instances ≡ self.old.instances) }
     {
         self.tick(sockets)?;
@@ -71,7 +73,8 @@ impl Serving {
         ensures serving { (configs : List ConfigValue)
             → length configs ≤ self.old.instances
             → IsServing configs (S.happened sockets.old) self.old.server.instances self.old.moment
-            → IsAfter result configs (S.happened sockets.new) self.new.server.instances self.new.moment }
+            → IsAfter result configs
+            (S.happened sockets.new) self.new.server.instances self.new.moment }
         ensures instances { OnOk result (self.new.instances ≡ self.old.instances) }
     {
         self.moment = sockets.now();
@@ -85,7 +88,8 @@ impl Serving {
     fn open_all<S: Sockets>(&mut self, sockets: &mut S) -> Result<bool, AllocError>
         ensures serving { (configs : List ConfigValue)
             → IsServing configs (S.happened sockets.old) self.old.server.instances self.old.moment
-            → IsAfter result configs (S.happened sockets.new) self.new.server.instances self.new.moment }
+            → IsAfter result configs
+            (S.happened sockets.new) self.new.server.instances self.new.moment }
         ensures instances { OnOk result (self.new.instances ≡ self.old.instances) }
     {
         let mut opened = false;
@@ -97,12 +101,13 @@ impl Serving {
         Ok(opened)
     }
 
-    /// Opens the next connection that waits at an instance's port, or closes it at once where the instance has as many
-    /// as it may have. It says whether there was any.
+    /// Opens the next connection that waits at an instance's port, or closes it at once where the
+    /// instance has as many as it may have. It says whether there was any.
     fn open<S: Sockets>(&mut self, sockets: &mut S, instance: u32) -> Result<bool, AllocError>
         ensures serving { (configs : List ConfigValue)
             → IsServing configs (S.happened sockets.old) self.old.server.instances self.old.moment
-            → IsAfter result configs (S.happened sockets.new) self.new.server.instances self.new.moment }
+            → IsAfter result configs
+            (S.happened sockets.new) self.new.server.instances self.new.moment }
         ensures instances { OnOk result (self.new.instances ≡ self.old.instances) }
     {
         let connection = self.next;
@@ -132,11 +137,13 @@ impl Serving {
         Ok(true)
     }
 
-    /// Receives and sends on each connection, and lets go of those that are over. It says whether anything moved.
+    /// Receives and sends on each connection, and lets go of those that are over. It says whether
+    /// anything moved.
     fn exchange_all<S: Sockets>(&mut self, sockets: &mut S) -> Result<bool, AllocError>
         ensures serving { (configs : List ConfigValue)
             → IsServing configs (S.happened sockets.old) self.old.server.instances self.old.moment
-            → IsAfter result configs (S.happened sockets.new) self.new.server.instances self.new.moment }
+            → IsAfter result configs
+            (S.happened sockets.new) self.new.server.instances self.new.moment }
         ensures instances { OnOk result (self.new.instances ≡ self.old.instances) }
     {
         let alloc = *self.connections.allocator();
@@ -161,11 +168,13 @@ impl Serving {
     }
 }
 
-/// Serves instances with these configurations for so many turns, over sockets at which nothing has happened yet.
+/// Serves instances with these configurations for so many turns, over sockets at which nothing has
+/// happened yet.
 ///
-/// In each turn the time is told to each instance; at each port one connection is accepted, once a millisecond at most;
-/// of each connection at most 16,384 bytes are read, and what waits on it is written. A connection is closed where its
-/// client is gone or its socket failed, and where an error of it was met and the client was sent all that waited.
+/// In each turn the time is told to each instance; at each port one connection is accepted, once a
+/// millisecond at most; of each connection at most 16,384 bytes are read, and what waits on it is
+/// written. A connection is closed where its client is gone or its socket failed, and where an
+/// error of it was met and the client was sent all that waited.
 ///
 /// `served`: a connection is accepted under a number that no open one of its instance has, and what is written to one is
 /// each time what its instance alone, by its own events, has waiting on it then. No fault of a socket ends the turns. An

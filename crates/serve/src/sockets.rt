@@ -5,7 +5,8 @@ ghost use Rattle.std.specs.Io.{ReadsAtMost, WritesAtMost};
 
 use std::io::{self, ErrorKind};
 
-/// A connection at the port of an instance. A number may name another connection once the one that it named was closed.
+/// A connection at the port of an instance. A number may name another connection once the one that
+/// it named was closed.
 #[derive(Clone, Copy, Debug, PartialEq, Eq, Hash)]
 pub struct Socket {
     /// The instance's number, counted from 0.
@@ -15,7 +16,8 @@ pub struct Socket {
 
 /// The ports of a server's instances, the connections to its clients, and a clock.
 ///
-/// No call waits but `rest`: where one cannot be carried out now, it answers an error for which [`is_not_ready`] holds.
+/// No call waits but `rest`: where one cannot be carried out now, it answers an error for which
+/// [`is_not_ready`] holds.
 pub trait Sockets {
     ghost use Rattle.serve.specs.Happened.{SocketEvent, clock, accepted_by, read_by, written_by, shut_by, moment_of, Adds};
 
@@ -34,12 +36,14 @@ pub trait Sockets {
     /// Takes bytes that came, and says how many. With none the client sends no more.
     fn read(&mut self, socket: Socket, room: &mut [u8]) -> io::Result<usize>
         ensures bound { ReadsAtMost result room.new }
-        ensures adds { Adds (happened self.old) (happened self.new) (read_by socket result room.new) };
+        ensures adds { Adds (happened self.old) (happened self.new)
+            (read_by socket result room.new) };
 
     /// Sends the first of these bytes, and says how many.
     fn write(&mut self, socket: Socket, bytes: &[u8]) -> io::Result<usize>
         ensures bound { WritesAtMost result bytes.now }
-        ensures adds { Adds (happened self.old) (happened self.new) (written_by socket result bytes.now) };
+        ensures adds { Adds (happened self.old) (happened self.new)
+            (written_by socket result bytes.now) };
 
     /// Closes a connection: no more is sent on it. A fault is passed over.
     fn close(&mut self, socket: Socket)
@@ -48,7 +52,8 @@ pub trait Sockets {
     /// How many calls failed, other than because nothing was ready.
     fn faults(&self) -> u64;
 
-    /// Waits until something may be ready, or for a short while. So many turns went by in which nothing moved.
+    /// Waits until something may be ready, or for a short while. So many turns went by in which
+    /// nothing moved.
     fn rest(&mut self, idle_turns: u64)
         ensures adds { Adds (happened self.old) (happened self.new) [] };
 }

@@ -1,4 +1,5 @@
--- How the events of a connection's calls reach the instance, and what its replies owe to streams (gRPC over HTTP2).
+-- How the events of a connection's calls reach the instance, and what its replies owe to streams
+-- (gRPC over HTTP2).
 use Rattle.std.specs.Prelude.{ℕ, ◌-◌, List, [], ◌∷◌, map}
 use Rattle.grpc_calls.specs.declared.response.ResponseBlock.TheVariants.{Head as ResponseHead, Trailers, TrailersOnly}
 use Rattle.grpc_calls.specs.declared.response.Status.TheVariants.{Success}

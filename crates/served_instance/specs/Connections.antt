@@ -1,4 +1,5 @@
--- The connections of an instance, by their numbers. A number may be used again when its connection is closed.
+-- The connections of an instance, by their numbers. A number may be used again when its connection
+-- is closed.
 use Rattle.std.specs.Prelude.{ℕ, ◌==◌, ◌&&◌, if◌then◌else◌, Bool, false, List, [], ◌∷◌, map, filter, Option, Some, None}
 use Rattle.conn_core.specs.Past.{Past}
 

@@ -1,4 +1,5 @@
--- What the items of replies owe with the texts of their ranges, and what becomes of the sources that they hold.
+-- What the items of replies owe with the texts of their ranges, and what becomes of the sources
+-- that they hold.
 use Rattle.std.specs.Prelude.{◌≡◌, ◌+◌, ◌≤◌, ◌<◌, ◌^◌, ℕ, List, length, map}
 use Rattle.std.specs.List.{AllByRecursion}
 use Rattle.blob_pool.specs.Held.{Slots}

@@ -1,4 +1,5 @@
--- The ranges that connections have still to put: what they are with the texts of their sources, and which they hold.
+-- The ranges that connections have still to put: what they are with the texts of their sources, and
+-- which they hold.
 use Rattle.std.specs.Prelude.{◌≡◌, ◌+◌, ℕ, List, [], map}
 use Rattle.std.specs.List.{flat_map, AllByRecursion}
 use Rattle.blob_pool.specs.Held.{Slots}

@@ -40,13 +40,15 @@ stepped e l (Some refusal) = l
 abbrev pub lone_step : EventValue → Lone → Lone
 lone_step e l = stepped e l (refusal_of e l)
 
--- an event is refused for its reason, where there is one; and for want of memory only where there is none
+-- an event is refused for its reason, where there is one; and for want of memory only where there
+-- is none
 abbrev pub IsOutcome : {A : Type 0} → Result A EventRefusal → Option EventRefusal → Type 0
 IsOutcome (Ok x) reason = reason ≡ None
 IsOutcome (Err NoMemory) reason = reason ≡ None
 IsOutcome (Err refusal) reason = reason ≡ Some refusal
 
--- an event that takes no memory: bytes were taken, a connection was closed, time went on, or a job ended
+-- an event that takes no memory: bytes were taken, a connection was closed, time went on, or a job
+-- ended
 abbrev pub NeedsNoMemory : WhatValue → Type 0
 NeedsNoMemory (opened c) = ⊥
 NeedsNoMemory (received c bytes) = ⊥

@@ -8,7 +8,8 @@ use Rattle.served_instance.specs.Lone.{Lone}
 use Rattle.served_instance.specs.StandsFor.{Served, ServedState, AreServed, IsWithin}
 use Rattle.served_instance.specs.Ranges.{served_with, sources_at, range_holders, AreFit, HaveFew}
 
--- the instance, whose texts stand in slots, and its open connections, whose ranges are of texts in slots
+-- the instance, whose texts stand in slots, and its open connections, whose ranges are of texts in
+-- slots
 pub record ServedSlots : Type 0 where
   pub instance : InstanceSlots
   pub connections : List Served
@@ -21,7 +22,8 @@ served_in p v = record {
   ranges = map (text_at p) (sources_at v.connections);
 }
 
--- how often it holds each slot: by the entries of its instance, and by the ranges of its connections
+-- how often it holds each slot: by the entries of its instance, and by the ranges of its
+-- connections
 abbrev pub holders_of : ServedSlots → Holders
 holders_of v k = holders_of_instance v.instance k + range_holders v.connections k
 

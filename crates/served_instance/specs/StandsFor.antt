@@ -16,9 +16,11 @@ pub record Served : Type 0 where
 
 pub record ServedState : Type 0 where
   pub state : InstanceState
-  -- the open connections, in order of opening; of each range the messages stand there that are to be put
+  -- the open connections, in order of opening; of each range the messages stand there that are to
+  -- be put
   pub connections : List Served
-  -- the text of each range, as often as it is held: until the range is wholly put, or its stream is over
+  -- the text of each range, as often as it is held: until the range is wholly put, or its stream is
+  -- over
   pub ranges : List (List ℕ)
 
 -- with these texts of the sources of their ranges

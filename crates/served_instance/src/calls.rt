@@ -66,7 +66,8 @@ fn give_due(
     Ok(())
 }
 
-/// Reads the next whole frame of the connection, if there is one, and gives the instance what it brings to calls.
+/// Reads the next whole frame of the connection, if there is one, and gives the instance what it
+/// brings to calls.
 fn read_next(
     alloc: Global,
     pool: &mut Pool,
@@ -93,7 +94,8 @@ fn read_next(
     }
 }
 
-/// Reads all whole frames, and gives the instance what each brings to calls before the next is read.
+/// Reads all whole frames, and gives the instance what each brings to calls before the next is
+/// read.
 pub(crate) fn receive(
     alloc: Global,
     pool: &mut Pool,
@@ -114,8 +116,8 @@ pub(crate) fn receive(
     Ok(())
 }
 
-/// The connection goes, each of its calls is given up, and the sources of its ranges are released. This takes no
-/// memory.
+/// The connection goes, each of its calls is given up, and the sources of its ranges are released.
+/// This takes no memory.
 pub(crate) fn close(
     pool: &mut Pool,
     instance: &mut Instance,

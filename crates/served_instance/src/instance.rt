@@ -70,10 +70,11 @@ impl ServedInstance {
         })
     }
 
-    /// Takes an event, with the pool that has the instance's texts: it is refused for the first reason that stands,
-    /// and then nothing is changed; or it is carried out to its end, and all that can be put on open connections is
-    /// put. After a refusal of memory the instance may have done a part of it, and stands for no instance by itself
-    /// any more: it is to be dropped. Its limits stand then too, and the pool still counts it.
+    /// Takes an event, with the pool that has the instance's texts: it is refused for the first
+    /// reason that stands, and then nothing is changed; or it is carried out to its end, and all
+    /// that can be put on open connections is put. After a refusal of memory the instance may have
+    /// done a part of it, and stands for no instance by itself any more: it is to be dropped. Its
+    /// limits stand then too, and the pool still counts it.
     pub fn step(&mut self, pool: &mut Pool, event: &Event) -> Result<(), EventRefusal>
         requires kept { IsKept pool.old self.old }
         ensures outcome { (l : Lone) → StandsFor (served_in pool.old self.old) l

@@ -1,5 +1,5 @@
-//! One instance of the server with its connections: from what happens to it to the bytes that wait for its
-//! clients.
+//! One instance of the server with its connections: from what happens to it to the bytes that wait
+//! for its clients.
 #![tactic(auto)]
 
 mod calls;

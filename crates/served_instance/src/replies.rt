@@ -41,8 +41,9 @@ pub(crate) fn call_event_on(connection: u32, event: Seen) -> CallEvent
     }
 }
 
-/// Owes each reply to the stream of its call, where its connection is open. The ranges that no connection takes are
-/// released: those of other connections, and where memory is refused those that are left.
+/// Owes each reply to the stream of its call, where its connection is open. The ranges that no
+/// connection takes are released: those of other connections, and where memory is refused those
+/// that are left.
 pub(crate) fn give_all(
     pool: &mut Pool,
     connections: &mut [OpenConnection],
@@ -69,7 +70,8 @@ pub(crate) fn give_all(
     Ok(())
 }
 
-/// Owes the items of the reply to the stream of its call, where its connection is open, and else releases its ranges.
+/// Owes the items of the reply to the stream of its call, where its connection is open, and else
+/// releases its ranges.
 fn give(
     pool: &mut Pool,
     connections: &mut [OpenConnection],
@@ -96,7 +98,8 @@ fn give(
     }
 }
 
-/// Owes items to the stream, one after another. Where memory is refused the ranges that are left are released.
+/// Owes items to the stream, one after another. Where memory is refused the ranges that are left
+/// are released.
 fn owe(
     pool: &mut Pool,
     connection: &mut Connection,

@@ -17,7 +17,8 @@ abbrev pub all_holders : List ServedSlots → Holders
 all_holders [] k = 0
 all_holders (x ∷ xs) k = holders_of x k + all_holders xs k
 
--- each range of an instance ends within the text of its source, and no connection has too many of a slot
+-- each range of an instance ends within the text of its source, and no connection has too many of a
+-- slot
 pub record HasRanges (p : Slots) (x : ServedSlots) : Type 0 where
   pub fit : AreFit (text_at p) x.connections
   pub few : HaveFew x.connections

@@ -5,9 +5,9 @@ ghost use Rattle.server_events.specs.Configs.{ConfigValue};
 ghost use Rattle.server_events.specs.Events.{EventValue, own_events};
 ghost use Rattle.server_core.specs.Lone.{lone};
 
-/// No instance learns anything of another: two runs, of two servers, that agree on an instance's configuration and
-/// on its own events give it equal bytes on each connection and equal refusals, whatever else happens, and whatever
-/// number it has there.
+/// No instance learns anything of another: two runs, of two servers, that agree on an instance's
+/// configuration and on its own events give it equal bytes on each connection and equal refusals,
+/// whatever else happens, and whatever number it has there.
 pub fn equal_events_give_equal_outputs()
     ensures { (this that : ConfigValue) (i j : ℕ) (these those : List EventValue) → this ≡ that
         → own_events i these ≡ own_events j those

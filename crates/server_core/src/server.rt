@@ -26,8 +26,9 @@ use server_events::{Configs, Event};
 use std::alloc::{AllocError, Global};
 use std::marker::Model;
 
-/// A server with its instances, by their numbers, over one pool of texts: a text that several instances have stands
-/// there once. After a refusal of memory it holds nothing, and refuses all events so.
+/// A server with its instances, by their numbers, over one pool of texts: a text that several
+/// instances have stands there once. After a refusal of memory it holds nothing, and refuses all
+/// events so.
 #[derive(Drop)]
 pub struct Server {
     pool: Pool,
@@ -44,7 +45,8 @@ impl Model for Server {
 
     ghost view = { λ s. record { instances = all_in s.pool s.instances.items; failed = s.failed } };
 
-    ghost invariant = { λ s. (s.failed ≡ true → s.instances.items ≡ []) × IsServer s.pool s.instances.items };
+    ghost invariant = { λ s. (s.failed ≡ true → s.instances.items ≡ [])
+        × IsServer s.pool s.instances.items };
 }
 
 impl Server {
@@ -72,8 +74,8 @@ impl Server {
         })
     }
 
-    /// Takes an event. It is refused for the first reason that stands, and then nothing is changed; or its instance
-    /// does what it would do alone. No other instance changes.
+    /// Takes an event. It is refused for the first reason that stands, and then nothing is changed;
+    /// or its instance does what it would do alone. No other instance changes.
     pub fn step(&mut self, event: &Event) -> Result<(), EventRefusal>
         // The event's instance does what it would do alone, which is nothing where it refuses.
         ensures own { result ≢ Err EventRefusal.NoMemory → (l : Lone)
@@ -136,24 +138,26 @@ impl Server {
         self.instance(instance)?.ended(connection)
     }
 
-    /// How many different texts the instances hold, and how many bytes these have together. An instance holds the
-    /// texts of its blobs, and each text of which a range is still to be put. One that is held several times counts
-    /// once.
+    /// How many different texts the instances hold, and how many bytes these have together. An
+    /// instance holds the texts of its blobs, and each text of which a range is still to be put.
+    /// One that is held several times counts once.
     pub fn stored(&self) -> (u64, u128)
         ensures { AreStored (texts_held self.now) result.0 result.1 }
     {
         stored_of(&self.pool, &self.instances)
     }
 
-    /// The pool of texts. After every event, also a refused one, it has each text that an instance holds in one slot,
-    /// which counts how often the instances hold it, for blobs and for ranges, and nothing else.
+    /// The pool of texts. After every event, also a refused one, it has each text that an instance
+    /// holds in one slot, which counts how often the instances hold it, for blobs and for ranges,
+    /// and nothing else.
     pub fn pool(&self) -> &Pool
         ensures { IsPoolOf result.now self.now }
     {
         pool_of(&self.pool, &self.instances)
     }
 
-    /// The instance of this number. What it keeps of its own is the instance, with the texts that a pool has.
+    /// The instance of this number. What it keeps of its own is the instance, with the texts that a
+    /// pool has.
     pub fn instance(&self, number: u32) -> Option<&ServedInstance>
         ensures { (p : Slots) × (option_map (λ served. served_in p served.now) result
             ≡ instance_at number self.now.instances) }

@@ -27,8 +27,8 @@ pub struct Outputs {
     pub strays: Vec<u64>,
 }
 
-/// Runs a server through events. Each instance gives the very bytes on its connections, and the refusals, that it
-/// would give alone: they are determined by its configuration and its own events.
+/// Runs a server through events. Each instance gives the very bytes on its connections, and the
+/// refusals, that it would give alone: they are determined by its configuration and its own events.
 pub fn run(alloc: Global, configs: &Configs, events: &[Event]) -> Result<Outputs, AllocError>
     ensures alone { IfOk result (λ outputs. (i : ℕ) (config : ConfigValue)
         → config_at i configs.now ≡ Some config
@@ -65,8 +65,8 @@ fn limits_are_kept(configs: &Configs)
     a_run_keeps_its_limits();
 }
 
-/// Gives the server the event of this place, and notes what came of it in the record of its instance, or among the
-/// strays.
+/// Gives the server the event of this place, and notes what came of it in the record of its
+/// instance, or among the strays.
 fn step_and_note(
     server: &mut Server,
     records: &mut [InstanceRecord],
@@ -84,7 +84,8 @@ fn step_and_note(
         → HasRun i server.new.instances records.new
         (if event.now.instance == i then run_step r (event_value event.now) else r)) }
     ensures strays { OnOk result (strays.new.items
-        ≡ strays.old.items ++ stray_at place (length server.old.instances) (event_value event.now)) }
+        ≡ strays.old.items ++ stray_at place (length server.old.instances)
+        (event_value event.now)) }
 {
     let outcome = server.step(event);
     if matches!(outcome, Err(EventRefusal::NoMemory)) {

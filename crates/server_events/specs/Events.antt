@@ -12,7 +12,8 @@ pub data OutcomeValue : Type 0 where
   failed : OutcomeValue
   exited : ℤ → List ℕ → List ℕ → List OutputValue → OutcomeValue
 
--- a connection was opened, got bytes, had some taken or was closed; time went on; or a job's program ended
+-- a connection was opened, got bytes, had some taken or was closed; time went on; or a job's
+-- program ended
 pub data WhatValue : Type 0 where
   opened : ℕ → WhatValue
   received : ℕ → List ℕ → WhatValue

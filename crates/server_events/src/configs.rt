@@ -20,8 +20,8 @@ pub struct InstanceConfig {
     pub slots: u32,
 }
 
-/// The configurations of a server's instances: at most [`INSTANCE_LIMIT`], each with a name, a quota
-/// and slots that an instance may have, and no two of one name.
+/// The configurations of a server's instances: at most [`INSTANCE_LIMIT`], each with a name, a
+/// quota and slots that an instance may have, and no two of one name.
 ///
 /// Contracts see it as the list of them, which has no fault.
 #[derive(Drop)]
@@ -43,12 +43,14 @@ impl Model for Configs {
 
 impl Configs {
     /// The configurations of this list, or its first fault: too many instances; and else the first
-    /// fault of the first instance that has one, in the order name, quota, slots, name of an earlier
-    /// instance. It takes no memory.
+    /// fault of the first instance that has one, in the order name, quota, slots, name of an
+    /// earlier instance. It takes no memory.
     pub fn new(instances: Vec<InstanceConfig>) -> Result<Configs, ConfigFault>
         ensures configs { IfOk result (λ configs. configs ≡ map config_value instances.items) }
-        ensures good { IfOk result (λ configs. config_fault (map config_value instances.items) ≡ None) }
-        ensures fault { IfErr result (λ fault. config_fault (map config_value instances.items) ≡ Some fault) }
+        ensures good { IfOk result (λ configs. config_fault (map config_value instances.items)
+            ≡ None) }
+        ensures fault { IfErr result (λ fault. config_fault (map config_value instances.items)
+            ≡ Some fault) }
     {
         if instances.len() > INSTANCE_LIMIT {
             return Err(ConfigFault::TooMany);
@@ -68,8 +70,8 @@ impl Configs {
     }
 }
 
-/// The first fault that an instance has which follows these others, in the order name, quota, slots,
-/// name of an earlier instance.
+/// The first fault that an instance has which follows these others, in the order name, quota,
+/// slots, name of an earlier instance.
 pub fn own_fault(before: &[InstanceConfig], config: &InstanceConfig) -> Option<ConfigFault>
     ensures { result ≡ own_fault (map config_value before.now) (config_value config.now) }
 {

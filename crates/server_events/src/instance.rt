@@ -14,8 +14,8 @@ pub const QUOTA_LIMIT: u64 = 1 << 40;
 /// The most actions that an instance may run at once.
 pub const SLOTS_LIMIT: u32 = 64;
 
-/// Whether an instance may have this name: 1 to 64 of `a` to `z`, `0` to `9` and `-`, and not one of
-/// the words that part a resource name (remote_execution.proto, `instance_name`).
+/// Whether an instance may have this name: 1 to 64 of `a` to `z`, `0` to `9` and `-`, and not one
+/// of the words that part a resource name (remote_execution.proto, `instance_name`).
 pub fn is_instance_name(name: &[u8]) -> bool
     ensures value { result ≡ is_instance_name name.now }
     ensures exact { IsTrue result ↔ IsInstanceName name.now }

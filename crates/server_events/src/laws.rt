@@ -8,17 +8,21 @@ ghost use Rattle.server_events.specs.declared.fault.ConfigFault.{ConfigFault};
 
 use crate::configs::InstanceConfig;
 
-/// Configurations have no fault exactly where a server may have them, and a fault exactly where it is
-/// the first in its order: the number of instances, and then instance by instance.
+/// Configurations have no fault exactly where a server may have them, and a fault exactly where it
+/// is the first in its order: the number of instances, and then instance by instance.
 pub fn the_fault_is_the_first(configs: &[InstanceConfig])
-    ensures none { (config_fault (map config_value configs.now) ≡ None) ↔ AreConfigs (map config_value configs.now) }
-    ensures some { (fault : ConfigFault) → (config_fault (map config_value configs.now) ≡ Some fault) ↔ IsFaultOf (map config_value configs.now) fault }
+    ensures none { (config_fault (map config_value configs.now) ≡ None)
+        ↔ AreConfigs (map config_value configs.now) }
+    ensures some { (fault : ConfigFault) →
+        (config_fault (map config_value configs.now) ≡ Some fault)
+        ↔ IsFaultOf (map config_value configs.now) fault }
 {}
 
 /// An instance's own events are those of its number, each once and in order; others change nothing.
 pub fn own_events_are_those_of_the_instance()
     ensures append { (instance : ℕ) (earlier later : List EventValue)
-        → own_events instance (earlier ++ later) ≡ own_events instance earlier ++ own_events instance later }
+        → own_events instance (earlier ++ later) ≡ own_events instance earlier
+        ++ own_events instance later }
     ensures own { (event : EventValue) → own_events event.instance (event ∷ []) ≡ event ∷ [] }
     ensures other { (instance : ℕ) (event : EventValue)
         → event.instance ≢ instance → own_events instance (event ∷ []) ≡ [] }

@@ -1,4 +1,5 @@
-//! Frames come from outside (RFC 9113). What whole runs print is shown by the stored scripts of `acceptance`.
+//! Frames come from outside (RFC 9113). What whole runs print is shown by the stored scripts of
+//! `acceptance`.
 
 use served_instance::EventRefusal;
 use server_core::*;
@@ -43,8 +44,8 @@ fn taking(count: u32) -> Event {
     }
 }
 
-/// Events of connection 7 of instance 1: it is opened, and gets what no client sends first. Between these an event
-/// is a stray, and one is refused.
+/// Events of connection 7 of instance 1: it is opened, and gets what no client sends first. Between
+/// these an event is a stray, and one is refused.
 fn is_served(server: &mut Server, wrong: &Event) -> bool {
     server.pending(1, 7).is_none()
         && server.step(&opening(1)) == Ok(())

@@ -60,8 +60,8 @@ fn add(outcome: &mut Outcome, outputs: &Outputs, client: &Client, is_whole: bool
     }
 }
 
-/// Compares what the clients of fake sockets received with a run of the events that were noted. Steady clients received
-/// all of it, others a front.
+/// Compares what the clients of fake sockets received with a run of the events that were noted.
+/// Steady clients received all of it, others a front.
 pub fn judge(alloc: Global, configs: &Configs, fake: &Fake<'_>) -> io::Result<Outcome> {
     let outputs = run(alloc, configs, &fake.events)?;
     let mut outcome = Outcome {

@@ -1,7 +1,8 @@
-//! Serves clients over fake sockets and over real ones, and compares what each is sent with what its instance gives
-//! alone.
+//! Serves clients over fake sockets and over real ones, and compares what each is sent with what
+//! its instance gives alone.
 //!
-//! Each line of standard input is what a client sends, in hexadecimal. It writes a line for each case.
+//! Each line of standard input is what a client sends, in hexadecimal. It writes a line for each
+//! case.
 #![tactic(auto)]
 
 mod alone;
@@ -33,7 +34,8 @@ fn texts(alloc: Global, input: &[u8]) -> io::Result<Vec<Vec<u8>>> {
     Ok(texts)
 }
 
-/// Serves so many clients with these habits, of which every fourth is one of instance 1, and tells what came of it.
+/// Serves so many clients with these habits, of which every fourth is one of instance 1, and tells
+/// what came of it.
 fn case<O: Write>(
     alloc: Global,
     texts: &[Vec<u8>],

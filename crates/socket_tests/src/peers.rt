@@ -97,8 +97,8 @@ fn is_as_alone(alloc: Global, configs: &Configs, peer: &Peer<'_>) -> io::Result<
     }
 }
 
-/// Serves a client for each text, by turns of the two instances, and says how many were not sent what their instance
-/// gives alone.
+/// Serves a client for each text, by turns of the two instances, and says how many were not sent
+/// what their instance gives alone.
 pub fn serve_peers(rt: &HostRuntime, texts: &[Vec<u8>]) -> io::Result<u32> {
     let alloc = rt.alloc();
     let configs = configs(alloc)?;

@@ -53,7 +53,8 @@ output_directory_of rs = do
 abbrev pub output_directory_records : OutputDirectoryValue → List Record
 output_directory_records v = string_field 1 v.path ++ embedded_field digest_records 3 v.tree_digest
 
--- output_files 2 repeated, output_directories 3 repeated, exit_code 4, stdout_raw 5, stdout_digest 6, stderr_raw 7, stderr_digest 8
+-- output_files 2 repeated, output_directories 3 repeated, exit_code 4, stdout_raw 5, stdout_digest
+-- 6, stderr_raw 7, stderr_digest 8
 pub record ActionResultValue : Type 0 where
   pub output_files : List OutputFileValue
   pub output_directories : List OutputDirectoryValue

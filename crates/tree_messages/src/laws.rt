@@ -21,11 +21,14 @@ pub fn action_results_are_read_again()
 /// GetTree: a request and a response that are written are read again.
 pub fn get_tree_is_read_again()
     ensures request { AreReadAgain get_tree_request_of get_tree_request_records FitsGetTreeRequest }
-    ensures response { AreReadAgain get_tree_response_of get_tree_response_records FitsGetTreeResponse }
+    ensures response { AreReadAgain get_tree_response_of get_tree_response_records
+        FitsGetTreeResponse }
 {}
 
 /// GetActionResult and UpdateActionResult: requests that are written are read again.
 pub fn action_cache_is_read_again()
-    ensures get { AreReadAgain get_action_result_request_of get_action_result_request_records FitsGetActionResultRequest }
-    ensures update { AreReadAgain update_action_result_request_of update_action_result_request_records FitsUpdateActionResultRequest }
+    ensures get { AreReadAgain get_action_result_request_of get_action_result_request_records
+        FitsGetActionResultRequest }
+    ensures update { AreReadAgain update_action_result_request_of
+        update_action_result_request_records FitsUpdateActionResultRequest }
 {}

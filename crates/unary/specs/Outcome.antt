@@ -10,8 +10,9 @@ abbrev pub front_of : ℕ → Result (List (List ℕ)) ℕ → List (List ℕ)
 front_of count (Ok lines) = take count lines
 front_of count (Err number) = []
 
--- what a status says of the lines that a script prints, and of the output before and after: all of them were
--- written; or the script has a bad line, and nothing was written; or, for want of memory, the first of them were
+-- what a status says of the lines that a script prints, and of the output before and after: all of
+-- them were written; or the script has a bad line, and nothing was written; or, for want of memory,
+-- the first of them were
 abbrev pub IsOutcome : Result (List (List ℕ)) ℕ → Status → Option (List ℕ) → Option (List ℕ) → Type 0
 IsOutcome printed Done before after = (lines : List (List ℕ)) × (printed ≡ Ok lines) × Appends before after (written lines)
 IsOutcome printed (BadLine number) before after = (printed ≡ Err number) × Keeps before after

@@ -1,4 +1,5 @@
--- What a script of calls prints: a line for each command, from the texts that its instance has by then.
+-- What a script of calls prints: a line for each command, from the texts that its instance has by
+-- then.
 use Rattle.std.specs.Prelude.{ℕ, Bool, List, [], ◌∷◌, ◌++◌, length, map, codes, is_some, not, ◌&&◌, nat_lt, slice_index_or, slice_set, Result, Ok, Err, if◌then◌else◌}
 use Rattle.std.specs.Fmt.{decimal}
 use Rattle.reapi_messages.specs.Results.{◌>>=◌}

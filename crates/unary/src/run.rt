@@ -24,9 +24,12 @@ fn step<O: Write>(
     output: &mut O,
 ) -> Result<(), Fault>
     requires { instance_place (command_value command.now) < length stores.old }
-    ensures line { OnOk result (Appends (O.contents output.old) (O.contents output.new) (line_of (command_value command.now) (store_of (command_value command.now) stores.old) ++ 10 ∷ [])) }
+    ensures line { OnOk result (Appends (O.contents output.old) (O.contents output.new)
+        (line_of (command_value command.now) (store_of (command_value command.now) stores.old) ++ 10
+        ∷ [])) }
     ensures after { OnOk result (stores.new ≡ stores_after (command_value command.now) stores.old) }
-    ensures memory { result ≡ Err OutOfMemory → Keeps (O.contents output.old) (O.contents output.new) }
+    ensures memory { result ≡ Err OutOfMemory →
+        Keeps (O.contents output.old) (O.contents output.new) }
 {
     let line = answer(alloc, stores, command)?;
     match output.write_all(&line) {
@@ -42,9 +45,13 @@ fn play<O: Write>(
     commands: &[Command],
     output: &mut O,
 ) -> Result<(), Fault>
-    requires { All (λ command. instance_place (command_value command) < length stores.old) commands.now }
-    ensures lines { OnOk result (Appends (O.contents output.old) (O.contents output.new) (written (lines_of_commands (map command_value commands.now) stores.old))) }
-    ensures memory { result ≡ Err OutOfMemory → (count : ℕ) × Appends (O.contents output.old) (O.contents output.new) (written (take count (lines_of_commands (map command_value commands.now) stores.old))) }
+    requires { All (λ command. instance_place (command_value command) < length stores.old)
+        commands.now }
+    ensures lines { OnOk result (Appends (O.contents output.old) (O.contents output.new)
+        (written (lines_of_commands (map command_value commands.now) stores.old))) }
+    ensures memory { result ≡ Err OutOfMemory →
+        (count : ℕ) × Appends (O.contents output.old) (O.contents output.new)
+        (written (take count (lines_of_commands (map command_value commands.now) stores.old))) }
 {
     for command in commands {
         step(alloc, stores, command, output)?;
@@ -55,9 +62,13 @@ fn play<O: Write>(
 /// Carries a script out, and writes what it prints.
 fn perform<O: Write>(alloc: Global, script: &Script, output: &mut O) -> Result<(), Fault>
     requires instances { HasGoodInstances (script_value script.now).instances }
-    requires commands { All (λ command. instance_place (command_value command) < vec_len script.now.instances) script.now.commands.items }
-    ensures lines { OnOk result (Appends (O.contents output.old) (O.contents output.new) (written (lines_of_value (script_value script.now)))) }
-    ensures memory { result ≡ Err OutOfMemory → (count : ℕ) × Appends (O.contents output.old) (O.contents output.new) (written (take count (lines_of_value (script_value script.now)))) }
+    requires commands { All (λ command. instance_place
+        (command_value command) < vec_len script.now.instances) script.now.commands.items }
+    ensures lines { OnOk result (Appends (O.contents output.old) (O.contents output.new)
+        (written (lines_of_value (script_value script.now)))) }
+    ensures memory { result ≡ Err OutOfMemory →
+        (count : ℕ) × Appends (O.contents output.old) (O.contents output.new)
+        (written (take count (lines_of_value (script_value script.now)))) }
 {
     let mut stores = open_all(alloc, &script.instances)?;
     play(alloc, &mut stores, &script.commands, output)
@@ -65,7 +76,9 @@ fn perform<O: Write>(alloc: Global, script: &Script, output: &mut O) -> Result<(
 
 /// Reads a script, carries it out, and writes what it prints.
 fn run<I: Read, O: Write>(alloc: Global, input: &mut I, output: &mut O) -> Status
-    ensures { IfSome (I.remaining input.old) (λ text. IsOutcome (lines_of_script text) result (O.contents output.old) (O.contents output.new)) }
+    ensures { IfSome (I.remaining input.old)
+        (λ text. IsOutcome (lines_of_script text) result (O.contents output.old)
+        (O.contents output.new)) }
 {
     let text = match read_all(alloc, input) {
         Ok(text) => text,
@@ -90,9 +103,12 @@ pub fn unary<I: Read, O: Write, E: Write>(
     output: &mut O,
     errors: &mut E,
 ) -> Status
-    ensures outcome { IfSome (I.remaining input.old) (λ text. IsOutcome (lines_of_script text) result (O.contents output.old) (O.contents output.new)) }
+    ensures outcome { IfSome (I.remaining input.old)
+        (λ text. IsOutcome (lines_of_script text) result (O.contents output.old)
+        (O.contents output.new)) }
     // Where the line could not be written, the status is `Failed`.
-    ensures told { result ≢ Failed → Appends (E.contents errors.old) (E.contents errors.new) (fault_line result) }
+    ensures told { result ≢ Failed →
+        Appends (E.contents errors.old) (E.contents errors.new) (fault_line result) }
 {
     let status = run(alloc, input, output);
     match status.tell(errors) {

@@ -51,7 +51,8 @@ fn carry_out(
     command: &Command,
     line: &mut Vec<u8>,
 ) -> Result<(), AllocError>
-    ensures line { OnOk result (line.new.items ≡ line.old.items ++ line_of (command_value command.now) store.old) }
+    ensures line { OnOk result (line.new.items ≡ line.old.items
+        ++ line_of (command_value command.now) store.old) }
     ensures after { OnOk result (store.new ≡ after (command_value command.now) store.old) }
 {
     match command {
@@ -88,7 +89,9 @@ fn place(command: &Command) -> usize
 /// Carries a command out, and gives the line that it prints, with a newline.
 pub fn answer(alloc: Global, stores: &mut [Store], command: &Command) -> Result<Vec<u8>, AllocError>
     requires { instance_place (command_value command.now) < length stores.old }
-    ensures line { IfOk result (λ line. line.items ≡ line_of (command_value command.now) (store_of (command_value command.now) stores.old) ++ 10 ∷ []) }
+    ensures line { IfOk result (λ line. line.items
+        ≡ line_of (command_value command.now) (store_of (command_value command.now) stores.old)
+        ++ 10 ∷ []) }
     ensures after { OnOk result (stores.new ≡ stores_after (command_value command.now) stores.old) }
 {
     let mut line = Vec::new(alloc);

@@ -38,9 +38,11 @@ impl Model for Store {
 
     ghost Value = { StoreValue };
 
-    ghost view = { λ s. record { name = string_bytes s.name; quota = s.quota; visible = shown s.pool s.view } };
+    ghost view = { λ s. record
+        { name = string_bytes s.name; quota = s.quota; visible = shown s.pool s.view } };
 
-    ghost invariant = { λ s. (s.quota ≤ 2 ^ 40) × AreKept s.quota s.pool s.view × (s.view.limit ≡ most_blobs) };
+    ghost invariant = { λ s. (s.quota ≤ 2 ^ 40) × AreKept s.quota s.pool s.view
+        × (s.view.limit ≡ most_blobs) };
 }
 
 impl Store {
@@ -59,9 +61,11 @@ impl Store {
         })
     }
 
-    /// Stores bytes under their digest, and says whether they are refused, being longer than the quota.
+    /// Stores bytes under their digest, and says whether they are refused, being longer than the
+    /// quota.
     pub fn put(&mut self, bytes: &[u8]) -> Result<bool, AllocError>
-        ensures refused { IfOk result (λ refused. refused ≡ is_refused self.old.quota self.old.visible bytes.now) }
+        ensures refused { IfOk result (λ refused. refused
+            ≡ is_refused self.old.quota self.old.visible bytes.now) }
         ensures stored { OnOk result (self.new ≡ stored bytes.now self.old) }
         ensures err { OnErr result (self.new ≡ self.old) }
     {
@@ -75,7 +79,8 @@ impl Store {
         method: Method,
         message: &[u8],
     ) -> Result<Vec<u8>, CallError>
-        ensures reply { Answers (λ reply. reply.items) result (reply_to method self.old message.now) }
+        ensures reply { Answers (λ reply. reply.items) result
+            (reply_to method self.old message.now) }
         ensures called { IfAnswered result (self.new ≡ called method message.now self.old) }
     {
         call(
@@ -94,8 +99,10 @@ impl Store {
 fn put(view: &mut View, pool: &mut Pool, quota: u64, bytes: &[u8]) -> Result<bool, AllocError>
     requires quota { quota ≤ 2 ^ 40 }
     requires kept { AreKept quota pool.old view.old }
-    ensures refused { IfOk result (λ refused. refused ≡ is_refused quota (shown pool.old view.old) bytes.now) }
-    ensures stored { OnOk result (shown pool.new view.new ≡ admitted view.old.limit quota (digest_of bytes.now) bytes.now (shown pool.old view.old)) }
+    ensures refused { IfOk result (λ refused. refused
+        ≡ is_refused quota (shown pool.old view.old) bytes.now) }
+    ensures stored { OnOk result (shown pool.new view.new
+        ≡ admitted view.old.limit quota (digest_of bytes.now) bytes.now (shown pool.old view.old)) }
     ensures err { OnErr result ((view.new ≡ view.old) × (pool.new ≡ pool.old)) }
     ensures kept { AreKept quota pool.new view.new }
     ensures limit { view.new.limit ≡ view.old.limit }
@@ -119,8 +126,15 @@ fn call(
 ) -> Result<Vec<u8>, CallError>
     requires quota { quota ≤ 2 ^ 40 }
     requires kept { AreKept quota pool.old view.old }
-    ensures reply { Answers (λ reply. reply.items) result (reply_to method (record { name = own.now; quota = quota; visible = shown pool.old view.old }) message.now) }
-    ensures called { IfAnswered result (shown pool.new view.new ≡ changed view.old.limit quota (changes_by method (record { name = own.now; quota = quota; visible = shown pool.old view.old }) message.now) (shown pool.old view.old)) }
+    ensures reply { Answers (λ reply. reply.items) result
+        (reply_to method (record
+        { name = own.now; quota = quota; visible = shown pool.old view.old }) message.now) }
+    ensures called { IfAnswered result
+        (shown pool.new view.new
+        ≡ changed view.old.limit quota
+        (changes_by method (record
+        { name = own.now; quota = quota; visible = shown pool.old view.old }) message.now)
+        (shown pool.old view.old)) }
     ensures kept { AreKept quota pool.new view.new }
     ensures limit { view.new.limit ≡ view.old.limit }
 {

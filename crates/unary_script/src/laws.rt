@@ -7,8 +7,10 @@ ghost use Rattle.unary_script.specs.Script.{ScriptValue, after_line, empty_scrip
 /// A text writes a script exactly where its lines lead there from nothing, and has a bad line of a
 /// number exactly where that line is bad and none before it is.
 pub fn bad_line_is_the_first(text: &[u8])
-    ensures script { (script : ScriptValue) → (script_of text.now ≡ Ok script) ↔ Leads empty_script (lines_of text.now) script }
-    ensures bad_line { (number : ℕ) → (script_of text.now ≡ Err number) ↔ IsFirstBadLine (lines_of text.now) number }
+    ensures script { (script : ScriptValue) →
+        (script_of text.now ≡ Ok script) ↔ Leads empty_script (lines_of text.now) script }
+    ensures bad_line { (number : ℕ) → (script_of text.now ≡ Err number)
+        ↔ IsFirstBadLine (lines_of text.now) number }
 {}
 
 /// A line leads from a script of good instances to the next exactly where it is empty or one of the

@@ -20,7 +20,9 @@ pub fn parse(alloc: Global, text: &[u8]) -> Result<Script, ScriptFault>
 
     // The instances may all be configured, and each command is for one of them.
     ensures instances { IfOk result (λ script. HasGoodInstances (script_value script).instances) }
-    ensures commands { IfOk result (λ script. All (λ command. instance_place (command_value command) < vec_len script.instances) script.commands.items) }
+    ensures commands { IfOk result (λ script. All
+        (λ command. instance_place (command_value command) < vec_len script.instances)
+        script.commands.items) }
 {
     let mut script = Script {
         instances: Vec::new(alloc),
@@ -40,8 +42,10 @@ pub fn parse(alloc: Global, text: &[u8]) -> Result<Script, ScriptFault>
 
 // Adds what one more line says.
 fn read_line(alloc: Global, script: &mut Script, line: &[u8]) -> Result<(), LineFault>
-    ensures read { OnOk result (after_line (script_value script.old) line.now ≡ Some (script_value script.new)) }
-    ensures bad { result ≡ Err LineFault.Bad → after_line (script_value script.old) line.now ≡ None }
+    ensures read { OnOk result (after_line (script_value script.old) line.now
+        ≡ Some (script_value script.new)) }
+    ensures bad { result ≡ Err LineFault.Bad →
+        after_line (script_value script.old) line.now ≡ None }
 {
     if line.is_empty() {
         return Ok(());
@@ -68,8 +72,10 @@ fn read_line(alloc: Global, script: &mut Script, line: &[u8]) -> Result<(), Line
 
 // The instance of the words NAME QUOTA.
 fn read_instance(alloc: Global, known: &[Instance], words: Parts) -> Result<Instance, LineFault>
-    ensures read { IfOk result (λ instance. instance_of (map instance_value known.now) words.entry ≡ Some (instance_value instance)) }
-    ensures bad { result ≡ Err LineFault.Bad → instance_of (map instance_value known.now) words.entry ≡ None }
+    ensures read { IfOk result (λ instance. instance_of (map instance_value known.now) words.entry
+        ≡ Some (instance_value instance)) }
+    ensures bad { result ≡ Err LineFault.Bad →
+        instance_of (map instance_value known.now) words.entry ≡ None }
 {
     let (name, quota) = two(words).ok_or(LineFault::Bad)?;
     let quota = decimal(quota).ok_or(LineFault::Bad)?;
@@ -87,8 +93,10 @@ fn read_instance(alloc: Global, known: &[Instance], words: Parts) -> Result<Inst
 
 // The command of the words NAME HEX after `put`.
 fn read_put(alloc: Global, known: &[Instance], words: Parts) -> Result<Command, LineFault>
-    ensures read { IfOk result (λ command. put_of (map instance_value known.now) words.entry ≡ Some (command_value command)) }
-    ensures bad { result ≡ Err LineFault.Bad → put_of (map instance_value known.now) words.entry ≡ None }
+    ensures read { IfOk result (λ command. put_of (map instance_value known.now) words.entry
+        ≡ Some (command_value command)) }
+    ensures bad { result ≡ Err LineFault.Bad →
+        put_of (map instance_value known.now) words.entry ≡ None }
 {
     let (name, content) = two(words).ok_or(LineFault::Bad)?;
     let instance = place(known, name).ok_or(LineFault::Bad)?;
@@ -98,8 +106,10 @@ fn read_put(alloc: Global, known: &[Instance], words: Parts) -> Result<Command, 
 
 // The command of the words NAME METHOD HEX after `call`.
 fn read_call(alloc: Global, known: &[Instance], words: Parts) -> Result<Command, LineFault>
-    ensures read { IfOk result (λ command. call_of (map instance_value known.now) words.entry ≡ Some (command_value command)) }
-    ensures bad { result ≡ Err LineFault.Bad → call_of (map instance_value known.now) words.entry ≡ None }
+    ensures read { IfOk result (λ command. call_of (map instance_value known.now) words.entry
+        ≡ Some (command_value command)) }
+    ensures bad { result ≡ Err LineFault.Bad →
+        call_of (map instance_value known.now) words.entry ≡ None }
 {
     let (name, method, message) = three(words).ok_or(LineFault::Bad)?;
     let instance = place(known, name).ok_or(LineFault::Bad)?;

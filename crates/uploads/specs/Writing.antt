@@ -1,4 +1,5 @@
--- What a piece of an upload is answered, and what becomes of the uploads (bytestream.proto, `Write`).
+-- What a piece of an upload is answered, and what becomes of the uploads (bytestream.proto,
+-- `Write`).
 use Rattle.std.specs.Prelude.{◌≡◌, ℕ, ℤ, pos, negsuc, ◌+◌, ◌^◌, ◌≤◌, Bool, true, false, ◌&&◌, ◌==◌, not, nat_le, nat_lt, is_some, if◌then◌else◌, List, ◌++◌, length, Result, Ok, Err}
 use Rattle.digest.specs.Naming.{same, digest_of}
 use Rattle.uploads.specs.declared.error.UploadError.{UploadError}
@@ -19,7 +20,8 @@ abbrev pub if_ok : Result Unit UploadError → Result Unit UploadError → Resul
 if_ok (Ok _) next = next
 if_ok (Err e) next = Err e
 
--- a piece begins where the text so far ends, does not bring it past its size, nor all uploads past the quota
+-- a piece begins where the text so far ends, does not bring it past its size, nor all uploads past
+-- the quota
 abbrev pub piece_answer : ℕ → KeyValue → PieceValue → UploadList → Result Unit UploadError
 piece_answer quota key piece uploads =
     if not (is_at piece.offset (length (text_so_far key uploads))) then Err Offset
@@ -47,8 +49,8 @@ abbrev pub append_answer : ℕ → KeyValue → PieceValue → UploadList → Re
 append_answer quota key piece uploads =
     if is_some (upload_at key uploads) then piece_answer quota key piece uploads else Err Offset
 
--- the uploads after a piece that was answered so: written at this moment, forgotten where it passed its size, and as
--- they were at any other refusal and for want of memory
+-- the uploads after a piece that was answered so: written at this moment, forgotten where it passed
+-- its size, and as they were at any other refusal and for want of memory
 abbrev pub after_piece : ℕ → KeyValue → PieceValue → Result Unit UploadError → UploadList → UploadList
 after_piece moment key piece (Ok _) uploads =
     with_upload key (record { text = text_so_far key uploads ++ piece.bytes; written = moment }) uploads

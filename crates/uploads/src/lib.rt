@@ -1,5 +1,5 @@
-//! Unfinished uploads of an instance (bytestream.proto, `Write`): texts that come in pieces, each under a uuid and the
-//! digest that is to name it.
+//! Unfinished uploads of an instance (bytestream.proto, `Write`): texts that come in pieces, each
+//! under a uuid and the digest that is to name it.
 //!
 //! An upload is no holder in the pool: its text is hashed as it comes, and is sealed where it ends.
 #![tactic(auto)]

@@ -38,7 +38,8 @@ fn is_at(offset: i64, place: u64) -> bool
 
 /// How many bytes of an upload there are so far.
 fn committed(table: &Table, key: &UploadKey) -> u64
-    ensures value { result ≡ length (text_so_far (key_shown key.now) (map entry_shown table.now.entries)) }
+    ensures value { result ≡ length (text_so_far (key_shown key.now)
+        (map entry_shown table.now.entries)) }
     ensures most { result ≤ 2 ^ 48 }
 {
     match find(table, key) {
@@ -69,7 +70,8 @@ fn check_piece(
 ) -> Result<(), UploadError>
     requires quota { quota ≤ 2 ^ 40 }
     requires within { WithinLimits quota (map entry_shown table.now.entries) }
-    ensures { result ≡ piece_answer quota (key_shown key.now) (piece_shown piece.now) (map entry_shown table.now.entries) }
+    ensures { result ≡ piece_answer quota (key_shown key.now) (piece_shown piece.now)
+        (map entry_shown table.now.entries) }
 {
     let committed = committed(table, key);
     let length = piece.bytes.len() as u64;
@@ -89,7 +91,8 @@ fn check_piece(
 fn add(upload: &mut Upload, moment: u64, bytes: &[u8]) -> Result<(), AllocError>
     requires open { upload.old.draft.is_open ≡ true ⊎ length bytes.now ≡ 0 }
     requires most { length upload.old.draft.text + length bytes.now ≤ 2 ^ 48 }
-    ensures ok { OnOk result (upload_shown upload.new ≡ record { text = upload.old.draft.text ++ bytes.now; written = moment }) }
+    ensures ok { OnOk result (upload_shown upload.new
+        ≡ record { text = upload.old.draft.text ++ bytes.now; written = moment }) }
     ensures err { OnErr result (upload_shown upload.new ≡ upload_shown upload.old) }
     ensures open { upload.new.draft.is_open ≡ upload.old.draft.is_open }
 {
@@ -111,8 +114,15 @@ fn extend(
     requires there { IsSome (upload_at (key_shown key.now) (map entry_shown table.old.entries)) }
     requires fits { Fits (key_shown key.now) bytes.now (map entry_shown table.old.entries) }
     requires whole { AreWhole table.old.entries }
-    ensures ok { OnOk result (map entry_shown table.new.entries ≡ with_upload (key_shown key.now) (record { text = text_so_far (key_shown key.now) (map entry_shown table.old.entries) ++ bytes.now; written = moment }) (map entry_shown table.old.entries)) }
-    ensures err { OnErr result (map entry_shown table.new.entries ≡ map entry_shown table.old.entries) }
+    ensures ok { OnOk result (map entry_shown table.new.entries
+        ≡ with_upload (key_shown key.now)
+        (record {
+          text = text_so_far (key_shown key.now) (map entry_shown table.old.entries)
+              ++ bytes.now;
+          written = moment;
+        }) (map entry_shown table.old.entries)) }
+    ensures err { OnErr result (map entry_shown table.new.entries
+        ≡ map entry_shown table.old.entries) }
     ensures whole { AreWhole table.new.entries }
 {
     let mut upload = exchange(table, key, Upload::empty(alloc));
@@ -131,8 +141,15 @@ fn write(
 ) -> Result<(), AllocError>
     requires fits { Fits (key_shown key.now) bytes.now (map entry_shown table.old.entries) }
     requires whole { AreWhole table.old.entries }
-    ensures ok { OnOk result (map entry_shown table.new.entries ≡ with_upload (key_shown key.now) (record { text = text_so_far (key_shown key.now) (map entry_shown table.old.entries) ++ bytes.now; written = moment }) (map entry_shown table.old.entries)) }
-    ensures err { OnErr result (map entry_shown table.new.entries ≡ map entry_shown table.old.entries) }
+    ensures ok { OnOk result (map entry_shown table.new.entries
+        ≡ with_upload (key_shown key.now)
+        (record {
+          text = text_so_far (key_shown key.now) (map entry_shown table.old.entries)
+              ++ bytes.now;
+          written = moment;
+        }) (map entry_shown table.old.entries)) }
+    ensures err { OnErr result (map entry_shown table.new.entries
+        ≡ map entry_shown table.old.entries) }
     ensures whole { AreWhole table.new.entries }
 {
     if find(table, key).is_some() {
@@ -152,10 +169,13 @@ fn carry_out(
     piece: &Piece<'_>,
     answer: Result<(), UploadError>,
 ) -> Result<(), UploadError>
-    requires fits { OnOk answer (Fits (key_shown key.now) (piece_shown piece.now).bytes (map entry_shown table.old.entries)) }
+    requires fits { OnOk answer (Fits (key_shown key.now) (piece_shown piece.now).bytes
+        (map entry_shown table.old.entries)) }
     requires whole { AreWhole table.old.entries }
     ensures answer { Answers result answer }
-    ensures uploads { map entry_shown table.new.entries ≡ after_piece moment (key_shown key.now) (piece_shown piece.now) result (map entry_shown table.old.entries) }
+    ensures uploads { map entry_shown table.new.entries
+        ≡ after_piece moment (key_shown key.now) (piece_shown piece.now) result
+        (map entry_shown table.old.entries) }
     ensures whole { AreWhole table.new.entries }
 {
     match answer {
@@ -183,8 +203,11 @@ pub fn begin(
     requires quota { quota ≤ 2 ^ 40 }
     requires within { WithinLimits quota (map entry_shown table.old.entries) }
     requires whole { AreWhole table.old.entries }
-    ensures answer { Answers result (begin_answer quota (key_shown key.now) (piece_shown piece.now) (map entry_shown table.old.entries)) }
-    ensures uploads { map entry_shown table.new.entries ≡ after_piece moment (key_shown key.now) (piece_shown piece.now) result (map entry_shown table.old.entries) }
+    ensures answer { Answers result (begin_answer quota (key_shown key.now) (piece_shown piece.now)
+        (map entry_shown table.old.entries)) }
+    ensures uploads { map entry_shown table.new.entries
+        ≡ after_piece moment (key_shown key.now) (piece_shown piece.now) result
+        (map entry_shown table.old.entries) }
     ensures whole { AreWhole table.new.entries }
 {
     let answer = match check_begin(table, quota, key) {
@@ -206,8 +229,11 @@ pub fn append(
     requires quota { quota ≤ 2 ^ 40 }
     requires within { WithinLimits quota (map entry_shown table.old.entries) }
     requires whole { AreWhole table.old.entries }
-    ensures answer { Answers result (append_answer quota (key_shown key.now) (piece_shown piece.now) (map entry_shown table.old.entries)) }
-    ensures uploads { map entry_shown table.new.entries ≡ after_piece moment (key_shown key.now) (piece_shown piece.now) result (map entry_shown table.old.entries) }
+    ensures answer { Answers result (append_answer quota (key_shown key.now) (piece_shown piece.now)
+        (map entry_shown table.old.entries)) }
+    ensures uploads { map entry_shown table.new.entries
+        ≡ after_piece moment (key_shown key.now) (piece_shown piece.now) result
+        (map entry_shown table.old.entries) }
     ensures whole { AreWhole table.new.entries }
 {
     if find(table, key).is_none() {
@@ -239,11 +265,16 @@ pub fn finish(
     requires within { WithinLimits quota (map entry_shown table.old.entries) }
     requires there { IsSome (upload_at (key_shown key.now) (map entry_shown table.old.entries)) }
     requires whole { AreWhole table.old.entries }
-    ensures answer { Answers result (finish_answer (key_shown key.now) (map entry_shown table.old.entries)) }
-    ensures uploads { map entry_shown table.new.entries ≡ after_finish (key_shown key.now) result (map entry_shown table.old.entries) }
+    ensures answer { Answers result (finish_answer (key_shown key.now)
+        (map entry_shown table.old.entries)) }
+    ensures uploads { map entry_shown table.new.entries
+        ≡ after_finish (key_shown key.now) result (map entry_shown table.old.entries) }
     ensures within { WithinLimits quota (map entry_shown table.new.entries) }
     ensures whole { AreWhole table.new.entries }
-    ensures admitted { OnOk result (shown pool.new view.new ≡ admitted view.old.limit quota (key_shown key.now).digest (text_so_far (key_shown key.now) (map entry_shown table.old.entries)) (shown pool.old view.old)) }
+    ensures admitted { OnOk result (shown pool.new view.new
+        ≡ admitted view.old.limit quota (key_shown key.now).digest
+        (text_so_far (key_shown key.now) (map entry_shown table.old.entries))
+        (shown pool.old view.old)) }
     ensures err { OnErr result ((view.new ≡ view.old) × (pool.new ≡ pool.old)) }
     ensures moves { Moves pool.old pool.new (holders view.old) (holders view.new) }
     ensures kept { AreKept quota pool.new view.new }

@@ -41,7 +41,8 @@ impl Upload {
 
 /// The upload of a key.
 pub fn find<'a>(table: &'a Table, key: &UploadKey) -> Option<&'a Upload>
-    ensures { option_map upload_shown (option_copied result) ≡ upload_at (key_shown key.now) (map entry_shown table.now.entries) }
+    ensures { option_map upload_shown (option_copied result)
+        ≡ upload_at (key_shown key.now) (map entry_shown table.now.entries) }
 {
     table.get(key)
 }
@@ -64,7 +65,8 @@ pub fn total(table: &Table) -> u64
 /// Takes out an upload. The others keep their order.
 pub fn forget(table: &mut Table, key: &UploadKey)
     requires whole { AreWhole table.old.entries }
-    ensures forgotten { map entry_shown table.new.entries ≡ without_upload (key_shown key.now) (map entry_shown table.old.entries) }
+    ensures forgotten { map entry_shown table.new.entries
+        ≡ without_upload (key_shown key.now) (map entry_shown table.old.entries) }
     ensures whole { AreWhole table.new.entries }
 {
     table.shift_remove(key);
@@ -73,7 +75,8 @@ pub fn forget(table: &mut Table, key: &UploadKey)
 /// Takes out the uploads that were not written to for long.
 pub fn expire(table: &mut Table, moment: u64)
     requires whole { AreWhole table.old.entries }
-    ensures left { map entry_shown table.new.entries ≡ unexpired moment (map entry_shown table.old.entries) }
+    ensures left { map entry_shown table.new.entries
+        ≡ unexpired moment (map entry_shown table.old.entries) }
     ensures whole { AreWhole table.new.entries }
 {
     table.retain(|_key, upload| moment.saturating_sub(upload.written) < UPLOAD_AGE);
@@ -83,8 +86,11 @@ pub fn expire(table: &mut Table, moment: u64)
 pub fn put(table: &mut Table, key: &UploadKey, upload: Upload) -> Result<(), AllocError>
     requires whole { IsWhole (key.now, upload) }
     requires all_whole { AreWhole table.old.entries }
-    ensures ok { OnOk result (map entry_shown table.new.entries ≡ with_upload (key_shown key.now) (upload_shown upload) (map entry_shown table.old.entries)) }
-    ensures err { OnErr result (map entry_shown table.new.entries ≡ map entry_shown table.old.entries) }
+    ensures ok { OnOk result (map entry_shown table.new.entries
+        ≡ with_upload (key_shown key.now) (upload_shown upload)
+        (map entry_shown table.old.entries)) }
+    ensures err { OnErr result (map entry_shown table.new.entries
+        ≡ map entry_shown table.old.entries) }
     ensures whole { AreWhole table.new.entries }
 {
     table.insert(*key, upload)?;
@@ -96,8 +102,11 @@ pub fn exchange(table: &mut Table, key: &UploadKey, upload: Upload) -> Upload
     requires there { IsSome (upload_at (key_shown key.now) (map entry_shown table.old.entries)) }
     requires whole { IsWhole (key.now, upload) }
     requires all_whole { AreWhole table.old.entries }
-    ensures old { upload_at (key_shown key.now) (map entry_shown table.old.entries) ≡ Some (upload_shown result) }
-    ensures new { map entry_shown table.new.entries ≡ with_upload (key_shown key.now) (upload_shown upload) (map entry_shown table.old.entries) }
+    ensures old { upload_at (key_shown key.now) (map entry_shown table.old.entries)
+        ≡ Some (upload_shown result) }
+    ensures new { map entry_shown table.new.entries
+        ≡ with_upload (key_shown key.now) (upload_shown upload)
+        (map entry_shown table.old.entries) }
     ensures whole { IsWhole (key.now, result) }
     ensures all_whole { AreWhole table.new.entries }
 {

@@ -46,7 +46,8 @@ impl Uploads {
 
     /// How many bytes of an upload there are so far, where it is there.
     pub fn committed(&self, key: &UploadKey) -> Option<u64>
-        ensures value { result ≡ option_map (λ upload. length upload.text) (upload_at (key_shown key.now) self.now) }
+        ensures value { result ≡ option_map (λ upload. length upload.text)
+            (upload_at (key_shown key.now) self.now) }
         ensures most { IfSome result (λ count. count ≤ 2 ^ 48) }
     {
         match find(&self.table, key) {
@@ -55,8 +56,9 @@ impl Uploads {
         }
     }
 
-    /// Takes the first piece of a call, which begins the upload where it is not there. One that goes past the size
-    /// forgets the upload; any other refusal, and want of memory, leaves the uploads as they were.
+    /// Takes the first piece of a call, which begins the upload where it is not there. One that
+    /// goes past the size forgets the upload; any other refusal, and want of memory, leaves the
+    /// uploads as they were.
     pub fn begin(
         &mut self,
         alloc: Global,
@@ -67,15 +69,17 @@ impl Uploads {
     ) -> Result<(), UploadError>
         requires quota { quota ≤ 2 ^ 40 }
         requires within { WithinLimits quota self.old }
-        ensures answer { Answers result (begin_answer quota (key_shown key.now) (piece_shown piece.now) self.old) }
-        ensures uploads { self.new ≡ after_piece moment (key_shown key.now) (piece_shown piece.now) result self.old }
+        ensures answer { Answers result (begin_answer quota (key_shown key.now)
+            (piece_shown piece.now) self.old) }
+        ensures uploads { self.new ≡ after_piece moment (key_shown key.now)
+            (piece_shown piece.now) result self.old }
         ensures within { WithinLimits quota self.new }
     {
         steps::begin(&mut self.table, alloc, quota, moment, key, piece)
     }
 
-    /// Takes a later piece of a call, whose upload may be gone. One that goes past the size forgets the upload; any
-    /// other refusal, and want of memory, leaves the uploads as they were.
+    /// Takes a later piece of a call, whose upload may be gone. One that goes past the size forgets
+    /// the upload; any other refusal, and want of memory, leaves the uploads as they were.
     pub fn append(
         &mut self,
         alloc: Global,
@@ -86,15 +90,18 @@ impl Uploads {
     ) -> Result<(), UploadError>
         requires quota { quota ≤ 2 ^ 40 }
         requires within { WithinLimits quota self.old }
-        ensures answer { Answers result (append_answer quota (key_shown key.now) (piece_shown piece.now) self.old) }
-        ensures uploads { self.new ≡ after_piece moment (key_shown key.now) (piece_shown piece.now) result self.old }
+        ensures answer { Answers result (append_answer quota (key_shown key.now)
+            (piece_shown piece.now) self.old) }
+        ensures uploads { self.new ≡ after_piece moment (key_shown key.now)
+            (piece_shown piece.now) result self.old }
         ensures within { WithinLimits quota self.new }
     {
         steps::append(&mut self.table, alloc, quota, moment, key, piece)
     }
 
-    /// Ends an upload. Where its digest names its text, the text is admitted to the instance's view; else it is
-    /// refused. Either way the upload is forgotten. For want of memory everything stays as it was.
+    /// Ends an upload. Where its digest names its text, the text is admitted to the instance's
+    /// view; else it is refused. Either way the upload is forgotten. For want of memory everything
+    /// stays as it was.
     pub fn finish(
         &mut self,
         alloc: Global,
@@ -110,7 +117,9 @@ impl Uploads {
         ensures answer { Answers result (finish_answer (key_shown key.now) self.old) }
         ensures uploads { self.new ≡ after_finish (key_shown key.now) result self.old }
         ensures within { WithinLimits quota self.new }
-        ensures admitted { OnOk result (shown pool.new view.new ≡ admitted view.old.limit quota (key_shown key.now).digest (text_so_far (key_shown key.now) self.old) (shown pool.old view.old)) }
+        ensures admitted { OnOk result (shown pool.new view.new
+            ≡ admitted view.old.limit quota (key_shown key.now).digest
+            (text_so_far (key_shown key.now) self.old) (shown pool.old view.old)) }
         ensures err { OnErr result ((view.new ≡ view.old) × (pool.new ≡ pool.old)) }
         ensures moves { Moves pool.old pool.new (holders view.old) (holders view.new) }
         ensures kept { AreKept quota pool.new view.new }
@@ -119,7 +128,8 @@ impl Uploads {
         steps::finish(&mut self.table, alloc, quota, view, pool, key)
     }
 
-    /// Forgets the uploads that were last written to 600,000 or more milliseconds ago. It takes no memory.
+    /// Forgets the uploads that were last written to 600,000 or more milliseconds ago. It takes no
+    /// memory.
     pub fn expire(&mut self, moment: u64)
         ensures left { self.new ≡ unexpired moment self.old }
         ensures within { (quota : ℕ) → WithinLimits quota self.old → WithinLimits quota self.new }

@@ -1,8 +1,9 @@
-//! Carries out the stored vectors of standard input, one case after another, and writes what the codecs make of
-//! them: protobuf records and messages, HPACK blocks, HTTP/2 frames and windows, gRPC messages and responses.
+//! Carries out the stored vectors of standard input, one case after another, and writes what the
+//! codecs make of them: protobuf records and messages, HPACK blocks, HTTP/2 frames and windows,
+//! gRPC messages and responses.
 //!
-//! A line `# SUBJECT ..` begins a case; the lines below it, up to the next such line, are its operations, but for
-//! empty ones. [`octets`] says how bytes are written.
+//! A line `# SUBJECT ..` begins a case; the lines below it, up to the next such line, are its
+//! operations, but for empty ones. [`octets`] says how bytes are written.
 #![tactic(auto)]
 
 mod compression;

@@ -89,7 +89,8 @@ pub fn messages(
     Ok(())
 }
 
-/// Writes the next message, where it is whole, or else what the reader answers; tells whether there may be more.
+/// Writes the next message, where it is whole, or else what the reader answers; tells whether there
+/// may be more.
 fn show_next(reader: &mut Messages, out: &mut Vec<u8>) -> io::Result<bool> {
     match reader.next() {
         Ok(Some(message)) => {

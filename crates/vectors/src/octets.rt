@@ -26,8 +26,8 @@ fn add_word(word: &[u8], out: &mut Vec<u8>) -> io::Result<()> {
     }
 }
 
-/// The bytes of a line: of each of its words in turn, which is hexadecimal, `-` for none, or `HEX*COUNT` for so
-/// many times those of HEX.
+/// The bytes of a line: of each of its words in turn, which is hexadecimal, `-` for none, or
+/// `HEX*COUNT` for so many times those of HEX.
 pub fn octets(alloc: Global, line: &[u8]) -> io::Result<Vec<u8>> {
     let mut out = Vec::new(alloc);
     for word in words(line) {

@@ -35,7 +35,8 @@ fn change_of(line: &[u8]) -> io::Result<(Change, u32)> {
     Ok((change, number(parts.next())?))
 }
 
-/// Changes a window of an initial size as each line says, and writes what it answers and what is left.
+/// Changes a window of an initial size as each line says, and writes what it answers and what is
+/// left.
 pub fn window(initial: &[u8], operations: &[&[u8]], out: &mut Vec<u8>) -> io::Result<()> {
     let initial = number(Some(initial))?;
     if initial > MAX_SIZE {

@@ -1,7 +1,7 @@
 -- The code (gRPC, "Status codes and their use in gRPC") and the text of each refusal.
 use Rattle.std.specs.Prelude.{ℕ, List, codes}
 use Rattle.rpc.specs.declared.refusal.Refusal.{Refusal}
-use Rattle.rpc.specs.declared.refusal.Refusal.TheVariants.{UnknownMethod, CompressedMessage, MessageTooLarge, MessageCutOff, NoMessage, MoreThanOneMessage, MalformedMessage, UnknownInstance, UnsupportedDigestFunction, UnsupportedCompressor, BadDigest, BatchTooLarge, DigestDoesNotMatch, QuotaExceeded, BlobNotFound, BadResourceName, NegativeLimit, OffsetOutOfRange, WrongOffset, TooManyUploads, UploadNotFound}
+use Rattle.rpc.specs.declared.refusal.Refusal.TheVariants.{UnknownMethod, CompressedMessage, MessageTooLarge, MessageCutOff, NoMessage, MoreThanOneMessage, MalformedMessage, UnknownInstance, UnsupportedDigestFunction, UnsupportedCompressor, BadDigest, BatchTooLarge, DigestDoesNotMatch, QuotaExceeded, BlobNotFound, BadResourceName, NegativeLimit, OffsetOutOfRange, WrongOffset, TooManyUploads, UploadNotFound, BadPage, BadDirectory, TreeTooLarge, NoResult}
 
 abbrev pub invalid_argument : ℕ
 invalid_argument = 3
@@ -43,6 +43,10 @@ code_of OffsetOutOfRange = out_of_range
 code_of WrongOffset = invalid_argument
 code_of TooManyUploads = resource_exhausted
 code_of UploadNotFound = not_found
+code_of BadPage = invalid_argument
+code_of BadDirectory = invalid_argument
+code_of TreeTooLarge = resource_exhausted
+code_of NoResult = not_found
 
 abbrev pub text_of : Refusal → List ℕ
 text_of UnknownMethod = codes "unknown method"
@@ -66,3 +70,7 @@ text_of OffsetOutOfRange = codes "offset out of range"
 text_of WrongOffset = codes "wrong offset"
 text_of TooManyUploads = codes "too many uploads"
 text_of UploadNotFound = codes "upload not found"
+text_of BadPage = codes "bad page"
+text_of BadDirectory = codes "bad directory"
+text_of TreeTooLarge = codes "tree too large"
+text_of NoResult = codes "no result"

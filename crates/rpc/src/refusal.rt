@@ -46,6 +46,14 @@ pub enum Refusal {
     TooManyUploads,
     /// There is no such upload.
     UploadNotFound,
+    /// The size of a page is negative, or its token is no place of the list.
+    BadPage,
+    /// The root of a tree is no directory that a file system can have.
+    BadDirectory,
+    /// A tree has more than 10,000 directories.
+    TreeTooLarge,
+    /// There is no complete result of the action.
+    NoResult,
 }
 
 impl Refusal {
@@ -54,8 +62,14 @@ impl Refusal {
         ensures { result ≡ pos (code_of self) }
     {
         match self {
-            Refusal::MessageTooLarge | Refusal::QuotaExceeded | Refusal::TooManyUploads => 8,
-            Refusal::UnknownInstance | Refusal::BlobNotFound | Refusal::UploadNotFound => 5,
+            Refusal::MessageTooLarge
+            | Refusal::QuotaExceeded
+            | Refusal::TooManyUploads
+            | Refusal::TreeTooLarge => 8,
+            Refusal::UnknownInstance
+            | Refusal::BlobNotFound
+            | Refusal::UploadNotFound
+            | Refusal::NoResult => 5,
             Refusal::OffsetOutOfRange => 11,
             Refusal::UnknownMethod | Refusal::CompressedMessage => 12,
             Refusal::MessageCutOff => 13,
@@ -69,7 +83,9 @@ impl Refusal {
             | Refusal::DigestDoesNotMatch
             | Refusal::BadResourceName
             | Refusal::NegativeLimit
-            | Refusal::WrongOffset => 3,
+            | Refusal::WrongOffset
+            | Refusal::BadPage
+            | Refusal::BadDirectory => 3,
         }
     }
 
@@ -99,6 +115,10 @@ impl Refusal {
             Refusal::WrongOffset => "wrong offset",
             Refusal::TooManyUploads => "too many uploads",
             Refusal::UploadNotFound => "upload not found",
+            Refusal::BadPage => "bad page",
+            Refusal::BadDirectory => "bad directory",
+            Refusal::TreeTooLarge => "tree too large",
+            Refusal::NoResult => "no result",
         }
     }
 }

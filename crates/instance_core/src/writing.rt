@@ -137,6 +137,7 @@ pub fn on_first_part(
     ensures limit { contents.new.view.limit ≡ most_blobs }
     ensures within { Within most_blobs settings.now.quota (shown pool.new contents.new.view) }
     ensures uploads { WithinLimits settings.now.quota contents.new.uploads }
+    ensures results { contents.new.results ≡ contents.old.results }
     ensures calls { AreInCourse calls.new }
 {
     let written = write_first(

@@ -15,7 +15,7 @@ use Rattle.quota_evict.proofs.Steps.{entries_fit}
 use Rattle.cas_service.specs.Changes as Texts
 use Rattle.cas_service.specs.declared.error.CallError.{CallError}
 use Rattle.cas_service.specs.declared.error.CallError.TheVariants.{Refused, NoMemory}
-use Rattle.bytestream.specs.Refusals.{IfAnswered}
+use Rattle.cas_service.specs.Answers.{IfAnswered}
 use Rattle.bytestream.specs.declared.reading.ReadAsked.{ReadAsked}
 use Rattle.bytestream.specs.Reading.{after_asking}
 use Rattle.instance_core.specs.Replies.{items_of}

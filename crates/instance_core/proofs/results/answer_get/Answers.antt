@@ -1,6 +1,6 @@
 use Rattle.std.proofs.Common.{◌≡◌, ℕ, subst}
 use Rattle.instance_view.specs.Shown.{shown}
-use Rattle.bytestream.specs.Refusals.{IfAnswered}
+use Rattle.cas_service.specs.Answers.{IfAnswered}
 use Rattle.cas_service.specs.Changes.{changed}
 use Rattle.tree_calls.specs.Results.{get_action_result_reply, get_action_result_changes, after_get}
 use Rattle.tree_calls.proofs.Limits.{stay_within_get}

@@ -12,6 +12,7 @@ mod hexadecimal;
 pub mod laws;
 mod number;
 mod parts;
+mod reader;
 pub mod replay;
 pub mod replay_lines;
 pub mod unary;

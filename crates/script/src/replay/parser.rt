@@ -8,8 +8,9 @@ ghost use Rattle.script.specs.ReplayShown.{replay_script_value};
 
 use crate::arguments::{number, three};
 use crate::fault::{LineFault, ScriptFault};
+use crate::reader::{FromLines, read_lines};
 use crate::replay::event::read_event;
-use crate::{Parts, decimal, lines, words};
+use crate::{Parts, decimal, words};
 use server_events::{Event, INSTANCE_LIMIT, InstanceConfig, own_fault};
 use std::alloc::Global;
 use std::str;
@@ -37,20 +38,26 @@ pub fn parse(alloc: Global, text: &[u8]) -> Result<ReplayScript, ScriptFault>
         configs: Vec::new(alloc),
         events: Vec::new(alloc),
     };
-    let mut number = 0;
-    for line in lines(text) {
-        number += 1;
-        match read_line(alloc, &mut script, line) {
-            Ok(()) => {}
-            Err(LineFault::Bad) => return Err(ScriptFault::BadLine(number)),
-            Err(LineFault::NoMemory) => return Err(ScriptFault::NoMemory),
-        }
-    }
+    read_lines(alloc, &mut script, text)?;
     Ok(script)
 }
 
+impl FromLines for ReplayScript {
+    ghost use Rattle.script.specs.ReplayScript.{ReplayScriptValue};
+
+    ghost Value = { ReplayScriptValue };
+
+    ghost value_of = { replay_script_value };
+
+    ghost after_line = { after_replay_line };
+
+    fn read_line(&mut self, alloc: Global, line: &[u8]) -> Result<(), LineFault> {
+        add_line(alloc, self, line)
+    }
+}
+
 // Adds what one more line says.
-fn read_line(alloc: Global, script: &mut ReplayScript, line: &[u8]) -> Result<(), LineFault>
+fn add_line(alloc: Global, script: &mut ReplayScript, line: &[u8]) -> Result<(), LineFault>
     ensures read { OnOk result (after_replay_line (replay_script_value script.old) line.now
         ≡ Some (replay_script_value script.new)) }
     ensures bad { result ≡ Err LineFault.Bad →

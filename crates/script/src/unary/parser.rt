@@ -8,9 +8,10 @@ ghost use Rattle.script.specs.UnaryShown.{instance_value, command_value, unary_s
 
 use crate::arguments::{three, two};
 use crate::fault::{LineFault, ScriptFault};
+use crate::reader::{FromLines, read_lines};
 use crate::unary::command::{Command, Instance, UnaryScript};
 use crate::unary::method::Method;
-use crate::{Parts, decimal, hex_bytes, lines, words};
+use crate::{Parts, decimal, hex_bytes, words};
 use server_events::{is_instance_name, is_quota};
 use std::alloc::Global;
 use std::str;
@@ -34,20 +35,26 @@ pub fn parse(alloc: Global, text: &[u8]) -> Result<UnaryScript, ScriptFault>
         instances: Vec::new(alloc),
         commands: Vec::new(alloc),
     };
-    let mut number = 0;
-    for line in lines(text) {
-        number += 1;
-        match read_line(alloc, &mut script, line) {
-            Ok(()) => {}
-            Err(LineFault::Bad) => return Err(ScriptFault::BadLine(number)),
-            Err(LineFault::NoMemory) => return Err(ScriptFault::NoMemory),
-        }
-    }
+    read_lines(alloc, &mut script, text)?;
     Ok(script)
 }
 
+impl FromLines for UnaryScript {
+    ghost use Rattle.script.specs.UnaryScript.{UnaryScriptValue};
+
+    ghost Value = { UnaryScriptValue };
+
+    ghost value_of = { unary_script_value };
+
+    ghost after_line = { after_unary_line };
+
+    fn read_line(&mut self, alloc: Global, line: &[u8]) -> Result<(), LineFault> {
+        add_line(alloc, self, line)
+    }
+}
+
 // Adds what one more line says.
-fn read_line(alloc: Global, script: &mut UnaryScript, line: &[u8]) -> Result<(), LineFault>
+fn add_line(alloc: Global, script: &mut UnaryScript, line: &[u8]) -> Result<(), LineFault>
     ensures read { OnOk result (after_unary_line (unary_script_value script.old) line.now
         ≡ Some (unary_script_value script.new)) }
     ensures bad { result ≡ Err LineFault.Bad →

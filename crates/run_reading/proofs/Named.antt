@@ -227,7 +227,7 @@ IsShortHappening (RequestAnswered place stream item) = IsShortItem item
 IsShortHappening (CallEventCame place event) = IsShortEvent event
 
 pub moment_within : (moment : ℕ) (s : InstanceState) → WithinLimits s → WithinLimits (at_moment moment s)
-moment_within moment s w = record { quota = w.quota; texts = w.texts; uploads = w.uploads; calls = w.calls; messages = w.messages }
+moment_within moment s w = record { quota = w.quota; texts = w.texts; uploads = w.uploads; results = w.results; calls = w.calls; messages = w.messages }
 
 -- what holds of each answer that is given within the limits, holds of all
 pub each_answer : (P : Answering → Type 0) (s : InstanceState) (hs : List Happening) → ((t : InstanceState) (event : CallEventValue) → WithinLimits t → P (record { state = t; event = event })) → AllByRecursion IsShortHappening hs → WithinLimits s → AllByRecursion P (answerings s hs)

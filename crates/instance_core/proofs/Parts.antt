@@ -19,7 +19,7 @@ use Rattle.cas_service.specs.Changes as Texts
 use Rattle.instance_core.specs.declared.event.CallId.{CallId}
 use Rattle.instance_core.specs.declared.event.Reply.{Reply}
 use Rattle.uploads.specs.Uploads.{UploadList}
-use Rattle.tree_calls.specs.Naming.{AreWithin}
+use Rattle.tree_calls.specs.Complete.{AreWithin}
 use Rattle.instance_core.specs.Calls.{CallValue, ProgressValue, has, Calls, without_call, IsShortProgress}
 use Rattle.instance_core.specs.State.{InstanceState, most_blobs}
 use Rattle.instance_core.specs.Methods.{LeavesResults, text_changes, result_changes, request_changes}

@@ -16,7 +16,7 @@ use Rattle.bytestream.specs.Writing.{OpenWriteValue, WrittenValue, first_asked, 
 use Rattle.instance_core.specs.declared.event.CallId.{CallId}
 use Rattle.instance_core.specs.Calls.{Calls, ProgressValue, waits, has, writes, CallValue, CallEventValue, head, message, fault, end, cancel, tick, same_call, call_at, with_call, without_call, IsShortEvent, IsShortProgress, KeepShort}
 use Rattle.instance_core.specs.State.{InstanceState, WithinLimits, most_blobs}
-use Rattle.tree_calls.specs.Naming.{AreWithin}
+use Rattle.tree_calls.specs.Complete.{AreWithin}
 use Rattle.tree_calls.specs.Results.{after_get, after_update}
 use Rattle.tree_calls.proofs.Limits.{stay_within_get, stay_within_update}
 use Rattle.instance_core.specs.Methods.{is_served, text_changes, result_changes, request_changes}

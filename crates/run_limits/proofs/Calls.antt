@@ -18,7 +18,7 @@ use Rattle.instance_core.specs.Calls.{Calls, ProgressValue, waits, has, writes, 
 use Rattle.instance_core.specs.State.{InstanceState, WithinLimits, most_blobs}
 use Rattle.tree_calls.specs.Complete.{AreWithin}
 use Rattle.tree_calls.specs.Results.{after_get, after_update}
-use Rattle.tree_calls.proofs.Limits.{stay_within_get, stay_within_update}
+use Rattle.tree_calls.proofs.Short.{get_stays_within, update_stays_within}
 use Rattle.instance_core.specs.Methods.{is_served, text_changes, result_changes, request_changes}
 use Rattle.instance_core.specs.Changes.{Change, Text, Goes, Ends, Wrote, Keeps, Expires, change_made, changed}
 use Rattle.instance_core.specs.Writes.{write_state, part_of, first_changes, next_changes, first_outcome, next_outcome}
@@ -236,8 +236,8 @@ limits_allow s w =
       written = λ id method write below. below;
       ended = λ id. tt;
       expired = tt;
-      moved = λ message. stay_within_get s.name s.visible s.results message w.results;
-      sent = λ message. stay_within_update s.name s.results message w.results;
+      moved = λ message. get_stays_within s.name s.visible s.results message w.results;
+      sent = λ message. update_stays_within s.name s.results message w.results;
       first = λ bytes. (piece_within true s (part_of (first_asked s.name bytes)) here, (first_within s.name s.quota s.moment bytes (write_state s) here, tt));
       next = λ write bytes. (piece_within false s (next_asked write bytes) here, (next_within write s.quota s.moment bytes (write_state s) here, tt));
     }

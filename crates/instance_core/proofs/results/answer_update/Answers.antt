@@ -1,6 +1,6 @@
 use Rattle.std.proofs.Common.{◌≡◌, [], refl}
 use Rattle.tree_calls.specs.Results.{update_action_result_reply, after_update}
-use Rattle.tree_calls.proofs.Limits.{stay_within_update}
+use Rattle.tree_calls.proofs.Short.{update_stays_within}
 use Rattle.instance_core.specs.Shown.{state_of}
 use Rattle.instance_core.proofs.Parts.{results_make, settled_results, answered_always, err_both}
 use Rattle.instance_core.proofs.results.answer_update.Goals as goal
@@ -25,4 +25,4 @@ returns-clause-results c =
     let results = c.args.contents.now.results in
     let left = outcome.ensures.results in
     settled_results outcome.result results (after_update c.deref.result.now results c.args.message.now) outcome.new.results left outcome.ensures.err
-    c.requires.results (stay_within_update c.deref.result.now results c.args.message.now c.requires.results)
+    c.requires.results (update_stays_within c.deref.result.now results c.args.message.now c.requires.results)

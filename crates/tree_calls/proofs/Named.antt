@@ -1,12 +1,11 @@
 -- What is given is what digests of the list name, and complete.
-use Rattle.std.proofs.Common.{◌≡◌, ℕ, zero, suc, ◌≤◌, Bool, true, false, cond, List, [], ◌∷◌, ◌++◌, ◌||◌, length, map, drop, Option, Some, None, Result, Ok, Err, is_some, refl, sym, ap, subst, ◌∙◌, arith, if◌then◌else◌}
+use Rattle.std.proofs.Common.{◌≡◌, ℕ, zero, suc, Bool, true, false, cond, List, [], ◌∷◌, ◌++◌, map, drop, Option, Some, None, Result, Ok, Err, is_some, refl, sym, subst, if◌then◌else◌}
 use Rattle.std.specs.Prelude.{unwrap_or, IfSome}
-use Rattle.std.specs.List.{AllByRecursion, flat_map}
+use Rattle.std.specs.List.{AllByRecursion}
 use Rattle.std.specs.Map.{lookup}
 use Rattle.message_fields.specs.declared.error.MessageError.{MessageError}
 use Rattle.message_fields.specs.Fields.{decoded}
 use Rattle.protobuf_wire.proofs.Tools.{bind_ok}
-use Rattle.rpc.specs.declared.refusal.Refusal.{Refusal}
 use Rattle.digest.specs.declared.Digest.{Digest}
 use Rattle.digest.specs.Naming.{Names, same, digest_of}
 use Rattle.digest.proofs.Same.{same_equal, same_names}
@@ -16,7 +15,7 @@ use Rattle.tree_messages.specs.Directories.{DirectoryValue, FileNodeValue, TreeV
 use Rattle.tree_messages.specs.Results.{ActionResultValue, OutputFileValue, OutputDirectoryValue, action_result_of}
 use Rattle.tree_messages.specs.GetTree.{GetTreeResponseValue}
 use Rattle.input_tree.specs.Directories.{digest_written}
-use Rattle.input_tree.specs.Listing.{Lookup, children_of_text, tree_list}
+use Rattle.input_tree.specs.Listing.{Lookup, children_of_text}
 use Rattle.input_tree.specs.Pages.{page_text, text_or_none, texts}
 use Rattle.action_cache.specs.Complete.{and_then, blobs_of, with_blob, with_directories, with_files, with_output_directories, with_output_directory, with_output_files, with_outputs, with_root, with_seen, with_set, with_streams, with_tree, with_tree_of}
 use Rattle.action_cache.specs.Answering.{blobs_for, result_for}
@@ -24,7 +23,7 @@ use Rattle.tree_calls.specs.Asking.{action_asked}
 use Rattle.tree_calls.specs.GetTree.{texts_seen, get_tree_replies}
 use Rattle.tree_calls.specs.Results.{get_action_result_reply, or_no_result}
 use Rattle.tree_calls.specs.Lists.{IsListed, IsDirectory}
-use Rattle.tree_calls.specs.Pages.{AreNamedReplies, GiveTheList, IsNamedAmong, IsNamedPage, directories_of}
+use Rattle.tree_calls.specs.Pages.{AreNamedReplies, IsNamedAmong, IsNamedPage, directories_of}
 use Rattle.tree_calls.specs.Complete.{HasBlob, HasFiles, HasTree, IsComplete, IsCompleteReply}
 use Rattle.tree_calls.proofs.Whole.{all_listed, whole_from}
 use Rattle.tree_calls.proofs.Pages.{list_given}
@@ -77,21 +76,25 @@ each_named listed (p ∷ ps) h =
     let parts = all_front (IsNamedAmong listed) p.directories (directories_of ps) h in
     (record { page = p; written = refl; named = parts.0 }, each_named listed ps parts.1)
 
+all_named : (visible : List Blob) (listed : List Digest) (place : ℕ) (pages : List GetTreeResponseValue) (messages : List (List ℕ)) → AllNamed visible → AllByRecursion (IsDirectory (texts_seen visible)) listed → directories_of pages ≡ texts (texts_seen visible) (drop place listed)
+    → messages ≡ map page_text pages → AllByRecursion (IsNamedPage listed) messages
+all_named visible listed place pages messages named dirs joined written =
+    let look = texts_seen visible in
+    let all = all_texts visible listed (drop place listed) named (all_dropped (IsListed listed) place listed (all_listed listed)) (all_dropped (IsDirectory look) place listed dirs) in
+    let given : AllByRecursion (IsNamedAmong listed) (directories_of pages) = rw joined all in
+    rw written (each_named listed pages given)
+
 pub pages_named : (own : List ℕ) (visible : List Blob) (request : List ℕ) (messages : List (List ℕ)) → AllNamed visible → get_tree_replies own visible request ≡ Ok messages → AreNamedReplies own visible request messages
 pages_named own visible request messages named h =
     let look = texts_seen visible in
     let g = list_given own visible request messages h in
     let whole = (whole_from 10000 look g.asked.root g.listed g.is_listed).0 in
-    let there = all_dropped (IsListed g.listed) g.place g.listed (all_listed g.listed) in
-    let dirs = all_dropped (IsDirectory look) g.place g.listed whole.directories in
-    let all = all_texts visible g.listed (drop g.place g.listed) named there dirs in
-    let joined = subst (AllByRecursion (IsNamedAmong g.listed)) (sym g.given.joined) all in
     record {
       asked = g.asked;
       is_asked = g.is_asked;
       listed = g.listed;
       is_listed = g.is_listed;
-      pages = subst (AllByRecursion (IsNamedPage g.listed)) (sym g.given.written) (each_named g.listed g.given.pages joined);
+      pages = all_named visible g.listed g.place g.given.pages messages named whole.directories g.given.joined g.given.written;
     }
 
 -- ---- results

@@ -1,25 +1,23 @@
 -- Pages, one after another.
-use Rattle.std.proofs.Common.{◌≡◌, ℕ, zero, suc, pos, negsuc, ◌+◌, ◌<◌, ◌≤◌, ◌⊎◌, inl, inr, Bool, true, false, List, [], ◌∷◌, ◌++◌, ◌||◌, ◌&&◌, ◌==◌, length, map, drop, Option, Some, None, Result, Ok, Err, refl, sym, ap, subst, ◌∙◌, arith, append_assoc, if◌then◌else◌}
+use Rattle.std.proofs.Common.{◌≡◌, ℕ, pos, negsuc, ◌+◌, ◌<◌, ◌≤◌, ◌⊎◌, inl, inr, Bool, true, false, List, [], ◌∷◌, ◌++◌, ◌||◌, ◌==◌, length, drop, Option, Some, None, Result, Ok, Err, refl, ap, subst, ◌∙◌, arith, append_assoc, if◌then◌else◌}
 use Rattle.std.specs.Prelude.{ℤ, nat_le, nat_lt}
 use Rattle.std.specs.Fmt.{decimal}
-use Rattle.std.specs.List.{AllByRecursion, flat_map}
 use Rattle.std.proofs.lemmas.Bool.{and_parts}
 use Rattle.std.proofs.lemmas.Bool.Decides.{nat_tests}
-use Rattle.std.proofs.lemmas.List.{append-nil, length-append}
+use Rattle.std.proofs.lemmas.List.{length-append}
 use Rattle.protobuf_wire.specs.Record.{Record}
 use Rattle.message_fields.specs.Writing.{text}
 use Rattle.message_fields.specs.Parts.{repeated_octets_field}
 use Rattle.protobuf_wire.proofs.Tools.{bind_ok}
-use Rattle.rpc.specs.declared.refusal.Refusal.{Refusal}
 use Rattle.digest.specs.declared.Digest.{Digest}
 use Rattle.instance_view.specs.Visible.{Blob}
 use Rattle.tree_messages.specs.GetTree.{GetTreeResponseValue}
 use Rattle.input_tree.specs.declared.error.TreeRefusal.{TreeRefusal}
 use Rattle.input_tree.specs.Listing.{Lookup, tree_list}
-use Rattle.input_tree.specs.Pages.{last_page, page_before, page_bytes, page_from, page_text, pages_along, pages_at, pages_of, place_asked, place_within, size_asked, takes, takes_more, texts, get_tree_reply}
-use Rattle.tree_calls.specs.Asking.{TreeAskedValue, tree_asked}
-use Rattle.tree_calls.specs.GetTree.{texts_seen, tree_refusal, of_tree, pages_asked, get_tree_replies}
-use Rattle.tree_calls.specs.Pages.{IsBounded, token_before, AreContinued, directories_of, ArePages, GiveTheList}
+use Rattle.input_tree.specs.Pages.{last_page, page_before, page_bytes, page_from, page_text, pages_along, pages_at, pages_of, place_asked, size_asked, takes, texts, get_tree_reply}
+use Rattle.tree_calls.specs.Asking.{tree_asked}
+use Rattle.tree_calls.specs.GetTree.{texts_seen, of_tree, pages_asked, get_tree_replies}
+use Rattle.tree_calls.specs.Pages.{IsBounded, token_before, directories_of, ArePages, GiveTheList}
 use Rattle.tree_calls.proofs.Sizes.{both_written}
 
 -- ---- one page
@@ -132,6 +130,9 @@ placed look listed None place messages h = absurd (cc)
 placed look listed (Some size) None messages h = absurd (cc)
 placed look listed (Some size) (Some place) messages h = record { size = size; is_size = refl; place = place; is_place = refl; are = cc }
 
+reply_given : (look : Lookup) (listed : List Digest) (size place : ℕ) (messages : List (List ℕ)) → 0 < size → messages ≡ pages_along size place [] (texts look (drop place listed)) → ArePages size place (texts look (drop place listed)) messages
+reply_given look listed size place messages some is = rw is (given size place place [] (texts look (drop place listed)) some (omega arith) (begun_none size))
+
 pub list_given : (own : List ℕ) (visible : List Blob) (request : List ℕ) (messages : List (List ℕ)) → get_tree_replies own visible request ≡ Ok messages → GiveTheList own visible request messages
 list_given own visible request messages h =
     let look = texts_seen visible in
@@ -149,5 +150,5 @@ list_given own visible request messages h =
       is_size = p.is_size;
       place = p.place;
       is_place = p.is_place;
-      given = subst (ArePages p.size p.place (texts look (drop p.place l.0))) (sym p.are) (given p.size p.place p.place [] (texts look (drop p.place l.0)) (size_some asked.page_size p.size p.is_size) (omega arith) (begun_none p.size));
+      given = reply_given look l.0 p.size p.place messages (size_some asked.page_size p.size p.is_size) p.are;
     }

@@ -1,31 +1,30 @@
 -- How long replies are, and how many results there are.
-use Rattle.std.proofs.Common.{◌≡◌, ℕ, zero, suc, ◌+◌, ◌-◌, ◌^◌, ◌<◌, ◌≤◌, ◌⊎◌, inl, inr, Bool, true, false, cond, List, [], ◌∷◌, ◌++◌, length, map, drop, Option, Some, None, Result, Ok, Err, is_some, refl, sym, ap, subst, ◌∙◌, arith, leb-true, if◌then◌else◌}
+use Rattle.std.proofs.Common.{◌≡◌, ℕ, zero, suc, ◌+◌, ◌-◌, ◌^◌, ◌<◌, ◌≤◌, inl, inr, Bool, true, false, cond, List, [], ◌∷◌, length, map, drop, Option, Some, None, Result, Ok, Err, is_some, refl, sym, ap, subst, ◌∙◌, arith, leb-true, if◌then◌else◌}
 use Rattle.std.specs.Prelude.{nat_le, nat_lt, unwrap_or, option_map}
 use Rattle.std.specs.Fmt.{decimal}
 use Rattle.std.specs.List.{AllByRecursion, concat, flat_map}
 use Rattle.std.specs.Map.{lookup, remove_entry}
-use Rattle.std.proofs.lemmas.Bool.Decides.{nat_tests}
 use Rattle.std.proofs.lemmas.Fmt.{length-decimal-le}
 use Rattle.std.proofs.lemmas.List.{length-append, length-drop}
 use Rattle.message_fields.specs.declared.error.MessageError.{MessageError}
-use Rattle.message_fields.specs.Fields.{decoded, parsed, payloads, each_of, whole, embedded, sent, string, int32, joined_payloads}
-use Rattle.message_fields.specs.Parts.{text_for, repeated_octets_field, string_field}
+use Rattle.message_fields.specs.Fields.{decoded, payloads, embedded, sent, string, int32, joined_payloads}
+use Rattle.message_fields.specs.Parts.{repeated_octets_field, string_field}
 use Rattle.protobuf_wire.proofs.Tools.{bind_ok, ok_is}
 use Rattle.digest.specs.declared.Digest.{Digest}
 use Rattle.digest.specs.Naming.{same}
 use Rattle.instance_view.specs.Visible.{Blob, fronted, total}
 use Rattle.instance_view.proofs.Visibles.{total-fronted, length-fronted}
 use Rattle.reapi_messages.specs.Digests.{digest_of}
-use Rattle.tree_messages.specs.GetTree.{GetTreeResponseValue, get_tree_response_records}
+use Rattle.tree_messages.specs.GetTree.{GetTreeResponseValue}
 use Rattle.tree_messages.specs.ActionCache.{UpdateActionResultRequestValue, update_action_result_request_of}
 use Rattle.tree_messages.specs.Directories.{DirectoryValue, directory_of}
 use Rattle.tree_messages.specs.Results.{action_result_of}
-use Rattle.input_tree.specs.Directories.{checked, child_digests, children_in}
+use Rattle.input_tree.specs.Directories.{checked, child_digests}
 use Rattle.input_tree.specs.Listing.{Lookup, children_of_text}
 use Rattle.input_tree.specs.Pages.{page_bytes, page_text, place_asked, place_within, text_or_none, texts}
 use Rattle.input_tree.specs.Number.{decimal_of}
-use Rattle.action_cache.specs.Results.{front_within, stored}
-use Rattle.action_cache.specs.Answering.{blobs_for, results_after}
+use Rattle.action_cache.specs.Results.{front_within}
+use Rattle.action_cache.specs.Answering.{blobs_for}
 use Rattle.cas_service.specs.Requests.{readable, own_instance, known_function}
 use Rattle.cas_service.specs.BatchUpdate.{set_digest}
 use Rattle.rpc.specs.declared.refusal.Refusal.{Refusal}
@@ -33,9 +32,9 @@ use Rattle.tree_calls.specs.Asking.{ResultSentValue, action_asked, result_sent}
 use Rattle.tree_calls.specs.GetTree.{texts_seen, get_tree_replies}
 use Rattle.tree_calls.specs.Results.{after_asking, after_get, after_sending, after_update, get_action_result_reply, update_action_result_reply}
 use Rattle.tree_calls.specs.Lists.{IsDirectory}
-use Rattle.tree_calls.specs.Pages.{IsBounded, AreContinued, token_before, directories_of, GiveTheList}
+use Rattle.tree_calls.specs.Pages.{IsBounded, AreContinued, token_before, directories_of}
 use Rattle.tree_calls.specs.Complete.{AreWithin}
-use Rattle.tree_calls.proofs.Sizes.{bytes_written, both_written, message_written, payloads_weight, read_from, sizes, weight}
+use Rattle.tree_calls.proofs.Sizes.{bytes_written, both_written, message_written, payloads_weight, read_from, sizes}
 use Rattle.tree_calls.proofs.Whole.{whole_from}
 use Rattle.tree_calls.proofs.Pages.{list_given}
 use Rattle.tree_calls.proofs.Named.{all_dropped, all_front, result_complete}

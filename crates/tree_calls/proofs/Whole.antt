@@ -1,14 +1,13 @@
 -- The list of a tree, gone along to its end.
-use Rattle.std.proofs.Common.{◌≡◌, ℕ, zero, suc, ◌+◌, ◌≤◌, Bool, true, false, List, [], ◌∷◌, ◌++◌, ◌||◌, length, Option, Some, None, Result, Ok, Err, is_some, slice_get, refl, sym, ap, subst, ◌∙◌, arith, append_assoc, if◌then◌else◌}
+use Rattle.std.proofs.Common.{◌≡◌, ℕ, zero, suc, ◌+◌, ◌≤◌, Bool, true, false, List, [], ◌∷◌, ◌++◌, ◌||◌, length, Option, Some, None, Ok, Err, is_some, slice_get, refl, sym, ap, subst, ◌∙◌, arith, append_assoc, if◌then◌else◌}
 use Rattle.std.specs.List.{AllByRecursion, IsDistinct, list_any}
 use Rattle.std.proofs.lemmas.List.{append-nil, length-append}
 use Rattle.digest.specs.declared.Digest.{Digest}
 use Rattle.digest.specs.Naming.{same}
 use Rattle.digest.proofs.Same.{same_refl, same_symm}
-use Rattle.input_tree.specs.declared.error.TreeRefusal.{TreeRefusal}
-use Rattle.input_tree.specs.declared.error.TreeRefusal.TheVariants.{NotFound, BadDirectory, TooMany}
+use Rattle.input_tree.specs.declared.error.TreeRefusal.TheVariants.{BadDirectory}
 use Rattle.input_tree.specs.Directories.{children_in}
-use Rattle.input_tree.specs.Listing.{Lookup, children, children_of_text, with_listed, with_all_listed, with_children, listed_along, listed_from}
+use Rattle.input_tree.specs.Listing.{Lookup, children, with_listed, with_all_listed, with_children, listed_along, listed_from}
 use Rattle.tree_calls.specs.Lists.{IsListed, IsDirectory, children_or_none, HasParent, AreReached, HasListed, IsWholeTree}
 
 -- ---- lists of digests

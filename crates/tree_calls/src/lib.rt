@@ -6,8 +6,13 @@
 #![tactic(auto)]
 
 mod asking;
+mod laws;
 mod results;
 mod trees;
 
+pub use laws::{
+    pages_given_are_named, pages_joined_are_the_list, replies_are_short,
+    results_given_are_complete, results_stay_within, tree_lists_are_whole,
+};
 pub use results::{get_action_result, update_action_result};
 pub use trees::get_tree;

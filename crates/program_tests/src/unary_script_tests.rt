@@ -1,5 +1,5 @@
 use std::test::*;
-use unary_script::*;
+use script::unary::*;
 
 #[test]
 fn methods(rt: HostRuntime) {

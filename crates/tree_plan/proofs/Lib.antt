@@ -1,1 +1,2 @@
 mod Walks
+mod Trees

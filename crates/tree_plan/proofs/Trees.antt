@@ -6,7 +6,7 @@ use Rattle.digest.specs.declared.Digest.{Digest}
 use Rattle.input_tree.specs.Listing.{Lookup}
 use Rattle.tree_plan.specs.Nodes.{PlanNodeValue}
 use Rattle.tree_plan.specs.Walk.{Nodes, TreeFaultValue, directory_nodes, nodes_inside, walk_along, nodes_met, digests_met, missing_among, none_missing, planned, walk, missing}
-use Rattle.tree_plan.specs.Tree.{Meets, nothing, each, IsTree, StandsIn, HasPlace, HavePlaces}
+use Rattle.tree_plan.specs.Tree.{Meets, none, met as met_first, IsTree, StandsIn, HasPlace, HavePlaces}
 
 -- what is met from a list of nodes is what is met from its front, and then from its rest
 record Splits (look : Lookup) (front rest met : List PlanNodeValue) : Type 0 where
@@ -21,13 +21,13 @@ with_first look n inside below front rest later is meets s = record {
   below = n ∷ (below ++ s.below);
   after = s.after;
   is = ap (λ (ns : List PlanNodeValue). n ∷ ns) (ap (λ (ns : List PlanNodeValue). below ++ ns) s.is ∙ sym (append_assoc below s.below s.after));
-  front_meets = each n inside below front s.below is meets s.front_meets;
+  front_meets = met_first n inside below front s.below is meets s.front_meets;
   rest_meets = s.rest_meets;
 }
 
 splits : (look : Lookup) (front rest met : List PlanNodeValue) → Meets look (front ++ rest) met → Splits look front rest met
-splits look [] rest met h = record { below = []; after = met; is = refl; front_meets = nothing; rest_meets = h }
-splits look (x ∷ front) rest met (each n inside below next after is meets later) = with_first look n inside below front rest after is meets (splits look front rest after later)
+splits look [] rest met h = record { below = []; after = met; is = refl; front_meets = none; rest_meets = h }
+splits look (x ∷ front) rest met (met_first n inside below next after is meets later) = with_first look n inside below front rest after is meets (splits look front rest after later)
 
 -- the nodes that were met, and those that are met from what comes next
 record Continues (look : Lookup) (next met nodes : List PlanNodeValue) : Type 0 where
@@ -41,13 +41,13 @@ continued look n inside next met nodes is c =
     record {
       after = n ∷ (s.below ++ s.after);
       is = c.is ∙ append_assoc met (n ∷ []) c.after ∙ ap (λ (ns : List PlanNodeValue). met ++ n ∷ ns) s.is;
-      meets = each n inside s.below next s.after is s.front_meets s.rest_meets;
+      meets = met_first n inside s.below next s.after is s.front_meets s.rest_meets;
     }
 
 continues : (most : ℕ) (look : Lookup) (next met nodes : List PlanNodeValue) → walk_along most look next met ≡ Ok nodes → Continues look next met nodes
 unfolding walk_along
-continues zero look [] met nodes h = record { after = []; is = (let e : met ≡ nodes = cc in sym e) ∙ sym (append-nil met); meets = nothing }
-continues (suc most) look [] met nodes h = record { after = []; is = (let e : met ≡ nodes = cc in sym e) ∙ sym (append-nil met); meets = nothing }
+continues zero look [] met nodes h = record { after = []; is = (let e : met ≡ nodes = cc in sym e) ∙ sym (append-nil met); meets = none }
+continues (suc most) look [] met nodes h = record { after = []; is = (let e : met ≡ nodes = cc in sym e) ∙ sym (append-nil met); meets = none }
 continues zero look (n ∷ next) met nodes h = cc
 continues (suc most) look (n ∷ next) met nodes h = go (nodes_inside look n) refl h (λ inside. continues most look (inside ++ next) (met ++ n ∷ []) nodes) where
   go : (m : Nodes) → nodes_inside look n ≡ m → (m >>= (λ inside. walk_along most look (inside ++ next) (met ++ n ∷ []))) ≡ Ok nodes → ((inside : List PlanNodeValue) → walk_along most look (inside ++ next) (met ++ n ∷ []) ≡ Ok nodes → Continues look (inside ++ next) (met ++ n ∷ []) nodes) → Continues look (n ∷ next) met nodes
@@ -60,7 +60,7 @@ none_missing_ok : (nodes plan : List PlanNodeValue) (ds : List Digest) → none_
 none_missing_ok nodes plan [] h = (cc, refl)
 none_missing_ok nodes plan (d ∷ ds) h = cc
 
-none_missing_err : (nodes : List PlanNodeValue) (ds digests : List Digest) → none_missing nodes ds ≡ Err (missing digests) → ds ≡ digests
+pub none_missing_err : (nodes : List PlanNodeValue) (ds digests : List Digest) → none_missing nodes ds ≡ Err (missing digests) → ds ≡ digests
 none_missing_err nodes [] digests h = cc
 none_missing_err nodes (d ∷ ds) digests h = cc
 

@@ -11,7 +11,7 @@ mod walking;
 pub use fault::TreeFault;
 pub use laws::{
     a_directory_comes_before_what_it_has, a_plan_has_the_nodes_of_its_tree, a_plan_misses_nothing,
-    blobs_not_there_are_missing, missing_blobs_are_not_there,
+    missing_blobs_are_those_not_there,
 };
 pub use node::{NodeKind, PlanNode};
 pub use walking::{MOST_LEVELS, MOST_NODES, Plan, walk};

@@ -1,11 +1,11 @@
 -- What is missing in a tree.
-use Rattle.std.proofs.Common.{◌≡◌, ℕ, zero, suc, ◌+◌, Bool, true, false, not, nat_le, List, [], ◌∷◌, ◌++◌, is_some, Option, Some, None, Result, Ok, Err, refl, sym, ap, ◌∙◌, if◌then◌else◌}
+use Rattle.std.proofs.Common.{◌≡◌, ℕ, zero, suc, ◌+◌, Bool, true, false, not, nat_le, List, [], ◌∷◌, ◌++◌, is_some, Option, Some, None, Ok, Err, refl, ◌∙◌, if◌then◌else◌}
 use Rattle.std.specs.List.{Contains}
 use Rattle.message_fields.specs.Results.{◌>>=◌}
 use Rattle.digest.specs.declared.Digest.{Digest}
 use Rattle.input_tree.specs.Listing.{Lookup}
 use Rattle.tree_plan.specs.Nodes.{NodeKindValue, file, symlink, directory, PlanNodeValue, nodes_in}
-use Rattle.tree_plan.specs.Walk.{Nodes, TreeFaultValue, taken, nodes_of_text, directory_nodes, nodes_below, nodes_inside, walk_along, nodes_met, digests_met, missing_among, none_missing, planned, walk, missing, too_deep}
+use Rattle.tree_plan.specs.Walk.{Nodes, taken, nodes_of_text, directory_nodes, nodes_below, nodes_inside, walk_along, nodes_met, digests_met, missing_among, planned, walk, missing, too_deep}
 use Rattle.tree_plan.specs.Tree.{AreMissing}
 use Rattle.tree_plan.proofs.Kept.{in_none, filter_gives, filter_has}
 use Rattle.tree_plan.proofs.Trees.{none_missing_err, plan_is}

@@ -1,12 +1,12 @@
 -- Each node that is met has its place.
-use Rattle.std.proofs.Common.{◌≡◌, ◌⊎◌, inl, inr, List, [], ◌∷◌, ◌++◌, Ok, sym, ap, ◌∙◌, append_assoc, append-nil}
+use Rattle.std.proofs.Common.{◌≡◌, inl, inr, List, [], ◌∷◌, ◌++◌, Ok, append_assoc, append-nil}
 use Rattle.std.specs.List.{Contains}
 use Rattle.std.proofs.lemmas.List.Elements.{Contains-append_left, Contains-push}
 use Rattle.digest.specs.declared.Digest.{Digest}
 use Rattle.input_tree.specs.Listing.{Lookup}
 use Rattle.tree_plan.specs.Nodes.{PlanNodeValue}
-use Rattle.tree_plan.specs.Walk.{directory_nodes, nodes_inside, walk}
-use Rattle.tree_plan.specs.Tree.{Meets, none, met as met_first, IsTree, HasPlace, HavePlaces}
+use Rattle.tree_plan.specs.Walk.{directory_nodes, walk}
+use Rattle.tree_plan.specs.Tree.{Meets, none, met as met_first, HasPlace, HavePlaces}
 use Rattle.tree_plan.proofs.Kept.{first_in, later_in}
 use Rattle.tree_plan.proofs.Trees.{plan_tree}
 

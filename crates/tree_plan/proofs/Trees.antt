@@ -1,12 +1,11 @@
 -- What a walk meets is a tree, in which each node has its place.
-use Rattle.std.proofs.Common.{◌≡◌, ◌⊎◌, inl, inr, ℕ, zero, suc, Bool, true, false, not, List, [], ◌∷◌, ◌++◌, filter, is_some, Option, Some, None, Result, Ok, Err, refl, sym, ap, ◌∙◌, append_assoc, append-nil, if◌then◌else◌}
-use Rattle.std.specs.List.{All, AllByRecursion, Contains}
+use Rattle.std.proofs.Common.{◌≡◌, ℕ, zero, suc, List, [], ◌∷◌, ◌++◌, Ok, Err, refl, sym, ap, ◌∙◌, append_assoc, append-nil}
 use Rattle.message_fields.specs.Results.{◌>>=◌}
 use Rattle.digest.specs.declared.Digest.{Digest}
 use Rattle.input_tree.specs.Listing.{Lookup}
 use Rattle.tree_plan.specs.Nodes.{PlanNodeValue}
-use Rattle.tree_plan.specs.Walk.{Nodes, TreeFaultValue, directory_nodes, nodes_inside, walk_along, nodes_met, digests_met, missing_among, none_missing, planned, walk, missing}
-use Rattle.tree_plan.specs.Tree.{Meets, none, met as met_first, IsTree, StandsIn, HasPlace, HavePlaces}
+use Rattle.tree_plan.specs.Walk.{Nodes, directory_nodes, nodes_inside, walk_along, nodes_met, digests_met, missing_among, none_missing, planned, walk, missing}
+use Rattle.tree_plan.specs.Tree.{Meets, none, met as met_first, IsTree}
 
 -- what is met from a list of nodes is what is met from its front, and then from its rest
 record Splits (look : Lookup) (front rest met : List PlanNodeValue) : Type 0 where

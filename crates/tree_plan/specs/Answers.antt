@@ -2,7 +2,6 @@
 use Rattle.std.specs.Prelude.{◌≡◌, Result, Ok, Err}
 use Rattle.tree_plan.specs.declared.fault.TreeFault.{TreeFault}
 use Rattle.tree_plan.specs.declared.fault.TreeFault.TheVariants.{Missing, BadDirectory, TooMany, TooDeep, NoMemory}
-use Rattle.tree_plan.specs.Nodes.{PlanNodeValue}
 use Rattle.tree_plan.specs.Walk.{TreeFaultValue, missing, bad_directory, too_many, too_deep}
 
 abbrev pub Fails : {Y : Type 0} → TreeFault → Result Y TreeFaultValue → Type 0

@@ -1,5 +1,5 @@
 -- Nodes of an input tree (remote_execution.proto: FileNode, SymlinkNode, DirectoryNode).
-use Rattle.std.specs.Prelude.{ℕ, Bool, List, ◌++◌, Option, Some, None, option_map}
+use Rattle.std.specs.Prelude.{ℕ, Bool, List, ◌++◌, Option, Some, option_map}
 use Rattle.std.specs.List.{filter_map}
 use Rattle.digest.specs.declared.Digest.{Digest}
 use Rattle.tree_messages.specs.Directories.{DirectoryValue, DirectoryNodeValue, FileNodeValue, SymlinkNodeValue}

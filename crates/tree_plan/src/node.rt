@@ -13,10 +13,7 @@ use tree_messages::{DirectoryNode, FileNode, SymlinkNode};
 #[derive(Drop)]
 pub enum NodeKind {
     /// A file, by the digest of its text.
-    File {
-        digest: Digest,
-        is_executable: bool,
-    },
+    File { digest: Digest, is_executable: bool },
     /// A symbolic link.
     Symlink { target: String },
     /// A directory, by the digest of its text.

@@ -1,6 +1,6 @@
 //! GetActionResult.
 
-ghost use Rattle.std.specs.Prelude.{◌≡◌, ◌≤◌, ℕ, option_map, IfOk, OnOk, OnErr};
+ghost use Rattle.std.specs.Prelude.{◌≡◌, ◌≤◌, ℕ, None, option_map, IfOk, OnOk, OnErr};
 ghost use Rattle.blob_pool.specs.Held.{Slots, count_at};
 ghost use Rattle.instance_view.specs.Shown.{shown, holders};
 ghost use Rattle.input_tree.specs.Texts.{texts_of};
@@ -21,7 +21,7 @@ use std::alloc::{AllocError, Global};
 /// A result is complete where it can be read, its trees can, and each blob is there that it names:
 /// output files, trees with the files of their roots and children, and standard output and error
 /// where they are set. The result that is answered becomes the most recently used, and its blobs
-/// are used in this order. Nothing else is changed.
+/// are used in this order. Nothing else is changed; where there is no answer, nothing at all.
 pub fn get_result(
     alloc: Global,
     results: &mut Results,
@@ -37,6 +37,8 @@ pub fn get_result(
     ensures used { (p : Slots) → OnOk result
         (shown p view.new ≡ all_used
         (blobs_used (texts_of pool.now view.old) action.now results.old) (shown p view.old)) }
+    ensures none { IfOk result (λ answer. answer ≡ None →
+        (results.new ≡ results.old) × (view.new ≡ view.old)) }
     ensures err { OnErr result ((results.new ≡ results.old) × (view.new ≡ view.old)) }
     ensures holders { (k : ℕ) → holders view.new k ≡ holders view.old k }
     ensures limit { view.new.limit ≡ view.old.limit }

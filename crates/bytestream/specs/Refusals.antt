@@ -37,14 +37,3 @@ upload_meaning (Err Upload.Hash) = Err DigestDoesNotMatch
 upload_meaning (Err Upload.TooMany) = Err TooManyUploads
 upload_meaning (Err Upload.OverQuota) = Err QuotaExceeded
 upload_meaning (Err Upload.NoMemory) = Ok tt
-
--- P, if the call was answered, by a refusal too
-abbrev pub IfAnswered : {A : Type 0} → Result A CallError → Type 0 → Type 0
-IfAnswered (Ok x) P = P
-IfAnswered (Err (Refused refusal)) P = P
-IfAnswered (Err NoMemory) P = Unit {0}
-
--- P, if memory ran out
-abbrev pub IfNoMemory : {A : Type 0} → Result A CallError → Type 0 → Type 0
-IfNoMemory (Err NoMemory) P = P
-IfNoMemory r P = Unit {0}

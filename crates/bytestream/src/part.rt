@@ -4,9 +4,9 @@ ghost use Rattle.std.specs.Prelude.{◌≡◌, ◌≤◌, ◌^◌, true, false, 
 ghost use Rattle.blob_pool.specs.Moves.{Moves};
 ghost use Rattle.instance_view.specs.Shown.{shown, holders};
 ghost use Rattle.quota_evict.specs.Kept.{AreKept};
-ghost use Rattle.cas_service.specs.Answers.{Answers};
+ghost use Rattle.cas_service.specs.Answers.{Answers, IfAnswered, IfNoMemory};
 ghost use Rattle.uploads.specs.Uploads.{WithinLimits, upload_at};
-ghost use Rattle.bytestream.specs.Refusals.{IfAnswered, IfNoMemory, upload_error};
+ghost use Rattle.bytestream.specs.Refusals.{upload_error};
 ghost use Rattle.bytestream.specs.Writing.{state_of, end_answer, part_answer, after_end, after_part, IsOldOrTaken};
 ghost use Rattle.bytestream.specs.Shown.{part_shown};
 

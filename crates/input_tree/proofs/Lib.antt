@@ -1,4 +1,5 @@
 mod Order
 mod Listed
 mod Using
+mod NumberLemmas
 mod Paging

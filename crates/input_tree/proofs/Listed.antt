@@ -4,8 +4,8 @@ use Rattle.std.specs.List.{list_any}
 use Rattle.digest.specs.declared.Digest.{Digest}
 use Rattle.digest.specs.Naming.{same}
 use Rattle.digest.proofs.Same.{same_equal}
-use Rattle.input_tree.specs.declared.error.GetTreeError.{GetTreeError}
-use Rattle.input_tree.specs.declared.error.GetTreeError.TheVariants.{TooMany}
+use Rattle.input_tree.specs.declared.error.TreeRefusal.{TreeRefusal}
+use Rattle.input_tree.specs.declared.error.TreeRefusal.TheVariants.{TooMany}
 use Rattle.input_tree.specs.Listing.{Lookup, AreNone, children, with_children, listed_along}
 
 any_last : (test : Digest → Bool) (ks : List Digest) (d : Digest) → list_any test (ks ++ d ∷ []) ≡ true → list_any test ks ≡ false → test d ≡ true
@@ -31,7 +31,7 @@ none_with look ks new d none this is e h = go (list_any (same d) ks) (ap (λ (xs
 
 -- ---- going along
 
-pub along_full : (most place : ℕ) (look : Lookup) (ds : List Digest) (m : Result (List Digest) GetTreeError) → listed_along (most - place) look ds place ≡ m → place ≡ most → is_some (slice_get ds place) ≡ true → m ≡ Err TooMany
+pub along_full : (most place : ℕ) (look : Lookup) (ds : List Digest) (m : Result (List Digest) TreeRefusal) → listed_along (most - place) look ds place ≡ m → place ≡ most → is_some (slice_get ds place) ≡ true → m ≡ Err TooMany
 unfolding listed_along
 along_full most place look ds m h full there =
     let nothing : most - place ≡ 0 = omega arith in

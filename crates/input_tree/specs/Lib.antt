@@ -1,4 +1,5 @@
 pub mod Names
+pub mod Number
 pub mod Directories
 pub mod Listing
 pub mod Answers

@@ -6,8 +6,8 @@ use Rattle.std.specs.Option.{option_map_or}
 use Rattle.digest.specs.declared.Digest.{Digest}
 use Rattle.digest.specs.Naming.{same}
 use Rattle.input_tree.specs.Directories.{children_in}
-use Rattle.input_tree.specs.declared.error.GetTreeError.{GetTreeError}
-use Rattle.input_tree.specs.declared.error.GetTreeError.TheVariants.{NotFound, BadDirectory, TooMany}
+use Rattle.input_tree.specs.declared.error.TreeRefusal.{TreeRefusal}
+use Rattle.input_tree.specs.declared.error.TreeRefusal.TheVariants.{NotFound, BadDirectory, TooMany}
 
 -- the text of each digest that is there
 abbrev pub Lookup : Type 0
@@ -34,17 +34,17 @@ abbrev pub with_children : Lookup → List Digest → Digest → List Digest
 with_children look ds d = with_all_listed look ds (unwrap_or (children look d) [])
 
 -- along the list from a place on, for at most so many directories
-unfoldable pub listed_along : ℕ → Lookup → List Digest → ℕ → Result (List Digest) GetTreeError
+unfoldable pub listed_along : ℕ → Lookup → List Digest → ℕ → Result (List Digest) TreeRefusal
 listed_along zero look ds place = if is_some (slice_get ds place) then Err TooMany else Ok ds
 listed_along (suc most) look ds place = option_map_or (λ d. listed_along most look (with_children look ds d) (place + 1)) (slice_get ds place) (Ok ds)
 
-abbrev pub listed_from : ℕ → Lookup → Digest → Option (List ℕ) → Result (List Digest) GetTreeError
+abbrev pub listed_from : ℕ → Lookup → Digest → Option (List ℕ) → Result (List Digest) TreeRefusal
 listed_from most look root None = Err NotFound
 listed_from most look root (Some text) = if is_some (children_in text) then listed_along most look (root ∷ []) 0 else Err BadDirectory
 
 -- the list begins with the root; going along it, each directory that a listed one has goes last,
 -- unless it is listed
-abbrev pub tree_list : Lookup → Digest → Result (List Digest) GetTreeError
+abbrev pub tree_list : Lookup → Digest → Result (List Digest) TreeRefusal
 tree_list look root = listed_from 10000 look root (look root)
 
 -- none of the digests is one of a directory

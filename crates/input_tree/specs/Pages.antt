@@ -5,11 +5,11 @@ use Rattle.message_fields.specs.Results.{◌>>=◌}
 use Rattle.message_fields.specs.Writing.{text}
 use Rattle.message_fields.specs.Parts.{text_for, repeated_octets_field}
 use Rattle.digest.specs.declared.Digest.{Digest}
-use Rattle.script.specs.Number.{decimal_of}
+use Rattle.input_tree.specs.Number.{decimal_of}
 use Rattle.tree_messages.specs.GetTree.{GetTreeResponseValue, get_tree_response_records}
 use Rattle.input_tree.specs.Listing.{Lookup, tree_list}
-use Rattle.input_tree.specs.declared.error.GetTreeError.{GetTreeError}
-use Rattle.input_tree.specs.declared.error.GetTreeError.TheVariants.{BadPage}
+use Rattle.input_tree.specs.declared.error.TreeRefusal.{TreeRefusal}
+use Rattle.input_tree.specs.declared.error.TreeRefusal.TheVariants.{BadPage}
 
 -- how many bytes the records of directories take
 abbrev pub page_bytes : List (List ℕ) → ℕ
@@ -65,20 +65,20 @@ abbrev pub texts : Lookup → List Digest → List (List ℕ)
 texts look ds = map (text_or_none look) ds
 
 -- the responses from a place on, with so many directories at most
-abbrev pub pages_at : Lookup → List Digest → Option ℕ → Option ℕ → Result (List (List ℕ)) GetTreeError
+abbrev pub pages_at : Lookup → List Digest → Option ℕ → Option ℕ → Result (List (List ℕ)) TreeRefusal
 pages_at look ds None place = Err BadPage
 pages_at look ds (Some size) None = Err BadPage
 pages_at look ds (Some size) (Some place) = Ok (pages_along size place [] (texts look (drop place ds)))
 
 -- the responses that give the directories of a list, in order
-abbrev pub pages_of : Lookup → ℤ → List ℕ → List Digest → Result (List (List ℕ)) GetTreeError
+abbrev pub pages_of : Lookup → ℤ → List ℕ → List Digest → Result (List (List ℕ)) TreeRefusal
 pages_of look size token ds = pages_at look ds (size_asked size) (place_asked token (length ds))
 
 -- the responses to a request, in order
-abbrev pub get_tree_reply : Lookup → Digest → ℤ → List ℕ → Result (List (List ℕ)) GetTreeError
+abbrev pub get_tree_reply : Lookup → Digest → ℤ → List ℕ → Result (List (List ℕ)) TreeRefusal
 get_tree_reply look root size token = tree_list look root >>= pages_of look size token
 
 -- the digests of a list that there is
-abbrev pub digests_of : Result (List Digest) GetTreeError → List Digest
+abbrev pub digests_of : Result (List Digest) TreeRefusal → List Digest
 digests_of (Ok ds) = ds
 digests_of (Err e) = []

@@ -1,11 +1,11 @@
 ghost use Rattle.std.specs.Prelude.{◌≡◌};
-ghost use Rattle.input_tree.specs.declared.error.GetTreeError.TheVariants.{NoMemory};
+ghost use Rattle.input_tree.specs.declared.error.GetTreeError.TheVariants.{Refused, NoMemory};
 
 use std::alloc::{AllocError, AllocFailed};
 
-/// Why a tree is not given.
+/// Why a tree is refused.
 #[derive(Clone, Copy, PartialEq, Eq)]
-pub enum GetTreeError {
+pub enum TreeRefusal {
     /// There is no text of the root's digest.
     NotFound,
     /// The root is no directory that is taken.
@@ -14,8 +14,23 @@ pub enum GetTreeError {
     TooMany,
     /// The page size is negative, or the token is no place in the list.
     BadPage,
+}
+
+/// Why a tree is not given.
+#[derive(Clone, Copy, PartialEq, Eq)]
+pub enum GetTreeError {
+    /// The tree is refused.
+    Refused(TreeRefusal),
     /// A request for memory was refused.
     NoMemory,
+}
+
+impl From<TreeRefusal> for GetTreeError {
+    ghost from_gives = { λ refusal error. error ≡ Refused refusal };
+
+    fn from(refusal: TreeRefusal) -> GetTreeError {
+        GetTreeError::Refused(refusal)
+    }
 }
 
 impl From<AllocError> for GetTreeError {

@@ -7,12 +7,13 @@ mod error;
 mod listing;
 mod names;
 mod nodes;
+mod number;
 mod pages;
 mod tree;
 mod uses;
 
 pub use directory::{MOST_DIRECTORY_BYTES, check, text_or_none};
-pub use error::GetTreeError;
+pub use error::{GetTreeError, TreeRefusal};
 pub use listing::{MOST_DIRECTORIES, list_tree};
 pub use nodes::digest_written;
 pub use pages::{MOST_PAGE_BYTES, MOST_PAGE_DIRECTORIES};

@@ -8,7 +8,7 @@ ghost use Rattle.input_tree.specs.Listing.{AreNone, children, listed_along, tree
 ghost use Rattle.input_tree.specs.Texts.{texts_of};
 
 use crate::directory::children;
-use crate::error::GetTreeError;
+use crate::error::{GetTreeError, TreeRefusal};
 use blob_pool::Pool;
 use digest::Digest;
 use indexmap::IndexSet;
@@ -110,7 +110,7 @@ fn list_along(
     let mut place = 0;
     'directories: while let Some(directory) = listing.listed.get_index(place) {
         if place == MOST_DIRECTORIES {
-            return Err(GetTreeError::TooMany);
+            return Err(GetTreeError::Refused(TreeRefusal::TooMany));
         }
         let digest = *directory;
         list_children(alloc, view, pool, listing, &digest)?;
@@ -133,10 +133,10 @@ pub fn list_tree(
     ensures { Lists result (tree_list (texts_of pool.now view.now) root.now) }
 {
     if !view.contains(root) {
-        return Err(GetTreeError::NotFound);
+        return Err(GetTreeError::Refused(TreeRefusal::NotFound));
     }
     if children(alloc, view, pool, root)?.is_none() {
-        return Err(GetTreeError::BadDirectory);
+        return Err(GetTreeError::Refused(TreeRefusal::BadDirectory));
     }
     let mut listing = Listing {
         listed: IndexSet::new(alloc),

@@ -1,10 +1,11 @@
 //! The pages of a tree's list.
 
 ghost use Rattle.std.specs.Prelude.{◌≡◌, ◌+◌, ◌<◌, ◌^◌, [], map, length, ◌++◌, Some, None, IfOk, OnOk, if◌then◌else◌};
-ghost use Rattle.std.specs.Fmt.{decimal};
+ghost use Rattle.std.specs.Fmt as fmt;
 ghost use Rattle.message_fields.specs.Writing.{text, message_field};
 ghost use Rattle.input_tree.specs.Pages.{page_before, page_bytes, page_from, page_text, pages_along, place_asked, size_asked, takes_more};
 
+use crate::number::decimal;
 use message_fields::{Message, Writer};
 use std::alloc::{AllocError, Global};
 use tree_messages::GetTreeResponse;
@@ -37,7 +38,7 @@ pub fn place_asked(page_token: &str, count: usize) -> Option<usize>
     if page_token.is_empty() {
         return Some(0);
     }
-    let place = script::decimal(page_token.as_bytes())?;
+    let place = decimal(page_token.as_bytes())?;
     if place > count as u64 {
         return None;
     }
@@ -85,7 +86,7 @@ fn response_before(
         ≡ page_text (record {
           directories = map
               (λ b. b.now) directories.entry.items;
-          next_page_token = decimal place;
+          next_page_token = fmt.decimal place;
         })) }
 {
     let token = place.to_string(alloc)?;

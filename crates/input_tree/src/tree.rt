@@ -10,7 +10,7 @@ ghost use Rattle.input_tree.specs.Texts.{texts_of};
 ghost use Rattle.input_tree.specs.Uses.{all_used};
 
 use crate::directory::text_or_none;
-use crate::error::GetTreeError;
+use crate::error::{GetTreeError, TreeRefusal};
 use crate::listing::list_tree;
 use crate::pages::{pages, place_asked, size_asked};
 use crate::uses::use_all;
@@ -55,7 +55,7 @@ fn responses(
 {
     let (Some(size), Some(place)) = (size_asked(page_size), place_asked(page_token, listed.len()))
     else {
-        return Err(GetTreeError::BadPage);
+        return Err(GetTreeError::Refused(TreeRefusal::BadPage));
     };
     let directories = copies(alloc, view, pool, &listed[place..])?;
     let pages = pages(alloc, &directories, size, place)?;

@@ -1,10 +1,11 @@
 -- Changes that were made, whole or in part.
-use Rattle.std.proofs.Common.{◌≡◌, ℕ, List, [], ◌∷◌, ◌++◌, map, Option, Some, Result, Ok, Err, refl, sym, ap, subst, ◌∙◌}
+use Rattle.std.proofs.Common.{◌≡◌, ℕ, List, [], ◌∷◌, ◌++◌, map, Option, Some, Result, Ok, Err, refl, sym, ap, subst, ◌∙◌, append_assoc}
 use Rattle.std.specs.Prelude.{IfSome, IsErr, OnOk, OnErr}
 use Rattle.std.specs.declared.alloc.Global.{Global}
 use Rattle.std.specs.declared.alloc.AllocError.{AllocError}
 use Rattle.std.specs.declared.vec.Vec.{Vec}
 use Rattle.rpc.specs.declared.method.Method.{Method}
+use Rattle.rpc.specs.declared.method.Method.TheVariants.{FindMissingBlobs, BatchUpdateBlobs, BatchReadBlobs, GetTree, GetActionResult, UpdateActionResult, Execute, WaitExecution, GetCapabilities, Read, Write, QueryWriteStatus}
 use Rattle.reapi_messages.specs.Results.{◌>>=◌}
 use Rattle.rpc.specs.declared.refusal.Refusal.{Refusal}
 use Rattle.digest.specs.declared.Digest.{Digest}
@@ -13,16 +14,16 @@ use Rattle.instance_view.specs.Visible.{Blob}
 use Rattle.instance_view.specs.Shown.{ViewValue, shown}
 use Rattle.cas_service.specs.declared.error.CallError.{CallError}
 use Rattle.cas_service.specs.declared.error.CallError.TheVariants.{Refused, NoMemory}
-use Rattle.cas_service.specs.Answers.{Answers}
+use Rattle.cas_service.specs.Answers.{Answers, IfAnswered, IfNoMemory}
 use Rattle.cas_service.specs.Changes as Texts
 use Rattle.instance_core.specs.declared.event.CallId.{CallId}
 use Rattle.instance_core.specs.declared.event.Reply.{Reply}
 use Rattle.uploads.specs.Uploads.{UploadList}
-use Rattle.bytestream.specs.Refusals.{IfAnswered}
+use Rattle.tree_calls.specs.Naming.{AreWithin}
 use Rattle.instance_core.specs.Calls.{CallValue, ProgressValue, has, Calls, without_call, IsShortProgress}
 use Rattle.instance_core.specs.State.{InstanceState, most_blobs}
-use Rattle.instance_core.specs.Methods.{text_changes}
-use Rattle.instance_core.specs.Changes.{Change, Text, Ends, changed, MadeInPart}
+use Rattle.instance_core.specs.Methods.{LeavesResults, text_changes, result_changes, request_changes}
+use Rattle.instance_core.specs.Changes.{Change, Text, Ends, Keeps, change_made, changed, MadeInPart}
 use Rattle.instance_core.specs.Answer.{at_end}
 use Rattle.instance_core.specs.Shown.{Makes, with_calls}
 
@@ -79,19 +80,30 @@ pub becomes_same : (s : InstanceState) (visible visible' : List Blob) (uploads u
     → visible ≡ visible' → uploads ≡ uploads' → calls ≡ calls' → becomes visible uploads calls s ≡ becomes visible' uploads' calls' s
 becomes_same s visible visible' uploads uploads' calls calls' p q r = rw (p, q, r) refl
 
--- a call that is answered at its end
-pub ended_whole : (s : InstanceState) (new : List Blob) (uploads : UploadList) (calls : Calls) (id : CallId) (method : Method) (request : List ℕ) (there : Option CallValue)
-    → Some (record { method = method; progress = has request }) ≡ there → new ≡ Texts.changed most_blobs s.quota (text_changes method s request) s.visible → uploads ≡ s.uploads → calls ≡ without_call id s.calls
-    → becomes new uploads calls s ≡ changed (at_end s id there).changes s
-ended_whole s new uploads calls id method request there is all same gone =
-    let visible = Texts.changed most_blobs s.quota (text_changes method s request) s.visible in
-    rw (← is) (becomes_same s new visible uploads s.uploads calls (without_call id s.calls) all same gone ∙ sym (changed_texts (text_changes method s request) (Ends id ∷ []) s))
+-- changes, and then others
+changed_more : (a b : List Change) (s : InstanceState) → changed (a ++ b) s ≡ changed b (changed a s)
+changed_more [] b s = refl
+changed_more (c ∷ a) b s = changed_more a b (change_made c s)
 
-pub ended_in_part : (s : InstanceState) (new : List Blob) (uploads : UploadList) (calls : Calls) (id : CallId) (method : Method) (request : List ℕ) (there : Option CallValue)
-    → Some (record { method = method; progress = has request }) ≡ there → Texts.MadeInPart most_blobs s.quota (text_changes method s request) s.visible new → uploads ≡ s.uploads → calls ≡ s.calls
-    → MadeInPart (at_end s id there).changes s (becomes new uploads calls s)
-ended_in_part s new uploads calls id method request there is part same kept =
-    rw (← is) (subst (MadeInPart (map Text (text_changes method s request) ++ Ends id ∷ []) s) (becomes_same s new new s.uploads uploads s.calls calls refl (sym same) (sym kept)) (texts_in_part (text_changes method s request) (Ends id ∷ []) s new part))
+-- a call that is answered at its end
+pub ended_whole : (s mid : InstanceState) (calls : Calls) (id : CallId) (method : Method) (request : List ℕ) (there : Option CallValue)
+    → Some (record { method = method; progress = has request }) ≡ there → mid ≡ changed (request_changes method s request) s → mid.calls ≡ s.calls → calls ≡ without_call id s.calls
+    → with_calls calls mid ≡ changed (at_end s id there).changes s
+ended_whole s mid calls id method request there is all kept gone =
+    let changes = request_changes method s request in
+    let now : calls ≡ without_call id mid.calls = gone ∙ ap (without_call id) (sym kept) in
+    let ended : with_calls (without_call id mid.calls) mid ≡ changed (Ends id ∷ []) (changed changes s) = ap (change_made (Ends id)) all in
+    rw (← is) (ap (λ (cs : Calls). with_calls cs mid) now ∙ ended ∙ sym (changed_more changes (Ends id ∷ []) s))
+
+pub ended_in_part : (s mid : InstanceState) (id : CallId) (method : Method) (request : List ℕ) (there : Option CallValue)
+    → Some (record { method = method; progress = has request }) ≡ there → MadeInPart (request_changes method s request) s mid
+    → MadeInPart (at_end s id there).changes s mid
+ended_in_part s mid id method request there is part = rw (← is) (record {
+  made = part.made;
+  left = part.left ++ Ends id ∷ [];
+  front = ap (λ (cs : List Change). cs ++ Ends id ∷ []) part.front ∙ append_assoc part.made part.left (Ends id ∷ []);
+  so_far = part.so_far;
+})
 
 pub made_whole : (replies : Vec Reply Global) (changes : List Change) (old new : InstanceState) → new ≡ changed changes old → Makes (Ok replies) changes old new
 made_whole replies changes old new all = record { whole = all; memory = tt }
@@ -118,3 +130,98 @@ progress_short call progress there is same h =
 pub on_err : (r : Result (Vec Reply Global) AllocError) (P : Type 0) → P → OnErr r P
 on_err (Ok replies) P p = tt
 on_err (Err e) P p = p
+
+-- ---- what a method leaves of texts and results
+
+abbrev pub leaves : List Blob → List Blob → InstanceState → InstanceState
+leaves visible results s = record s { visible = visible; results = results }
+
+leaves_same : (s : InstanceState) (visible visible' results results' : List Blob) → visible ≡ visible' → results ≡ results' → leaves visible results s ≡ leaves visible' results' s
+leaves_same s visible visible' results results' p q = rw (p, q) refl
+
+no_results : (method : Method) (s : InstanceState) (message : List ℕ) → LeavesResults method → result_changes method s message ≡ []
+no_results GetActionResult s message h = absurd (h.0 refl)
+no_results UpdateActionResult s message h = absurd (h.1 refl)
+no_results FindMissingBlobs s message h = refl
+no_results BatchUpdateBlobs s message h = refl
+no_results BatchReadBlobs s message h = refl
+no_results GetTree s message h = refl
+no_results Execute s message h = refl
+no_results WaitExecution s message h = refl
+no_results GetCapabilities s message h = refl
+no_results Read s message h = refl
+no_results Write s message h = refl
+no_results QueryWriteStatus s message h = refl
+
+-- a method that leaves the results as they are
+pub texts_make : (r : Result (Vec Reply Global) AllocError) (method : Method) (s : InstanceState) (message : List ℕ) (new results : List Blob) → LeavesResults method
+    → OnOk r (new ≡ Texts.changed most_blobs s.quota (text_changes method s message) s.visible) → OnErr r (Texts.MadeInPart most_blobs s.quota (text_changes method s message) s.visible new) → results ≡ s.results
+    → Makes r (request_changes method s message) s (leaves new results s)
+texts_make r method s message new results h whole part same =
+    rw (no_results method s message h) (go r whole part)
+  where
+    texts : List Texts.Change
+    texts = text_changes method s message
+
+    go : (r : Result (Vec Reply Global) AllocError) → OnOk r (new ≡ Texts.changed most_blobs s.quota (text_changes method s message) s.visible) → OnErr r (Texts.MadeInPart most_blobs s.quota (text_changes method s message) s.visible new)
+        → Makes r (map Text (text_changes method s message) ++ []) s (leaves new results s)
+    go (Ok replies) whole part = record {
+      whole = leaves_same s new (Texts.changed most_blobs s.quota (text_changes method s message) s.visible) results s.results whole same ∙ sym (changed_texts (text_changes method s message) [] s);
+      memory = tt;
+    }
+    go (Err e) whole part = record {
+      whole = tt;
+      memory = subst (MadeInPart (map Text (text_changes method s message) ++ []) s) (leaves_same s new new s.results results refl (sym same)) (texts_in_part (text_changes method s message) [] s new part);
+    }
+
+append_nil : (cs : List Change) → cs ≡ cs ++ []
+append_nil [] = refl
+append_nil (c ∷ cs) = ap (λ (xs : List Change). c ∷ xs) (append_nil cs)
+
+-- a method that uses texts, and leaves results
+answered_makes : (r : Result (Vec Reply Global) AllocError) (s : InstanceState) (texts : List Texts.Change) (kept new results : List Blob)
+    → new ≡ Texts.changed most_blobs s.quota texts s.visible → results ≡ kept → Makes r (map Text texts ++ Keeps kept ∷ []) s (leaves new results s)
+answered_makes r s texts kept new results used left = go r where
+  all : leaves new results s ≡ changed (map Text texts ++ Keeps kept ∷ []) s
+  all = leaves_same s new (Texts.changed most_blobs s.quota texts s.visible) results kept used left ∙ sym (changed_texts texts (Keeps kept ∷ []) s)
+
+  go : (r : Result (Vec Reply Global) AllocError) → Makes r (map Text texts ++ Keeps kept ∷ []) s (leaves new results s)
+  go (Ok replies) = record { whole = all; memory = tt }
+  go (Err e) = record {
+    whole = tt;
+    memory = record { made = map Text texts ++ Keeps kept ∷ []; left = []; front = append_nil (map Text texts ++ Keeps kept ∷ []); so_far = all };
+  }
+
+pub results_make : {A : Type 0} (outcome : Result A CallError) (r : Result (Vec Reply Global) AllocError) (s : InstanceState) (texts : List Texts.Change) (kept new results : List Blob)
+    → IfAnswered outcome (new ≡ Texts.changed most_blobs s.quota texts s.visible) → IfAnswered outcome (results ≡ kept) → OnErr outcome ((results ≡ s.results) × (new ≡ s.visible)) → IfNoMemory outcome (OnOk r ⊥)
+    → Makes r (map Text texts ++ Keeps kept ∷ []) s (leaves new results s)
+results_make (Ok x) r s texts kept new results used left err none = answered_makes r s texts kept new results used left
+results_make (Err (Refused refusal)) r s texts kept new results used left err none = answered_makes r s texts kept new results used left
+results_make (Err NoMemory) (Ok replies) s texts kept new results used left err none = absurd none
+results_make (Err NoMemory) (Err e) s texts kept new results used left err none = record {
+  whole = tt;
+  memory = record { made = []; left = map Text texts ++ Keeps kept ∷ []; front = refl; so_far = leaves_same s new s.visible results s.results err.1 err.0 };
+}
+
+-- ---- what was settled
+
+-- what holds of an answer holds where it was sent
+pub settled_whole : {A : Type 0} (outcome : Result A CallError) (r : Result (Vec Reply Global) AllocError) (P : Type 0) → IfAnswered outcome P → IfNoMemory outcome (OnOk r ⊥) → OnOk r P
+settled_whole outcome (Err e) P h none = tt
+settled_whole (Ok x) (Ok replies) P h none = h
+settled_whole (Err (Refused refusal)) (Ok replies) P h none = h
+settled_whole (Err NoMemory) (Ok replies) P h none = absurd none
+
+pub settled_in_part : {A : Type 0} (outcome : Result A CallError) (r : Result (Vec Reply Global) AllocError) (P : Type 0) → IfAnswered outcome P → OnErr outcome P → OnErr r P
+settled_in_part outcome (Ok replies) P h part = tt
+settled_in_part (Ok x) (Err e) P h part = h
+settled_in_part (Err e) (Err e') P h part = part
+
+-- results of an answer, and without one
+pub settled_results : {A : Type 0} (outcome : Result A CallError) (old kept new : List Blob) → IfAnswered outcome (new ≡ kept) → OnErr outcome (new ≡ old) → AreWithin old → AreWithin kept → AreWithin new
+settled_results (Ok x) old kept new h same few few' = subst AreWithin (sym h) few'
+settled_results (Err e) old kept new h same few few' = subst AreWithin (sym same) few
+
+pub both_same : {A : Type 0} (outcome : Result A CallError) (P Q : Type 0) → OnErr outcome (P × Q) → OnErr outcome P
+both_same (Ok x) P Q h = tt
+both_same (Err e) P Q h = h.0

@@ -15,11 +15,11 @@ use Rattle.quota_evict.proofs.Steps.{entries_fit}
 use Rattle.cas_service.specs.Changes as Texts
 use Rattle.cas_service.specs.declared.error.CallError.{CallError}
 use Rattle.cas_service.specs.declared.error.CallError.TheVariants.{Refused, NoMemory}
-use Rattle.bytestream.specs.Refusals.{IfAnswered}
+use Rattle.cas_service.specs.Answers.{IfAnswered}
 use Rattle.bytestream.specs.declared.reading.ReadAsked.{ReadAsked}
 use Rattle.bytestream.specs.Reading.{after_asking}
 use Rattle.instance_core.specs.Replies.{items_of}
-use Rattle.instance_core.specs.Methods.{reply_to, items_to, use_asked}
+use Rattle.instance_core.specs.Methods.{IsPlain, reply_to, items_to, use_asked}
 use Rattle.instance_core.specs.State.{InstanceState, most_blobs}
 
 pub read_uses : (asked : Result ReadAsked Refusal) (limit quota : ℕ) (old : List Blob) → after_asking asked old ≡ Texts.changed limit quota (use_asked asked) old
@@ -36,6 +36,11 @@ all_made limit quota cs old new is = record { made = cs; left = []; front = appe
 
 pub none_made : (limit quota : ℕ) (cs : List Texts.Change) (old new : List Blob) → new ≡ old → Texts.MadeInPart limit quota cs old new
 none_made limit quota cs old new is = record { made = []; left = cs; front = refl; so_far = is }
+
+pub answered_in_part : {A : Type 0} (r : Result A CallError) (limit quota : ℕ) (cs : List Texts.Change) (old new : List Blob) → IfAnswered r (new ≡ Texts.changed limit quota cs old) → IfAnswered r (Texts.MadeInPart limit quota cs old new)
+answered_in_part (Ok x) limit quota cs old new is = all_made limit quota cs old new is
+answered_in_part (Err (Refused refusal)) limit quota cs old new is = all_made limit quota cs old new is
+answered_in_part (Err NoMemory) limit quota cs old new is = tt
 
 pub read_keeps : (asked : Result ReadAsked Refusal) (limit quota : ℕ) (old new : List Blob) → new ≡ after_asking asked old → Within limit quota old → Within limit quota new
 read_keeps (Ok asked) limit quota old new is within = subst (Within limit quota) (sym is) (used_within limit quota asked.digest old within)
@@ -55,16 +60,16 @@ room_kept quota p v kept limit =
     let few = entries_fit quota p v kept in
     room_for_one p v.entries kept.held (omega (arith, few, limit))
 
-pub items_unread : (method : Method) (s : InstanceState) (message : List ℕ) → method ≢ Read → items_to method s message ≡ items_of (reply_to method s message)
-items_unread Read s message other = absurd (other refl)
-items_unread FindMissingBlobs s message other = refl
-items_unread BatchUpdateBlobs s message other = refl
-items_unread BatchReadBlobs s message other = refl
-items_unread GetTree s message other = refl
-items_unread GetActionResult s message other = refl
-items_unread UpdateActionResult s message other = refl
-items_unread Execute s message other = refl
-items_unread WaitExecution s message other = refl
-items_unread GetCapabilities s message other = refl
-items_unread Write s message other = refl
-items_unread QueryWriteStatus s message other = refl
+pub items_plain : (method : Method) (s : InstanceState) (message : List ℕ) → IsPlain method → items_to method s message ≡ items_of (reply_to method s message)
+items_plain Read s message h = absurd (h.1 refl)
+items_plain GetTree s message h = absurd (h.2 refl)
+items_plain FindMissingBlobs s message h = refl
+items_plain BatchUpdateBlobs s message h = refl
+items_plain BatchReadBlobs s message h = refl
+items_plain GetActionResult s message h = refl
+items_plain UpdateActionResult s message h = refl
+items_plain Execute s message h = refl
+items_plain WaitExecution s message h = refl
+items_plain GetCapabilities s message h = refl
+items_plain Write s message h = refl
+items_plain QueryWriteStatus s message h = refl

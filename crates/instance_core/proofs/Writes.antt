@@ -12,9 +12,8 @@ use Rattle.instance_view.specs.Visible.{Blob}
 use Rattle.instance_view.specs.Shown.{ViewValue, shown}
 use Rattle.cas_service.specs.declared.error.CallError.{CallError}
 use Rattle.cas_service.specs.declared.error.CallError.TheVariants.{Refused, NoMemory}
-use Rattle.cas_service.specs.Answers.{Answers}
+use Rattle.cas_service.specs.Answers.{Answers, IfAnswered, IfNoMemory}
 use Rattle.uploads.specs.Uploads.{UploadList}
-use Rattle.bytestream.specs.Refusals.{IfAnswered, IfNoMemory}
 use Rattle.bytestream.specs.declared.writing.Written.{Written}
 use Rattle.bytestream.specs.Writing as Writing
 use Rattle.bytestream.specs.Writing.{OpenWriteValue, PartValue, WrittenValue, FirstAsked, WriteState, first_asked, next_asked, piece_taken, after_first, after_next, IsOldOrTaken, IsFirstOldOrTaken, IsNextOldOrTaken}

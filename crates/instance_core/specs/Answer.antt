@@ -3,11 +3,11 @@
 -- comes for a call that is not in course is dropped: it was answered before, or given up. To be
 -- read from the last definitions up: `answer` has a case for each event. A call is named by the
 -- numbers of its connection and of its stream (`CallId`). `items_to` is what a method sends for its
--- one message, and `text_changes` what it does to the instance's texts (Methods.antt);
+-- one message, and `request_changes` what it does to the instance (Methods.antt);
 -- `first_outcome` and `next_outcome` are what the messages of a Write are answered (Writes.antt). A
 -- change is `Text`, a use or an admission of a text, `Wrote`, the texts and uploads that a message
--- of a Write leaves, `Goes`, a call begins or goes on, `Ends`, a call ends, or `Expires`, old
--- uploads are forgotten (Changes.antt).
+-- of a Write leaves, `Keeps`, the results that a call leaves, `Goes`, a call begins or goes on,
+-- `Ends`, a call ends, or `Expires`, old uploads are forgotten (Changes.antt).
 use Rattle.std.specs.Prelude.{ℕ, List, [], ◌∷◌, ◌++◌, map, Option, Some, None, Result, Ok, Err, if◌then◌else◌}
 use Rattle.rpc.specs.declared.method.Method.{Method}
 use Rattle.rpc.specs.declared.method.Method.TheVariants as Called
@@ -19,9 +19,9 @@ use Rattle.instance_core.specs.declared.event.CallId.{CallId}
 use Rattle.instance_core.specs.Calls.{ProgressValue, waits, has, writes, CallValue, CallEventValue, head, message, fault, end, cancel, tick, call_at}
 use Rattle.instance_core.specs.Replies.{ReplyItemValue, ReplyValue, items_of}
 use Rattle.instance_core.specs.State.{InstanceState}
-use Rattle.instance_core.specs.Methods.{is_served, items_to, text_changes}
+use Rattle.instance_core.specs.Methods.{is_served, items_to, request_changes}
 use Rattle.instance_core.specs.Writes.{first_changes, next_changes, first_outcome, next_outcome}
-use Rattle.instance_core.specs.Changes.{Change, Text, Goes, Ends, Expires, changed}
+use Rattle.instance_core.specs.Changes.{Change, Goes, Ends, Expires, changed}
 
 pub record Answer : Type 0 where
   pub replies : List ReplyValue
@@ -90,7 +90,7 @@ items_sent id items = record { call = id; items = items } ∷ []
 
 -- the method's own answer and changes
 abbrev pub answered : InstanceState → CallId → Method → List ℕ → Answer
-answered s id method request = record { replies = items_sent id (items_to method s request); changes = map Text (text_changes method s request) ++ Ends id ∷ [] }
+answered s id method request = record { replies = items_sent id (items_to method s request); changes = request_changes method s request ++ Ends id ∷ [] }
 
 -- a Write that is not complete is answered with what is there of its upload
 abbrev pub with_request : InstanceState → CallId → Method → ProgressValue → Answer

@@ -2,6 +2,7 @@
 use Rattle.std.specs.Prelude.{◌≡◌, List, [], ◌∷◌, ◌++◌}
 use Rattle.cas_service.specs.Changes as Texts
 use Rattle.instance_core.specs.declared.event.CallId.{CallId}
+use Rattle.instance_view.specs.Visible.{Blob}
 use Rattle.uploads.specs.Uploads.{unexpired}
 use Rattle.bytestream.specs.Writing.{WriteState}
 use Rattle.instance_core.specs.Calls.{CallValue, with_call, without_call}
@@ -16,6 +17,8 @@ pub data Change : Type 0 where
   Ends : CallId → Change
   -- a message of a Write leaves these texts and uploads
   Wrote : WriteState → Change
+  -- a call leaves these results
+  Keeps : List Blob → Change
   -- uploads that were not written to for long are forgotten
   Expires : Change
 
@@ -24,6 +27,7 @@ change_made (Text c) s = record s { visible = Texts.change_made most_blobs s.quo
 change_made (Goes id call) s = record s { calls = with_call id call s.calls }
 change_made (Ends id) s = record s { calls = without_call id s.calls }
 change_made (Wrote w) s = record s { visible = w.visible; uploads = w.uploads }
+change_made (Keeps results) s = record s { results = results }
 change_made Expires s = record s { uploads = unexpired s.moment s.uploads }
 
 abbrev pub changed : List Change → InstanceState → InstanceState

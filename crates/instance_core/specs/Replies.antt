@@ -1,5 +1,5 @@
 -- What an instance sends in answer to a call, item by item.
-use Rattle.std.specs.Prelude.{ℕ, ◌<◌, ◌≤◌, ◌^◌, nat_lt, if◌then◌else◌, List, [], ◌∷◌, ◌++◌, length, Result, Ok, Err}
+use Rattle.std.specs.Prelude.{ℕ, ◌<◌, ◌≤◌, ◌^◌, nat_lt, if◌then◌else◌, List, [], ◌∷◌, ◌++◌, map, length, Result, Ok, Err}
 use Rattle.std.specs.List.{AllByRecursion}
 use Rattle.rpc.specs.declared.refusal.Refusal.{Refusal}
 use Rattle.bytestream.specs.Reading.{SourceValue}
@@ -40,6 +40,15 @@ IsShortReply reply = AllByRecursion IsShortItem reply.items
 abbrev pub items_of : Result (List ℕ) Refusal → List ReplyItemValue
 items_of (Ok message) = begins ∷ says message ∷ ends ∷ []
 items_of (Err refusal) = refuses refusal ∷ []
+
+-- each message, in order
+abbrev pub messages_said : List (List ℕ) → List ReplyItemValue
+messages_said messages = map says messages
+
+-- a whole reply of messages, or a refusal
+abbrev pub messages_items : Result (List (List ℕ)) Refusal → List ReplyItemValue
+messages_items (Ok messages) = begins ∷ messages_said messages ++ ends ∷ []
+messages_items (Err refusal) = refuses refusal ∷ []
 
 -- the messages of a range; there is none where it has no bytes
 abbrev pub range_items : SourceValue → List ReplyItemValue

@@ -22,8 +22,6 @@ use Rattle.instance_core.specs.Slots.{InstanceSlots, state_in}
 use Rattle.instance_core.specs.declared.contents.Settings.{Settings}
 use Rattle.instance_core.specs.declared.contents.Contents.{Contents}
 use Rattle.blob_pool.specs.Held.{Slots, text_at}
-use Rattle.instance_view.specs.Shown.{ViewValue}
-use Rattle.uploads.specs.Uploads.{UploadList}
 use Rattle.bytestream.specs.Reading.{SourceValue}
 use Rattle.bytestream.specs.Shown.{open_write_shown}
 
@@ -74,13 +72,13 @@ abbrev pub ChangesCalls : Result (Vec Reply Global) AllocError → Answer → Ca
 ChangesCalls result a old new = (s : InstanceState) → OnOk result (with_calls new s ≡ changed a.changes (with_calls old s))
 
 -- what an instance is configured as, and what it keeps
-abbrev pub slots_of : Settings → ℕ → ViewValue → UploadList → Calls → InstanceSlots
-slots_of settings moment view uploads calls =
-    record { name = string_bytes settings.name; quota = settings.quota; slots = settings.slots; moment = moment; view = view; uploads = uploads; calls = calls }
+abbrev pub slots_of : Settings → ℕ → Contents → Calls → InstanceSlots
+slots_of settings moment contents calls =
+    record { name = string_bytes settings.name; quota = settings.quota; slots = settings.slots; moment = moment; view = contents.view; uploads = contents.uploads; results = contents.results; calls = calls }
 
 -- the state of an instance that is configured so, with contents whose texts stand in a pool
 abbrev pub state_of : Settings → ℕ → Slots → Contents → Calls → InstanceState
-state_of settings moment p contents calls = state_in p (slots_of settings moment contents.view contents.uploads calls)
+state_of settings moment p contents calls = state_in p (slots_of settings moment contents calls)
 
 -- the changes are made, and for want of memory a front of them
 pub record Makes (result : Result (Vec Reply Global) AllocError) (changes : List Change) (old new : InstanceState) : Type 0 where

@@ -1,12 +1,13 @@
 -- An instance: its name, its quota in bytes, how many actions it may run at once, the moment of
 -- what happens to it in milliseconds, its texts (the most recently used first), its unfinished
--- uploads and its calls in course.
+-- uploads, its results of actions (the most recently used first) and its calls in course.
 use Rattle.std.specs.Prelude.{ℕ, ◌≤◌, ◌^◌, List, []}
 use Rattle.std.specs.List.{IsDistinct}
 use Rattle.std.specs.Map.{keys_of}
 use Rattle.instance_view.specs.Visible.{Blob}
 use Rattle.quota_evict.specs.Within.{Within}
 use Rattle.uploads.specs.Uploads.{UploadList, WithinLimits as WithinUploads}
+use Rattle.tree_calls.specs.Naming.{AreWithin}
 use Rattle.instance_core.specs.Calls.{Calls, same_call, KeepShort}
 
 pub record InstanceState : Type 0 where
@@ -16,11 +17,12 @@ pub record InstanceState : Type 0 where
   pub moment : ℕ
   pub visible : List Blob
   pub uploads : UploadList
+  pub results : List Blob
   pub calls : Calls
 
--- at first there are no texts, no uploads and no calls
+-- at first there are no texts, no uploads, no results and no calls
 abbrev pub opened : List ℕ → ℕ → ℕ → InstanceState
-opened name quota slots = record { name = name; quota = quota; slots = slots; moment = 0; visible = []; uploads = []; calls = [] }
+opened name quota slots = record { name = name; quota = quota; slots = slots; moment = 0; visible = []; uploads = []; results = []; calls = [] }
 
 abbrev pub at_moment : ℕ → InstanceState → InstanceState
 at_moment moment s = record s { moment = moment }
@@ -34,6 +36,7 @@ pub record WithinLimits (s : InstanceState) : Type 0 where
   pub quota : s.quota ≤ 2 ^ 40
   pub texts : Within most_blobs s.quota s.visible
   pub uploads : WithinUploads s.quota s.uploads
+  pub results : AreWithin s.results
   -- no call stands twice
   pub calls : IsDistinct same_call (keys_of s.calls)
   pub messages : KeepShort s.calls

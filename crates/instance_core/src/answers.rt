@@ -7,6 +7,7 @@ ghost use Rattle.instance_view.specs.Shown.{shown, holders};
 ghost use Rattle.quota_evict.specs.Kept.{AreKept};
 ghost use Rattle.quota_evict.specs.Within.{Within};
 ghost use Rattle.uploads.specs.Uploads.{WithinLimits};
+ghost use Rattle.tree_calls.specs.Naming.{AreWithin};
 ghost use Rattle.instance_core.specs.Calls.{call_at, IsShortRequest, AreInCourse};
 ghost use Rattle.instance_core.specs.State.{most_blobs};
 ghost use Rattle.instance_core.specs.Answer.{at_head, at_message, at_fault, at_end};
@@ -78,6 +79,7 @@ pub fn on_message(
     ensures limit { contents.new.view.limit ≡ most_blobs }
     ensures within { Within most_blobs settings.now.quota (shown pool.new contents.new.view) }
     ensures uploads { WithinLimits settings.now.quota contents.new.uploads }
+    ensures results { contents.new.results ≡ contents.old.results }
     ensures calls { AreInCourse calls.new }
 {
     let Some(call) = calls.find(id) else {
@@ -147,6 +149,7 @@ pub fn on_end(
     requires limit { contents.old.view.limit ≡ most_blobs }
     requires kept { AreKept settings.now.quota pool.old contents.old.view }
     requires uploads { WithinLimits settings.now.quota contents.old.uploads }
+    requires results { AreWithin contents.old.results }
     ensures replies { (moment : ℕ) →
         let old = state_of settings.now moment pool.old contents.old calls.old in
         Gives pool.new result (at_end old id (call_at id calls.old)).replies }
@@ -159,6 +162,7 @@ pub fn on_end(
     ensures limit { contents.new.view.limit ≡ most_blobs }
     ensures within { Within most_blobs settings.now.quota (shown pool.new contents.new.view) }
     ensures uploads { WithinLimits settings.now.quota contents.new.uploads }
+    ensures results { AreWithin contents.new.results }
     ensures calls { AreInCourse calls.new }
 {
     let Some(call) = calls.find(id) else {

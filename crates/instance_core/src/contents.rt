@@ -1,5 +1,6 @@
-//! What an instance is configured as, and what it keeps of texts.
+//! What an instance is configured as, and what it keeps.
 
+use action_cache::Results;
 use instance_view::View;
 use uploads::Uploads;
 
@@ -11,9 +12,10 @@ pub struct Settings {
     pub slots: u32,
 }
 
-/// The texts of an instance, and its unfinished uploads.
+/// The texts of an instance, its unfinished uploads, and its results of actions.
 #[derive(Drop)]
 pub struct Contents {
     pub view: View,
     pub uploads: Uploads,
+    pub results: Results,
 }

@@ -13,6 +13,7 @@ use crate::answers::{on_end, on_fault, on_head, on_message};
 use crate::calls::Calls;
 use crate::contents::{Contents, Settings};
 use crate::event::{CallEvent, CallId, Reply};
+use action_cache::Results;
 use blob_pool::Pool;
 use instance_view::View;
 use std::alloc::{AllocError, Global};
@@ -42,14 +43,14 @@ impl Model for Instance {
     ghost use Rattle.instance_core.specs.State.{most_blobs};
     ghost use Rattle.instance_core.specs.Shown.{slots_of};
 
-    ghost view = { λ i. slots_of i.settings i.moment i.contents.view i.contents.uploads i.calls };
+    ghost view = { λ i. slots_of i.settings i.moment i.contents i.calls };
 
     ghost invariant = { λ i.
         (i.settings.quota ≤ 2 ^ 40) × (i.contents.view.limit ≡ most_blobs) × AreInCourse i.calls };
 }
 
 impl Instance {
-    /// An instance of at most 2^40 bytes that has no texts, no uploads and no calls yet.
+    /// An instance of at most 2^40 bytes that has no texts, no uploads, no results and no calls yet.
     pub fn new(alloc: Global, name: &str, quota: u64, slots: u32) -> Result<Instance, AllocError>
         requires { quota ≤ 2 ^ 40 }
         ensures opened { (p : Slots) →
@@ -60,12 +61,14 @@ impl Instance {
     {
         let name = String::from_str(alloc, name)?;
         let view = View::new(alloc, MOST_BLOBS)?;
+        let results = Results::new(alloc)?;
         Ok(Instance {
             settings: Settings { name, quota, slots },
             moment: 0,
             contents: Contents {
                 view,
                 uploads: Uploads::new(alloc),
+                results,
             },
             calls: Calls::new(alloc),
         })

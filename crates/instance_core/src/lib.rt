@@ -1,6 +1,6 @@
 //! One instance of the server: from what happens to calls to their replies.
 //!
-//! An instance has its own name, quota and texts. A reply, and what an event does to the instance,
+//! An instance has its own name, quota, texts and results. A reply, and what an event does to the instance,
 //! are functions of the instance's own state and the event alone.
 #![tactic(auto)]
 
@@ -13,6 +13,8 @@ mod instance;
 mod methods;
 mod reading;
 mod replies;
+mod results;
+mod trees;
 mod writing;
 
 pub use event::{CallEvent, CallId, GivenRange, Reply, ReplyItem};

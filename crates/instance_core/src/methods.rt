@@ -1,27 +1,28 @@
 //! What each method but `Write` answers to the one message of its request.
 
-ghost use Rattle.std.specs.Prelude.{◌≡◌, ◌≢◌, ◌≤◌, ◌+◌, ◌^◌, ℕ, OnOk, OnErr};
+ghost use Rattle.std.specs.Prelude.{◌≡◌, ◌≤◌, ◌+◌, ◌^◌, ℕ, OnOk, OnErr};
 ghost use Rattle.blob_pool.specs.Held.{Slots};
 ghost use Rattle.blob_pool.specs.Moves.{Moves};
-ghost use Rattle.rpc.specs.declared.method.Method.TheVariants.{Read};
 ghost use Rattle.instance_view.specs.Shown.{shown, holders};
 ghost use Rattle.quota_evict.specs.Kept.{AreKept};
 ghost use Rattle.quota_evict.specs.Within.{Within};
-ghost use Rattle.cas_service.specs.Answers.{Answers};
+ghost use Rattle.cas_service.specs.Answers.{Answers, IfAnswered};
 ghost use Rattle.cas_service.specs.Changes.{MadeInPart, changed};
-ghost use Rattle.bytestream.specs.Refusals.{IfAnswered};
 ghost use Rattle.instance_core.specs.Calls.{Calls};
 ghost use Rattle.instance_core.specs.State.{most_blobs};
-ghost use Rattle.instance_core.specs.Methods.{is_served, reply_to, items_to, text_changes};
+ghost use Rattle.tree_calls.specs.Naming.{AreWithin};
+ghost use Rattle.instance_core.specs.Methods.{IsPlain, LeavesResults, is_served, reply_to, items_to, text_changes, request_changes};
 ghost use Rattle.instance_core.specs.Answer.{reply_with, items_sent};
-ghost use Rattle.instance_core.specs.Shown.{Gives, state_of};
+ghost use Rattle.instance_core.specs.Shown.{Gives, Makes, state_of};
 ghost use Rattle.instance_core.specs.Given.{holders_given};
 
 use crate::capabilities::get_capabilities;
 use crate::contents::{Contents, Settings};
 use crate::event::{CallId, Reply};
 use crate::reading::answer_read;
-use crate::replies::{refusal_in, reply_with};
+use crate::replies::settle;
+use crate::results::{answer_get, answer_update};
+use crate::trees::answer_tree;
 use blob_pool::Pool;
 use bytestream::query;
 use cas_service::{CallError, batch_read, batch_update, find_missing};
@@ -37,6 +38,9 @@ pub fn is_served(method: Method) -> bool
         Method::FindMissingBlobs
             | Method::BatchUpdateBlobs
             | Method::BatchReadBlobs
+            | Method::GetTree
+            | Method::GetActionResult
+            | Method::UpdateActionResult
             | Method::GetCapabilities
             | Method::Read
             | Method::Write
@@ -44,7 +48,7 @@ pub fn is_served(method: Method) -> bool
     )
 }
 
-/// The message that the method answers with.
+/// The message that a method answers with, which answers by one message from the texts alone.
 fn reply_to(
     alloc: Global,
     settings: &Settings,
@@ -56,7 +60,7 @@ fn reply_to(
     requires quota { settings.now.quota ≤ 2 ^ 40 }
     requires limit { contents.old.view.limit ≡ most_blobs }
     requires kept { AreKept settings.now.quota pool.old contents.old.view }
-    requires unread { method ≢ Read }
+    requires plain { IsPlain method }
     ensures reply { (moment : ℕ) (calls : Calls) →
         let old = state_of settings.now moment pool.old contents.old calls in
         Answers (λ reply. reply.items) result (reply_to method old message.now) }
@@ -75,6 +79,7 @@ fn reply_to(
     ensures limit { contents.new.view.limit ≡ most_blobs }
     ensures kept { AreKept settings.now.quota pool.new contents.new.view }
     ensures uploads { contents.new.uploads ≡ contents.old.uploads }
+    ensures results { contents.new.results ≡ contents.old.results }
 {
     match method {
         Method::FindMissingBlobs => {
@@ -105,7 +110,7 @@ fn reply_to(
     }
 }
 
-/// Answers a call of any method but `Read` by a message.
+/// Answers a call of a method that answers by one message from the texts alone.
 fn answer_by_message(
     alloc: Global,
     settings: &Settings,
@@ -118,7 +123,7 @@ fn answer_by_message(
     requires quota { settings.now.quota ≤ 2 ^ 40 }
     requires limit { contents.old.view.limit ≡ most_blobs }
     requires kept { AreKept settings.now.quota pool.old contents.old.view }
-    requires unread { method ≢ Read }
+    requires plain { IsPlain method }
     ensures replies { (moment : ℕ) (calls : Calls) →
         let old = state_of settings.now moment pool.old contents.old calls in
         (p : Slots) → Gives p result (reply_with call (reply_to method old message.now)) }
@@ -138,19 +143,15 @@ fn answer_by_message(
     ensures limit { contents.new.view.limit ≡ most_blobs }
     ensures kept { AreKept settings.now.quota pool.new contents.new.view }
     ensures uploads { contents.new.uploads ≡ contents.old.uploads }
+    ensures results { contents.new.results ≡ contents.old.results }
 {
-    match reply_to(alloc, settings, contents, pool, method, message) {
-        Ok(reply) => reply_with(alloc, call, Ok(reply)),
-        Err(error) => {
-            let refusal = refusal_in(error)?;
-            reply_with(alloc, call, Err(refusal))
-        }
-    }
+    let outcome = reply_to(alloc, settings, contents, pool, method, message);
+    settle(alloc, call, outcome)
 }
 
-/// Answers a call by the one message of its request. The texts of the ranges that it gives are
-/// held.
-pub fn answer_request(
+/// Answers a call of a method that leaves the results as they are. The texts of the ranges that it
+/// gives are held.
+fn answer_from_texts(
     alloc: Global,
     settings: &Settings,
     contents: &mut Contents,
@@ -162,6 +163,7 @@ pub fn answer_request(
     requires quota { settings.now.quota ≤ 2 ^ 40 }
     requires limit { contents.old.view.limit ≡ most_blobs }
     requires kept { AreKept settings.now.quota pool.old contents.old.view }
+    requires apart { LeavesResults method }
     ensures replies { (moment : ℕ) (calls : Calls) →
         let old = state_of settings.now moment pool.old contents.old calls in
         Gives pool.new result (items_sent call (items_to method old message.now)) }
@@ -180,6 +182,7 @@ pub fn answer_request(
     ensures limit { contents.new.view.limit ≡ most_blobs }
     ensures within { Within most_blobs settings.now.quota (shown pool.new contents.new.view) }
     ensures uploads { contents.new.uploads ≡ contents.old.uploads }
+    ensures results { contents.new.results ≡ contents.old.results }
 {
     match method {
         Method::Read => {
@@ -192,6 +195,52 @@ pub fn answer_request(
                 message,
             )
         }
+        Method::GetTree => {
+            answer_tree(
+                alloc,
+                &settings.name,
+                &mut contents.view,
+                pool,
+                call,
+                message,
+            )
+        }
         _ => answer_by_message(alloc, settings, contents, pool, call, method, message),
+    }
+}
+
+/// Answers a call by the one message of its request. The texts of the ranges that it gives are
+/// held.
+pub fn answer_request(
+    alloc: Global,
+    settings: &Settings,
+    contents: &mut Contents,
+    pool: &mut Pool,
+    call: CallId,
+    method: Method,
+    message: &[u8],
+) -> Result<Vec<Reply>, AllocError>
+    requires quota { settings.now.quota ≤ 2 ^ 40 }
+    requires limit { contents.old.view.limit ≡ most_blobs }
+    requires kept { AreKept settings.now.quota pool.old contents.old.view }
+    requires results { AreWithin contents.old.results }
+    ensures replies { (moment : ℕ) (calls : Calls) →
+        let old = state_of settings.now moment pool.old contents.old calls in
+        Gives pool.new result (items_sent call (items_to method old message.now)) }
+    ensures changed { (moment : ℕ) (calls : Calls) →
+        let old = state_of settings.now moment pool.old contents.old calls in
+        let new = state_of settings.now moment pool.new contents.new calls in
+        Makes result (request_changes method old message.now) old new }
+    ensures moves { Moves pool.old pool.new (holders contents.old.view)
+        (λ k. holders contents.new.view k + holders_given result k) }
+    ensures limit { contents.new.view.limit ≡ most_blobs }
+    ensures within { Within most_blobs settings.now.quota (shown pool.new contents.new.view) }
+    ensures uploads { contents.new.uploads ≡ contents.old.uploads }
+    ensures results { AreWithin contents.new.results }
+{
+    match method {
+        Method::GetActionResult => answer_get(alloc, settings, contents, pool, call, message),
+        Method::UpdateActionResult => answer_update(alloc, settings, contents, call, message),
+        _ => answer_from_texts(alloc, settings, contents, pool, call, method, message),
     }
 }

@@ -1,10 +1,12 @@
 //! Replies to calls.
 
-ghost use Rattle.std.specs.Prelude.{◌≡◌, ℕ, [], ◌∷◌, map, IfOk, OnOk, OnErr};
+ghost use Rattle.std.specs.Prelude.{◌≡◌, ℕ, List, [], ◌∷◌, map, Result, Ok, IfOk, OnOk, OnErr};
+ghost use Rattle.rpc.specs.declared.refusal.Refusal.{Refusal};
 ghost use Rattle.blob_pool.specs.Held.{Slots};
 ghost use Rattle.blob_pool.specs.Moves.{one_at};
 ghost use Rattle.cas_service.specs.declared.error.CallError.TheVariants.{Refused, NoMemory};
-ghost use Rattle.instance_core.specs.Replies.{begins, gives, ends, items_of};
+ghost use Rattle.cas_service.specs.Answers.{Answers, IfNoMemory};
+ghost use Rattle.instance_core.specs.Replies.{begins, gives, ends, items_of, messages_items};
 ghost use Rattle.instance_core.specs.Answer.{items_sent, reply_with};
 ghost use Rattle.instance_core.specs.Shown.{Gives, item_shown, outcome_shown, range_shown};
 ghost use Rattle.instance_core.specs.Given.{items_holders, holders_given};
@@ -40,6 +42,21 @@ fn items_of(alloc: Global, outcome: Result<Vec<u8>, Refusal>) -> Result<Vec<Repl
         }
         Err(refusal) => items.push(ReplyItem::Refuses(refusal))?,
     }
+    Ok(items)
+}
+
+/// What is sent in answer to a call: messages, in order, with status OK.
+fn items_of_messages(alloc: Global, messages: Vec<Vec<u8>>) -> Result<Vec<ReplyItem>, AllocError>
+    ensures items { (p : Slots) → IfOk result (λ items. map (item_shown p) items.items
+        ≡ messages_items (Ok (map (λ message. message.items) messages.items))) }
+    ensures given { (k : ℕ) → IfOk result (λ items. items_holders items.items k ≡ 0) }
+{
+    let mut items = Vec::new(alloc);
+    items.push(ReplyItem::Begins)?;
+    'messages: for message in messages {
+        items.push(ReplyItem::Says(message))?;
+    }
+    items.push(ReplyItem::Ends)?;
     Ok(items)
 }
 
@@ -89,4 +106,39 @@ pub fn range_reply(alloc: Global, call: CallId, range: GivenRange) -> Result<Vec
     items.push(ReplyItem::Gives(range))?;
     items.push(ReplyItem::Ends)?;
     reply_of(alloc, call, items)
+}
+
+/// A whole reply of messages, in order.
+pub fn messages_reply(
+    alloc: Global,
+    call: CallId,
+    messages: Vec<Vec<u8>>,
+) -> Result<Vec<Reply>, AllocError>
+    ensures replies { (p : Slots) → Gives p result
+        (items_sent call (messages_items (Ok (map (λ message. message.items) messages.items)))) }
+    ensures given { (k : ℕ) → holders_given result k ≡ 0 }
+{
+    let items = items_of_messages(alloc, messages)?;
+    reply_of(alloc, call, items)
+}
+
+/// Sends what a call was answered: one message, or a refusal. Memory that had run out is passed on.
+pub fn settle(
+    alloc: Global,
+    call: CallId,
+    outcome: Result<Vec<u8>, CallError>,
+) -> Result<Vec<Reply>, AllocError>
+    ensures replies { (answer : Result (List ℕ) Refusal)
+        → Answers (λ reply. reply.items) outcome answer
+        → (p : Slots) → Gives p result (reply_with call answer) }
+    ensures given { (k : ℕ) → holders_given result k ≡ 0 }
+    ensures memory { IfNoMemory outcome (OnOk result ⊥) }
+{
+    match outcome {
+        Ok(reply) => reply_with(alloc, call, Ok(reply)),
+        Err(error) => {
+            let refusal = refusal_in(error)?;
+            reply_with(alloc, call, Err(refusal))
+        }
+    }
 }

@@ -9,8 +9,7 @@ ghost use Rattle.instance_view.specs.Shown.{shown, holders};
 ghost use Rattle.quota_evict.specs.Kept.{AreKept};
 ghost use Rattle.quota_evict.specs.Within.{Within};
 ghost use Rattle.uploads.specs.Uploads.{WithinLimits};
-ghost use Rattle.cas_service.specs.Answers.{Answers};
-ghost use Rattle.bytestream.specs.Refusals.{IfNoMemory};
+ghost use Rattle.cas_service.specs.Answers.{Answers, IfNoMemory};
 ghost use Rattle.bytestream.specs.Writing.{WrittenValue};
 ghost use Rattle.bytestream.specs.Shown.{open_write_shown, written_shown, IfGoes};
 ghost use Rattle.instance_core.specs.Calls.{without_call, AreInCourse};
@@ -137,6 +136,7 @@ pub fn on_first_part(
     ensures limit { contents.new.view.limit ≡ most_blobs }
     ensures within { Within most_blobs settings.now.quota (shown pool.new contents.new.view) }
     ensures uploads { WithinLimits settings.now.quota contents.new.uploads }
+    ensures results { contents.new.results ≡ contents.old.results }
     ensures calls { AreInCourse calls.new }
 {
     let written = write_first(

@@ -1,5 +1,4 @@
 use Rattle.std.proofs.Common.{◌≡◌, ap, refl, ◌∙◌, Err, Ok}
-use Rattle.instance_view.specs.Shown.{shown}
 use Rattle.rpc.specs.declared.refusal.Refusal.TheVariants.{NoMessage}
 use Rattle.bytestream.specs.Shown.{open_write_shown}
 use Rattle.bytestream.specs.Writing.{unfinished_reply}
@@ -34,22 +33,22 @@ returns-in_ok-replies-in-Has-clause-changed c = λ moment.
     let calls = c.args.calls.now in
     let request = c.deref.result.now in
     let s = state_of c.args.settings.now moment c.args.pool.now c.args.contents.now calls in
+    let mid = state_of c.args.settings.now moment c.answer_request.new.pool c.answer_request.new.contents calls in
     let come : has c.in-Has.message.items ≡ c.in-Some.call.now.progress = rw c.in-Has.is at c.progress.ensures in
     let there = call_found c.in-Some.call.now c.method-method.result (has request) (call_at c.args.id calls) c.in-Some.ensures.found c.method-method.ensures (ap has c.deref.ensures.value ∙ come) in
     made_whole c.in_ok-replies-in-Has.replies _ s _
-    (ended_whole s (shown c.answer_request.new.pool c.answer_request.new.contents.view) c.answer_request.new.contents.uploads c.end.new.self c.args.id c.method-method.result request (call_at c.args.id calls) there
-    (c.in_ok-replies-in-Has.ensures.changed moment calls) c.answer_request.ensures.uploads c.end.ensures.ended)
+    (ended_whole s mid c.end.new.self c.args.id c.method-method.result request (call_at c.args.id calls) there (c.in_ok-replies-in-Has.ensures.changed moment calls).whole refl c.end.ensures.ended)
 
 pub returns-in_err-replies-in-Has-clause-changed : goal.returns-in_err-replies-in-Has-clause-changed
 returns-in_err-replies-in-Has-clause-changed c = λ moment.
     let calls = c.args.calls.now in
     let request = c.deref.result.now in
     let s = state_of c.args.settings.now moment c.args.pool.now c.args.contents.now calls in
+    let mid = state_of c.args.settings.now moment c.answer_request.new.pool c.answer_request.new.contents calls in
     let come : has c.in-Has.message.items ≡ c.in-Some.call.now.progress = rw c.in-Has.is at c.progress.ensures in
     let there = call_found c.in-Some.call.now c.method-method.result (has request) (call_at c.args.id calls) c.in-Some.ensures.found c.method-method.ensures (ap has c.deref.ensures.value ∙ come) in
     made_in_part c.from_residual.result _ s _ c.from_residual.ensures.0
-    (ended_in_part s (shown c.answer_request.new.pool c.answer_request.new.contents.view) c.answer_request.new.contents.uploads calls c.args.id c.method-method.result request (call_at c.args.id calls) there
-    (c.in_err-replies-in-Has.ensures.memory moment calls) c.answer_request.ensures.uploads refl)
+    (ended_in_part s mid c.args.id c.method-method.result request (call_at c.args.id calls) there (c.in_err-replies-in-Has.ensures.changed moment calls).memory)
 
 pub returns-in_ok-reply-in-Writes-clause-replies : goal.returns-in_ok-reply-in-Writes-clause-replies
 returns-in_ok-reply-in-Writes-clause-replies c = λ moment.

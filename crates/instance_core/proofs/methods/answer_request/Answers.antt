@@ -1,50 +1,17 @@
-use Rattle.std.proofs.Common.{◌≡◌, List, sym, subst}
-use Rattle.std.specs.Prelude.{OnOk, OnErr}
-use Rattle.instance_view.specs.Visible.{Blob}
+use Rattle.std.proofs.Common.{subst, sym}
 use Rattle.instance_view.specs.Shown.{shown}
 use Rattle.quota_evict.specs.Within.{Within}
-use Rattle.cas_service.specs.Changes.{changed, MadeInPart}
-use Rattle.bytestream.specs.Reading.{read_asked}
-use Rattle.instance_core.specs.Methods.{use_asked}
-use Rattle.instance_core.specs.State.{most_blobs}
-use Rattle.instance_core.specs.Given.{holders_given}
 use Rattle.instance_core.specs.Shown.{state_of}
-use Rattle.instance_core.proofs.Ranges.{read_shown, room_kept, items_unread}
+use Rattle.instance_core.proofs.Parts.{texts_make}
 use Rattle.instance_core.proofs.methods.answer_request.Goals as goal
 
-pub answer_read-requires-clause-room : goal.answer_read-requires-clause-room
-answer_read-requires-clause-room c = room_kept c.args.settings.now.quota c.args.pool.now c.args.contents.now.view c.requires.kept c.requires.limit
+pub answer_from_texts-requires-clause-apart : goal.answer_from_texts-requires-clause-apart
+answer_from_texts-requires-clause-apart c = (c.in_default.not-GetActionResult, c.in_default.not-UpdateActionResult)
 
-pub returns-in-Read-clause-changed : goal.returns-in-Read-clause-changed
-returns-in-Read-clause-changed c = λ moment calls.
-    let p = c.args.pool.now in
-    let q = c.answer_read.new.pool in
-    let old = shown p c.args.contents.now.view in
-    let asked = use_asked (read_asked c.deref.result.now c.args.message.now) in
-    let same = read_shown p q c.args.contents.now.view c.answer_read.new.view (holders_given c.answer_read.result) c.answer_read.ensures.moves c.answer_read.ensures.holders c.requires.kept.held.counted in
-    rw (c.in-Read.is, ← c.deref.ensures)
-    (subst (λ (bs : List Blob). OnOk c.answer_read.result (bs ≡ changed most_blobs c.args.settings.now.quota asked old)) (sym same) (c.answer_read.ensures.changed p most_blobs c.args.settings.now.quota))
-
-pub returns-in-Read-clause-memory : goal.returns-in-Read-clause-memory
-returns-in-Read-clause-memory c = λ moment calls.
-    let p = c.args.pool.now in
-    let q = c.answer_read.new.pool in
-    let old = shown p c.args.contents.now.view in
-    let asked = use_asked (read_asked c.deref.result.now c.args.message.now) in
-    let same = read_shown p q c.args.contents.now.view c.answer_read.new.view (holders_given c.answer_read.result) c.answer_read.ensures.moves c.answer_read.ensures.holders c.requires.kept.held.counted in
-    rw (c.in-Read.is, ← c.deref.ensures)
-    (subst (λ (bs : List Blob). OnErr c.answer_read.result (MadeInPart most_blobs c.args.settings.now.quota asked old bs)) (sym same) (c.answer_read.ensures.memory p most_blobs c.args.settings.now.quota))
-
-pub returns-in-Read-clause-within : goal.returns-in-Read-clause-within
-returns-in-Read-clause-within c =
-    let p = c.args.pool.now in
-    let q = c.answer_read.new.pool in
-    let quota = c.args.settings.now.quota in
-    let same = read_shown p q c.args.contents.now.view c.answer_read.new.view (holders_given c.answer_read.result) c.answer_read.ensures.moves c.answer_read.ensures.holders c.requires.kept.held.counted in
-    let limited = subst (λ n. Within n quota (shown p c.args.contents.now.view)) c.requires.limit c.requires.kept.within in
-    subst (Within most_blobs quota) (sym same) (c.answer_read.ensures.within p most_blobs quota limited)
-
-pub returns-in_default-clause-replies : goal.returns-in_default-clause-replies
-returns-in_default-clause-replies c = λ moment calls.
+pub returns-in_default-clause-changed : goal.returns-in_default-clause-changed
+returns-in_default-clause-changed c = λ moment calls.
     let s = state_of c.args.settings.now moment c.args.pool.now c.args.contents.now calls in
-    rw (items_unread c.args.method s c.args.message.now c.in_default.not-Read) (c.answer_by_message.ensures.replies moment calls c.answer_by_message.new.pool)
+    let apart = (c.in_default.not-GetActionResult, c.in_default.not-UpdateActionResult) in
+    let texts = shown c.answer_from_texts.new.pool c.answer_from_texts.new.contents.view in
+    texts_make c.answer_from_texts.result c.args.method s c.args.message.now texts c.answer_from_texts.new.contents.results apart
+    (c.answer_from_texts.ensures.changed moment calls) (c.answer_from_texts.ensures.memory moment calls) c.answer_from_texts.ensures.results

@@ -1,0 +1,86 @@
+//! What `GetActionResult` and `UpdateActionResult` are answered, from the results of actions.
+
+ghost use Rattle.std.specs.Prelude.{◌≡◌, ℕ};
+ghost use Rattle.blob_pool.specs.Held.{Slots};
+ghost use Rattle.rpc.specs.declared.method.Method.TheVariants.{GetActionResult, UpdateActionResult};
+ghost use Rattle.instance_view.specs.Shown.{holders};
+ghost use Rattle.quota_evict.specs.Kept.{AreKept};
+ghost use Rattle.tree_calls.specs.Naming.{AreWithin};
+ghost use Rattle.instance_core.specs.Calls.{Calls};
+ghost use Rattle.instance_core.specs.State.{most_blobs};
+ghost use Rattle.instance_core.specs.Methods.{items_to, request_changes};
+ghost use Rattle.instance_core.specs.Answer.{items_sent};
+ghost use Rattle.instance_core.specs.Shown.{Gives, Makes, state_of};
+ghost use Rattle.instance_core.specs.Given.{holders_given};
+
+use crate::contents::{Contents, Settings};
+use crate::event::{CallId, Reply};
+use crate::replies::settle;
+use blob_pool::Pool;
+use std::alloc::{AllocError, Global};
+use tree_calls::{get_action_result, update_action_result};
+
+/// Answers a `GetActionResult`. The result is used, and its blobs. For want of memory they may have
+/// been used too.
+pub fn answer_get(
+    alloc: Global,
+    settings: &Settings,
+    contents: &mut Contents,
+    pool: &Pool,
+    call: CallId,
+    message: &[u8],
+) -> Result<Vec<Reply>, AllocError>
+    requires limit { contents.old.view.limit ≡ most_blobs }
+    requires kept { AreKept settings.now.quota pool.now contents.old.view }
+    requires results { AreWithin contents.old.results }
+    ensures replies { (moment : ℕ) (calls : Calls) →
+        let old = state_of settings.now moment pool.now contents.old calls in
+        (p : Slots) → Gives p result (items_sent call (items_to GetActionResult old message.now)) }
+    ensures given { (k : ℕ) → holders_given result k ≡ 0 }
+    ensures changed { (moment : ℕ) (calls : Calls) →
+        let old = state_of settings.now moment pool.now contents.old calls in
+        let new = state_of settings.now moment pool.now contents.new calls in
+        Makes result (request_changes GetActionResult old message.now) old new }
+    ensures holders { (k : ℕ) → holders contents.new.view k ≡ holders contents.old.view k }
+    ensures limit { contents.new.view.limit ≡ most_blobs }
+    ensures kept { AreKept settings.now.quota pool.now contents.new.view }
+    ensures uploads { contents.new.uploads ≡ contents.old.uploads }
+    ensures results { AreWithin contents.new.results }
+{
+    let outcome = get_action_result(
+        alloc,
+        &settings.name,
+        &mut contents.results,
+        &mut contents.view,
+        pool,
+        message,
+    );
+    settle(alloc, call, outcome)
+}
+
+/// Answers an `UpdateActionResult`. The result that is sent is stored. For want of memory it may have
+/// been stored too.
+pub fn answer_update(
+    alloc: Global,
+    settings: &Settings,
+    contents: &mut Contents,
+    call: CallId,
+    message: &[u8],
+) -> Result<Vec<Reply>, AllocError>
+    requires results { AreWithin contents.old.results }
+    ensures replies { (moment : ℕ) (pool : Slots) (calls : Calls) →
+        let old = state_of settings.now moment pool contents.old calls in
+        (p : Slots) →
+        Gives p result (items_sent call (items_to UpdateActionResult old message.now)) }
+    ensures given { (k : ℕ) → holders_given result k ≡ 0 }
+    ensures changed { (moment : ℕ) (pool : Slots) (calls : Calls) →
+        let old = state_of settings.now moment pool contents.old calls in
+        let new = state_of settings.now moment pool contents.new calls in
+        Makes result (request_changes UpdateActionResult old message.now) old new }
+    ensures view { contents.new.view ≡ contents.old.view }
+    ensures uploads { contents.new.uploads ≡ contents.old.uploads }
+    ensures results { AreWithin contents.new.results }
+{
+    let outcome = update_action_result(alloc, &settings.name, &mut contents.results, message);
+    settle(alloc, call, outcome)
+}

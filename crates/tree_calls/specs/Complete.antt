@@ -46,7 +46,8 @@ pub record IsComplete (look : Lookup) (text : List ℕ) : Type 0 where
   pub stderr : IfSome value.stderr_digest (λ written. HasBlob look (Some written))
 
 -- a reply is the text of the action's result, as it is stored, and that is complete
-pub record IsCompleteReply (own : List ℕ) (visible results : List Blob) (request reply : List ℕ) : Type 0 where
+pub record IsCompleteReply (own : List ℕ) (visible results : List Blob)
+    (request reply : List ℕ) : Type 0 where
   pub action : Digest
   pub is_asked : action_asked own request ≡ Ok action
   pub is_stored : lookup (same action) results ≡ Some reply

@@ -1,5 +1,5 @@
--- GetTree (remote_execution.proto, ContentAddressableStorage): a function of the instance's own texts
--- and the message.
+-- GetTree (remote_execution.proto, ContentAddressableStorage): a function of the instance's own
+-- texts and the message.
 use Rattle.std.specs.Prelude.{ℕ, List, Result, Ok, Err}
 use Rattle.reapi_messages.specs.Results.{◌>>=◌}
 use Rattle.rpc.specs.declared.refusal.Refusal.{Refusal}
@@ -39,7 +39,8 @@ of_tree (Err fault) = Err (tree_refusal fault)
 
 -- the pages of a tree's list, as messages in order
 abbrev pub pages_asked : List Blob → TreeAskedValue → Result (List (List ℕ)) Refusal
-pages_asked visible asked = of_tree (get_tree_reply (texts_seen visible) asked.root asked.page_size asked.page_token)
+pages_asked visible asked =
+    of_tree (get_tree_reply (texts_seen visible) asked.root asked.page_size asked.page_token)
 
 -- the directories of a tree's list
 abbrev pub directories_asked : List Blob → TreeAskedValue → Result (List Digest) Refusal
@@ -51,7 +52,8 @@ get_tree_replies own visible message = tree_asked own message >>= pages_asked vi
 
 -- the directories of the list, where the call is answered
 abbrev pub directories_used : List Blob → TreeAskedValue → Result (List Digest) Refusal
-directories_used visible asked = pages_asked visible asked >>= λ pages. directories_asked visible asked
+directories_used visible asked =
+    pages_asked visible asked >>= λ pages. directories_asked visible asked
 
 -- each directory of the list is used, in order
 abbrev pub get_tree_changes : List ℕ → List Blob → List ℕ → List Change

@@ -27,7 +27,8 @@ AreReached look before (d ∷ ds) = HasParent look before d × AreReached look (
 
 -- each directory that is in it is listed
 abbrev pub HasListed : Lookup → List Digest → Digest → Type 0
-HasListed look ds d = AllByRecursion (λ c. IsDirectory look c → IsListed ds c) (children_or_none look d)
+HasListed look ds d =
+    AllByRecursion (λ c. IsDirectory look c → IsListed ds c) (children_or_none look d)
 
 pub record IsWholeTree (look : Lookup) (root : Digest) (ds : List Digest) : Type 0 where
   pub others : List Digest

@@ -27,7 +27,9 @@ token_before place (page ∷ pages) = decimal place
 -- pages of which the first begins at a place: each says where the next begins
 abbrev pub AreContinued : ℕ → List GetTreeResponseValue → Type 0
 AreContinued place [] = Unit {0}
-AreContinued place (page ∷ pages) = (page.next_page_token ≡ token_before (place + length page.directories) pages) × AreContinued (place + length page.directories) pages
+AreContinued place (page ∷ pages) =
+    (page.next_page_token ≡ token_before (place + length page.directories) pages)
+    × AreContinued (place + length page.directories) pages
 
 abbrev pub directories_of : List GetTreeResponseValue → List (List ℕ)
 directories_of pages = flat_map (λ page. page.directories) pages
@@ -42,7 +44,8 @@ pub record ArePages (size place : ℕ) (directories messages : List (List ℕ)) 
   pub continued : AreContinued place pages
 
 -- messages are the pages of the list that a request asks for, from the place that it asks for on
-pub record GiveTheList (own : List ℕ) (visible : List Blob) (request : List ℕ) (messages : List (List ℕ)) : Type 0 where
+pub record GiveTheList (own : List ℕ) (visible : List Blob) (request : List ℕ)
+    (messages : List (List ℕ)) : Type 0 where
   pub asked : TreeAskedValue
   pub is_asked : tree_asked own request ≡ Ok asked
   pub listed : List Digest
@@ -68,7 +71,8 @@ pub record IsNamedPage (listed : List Digest) (message : List ℕ) : Type 0 wher
   pub named : AllByRecursion (IsNamedAmong listed) page.directories
 
 -- messages are pages of what the digests name that a request's list has
-pub record AreNamedReplies (own : List ℕ) (visible : List Blob) (request : List ℕ) (messages : List (List ℕ)) : Type 0 where
+pub record AreNamedReplies (own : List ℕ) (visible : List Blob) (request : List ℕ)
+    (messages : List (List ℕ)) : Type 0 where
   pub asked : TreeAskedValue
   pub is_asked : tree_asked own request ≡ Ok asked
   pub listed : List Digest

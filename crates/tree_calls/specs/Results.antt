@@ -19,14 +19,17 @@ or_no_result None = Err NoResult
 or_no_result (Some text) = Ok text
 
 -- the bytes of the action's result, where it is complete
-abbrev pub get_action_result_reply : List ℕ → List Blob → List Blob → List ℕ → Result (List ℕ) Refusal
+abbrev pub get_action_result_reply : List ℕ → List Blob → List Blob → List ℕ
+    → Result (List ℕ) Refusal
 get_action_result_reply own visible results message =
-    action_asked own message >>= λ action. or_no_result (result_for (texts_seen visible) action results)
+    action_asked own message >>=
+    λ action. or_no_result (result_for (texts_seen visible) action results)
 
 -- the blobs of a result that is answered are used, in order
 abbrev pub get_action_result_changes : List ℕ → List Blob → List Blob → List ℕ → List Change
 get_action_result_changes own visible results message =
-    uses (action_asked own message >>= λ action. Ok (blobs_used (texts_seen visible) action results))
+    uses (action_asked own message >>=
+    λ action. Ok (blobs_used (texts_seen visible) action results))
 
 abbrev pub after_asking : List Blob → List Blob → Result Digest Refusal → List Blob
 after_asking visible results (Ok action) = results_after (texts_seen visible) action results

@@ -1,8 +1,8 @@
 //! GetTree of the content addressable storage, and GetActionResult and UpdateActionResult of the
 //! action cache (remote_execution.proto), from a request's bytes to its reply's bytes.
 //!
-//! A reply, and what becomes of an instance's texts and results, are functions of the instance's own
-//! name, texts and results and of the message alone. A refused call changes nothing.
+//! A reply, and what becomes of an instance's texts and results, are functions of the instance's
+//! own name, texts and results and of the message alone. A refused call changes nothing.
 #![tactic(auto)]
 
 mod asking;

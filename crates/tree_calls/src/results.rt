@@ -52,7 +52,8 @@ pub fn get_action_result(
 
 /// Answers `UpdateActionResult`: the bytes that were sent. They are stored as the action's result,
 /// in the place of an earlier one, and it is the most recently used; of all results the longest
-/// front stays that has at most 10,000 results and 67,108,864 bytes. A refused call changes nothing.
+/// front stays that has at most 10,000 results and 67,108,864 bytes. A refused call changes
+/// nothing.
 pub fn update_action_result(
     alloc: Global,
     own: &str,

@@ -1,6 +1,6 @@
 -- What the three calls ask for: the tests that each request begins with, in this order: the message
 -- is read, the instance is the own one, the digest function is known, the digest has its form.
-use Rattle.std.specs.Prelude.{ℕ, ℤ, List, [], Result, Ok, Err, unwrap_or}
+use Rattle.std.specs.Prelude.{ℕ, ℤ, List, [], Result, Ok, unwrap_or}
 use Rattle.reapi_messages.specs.Results.{◌>>=◌}
 use Rattle.reapi_messages.specs.Fields.{decoded}
 use Rattle.tree_messages.specs.GetTree.{get_tree_request_of}
@@ -9,8 +9,6 @@ use Rattle.rpc.specs.declared.refusal.Refusal.{Refusal}
 use Rattle.digest.specs.declared.Digest.{Digest}
 use Rattle.cas_service.specs.Requests.{readable, own_instance, known_function}
 use Rattle.cas_service.specs.BatchUpdate.{set_digest}
-use Rattle.cas_service.specs.declared.error.CallError.{CallError}
-use Rattle.cas_service.specs.declared.error.CallError.TheVariants.{Refused, NoMemory}
 use Rattle.tree_calls.specs.declared.asking.TreeAsked.{TreeAsked}
 use Rattle.tree_calls.specs.declared.asking.ResultSent.{ResultSent}
 
@@ -27,6 +25,7 @@ tree_asked_shown a = record {
   page_token = a.page_token.now;
 }
 
+-- what a GetTreeRequest asks for
 unfoldable pub tree_asked : List ℕ → List ℕ → Result TreeAskedValue Refusal
 tree_asked own message = do
   request ← readable (decoded get_tree_request_of message)
@@ -51,6 +50,7 @@ pub record ResultSentValue : Type 0 where
 abbrev pub result_sent_shown : ResultSent → ResultSentValue
 result_sent_shown s = record { action = s.action; text = s.text.items }
 
+-- what an UpdateActionResultRequest sends
 unfoldable pub result_sent : List ℕ → List ℕ → Result ResultSentValue Refusal
 result_sent own message = do
   request ← readable (decoded update_action_result_request_of message)
@@ -58,11 +58,3 @@ result_sent own message = do
   _ ← known_function request.digest_function
   action ← set_digest request.action_digest
   Ok (record { action = action; text = unwrap_or request.action_result [] })
-
--- ---- what was answered
-
--- P, if the call was answered, by a refusal too
-abbrev pub IfAnswered : {A : Type 0} → Result A CallError → Type 0 → Type 0
-IfAnswered (Ok x) P = P
-IfAnswered (Err (Refused refusal)) P = P
-IfAnswered (Err NoMemory) P = Unit {0}

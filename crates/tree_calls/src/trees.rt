@@ -4,9 +4,8 @@ ghost use Rattle.std.specs.Prelude.{◌≡◌, ◌≤◌, ℕ, map, OnErr};
 ghost use Rattle.blob_pool.specs.Held.{Slots, count_at};
 ghost use Rattle.instance_view.specs.Shown.{shown, holders};
 ghost use Rattle.quota_evict.specs.Kept.{AreKept};
-ghost use Rattle.cas_service.specs.Answers.{Answers};
+ghost use Rattle.cas_service.specs.Answers.{Answers, IfAnswered};
 ghost use Rattle.cas_service.specs.Changes.{changed};
-ghost use Rattle.tree_calls.specs.Asking.{IfAnswered};
 ghost use Rattle.tree_calls.specs.GetTree.{tree_error, tree_refusal, get_tree_replies, get_tree_changes};
 
 use crate::asking::tree_asked;

@@ -1,5 +1,5 @@
-use std::test::*;
 use script::unary::*;
+use std::test::*;
 
 #[test]
 fn methods(rt: HostRuntime) {

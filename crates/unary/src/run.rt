@@ -12,10 +12,10 @@ ghost use Rattle.unary.specs.Outcome.{IsOutcome};
 use crate::session::{answer, open_all};
 use crate::store::Store;
 use program_status::{Fault, Status, read_all};
-use std::alloc::Global;
-use std::io::{Read, Write};
 use script::ScriptFault;
 use script::unary::{Command, UnaryScript, parse};
+use std::alloc::Global;
+use std::io::{Read, Write};
 
 /// Carries a command out, and writes its line.
 fn step<O: Write>(

@@ -8,9 +8,9 @@ ghost use Rattle.unary.specs.Session.{opened, reply_to, ok_line, status_line, li
 use crate::store::Store;
 use cas_service::CallError;
 use rpc::Refusal;
+use script::unary::{Command, Instance};
 use script::write_hex;
 use std::alloc::{AllocError, Global};
-use script::unary::{Command, Instance};
 
 /// The instances of a script, with no texts yet.
 pub fn open_all(alloc: Global, instances: &[Instance]) -> Result<Vec<Store>, AllocError>

@@ -14,9 +14,9 @@ use cas_service::{CallError, batch_read, batch_update, find_missing};
 use digest::Digest;
 use instance_view::View;
 use quota_evict::{AdmitError, admit};
+use script::unary::{Instance, Method};
 use std::alloc::{AllocError, Global};
 use std::marker::Model;
-use script::unary::{Instance, Method};
 
 /// How many texts an instance has at most.
 const MOST_BLOBS: usize = 65_536;

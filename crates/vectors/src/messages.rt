@@ -6,6 +6,7 @@ use grpc_messages::Messages;
 use reapi_messages::*;
 use std::alloc::Global;
 use std::io::{self, Write};
+use tree_messages::*;
 
 /// Writes how the bytes are encoded again that a message is read from.
 fn encoded_again<'a, M: Message<'a>>(
@@ -40,9 +41,22 @@ enum Type {
     BatchReadBlobsResponse,
     GetCapabilitiesRequest,
     ServerCapabilities,
+    ReadRequest,
+    ReadResponse,
+    WriteRequest,
+    WriteResponse,
+    QueryWriteStatusRequest,
+    QueryWriteStatusResponse,
+    Directory,
+    Tree,
+    ActionResult,
+    GetTreeRequest,
+    GetTreeResponse,
+    GetActionResultRequest,
+    UpdateActionResultRequest,
 }
 
-static TYPES: [(&[u8], Type); 10] = [
+static TYPES: [(&[u8], Type); 23] = [
     (b"Digest", Type::Digest),
     (b"Status", Type::Status),
     (b"FindMissingBlobsRequest", Type::FindMissingBlobsRequest),
@@ -53,6 +67,22 @@ static TYPES: [(&[u8], Type); 10] = [
     (b"BatchReadBlobsResponse", Type::BatchReadBlobsResponse),
     (b"GetCapabilitiesRequest", Type::GetCapabilitiesRequest),
     (b"ServerCapabilities", Type::ServerCapabilities),
+    (b"ReadRequest", Type::ReadRequest),
+    (b"ReadResponse", Type::ReadResponse),
+    (b"WriteRequest", Type::WriteRequest),
+    (b"WriteResponse", Type::WriteResponse),
+    (b"QueryWriteStatusRequest", Type::QueryWriteStatusRequest),
+    (b"QueryWriteStatusResponse", Type::QueryWriteStatusResponse),
+    (b"Directory", Type::Directory),
+    (b"Tree", Type::Tree),
+    (b"ActionResult", Type::ActionResult),
+    (b"GetTreeRequest", Type::GetTreeRequest),
+    (b"GetTreeResponse", Type::GetTreeResponse),
+    (b"GetActionResultRequest", Type::GetActionResultRequest),
+    (
+        b"UpdateActionResultRequest",
+        Type::UpdateActionResultRequest,
+    ),
 ];
 
 /// Writes how the bytes are encoded again, as a message of this type.
@@ -72,6 +102,28 @@ fn typed(alloc: Global, of: Type, text: &[u8], out: &mut Vec<u8>) -> io::Result<
         Type::BatchReadBlobsResponse => encoded_again::<BatchReadBlobsResponse>(alloc, text, out),
         Type::GetCapabilitiesRequest => encoded_again::<GetCapabilitiesRequest>(alloc, text, out),
         Type::ServerCapabilities => encoded_again::<ServerCapabilities>(alloc, text, out),
+        _ => typed_more(alloc, of, text, out),
+    }
+}
+
+/// Writes how the bytes are encoded again, as a message of one of the other types.
+fn typed_more(alloc: Global, of: Type, text: &[u8], out: &mut Vec<u8>) -> io::Result<()> {
+    match of {
+        Type::ReadRequest => encoded_again::<ReadRequest>(alloc, text, out),
+        Type::ReadResponse => encoded_again::<ReadResponse>(alloc, text, out),
+        Type::WriteRequest => encoded_again::<WriteRequest>(alloc, text, out),
+        Type::WriteResponse => encoded_again::<WriteResponse>(alloc, text, out),
+        Type::QueryWriteStatusRequest => encoded_again::<QueryWriteStatusRequest>(alloc, text, out),
+        Type::QueryWriteStatusResponse => encoded_again::<QueryWriteStatusResponse>(
+            alloc, text, out,
+        ),
+        Type::Directory => encoded_again::<Directory>(alloc, text, out),
+        Type::Tree => encoded_again::<Tree>(alloc, text, out),
+        Type::ActionResult => encoded_again::<ActionResult>(alloc, text, out),
+        Type::GetTreeRequest => encoded_again::<GetTreeRequest>(alloc, text, out),
+        Type::GetTreeResponse => encoded_again::<GetTreeResponse>(alloc, text, out),
+        Type::GetActionResultRequest => encoded_again::<GetActionResultRequest>(alloc, text, out),
+        _ => encoded_again::<UpdateActionResultRequest>(alloc, text, out),
     }
 }
 

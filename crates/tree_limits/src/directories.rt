@@ -1,0 +1,97 @@
+//! Directories of a wanted number or size, and the digests that name them.
+
+use digest::Digest;
+use message_fields::Message;
+use reapi_messages::Digest as WrittenDigest;
+use std::alloc::{AllocError, Global};
+use tree_messages::{Directory, DirectoryNode, SymlinkNode};
+
+/// A digest as a message writes it.
+#[derive(Drop)]
+pub struct Written {
+    pub hash: String,
+    pub size: i64,
+}
+
+impl Written {
+    /// The digest of a text.
+    pub fn of(alloc: Global, text: &[u8]) -> Result<Written, AllocError> {
+        Ok(Written {
+            hash: hex::encode(alloc, &Digest::of(text).hash)?,
+            size: i64::try_from(text.len()).unwrap_or(0),
+        })
+    }
+
+    pub fn digest(&self) -> Option<WrittenDigest<'_>> {
+        Some(WrittenDigest {
+            hash: &self.hash,
+            size_bytes: self.size,
+        })
+    }
+}
+
+/// Appends the records of a directory that has these alone.
+fn put_directory(
+    text: &mut Vec<u8>,
+    child: Option<DirectoryNode<'_>>,
+    link: Option<SymlinkNode<'_>>,
+) -> Result<(), AllocError> {
+    let alloc = *text.allocator();
+    let mut directory = Directory {
+        files: Vec::new(alloc),
+        directories: Vec::new(alloc),
+        symlinks: Vec::new(alloc),
+    };
+    if let Some(child) = child {
+        directory.directories.push(child)?;
+    }
+    if let Some(link) = link {
+        directory.symlinks.push(link)?;
+    }
+    directory.encode_into(text)
+}
+
+/// The directory that has one symbolic link `l`, to the number.
+pub fn leaf(alloc: Global, number: u64) -> Result<Vec<u8>, AllocError> {
+    let target = format!(in alloc; "{number}")?;
+    let mut text = Vec::new(alloc);
+    let link = SymlinkNode {
+        name: "l",
+        target: &target,
+    };
+    put_directory(&mut text, None, Some(link))?;
+    Ok(text)
+}
+
+/// Appends a directory, named by its number in seven digits, to the text of the one that has it.
+pub fn add_child(text: &mut Vec<u8>, number: u64, child: &Written) -> Result<(), AllocError> {
+    let name = format!(in *text.allocator(); "{number:07}")?;
+    let node = DirectoryNode {
+        name: &name,
+        digest: child.digest(),
+    };
+    put_directory(text, Some(node), None)
+}
+
+/// The directory that has the child, if there is one, and a symbolic link whose target has so many
+/// bytes.
+pub fn filled(
+    alloc: Global,
+    target: usize,
+    child: Option<&Written>,
+) -> Result<Vec<u8>, AllocError> {
+    let mut letters = String::new(alloc);
+    for _ in 0..target {
+        letters.push('x')?;
+    }
+    let mut text = Vec::new(alloc);
+    if let Some(child) = child {
+        add_child(&mut text, 0, child)?;
+    }
+    let link = SymlinkNode {
+        name: "l",
+        target: &letters,
+    };
+    put_directory(&mut text, None, Some(link))?;
+    Ok(text)
+}

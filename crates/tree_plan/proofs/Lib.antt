@@ -1,0 +1,5 @@
+mod Walks
+mod Trees
+mod Kept
+mod Places
+mod Missing

@@ -15,6 +15,7 @@ use tree_messages::{Directory, DirectoryNode, FileNode, SymlinkNode};
 use tree_plan::{Plan, TreeFault, walk};
 
 /// What is stored of the tree.
+#[derive(Clone, Copy)]
 pub struct Stored {
     /// The text of both files.
     pub files: bool,
@@ -25,11 +26,11 @@ pub struct Stored {
 }
 
 /// The text of a directory with a file, a symbolic link and some directories.
-fn directory_text(
+fn directory_text<'a>(
     alloc: Global,
-    file: FileNode<'_>,
-    link: SymlinkNode<'_>,
-    directories: Vec<DirectoryNode<'_>>,
+    file: FileNode<'a>,
+    link: SymlinkNode<'a>,
+    directories: Vec<DirectoryNode<'a>>,
 ) -> Result<Vec<u8>, AllocError> {
     let mut files = Vec::new(alloc);
     files.push(file)?;

@@ -55,7 +55,7 @@ fn names(alloc: Global, letter: &str, count: usize) -> Result<Vec<String>, Alloc
     Ok(names)
 }
 
-fn link_nodes(alloc: Global, names: &[String]) -> Result<Vec<SymlinkNode<'_>>, AllocError> {
+fn link_nodes<'a>(alloc: Global, names: &'a [String]) -> Result<Vec<SymlinkNode<'a>>, AllocError> {
     let mut nodes = Vec::new(alloc);
     for name in names {
         let target = "target";
@@ -79,18 +79,12 @@ fn directory_nodes<'a>(
 
 /// The text of a directory with symbolic links of these names, and directories of these names and
 /// one digest.
-fn directory_text(
+fn directory_text<'a>(
     alloc: Global,
-    links: &[String],
-    directories: &[String],
-    below: &Digest,
+    links: &'a [String],
+    directories: &'a [String],
+    digest: messages::Digest<'a>,
 ) -> Result<Vec<u8>, AllocError> {
-    let hash = hex::encode(alloc, &below.hash)?;
-    let size_bytes = i64::try_from(below.size).unwrap_or(0);
-    let digest = messages::Digest {
-        hash: &hash,
-        size_bytes,
-    };
     let directory = Directory {
         files: Vec::new(alloc),
         directories: directory_nodes(alloc, directories, digest)?,
@@ -99,6 +93,29 @@ fn directory_text(
     let mut text = Vec::new(alloc);
     directory.encode_into(&mut text)?;
     Ok(text)
+}
+
+/// Stores a directory with symbolic links of these names, and directories of these names and one
+/// digest.
+fn store_directory(
+    alloc: Global,
+    view: &mut View,
+    pool: &mut Pool,
+    links: &[String],
+    directories: &[String],
+    below: &Digest,
+) -> Result<Digest, AllocError>
+    requires kept { AreKept 100000000 pool.old view.old }
+    ensures kept { AreKept 100000000 pool.new view.new }
+{
+    let hash = hex::encode(alloc, &below.hash)?;
+    let size_bytes = i64::try_from(below.size).unwrap_or(0);
+    let digest = messages::Digest {
+        hash: &hash,
+        size_bytes,
+    };
+    let text = directory_text(alloc, links, directories, digest)?;
+    store(view, pool, &text)
 }
 
 /// Stores the directories of a tree, and gives the digest of its root.
@@ -113,17 +130,15 @@ fn store_tree(
 {
     let links = names(alloc, "l", shape.links)?;
     let directories = names(alloc, "d", shape.directories)?;
-    let text = directory_text(alloc, &links, &[], &Digest::of(&[]))?;
-    let mut root = store(view, pool, &text)?;
+    let mut root = store_directory(alloc, view, pool, &links, &[], &Digest::of(&[]))?;
     for _level in 1..shape.levels {
-        let text = directory_text(alloc, &links, &directories, &root)?;
-        root = store(view, pool, &text)?;
+        root = store_directory(alloc, view, pool, &links, &directories, &root)?;
     }
     Ok(root)
 }
 
 /// How the walk through a tree ends.
-fn ending(alloc: Global, shape: &Shape) -> Result<Ending, AllocError> {
+fn walked(alloc: Global, shape: &Shape) -> Result<Ending, AllocError> {
     let mut pool = Pool::new(alloc);
     let mut view = View::new(alloc, 100)?;
     let root = store_tree(alloc, &mut view, &mut pool, shape)?;
@@ -136,7 +151,7 @@ pub fn walked_otherwise(
     shapes: &[Shape],
 ) -> Result<Option<&'static str>, AllocError> {
     for shape in shapes {
-        if ending(alloc, shape)? != shape.ending {
+        if walked(alloc, shape)? != shape.ending {
             return Ok(Some(shape.name));
         }
     }

@@ -1,6 +1,6 @@
 -- The names of a directory's nodes are distinct, and none has a slash.
-use Rattle.std.proofs.Common.{◌≡◌, ◌≢◌, ◌⊎◌, inl, inr, ℕ, Bool, true, false, not, ◌&&◌, ◌||◌, List, [], ◌∷◌, ◌++◌, map, Option, Some, None, is_some, Ordering, Less, Equal, Greater, refl, sym, ap, ◌∙◌}
-use Rattle.std.specs.List.{Contains, filter_map, list_all, list_any}
+use Rattle.std.proofs.Common.{◌≡◌, ◌≢◌, ◌⊎◌, inl, inr, ℕ, Bool, true, false, not, ◌&&◌, ◌||◌, List, [], ◌∷◌, ◌++◌, Ordering, Less, Equal, Greater, refl, sym}
+use Rattle.std.specs.List.{Contains, list_all, list_any}
 use Rattle.std.specs.Ordering.{nat_cmp, is_lt, ordering_reverse}
 use Rattle.std.specs.Cmp.Lexicographic.{slice_cmp}
 use Rattle.std.proofs.lemmas.Cmp.{nat_list_cmp_total}
@@ -31,7 +31,6 @@ less_differs t u less same = let equal : slice_cmp nat_cmp t u ≡ Equal = rw (�
 
 -- ---- names in order
 
-
 rising_pairs : (ts : List (List ℕ)) → are_rising ts ≡ true → Pairs (λ t u. slice_cmp nat_cmp t u ≡ Less) ts
 rising_pairs [] h = tt
 rising_pairs (t ∷ []) h = (λ y c. absurd (in_none y c), tt)
@@ -40,9 +39,9 @@ rising_pairs (t ∷ (u ∷ us)) h =
     let less = less_by (slice_cmp nat_cmp t u) parts.0 in
     let later = rising_pairs (u ∷ us) parts.1 in
     (λ y c. go less later y (in_cases u us y c), later) where
-  go : slice_cmp nat_cmp t u ≡ Less → Pairs (λ t u. slice_cmp nat_cmp t u ≡ Less) (u ∷ us) → (y : List ℕ) → (u ≡ y) ⊎ Contains us y → slice_cmp nat_cmp t y ≡ Less
-  go less later y (inl is) = rw (← is) less
-  go less later y (inr c) = nat_list_cmp_total.trans t u y less (later.0 y c)
+      go : slice_cmp nat_cmp t u ≡ Less → Pairs (λ t u. slice_cmp nat_cmp t u ≡ Less) (u ∷ us) → (y : List ℕ) → (u ≡ y) ⊎ Contains us y → slice_cmp nat_cmp t y ≡ Less
+      go less later y (inl is) = rw (← is) less
+      go less later y (inr c) = nat_list_cmp_total.trans t u y less (later.0 y c)
 
 pub distinct_by_order : (ts : List (List ℕ)) → are_rising ts ≡ true → Pairs (λ t u. t ≢ u) ts
 distinct_by_order ts h = differ ts (rising_pairs ts h) where

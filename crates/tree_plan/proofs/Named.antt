@@ -1,7 +1,7 @@
 -- The nodes of a directory have paths of their own.
 use Rattle.std.proofs.Common.{◌≡◌, ◌≢◌, ◌⊎◌, inl, inr, ℕ, ◌+◌, Bool, true, false, ◌&&◌, List, [], ◌∷◌, ◌++◌, map, Option, Some, None, option_map, is_some, nat_le, Result, Ok, Err, refl, sym, ap, ◌∙◌, if◌then◌else◌}
 use Rattle.std.specs.List.{Contains, filter_map, list_all}
-use Rattle.std.proofs.lemmas.List.{map-append, append_assoc, append_cancel_left}
+use Rattle.std.proofs.lemmas.List.{map-append}
 use Rattle.std.proofs.lemmas.List.Elements.{Contains-append_cases}
 use Rattle.message_fields.specs.declared.error.MessageError.{MessageError}
 use Rattle.message_fields.specs.Fields.{decoded}
@@ -13,8 +13,8 @@ use Rattle.input_tree.specs.Listing.{Lookup}
 use Rattle.tree_plan.specs.Nodes.{NodeKindValue, file, symlink, directory, PlanNodeValue, file_at, symlink_at, directory_at, nodes_of, nodes_in}
 use Rattle.tree_plan.specs.Walk.{taken, nodes_of_text, directory_nodes, nodes_below, nodes_inside, too_deep}
 use Rattle.tree_plan.proofs.Kept.{in_none, in_cases}
-use Rattle.tree_plan.proofs.Pairs.{Pairs, in_map, map_in, pairs_joined, pairs_map, pairs_unmap, pairs_with}
-use Rattle.tree_plan.proofs.Distinct.{both, distinct_by_order, apart_differ, name_bytes, name_ends}
+use Rattle.tree_plan.proofs.Pairs.{Pairs, in_map, pairs_joined}
+use Rattle.tree_plan.proofs.Distinct.{both, distinct_by_order, apart_differ, name_bytes}
 
 -- the nodes' paths are names behind a text
 pub record Named (above : List ℕ) (nodes : List PlanNodeValue) : Type 0 where
@@ -113,9 +113,9 @@ names_distinct v t =
     (pairs_joined (λ t u. t ≢ u) (symlink_names v) (child_names v) (distinct_by_order (symlink_names v) t.symlink_order) (distinct_by_order (child_names v) t.child_order)
     (λ a b ca cb same. apart_differ (child_names v) (symlink_names v) t.children_symlinks b a cb ca (sym same)))
     (λ a b ca cb. go a b ca (Contains-append_cases (symlink_names v) (child_names v) b cb)) where
-  go : (a b : List ℕ) → Contains (file_names v) a → Contains (symlink_names v) b ⊎ Contains (child_names v) b → a ≢ b
-  go a b ca (inl cb) = apart_differ (file_names v) (symlink_names v) t.files_symlinks a b ca cb
-  go a b ca (inr cb) = apart_differ (file_names v) (child_names v) t.files_children a b ca cb
+      go : (a b : List ℕ) → Contains (file_names v) a → Contains (symlink_names v) b ⊎ Contains (child_names v) b → a ≢ b
+      go a b ca (inl cb) = apart_differ (file_names v) (symlink_names v) t.files_symlinks a b ca cb
+      go a b ca (inr cb) = apart_differ (file_names v) (child_names v) t.files_children a b ca cb
 
 names_are_good : (v : DirectoryValue) → Taken v → (n : List ℕ) → Contains (file_names v ++ (symlink_names v ++ child_names v)) n → list_all is_name_byte n ≡ true
 names_are_good v t n c = go (Contains-append_cases (file_names v) (symlink_names v ++ child_names v) n c) where

@@ -1,5 +1,5 @@
 -- Lists of which each element is related to each later one.
-use Rattle.std.proofs.Common.{◌≡◌, ◌⊎◌, inl, inr, List, [], ◌∷◌, ◌++◌, map, arith, refl, ap}
+use Rattle.std.proofs.Common.{◌≡◌, ◌⊎◌, inl, inr, List, [], ◌∷◌, ◌++◌, map, arith}
 use Rattle.std.specs.List.{AllPairs, Contains}
 use Rattle.std.proofs.lemmas.List.Elements.{Contains-append_cases, Contains-get_or}
 use Rattle.std.proofs.lemmas.List.Kept.{AllPairs-cons}
@@ -17,9 +17,9 @@ pub pairs_joined : {X : Type 0} (R : X → X → Type 0) (xs ys : List X) → Pa
 pairs_joined R [] ys h g cross = g
 pairs_joined {X = X} R (x ∷ xs) ys h g cross =
     (λ y c. go y (Contains-append_cases xs ys y c), pairs_joined R xs ys h.1 g (λ a b ca cb. cross a b (later_in x xs a ca) cb)) where
-  go : (y : X) → Contains xs y ⊎ Contains ys y → R x y
-  go y (inl c) = h.0 y c
-  go y (inr c) = cross x y (first_in x xs) c
+      go : (y : X) → Contains xs y ⊎ Contains ys y → R x y
+      go y (inl c) = h.0 y c
+      go y (inr c) = cross x y (first_in x xs) c
 
 pub pairs_with : {X : Type 0} (R : X → X → Type 0) (P : X → Type 0) (xs : List X) → Pairs R xs → ((x : X) → Contains xs x → P x) → Pairs (λ a b. R a b × P a × P b) xs
 pairs_with R P [] h all = tt

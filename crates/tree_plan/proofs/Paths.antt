@@ -40,7 +40,6 @@ one_name : (above t u : List ℕ) → list_all is_name_byte t ≡ true → list_
 one_name above t u h g b =
     name_ends t u b.tail h g (append_cancel_left above (u ++ 47 ∷ []) (t ++ 47 ∷ b.tail) (sym (append_assoc above u (47 ∷ [])) ∙ b.is ∙ append_assoc (above ++ t) (47 ∷ []) b.tail ∙ append_assoc above t (47 ∷ b.tail)))
 
-
 names_apart : (above t u : List ℕ) → (t ≢ u) × (list_all is_name_byte t ≡ true) × (list_all is_name_byte u ≡ true) → Apart (above ++ t) (above ++ u)
 names_apart above t u h = record {
   forth = λ b. h.0 (one_name above t u h.1 h.2 b);
@@ -84,13 +83,13 @@ begun : (look : Lookup) (xs met : List PlanNodeValue) → Meets look xs met → 
 begun look [] met none m c = absurd (in_none m c)
 begun look (x ∷ next) met (met_first n inside below others after is meets later) m c =
     go (in_cases x (below ++ after) m c) (begun look inside below meets m) (begun look next after later m) (named_inside look x inside is) where
-  rest : Contains below m ⊎ Contains after m → (Contains below m → Below inside m) → (Contains after m → Below next m) → Named (x.path ++ 47 ∷ []) inside → Below (x ∷ next) m
-  rest (inl c) inner further named = record { node = x; there = first_in x next; begins = inside_begins look x inside named m (inner c) }
-  rest (inr c) inner further named = let b = further c in record { node = b.node; there = later_in x next b.node b.there; begins = b.begins }
+      rest : Contains below m ⊎ Contains after m → (Contains below m → Below inside m) → (Contains after m → Below next m) → Named (x.path ++ 47 ∷ []) inside → Below (x ∷ next) m
+      rest (inl c) inner further named = record { node = x; there = first_in x next; begins = inside_begins look x inside named m (inner c) }
+      rest (inr c) inner further named = let b = further c in record { node = b.node; there = later_in x next b.node b.there; begins = b.begins }
 
-  go : (x ≡ m) ⊎ Contains (below ++ after) m → (Contains below m → Below inside m) → (Contains after m → Below next m) → Named (x.path ++ 47 ∷ []) inside → Below (x ∷ next) m
-  go (inl same) inner further named = record { node = x; there = first_in x next; begins = record { tail = []; is = ap (λ (n : PlanNodeValue). n.path ++ 47 ∷ []) (sym same) ∙ sym (append-nil (x.path ++ 47 ∷ [])) } }
-  go (inr c) inner further named = rest (Contains-append_cases below after m c) inner further named
+      go : (x ≡ m) ⊎ Contains (below ++ after) m → (Contains below m → Below inside m) → (Contains after m → Below next m) → Named (x.path ++ 47 ∷ []) inside → Below (x ∷ next) m
+      go (inl same) inner further named = record { node = x; there = first_in x next; begins = record { tail = []; is = ap (λ (n : PlanNodeValue). n.path ++ 47 ∷ []) (sym same) ∙ sym (append-nil (x.path ++ 47 ∷ [])) } }
+      go (inr c) inner further named = rest (Contains-append_cases below after m c) inner further named
 
 -- ---- no path twice
 
@@ -104,9 +103,9 @@ not_its_own n i m named b same =
 not_another : (p q : List ℕ) (m k : List ℕ) → Apart p q → Begins (p ++ 47 ∷ []) (m ++ 47 ∷ []) → Begins (q ++ 47 ∷ []) (k ++ 47 ∷ []) → m ≢ k
 not_another p q m k apart b c same =
     go (comparable (p ++ 47 ∷ []) (q ++ 47 ∷ []) b.tail c.tail (sym b.is ∙ ap (λ (t : List ℕ). t ++ 47 ∷ []) same ∙ c.is)) where
-  go : Begins (p ++ 47 ∷ []) (q ++ 47 ∷ []) ⊎ Begins (q ++ 47 ∷ []) (p ++ 47 ∷ []) → ⊥
-  go (inl h) = apart.forth h
-  go (inr h) = apart.back h
+      go : Begins (p ++ 47 ∷ []) (q ++ 47 ∷ []) ⊎ Begins (q ++ 47 ∷ []) (p ++ 47 ∷ []) → ⊥
+      go (inl h) = apart.forth h
+      go (inr h) = apart.back h
 
 own : (p : List ℕ) → Begins (p ++ 47 ∷ []) (p ++ 47 ∷ [])
 own p = record { tail = []; is = sym (append-nil (p ++ 47 ∷ [])) }
@@ -119,9 +118,9 @@ once look (x ∷ next) met (met_first n inside below others after is meets later
     let further = once look next after later apart.1 in
     let cross = λ (a b : PlanNodeValue) (ca : Contains below a) (cb : Contains after b). (let y = begun look next after later b cb in not_another x.path y.node.path a.path b.path (apart.0 y.node y.there) (inside_begins look x inside named a (begun look inside below meets a ca)) y.begins) in
     (λ m c. first named m (Contains-append_cases below after m c), pairs_joined (λ earlier later. earlier.path ≢ later.path) below after inner further cross) where
-  first : Named (x.path ++ 47 ∷ []) inside → (m : PlanNodeValue) → Contains below m ⊎ Contains after m → x.path ≢ m.path
-  first named m (inl c) = let b = begun look inside below meets m c in not_its_own x b.node m (name_in (x.path ++ 47 ∷ []) inside named b.node b.there) b.begins
-  first named m (inr c) = let b = begun look next after later m c in not_another x.path b.node.path x.path m.path (apart.0 b.node b.there) (own x.path) b.begins
+      first : Named (x.path ++ 47 ∷ []) inside → (m : PlanNodeValue) → Contains below m ⊎ Contains after m → x.path ≢ m.path
+      first named m (inl c) = let b = begun look inside below meets m c in not_its_own x b.node m (name_in (x.path ++ 47 ∷ []) inside named b.node b.there) b.begins
+      first named m (inr c) = let b = begun look next after later m c in not_another x.path b.node.path x.path m.path (apart.0 b.node b.there) (own x.path) b.begins
 
 pub plan_once : (look : Lookup) (root : Digest) (nodes : List PlanNodeValue) → walk look root ≡ Ok nodes → AllPairs (λ earlier later. earlier.path ≢ later.path) nodes
 plan_once look root nodes h =

@@ -3,3 +3,7 @@ mod Trees
 mod Kept
 mod Places
 mod Missing
+mod Pairs
+mod Distinct
+mod Named
+mod Paths

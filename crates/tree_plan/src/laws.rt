@@ -1,7 +1,7 @@
 //! What the definition of the walk says, for every tree.
 
-ghost use Rattle.std.specs.Prelude.{◌≡◌, List, [], is_some, true};
-ghost use Rattle.std.specs.List.{Contains};
+ghost use Rattle.std.specs.Prelude.{◌≡◌, ◌≢◌, List, [], is_some, true};
+ghost use Rattle.std.specs.List.{AllPairs, Contains};
 ghost use Rattle.digest.specs.declared.Digest.{Digest};
 ghost use Rattle.input_tree.specs.Listing.{Lookup};
 ghost use Rattle.tree_plan.specs.Nodes.{PlanNodeValue};
@@ -19,6 +19,13 @@ pub fn a_directory_comes_before_what_it_has()
     ensures { (look : Lookup) (root : Digest) (top nodes : List PlanNodeValue) →
         directory_nodes look [] 1 root ≡ Ok top → walk look root ≡ Ok nodes →
         HavePlaces look top [] nodes }
+{}
+
+/// No two nodes of a plan have one path.
+pub fn a_path_stands_once_in_a_plan()
+    ensures { (look : Lookup) (root : Digest) (nodes : List PlanNodeValue) →
+        walk look root ≡ Ok nodes →
+        AllPairs (λ earlier later. earlier.path ≢ later.path) nodes }
 {}
 
 /// Where there is a plan, the texts of the root, of its files and of its directories are there.

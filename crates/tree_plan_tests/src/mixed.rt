@@ -25,17 +25,21 @@ pub struct Stored {
     pub is_good: bool,
 }
 
-/// The text of a directory with a file, a symbolic link and some directories.
+/// The text of a directory with a file, a symbolic link and at most one directory.
 fn directory_text<'a>(
     alloc: Global,
     file: FileNode<'a>,
     link: SymlinkNode<'a>,
-    directories: Vec<DirectoryNode<'a>>,
+    inner: Option<DirectoryNode<'a>>,
 ) -> Result<Vec<u8>, AllocError> {
     let mut files = Vec::new(alloc);
     files.push(file)?;
     let mut symlinks = Vec::new(alloc);
     symlinks.push(link)?;
+    let mut directories = Vec::new(alloc);
+    if let Some(node) = inner {
+        directories.push(node)?;
+    }
     let directory = Directory {
         files,
         directories,
@@ -54,6 +58,13 @@ fn file<'a>(name: &'a str, digest: messages::Digest<'a>) -> FileNode<'a> {
     }
 }
 
+fn directory<'a>(name: &'a str, digest: messages::Digest<'a>) -> DirectoryNode<'a> {
+    DirectoryNode {
+        name,
+        digest: Some(digest),
+    }
+}
+
 /// The text of `c`.
 fn inner_text(alloc: Global, is_good: bool) -> Result<Vec<u8>, AllocError> {
     let hash = hex::encode(alloc, &Digest::of(b"text").hash)?;
@@ -65,7 +76,7 @@ fn inner_text(alloc: Global, is_good: bool) -> Result<Vec<u8>, AllocError> {
         name: if is_good { "e" } else { "." },
         target: "d",
     };
-    directory_text(alloc, file("d", digest), link, Vec::new(alloc))
+    directory_text(alloc, file("d", digest), link, None)
 }
 
 /// The root's text, where `c` has this digest.
@@ -84,12 +95,8 @@ fn root_text(alloc: Global, inner: &Digest) -> Result<Vec<u8>, AllocError> {
         hash: &inner_hash,
         size_bytes: i64::try_from(inner.size).unwrap_or(0),
     };
-    let mut directories = Vec::new(alloc);
-    directories.push(DirectoryNode {
-        name: "c",
-        digest: Some(inner_digest),
-    })?;
-    directory_text(alloc, file("a", digest), link, directories)
+    let inner_node = directory("c", inner_digest);
+    directory_text(alloc, file("a", digest), link, Some(inner_node))
 }
 
 /// Stores what is to be stored of the tree, and gives the root's digest.

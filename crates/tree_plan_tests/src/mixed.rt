@@ -138,5 +138,9 @@ pub fn mixed_paths_are(alloc: Global, stored: &Stored, paths: &[&str]) -> bool {
         return false;
     };
     plan.nodes.len() == paths.len()
-        && plan.nodes.iter().zip(paths.iter()).all(|(node, path)| node.path.as_str() == *path)
+        && plan
+            .nodes
+            .iter()
+            .zip(paths.iter())
+            .all(|(node, path)| node.path.as_str() == *path)
 }

@@ -6,26 +6,23 @@ use reapi_messages::Digest as WrittenDigest;
 use std::alloc::{AllocError, Global};
 use tree_messages::{Directory, DirectoryNode, SymlinkNode};
 
-/// A digest as a message writes it.
+/// A blob, and its digest as messages write it.
 #[derive(Drop)]
-pub struct Written {
-    pub hash: String,
-    pub size: i64,
+pub struct Blob {
+    pub text: Vec<u8>,
+    hash: String,
 }
 
-impl Written {
-    /// The digest of a text.
-    pub fn of(alloc: Global, text: &[u8]) -> Result<Written, AllocError> {
-        Ok(Written {
-            hash: hex::encode(alloc, &Digest::of(text).hash)?,
-            size: i64::try_from(text.len()).unwrap_or(0),
-        })
+impl Blob {
+    pub fn of(alloc: Global, text: Vec<u8>) -> Result<Blob, AllocError> {
+        let hash = hex::encode(alloc, &Digest::of(&text).hash)?;
+        Ok(Blob { text, hash })
     }
 
     pub fn digest(&self) -> Option<WrittenDigest<'_>> {
         Some(WrittenDigest {
             hash: &self.hash,
-            size_bytes: self.size,
+            size_bytes: i64::try_from(self.text.len()).unwrap_or(0),
         })
     }
 }
@@ -64,7 +61,7 @@ pub fn leaf(alloc: Global, number: u64) -> Result<Vec<u8>, AllocError> {
 }
 
 /// Appends a directory, named by its number in seven digits, to the text of the one that has it.
-pub fn add_child(text: &mut Vec<u8>, number: u64, child: &Written) -> Result<(), AllocError> {
+pub fn add_child(text: &mut Vec<u8>, number: u64, child: &Blob) -> Result<(), AllocError> {
     let name = format!(in *text.allocator(); "{number:07}")?;
     let node = DirectoryNode {
         name: &name,
@@ -75,11 +72,7 @@ pub fn add_child(text: &mut Vec<u8>, number: u64, child: &Written) -> Result<(),
 
 /// The directory that has the child, if there is one, and a symbolic link whose target has so many
 /// bytes.
-pub fn filled(
-    alloc: Global,
-    target: usize,
-    child: Option<&Written>,
-) -> Result<Vec<u8>, AllocError> {
+pub fn filled(alloc: Global, target: usize, child: Option<&Blob>) -> Result<Vec<u8>, AllocError> {
     let mut letters = String::new(alloc);
     for _ in 0..target {
         letters.push('x')?;

@@ -20,7 +20,7 @@ mod client;
 mod directories;
 
 use crate::client::{Answer, Client};
-use crate::directories::{Written, add_child, filled, leaf};
+use crate::directories::{Blob, add_child, filled, leaf};
 use digest::Digest;
 use message_fields::Message;
 use program_status::{Status, read_all};
@@ -101,53 +101,64 @@ impl Answers {
 #[derive(Drop)]
 struct Session {
     client: Client,
-    root: Written,
+    root: Blob,
 }
 
 impl Session {
     fn new(alloc: Global) -> io::Result<Session> {
         Ok(Session {
             client: Client::new(alloc)?,
-            root: Written::of(alloc, &[])?,
+            root: Blob::of(alloc, Vec::new(alloc))?,
         })
     }
 
-    fn store(&mut self, alloc: Global, text: &[u8]) -> io::Result<Written> {
-        let written = Written::of(alloc, text)?;
+    fn store(&mut self, alloc: Global, blobs: &[Blob]) -> io::Result<()> {
         let mut requests = Vec::new(alloc);
-        requests.push(UpdateBlobRequest {
-            digest: written.digest(),
-            content: text,
-            compressor: 0,
-        })?;
+        for blob in blobs {
+            requests.push(UpdateBlobRequest {
+                digest: blob.digest(),
+                content: &blob.text,
+                compressor: 0,
+            })?;
+        }
         let request = BatchUpdateBlobsRequest {
             instance_name: "",
             requests,
             digest_function: 0,
         };
         self.client.call(alloc, BATCH_UPDATE, &request)?;
-        drop(request);
-        Ok(written)
-    }
-
-    fn store_wide(&mut self, alloc: Global, count: u64) -> io::Result<()> {
-        let mut root = Vec::new(alloc);
-        for place in 1..count {
-            let child = self.store(alloc, &leaf(alloc, place)?)?;
-            add_child(&mut root, place, &child)?;
-        }
-        self.root = self.store(alloc, &root)?;
         Ok(())
     }
 
-    fn store_deep(&mut self, alloc: Global, targets: &[usize]) -> io::Result<()> {
-        let mut below = None;
-        for target in targets.iter().rev() {
-            let text = filled(alloc, *target, below.as_ref())?;
-            below = Some(self.store(alloc, &text)?);
-        }
-        if let Some(root) = below {
+    fn store_root(&mut self, alloc: Global, text: Vec<u8>) -> io::Result<()> {
+        let mut blobs = Vec::new(alloc);
+        blobs.push(Blob::of(alloc, text)?)?;
+        self.store(alloc, &blobs)?;
+        if let Some(root) = blobs.pop() {
             self.root = root;
+        }
+        Ok(())
+    }
+
+    fn store_wide(&mut self, alloc: Global, count: u64) -> io::Result<()> {
+        let mut leaves = Vec::new(alloc);
+        let mut root = Vec::new(alloc);
+        for place in 1..count {
+            let child = Blob::of(alloc, leaf(alloc, place)?)?;
+            add_child(&mut root, place, &child)?;
+            leaves.push(child)?;
+        }
+        self.store(alloc, &leaves)?;
+        self.store_root(alloc, root)
+    }
+
+    fn store_deep(&mut self, alloc: Global, targets: &[usize]) -> io::Result<()> {
+        let mut is_last = true;
+        for target in targets.iter().rev() {
+            let child = if is_last { None } else { Some(&self.root) };
+            let text = filled(alloc, *target, child)?;
+            self.store_root(alloc, text)?;
+            is_last = false;
         }
         Ok(())
     }
@@ -231,9 +242,9 @@ impl Session {
     }
 }
 
-fn action(alloc: Global, number: u64) -> io::Result<Written> {
+fn action(alloc: Global, number: u64) -> io::Result<Blob> {
     let digits = format!(in alloc; "{number}")?;
-    Ok(Written::of(alloc, digits.as_bytes())?)
+    Ok(Blob::of(alloc, digits.into_bytes())?)
 }
 
 fn sizes(alloc: Global, words: &[&[u8]]) -> io::Result<Vec<usize>> {

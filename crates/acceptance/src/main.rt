@@ -9,8 +9,8 @@
 
 use program_status::{Status, read_all};
 use replay::replay;
-use replay_script::{ReplayScript, ScriptFault, parse};
-use script::lines;
+use script::replay::{ReplayScript, parse};
+use script::{ScriptFault, lines};
 use server_core::Server;
 use server_events::Configs;
 use std::alloc::{AllocError, Global};

@@ -2,14 +2,13 @@
 //! `bytestream`.
 #![tactic(auto)]
 
+#[cfg(test)]
 mod names;
+#[cfg(test)]
 mod reads;
 #[cfg(test)]
 mod tests;
+#[cfg(test)]
 mod uploads_kept;
+#[cfg(test)]
 mod writes;
-
-pub use names::{Meaning, NameCase, Named, misread};
-pub use reads::{Range, ReadCase, misread_range, reads_over_two_pages};
-pub use uploads_kept::{forgets_after_ten_minutes, keeps_sixty_four};
-pub use writes::{Answer, WriteCase, misanswered_calls, misanswered_messages};

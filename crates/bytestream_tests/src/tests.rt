@@ -1,8 +1,7 @@
-use crate::{
-    Answer, Meaning, NameCase, Named, Range, ReadCase, WriteCase, forgets_after_ten_minutes,
-    keeps_sixty_four, misanswered_calls, misanswered_messages, misread, misread_range,
-    reads_over_two_pages,
-};
+use crate::names::{Meaning, NameCase, Named, misread};
+use crate::reads::{Range, ReadCase, misread_range, reads_over_two_pages};
+use crate::uploads_kept::{forgets_after_ten_minutes, keeps_sixty_four};
+use crate::writes::{Answer, WriteCase, misanswered_calls, misanswered_messages};
 use resource_names::NameError;
 use rpc::Refusal;
 use std::alloc::{AllocError, Global};

@@ -20,7 +20,9 @@ use Rattle.instance_core.specs.declared.event.CallId.{CallId}
 use Rattle.instance_core.specs.Calls.{Calls, CallValue, ProgressValue, waits, has, writes, CallEventValue, head, message, fault, end, cancel, tick, same_call, call_at, IsShortRequest, IsShortProgress, KeepShort}
 use Rattle.instance_core.specs.State.{InstanceState, WithinLimits}
 use Rattle.instance_core.specs.Methods.{is_served, reply_to, items_to}
-use Rattle.instance_core.specs.Replies.{ReplyValue, IsShortItem, IsShortReply, items_of, gives, ends, read_items}
+use Rattle.tree_calls.specs.GetTree.{get_tree_replies}
+use Rattle.tree_calls.proofs.Short.{get_tree_short, get_action_result_short, update_action_result_short}
+use Rattle.instance_core.specs.Replies.{ReplyValue, IsShortItem, IsShortReply, items_of, messages_said, messages_items, gives, ends, read_items}
 use Rattle.instance_core.specs.Changes.{Change}
 use Rattle.instance_core.specs.Writes.{first_changes, next_changes, first_outcome, next_outcome}
 use Rattle.instance_core.specs.Answer.{reply_with, goes_on, at_head, first_written, next_written, with_first, with_message, at_message, at_fault, with_request, at_end, answer}
@@ -42,8 +44,8 @@ reply_short BatchReadBlobs s request w short = if_ok (reply_to BatchReadBlobs s 
 reply_short GetCapabilities s request w short = if_ok (reply_to GetCapabilities s request) (λ reply h. get_capabilities_short s.name s.slots request reply h)
 reply_short QueryWriteStatus s request w short = if_ok (reply_to QueryWriteStatus s request) (λ reply h. query_short s.name s.quota s.visible s.uploads request reply w.quota w.uploads h)
 reply_short GetTree s request w short = (tt, tt)
-reply_short GetActionResult s request w short = (tt, tt)
-reply_short UpdateActionResult s request w short = (tt, tt)
+reply_short GetActionResult s request w short = if_ok (reply_to GetActionResult s request) (λ reply h. get_action_result_short s.name s.visible s.results request reply w.results h)
+reply_short UpdateActionResult s request w short = if_ok (reply_to UpdateActionResult s request) (λ reply h. update_action_result_short s.name request reply short h)
 reply_short Execute s request w short = (tt, tt)
 reply_short WaitExecution s request w short = (tt, tt)
 reply_short Read s request w short = (tt, tt)
@@ -77,6 +79,16 @@ read_short (Ok source) f = (tt, go (nat_lt source.from source.until) refl) where
   go true is = (record { some = ltb-true source.from source.until is; within = f source refl }, (tt, tt))
   go false is = (tt, tt)
 
+-- ---- pages
+
+said_short : (messages : List (List ℕ)) → AllByRecursion (λ message. length message < 2 ^ 32) messages → AllByRecursion IsShortItem (messages_said messages ++ ends ∷ [])
+said_short [] h = (tt, tt)
+said_short (m ∷ ms) h = (h.0, said_short ms h.1)
+
+messages_short : (r : Result (List (List ℕ)) Refusal) → ((messages : List (List ℕ)) → r ≡ Ok messages → AllByRecursion (λ message. length message < 2 ^ 32) messages) → AllByRecursion IsShortItem (messages_items r)
+messages_short (Ok messages) f = (tt, said_short messages (f messages refl))
+messages_short (Err refusal) f = (tt, tt)
+
 items_short : (method : Method) (s : InstanceState) (request : List ℕ) → WithinLimits s → IsShortRequest request → AllByRecursion IsShortItem (items_to method s request)
 items_short Read s request w short = read_short (read_answer s.name s.visible request) (read_within s.name s.visible request)
 items_short FindMissingBlobs s request w short = reply_short FindMissingBlobs s request w short
@@ -84,9 +96,9 @@ items_short BatchUpdateBlobs s request w short = reply_short BatchUpdateBlobs s 
 items_short BatchReadBlobs s request w short = reply_short BatchReadBlobs s request w short
 items_short GetCapabilities s request w short = reply_short GetCapabilities s request w short
 items_short QueryWriteStatus s request w short = reply_short QueryWriteStatus s request w short
-items_short GetTree s request w short = (tt, tt)
-items_short GetActionResult s request w short = (tt, tt)
-items_short UpdateActionResult s request w short = (tt, tt)
+items_short GetTree s request w short = messages_short (get_tree_replies s.name s.visible request) (λ pages h. get_tree_short s.name s.visible request pages h)
+items_short GetActionResult s request w short = reply_short GetActionResult s request w short
+items_short UpdateActionResult s request w short = reply_short UpdateActionResult s request w short
 items_short Execute s request w short = (tt, tt)
 items_short WaitExecution s request w short = (tt, tt)
 items_short Write s request w short = (tt, tt)

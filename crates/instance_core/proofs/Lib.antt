@@ -1,7 +1,6 @@
 mod Entries
 mod Parts
 mod Items
-mod Sizes
 mod Short
 mod NameSizes
 mod Told

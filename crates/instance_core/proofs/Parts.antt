@@ -19,7 +19,7 @@ use Rattle.cas_service.specs.Changes as Texts
 use Rattle.instance_core.specs.declared.event.CallId.{CallId}
 use Rattle.instance_core.specs.declared.event.Reply.{Reply}
 use Rattle.uploads.specs.Uploads.{UploadList}
-use Rattle.tree_calls.specs.Naming.{AreWithin}
+use Rattle.tree_calls.specs.Complete.{AreWithin}
 use Rattle.instance_core.specs.Calls.{CallValue, ProgressValue, has, Calls, without_call, IsShortProgress}
 use Rattle.instance_core.specs.State.{InstanceState, most_blobs}
 use Rattle.instance_core.specs.Methods.{LeavesResults, text_changes, result_changes, request_changes}
@@ -225,3 +225,27 @@ settled_results (Err e) old kept new h same few few' = subst AreWithin (sym same
 pub both_same : {A : Type 0} (outcome : Result A CallError) (P Q : Type 0) → OnErr outcome (P × Q) → OnErr outcome P
 both_same (Ok x) P Q h = tt
 both_same (Err e) P Q h = h.0
+
+pub answered_always : {A : Type 0} (outcome : Result A CallError) (P : Type 0) → P → IfAnswered outcome P
+answered_always (Ok x) P p = p
+answered_always (Err (Refused refusal)) P p = p
+answered_always (Err NoMemory) P p = tt
+
+pub err_both : {A : Type 0} (outcome : Result A CallError) (P Q : Type 0) → OnErr outcome P → Q → OnErr outcome (P × Q)
+err_both (Ok x) P Q p q = tt
+err_both (Err e) P Q p q = (p, q)
+
+-- nothing changed is nothing seen to change
+pub seen_same : {A : Type 0} (outcome : Result A CallError) (results old : List Blob) (p : Slots) (v w : ViewValue) → OnErr outcome ((results ≡ old) × (w ≡ v))
+    → OnErr outcome ((results ≡ old) × (shown p w ≡ shown p v))
+seen_same (Ok x) results old p v w h = tt
+seen_same (Err e) results old p v w h = (h.0, ap (shown p) h.1)
+
+pub on_ok : (r : Result (Vec Reply Global) AllocError) (P : Type 0) → P → OnOk r P
+on_ok (Ok replies) P p = p
+on_ok (Err e) P p = tt
+
+-- uploads that are as they were
+pub same_uploads : (r : Result (Vec Reply Global) AllocError) (changes : List Change) (s new : InstanceState) (uploads : UploadList) → uploads ≡ new.uploads → Makes r changes s new
+    → Makes r changes s (record new { uploads = uploads })
+same_uploads r changes s new uploads same h = subst (λ (us : UploadList). Makes r changes s (record new { uploads = us })) (sym same) h

@@ -13,7 +13,7 @@ use Rattle.message_fields.specs.Parts.{text_for, each_field, string_field, int64
 use Rattle.reapi_messages.specs.Digests.{DigestValue, digest_of, digest_records}
 use Rattle.reapi_messages.specs.Statuses.{StatusValue, status_records}
 use Rattle.reapi_messages.specs.Batches.{UpdateBlobRequestValue, read_blob_response_records, batch_read_blobs_request_of, update_blob_request_of, batch_update_blobs_request_of, update_blob_response_records}
-use Rattle.rpc.specs.declared.refusal.Refusal.TheVariants.{UnknownMethod, CompressedMessage, MessageTooLarge, MessageCutOff, NoMessage, MoreThanOneMessage, MalformedMessage, UnknownInstance, UnsupportedDigestFunction, UnsupportedCompressor, BadDigest, BatchTooLarge, DigestDoesNotMatch, QuotaExceeded, BlobNotFound, BadResourceName, NegativeLimit, OffsetOutOfRange, WrongOffset, TooManyUploads, UploadNotFound}
+use Rattle.rpc.specs.declared.refusal.Refusal.TheVariants.{UnknownMethod, CompressedMessage, MessageTooLarge, MessageCutOff, NoMessage, MoreThanOneMessage, MalformedMessage, UnknownInstance, UnsupportedDigestFunction, UnsupportedCompressor, BadDigest, BatchTooLarge, DigestDoesNotMatch, QuotaExceeded, BlobNotFound, BadResourceName, NegativeLimit, OffsetOutOfRange, WrongOffset, TooManyUploads, UploadNotFound, BadPage, BadDirectory, TreeTooLarge, NoResult}
 use Rattle.rpc.specs.Status.{code_of, text_of}
 use Rattle.cas_service.specs.Statuses.{ok_status, refused_status, status_of_result}
 use Rattle.cas_service.specs.BatchUpdate.{blobs_sent, sent_size, stored_under, update_response, update_reply, batch_update_reply}
@@ -32,7 +32,7 @@ use Rattle.cas_service.specs.BatchRead.{stated_size, digests_to_read, read_respo
 use Rattle.instance_view.specs.Visible.{Blob, seen}
 use Rattle.cas_service.specs.Requests.{readable, own_instance, known_function, digest_sent, digests_sent, digest_value, well_formed, of_batch_size}
 use Rattle.cas_service.specs.FindMissing.{digests_asked, missing, is_missing, missing_reply, find_missing_reply}
-use Rattle.instance_core.proofs.Sizes.{read_from, weight, sizes, payloads_weight, string_size, int64_narrow, message_written, bytes_written, number_written, both_written}
+use Rattle.tree_calls.proofs.Sizes.{read_from, weight, sizes, payloads_weight, string_size, int64_narrow, message_written, bytes_written, number_written, both_written}
 
 -- ---- payloads that are written
 
@@ -205,6 +205,10 @@ code_small OffsetOutOfRange = omega arith
 code_small WrongOffset = omega arith
 code_small TooManyUploads = omega arith
 code_small UploadNotFound = omega arith
+code_small BadPage = omega arith
+code_small BadDirectory = omega arith
+code_small TreeTooLarge = omega arith
+code_small NoResult = omega arith
 
 text_small : (r : Refusal) → length (text_of r) ≤ 40
 text_small UnknownMethod = omega arith
@@ -228,6 +232,10 @@ text_small OffsetOutOfRange = omega arith
 text_small WrongOffset = omega arith
 text_small TooManyUploads = omega arith
 text_small UploadNotFound = omega arith
+text_small BadPage = omega arith
+text_small BadDirectory = omega arith
+text_small TreeTooLarge = omega arith
+text_small NoResult = omega arith
 
 plain_status_written : (n : ℕ) (m : List ℕ) → n < 2 ^ 64 → length m ≤ 40 → length (text_for status_records (record { code = pos n; message = m; details = [] })) ≤ 80
 plain_status_written n m fits small =

@@ -16,7 +16,7 @@ use Rattle.bytestream.specs.Refusals.{named}
 use Rattle.bytestream.specs.Querying.{key_named, query_asked, status_of, status_of_upload, query_reply}
 use Rattle.bytestream.specs.Writing.{OpenWriteValue, PartValue, FirstAsked, Answered, WriteState, first_asked, next_asked, same_name, part_answer, reply_first, reply_next, first_answer, next_answer, write_reply, unfinished_reply}
 use Rattle.instance_core.proofs.NameSizes.{CanBeTold, write_told, named_ok}
-use Rattle.instance_core.proofs.Sizes.{number_written, both_written}
+use Rattle.tree_calls.proofs.Sizes.{number_written, both_written}
 
 pub committed_short : (n : ℕ) → CanBeTold n → length (write_reply n) < 2 ^ 32
 committed_short n few = let written = number_written 1 n (omega arith) (omega arith) in omega arith

@@ -7,7 +7,7 @@ use Rattle.std.specs.Map.{keys_of}
 use Rattle.instance_view.specs.Visible.{Blob}
 use Rattle.quota_evict.specs.Within.{Within}
 use Rattle.uploads.specs.Uploads.{UploadList, WithinLimits as WithinUploads}
-use Rattle.tree_calls.specs.Naming.{AreWithin}
+use Rattle.tree_calls.specs.Complete.{AreWithin}
 use Rattle.instance_core.specs.Calls.{Calls, same_call, KeepShort}
 
 pub record InstanceState : Type 0 where

@@ -7,7 +7,7 @@ ghost use Rattle.instance_view.specs.Shown.{shown, holders};
 ghost use Rattle.quota_evict.specs.Kept.{AreKept};
 ghost use Rattle.quota_evict.specs.Within.{Within};
 ghost use Rattle.uploads.specs.Uploads.{WithinLimits};
-ghost use Rattle.tree_calls.specs.Naming.{AreWithin};
+ghost use Rattle.tree_calls.specs.Complete.{AreWithin};
 ghost use Rattle.instance_core.specs.Calls.{call_at, IsShortRequest, AreInCourse};
 ghost use Rattle.instance_core.specs.State.{most_blobs};
 ghost use Rattle.instance_core.specs.Answer.{at_head, at_message, at_fault, at_end};

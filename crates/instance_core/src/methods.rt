@@ -10,7 +10,7 @@ ghost use Rattle.cas_service.specs.Answers.{Answers, IfAnswered};
 ghost use Rattle.cas_service.specs.Changes.{MadeInPart, changed};
 ghost use Rattle.instance_core.specs.Calls.{Calls};
 ghost use Rattle.instance_core.specs.State.{most_blobs};
-ghost use Rattle.tree_calls.specs.Naming.{AreWithin};
+ghost use Rattle.tree_calls.specs.Complete.{AreWithin};
 ghost use Rattle.instance_core.specs.Methods.{IsPlain, LeavesResults, is_served, reply_to, items_to, text_changes, request_changes};
 ghost use Rattle.instance_core.specs.Answer.{reply_with, items_sent};
 ghost use Rattle.instance_core.specs.Shown.{Gives, Makes, state_of};

@@ -5,7 +5,7 @@ ghost use Rattle.blob_pool.specs.Held.{Slots};
 ghost use Rattle.rpc.specs.declared.method.Method.TheVariants.{GetActionResult, UpdateActionResult};
 ghost use Rattle.instance_view.specs.Shown.{holders};
 ghost use Rattle.quota_evict.specs.Kept.{AreKept};
-ghost use Rattle.tree_calls.specs.Naming.{AreWithin};
+ghost use Rattle.tree_calls.specs.Complete.{AreWithin};
 ghost use Rattle.instance_core.specs.Calls.{Calls};
 ghost use Rattle.instance_core.specs.State.{most_blobs};
 ghost use Rattle.instance_core.specs.Methods.{items_to, request_changes};

@@ -2,14 +2,13 @@
 //! `instance_view` and `quota_evict`.
 #![tactic(auto)]
 
+#[cfg(test)]
 mod admissions;
+#[cfg(test)]
 mod one_digest;
+#[cfg(test)]
 mod sharing;
 #[cfg(test)]
 mod tests;
+#[cfg(test)]
 mod texts;
-
-pub use admissions::{keeps_the_limit, keeps_the_quota};
-pub use one_digest::both_stand;
-pub use sharing::{Upload, are_shared};
-pub use texts::comes_back;

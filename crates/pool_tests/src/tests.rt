@@ -1,4 +1,7 @@
-use crate::{Upload, are_shared, both_stand, comes_back, keeps_the_limit, keeps_the_quota};
+use crate::admissions::{keeps_the_limit, keeps_the_quota};
+use crate::one_digest::both_stand;
+use crate::sharing::{Upload, are_shared};
+use crate::texts::comes_back;
 use std::alloc::{AllocError, Global};
 use std::test::*;
 

@@ -1,6 +1,5 @@
 #![tactic(auto)]
-//! Tests of `script`, `unary_script`, `replay_script`, `replay_lines`, `program_status`, `unary`, `probe`,
-//! `command_line`.
+//! Tests of `script`, `program_status`, `unary`, `probe` and `command_line`.
 
 #[cfg(test)]
 mod command_line_tests;

@@ -1,4 +1,4 @@
-use replay_lines::*;
+use script::replay_lines::*;
 use std::test::*;
 
 #[test]

@@ -1,6 +1,6 @@
 //! What the stored scripts of `acceptance` cannot show yet: the outcome of a job.
 
-use replay_script::*;
+use script::replay::*;
 use server_events::{Event, Outcome, OutputFile, What};
 use std::test::*;
 

@@ -1,5 +1,5 @@
+use script::unary::*;
 use std::test::*;
-use unary_script::*;
 
 #[test]
 fn methods(rt: HostRuntime) {

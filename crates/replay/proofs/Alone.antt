@@ -6,8 +6,8 @@ use Rattle.std.specs.declared.vec.Vec.{Vec}
 use Rattle.run_record.specs.Outputs.{OutputValue}
 use Rattle.run_record.specs.Shown.{output_shown}
 use Rattle.run_record.specs.declared.outputs.InstanceOutput.{InstanceOutput}
-use Rattle.replay_script.specs.Shown.{script_value}
-use Rattle.replay_script.specs.declared.parser.ReplayScript.{ReplayScript}
+use Rattle.script.specs.ReplayShown.{replay_script_value}
+use Rattle.script.specs.declared.replay.parser.ReplayScript.{ReplayScript}
 use Rattle.server_core.specs.Lone.{config_at, lone, strays}
 use Rattle.server_core.specs.Shown.{output_at}
 use Rattle.server_events.specs.Configs.{ConfigValue, config_fault}
@@ -51,7 +51,7 @@ pub printed_is : (script : ReplayScript) (configs : List ConfigValue) (events : 
     → ((i : ℕ) (config : ConfigValue) → config_at i configs ≡ Some config → output_at i outputs ≡ Some (lone config (own_events i (map event_value events))))
     → others ≡ strays configs (map event_value events)
     → configs ≡ map config_value script.configs.items → events ≡ script.events.items
-    → outputs_lines 0 (map output_shown outputs) ++ stray_lines others ≡ printed (script_value script)
+    → outputs_lines 0 (map output_shown outputs) ++ stray_lines others ≡ printed (replay_script_value script)
 printed_is script configs events outputs others count each stray same_configs same_events =
     ap₂ (λ (xs ys : List ℕ). xs ++ ys) (all_alone configs (map event_value events) outputs count each) (ap stray_lines stray)
     ∙ ap₂ (λ (cs : List ConfigValue) (es : List Event). lone_lines 0 cs (map event_value es) ++ stray_lines (strays cs (map event_value es))) same_configs same_events
@@ -67,7 +67,7 @@ pub lines_are : {E : Type 0} (r : Result (Vec ℕ Global) E) (script : ReplayScr
     → others ≡ strays configs (map event_value events)
     → configs ≡ map config_value script.configs.items → events ≡ script.events.items
     → IfOk r (λ text. text.items ≡ outputs_lines 0 (map output_shown outputs) ++ stray_lines others)
-    → IfOk r (λ text. text.items ≡ printed (script_value script))
+    → IfOk r (λ text. text.items ≡ printed (replay_script_value script))
 lines_are (Err e) script configs events outputs others count each stray same_configs same_events made = tt
 lines_are (Ok text) script configs events outputs others count each stray same_configs same_events made =
     made ∙ printed_is script configs events outputs others count each stray same_configs same_events

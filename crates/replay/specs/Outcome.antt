@@ -3,8 +3,6 @@ use Rattle.std.specs.Prelude.{◌≡◌, ⊤, ℕ, List, Option, Result, Ok, Err
 use Rattle.std.specs.Io.KnownBytes.{Appends, Keeps}
 use Rattle.program_status.specs.declared.Status.{Status}
 use Rattle.program_status.specs.declared.Status.TheVariants.{Done, Failed, BadLine, TooFew, OutOfMemory}
-use Rattle.replay_script.specs.declared.fault.ScriptFault.{ScriptFault}
-use Rattle.replay_script.specs.declared.fault.ScriptFault.TheVariants as fault
 
 -- What a status says of what a script prints, and of the output before and after: it was written;
 -- or the script has a bad line, or memory was refused, and nothing was written.
@@ -14,8 +12,3 @@ IsOutcome printed (BadLine number) before after = (printed ≡ Err number) × Ke
 IsOutcome printed OutOfMemory before after = Keeps before after
 IsOutcome printed Failed before after = ⊤
 IsOutcome printed (TooFew count) before after = ⊥
-
--- a fault is the number of the bad line, but for refused memory
-abbrev pub IsFault : Result (List ℕ) ℕ → ScriptFault → Type 0
-IsFault printed (fault.BadLine number) = printed ≡ Err number
-IsFault printed fault.NoMemory = ⊤

@@ -7,8 +7,8 @@ use Rattle.run_record.specs.Outputs.{OutputValue}
 use Rattle.server_core.specs.Lone.{lone, strays}
 use Rattle.server_events.specs.Configs.{ConfigValue}
 use Rattle.server_events.specs.Events.{EventValue, own_events}
-use Rattle.replay_lines.specs.Lines.{sent_line, refusal_line, stray_line}
-use Rattle.replay_script.specs.Script.{ScriptValue, script_of}
+use Rattle.script.specs.ResultLines.{sent_line, refusal_line, stray_line}
+use Rattle.script.specs.ReplayScript.{ReplayScriptValue, replay_script_of}
 
 -- what an instance put on its connections, in order of opening
 abbrev pub sent_lines : ℕ → List (ℕ × List ℕ) → List ℕ
@@ -37,13 +37,13 @@ lone_lines instance (config ∷ configs) events =
     output_lines instance (lone config (own_events instance events)) ++ lone_lines (instance + 1) configs events
 
 -- what a script prints
-abbrev pub printed : ScriptValue → List ℕ
+abbrev pub printed : ReplayScriptValue → List ℕ
 printed script = lone_lines 0 script.configs script.events ++ stray_lines (strays script.configs script.events)
 
-abbrev pub printed_of : Result ScriptValue ℕ → Result (List ℕ) ℕ
+abbrev pub printed_of : Result ReplayScriptValue ℕ → Result (List ℕ) ℕ
 printed_of (Ok script) = Ok (printed script)
 printed_of (Err number) = Err number
 
 -- what the script of a text prints, or the number of its first bad line
 abbrev pub printed_by : List ℕ → Result (List ℕ) ℕ
-printed_by text = printed_of (script_of text)
+printed_by text = printed_of (replay_script_of text)

@@ -4,8 +4,8 @@ ghost use Rattle.run_record.specs.Shown.{sent_shown, refused_shown, output_shown
 ghost use Rattle.replay.specs.Printed.{sent_lines, refusal_lines, output_lines, stray_lines};
 ghost use Rattle.replay.specs.Outputs.{outputs_lines};
 
-use replay_lines::{write_refusal, write_sent, write_stray};
 use run_record::{InstanceOutput, RefusedEvent, SentBytes};
+use script::replay_lines::{write_refusal, write_sent, write_stray};
 use server_core::Outputs;
 use std::alloc::{AllocError, Global};
 

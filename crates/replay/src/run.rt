@@ -4,14 +4,16 @@ ghost use Rattle.std.specs.Io.KnownBytes.{Appends};
 ghost use Rattle.program_status.specs.Status.{fault_line};
 ghost use Rattle.program_status.specs.declared.Status.TheVariants.{Failed};
 ghost use Rattle.replay.specs.Printed.{printed, printed_by};
-ghost use Rattle.replay.specs.Outcome.{IsFault, IsOutcome};
-ghost use Rattle.replay_script.specs.Shown.{script_value};
+ghost use Rattle.replay.specs.Outcome.{IsOutcome};
+ghost use Rattle.script.specs.Faults.{IsFaultOf};
+ghost use Rattle.script.specs.ReplayShown.{replay_script_value};
 ghost use Rattle.server_events.specs.Configs.{config_fault};
 ghost use Rattle.server_events.specs.Shown.{config_value};
 
 use crate::lines::lines;
 use program_status::{Status, read_all};
-use replay_script::{ReplayScript, ScriptFault, parse};
+use script::ScriptFault;
+use script::replay::{ReplayScript, parse};
 use server_core::run;
 use server_events::Configs;
 use std::alloc::{AllocError, Global};
@@ -20,7 +22,7 @@ use std::io::{Read, Write};
 /// Runs a script, and gives what it prints.
 fn carry_out(alloc: Global, script: ReplayScript) -> Result<Vec<u8>, AllocError>
     requires { config_fault (map config_value script.configs.items) ≡ None }
-    ensures { IfOk result (λ text. text.items ≡ printed (script_value script)) }
+    ensures { IfOk result (λ text. text.items ≡ printed (replay_script_value script)) }
 {
     let configs = Configs::new(script.configs).unwrap();
     let outputs = run(alloc, &configs, &script.events)?;
@@ -30,7 +32,7 @@ fn carry_out(alloc: Global, script: ReplayScript) -> Result<Vec<u8>, AllocError>
 /// What the script of a text prints.
 fn replayed(alloc: Global, text: &[u8]) -> Result<Vec<u8>, ScriptFault>
     ensures printed { IfOk result (λ lines. printed_by text.now ≡ Ok lines.items) }
-    ensures fault { IfErr result (IsFault (printed_by text.now)) }
+    ensures fault { IfErr result (IsFaultOf (printed_by text.now)) }
 {
     let script = parse(alloc, text)?;
     match carry_out(alloc, script) {

@@ -16,8 +16,11 @@ use Rattle.bytestream.specs.Writing.{OpenWriteValue, WrittenValue, first_asked, 
 use Rattle.instance_core.specs.declared.event.CallId.{CallId}
 use Rattle.instance_core.specs.Calls.{Calls, ProgressValue, waits, has, writes, CallValue, CallEventValue, head, message, fault, end, cancel, tick, same_call, call_at, with_call, without_call, IsShortEvent, IsShortProgress, KeepShort}
 use Rattle.instance_core.specs.State.{InstanceState, WithinLimits, most_blobs}
-use Rattle.instance_core.specs.Methods.{is_served, text_changes}
-use Rattle.instance_core.specs.Changes.{Change, Text, Goes, Ends, Wrote, Expires, change_made, changed}
+use Rattle.tree_calls.specs.Complete.{AreWithin}
+use Rattle.tree_calls.specs.Results.{after_get, after_update}
+use Rattle.tree_calls.proofs.Short.{get_stays_within, update_stays_within}
+use Rattle.instance_core.specs.Methods.{is_served, text_changes, result_changes, request_changes}
+use Rattle.instance_core.specs.Changes.{Change, Text, Goes, Ends, Wrote, Keeps, Expires, change_made, changed}
 use Rattle.instance_core.specs.Writes.{write_state, part_of, first_changes, next_changes, first_outcome, next_outcome}
 use Rattle.instance_core.specs.Answer.{answer, after, at_head, first_written, next_written, with_first, with_message, at_message, at_fault, with_request, at_end}
 use Rattle.run_limits.specs.Named.{StoresNamedText, StoresNamed}
@@ -89,26 +92,30 @@ without_short id (c ∷ cs) kept = go (same_call id c.0) (without_short id cs ke
 
 -- ---- changes
 
--- what is stored is named, what a Write leaves is within the limits, and what is kept of a request is short
+-- what is stored is named, what a Write leaves and the results are within the limits, and what is kept
+-- of a request is short
 abbrev KeepsLimits : ℕ → Change → Type 0
 KeepsLimits quota (Text c) = StoresNamedText c
 KeepsLimits quota (Goes id call) = IsShortProgress call.progress
 KeepsLimits quota (Ends id) = Unit {0}
 KeepsLimits quota (Wrote w) = IsWithin quota w
+KeepsLimits quota (Keeps results) = AreWithin results
 KeepsLimits quota Expires = Unit {0}
 
 change_keeps : (c : Change) (s : InstanceState) → KeepsLimits s.quota c → WithinLimits s → WithinLimits (change_made c s)
-change_keeps (Text c) s good w = record { quota = w.quota; texts = change_within most_blobs s.quota c s.visible (omega arith) good w.texts; uploads = w.uploads; calls = w.calls; messages = w.messages }
-change_keeps (Goes id call) s good w = record { quota = w.quota; texts = w.texts; uploads = w.uploads; calls = with_once id call s.calls w.calls; messages = with_short id call s.calls good w.messages }
-change_keeps (Ends id) s good w = record { quota = w.quota; texts = w.texts; uploads = w.uploads; calls = without_once id s.calls w.calls; messages = without_short id s.calls w.messages }
-change_keeps (Wrote left) s good w = record { quota = w.quota; texts = good.texts; uploads = good.uploads; calls = w.calls; messages = w.messages }
-change_keeps Expires s good w = record { quota = w.quota; texts = w.texts; uploads = within_unexpired s.quota s.moment s.uploads w.uploads; calls = w.calls; messages = w.messages }
+change_keeps (Text c) s good w = record { quota = w.quota; texts = change_within most_blobs s.quota c s.visible (omega arith) good w.texts; uploads = w.uploads; results = w.results; calls = w.calls; messages = w.messages }
+change_keeps (Goes id call) s good w = record { quota = w.quota; texts = w.texts; uploads = w.uploads; results = w.results; calls = with_once id call s.calls w.calls; messages = with_short id call s.calls good w.messages }
+change_keeps (Ends id) s good w = record { quota = w.quota; texts = w.texts; uploads = w.uploads; results = w.results; calls = without_once id s.calls w.calls; messages = without_short id s.calls w.messages }
+change_keeps (Wrote left) s good w = record { quota = w.quota; texts = good.texts; uploads = good.uploads; results = w.results; calls = w.calls; messages = w.messages }
+change_keeps (Keeps results) s good w = record { quota = w.quota; texts = w.texts; uploads = w.uploads; results = good; calls = w.calls; messages = w.messages }
+change_keeps Expires s good w = record { quota = w.quota; texts = w.texts; uploads = within_unexpired s.quota s.moment s.uploads w.uploads; results = w.results; calls = w.calls; messages = w.messages }
 
 same_quota : (c : Change) (s : InstanceState) → s.quota ≡ (change_made c s).quota
 same_quota (Text c) s = refl
 same_quota (Goes id call) s = refl
 same_quota (Ends id) s = refl
 same_quota (Wrote left) s = refl
+same_quota (Keeps results) s = refl
 same_quota Expires s = refl
 
 changes_keep : (cs : List Change) (s : InstanceState) → AllByRecursion (KeepsLimits s.quota) cs → WithinLimits s → WithinLimits (changed cs s)
@@ -125,6 +132,8 @@ record Allows (s : InstanceState) (P : Change → Type 0) : Type 0 where
   written : (id : CallId) (method : Method) (write : OpenWriteValue) → write.key.digest.size < 2 ^ 63 → P (Goes id (record { method = method; progress = writes write }))
   ended : (id : CallId) → P (Ends id)
   expired : P Expires
+  moved : (message : List ℕ) → P (Keeps (after_get s.name s.visible s.results message))
+  sent : (message : List ℕ) → P (Keeps (after_update s.name s.results message))
   first : (bytes : List ℕ) → AllByRecursion P (first_changes s bytes)
   next : (write : OpenWriteValue) (bytes : List ℕ) → AllByRecursion P (next_changes s write bytes)
 
@@ -185,9 +194,19 @@ message_holds s P a id bytes None keeps = tt
 message_holds s P a id bytes (Some call) keeps = with_holds s P a id call.method bytes call.progress keeps
 
 -- the end of a request
+results_hold : (s : InstanceState) (P : Change → Type 0) → Allows s P → (method : Method) (request : List ℕ) → AllAre P (result_changes method s request)
+results_hold s P a Called.GetActionResult request = (a.moved request, tt)
+results_hold s P a Called.UpdateActionResult request = (a.sent request, tt)
+results_hold s P a method request = tt
+
+changes_hold : (s : InstanceState) (P : Change → Type 0) → Allows s P → (method : Method) (request : List ℕ) → AllAre P (request_changes method s request)
+changes_hold s P a method request =
+    all_append P (map Text (text_changes method s request)) (result_changes method s request)
+    (texts_hold s P a (text_changes method s request) (changes_named method s request)) (results_hold s P a method request)
+
 request_holds : (s : InstanceState) (P : Change → Type 0) → Allows s P → (id : CallId) (method : Method) (p : ProgressValue) → AllAre P (with_request s id method p).changes
 request_holds s P a id method waits = (a.ended id, tt)
-request_holds s P a id method (has request) = ends_hold s P a id (map Text (text_changes method s request)) (texts_hold s P a (text_changes method s request) (changes_named method s request))
+request_holds s P a id method (has request) = ends_hold s P a id (request_changes method s request) (changes_hold s P a method request)
 request_holds s P a id method (writes write) = (a.ended id, tt)
 
 end_holds : (s : InstanceState) (P : Change → Type 0) → Allows s P → (id : CallId) (o : Option CallValue) → AllAre P (at_end s id o).changes
@@ -217,6 +236,8 @@ limits_allow s w =
       written = λ id method write below. below;
       ended = λ id. tt;
       expired = tt;
+      moved = λ message. get_stays_within s.name s.visible s.results message w.results;
+      sent = λ message. update_stays_within s.name s.results message w.results;
       first = λ bytes. (piece_within true s (part_of (first_asked s.name bytes)) here, (first_within s.name s.quota s.moment bytes (write_state s) here, tt));
       next = λ write bytes. (piece_within false s (next_asked write bytes) here, (next_within write s.quota s.moment bytes (write_state s) here, tt));
     }
@@ -241,6 +262,8 @@ names_allow s = record {
   written = λ id method write below. tt;
   ended = λ id. tt;
   expired = tt;
+  moved = λ message. tt;
+  sent = λ message. tt;
   first = λ bytes. (piece_adds true s (part_of (first_asked s.name bytes)), (first_adds s.name most_blobs s.quota s.moment bytes (write_state s), tt));
   next = λ write bytes. (piece_adds false s (next_asked write bytes), (next_adds write most_blobs s.quota s.moment bytes (write_state s), tt));
 }

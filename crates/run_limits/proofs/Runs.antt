@@ -155,7 +155,7 @@ acted_keeps tick l h = happened_keeps time_passes l tt h
 acted_keeps (ended job outcome) l h = h
 
 came_within : (moment : ℕ) (s : InstanceState) → WithinLimits s → WithinLimits (at_moment moment s)
-came_within moment s w = record { quota = w.quota; texts = w.texts; uploads = w.uploads; calls = w.calls; messages = w.messages }
+came_within moment s w = record { quota = w.quota; texts = w.texts; uploads = w.uploads; results = w.results; calls = w.calls; messages = w.messages }
 
 accepted_keeps : (e : EventValue) (l : Lone) → Keeps l (accepted e l)
 accepted_keeps e l h =
@@ -178,4 +178,4 @@ no_calls = tt
 
 pub run_within : (config : ConfigValue) (events : List EventValue) → config.quota ≤ 2 ^ 40 → WithinLimits (run_of config events).lone.state
 run_within config events small =
-    (runs_keep (begun config) events (record { within = record { quota = small; texts = nothing_within most_blobs config.quota; uploads = record { bytes = omega arith; count = omega arith }; calls = no_calls; messages = tt }; short = tt })).within
+    (runs_keep (begun config) events (record { within = record { quota = small; texts = nothing_within most_blobs config.quota; uploads = record { bytes = omega arith; count = omega arith }; results = record { few = omega arith; short = omega arith }; calls = no_calls; messages = tt }; short = tt })).within

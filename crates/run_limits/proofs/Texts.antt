@@ -4,7 +4,7 @@ use Rattle.std.specs.List.{AllByRecursion}
 use Rattle.reapi_messages.specs.Results.{◌>>=◌}
 use Rattle.reapi_messages.specs.Batches.{UpdateBlobRequestValue}
 use Rattle.rpc.specs.declared.method.Method.{Method}
-use Rattle.rpc.specs.declared.method.Method.TheVariants.{FindMissingBlobs, BatchUpdateBlobs, BatchReadBlobs, Read}
+use Rattle.rpc.specs.declared.method.Method.TheVariants.{FindMissingBlobs, BatchUpdateBlobs, BatchReadBlobs, GetTree, GetActionResult, Read}
 use Rattle.rpc.specs.declared.refusal.Refusal.{Refusal}
 use Rattle.rpc.specs.declared.refusal.Refusal.TheVariants.{DigestDoesNotMatch, QuotaExceeded}
 use Rattle.digest.specs.declared.Digest.{Digest}
@@ -17,6 +17,9 @@ use Rattle.cas_service.specs.Changes.{Change, Use, Store, change_made, uses}
 use Rattle.cas_service.specs.FindMissing.{digests_asked}
 use Rattle.cas_service.specs.BatchRead.{digests_to_read}
 use Rattle.cas_service.specs.BatchUpdate.{known_compressor, set_digest, naming, within_quota, stored_under, stores, stores_of_result, store_of, blobs_sent}
+use Rattle.action_cache.specs.Answering.{blobs_used}
+use Rattle.tree_calls.specs.Asking.{tree_asked, action_asked}
+use Rattle.tree_calls.specs.GetTree.{texts_seen, directories_used}
 use Rattle.instance_core.specs.State.{InstanceState}
 use Rattle.instance_core.specs.Methods.{use_asked, text_changes}
 use Rattle.bytestream.specs.declared.reading.ReadAsked.{ReadAsked}
@@ -74,6 +77,8 @@ pub changes_named : (method : Method) (s : InstanceState) (message : List ℕ) �
 changes_named FindMissingBlobs s message = uses_named (digests_asked s.name message)
 changes_named BatchUpdateBlobs s message = result_named s.quota (blobs_sent s.name message)
 changes_named BatchReadBlobs s message = uses_named (digests_to_read s.name message)
+changes_named GetTree s message = uses_named (tree_asked s.name message >>= directories_used s.visible)
+changes_named GetActionResult s message = uses_named (action_asked s.name message >>= λ action. Ok (blobs_used (texts_seen s.visible) action s.results))
 changes_named Read s message = use_named (read_asked s.name message)
 changes_named _ s message = tt
 

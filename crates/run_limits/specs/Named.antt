@@ -4,7 +4,7 @@ use Rattle.std.specs.List.{AllByRecursion}
 use Rattle.digest.specs.Naming.{Names}
 use Rattle.instance_view.specs.Visible.{Blob}
 use Rattle.cas_service.specs.Changes as Texts
-use Rattle.instance_core.specs.Changes.{Change, Text, Goes, Ends, Wrote, Expires}
+use Rattle.instance_core.specs.Changes.{Change, Text, Goes, Ends, Wrote, Keeps, Expires}
 
 -- bytes are stored only under the digest that names them
 abbrev pub StoresNamedText : Texts.Change → Type 0
@@ -19,6 +19,7 @@ IsOldOrNamed visible b = Contains visible b ⊎ Names b.0 b.1
 abbrev pub StoresNamed : List Blob → Change → Type 0
 StoresNamed visible (Text c) = StoresNamedText c
 StoresNamed visible (Wrote w) = AllByRecursion (IsOldOrNamed visible) w.visible
+StoresNamed visible (Keeps results) = Unit {0}
 StoresNamed visible (Goes id call) = Unit {0}
 StoresNamed visible (Ends id) = Unit {0}
 StoresNamed visible Expires = Unit {0}

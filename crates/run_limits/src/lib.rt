@@ -19,8 +19,9 @@ pub fn calls_store_named_texts()
 {}
 
 /// An instance by itself keeps its limits through every run. So its texts never have more bytes
-/// together than its quota, nor have its unfinished uploads, of which there are 64 at most; and
-/// each text is what its digest says: the hash is the text's SHA-256, and the size its length.
+/// together than its quota, nor have its unfinished uploads, of which there are 64 at most; it has
+/// at most 10,000 results of actions, of 67,108,864 bytes together; and each text is what its
+/// digest says: the hash is the text's SHA-256, and the size its length.
 pub fn a_run_keeps_its_limits()
     ensures { (config : ConfigValue) (events : List EventValue) → config.quota ≤ 2 ^ 40
         → WithinLimits (run_of config events).lone.state }

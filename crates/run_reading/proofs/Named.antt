@@ -23,7 +23,13 @@ use Rattle.bytestream.specs.Reading.{SourceValue, read_asked, place_of, until_of
 use Rattle.bytestream.specs.Writing as Writing
 use Rattle.bytestream.specs.Writing.{WrittenValue}
 use Rattle.instance_core.specs.declared.event.CallId.{CallId}
-use Rattle.instance_core.specs.Replies.{ReplyItemValue, begins, says, gives, ends, refuses, ReplyValue, items_of, range_items, read_items}
+use Rattle.tree_calls.specs.Asking.{TreeAskedValue, tree_asked}
+use Rattle.tree_calls.specs.GetTree.{texts_seen, get_tree_replies}
+use Rattle.tree_calls.specs.Results.{get_action_result_reply}
+use Rattle.tree_calls.specs.Pages.{IsNamedPage}
+use Rattle.tree_calls.proofs.Named.{pages_named, result_complete}
+use Rattle.input_tree.specs.Listing.{tree_list}
+use Rattle.instance_core.specs.Replies.{ReplyItemValue, begins, says, gives, ends, refuses, ReplyValue, items_of, messages_said, messages_items, range_items, read_items}
 use Rattle.instance_core.specs.Changes.{Change}
 use Rattle.instance_core.specs.Methods.{is_served, reply_to, items_to}
 use Rattle.instance_core.specs.Writes.{first_changes, next_changes, first_outcome, next_outcome}
@@ -35,7 +41,7 @@ use Rattle.client_reading.proofs.Choices.{all_append}
 use Rattle.run_limits.proofs.Calls.{after_keeps}
 use Rattle.run_reading.specs.Replies.{reply_given, given_from}
 use Rattle.run_reading.specs.Happenings.{Happening, MomentCame, TimePassed, RequestAnswered, CallEventCame}
-use Rattle.run_reading.specs.Named.{Answering, answerings, Request, whole_request, request_at, bytes_from, IsNamedRange, AreNamed, IsNamedBatch, IsNamedItem, ServesNamed, IsNamedGift, GivesNamed}
+use Rattle.run_reading.specs.Named.{Answering, answerings, Request, whole_request, request_at, bytes_from, IsNamedRange, AreNamed, IsNamedBatch, IsNamedTreePage, IsNamedItem, ServesNamed, IsNamedGift, GivesNamed}
 
 abbrev AreNamedItems : InstanceState → Option Request → List ReplyItemValue → Type 0
 AreNamedItems s request items = AllByRecursion (IsNamedItem s request) items
@@ -66,7 +72,7 @@ batch_named s request w = go (digests_to_read s.name request) refl where
       → AreNamedItems s (Some (record { method = BatchReadBlobs; message = request })) (items_of (r >>= λ digests. Ok (read_reply s.visible digests)))
   go (Ok ds) is =
       let batch : IsNamedBatch s request (read_reply s.visible ds) = record { asked = ds; asks = is; responses = map (λ d. read_response d (seen d s.visible)) ds; text = refl; named = responses_named s ds w } in
-      (tt, ((λ same. batch), (tt, tt)))
+      (tt, (record { batch = λ same. batch; tree = λ same. cc; result = λ same. cc }, (tt, tt)))
   go (Err refusal) is = (tt, tt)
 
 -- ---- one range
@@ -137,23 +143,49 @@ read_named s request w = asks (read_asked s.name request) refl where
 
 -- ---- a whole request
 
-other_named : (s : InstanceState) (method : Method) (request : List ℕ) (r : Result (List ℕ) Refusal) → (method ≡ BatchReadBlobs → ⊥) → AreNamedItems s (Some (record { method = method; message = request })) (items_of r)
-other_named s method request (Ok reply) other = (tt, ((λ same. absurd (other same)), (tt, tt)))
-other_named s method request (Err refusal) other = (tt, tt)
+other_named : (s : InstanceState) (method : Method) (request : List ℕ) (r : Result (List ℕ) Refusal) → (method ≡ BatchReadBlobs → ⊥) → (method ≡ GetTree → ⊥) → (method ≡ GetActionResult → ⊥)
+    → AreNamedItems s (Some (record { method = method; message = request })) (items_of r)
+other_named s method request (Ok reply) unbatched untreed unkept =
+    (tt, (record { batch = λ same. absurd (unbatched same); tree = λ same. absurd (untreed same); result = λ same. absurd (unkept same) }, (tt, tt)))
+other_named s method request (Err refusal) unbatched untreed unkept = (tt, tt)
+
+result_named : (s : InstanceState) (request : List ℕ) → AreNamedItems s (Some (record { method = GetActionResult; message = request })) (items_of (reply_to GetActionResult s request))
+result_named s request = go (get_action_result_reply s.name s.visible s.results request) refl where
+  go : (r : Result (List ℕ) Refusal) → get_action_result_reply s.name s.visible s.results request ≡ r → AreNamedItems s (Some (record { method = GetActionResult; message = request })) (items_of r)
+  go (Ok reply) is = (tt, (record { batch = λ same. cc; tree = λ same. cc; result = λ same. result_complete s.name s.visible s.results request reply is }, (tt, tt)))
+  go (Err refusal) is = (tt, tt)
+
+abbrev walking : List ℕ → Option Request
+walking request = Some (record { method = GetTree; message = request })
+
+pages_said : (s : InstanceState) (request : List ℕ) (asked : TreeAskedValue) (listed : List Digest) → tree_asked s.name request ≡ Ok asked → tree_list (texts_seen s.visible) asked.root ≡ Ok listed
+    → (pages : List (List ℕ)) → AllByRecursion (IsNamedPage listed) pages → AreNamedItems s (walking request) (messages_said pages ++ ends ∷ [])
+pages_said s request asked listed asks lists [] named = (tt, tt)
+pages_said s request asked listed asks lists (page ∷ pages) named =
+    let one : IsNamedTreePage s request page = record { asked = asked; asks = asks; listed = listed; lists = lists; page = named.0 } in
+    (record { batch = λ same. cc; tree = λ same. one; result = λ same. cc }, pages_said s request asked listed asks lists pages named.1)
+
+tree_named : (s : InstanceState) (request : List ℕ) → WithinLimits s → AreNamedItems s (walking request) (messages_items (get_tree_replies s.name s.visible request))
+tree_named s request w = go (get_tree_replies s.name s.visible request) refl where
+  go : (r : Result (List (List ℕ)) Refusal) → get_tree_replies s.name s.visible request ≡ r → AreNamedItems s (walking request) (messages_items r)
+  go (Ok pages) is =
+      let named = pages_named s.name s.visible request pages w.texts.named is in
+      (tt, pages_said s request named.asked named.listed named.is_asked named.is_listed pages named.pages)
+  go (Err refusal) is = (tt, tt)
 
 method_named : (s : InstanceState) (method : Method) (request : List ℕ) → WithinLimits s → AreNamedItems s (Some (record { method = method; message = request })) (items_to method s request)
 method_named s BatchReadBlobs request w = batch_named s request w
 method_named s Read request w = read_named s request w
-method_named s FindMissingBlobs request w = other_named s FindMissingBlobs request (reply_to FindMissingBlobs s request) (λ same. cc)
-method_named s BatchUpdateBlobs request w = other_named s BatchUpdateBlobs request (reply_to BatchUpdateBlobs s request) (λ same. cc)
-method_named s GetTree request w = other_named s GetTree request (reply_to GetTree s request) (λ same. cc)
-method_named s GetActionResult request w = other_named s GetActionResult request (reply_to GetActionResult s request) (λ same. cc)
-method_named s UpdateActionResult request w = other_named s UpdateActionResult request (reply_to UpdateActionResult s request) (λ same. cc)
-method_named s Execute request w = other_named s Execute request (reply_to Execute s request) (λ same. cc)
-method_named s WaitExecution request w = other_named s WaitExecution request (reply_to WaitExecution s request) (λ same. cc)
-method_named s GetCapabilities request w = other_named s GetCapabilities request (reply_to GetCapabilities s request) (λ same. cc)
-method_named s Write request w = other_named s Write request (reply_to Write s request) (λ same. cc)
-method_named s QueryWriteStatus request w = other_named s QueryWriteStatus request (reply_to QueryWriteStatus s request) (λ same. cc)
+method_named s FindMissingBlobs request w = other_named s FindMissingBlobs request (reply_to FindMissingBlobs s request) (λ same. cc) (λ same. cc) (λ same. cc)
+method_named s BatchUpdateBlobs request w = other_named s BatchUpdateBlobs request (reply_to BatchUpdateBlobs s request) (λ same. cc) (λ same. cc) (λ same. cc)
+method_named s GetTree request w = tree_named s request w
+method_named s GetActionResult request w = result_named s request
+method_named s UpdateActionResult request w = other_named s UpdateActionResult request (reply_to UpdateActionResult s request) (λ same. cc) (λ same. cc) (λ same. cc)
+method_named s Execute request w = other_named s Execute request (reply_to Execute s request) (λ same. cc) (λ same. cc) (λ same. cc)
+method_named s WaitExecution request w = other_named s WaitExecution request (reply_to WaitExecution s request) (λ same. cc) (λ same. cc) (λ same. cc)
+method_named s GetCapabilities request w = other_named s GetCapabilities request (reply_to GetCapabilities s request) (λ same. cc) (λ same. cc) (λ same. cc)
+method_named s Write request w = other_named s Write request (reply_to Write s request) (λ same. cc) (λ same. cc) (λ same. cc)
+method_named s QueryWriteStatus request w = other_named s QueryWriteStatus request (reply_to QueryWriteStatus s request) (λ same. cc) (λ same. cc) (λ same. cc)
 
 -- ---- the other events give no range
 
@@ -227,7 +259,7 @@ IsShortHappening (RequestAnswered place stream item) = IsShortItem item
 IsShortHappening (CallEventCame place event) = IsShortEvent event
 
 pub moment_within : (moment : ℕ) (s : InstanceState) → WithinLimits s → WithinLimits (at_moment moment s)
-moment_within moment s w = record { quota = w.quota; texts = w.texts; uploads = w.uploads; calls = w.calls; messages = w.messages }
+moment_within moment s w = record { quota = w.quota; texts = w.texts; uploads = w.uploads; results = w.results; calls = w.calls; messages = w.messages }
 
 -- what holds of each answer that is given within the limits, holds of all
 pub each_answer : (P : Answering → Type 0) (s : InstanceState) (hs : List Happening) → ((t : InstanceState) (event : CallEventValue) → WithinLimits t → P (record { state = t; event = event })) → AllByRecursion IsShortHappening hs → WithinLimits s → AllByRecursion P (answerings s hs)

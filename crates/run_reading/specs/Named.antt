@@ -1,5 +1,5 @@
 -- What is served under a digest is what the digest says: the hash is its SHA-256, and the size its
--- length.
+-- length; and a result of an action that is served is complete.
 use Rattle.std.specs.Prelude.{◌≡◌, ◌-◌, ◌==◌, ℕ, pos, if◌then◌else◌, List, [], ◌∷◌, take, drop, Option, Some, None, Ok}
 use Rattle.std.specs.List.{AllByRecursion}
 use Rattle.std.specs.Option.{option_map_or}
@@ -15,7 +15,12 @@ use Rattle.bytestream.specs.declared.reading.ReadAsked.{ReadAsked}
 use Rattle.bytestream.specs.Reading.{SourceValue, read_asked}
 use Rattle.grpc_sending.specs.Owed.{Item, Headed, Message, Range}
 use Rattle.rpc.specs.declared.method.Method.{Method}
-use Rattle.rpc.specs.declared.method.Method.TheVariants.{BatchReadBlobs, Read}
+use Rattle.tree_calls.specs.Complete.{IsCompleteReply}
+use Rattle.tree_calls.specs.Pages.{IsNamedPage}
+use Rattle.tree_calls.specs.Asking.{TreeAskedValue, tree_asked}
+use Rattle.tree_calls.specs.GetTree.{texts_seen}
+use Rattle.input_tree.specs.Listing.{tree_list}
+use Rattle.rpc.specs.declared.method.Method.TheVariants.{BatchReadBlobs, GetTree, GetActionResult, Read}
 use Rattle.instance_core.specs.Calls.{ProgressValue, waits, has, writes, CallEventValue, end, tick, call_at}
 use Rattle.instance_core.specs.Replies.{ReplyItemValue, begins, says, gives, ends, refuses, ReplyValue}
 use Rattle.instance_core.specs.Answer.{answer, after}
@@ -94,14 +99,31 @@ pub record IsNamedBatch (s : InstanceState) (message bytes : List ℕ) : Type 0 
   pub text : bytes ≡ text_for batch_read_blobs_response_records (record { responses = responses })
   pub named : AreNamed asked responses
 
+-- ---- GetTree (remote_execution.proto)
+
+-- the bytes are a page of the tree of the root that was asked for, whose directories are what digests
+-- of the tree's list name
+pub record IsNamedTreePage (s : InstanceState) (message bytes : List ℕ) : Type 0 where
+  pub asked : TreeAskedValue
+  pub asks : tree_asked s.name message ≡ Ok asked
+  pub listed : List Digest
+  pub lists : tree_list (texts_seen s.visible) asked.root ≡ Ok listed
+  pub page : IsNamedPage listed bytes
+
 -- ---- each blob that is served
 
--- a range is given to a Read alone, and is named by the digest that it asks for; so are the blobs
--- of a batch
+-- a message that answers a request: the blobs of a batch and the directories of a tree are named,
+-- and a result is complete
+pub record IsNamedMessage (s : InstanceState) (request : Request) (bytes : List ℕ) : Type 0 where
+  pub batch : request.method ≡ BatchReadBlobs → IsNamedBatch s request.message bytes
+  pub tree : request.method ≡ GetTree → IsNamedTreePage s request.message bytes
+  pub result : request.method ≡ GetActionResult → IsCompleteReply s.name s.visible s.results request.message bytes
+
+-- a range is given to a Read alone, and is named by the digest that it asks for
 abbrev pub IsNamedItem : InstanceState → Option Request → ReplyItemValue → Type 0
 IsNamedItem s (Some request) (gives given) = (request.method ≡ Read) × IsNamedRange s request.message given
 IsNamedItem s None (gives given) = ⊥
-IsNamedItem s (Some request) (says bytes) = request.method ≡ BatchReadBlobs → IsNamedBatch s request.message bytes
+IsNamedItem s (Some request) (says bytes) = IsNamedMessage s request bytes
 IsNamedItem s None (says bytes) = Unit {0}
 IsNamedItem s request begins = Unit {0}
 IsNamedItem s request ends = Unit {0}

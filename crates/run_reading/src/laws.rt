@@ -32,7 +32,10 @@ pub fn replies_are_the_instances()
 /// hash, and its length the size. What a Read is given is a range of the text that the instance
 /// itself has under the digest in the resource name, from read_offset on and at most read_limit
 /// bytes (bytestream.proto). A reply to BatchReadBlobs has a response for each digest asked for, in
-/// order, and data with status OK are what that digest says (remote_execution.proto).
+/// order, and data with status OK are what that digest says. A message of a reply to GetTree is a
+/// page of the tree whose root was asked for, and each directory of it is what a digest of the
+/// tree's list names. A reply to GetActionResult is the result that the instance itself has of the
+/// action, and each blob that it names is there (remote_execution.proto).
 pub fn blobs_served_are_named()
     ensures answers { (config : ConfigValue) (events : List EventValue) → config.quota ≤ 2 ^ 40
         → AllByRecursion ServesNamed (run_answerings config events) }

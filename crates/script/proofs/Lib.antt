@@ -1,4 +1,16 @@
+pub mod ConfigLemmas
+pub mod EventForms
+pub mod FileForms
+pub mod FirstLemmas
 pub mod HexadecimalLemmas
+pub mod LineLemmas
+pub mod NumberForms
 pub mod NumberLemmas
+pub mod OutputLemmas
 pub mod PartsLemmas
+pub mod PlaceLemmas
+pub mod ReplayForms
+pub mod Somes
 pub mod SplitLemmas
+pub mod UnaryForms
+pub mod WellFormedLemmas

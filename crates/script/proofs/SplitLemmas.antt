@@ -12,13 +12,13 @@ use Rattle.script.specs.Parts.{parts_of}
 abbrev pub Lacks : ℕ → List ℕ → Type 0
 Lacks separator part = All (λ byte. byte ≢ separator) part
 
-other_byte : (separator byte : ℕ) → byte ≢ separator → (byte == separator) ≡ false
+pub other_byte : (separator byte : ℕ) → byte ≢ separator → (byte == separator) ≡ false
 other_byte separator byte h = grind (arith, nat_tests)
 
 no_test : (separator : ℕ) (part : List ℕ) → Lacks separator part → All (λ byte. (byte == separator) ≡ false) part
 no_test separator part h = λ k d lt. other_byte separator _ (h k d lt)
 
-same_byte : (separator : ℕ) → (separator == separator) ≡ true
+pub same_byte : (separator : ℕ) → (separator == separator) ≡ true
 same_byte separator = grind (arith, nat_tests)
 
 -- parts without the separator are the parts of the text in which it stands between them

@@ -18,9 +18,11 @@ hex_word (byte ∷ bytes) = encode_lower (byte ∷ bytes)
 
 -- the bytes that digits write, where each is a digit in lower case and they come in pairs
 abbrev pub digits_bytes : List ℕ → Option (List ℕ)
-digits_bytes digits = if list_all is_lower_hex_digit digits then result_ok (decode_of digits) else None
+digits_bytes digits =
+    if list_all is_lower_hex_digit digits then result_ok (decode_of digits) else None
 
 -- the bytes that a word writes: none for `-`, and an empty word writes nothing
 abbrev pub bytes_of_hex : List ℕ → Option (List ℕ)
 bytes_of_hex [] = None
-bytes_of_hex (byte ∷ word) = if bytes_eq (byte ∷ word) (codes "-") then Some [] else digits_bytes (byte ∷ word)
+bytes_of_hex (byte ∷ word) =
+    if bytes_eq (byte ∷ word) (codes "-") then Some [] else digits_bytes (byte ∷ word)

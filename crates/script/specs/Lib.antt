@@ -1,3 +1,15 @@
+pub mod Arguments
+pub mod Faults
+pub mod FirstBadLine
 pub mod Hexadecimal
+pub mod Method
 pub mod Number
 pub mod Parts
+pub mod ReplayEvents
+pub mod ReplayLines
+pub mod ReplayScript
+pub mod ReplayShown
+pub mod ResultLines
+pub mod UnaryLines
+pub mod UnaryScript
+pub mod UnaryShown

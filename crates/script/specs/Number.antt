@@ -18,4 +18,5 @@ decimal_value word = digits_value 10 word
 -- the number below 2^64 that a word writes, or none where it writes no such number
 abbrev pub decimal_of : List ℕ → Option ℕ
 decimal_of word =
-    if is_decimal word && nat_lt (decimal_value word) (2 ^ 64) then Some (decimal_value word) else None
+    if is_decimal word && nat_lt (decimal_value word) (2 ^ 64)
+    then Some (decimal_value word) else None

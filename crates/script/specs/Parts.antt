@@ -1,7 +1,7 @@
 -- Lines and words: the parts of a text between its newlines, and of a line between its spaces.
 use Rattle.std.specs.Prelude.{ℕ, ◌==◌, List, [], Option, Some, None}
 use Rattle.std.specs.Borrow.{Bor}
-use Rattle.std.specs.List.{slice_split}
+use Rattle.std.specs.List.{join_with_byte, slice_split}
 
 -- the parts of a text between the bytes equal to the separator; one part more than there are
 -- separators
@@ -15,6 +15,10 @@ lines_of text = parts_of 10 text
 -- the words of a line: what stands between its spaces (byte 32)
 abbrev pub words_of : List ℕ → List (List ℕ)
 words_of line = parts_of 32 line
+
+-- a line of these words, with one space between each two
+abbrev pub spaced : List (List ℕ) → List ℕ
+spaced words = join_with_byte 32 words
 
 -- the parts of what is left of a text, and none once its last part was given
 abbrev pub parts_left : ℕ → Option (Bor (List ℕ)) → List (List ℕ)

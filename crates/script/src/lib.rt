@@ -1,15 +1,23 @@
-//! The words of the program's text files.
+//! The text files of the program: scripts of calls, scripts of events, and the lines that tell what
+//! came of these.
 //!
 //! A file is a list of lines, each ended by a newline; a last line without its newline is still a
 //! line. Between two words of a line stands one space. A word may stand for a decimal number, or
 //! for bytes in hexadecimal.
 #![tactic(auto)]
 
+mod arguments;
+mod fault;
 mod hexadecimal;
 pub mod laws;
 mod number;
 mod parts;
+mod reader;
+pub mod replay;
+pub mod replay_lines;
+pub mod unary;
 
+pub use crate::fault::ScriptFault;
 pub use crate::hexadecimal::{hex_bytes, write_hex};
 pub use crate::number::decimal;
 pub use crate::parts::{Parts, lines, words};

@@ -17,7 +17,7 @@ use Rattle.conn_core.specs.Past.{Past, with_frame, with_fault}
 use Rattle.instance_core.specs.Calls.{CallEventValue, tick as time_passes}
 use Rattle.instance_core.specs.State.{InstanceState}
 use Rattle.instance_core.specs.Replies.{ReplyValue}
-use Rattle.instance_core.specs.Changes.{Change, Text, Goes, Ends, Wrote, Expires, change_made, changed}
+use Rattle.instance_core.specs.Changes.{Change, Text, Goes, Ends, Wrote, Keeps, Expires, change_made, changed}
 use Rattle.instance_core.specs.Answer.{answer, after}
 use Rattle.server_events.specs.Events.{EventValue, WhatValue, opened, received, took, closed, tick, ended}
 use Rattle.served_instance.specs.declared.refusal.EventRefusal.{EventRefusal}
@@ -34,6 +34,7 @@ changed_moment (Text c ∷ changes) s = changed_moment changes (change_made (Tex
 changed_moment (Goes id call ∷ changes) s = changed_moment changes (change_made (Goes id call) s)
 changed_moment (Ends id ∷ changes) s = changed_moment changes (change_made (Ends id) s)
 changed_moment (Wrote w ∷ changes) s = changed_moment changes (change_made (Wrote w) s)
+changed_moment (Keeps results ∷ changes) s = changed_moment changes (change_made (Keeps results) s)
 changed_moment (Expires ∷ changes) s = changed_moment changes (change_made Expires s)
 
 replied_moment : (replies : List ReplyValue) (l : Lone) → (replied replies l).state.moment ≡ l.state.moment

@@ -107,7 +107,7 @@ answered_moves given IsGood p q r i j vs ws a = record {
 }
 
 abbrev with_visible : InstanceSlots → List Blob → InstanceState
-with_visible i bs = record { name = i.name; quota = i.quota; slots = i.slots; moment = i.moment; visible = bs; uploads = i.uploads; calls = i.calls }
+with_visible i bs = record { name = i.name; quota = i.quota; slots = i.slots; moment = i.moment; visible = bs; uploads = i.uploads; results = i.results; calls = i.calls }
 
 answered_state : (given : Holders) (IsGood : Look → Type 0) (p q r : Slots) (i j : InstanceSlots) (vs ws : List Served) → IsAnswered given IsGood p q r i j vs ws → state_in r j ≡ state_in q j
 answered_state given IsGood p q r i j vs ws a =

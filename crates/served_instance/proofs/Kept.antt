@@ -45,7 +45,7 @@ pub own_texts : (p q : Slots) (i : InstanceSlots) (vs ws : List Served) → IsKe
 own_texts p q i vs ws kept r k some = r.moves.texts k (omega (arith, some, r.sources k, kept.counted k))
 
 abbrev with_visible : InstanceSlots → List Blob → InstanceState
-with_visible i bs = record { name = i.name; quota = i.quota; slots = i.slots; moment = i.moment; visible = bs; uploads = i.uploads; calls = i.calls }
+with_visible i bs = record { name = i.name; quota = i.quota; slots = i.slots; moment = i.moment; visible = bs; uploads = i.uploads; results = i.results; calls = i.calls }
 
 pub same_state : (p q : Slots) (i : InstanceSlots) (vs ws : List Served) → IsKept p (slots_at i vs) → Releases p vs q ws → state_in q i ≡ state_in p i
 same_state p q i vs ws kept r = ap (with_visible i) (shown_same p q i.view.entries (λ k some. own_texts p q i vs ws kept r k some))

@@ -12,7 +12,7 @@ use Rattle.blob_pool.specs.Held.{Slots}
 use Rattle.instance_view.specs.Visible.{Blob}
 use Rattle.instance_view.specs.Shown.{ViewValue, shown}
 use Rattle.quota_evict.specs.Admission.{admitted}
-use Rattle.unary_script.specs.declared.method.Method.{Method}
+use Rattle.script.specs.declared.unary.method.Method.{Method}
 use Rattle.cas_service.specs.declared.error.CallError.{CallError}
 use Rattle.cas_service.specs.declared.error.CallError.TheVariants.{Refused, NoMemory}
 use Rattle.cas_service.specs.Answers.{Answers}

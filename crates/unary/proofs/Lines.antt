@@ -4,12 +4,12 @@ use Rattle.std.specs.Prelude.{◌^◌}
 use Rattle.std.specs.List.{All}
 use Rattle.std.specs.Io.KnownBytes.{Appends, Keeps}
 use Rattle.std.proofs.lemmas.List.{append_assoc, append-nil, length-set, drop_more, drop_all, get_or-map}
-use Rattle.unary_script.specs.declared.command.Command.{Command}
-use Rattle.unary_script.specs.declared.command.Instance.{Instance}
-use Rattle.unary_script.specs.Shown.{command_value, instance_value}
+use Rattle.script.specs.declared.unary.command.Command.{Command}
+use Rattle.script.specs.declared.unary.command.Instance.{Instance}
+use Rattle.script.specs.UnaryShown.{command_value, instance_value}
 use Rattle.server_events.specs.Instance.{quota_limit}
-use Rattle.unary_script.specs.Script.{InstanceValue}
-use Rattle.unary_script.specs.Lines.{instance_place}
+use Rattle.script.specs.UnaryScript.{InstanceValue}
+use Rattle.script.specs.UnaryLines.{instance_place}
 use Rattle.unary.specs.Session.{StoreValue, opened, line_of, store_of, stores_after, lines_of_commands, written}
 
 pub written-append : (xs ys : List (List ℕ)) → written (xs ++ ys) ≡ written xs ++ written ys

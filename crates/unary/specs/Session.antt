@@ -4,10 +4,10 @@ use Rattle.std.specs.Prelude.{ℕ, Bool, List, [], ◌∷◌, ◌++◌, length, 
 use Rattle.std.specs.Fmt.{decimal}
 use Rattle.reapi_messages.specs.Results.{◌>>=◌}
 use Rattle.script.specs.Hexadecimal.{hex_word}
-use Rattle.unary_script.specs.declared.method.Method.{Method}
-use Rattle.unary_script.specs.declared.method.Method.TheVariants.{FindMissingBlobs, BatchUpdateBlobs, BatchReadBlobs}
-use Rattle.unary_script.specs.Script.{InstanceValue, CommandValue, ScriptValue, put, call, script_of}
-use Rattle.unary_script.specs.Lines.{instance_place}
+use Rattle.script.specs.declared.unary.method.Method.{Method}
+use Rattle.script.specs.declared.unary.method.Method.TheVariants.{FindMissingBlobs, BatchUpdateBlobs, BatchReadBlobs}
+use Rattle.script.specs.UnaryScript.{InstanceValue, CommandValue, UnaryScriptValue, put, call, unary_script_of}
+use Rattle.script.specs.UnaryLines.{instance_place}
 use Rattle.rpc.specs.declared.refusal.Refusal.{Refusal}
 use Rattle.rpc.specs.Status.{code_of, text_of}
 use Rattle.digest.specs.Naming.{digest_of}
@@ -97,12 +97,12 @@ lines_of_commands [] stores = []
 lines_of_commands (command ∷ commands) stores = line_of command (store_of command stores) ∷ lines_of_commands commands (stores_after command stores)
 
 -- the lines that a script prints
-abbrev pub lines_of_value : ScriptValue → List (List ℕ)
+abbrev pub lines_of_value : UnaryScriptValue → List (List ℕ)
 lines_of_value script = lines_of_commands script.commands (map opened script.instances)
 
 -- the lines that the script of a text prints, or the number of its first bad line
 abbrev pub lines_of_script : List ℕ → Result (List (List ℕ)) ℕ
-lines_of_script text = script_of text >>= λ script. Ok (lines_of_value script)
+lines_of_script text = unary_script_of text >>= λ script. Ok (lines_of_value script)
 
 -- lines as they are written, each with a newline at its end
 abbrev pub written : List (List ℕ) → List ℕ

@@ -4,17 +4,18 @@ ghost use Rattle.std.specs.Io.KnownBytes.{Appends, Keeps};
 ghost use Rattle.program_status.specs.Status.{fault_line};
 ghost use Rattle.program_status.specs.declared.Status.TheVariants.{Failed};
 ghost use Rattle.program_status.specs.declared.Fault.TheVariants.{OutOfMemory};
-ghost use Rattle.unary_script.specs.Shown.{command_value, script_value};
-ghost use Rattle.unary_script.specs.Lines.{instance_place, HasGoodInstances};
+ghost use Rattle.script.specs.UnaryShown.{command_value, unary_script_value};
+ghost use Rattle.script.specs.UnaryLines.{instance_place, HasGoodInstances};
 ghost use Rattle.unary.specs.Session.{line_of, store_of, stores_after, lines_of_commands, lines_of_value, lines_of_script, written};
 ghost use Rattle.unary.specs.Outcome.{IsOutcome};
 
 use crate::session::{answer, open_all};
 use crate::store::Store;
 use program_status::{Fault, Status, read_all};
+use script::ScriptFault;
+use script::unary::{Command, UnaryScript, parse};
 use std::alloc::Global;
 use std::io::{Read, Write};
-use unary_script::{Command, Script, ScriptFault, parse};
 
 /// Carries a command out, and writes its line.
 fn step<O: Write>(
@@ -60,15 +61,15 @@ fn play<O: Write>(
 }
 
 /// Carries a script out, and writes what it prints.
-fn perform<O: Write>(alloc: Global, script: &Script, output: &mut O) -> Result<(), Fault>
-    requires instances { HasGoodInstances (script_value script.now).instances }
+fn perform<O: Write>(alloc: Global, script: &UnaryScript, output: &mut O) -> Result<(), Fault>
+    requires instances { HasGoodInstances (unary_script_value script.now).instances }
     requires commands { All (λ command. instance_place
         (command_value command) < vec_len script.now.instances) script.now.commands.items }
     ensures lines { OnOk result (Appends (O.contents output.old) (O.contents output.new)
-        (written (lines_of_value (script_value script.now)))) }
+        (written (lines_of_value (unary_script_value script.now)))) }
     ensures memory { result ≡ Err OutOfMemory →
         (count : ℕ) × Appends (O.contents output.old) (O.contents output.new)
-        (written (take count (lines_of_value (script_value script.now)))) }
+        (written (take count (lines_of_value (unary_script_value script.now)))) }
 {
     let mut stores = open_all(alloc, &script.instances)?;
     play(alloc, &mut stores, &script.commands, output)

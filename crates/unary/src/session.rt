@@ -1,16 +1,16 @@
 ghost use Rattle.std.specs.Prelude.{◌≡◌, ◌++◌, ◌<◌, ◌≤◌, ◌^◌, ℕ, List, [], ◌∷◌, length, map, OnOk, OnErr, IfOk, IfErr, Ok, Err, Result};
 ghost use Rattle.std.specs.List.{All};
-ghost use Rattle.unary_script.specs.Shown.{instance_value, command_value};
-ghost use Rattle.unary_script.specs.Lines.{instance_place};
+ghost use Rattle.script.specs.UnaryShown.{instance_value, command_value};
+ghost use Rattle.script.specs.UnaryLines.{instance_place};
 ghost use Rattle.rpc.specs.declared.refusal.Refusal.{Refusal};
 ghost use Rattle.unary.specs.Session.{opened, reply_to, ok_line, status_line, line_of, after, store_of, stores_after};
 
 use crate::store::Store;
 use cas_service::CallError;
 use rpc::Refusal;
+use script::unary::{Command, Instance};
 use script::write_hex;
 use std::alloc::{AllocError, Global};
-use unary_script::{Command, Instance};
 
 /// The instances of a script, with no texts yet.
 pub fn open_all(alloc: Global, instances: &[Instance]) -> Result<Vec<Store>, AllocError>

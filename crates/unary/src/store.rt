@@ -1,5 +1,5 @@
 ghost use Rattle.std.specs.Prelude.{◌≡◌, ◌≤◌, ◌^◌, ℕ, List, OnOk, OnErr, IfOk};
-ghost use Rattle.unary_script.specs.Shown.{instance_value};
+ghost use Rattle.script.specs.UnaryShown.{instance_value};
 ghost use Rattle.cas_service.specs.Answers.{Answers};
 ghost use Rattle.cas_service.specs.Changes.{changed};
 ghost use Rattle.digest.specs.Naming.{digest_of};
@@ -14,9 +14,9 @@ use cas_service::{CallError, batch_read, batch_update, find_missing};
 use digest::Digest;
 use instance_view::View;
 use quota_evict::{AdmitError, admit};
+use script::unary::{Instance, Method};
 use std::alloc::{AllocError, Global};
 use std::marker::Model;
-use unary_script::{Instance, Method};
 
 /// How many texts an instance has at most.
 const MOST_BLOBS: usize = 65_536;

@@ -46,12 +46,12 @@ returns-in-Read-clause-within c =
     subst (Within most_blobs quota) (sym same) (c.answer_read.ensures.within p most_blobs quota limited)
 
 pub answer_by_message-requires-clause-plain : goal.answer_by_message-requires-clause-plain
-answer_by_message-requires-clause-plain c = (c.requires.apart, (c.in_default.not-Read, c.in_default.not-GetTree))
+answer_by_message-requires-clause-plain c = (c.requires.apart, c.in_default.not-Read, c.in_default.not-GetTree)
 
 pub returns-in_default-clause-replies : goal.returns-in_default-clause-replies
 returns-in_default-clause-replies c = λ moment calls.
     let s = state_of c.args.settings.now moment c.args.pool.now c.args.contents.now calls in
-    rw (items_plain c.args.method s c.args.message.now (c.requires.apart, (c.in_default.not-Read, c.in_default.not-GetTree))) (c.answer_by_message.ensures.replies moment calls c.answer_by_message.new.pool)
+    rw (items_plain c.args.method s c.args.message.now (c.requires.apart, c.in_default.not-Read, c.in_default.not-GetTree)) (c.answer_by_message.ensures.replies moment calls c.answer_by_message.new.pool)
 
 pub returns-in-GetTree-clause-replies : goal.returns-in-GetTree-clause-replies
 returns-in-GetTree-clause-replies c = λ moment calls.

@@ -1,12 +1,12 @@
-use Rattle.std.proofs.Common.{◌≡◌, ℕ, subst}
+use Rattle.std.proofs.Common.{◌≡◌, ℕ, [], subst}
 use Rattle.instance_view.specs.Shown.{shown}
 use Rattle.cas_service.specs.Answers.{IfAnswered}
 use Rattle.cas_service.specs.Changes.{changed}
 use Rattle.tree_calls.specs.Results.{get_action_result_reply, get_action_result_changes, after_get}
-use Rattle.tree_calls.proofs.Limits.{stay_within_get}
+use Rattle.tree_calls.proofs.Short.{get_stays_within}
 use Rattle.instance_core.specs.State.{most_blobs}
 use Rattle.instance_core.specs.Shown.{state_of}
-use Rattle.instance_core.proofs.Parts.{results_make, settled_results, both_same}
+use Rattle.instance_core.proofs.Parts.{results_make, settled_results, both_same, seen_same}
 use Rattle.instance_core.proofs.results.answer_get.Goals as goal
 
 pub returns-clause-replies : goal.returns-clause-replies
@@ -26,7 +26,7 @@ returns-clause-changed c = λ moment calls.
     let limited = subst (λ (n : ℕ). IfAnswered outcome.result (shown p outcome.new.view ≡ changed n s.quota changes s.visible)) c.requires.limit used in
     let left = rw c.deref.ensures at outcome.ensures.results in
     results_make outcome.result c.settle.result s changes (after_get s.name s.visible s.results message) (shown p outcome.new.view) outcome.new.results
-    limited left (seen_same outcome.result outcome.ensures.err) c.settle.ensures.memory
+    limited left (seen_same outcome.result outcome.new.results s.results p c.args.contents.now.view outcome.new.view outcome.ensures.err) c.settle.ensures.memory
 
 pub returns-clause-results : goal.returns-clause-results
 returns-clause-results c =
@@ -34,4 +34,7 @@ returns-clause-results c =
     let outcome = c.get_action_result-outcome in
     let left = rw c.deref.ensures at outcome.ensures.results in
     settled_results outcome.result s.results (after_get s.name s.visible s.results c.args.message.now) outcome.new.results left (both_same outcome.result _ _ outcome.ensures.err)
-    c.requires.results (stay_within_get s.name s.visible s.results c.args.message.now c.requires.results)
+    c.requires.results (get_stays_within s.name s.visible s.results c.args.message.now c.requires.results)
+
+pub returns-clause-kept : goal.returns-clause-kept
+returns-clause-kept c = c.get_action_result-outcome.ensures.kept c.args.pool.now c.args.settings.now.quota c.requires.kept

@@ -1,6 +1,6 @@
 use Rattle.std.proofs.Common.{sym, subst, ◌≤◌, ◌^◌, List}
 use Rattle.std.specs.List.{All}
-use Rattle.unary_script.specs.declared.command.Instance.{Instance}
+use Rattle.script.specs.declared.unary.command.Instance.{Instance}
 use Rattle.unary.proofs.Lines.{quotas_small}
 use Rattle.unary.proofs.run.perform.Goals as goal
 

@@ -1,5 +1,5 @@
 use Rattle.std.proofs.Common.{◌≡◌, map, take}
-use Rattle.unary_script.specs.Shown.{instance_value}
+use Rattle.script.specs.UnaryShown.{instance_value}
 use Rattle.unary.specs.Session.{opened}
 use Rattle.unary.proofs.session.open_all.Given as goal
 

@@ -7,8 +7,8 @@ pub returns-clause-within : goal.returns-clause-within
 returns-clause-within c = λ p. record {
   quota = c.requires;
   texts = rw c.in_ok-view.ensures (nothing_within most_blobs c.args.quota);
-  uploads = rw c.new-2.ensures (record { bytes = omega arith; count = omega arith });
+  uploads = rw c.new-3.ensures (record { bytes = omega arith; count = omega arith });
   results = rw c.in_ok-results.ensures (record { few = omega arith; short = omega arith });
-  calls = c.new-3.ensures.calls.once;
-  messages = c.new-3.ensures.calls.messages;
+  calls = c.new-4.ensures.calls.once;
+  messages = c.new-4.ensures.calls.messages;
 }

@@ -1,9 +1,0 @@
-pub mod ConfigLemmas
-pub mod EventForms
-pub mod FileForms
-pub mod FirstLemmas
-pub mod LineForms
-pub mod LineLemmas
-pub mod NumberForms
-pub mod OutputLemmas
-pub mod Somes

@@ -1,0 +1,40 @@
+-- The words after the first of a line.
+use Rattle.std.specs.Prelude.{ℕ, ℤ, pos, neg_ℤ, ◌+◌, ◌^◌, ◌==◌, nat_lt, if◌then◌else◌, List, [], ◌∷◌, Option, Some, None, option_map, option_and_then}
+use Rattle.script.specs.Number.{decimal_of}
+
+-- ---- numbers
+
+-- the number below a limit that a word writes in decimal
+abbrev pub below : ℕ → List ℕ → Option ℕ
+below limit word =
+    option_and_then (λ number. if nat_lt number limit then Some number else None) (decimal_of word)
+
+-- the number below 2^32 that a word writes in decimal
+abbrev pub number_of : List ℕ → Option ℕ
+number_of word = below (2 ^ 32) word
+
+-- the number from -2^31 to 2^31 - 1 that a word writes in decimal, perhaps with a minus (byte 45)
+-- before it
+abbrev pub exit_code_of : List ℕ → Option ℤ
+exit_code_of [] = None
+exit_code_of (byte ∷ word) =
+    if byte == 45 then option_map (λ number. neg_ℤ (pos number)) (below (2 ^ 31 + 1) word)
+    else option_map pos (below (2 ^ 31) (byte ∷ word))
+
+-- ---- so many words
+
+abbrev pub one_of : List (List ℕ) → Option (List ℕ)
+one_of (only ∷ []) = Some only
+one_of _ = None
+
+abbrev pub two_of : List (List ℕ) → Option (List ℕ × List ℕ)
+two_of (first ∷ second ∷ []) = Some (first, second)
+two_of _ = None
+
+abbrev pub three_of : List (List ℕ) → Option (List ℕ × List ℕ × List ℕ)
+three_of (first ∷ second ∷ third ∷ []) = Some (first, second, third)
+three_of _ = None
+
+-- the number of the only word
+abbrev pub only_number_of : List (List ℕ) → Option ℕ
+only_number_of words = option_and_then number_of (one_of words)

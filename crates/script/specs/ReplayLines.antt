@@ -1,0 +1,125 @@
+-- Which lines are good, and which is the first bad one, in words of their own.
+use Rattle.std.specs.Prelude.{◌≡◌, ◌≢◌, ℕ, ℤ, pos, neg_ℤ, ◌+◌, ◌^◌, ◌<◌, ◌⊎◌, false, List, [], ◌∷◌, ◌++◌, length, codes, Some}
+use Rattle.std.specs.Char.{is_ascii}
+use Rattle.std.specs.List.{All, AllPass}
+use Rattle.script.specs.Hexadecimal.{IsBytes, hex_word}
+use Rattle.script.specs.Number.{decimal_of}
+use Rattle.script.specs.Parts.{spaced}
+use Rattle.server_events.specs.Configs.{instance_limit}
+use Rattle.server_events.specs.Events.{OutputValue, WhatValue, opened, received, took, closed, tick, ended, failed, exited}
+use Rattle.server_events.specs.Faults.{IsConfig}
+use Rattle.script.specs.ReplayEvents.{event_at}
+use Rattle.script.specs.ReplayScript.{ReplayScriptValue, config, with_config, with_event}
+
+-- ---- the words of a line
+
+-- a line is these words, with one space (byte 32) between each two and none in a word
+pub record IsSpelled (line : List ℕ) (words : List (List ℕ)) : Type 0 where
+  pub form : line ≡ spaced words
+  pub apart : All (λ word. All (λ byte. byte ≢ 32) word) words
+
+-- a word is a decimal number below a limit
+pub record IsNumber (limit : ℕ) (word : List ℕ) (number : ℕ) : Type 0 where
+  pub decimal : decimal_of word ≡ Some number
+  pub small : number < limit
+
+-- a word is a 32-bit number, perhaps with a minus (byte 45) before its digits
+abbrev pub IsExitCode : List ℕ → ℤ → Type 0
+IsExitCode word code =
+    ((number : ℕ) × IsNumber (2 ^ 31) word number × (code ≡ pos number))
+    ⊎ ((digits : List ℕ) × (number : ℕ) × (word ≡ 45 ∷ digits)
+    × IsNumber (2 ^ 31 + 1) digits number × (code ≡ neg_ℤ (pos number)))
+
+-- a word of ASCII, PATH=HEX, is a file that may not be executed; its path may have `=` (byte 61) in
+-- it
+pub record IsFile (word : List ℕ) (output : OutputValue) : Type 0 where
+  pub form : word ≡ output.path ++ 61 ∷ hex_word output.content
+  pub ascii : AllPass is_ascii word
+  pub bytes : IsBytes output.content
+  pub plain : output.is_executable ≡ false
+
+abbrev pub AreFiles : List (List ℕ) → List OutputValue → Type 0
+AreFiles [] [] = Unit {0}
+AreFiles (word ∷ words) (output ∷ outputs) = IsFile word output × AreFiles words outputs
+AreFiles _ _ = ⊥
+
+-- ---- what happens
+
+-- the words of an exit: the job, the code, standard output and error, and files
+pub record IsExit (arguments : List (List ℕ)) (job : ℕ) (code : ℤ) (stdout stderr : List ℕ)
+    (outputs : List OutputValue) : Type 0 where
+  pub number : List ℕ
+  pub status : List ℕ
+  pub files : List (List ℕ)
+  pub form : arguments ≡ number ∷ status ∷ hex_word stdout ∷ hex_word stderr ∷ files
+  pub job_number : decimal_of number ≡ Some job
+  pub exit_code : IsExitCode status code
+  pub out_bytes : IsBytes stdout
+  pub error_bytes : IsBytes stderr
+  pub outputs_files : AreFiles files outputs
+
+-- the first word of a line, and those after its moment and its instance, by what happens
+abbrev pub Tells : List ℕ → List (List ℕ) → WhatValue → Type 0
+Tells kind arguments (opened connection) =
+    (kind ≡ codes "open")
+    × ((word : List ℕ) × (arguments ≡ word ∷ []) × IsNumber (2 ^ 32) word connection)
+Tells kind arguments (received connection bytes) =
+    (kind ≡ codes "bytes")
+    × ((word : List ℕ) × (arguments ≡ word ∷ hex_word bytes ∷ [])
+    × IsNumber (2 ^ 32) word connection × IsBytes bytes)
+Tells kind arguments (took connection count) =
+    (kind ≡ codes "took")
+    × ((word : List ℕ) × (digits : List ℕ) × (arguments ≡ word ∷ digits ∷ [])
+    × IsNumber (2 ^ 32) word connection × IsNumber (2 ^ 32) digits count)
+Tells kind arguments (closed connection) =
+    (kind ≡ codes "closed")
+    × ((word : List ℕ) × (arguments ≡ word ∷ []) × IsNumber (2 ^ 32) word connection)
+Tells kind arguments tick = (kind ≡ codes "tick") × (arguments ≡ [])
+Tells kind arguments (ended job failed) =
+    (kind ≡ codes "fail")
+    × ((word : List ℕ) × (arguments ≡ word ∷ []) × (decimal_of word ≡ Some job))
+Tells kind arguments (ended job (exited code stdout stderr outputs)) =
+    (kind ≡ codes "exit") × IsExit arguments job code stdout stderr outputs
+
+-- ---- good lines
+
+-- `instance NAME QUOTA SLOTS`, before any event: one more instance, which may follow those before
+-- it
+pub record IsReplayInstanceLine (before : ReplayScriptValue) (words : List (List ℕ))
+    (after : ReplayScriptValue) : Type 0 where
+  pub name : List ℕ
+  pub quota : List ℕ
+  pub slots : List ℕ
+  pub bytes : ℕ
+  pub count : ℕ
+  pub form : words ≡ codes "instance" ∷ name ∷ quota ∷ slots ∷ []
+  pub bytes_number : decimal_of quota ≡ Some bytes
+  pub count_number : decimal_of slots ≡ Some count
+  pub first : before.events ≡ []
+  pub room : length before.configs < instance_limit
+  pub good : IsConfig (config name bytes count)
+  pub new_name : All (λ other. name ≢ other.name) before.configs
+  pub adds : after ≡ with_config before (config name bytes count)
+
+-- a kind, a moment, an instance, and what happens
+pub record IsEventLine (before : ReplayScriptValue) (words : List (List ℕ))
+    (after : ReplayScriptValue) : Type 0 where
+  pub kind : List ℕ
+  pub moment : List ℕ
+  pub instance : List ℕ
+  pub arguments : List (List ℕ)
+  pub at : ℕ
+  pub number : ℕ
+  pub what : WhatValue
+  pub form : words ≡ kind ∷ moment ∷ instance ∷ arguments
+  pub moment_number : decimal_of moment ≡ Some at
+  pub instance_number : IsNumber (2 ^ 32) instance number
+  pub tells : Tells kind arguments what
+  pub adds : after ≡ with_event before (event_at at number what)
+
+-- a line that leads from one script to the next: an empty one, which adds nothing, or one of these
+abbrev pub IsGoodReplayLine : ReplayScriptValue → List ℕ → ReplayScriptValue → Type 0
+IsGoodReplayLine before line after =
+    ((line ≡ []) × (after ≡ before))
+    ⊎ ((words : List (List ℕ)) × IsSpelled line words
+    × (IsReplayInstanceLine before words after ⊎ IsEventLine before words after))

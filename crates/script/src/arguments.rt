@@ -1,0 +1,65 @@
+//! The words after the first of a line.
+ghost use Rattle.std.specs.Prelude.{◌≡◌, Option, option_map};
+ghost use Rattle.script.specs.Arguments.{one_of, two_of, three_of, number_of, exit_code_of, only_number_of};
+
+use crate::{Parts, decimal};
+
+/// The number below 2^32 that a word writes in decimal.
+pub(crate) fn number(word: &[u8]) -> Option<u32>
+    ensures { result ≡ number_of word.now }
+{
+    u32::try_from(decimal(word)?).ok()
+}
+
+/// The exit code that a word writes in decimal, perhaps with a minus before it.
+pub(crate) fn exit_code(word: &[u8]) -> Option<i32>
+    ensures { result ≡ exit_code_of word.now }
+{
+    match word {
+        [b'-', digits @ ..] => i32::try_from(-i64::from(number(digits)?)).ok(),
+        digits => i32::try_from(decimal(digits)?).ok(),
+    }
+}
+
+/// The word, where there is one.
+pub(crate) fn one<'a>(mut words: Parts<'a>) -> Option<&'a [u8]>
+    ensures { option_map (λ w. w.now) result ≡ one_of words.entry }
+{
+    let only = words.next()?;
+    match words.next() {
+        None => Some(only),
+        Some(_) => None,
+    }
+}
+
+/// The words, where there are two.
+pub(crate) fn two<'a>(mut words: Parts<'a>) -> Option<(&'a [u8], &'a [u8])>
+    ensures { option_map (λ w. (w.0.now, w.1.now)) result ≡ two_of words.entry }
+{
+    let first = words.next()?;
+    let second = words.next()?;
+    match words.next() {
+        None => Some((first, second)),
+        Some(_) => None,
+    }
+}
+
+/// The words, where there are three.
+pub(crate) fn three<'a>(mut words: Parts<'a>) -> Option<(&'a [u8], &'a [u8], &'a [u8])>
+    ensures { option_map (λ w. (w.0.now, w.1.now, w.2.now)) result ≡ three_of words.entry }
+{
+    let first = words.next()?;
+    let second = words.next()?;
+    let third = words.next()?;
+    match words.next() {
+        None => Some((first, second, third)),
+        Some(_) => None,
+    }
+}
+
+/// The number below 2^32 that the only word writes.
+pub(crate) fn only_number(words: Parts) -> Option<u32>
+    ensures { result ≡ only_number_of words.entry }
+{
+    number(one(words)?)
+}

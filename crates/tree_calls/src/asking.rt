@@ -1,0 +1,90 @@
+//! What requests ask for, once they passed the tests that each begins with.
+
+ghost use Rattle.std.specs.Prelude.{◌≡◌, option_map};
+ghost use Rattle.reapi_messages.specs.Digests.{digest_shown};
+ghost use Rattle.cas_service.specs.Answers.{Answers};
+ghost use Rattle.cas_service.specs.BatchUpdate.{set_digest};
+ghost use Rattle.tree_calls.specs.Asking.{tree_asked, tree_asked_shown, action_asked, result_sent, result_sent_shown};
+
+use cas_service::{CallError, check_function, check_instance};
+use digest::Digest;
+use input_tree::digest_written;
+use message_fields::Message;
+use reapi_messages as messages;
+use rpc::Refusal;
+use std::alloc::Global;
+use tree_messages::{GetActionResultRequest, GetTreeRequest, UpdateActionResultRequest};
+
+/// The tree that a request asks for, and its pages.
+#[derive(Clone, Copy)]
+pub struct TreeAsked<'a> {
+    pub root: Digest,
+    pub page_size: i32,
+    pub page_token: &'a str,
+}
+
+/// A result that a request sends, under the digest of its action.
+#[derive(Drop)]
+pub struct ResultSent {
+    pub action: Digest,
+    /// The bytes of the `ActionResult` as they were sent.
+    pub text: Vec<u8>,
+}
+
+/// The digest that a request has to write.
+fn read_digest(sent: &Option<messages::Digest<'_>>) -> Result<Digest, Refusal>
+    ensures { result ≡ set_digest (option_map digest_shown sent.now) }
+{
+    match digest_written(sent) {
+        Some(digest) => Ok(digest),
+        None => Err(Refusal::BadDigest),
+    }
+}
+
+/// The tree that a `GetTreeRequest` asks for.
+#[tactic(auto, unfolding(crate::specs::Asking::tree_asked))]
+pub fn tree_asked<'a>(
+    alloc: Global,
+    own: &str,
+    message: &'a [u8],
+) -> Result<TreeAsked<'a>, CallError>
+    ensures { Answers tree_asked_shown result (tree_asked own.now message.now) }
+{
+    let request = GetTreeRequest::decode(alloc, message)?;
+    check_instance(own, request.instance_name)?;
+    check_function(request.digest_function)?;
+    let root = read_digest(&request.root_digest)?;
+    Ok(TreeAsked {
+        root,
+        page_size: request.page_size,
+        page_token: request.page_token,
+    })
+}
+
+/// The action whose result a `GetActionResultRequest` asks for.
+#[tactic(auto, unfolding(crate::specs::Asking::action_asked))]
+pub fn action_asked(alloc: Global, own: &str, message: &[u8]) -> Result<Digest, CallError>
+    ensures { Answers (λ action. action) result (action_asked own.now message.now) }
+{
+    let request = GetActionResultRequest::decode(alloc, message)?;
+    check_instance(own, request.instance_name)?;
+    check_function(request.digest_function)?;
+    let action = read_digest(&request.action_digest)?;
+    Ok(action)
+}
+
+/// The result that an `UpdateActionResultRequest` sends. One that is not set has no bytes.
+#[tactic(auto, unfolding(crate::specs::Asking::result_sent))]
+pub fn result_sent(alloc: Global, own: &str, message: &[u8]) -> Result<ResultSent, CallError>
+    ensures { Answers result_sent_shown result (result_sent own.now message.now) }
+{
+    let request = UpdateActionResultRequest::decode(alloc, message)?;
+    check_instance(own, request.instance_name)?;
+    check_function(request.digest_function)?;
+    let action = read_digest(&request.action_digest)?;
+    let text = match request.action_result {
+        Some(text) => text,
+        None => Vec::new(alloc),
+    };
+    Ok(ResultSent { action, text })
+}

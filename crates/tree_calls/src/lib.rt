@@ -1,0 +1,18 @@
+//! GetTree of the content addressable storage, and GetActionResult and UpdateActionResult of the
+//! action cache (remote_execution.proto), from a request's bytes to its reply's bytes.
+//!
+//! A reply, and what becomes of an instance's texts and results, are functions of the instance's
+//! own name, texts and results and of the message alone. A refused call changes nothing.
+#![tactic(auto)]
+
+mod asking;
+mod laws;
+mod results;
+mod trees;
+
+pub use laws::{
+    pages_given_are_named, pages_joined_are_the_list, replies_are_short,
+    results_given_are_complete, results_stay_within, tree_lists_are_whole,
+};
+pub use results::{get_action_result, update_action_result};
+pub use trees::get_tree;

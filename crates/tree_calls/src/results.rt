@@ -1,0 +1,72 @@
+//! GetActionResult and UpdateActionResult.
+
+ghost use Rattle.std.specs.Prelude.{◌≡◌, ◌≤◌, ℕ, OnErr};
+ghost use Rattle.blob_pool.specs.Held.{Slots, count_at};
+ghost use Rattle.instance_view.specs.Shown.{shown, holders};
+ghost use Rattle.quota_evict.specs.Kept.{AreKept};
+ghost use Rattle.cas_service.specs.Answers.{Answers, IfAnswered};
+ghost use Rattle.cas_service.specs.Changes.{changed};
+ghost use Rattle.tree_calls.specs.Results.{get_action_result_reply, get_action_result_changes, after_get, update_action_result_reply, after_update};
+
+use crate::asking::{ResultSent, action_asked, result_sent};
+use action_cache::{Results, get_result};
+use blob_pool::Pool;
+use cas_service::CallError;
+use instance_view::View;
+use rpc::Refusal;
+use std::alloc::Global;
+
+/// Answers `GetActionResult`: the bytes of the action's result as they were stored, where it is
+/// complete (`action_cache::get_result`), else `NOT_FOUND`. A result that is answered becomes the
+/// most recently used, and its blobs are used in order. A refused call changes nothing.
+pub fn get_action_result(
+    alloc: Global,
+    own: &str,
+    results: &mut Results,
+    view: &mut View,
+    pool: &Pool,
+    message: &[u8],
+) -> Result<Vec<u8>, CallError>
+    requires held { (k : ℕ) → holders view.old k ≤ count_at pool.now k }
+    ensures reply { Answers (λ reply. reply.items) result
+        (get_action_result_reply own.now (shown pool.now view.old) results.old message.now) }
+    ensures results { IfAnswered result
+        (results.new ≡ after_get own.now (shown pool.now view.old) results.old message.now) }
+    ensures used { (p : Slots) (quota : ℕ) →
+        let visible = shown pool.now view.old in
+        let changes = get_action_result_changes own.now visible results.old message.now in
+        IfAnswered result
+        (shown p view.new ≡ changed view.old.limit quota changes (shown p view.old)) }
+    ensures err { OnErr result ((results.new ≡ results.old) × (view.new ≡ view.old)) }
+    ensures holders { (k : ℕ) → holders view.new k ≡ holders view.old k }
+    ensures kept { (p : Slots) (quota : ℕ) → AreKept quota p view.old → AreKept quota p view.new }
+    ensures limit { view.new.limit ≡ view.old.limit }
+{
+    let action = action_asked(alloc, own, message)?;
+    match get_result(alloc, results, view, pool, &action)? {
+        Some(text) => Ok(text),
+        None => Err(CallError::Refused(Refusal::NoResult)),
+    }
+}
+
+/// Answers `UpdateActionResult`: the bytes that were sent. They are stored as the action's result,
+/// in the place of an earlier one, and it is the most recently used; of all results the longest
+/// front stays that has at most 10,000 results and 67,108,864 bytes. A refused call changes
+/// nothing.
+pub fn update_action_result(
+    alloc: Global,
+    own: &str,
+    results: &mut Results,
+    message: &[u8],
+) -> Result<Vec<u8>, CallError>
+    ensures reply { Answers (λ reply. reply.items) result
+        (update_action_result_reply own.now message.now) }
+    ensures results { IfAnswered result
+        (results.new ≡ after_update own.now results.old message.now) }
+    ensures err { OnErr result (results.new ≡ results.old) }
+{
+    let ResultSent { action, text } = result_sent(alloc, own, message)?;
+    let reply = Vec::from_slice(alloc, &text)?;
+    results.update(&action, text)?;
+    Ok(reply)
+}

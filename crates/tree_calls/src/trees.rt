@@ -1,0 +1,80 @@
+//! GetTree.
+
+ghost use Rattle.std.specs.Prelude.{◌≡◌, ◌≤◌, ℕ, map, OnErr};
+ghost use Rattle.blob_pool.specs.Held.{Slots, count_at};
+ghost use Rattle.instance_view.specs.Shown.{shown, holders};
+ghost use Rattle.quota_evict.specs.Kept.{AreKept};
+ghost use Rattle.cas_service.specs.Answers.{Answers, IfAnswered};
+ghost use Rattle.cas_service.specs.Changes.{changed};
+ghost use Rattle.tree_calls.specs.GetTree.{tree_error, tree_refusal, get_tree_replies, get_tree_changes};
+
+use crate::asking::tree_asked;
+use blob_pool::Pool;
+use cas_service::CallError;
+use input_tree::{GetTreeError, TreeRefusal};
+use instance_view::View;
+use rpc::Refusal;
+use std::alloc::Global;
+
+/// The refusal of a call whose tree is refused.
+fn tree_refusal(refusal: TreeRefusal) -> Refusal
+    ensures { result ≡ tree_refusal refusal }
+{
+    match refusal {
+        TreeRefusal::NotFound => Refusal::BlobNotFound,
+        TreeRefusal::BadDirectory => Refusal::BadDirectory,
+        TreeRefusal::TooMany => Refusal::TreeTooLarge,
+        TreeRefusal::BadPage => Refusal::BadPage,
+    }
+}
+
+/// Why a call whose tree is not given has no reply.
+fn tree_error(error: GetTreeError) -> CallError
+    ensures { result ≡ tree_error error }
+{
+    match error {
+        GetTreeError::Refused(refusal) => CallError::Refused(tree_refusal(refusal)),
+        GetTreeError::NoMemory => CallError::NoMemory,
+    }
+}
+
+/// Answers `GetTree`: the pages of the root's tree, as messages in order, from the place that the
+/// token says on. Each directory of the list is then used, in order. A refused call changes
+/// nothing.
+///
+/// After the message, the instance name, the digest function and the root's digest these are
+/// tested in this order: that the root is there (`NOT_FOUND`), that it is a directory that is taken
+/// (`INVALID_ARGUMENT`), that the tree has at most 10,000 directories (`RESOURCE_EXHAUSTED`), and
+/// that the page size is not negative and the token is a place in the list (`INVALID_ARGUMENT`).
+pub fn get_tree(
+    alloc: Global,
+    own: &str,
+    view: &mut View,
+    pool: &Pool,
+    message: &[u8],
+) -> Result<Vec<Vec<u8>>, CallError>
+    requires held { (k : ℕ) → holders view.old k ≤ count_at pool.now k }
+    ensures replies { Answers (λ pages. map (λ page. page.items) pages.items) result
+        (get_tree_replies own.now (shown pool.now view.old) message.now) }
+    ensures used { (p : Slots) (quota : ℕ) →
+        let changes = get_tree_changes own.now (shown pool.now view.old) message.now in
+        IfAnswered result
+        (shown p view.new ≡ changed view.old.limit quota changes (shown p view.old)) }
+    ensures err { OnErr result (view.new ≡ view.old) }
+    ensures holders { (k : ℕ) → holders view.new k ≡ holders view.old k }
+    ensures kept { (p : Slots) (quota : ℕ) → AreKept quota p view.old → AreKept quota p view.new }
+    ensures limit { view.new.limit ≡ view.old.limit }
+{
+    let asked = tree_asked(alloc, own, message)?;
+    match input_tree::get_tree(
+        alloc,
+        view,
+        pool,
+        &asked.root,
+        asked.page_size,
+        asked.page_token,
+    ) {
+        Ok(pages) => Ok(pages),
+        Err(error) => Err(tree_error(error)),
+    }
+}

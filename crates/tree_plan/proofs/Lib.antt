@@ -1,0 +1,9 @@
+mod Walks
+mod Trees
+mod Kept
+mod Places
+mod Missing
+mod Pairs
+mod Distinct
+mod Named
+mod Paths

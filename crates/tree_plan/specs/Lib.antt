@@ -1,0 +1,5 @@
+pub mod Nodes
+pub mod Shown
+pub mod Walk
+pub mod Answers
+pub mod Tree

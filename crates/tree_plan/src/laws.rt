@@ -1,0 +1,42 @@
+//! What the definition of the walk says, for every tree.
+
+ghost use Rattle.std.specs.Prelude.{◌≡◌, ◌≢◌, List, [], is_some, true};
+ghost use Rattle.std.specs.List.{AllPairs, Contains};
+ghost use Rattle.digest.specs.declared.Digest.{Digest};
+ghost use Rattle.input_tree.specs.Listing.{Lookup};
+ghost use Rattle.tree_plan.specs.Nodes.{PlanNodeValue};
+ghost use Rattle.tree_plan.specs.Walk.{digests_met, directory_nodes, missing, walk};
+ghost use Rattle.tree_plan.specs.Tree.{AreMissing, HavePlaces, IsTree};
+
+/// A plan has the nodes of the root's tree: those of the root, each followed by all that is in it.
+pub fn a_plan_has_the_nodes_of_its_tree()
+    ensures { (look : Lookup) (root : Digest) (nodes : List PlanNodeValue) →
+        walk look root ≡ Ok nodes → IsTree look root nodes }
+{}
+
+/// Each node of a plan stands in the root or in a directory that comes before it.
+pub fn a_directory_comes_before_what_it_has()
+    ensures { (look : Lookup) (root : Digest) (top nodes : List PlanNodeValue) →
+        directory_nodes look [] 1 root ≡ Ok top → walk look root ≡ Ok nodes →
+        HavePlaces look top [] nodes }
+{}
+
+/// No two nodes of a plan have one path.
+pub fn a_path_stands_once_in_a_plan()
+    ensures { (look : Lookup) (root : Digest) (nodes : List PlanNodeValue) →
+        walk look root ≡ Ok nodes →
+        AllPairs (λ earlier later. earlier.path ≢ later.path) nodes }
+{}
+
+/// Where there is a plan, the texts of the root, of its files and of its directories are there.
+pub fn a_plan_misses_nothing()
+    ensures { (look : Lookup) (root : Digest) (nodes : List PlanNodeValue) →
+        walk look root ≡ Ok nodes → (d : Digest) → Contains (digests_met root nodes) d →
+        is_some (look d) ≡ true }
+{}
+
+/// The digests that are answered to be missing are those that are met and have no text.
+pub fn missing_blobs_are_those_not_there()
+    ensures { (look : Lookup) (root : Digest) (digests : List Digest) →
+        walk look root ≡ Err (missing digests) → AreMissing look root digests }
+{}

@@ -1,0 +1,163 @@
+//! The walk.
+
+ghost use Rattle.std.specs.Prelude.{◌≡◌, ◌++◌, ◌≤◌, ◌<◌, ℕ, [], map, reverse, IfOk, OnOk};
+ghost use Rattle.blob_pool.specs.Held.{count_at};
+ghost use Rattle.instance_view.specs.Shown.{holders};
+ghost use Rattle.input_tree.specs.Texts.{texts_of};
+ghost use Rattle.tree_plan.specs.Shown.{node_shown, nodes_shown};
+ghost use Rattle.tree_plan.specs.Walk.{digests_met, missing_among, nodes_inside, nodes_met, walk, walk_along, digest_of_node};
+ghost use Rattle.tree_plan.specs.Answers.{Answers};
+
+use crate::fault::TreeFault;
+use crate::node::{NodeKind, PlanNode, joined};
+use crate::reading::directory_nodes;
+use blob_pool::Pool;
+use digest::Digest;
+use instance_view::View;
+use std::alloc::{AllocError, Global};
+
+/// The most nodes that a tree has below its root.
+pub const MOST_NODES: usize = 10_000;
+
+/// The most levels that a tree has, of which the root is the first.
+pub const MOST_LEVELS: usize = 64;
+
+/// What stands in a tree.
+#[derive(Drop)]
+pub struct Plan {
+    /// The nodes in the order met: of a directory the files, then the symbolic links, then each
+    /// directory followed by what is in it.
+    pub nodes: Vec<PlanNode>,
+}
+
+/// The nodes in what a node is, none where it is no directory.
+fn nodes_inside(
+    alloc: Global,
+    view: &View,
+    pool: &Pool,
+    node: &PlanNode,
+) -> Result<Vec<PlanNode>, TreeFault>
+    requires { (k : ℕ) → holders view.now k ≤ count_at pool.now k }
+    ensures { Answers (λ nodes. nodes_shown nodes.items) result
+        (nodes_inside (texts_of pool.now view.now) (node_shown node.now)) }
+{
+    let NodeKind::Directory { digest } = &node.kind else {
+        return Ok(Vec::new(alloc));
+    };
+    if node.level >= MOST_LEVELS {
+        return Err(TreeFault::TooDeep);
+    }
+    let above = joined(alloc, &node.path, "/")?;
+    directory_nodes(alloc, view, pool, &above, node.level + 1, digest)
+}
+
+/// Puts nodes on a stack, the first of them on top.
+fn stack(todo: &mut Vec<PlanNode>, nodes: Vec<PlanNode>) -> Result<(), AllocError>
+    ensures { OnOk result (nodes_shown todo.new.items
+        ≡ nodes_shown todo.old.items ++ reverse (nodes_shown nodes.items)) }
+{
+    let mut nodes = nodes;
+    'nodes: while let Some(node) = nodes.pop() {
+        todo.push(node)?;
+    }
+    Ok(())
+}
+
+/// Walks on from nodes, the first of which is on top of a stack.
+fn walk_along(
+    alloc: Global,
+    view: &View,
+    pool: &Pool,
+    todo: Vec<PlanNode>,
+) -> Result<Vec<PlanNode>, TreeFault>
+    requires { (k : ℕ) → holders view.now k ≤ count_at pool.now k }
+    ensures { Answers (λ nodes. nodes_shown nodes.items) result
+        (walk_along 10000 (texts_of pool.now view.now) (reverse (nodes_shown todo.items)) []) }
+{
+    let mut todo = todo;
+    let mut met = Vec::new(alloc);
+    'nodes: while let Some(node) = todo.pop() {
+        if met.len() == MOST_NODES {
+            return Err(TreeFault::TooMany);
+        }
+        let inside = nodes_inside(alloc, view, pool, &node)?;
+        stack(&mut todo, inside)?;
+        met.push(node)?;
+    }
+    Ok(met)
+}
+
+/// The nodes of a root's tree, in the order met.
+fn nodes_met(
+    alloc: Global,
+    view: &View,
+    pool: &Pool,
+    root: &Digest,
+) -> Result<Vec<PlanNode>, TreeFault>
+    requires { (k : ℕ) → holders view.now k ≤ count_at pool.now k }
+    ensures { Answers (λ nodes. nodes_shown nodes.items) result
+        (nodes_met (texts_of pool.now view.now) root.now) }
+{
+    let nodes = directory_nodes(alloc, view, pool, "", 1, root)?;
+    let mut todo = Vec::new(alloc);
+    stack(&mut todo, nodes)?;
+    walk_along(alloc, view, pool, todo)
+}
+
+/// The digest of a file or directory.
+fn digest_of(node: &PlanNode) -> Option<Digest>
+    ensures { result ≡ digest_of_node (node_shown node.now) }
+{
+    match &node.kind {
+        NodeKind::File { digest, .. } | NodeKind::Directory { digest } => Some(*digest),
+        NodeKind::Symlink { .. } => None,
+    }
+}
+
+/// The digests of the root, of files and of directories of which the instance has no text, in
+/// order, each as often as it stands.
+fn missing_among(
+    alloc: Global,
+    view: &View,
+    pool: &Pool,
+    root: &Digest,
+    nodes: &[PlanNode],
+) -> Result<Vec<Digest>, AllocError>
+    ensures { IfOk result (λ missing. missing.items ≡ missing_among
+        (texts_of pool.now view.now) (digests_met root.now (nodes_shown nodes.now))) }
+{
+    let mut missing = Vec::new(alloc);
+    if !view.contains(root) {
+        missing.push(*root)?;
+    }
+    let mut left = nodes;
+    'nodes: while let [first, rest @ ..] = left {
+        if let Some(digest) = digest_of(first) {
+            if !view.contains(&digest) {
+                missing.push(digest)?;
+            }
+        }
+        left = rest;
+    }
+    Ok(missing)
+}
+
+/// Walks through the tree of a root: of each directory first the files, then the symbolic links,
+/// then each directory with what is in it.
+///
+/// Each node is counted when it is met, then its level is tested, then its text is looked at; the
+/// first fault that is met is answered. What is missing is answered where the whole walk has no
+/// other fault. The work is bounded by the nodes that are counted: a directory that stands in many
+/// places is read once for each.
+pub fn walk(alloc: Global, view: &View, pool: &Pool, root: &Digest) -> Result<Plan, TreeFault>
+    requires { (k : ℕ) → holders view.now k ≤ count_at pool.now k }
+    ensures { Answers (λ plan. nodes_shown plan.nodes.items) result
+        (walk (texts_of pool.now view.now) root.now) }
+{
+    let nodes = nodes_met(alloc, view, pool, root)?;
+    let missing = missing_among(alloc, view, pool, root, &nodes)?;
+    if missing.is_empty() {
+        return Ok(Plan { nodes });
+    }
+    Err(TreeFault::Missing(missing))
+}

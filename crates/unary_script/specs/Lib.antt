@@ -1,4 +1,0 @@
-pub mod Lines
-pub mod Method
-pub mod Script
-pub mod Shown

@@ -130,6 +130,18 @@ answered_kept given IsGood p q r i j vs ws a short =
       few = a.takes.few a.kept.few;
     }
 
+-- what a call event answered was given to its connections
+pub answers_given : (p q r : Slots) (i j : InstanceSlots) (os ns : List OpenConnection) (rs ys : List Reply) → rs ≡ ys → IsKept p (slots_of i os) →
+    Moves p q (holders_of_instance i) (λ k. holders_of_instance j k + replies_holders ys k) → TakeRanges (replies_holders rs) (RepliesEndWithin rs) q (map served os) r (map served ns) → WithinLimits (state_in q j) →
+    AllByRecursion IsShortReply (map (reply_shown q) ys) → IsAnswered (replies_holders rs) (RepliesEndWithin rs) p q r i j (map served os) (map served ns)
+answers_given p q r i j os ns rs ys is kept moves takes within short = record {
+  kept = kept;
+  moves = subst (λ (xs : List Reply). Moves p q (holders_of_instance i) (λ k. holders_of_instance j k + replies_holders xs k)) (sym is) moves;
+  takes = takes;
+  within = within;
+  good = replies_end q rs (subst (λ (xs : List Reply). AllByRecursion IsShortReply (map (reply_shown q) xs)) (sym is) short);
+}
+
 -- ---- what it stands for
 
 replied_at : (rs : List ReplyValue) (l : Lone) → (replied rs l).connections ≡ given rs l.connections

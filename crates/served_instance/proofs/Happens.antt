@@ -26,7 +26,7 @@ use Rattle.served_instance.specs.Ranges.{served_with, sources_at, range_holders}
 use Rattle.served_instance.specs.Shown.{served}
 use Rattle.served_instance.specs.Slots.{holders_of, IsKept}
 use Rattle.served_instance.specs.StandsFor.{Served, AreServed}
-use Rattle.served_instance.specs.Acts.{ActsIn, StandsBy}
+use Rattle.served_instance.specs.Acts.{ActsIn, StandsBy, slots_of}
 use Rattle.served_instance.proofs.Commutes.{given, replied_is}
 use Rattle.served_instance.proofs.Frames.{happened_is}
 use Rattle.served_instance.proofs.Gives.{AreGiven}

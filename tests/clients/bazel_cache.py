@@ -82,7 +82,7 @@ def build(folder, copy, port, instance, jobs):
     """Builds a copy of the workspace with an output base of its own; Bazel's counts, and the folder of outputs."""
     workspace = os.path.join(folder, f"workspace-{copy}")
     start = ["bazel", f"--output_user_root={folder}/root", f"--output_base={folder}/base-{copy}"]
-    start += ["--nohome_rc", "--noworkspace_rc", "--max_idle_secs=5"]
+    start += ["--nohome_rc", "--noworkspace_rc", "--max_idle_secs=60", "--local_startup_timeout_secs=600"]
     flags = [f"--remote_cache=grpc://127.0.0.1:{port}", f"--remote_instance_name={instance}", f"--jobs={jobs}"]
     flags += ["--color=no", "--curses=no", "--spawn_strategy=local", "--remote_timeout=60"]
     done = subprocess.run([*start, "build", *flags, "//:all"], cwd=workspace, capture_output=True, text=True)

@@ -20,19 +20,27 @@ pub record PlanNodeValue : Type 0 where
   pub level : ℕ
   pub kind : NodeKindValue
 
+abbrev pub node_at : List ℕ → ℕ → List ℕ → NodeKindValue → PlanNodeValue
+node_at above level name kind = record { path = above ++ name; level = level; kind = kind }
+
 -- a node of a directory of this level, to whose path the names of its nodes are added
 abbrev pub file_at : List ℕ → ℕ → FileNodeValue → Option PlanNodeValue
-file_at above level n = option_map (λ d. record { path = above ++ n.name; level = level; kind = file d n.is_executable }) (digest_written n.digest)
+file_at above level n =
+    option_map (λ d. node_at above level n.name (file d n.is_executable)) (digest_written n.digest)
 
 abbrev pub symlink_at : List ℕ → ℕ → SymlinkNodeValue → Option PlanNodeValue
-symlink_at above level n = Some (record { path = above ++ n.name; level = level; kind = symlink n.target })
+symlink_at above level n = Some (node_at above level n.name (symlink n.target))
 
 abbrev pub directory_at : List ℕ → ℕ → DirectoryNodeValue → Option PlanNodeValue
-directory_at above level n = option_map (λ d. record { path = above ++ n.name; level = level; kind = directory d }) (digest_written n.digest)
+directory_at above level n =
+    option_map (λ d. node_at above level n.name (directory d)) (digest_written n.digest)
 
 -- the nodes of a directory: files, then symbolic links, then directories
 abbrev pub nodes_of : List ℕ → ℕ → DirectoryValue → List PlanNodeValue
-nodes_of above level v = filter_map (file_at above level) v.files ++ (filter_map (symlink_at above level) v.symlinks ++ filter_map (directory_at above level) v.directories)
+nodes_of above level v =
+    filter_map (file_at above level) v.files
+    ++ (filter_map (symlink_at above level) v.symlinks
+    ++ filter_map (directory_at above level) v.directories)
 
 -- the nodes of the directory that a text spells
 abbrev pub nodes_in : List ℕ → ℕ → List ℕ → Option (List PlanNodeValue)

@@ -34,7 +34,9 @@ directory_nodes look above level d = nodes_of_text above level (look d)
 abbrev pub nodes_below : Lookup → List ℕ → ℕ → NodeKindValue → Nodes
 nodes_below look path level (file d is_executable) = Ok []
 nodes_below look path level (symlink target) = Ok []
-nodes_below look path level (directory d) = if nat_le 64 level then Err too_deep else directory_nodes look (path ++ 47 ∷ []) (level + 1) d
+nodes_below look path level (directory d) =
+    if nat_le 64 level then Err too_deep
+    else directory_nodes look (path ++ 47 ∷ []) (level + 1) d
 
 abbrev pub nodes_inside : Lookup → PlanNodeValue → Nodes
 nodes_inside look n = nodes_below look n.path n.level n.kind
@@ -43,7 +45,8 @@ nodes_inside look n = nodes_below look n.path n.level n.kind
 unfoldable pub walk_along : ℕ → Lookup → List PlanNodeValue → List PlanNodeValue → Nodes
 walk_along most look [] met = Ok met
 walk_along zero look (n ∷ next) met = Err too_many
-walk_along (suc most) look (n ∷ next) met = nodes_inside look n >>= (λ inside. walk_along most look (inside ++ next) (met ++ n ∷ []))
+walk_along (suc most) look (n ∷ next) met =
+    nodes_inside look n >>= (λ inside. walk_along most look (inside ++ next) (met ++ n ∷ []))
 
 -- the nodes of a root's tree, at most 10,000, in the order met
 abbrev pub nodes_met : Lookup → Digest → Nodes

@@ -4,7 +4,9 @@ use Rattle.std.specs.Prelude.{option_map, slice_get}
 use Rattle.std.specs.declared.alloc.Global.{Global}
 use Rattle.std.specs.declared.vec.Vec.{Vec}
 use Rattle.std.specs.Map.{lookup, lookup_entry, remove_entry}
-use Rattle.std.proofs.lemmas.List.{take-map}
+use Rattle.std.proofs.lemmas.List.{length-map, length-take-le, take-map}
+use Rattle.std.proofs.lemmas.Map.Made.{lookup-map_values}
+use Rattle.std.proofs.lemmas.Option.{slice_get-map}
 use Rattle.std.proofs.lemmas.Bool.Decides.{nat_tests}
 use Rattle.lru.specs.LruCache.{LruCache, put_entries}
 use Rattle.lru.proofs.CallerLemmas.{Contains-lookup_entry}
@@ -21,11 +23,7 @@ abbrev items_of : Vec ℕ Global → List ℕ
 items_of text = text.items
 
 pub lookup-shown : (t : Digest → Bool) (es : List Kept) → lookup t (map shown es) ≡ option_map items_of (lookup t es)
-lookup-shown t [] = refl
-lookup-shown t (e ∷ es) = go (t e.0) refl (lookup-shown t es) where
-  go : (b : Bool) → t e.0 ≡ b → lookup t (map shown es) ≡ option_map items_of (lookup t es) → lookup t (map shown (e ∷ es)) ≡ option_map items_of (lookup t (e ∷ es))
-  go true is ih = rw is refl
-  go false is ih = rw is ih
+lookup-shown t es = lookup-map_values items_of t es
 
 pub lookup_some : (t : Digest → Bool) (es : List Kept) (text : Vec ℕ Global) → Some text ≡ lookup t es → Some text.items ≡ lookup t (map shown es)
 lookup_some t es text is = sym (lookup-shown t es ∙ ap (option_map items_of) (sym is))
@@ -53,20 +51,6 @@ fronted-shown t es = go (lookup_entry t es) refl where
   go None is = let there : lookup_entry t (map shown es) ≡ None = lookup_entry-shown t es ∙ ap (option_map shown) is in rw (there, is) refl
   go (Some e) is = let there : lookup_entry t (map shown es) ≡ Some (shown e) = lookup_entry-shown t es ∙ ap (option_map shown) is in let rest = remove_entry-shown t es in rw (there, is, rest) refl
 
--- a use changes no text
-pub total-fronted : (t : Digest → Bool) (bs : List Blob) → total (fronted t bs) ≡ total bs
-total-fronted t bs = go (lookup_entry t bs) refl where
-  without : (bs : List Blob) (b : Blob) → lookup_entry t bs ≡ Some b → length b.1 + total (remove_entry t bs) ≡ total bs
-  without [] b is = cc
-  without (x ∷ xs) b is = at (t x.0) refl is (λ later. without xs b later) where
-    at : (c : Bool) → t x.0 ≡ c → cond c (Some x) (lookup_entry t xs) ≡ Some b → (lookup_entry t xs ≡ Some b → length b.1 + total (remove_entry t xs) ≡ total xs) → length b.1 + total (remove_entry t (x ∷ xs)) ≡ total (x ∷ xs)
-    at true c is ih = let same : x ≡ b = cc in rw (c, same) refl
-    at false c is ih = let rest = ih is in rw c (omega (arith, rest))
-
-  go : (o : Option Blob) → lookup_entry t bs ≡ o → total (fronted t bs) ≡ total bs
-  go None is = rw is refl
-  go (Some b) is = rw is (without bs b is)
-
 -- what is beyond the first n, where that is one pair at most
 pub total-take : (n : ℕ) (bs : List Blob) → length bs ≤ n + 1 → total (take n bs) + text_length (slice_get bs n) ≡ total bs
 total-take zero [] h = refl
@@ -74,19 +58,6 @@ total-take zero (b ∷ []) h = omega arith
 total-take zero (b ∷ c ∷ bs) h = absurd (omega arith)
 total-take (suc n) [] h = refl
 total-take (suc n) (b ∷ bs) h = let ih = total-take n bs (omega arith) in omega (arith, ih)
-
-pub length-fronted : {X : Type 0} (t : Digest → Bool) (ps : List (Digest × X)) → length (fronted t ps) ≡ length ps
-length-fronted {X = X} t ps = go (lookup_entry t ps) refl where
-  without : (ps : List (Digest × X)) (p : Digest × X) → lookup_entry t ps ≡ Some p → length (remove_entry t ps) + 1 ≡ length ps
-  without [] p is = cc
-  without (x ∷ xs) p is = at (t x.0) refl is (λ later. without xs p later) where
-    at : (c : Bool) → t x.0 ≡ c → cond c (Some x) (lookup_entry t xs) ≡ Some p → (lookup_entry t xs ≡ Some p → length (remove_entry t xs) + 1 ≡ length xs) → length (remove_entry t (x ∷ xs)) + 1 ≡ length (x ∷ xs)
-    at true c is ih = rw c (omega arith)
-    at false c is ih = let rest = ih is in rw c (omega (arith, rest))
-
-  go : (o : Option (Digest × X)) → lookup_entry t ps ≡ o → length (fronted t ps) ≡ length ps
-  go None is = rw is refl
-  go (Some p) is = let rest = without ps p is in rw is (omega (arith, rest))
 
 -- ---- a pair is put in front, in the place of an earlier one
 
@@ -129,32 +100,18 @@ put_total d text n c most few =
     let removed = total_removed (same d) (map shown c.entries) in
     rw (put_shown d text n c most few, ← lookup-shown (same d) c.entries) (omega (arith, removed))
 
-length-shown : (es : List Kept) → length (map shown es) ≡ length es
-length-shown [] = refl
-length-shown (e ∷ es) = let ih = length-shown es in omega (arith, ih)
-
-slice_get-shown : (es : List Kept) (n : ℕ) → slice_get (map shown es) n ≡ option_map shown (slice_get es n)
-slice_get-shown [] n = refl
-slice_get-shown (e ∷ es) zero = refl
-slice_get-shown (e ∷ es) (suc n) = slice_get-shown es n
-
 pub pop_total : (es : List Kept) → total (map shown (take (length es - 1) es)) + text_length (option_map shown (slice_get es (length es - 1))) ≡ total (map shown es)
 pop_total es =
-    let lost = slice_get-shown es (length es - 1) in
-    let kept = total-take (length es - 1) (map shown es) (omega (arith, length-shown es)) in
+    let lost = slice_get-map shown es (length es - 1) in
+    let kept = total-take (length es - 1) (map shown es) (omega (arith, length-map es shown)) in
     let shown_kept : map shown (take (length es - 1) es) ≡ take (length es - 1) (map shown es) = sym (take-map shown (length es - 1) es) in
     rw (shown_kept, ← lost) kept
 
 pub pop_shown : (es : List Kept) → map shown (take (length es - 1) es) ≡ without_oldest (map shown es)
-pop_shown es = rw (length-shown es) (sym (take-map shown (length es - 1) es))
-
-length-take_some : (n : ℕ) (es : List Kept) → n ≤ length es → length (take n es) ≡ n
-length-take_some zero es h = refl
-length-take_some (suc n) [] h = absurd (omega arith)
-length-take_some (suc n) (e ∷ es) h = ap (λ (m : ℕ). suc m) (length-take_some n es (omega arith))
+pop_shown es = rw (length-map es shown) (sym (take-map shown (length es - 1) es))
 
 pub pop_length : (es : List Kept) → length (take (length es - 1) es) ≡ length es - 1
-pop_length es = length-take_some (length es - 1) es (omega arith)
+pop_length es = length-take-le (length es - 1) es (omega arith)
 
 -- ---- what there is no room for
 
@@ -187,7 +144,7 @@ front_shorter n room [] over = absurd (elim over [ inl few ↦ omega arith | inr
 front_shorter n room (b ∷ bs) over = without_last n room (length (b ∷ bs) - 1) (b ∷ bs) over (omega arith)
 
 pub front_popped : (n room : ℕ) (es : List Kept) → (n < length es) ⊎ (room < total (map shown es)) → front_within n room (without_oldest (map shown es)) ≡ front_within n room (map shown es)
-front_popped n room es over = front_shorter n room (map shown es) (elim over [ inl few ↦ inl (omega (arith, few, length-shown es)) | inr short ↦ inr short ])
+front_popped n room es over = front_shorter n room (map shown es) (elim over [ inl few ↦ inl (omega (arith, few, length-map es shown)) | inr short ↦ inr short ])
 
 pub front_kept : (n room : ℕ) (es : List Kept) → length es ≤ n → total (map shown es) ≤ room → front_within n room (map shown es) ≡ map shown es
-front_kept n room es few short = front_whole n room (map shown es) (omega (arith, few, length-shown es)) short
+front_kept n room es few short = front_whole n room (map shown es) (omega (arith, few, length-map es shown)) short

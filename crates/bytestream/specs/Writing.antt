@@ -14,7 +14,7 @@ use Rattle.cas_service.specs.Requests.{readable, own_instance}
 use Rattle.resource_names.specs.Names.{write_name}
 use Rattle.uploads.specs.declared.error.UploadError.{UploadError}
 use Rattle.uploads.specs.Uploads.{KeyValue, UploadList, without_upload, text_so_far}
-use Rattle.uploads.specs.Writing.{PieceValue, begin_answer, append_answer, finish_answer, after_piece}
+use Rattle.uploads.specs.Writing.{PieceValue, call_answer, finish_answer, after_piece}
 use Rattle.bytestream.specs.Refusals.{named, upload_meaning}
 use Rattle.bytestream.specs.Querying.{key_named}
 
@@ -70,8 +70,7 @@ next_asked call message = do
 
 -- what a piece is answered, in the first message of a call or a later one
 abbrev pub piece_taken : Bool → ℕ → PartValue → UploadList → Result Unit UploadError
-piece_taken true quota part uploads = begin_answer quota part.key part.piece uploads
-piece_taken false quota part uploads = append_answer quota part.key part.piece uploads
+piece_taken first quota part uploads = call_answer first quota part.key part.piece uploads
 
 -- whether an upload whose piece was taken is complete
 abbrev pub end_answer : PartValue → UploadList → Result Bool Refusal

@@ -1,6 +1,6 @@
 //! A message's piece of an upload.
 
-ghost use Rattle.std.specs.Prelude.{◌≡◌, ◌≤◌, ◌^◌, true, false, IsSome};
+ghost use Rattle.std.specs.Prelude.{◌≡◌, ◌≤◌, ◌^◌, IsSome};
 ghost use Rattle.blob_pool.specs.Moves.{Moves};
 ghost use Rattle.instance_view.specs.Shown.{shown, holders};
 ghost use Rattle.quota_evict.specs.Kept.{AreKept};
@@ -38,7 +38,7 @@ fn call_error(error: UploadError) -> CallError
 }
 
 /// Ends an upload whose piece was taken, where that was its last, and says whether it was.
-pub(crate) fn finish_last(
+fn finish_last(
     alloc: Global,
     quota: u64,
     view: &mut View,
@@ -74,11 +74,13 @@ pub(crate) fn finish_last(
     }
 }
 
-/// Takes the part of a call's first message, and says whether it completes the upload.
-pub(crate) fn take_first(
+/// Takes the part of a call's first message or of a later one, and says whether it completes the
+/// upload.
+pub(crate) fn take_part(
     alloc: Global,
     quota: u64,
     moment: u64,
+    first: bool,
     view: &mut View,
     pool: &mut Pool,
     uploads: &mut Uploads,
@@ -88,55 +90,21 @@ pub(crate) fn take_first(
     requires kept { AreKept quota pool.old view.old }
     requires within { WithinLimits quota uploads.old }
     ensures answer { Answers (λ complete. complete) result
-        (part_answer true quota moment (part_shown part.now) uploads.old) }
+        (part_answer first quota moment (part_shown part.now) uploads.old) }
     ensures visible { IfAnswered result (shown pool.new view.new
-        ≡ (after_part true view.old.limit quota moment (part_shown part.now)
+        ≡ (after_part first view.old.limit quota moment (part_shown part.now)
         (state_of (shown pool.old view.old) uploads.old)).visible) }
     ensures uploads { IfAnswered result (uploads.new
-        ≡ (after_part true view.old.limit quota moment (part_shown part.now)
+        ≡ (after_part first view.old.limit quota moment (part_shown part.now)
         (state_of (shown pool.old view.old) uploads.old)).uploads) }
     ensures memory { IfNoMemory result ((view.new ≡ view.old) × (pool.new ≡ pool.old)
-        × IsOldOrTaken true quota moment (part_shown part.now) uploads.old uploads.new) }
+        × IsOldOrTaken first quota moment (part_shown part.now) uploads.old uploads.new) }
     ensures within { WithinLimits quota uploads.new }
     ensures moves { Moves pool.old pool.new (holders view.old) (holders view.new) }
     ensures kept { AreKept quota pool.new view.new }
     ensures limit { view.new.limit ≡ view.old.limit }
 {
-    match uploads.begin(alloc, quota, moment, part.key, &part.piece) {
-        Ok(()) => finish_last(alloc, quota, view, pool, uploads, part),
-        Err(error) => Err(call_error(error)),
-    }
-}
-
-/// Takes the part of a later message, and says whether it completes the upload.
-pub(crate) fn take_next(
-    alloc: Global,
-    quota: u64,
-    moment: u64,
-    view: &mut View,
-    pool: &mut Pool,
-    uploads: &mut Uploads,
-    part: &Part<'_>,
-) -> Result<bool, CallError>
-    requires quota { quota ≤ 2 ^ 40 }
-    requires kept { AreKept quota pool.old view.old }
-    requires within { WithinLimits quota uploads.old }
-    ensures answer { Answers (λ complete. complete) result
-        (part_answer false quota moment (part_shown part.now) uploads.old) }
-    ensures visible { IfAnswered result (shown pool.new view.new
-        ≡ (after_part false view.old.limit quota moment (part_shown part.now)
-        (state_of (shown pool.old view.old) uploads.old)).visible) }
-    ensures uploads { IfAnswered result (uploads.new
-        ≡ (after_part false view.old.limit quota moment (part_shown part.now)
-        (state_of (shown pool.old view.old) uploads.old)).uploads) }
-    ensures memory { IfNoMemory result ((view.new ≡ view.old) × (pool.new ≡ pool.old)
-        × IsOldOrTaken false quota moment (part_shown part.now) uploads.old uploads.new) }
-    ensures within { WithinLimits quota uploads.new }
-    ensures moves { Moves pool.old pool.new (holders view.old) (holders view.new) }
-    ensures kept { AreKept quota pool.new view.new }
-    ensures limit { view.new.limit ≡ view.old.limit }
-{
-    match uploads.append(alloc, quota, moment, part.key, &part.piece) {
+    match uploads.take_piece(alloc, quota, moment, first, part.key, &part.piece) {
         Ok(()) => finish_last(alloc, quota, view, pool, uploads, part),
         Err(error) => Err(call_error(error)),
     }

@@ -10,7 +10,7 @@ ghost use Rattle.bytestream.specs.Writing.{state_of, same_name, write_reply, unf
 ghost use Rattle.bytestream.specs.Shown.{part_shown, first_part_shown, open_write_shown, written_shown, IfGoes};
 
 use crate::names::write_name;
-use crate::part::{Part, take_first, take_next};
+use crate::part::{Part, take_part};
 use blob_pool::Pool;
 use cas_service::{CallError, check_instance};
 use digest::Digest;
@@ -179,7 +179,7 @@ pub fn write_first(
         piece: first.piece,
         is_last: first.is_last,
     };
-    if take_first(alloc, quota, moment, view, pool, uploads, &part)? {
+    if take_part(alloc, quota, moment, true, view, pool, uploads, &part)? {
         return Ok(Written::Answered(reply));
     }
     Ok(Written::Goes(OpenWrite { name, key }))
@@ -223,7 +223,7 @@ pub fn write_next(
 {
     let part = next_asked(alloc, call, message)?;
     let reply = reply_of(alloc, part.key.digest().size)?;
-    if take_next(alloc, quota, moment, view, pool, uploads, &part)? {
+    if take_part(alloc, quota, moment, false, view, pool, uploads, &part)? {
         return Ok(Some(reply));
     }
     Ok(None)

@@ -24,7 +24,9 @@ fn is_kept_and_forgotten(
         offset: 0,
         bytes: b"ab",
     };
-    let begun = uploads.begin(alloc, QUOTA, written, &key, &piece).is_ok();
+    let begun = uploads
+        .take_piece(alloc, QUOTA, written, true, &key, &piece)
+        .is_ok();
     uploads.expire(kept);
     let is_kept = uploads.committed(&key) == Some(2);
     uploads.expire(forgotten);
@@ -49,7 +51,7 @@ fn begin(uploads: &mut Uploads, alloc: Global, size: u64) -> Result<(), UploadEr
         offset: 0,
         bytes: b"",
     };
-    uploads.begin(alloc, QUOTA, 0, &key, &piece)
+    uploads.take_piece(alloc, QUOTA, 0, true, &key, &piece)
 }
 
 /// Begins uploads of the sizes below this one.

@@ -2,7 +2,7 @@ ghost use Rattle.std.specs.Prelude.{◌≡◌, ◌≤◌, ℕ, List, map, OnOk, 
 ghost use Rattle.reapi_messages.specs.Batches.{read_blob_response_shown};
 ghost use Rattle.instance_view.specs.Visible.{seen};
 ghost use Rattle.blob_pool.specs.Held.{Slots, count_at};
-ghost use Rattle.instance_view.specs.Shown.{shown, holders, holders_seen, text_seen};
+ghost use Rattle.instance_view.specs.Shown.{shown, holders};
 ghost use Rattle.quota_evict.specs.Kept.{AreKept};
 ghost use Rattle.cas_service.specs.Answers.{Answers};
 ghost use Rattle.cas_service.specs.Changes.{changed};
@@ -15,8 +15,8 @@ use crate::requests::{
     Asked, MOST_BATCH_BYTES, check_function, check_instance, read_digests, use_all,
 };
 use crate::statuses::{ok_status, refused_status};
-use blob_pool::{Pool, keep};
-use instance_view::{Seen, View};
+use blob_pool::Pool;
+use instance_view::{View, copy_of};
 use reapi_messages::{BatchReadBlobsRequest, BatchReadBlobsResponse, Message, ReadBlobResponse};
 use rpc::Refusal;
 use std::alloc::{AllocError, Global};
@@ -64,21 +64,6 @@ pub struct Found<'a> {
     pub text: Option<Vec<u8>>,
 }
 
-/// A copy of a text that an instance has.
-fn copy(alloc: Global, pool: &Pool, seen: Seen) -> Result<Vec<u8>, AllocError>
-    requires { (k : ℕ) → holders_seen seen k ≤ count_at pool.now k }
-    ensures { IfOk result (λ text. text.items ≡ text_seen pool.now seen) }
-{
-    let mut text = Vec::new(alloc);
-    if let Seen::Text(kept) = seen {
-        let hold = pool.back(kept);
-        let done = pool.copy_into(&hold, &mut text);
-        let _ = keep(hold);
-        done?;
-    }
-    Ok(text)
-}
-
 /// What there is of a digest.
 fn find<'a>(
     alloc: Global,
@@ -92,7 +77,7 @@ fn find<'a>(
         ≡ seen asked.now.digest (shown pool.now view.now)) }
 {
     let text = match view.get(&asked.digest) {
-        Some(seen) => Some(copy(alloc, pool, seen)?),
+        Some(seen) => Some(copy_of(alloc, pool, seen)?),
         None => None,
     };
     Ok(Found {

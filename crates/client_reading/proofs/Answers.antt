@@ -28,7 +28,7 @@ use Rattle.http2_streams.specs.Diary.{Entry}
 use Rattle.http2_streams.specs.Standing.{Standing, standing}
 use Rattle.http2_streams.specs.Rules.{is_idle, is_live_at, is_receiving, is_remembered, update, brings, nothing, stream_error, on_data, on_given, on_request, on_trailers, on_settings, settings_fault, on_ping, on_connection_update, on_stream_update, overflows, fits, on_content, on_frame_of, in_turn, answer_to, causes, control_frames}
 use Rattle.http2_streams.specs.ControlAnswers.{IsAnswer}
-use Rattle.http2_streams.proofs.ControlLaw.{answers_are_control}
+use Rattle.http2_streams.proofs.ControlLaw.{EachAnswer, IfFrame, answer_elim, answers_are_control, each_answer}
 use Rattle.client_reading.specs.Changes.{IsReceivable}
 use Rattle.client_reading.proofs.Choices.{choose, OkThen, all_both}
 use Rattle.client_reading.proofs.Numbered.{IsNumbered, IsNumberedBlock, IsFramed, frame_numbered, unfinished_numbered}
@@ -56,31 +56,11 @@ IsFit (RstStream s code) = IsStream s × (code < 2 ^ 32)
 IsFit (WindowUpdate s n) = (s < 2 ^ 31) × (n < 2 ^ 31)
 IsFit _ = Unit {0}
 
-abbrev IsFitOption : Option Frame → Type 0
-IsFitOption None = Unit {0}
-IsFitOption (Some f) = IsFit f
+abbrev AreFit : StreamEvent → Type 0
+AreFit a = EachAnswer IsFit a
 
-record AreFit (a : StreamEvent) : Type 0 where
-  acknowledgement : IsFitOption a.acknowledgement
-  connection_update : IsFitOption a.connection_update
-  stream_update : IsFitOption a.stream_update
-  reset : IsFitOption a.reset
-
-with_option : (o : Option Frame) (fs : List Frame) → IsFitOption o → AllByRecursion IsFit fs → AllByRecursion IsFit (option_to_list o ++ fs)
-with_option None fs h hs = hs
-with_option (Some f) fs h hs = (h, hs)
-
-one_option : (o : Option Frame) → IsFitOption o → AllByRecursion IsFit (option_to_list o)
-one_option None h = tt
-one_option (Some f) h = (h, tt)
-
-all_fit : (a : StreamEvent) → AreFit a → AllByRecursion IsFit (control_frames a)
-all_fit a h =
-    with_option a.acknowledgement _ h.acknowledgement (with_option a.connection_update _ h.connection_update
-    (with_option a.stream_update _ h.stream_update (one_option a.reset h.reset)))
-
-update_fit : (s n : ℕ) → s < 2 ^ 31 → n ≤ 16384 → IsFitOption (update s n)
-update_fit s n low small = choose IsFitOption (n == 0) None (Some (WindowUpdate s n)) (λ _. tt) (λ _. (low, omega arith))
+update_fit : (s n : ℕ) → s < 2 ^ 31 → n ≤ 16384 → IfFrame IsFit (update s n)
+update_fit s n low small = choose (IfFrame IsFit) (n == 0) None (Some (WindowUpdate s n)) (λ _. tt) (λ _. (low, omega arith))
 
 event_fit : (e : Event) → AreFit (brings e)
 event_fit e = record { acknowledgement = tt; connection_update = tt; stream_update = tt; reset = tt }
@@ -94,7 +74,7 @@ Fit r = OkThen AreFit r
 data_fit : (v : Standing) (n s : ℕ) (e : Bool) (bytes : List ℕ) → n ≤ 16384 → IsStream s → Fit (on_data v n s e bytes)
 data_fit v n s e bytes small is =
     choose Fit (is_idle v s) _ _ (λ _. tt)
-    (λ _. choose Fit (is_receiving v s) _ _ (λ _. record { acknowledgement = tt; connection_update = update_fit 0 n (omega arith) small; stream_update = choose IsFitOption e None (update s n) (λ _. tt) (λ _. update_fit s n is.1 small); reset = tt })
+    (λ _. choose Fit (is_receiving v s) _ _ (λ _. record { acknowledgement = tt; connection_update = update_fit 0 n (omega arith) small; stream_update = choose (IfFrame IsFit) e None (update s n) (λ _. tt) (λ _. update_fit s n is.1 small); reset = tt })
     (λ _. choose Fit (is_remembered v s) _ _ (λ _. record { acknowledgement = tt; connection_update = update_fit 0 n (omega arith) small; stream_update = tt; reset = tt })
     (λ _. record { acknowledgement = tt; connection_update = update_fit 0 n (omega arith) small; stream_update = tt; reset = (is, code_low StreamClosed) })))
 
@@ -186,19 +166,9 @@ answer_fit v f is u =
 -- ---- answers are written
 
 answer_writable : (g : Frame) → IsAnswer g → IsFit g → IsWritable g
-answer_writable (Settings ack settings) h fit = rw h.1 (tt, omega arith, λ (e : ack ≡ true). refl)
-answer_writable (Ping ack o) h fit = h.1
-answer_writable (WindowUpdate s n) h fit = fit
-answer_writable (RstStream s code) h fit = fit
-answer_writable (Data s e b) h fit = absurd h
-answer_writable (Headers s e x b) h fit = absurd h
-answer_writable (Priority s p) h fit = absurd h
-answer_writable (PushPromise f s p) h fit = absurd h
-answer_writable (GoAway s c b) h fit = absurd h
-answer_writable (Continuation s x b) h fit = absurd h
-answer_writable (Unknown k f s p) h fit = absurd h
+answer_writable = answer_elim (λ g. IsFit g → IsWritable g) (λ ack settings h fit. rw h.1 (tt, omega arith, λ (e : ack ≡ true). refl)) (λ ack o h fit. h.1) (λ s n fit. fit) (λ s code fit. fit)
 
 pub answers_writable : (d : List Entry) (f : RawFrame) (a : StreamEvent) → AllByRecursion IsFramed d → IsReceivable f → causes d f ≡ Ok a → AllByRecursion IsWritable (control_frames a)
 answers_writable d f a framed is h =
     let fit : AreFit a = subst Fit h (answer_fit (standing d) f is (unfinished_numbered d framed)) in
-    all_both IsAnswer IsFit IsWritable (control_frames a) answer_writable (answers_are_control (standing d) f a h) (all_fit a fit)
+    all_both IsAnswer IsFit IsWritable (control_frames a) answer_writable (answers_are_control (standing d) f a h) (each_answer IsFit a fit)

@@ -11,6 +11,7 @@ use Rattle.hpack.specs.Header.{Header}
 use Rattle.http2_frames.specs.declared.frame.RawFrame.{RawFrame}
 use Rattle.http2_frames.specs.declared.frame.Frame.{Frame}
 use Rattle.http2_frames.specs.declared.frame.Frame.TheVariants.{Data, Headers, Priority, RstStream, Settings, PushPromise, Ping, GoAway, WindowUpdate, Continuation, Unknown}
+use Rattle.http2_frames.specs.declared.settings.Setting.{Setting}
 use Rattle.http2_headers.specs.HeaderBlock.{HeaderBlock}
 use Rattle.http2_streams.specs.declared.event.Event.{Event}
 use Rattle.http2_streams.specs.declared.event.Event.TheVariants.{Request}
@@ -22,25 +23,18 @@ use Rattle.http2_streams.specs.LiveStreams.{IsOnItsStream}
 use Rattle.http2_streams.specs.ControlAnswers.{IsAnswer}
 use Rattle.http2_streams.proofs.EventLaw.{event_on_stream, request_is_highest}
 use Rattle.http2_streams.proofs.LiveLaw.{blocks_stay}
-use Rattle.http2_streams.proofs.ControlLaw.{answers_are_control}
+use Rattle.http2_streams.proofs.ControlLaw.{answer_elim, answers_are_control}
 use Rattle.conn_core.specs.Putting.{is_answer, are_answers}
 use Rattle.conn_core.proofs.Numbers.{any_kept}
 
 -- ---- answers
 
+settings_one : (ack : Bool) (settings : List Setting) → IsAnswer (Settings ack settings) → is_answer (Settings ack settings) ≡ true
+settings_one ack [] h = refl
+settings_one ack (x ∷ xs) h = let none = h.1 in cc
+
 is_one : (f : Frame) → IsAnswer f → is_answer f ≡ true
-is_one (Settings a []) h = refl
-is_one (Settings a (x ∷ xs)) h = let none = h.1 in cc
-is_one (Ping a o) h = ap (λ (n : ℕ). n == 8) h.1
-is_one (WindowUpdate s n) h = refl
-is_one (RstStream s c) h = refl
-is_one (Data s e b) h = absurd h
-is_one (Headers s e x b) h = absurd h
-is_one (Priority s p) h = absurd h
-is_one (PushPromise f s p) h = absurd h
-is_one (GoAway s c b) h = absurd h
-is_one (Continuation s x b) h = absurd h
-is_one (Unknown k f s p) h = absurd h
+is_one = answer_elim (λ f. is_answer f ≡ true) settings_one (λ ack o h. ap (λ (n : ℕ). n == 8) h.1) (λ s n. refl) (λ s code. refl)
 
 are_all : (fs : List Frame) → AllByRecursion IsAnswer fs → are_answers fs ≡ true
 are_all [] h = refl

@@ -16,22 +16,22 @@ use Rattle.grpc_sending.specs.Sources.{count_of, sources_in, sources_held}
 use Rattle.grpc_sending.specs.Kept.{Look, Kept, StandsFor, AreFit, Fit, AgreeOn, shown, queue_in, stored_on}
 use Rattle.grpc_sending.proofs.Sources.{sum_append}
 
-count_append : (n : ℕ) (ms ns : List ℕ) → count_of n (ms ++ ns) ≡ count_of n ms + count_of n ns
+pub count_append : (n : ℕ) (ms ns : List ℕ) → count_of n (ms ++ ns) ≡ count_of n ms + count_of n ns
 count_append n ms ns = sum_append (λ m. cond (n == m) 1 0) ms ns
 
-agree_left : (texts others : Look) (ms ns : List ℕ) → AgreeOn (ms ++ ns) texts others → AgreeOn ms texts others
+pub agree_left : (texts others : Look) (ms ns : List ℕ) → AgreeOn (ms ++ ns) texts others → AgreeOn ms texts others
 agree_left texts others ms ns h n some = h n (omega (arith, some, count_append n ms ns))
 
-agree_right : (texts others : Look) (ms ns : List ℕ) → AgreeOn (ms ++ ns) texts others → AgreeOn ns texts others
+pub agree_right : (texts others : Look) (ms ns : List ℕ) → AgreeOn (ms ++ ns) texts others → AgreeOn ns texts others
 agree_right texts others ms ns h n some = h n (omega (arith, some, count_append n ms ns))
 
-agree_first : (texts others : Look) (n : ℕ) (ns : List ℕ) → AgreeOn (n ∷ ns) texts others → texts n ≡ others n
+pub agree_first : (texts others : Look) (n : ℕ) (ns : List ℕ) → AgreeOn (n ∷ ns) texts others → texts n ≡ others n
 agree_first texts others n ns h =
     let same : (n == n) ≡ true = grind (arith, nat_tests) in
     let one : cond {A = ℕ} (n == n) 1 0 ≡ 1 = ap (λ b. cond b 1 0) same in
     h n (omega (arith, one))
 
-same_shown : (texts others : Look) (ps : List StoredPiece) → AgreeOn (sources_in ps) texts others → flat_map (shown texts) ps ≡ flat_map (shown others) ps
+pub same_shown : (texts others : Look) (ps : List StoredPiece) → AgreeOn (sources_in ps) texts others → flat_map (shown texts) ps ≡ flat_map (shown others) ps
 same_shown texts others [] h = refl
 same_shown texts others (Encoded block ∷ ps) h = ap (λ (qs : List Piece). Block block ∷ qs) (same_shown texts others ps h)
 same_shown texts others (Framed bytes ∷ ps) h = ap (λ (qs : List Piece). Part bytes ∷ qs) (same_shown texts others ps h)

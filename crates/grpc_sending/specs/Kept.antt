@@ -14,6 +14,8 @@ use Rattle.http2_streams.specs.StandsFor.{StandsFor as AreStreams}
 use Rattle.digest.specs.declared.Digest.{Digest}
 use Rattle.grpc_sending.specs.declared.piece.StoredPiece.{StoredPiece}
 use Rattle.grpc_sending.specs.declared.piece.StoredPiece.TheVariants.{Encoded, Framed, Ranged}
+use Rattle.grpc_sending.specs.declared.queue.Removal.{Removal}
+use Rattle.grpc_sending.specs.declared.queue.Removal.TheVariants.{FirstPiece, FrontBytes, AllPieces}
 use Rattle.grpc_sending.specs.declared.queue.StoredQueue.{StoredQueue}
 use Rattle.grpc_sending.specs.declared.turn.Due.{Due}
 use Rattle.grpc_sending.specs.declared.turn.Due.TheVariants.{Opens, Gives}
@@ -195,6 +197,15 @@ stored_first_at s q = if q.stream == s then record q { pieces = drop 1 q.pieces 
 
 abbrev pub stored_front_at : ℕ → ℕ → StoredQueue → StoredQueue
 stored_front_at s n q = if q.stream == s then record q { pieces = stored_front n q.pieces } else q
+
+-- what a removal leaves of pieces, and of those of stream s
+abbrev pub pieces_left : Removal → List StoredPiece → List StoredPiece
+pieces_left FirstPiece ps = drop 1 ps
+pieces_left (FrontBytes n) ps = stored_front n ps
+pieces_left AllPieces ps = []
+
+abbrev pub left_at : Removal → ℕ → StoredQueue → StoredQueue
+left_at removal s q = if q.stream == s then record q { pieces = pieces_left removal q.pieces } else q
 
 -- the bytes that are left of the first message of a range
 abbrev pub front_in : Look → Span → List ℕ

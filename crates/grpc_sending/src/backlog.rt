@@ -6,7 +6,7 @@ ghost use Rattle.grpc_sending.specs.Sources.{AreSame, source_of, held_by};
 ghost use Rattle.grpc_sending.specs.declared.piece.StoredPiece.TheVariants.{Ranged};
 
 use crate::piece::StoredPiece;
-use crate::queue::{self, StoredQueue};
+use crate::queue::{self, Removal, StoredQueue};
 use crate::range::Cursor;
 use std::alloc::{AllocError, Global};
 use std::marker::Model;
@@ -61,7 +61,12 @@ impl Backlog {
         ensures queues { self.new.queues ≡ map (stored_first_at stream) self.old.queues }
         ensures sources { AreSame (held_by self.old) (held_by self.new) }
     {
-        queue::remove_first(&mut self.queues, stream, &mut self.spent);
+        queue::remove_on(
+            &mut self.queues,
+            stream,
+            Removal::FirstPiece,
+            &mut self.spent,
+        );
     }
 
     /// Bytes of the first piece of the stream were put.
@@ -69,7 +74,8 @@ impl Backlog {
         ensures queues { self.new.queues ≡ map (stored_front_at stream count) self.old.queues }
         ensures sources { AreSame (held_by self.old) (held_by self.new) }
     {
-        queue::take_off(&mut self.queues, stream, count, &mut self.spent);
+        let front = Removal::FrontBytes(count);
+        queue::remove_on(&mut self.queues, stream, front, &mut self.spent);
     }
 
     /// Nothing more is to be put on the stream.

@@ -1,7 +1,7 @@
 //! What is still to be put on each stream.
 
 ghost use Rattle.std.specs.Prelude.{◌≡◌, ◌≤◌, ◌<◌, ◌==◌, ◌+◌, ◌++◌, ◌∷◌, [], ℕ, List, IfOk, OnOk, OnErr, MatchOption, length, drop, map, filter, not, slice_set, slice_index_or, if◌then◌else◌, vec_capacity};
-ghost use Rattle.grpc_sending.specs.Kept.{Appends, stored_on, stored_front, stored_first_at, stored_front_at, cleared_at, first_at, with_piece};
+ghost use Rattle.grpc_sending.specs.Kept.{Appends, stored_on, stored_front, pieces_left, left_at, first_at, with_piece};
 ghost use Rattle.grpc_sending.specs.Sources.{Spends, SpendsOf, HasRoom, HasRoomOf, Takes, source_of};
 ghost use Rattle.grpc_sending.specs.declared.piece.StoredPiece.{StoredPiece};
 ghost use Rattle.grpc_sending.specs.declared.queue.StoredQueue.{StoredQueue};
@@ -10,6 +10,17 @@ use crate::piece::StoredPiece;
 use std::alloc::{AllocError, Global};
 use std::collections::VecDeque;
 use std::marker::Model;
+
+/// What goes from the pieces of a stream.
+#[derive(Clone, Copy)]
+pub(crate) enum Removal {
+    /// The first of them, which was put.
+    FirstPiece,
+    /// So many bytes of the first, which were put.
+    FrontBytes(usize),
+    /// All of them: nothing is to be put any more.
+    AllPieces,
+}
 
 /// Pieces in the order in which they are put.
 #[derive(Drop)]
@@ -49,16 +60,6 @@ impl Pieces {
         Ok(())
     }
 
-    /// The first piece was put.
-    fn remove_first(&mut self, spent: &mut Vec<usize>)
-        requires room { HasRoomOf self.old spent.old.items (vec_capacity spent.old) }
-        ensures pieces { self.new ≡ drop 1 self.old }
-        ensures sources { SpendsOf self.old spent.old.items self.new spent.new.items }
-        ensures capacity { vec_capacity spent.old ≤ vec_capacity spent.new }
-    {
-        spend_first(&mut self.pieces, spent);
-    }
-
     /// Bytes of the first piece were put.
     fn take_off(&mut self, count: usize, spent: &mut Vec<usize>)
         requires room { HasRoomOf self.old spent.old.items (vec_capacity spent.old) }
@@ -83,6 +84,19 @@ impl Pieces {
         ensures capacity { vec_capacity spent.old ≤ vec_capacity spent.new }
     {
         spend_all(&mut self.pieces, spent);
+    }
+
+    fn remove(&mut self, removal: Removal, spent: &mut Vec<usize>)
+        requires room { HasRoomOf self.old spent.old.items (vec_capacity spent.old) }
+        ensures pieces { self.new ≡ pieces_left removal self.old }
+        ensures sources { SpendsOf self.old spent.old.items self.new spent.new.items }
+        ensures capacity { vec_capacity spent.old ≤ vec_capacity spent.new }
+    {
+        match removal {
+            Removal::FirstPiece => spend_first(&mut self.pieces, spent),
+            Removal::FrontBytes(count) => self.take_off(count, spent),
+            Removal::AllPieces => self.clear(spent),
+        }
     }
 }
 
@@ -115,50 +129,29 @@ pub(crate) struct StoredQueue {
     pub(crate) pieces: Pieces,
 }
 
-/// The first piece of the stream was put.
-pub(crate) fn remove_first(queues: &mut Vec<StoredQueue>, stream: u32, spent: &mut Vec<usize>)
-    requires room { HasRoom queues.old.items spent.old.items (vec_capacity spent.old) }
-    ensures queues { queues.new.items ≡ map (stored_first_at stream) queues.old.items }
-    ensures sources { Spends queues.old.items spent.old.items queues.new.items spent.new.items }
-    ensures capacity { vec_capacity spent.old ≤ vec_capacity spent.new }
-{
-    remove_each_first(queues, stream, spent);
-}
-
-fn remove_each_first(queues: &mut [StoredQueue], stream: u32, spent: &mut Vec<usize>)
-    requires room { HasRoom queues.old spent.old.items (vec_capacity spent.old) }
-    ensures queues { queues.new ≡ map (stored_first_at stream) queues.old }
-    ensures sources { Spends queues.old spent.old.items queues.new spent.new.items }
-    ensures capacity { vec_capacity spent.old ≤ vec_capacity spent.new }
-{
-    for queue in queues.iter_mut() {
-        queue.remove_first(stream, spent);
-    }
-}
-
-/// Bytes of the first piece of the stream were put.
-pub(crate) fn take_off(
+/// Removes pieces of the stream.
+pub(crate) fn remove_on(
     queues: &mut Vec<StoredQueue>,
     stream: u32,
-    count: usize,
+    removal: Removal,
     spent: &mut Vec<usize>,
 )
     requires room { HasRoom queues.old.items spent.old.items (vec_capacity spent.old) }
-    ensures queues { queues.new.items ≡ map (stored_front_at stream count) queues.old.items }
+    ensures queues { queues.new.items ≡ map (left_at removal stream) queues.old.items }
     ensures sources { Spends queues.old.items spent.old.items queues.new.items spent.new.items }
     ensures capacity { vec_capacity spent.old ≤ vec_capacity spent.new }
 {
-    take_each_off(queues, stream, count, spent);
+    remove_each(queues, stream, removal, spent);
 }
 
-fn take_each_off(queues: &mut [StoredQueue], stream: u32, count: usize, spent: &mut Vec<usize>)
+fn remove_each(queues: &mut [StoredQueue], stream: u32, removal: Removal, spent: &mut Vec<usize>)
     requires room { HasRoom queues.old spent.old.items (vec_capacity spent.old) }
-    ensures queues { queues.new ≡ map (stored_front_at stream count) queues.old }
+    ensures queues { queues.new ≡ map (left_at removal stream) queues.old }
     ensures sources { Spends queues.old spent.old.items queues.new spent.new.items }
     ensures capacity { vec_capacity spent.old ≤ vec_capacity spent.new }
 {
     for queue in queues.iter_mut() {
-        queue.take_off(stream, count, spent);
+        queue.remove(stream, removal, spent);
     }
 }
 
@@ -169,28 +162,8 @@ pub(crate) fn forget(queues: &mut Vec<StoredQueue>, stream: u32, spent: &mut Vec
     ensures sources { Spends queues.old.items spent.old.items queues.new.items spent.new.items }
     ensures capacity { vec_capacity spent.old ≤ vec_capacity spent.new }
 {
-    clear_on(queues, stream, spent);
+    remove_on(queues, stream, Removal::AllPieces, spent);
     queues.retain(|queue| queue.stream != stream);
-}
-
-fn clear_on(queues: &mut Vec<StoredQueue>, stream: u32, spent: &mut Vec<usize>)
-    requires room { HasRoom queues.old.items spent.old.items (vec_capacity spent.old) }
-    ensures queues { queues.new.items ≡ map (cleared_at stream) queues.old.items }
-    ensures sources { Spends queues.old.items spent.old.items queues.new.items spent.new.items }
-    ensures capacity { vec_capacity spent.old ≤ vec_capacity spent.new }
-{
-    clear_each(queues, stream, spent);
-}
-
-fn clear_each(queues: &mut [StoredQueue], stream: u32, spent: &mut Vec<usize>)
-    requires room { HasRoom queues.old spent.old.items (vec_capacity spent.old) }
-    ensures queues { queues.new ≡ map (cleared_at stream) queues.old }
-    ensures sources { Spends queues.old spent.old.items queues.new spent.new.items }
-    ensures capacity { vec_capacity spent.old ≤ vec_capacity spent.new }
-{
-    for queue in queues.iter_mut() {
-        queue.clear(stream, spent);
-    }
 }
 
 /// Nothing more is to be put on any stream.
@@ -207,36 +180,14 @@ pub(crate) fn forget_all(queues: &mut Vec<StoredQueue>, spent: &mut Vec<usize>)
 }
 
 impl StoredQueue {
-    fn remove_first(&mut self, stream: u32, spent: &mut Vec<usize>)
+    fn remove(&mut self, stream: u32, removal: Removal, spent: &mut Vec<usize>)
         requires room { HasRoomOf self.old.pieces spent.old.items (vec_capacity spent.old) }
-        ensures queue { self.new ≡ stored_first_at stream self.old }
+        ensures queue { self.new ≡ left_at removal stream self.old }
         ensures sources { SpendsOf self.old.pieces spent.old.items self.new.pieces spent.new.items }
         ensures capacity { vec_capacity spent.old ≤ vec_capacity spent.new }
     {
         if self.stream == stream {
-            self.pieces.remove_first(spent);
-        }
-    }
-
-    fn take_off(&mut self, stream: u32, count: usize, spent: &mut Vec<usize>)
-        requires room { HasRoomOf self.old.pieces spent.old.items (vec_capacity spent.old) }
-        ensures queue { self.new ≡ stored_front_at stream count self.old }
-        ensures sources { SpendsOf self.old.pieces spent.old.items self.new.pieces spent.new.items }
-        ensures capacity { vec_capacity spent.old ≤ vec_capacity spent.new }
-    {
-        if self.stream == stream {
-            self.pieces.take_off(count, spent);
-        }
-    }
-
-    fn clear(&mut self, stream: u32, spent: &mut Vec<usize>)
-        requires room { HasRoomOf self.old.pieces spent.old.items (vec_capacity spent.old) }
-        ensures queue { self.new ≡ cleared_at stream self.old }
-        ensures sources { SpendsOf self.old.pieces spent.old.items self.new.pieces spent.new.items }
-        ensures capacity { vec_capacity spent.old ≤ vec_capacity spent.new }
-    {
-        if self.stream == stream {
-            self.pieces.clear(spent);
+            self.pieces.remove(removal, spent);
         }
     }
 }

@@ -62,31 +62,36 @@ frame_sized f =
 
 -- ---- answers
 
-abbrev IsAnswerOption : Option Frame → Type 0
-IsAnswerOption None = Unit {0}
-IsAnswerOption (Some f) = IsAnswer f
+-- what holds of a frame, if there is one
+abbrev pub IfFrame : (Frame → Type 0) → Option Frame → Type 0
+IfFrame P None = Unit {0}
+IfFrame P (Some f) = P f
 
-record IsControl (a : StreamEvent) : Type 0 where
-  acknowledgement : IsAnswerOption a.acknowledgement
-  connection_update : IsAnswerOption a.connection_update
-  stream_update : IsAnswerOption a.stream_update
-  reset : IsAnswerOption a.reset
+-- what holds of each frame that answers
+pub record EachAnswer (P : Frame → Type 0) (a : StreamEvent) : Type 0 where
+  pub acknowledgement : IfFrame P a.acknowledgement
+  pub connection_update : IfFrame P a.connection_update
+  pub stream_update : IfFrame P a.stream_update
+  pub reset : IfFrame P a.reset
 
-with_option : (o : Option Frame) (fs : List Frame) → IsAnswerOption o → AllByRecursion IsAnswer fs → AllByRecursion IsAnswer (option_to_list o ++ fs)
-with_option None fs h hs = hs
-with_option (Some f) fs h hs = (h, hs)
+with_frame : (P : Frame → Type 0) (o : Option Frame) (fs : List Frame) → IfFrame P o → AllByRecursion P fs → AllByRecursion P (option_to_list o ++ fs)
+with_frame P None fs h hs = hs
+with_frame P (Some f) fs h hs = (h, hs)
 
-one_option : (o : Option Frame) → IsAnswerOption o → AllByRecursion IsAnswer (option_to_list o)
-one_option None h = tt
-one_option (Some f) h = (h, tt)
+one_frame : (P : Frame → Type 0) (o : Option Frame) → IfFrame P o → AllByRecursion P (option_to_list o)
+one_frame P None h = tt
+one_frame P (Some f) h = (h, tt)
 
-all_control : (a : StreamEvent) → IsControl a → AllByRecursion IsAnswer (control_frames a)
-all_control a h =
-    with_option a.acknowledgement _ h.acknowledgement (with_option a.connection_update _ h.connection_update
-    (with_option a.stream_update _ h.stream_update (one_option a.reset h.reset)))
+pub each_answer : (P : Frame → Type 0) (a : StreamEvent) → EachAnswer P a → AllByRecursion P (control_frames a)
+each_answer P a h =
+    with_frame P a.acknowledgement _ h.acknowledgement (with_frame P a.connection_update _ h.connection_update
+    (with_frame P a.stream_update _ h.stream_update (one_frame P a.reset h.reset)))
 
-update_control : (s n : ℕ) → IsAnswerOption (update s n)
-update_control s n = split IsAnswerOption (n == 0) None (Some (WindowUpdate s n)) (λ _. tt) (λ _. tt)
+abbrev IsControl : StreamEvent → Type 0
+IsControl a = EachAnswer IsAnswer a
+
+update_control : (s n : ℕ) → IfFrame IsAnswer (update s n)
+update_control s n = split (IfFrame IsAnswer) (n == 0) None (Some (WindowUpdate s n)) (λ _. tt) (λ _. tt)
 
 event_control : (e : Event) → IsControl (brings e)
 event_control e = record { acknowledgement = tt; connection_update = tt; stream_update = tt; reset = tt }
@@ -100,7 +105,7 @@ AreControl r = OkThen IsControl r
 data_control : (v : Standing) (n s : ℕ) (e : Bool) (bytes : List ℕ) → AreControl (on_data v n s e bytes)
 data_control v n s e bytes =
     split AreControl (is_idle v s) _ _ (λ _. tt)
-    (λ _. split AreControl (is_receiving v s) _ _ (λ _. record { acknowledgement = tt; connection_update = update_control 0 n; stream_update = split IsAnswerOption e None (update s n) (λ _. tt) (λ _. update_control s n); reset = tt })
+    (λ _. split AreControl (is_receiving v s) _ _ (λ _. record { acknowledgement = tt; connection_update = update_control 0 n; stream_update = split (IfFrame IsAnswer) e None (update s n) (λ _. tt) (λ _. update_control s n); reset = tt })
     (λ _. split AreControl (is_remembered v s) _ _ (λ _. record { acknowledgement = tt; connection_update = update_control 0 n; stream_update = tt; reset = tt })
     (λ _. record { acknowledgement = tt; connection_update = update_control 0 n; stream_update = tt; reset = tt })))
 
@@ -167,25 +172,30 @@ answer_control v f =
     (λ _. split AreControl (in_turn v f) _ _ (λ _. frame_control v (length f.payload) (frame_of f) (frame_sized f)) (λ _. tt))
 
 pub answers_are_control : (v : Standing) (f : RawFrame) (a : StreamEvent) → answer_to v f ≡ Ok a → AllByRecursion IsAnswer (control_frames a)
-answers_are_control v f a is = all_control a (subst AreControl is (answer_control v f))
+answers_are_control v f a is = each_answer IsAnswer a (subst AreControl is (answer_control v f))
 
 -- ---- their payloads
 
 abbrev pub IsShort : Frame → Type 0
 IsShort g = length (raw_of g).payload ≤ 8
 
+-- by the four frames that answer
+pub answer_elim : (P : Frame → Type 0) → ((ack : Bool) (settings : List Setting) → IsAnswer (Settings ack settings) → P (Settings ack settings)) → ((ack : Bool) (o : List ℕ) → IsAnswer (Ping ack o) → P (Ping ack o))
+    → ((s n : ℕ) → P (WindowUpdate s n)) → ((s code : ℕ) → P (RstStream s code)) → (g : Frame) → IsAnswer g → P g
+answer_elim P settings ping update reset (Settings ack list) h = settings ack list h
+answer_elim P settings ping update reset (Ping ack o) h = ping ack o h
+answer_elim P settings ping update reset (WindowUpdate s n) h = update s n
+answer_elim P settings ping update reset (RstStream s code) h = reset s code
+answer_elim P settings ping update reset (Data s e b) h = absurd h
+answer_elim P settings ping update reset (Headers s e x b) h = absurd h
+answer_elim P settings ping update reset (Priority s p) h = absurd h
+answer_elim P settings ping update reset (PushPromise f s p) h = absurd h
+answer_elim P settings ping update reset (GoAway s c b) h = absurd h
+answer_elim P settings ping update reset (Continuation s x b) h = absurd h
+answer_elim P settings ping update reset (Unknown k f s p) h = absurd h
+
 pub answer_is_short : (g : Frame) → IsAnswer g → IsShort g
-answer_is_short (Settings ack settings) h = rw h.1 (omega arith)
-answer_is_short (Ping ack o) h = rw h.1 (omega arith)
-answer_is_short (WindowUpdate s n) h = omega arith
-answer_is_short (RstStream s code) h = omega arith
-answer_is_short (Data s e b) h = absurd h
-answer_is_short (Headers s e x b) h = absurd h
-answer_is_short (Priority s p) h = absurd h
-answer_is_short (PushPromise f s p) h = absurd h
-answer_is_short (GoAway s c b) h = absurd h
-answer_is_short (Continuation s x b) h = absurd h
-answer_is_short (Unknown k f s p) h = absurd h
+answer_is_short = answer_elim IsShort (λ ack settings h. rw h.1 (omega arith)) (λ ack o h. rw h.1 (omega arith)) (λ s n. omega arith) (λ s code. omega arith)
 
 all_short : (fs : List Frame) → AllByRecursion IsAnswer fs → AllByRecursion IsShort fs
 all_short [] h = tt

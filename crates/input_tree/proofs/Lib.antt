@@ -1,5 +1,4 @@
 mod Order
 mod Listed
 mod Using
-mod NumberLemmas
 mod Paging

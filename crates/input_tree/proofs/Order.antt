@@ -4,12 +4,8 @@ use Rattle.std.specs.List.{list_any}
 use Rattle.std.specs.Ordering.{nat_cmp, is_lt}
 use Rattle.std.specs.Cmp.Lexicographic.{slice_cmp}
 use Rattle.std.proofs.lemmas.Cmp.{nat_list_cmp_total, tied_back}
+use Rattle.std.proofs.lemmas.Bool.{and_parts}
 use Rattle.input_tree.specs.Names.{precedes, are_alike, precedes_first, are_rising, are_apart, from_name, begin_with, never_meet}
-
-both : (a b : Bool) → (a && b) ≡ true → (a ≡ true) × (b ≡ true)
-both true true h = (refl, refl)
-both true false h = cc
-both false b h = cc
 
 less_by : (o : Ordering) → is_lt o ≡ true → o ≡ Less
 less_by Less h = refl
@@ -17,7 +13,7 @@ less_by Equal h = cc
 less_by Greater h = cc
 
 rising_first : (t u : List ℕ) (us : List (List ℕ)) → are_rising (t ∷ u ∷ us) ≡ true → (slice_cmp nat_cmp t u ≡ Less) × (are_rising (u ∷ us) ≡ true)
-rising_first t u us h = let parts = both (precedes t u) (are_rising (u ∷ us)) h in (less_by (slice_cmp nat_cmp t u) parts.0, parts.1)
+rising_first t u us h = let parts = and_parts (precedes t u) (are_rising (u ∷ us)) h in (less_by (slice_cmp nat_cmp t u) parts.0, parts.1)
 
 turned : (t u : List ℕ) → slice_cmp nat_cmp t u ≡ Less → slice_cmp nat_cmp u t ≡ Greater
 turned t u less = rw (nat_list_cmp_total.antisymm u t, less) refl
@@ -42,7 +38,7 @@ apart_greater t u (s ∷ ss) us greater rising =
     rw (greater, further) refl
 
 rising_rest : (t : List ℕ) (ts : List (List ℕ)) → are_rising (t ∷ ts) ≡ true → are_rising ts ≡ true
-rising_rest t ts h = (both (precedes_first t ts) (are_rising ts) h).1
+rising_rest t ts h = (and_parts (precedes_first t ts) (are_rising ts) h).1
 
 from_rising : (t : List ℕ) (us : List (List ℕ)) → are_rising us ≡ true → are_rising (from_name t us) ≡ true
 from_rising t [] h = refl

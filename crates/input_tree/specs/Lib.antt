@@ -1,5 +1,4 @@
 pub mod Names
-pub mod Number
 pub mod Directories
 pub mod Listing
 pub mod Answers

@@ -14,7 +14,7 @@ use crate::names::{are_apart, are_rising, have_form};
 use crate::nodes::digest_written;
 use blob_pool::{Hold, Pool, keep};
 use digest::Digest;
-use instance_view::{Seen, View};
+use instance_view::{Seen, View, copy_of};
 use message_fields::{Message, MessageError};
 use std::alloc::{AllocError, Global};
 use tree_messages::{Directory, DirectoryNode};
@@ -129,21 +129,6 @@ pub fn children(
         None => Ok(None),
         Some(seen) => children_seen(alloc, pool, seen),
     }
-}
-
-/// A copy of a text that an instance has.
-fn copy_of(alloc: Global, pool: &Pool, seen: Seen) -> Result<Vec<u8>, AllocError>
-    requires { (k : ℕ) → holders_seen seen k ≤ count_at pool.now k }
-    ensures { IfOk result (λ text. text.items ≡ text_seen pool.now seen) }
-{
-    let mut text = Vec::new(alloc);
-    if let Seen::Text(kept) = seen {
-        let hold = pool.back(kept);
-        let done = pool.copy_into(&hold, &mut text);
-        let _ = keep(hold);
-        done?;
-    }
-    Ok(text)
 }
 
 /// A copy of the text that an instance has of a digest, empty where it has none.

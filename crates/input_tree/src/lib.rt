@@ -7,7 +7,6 @@ mod error;
 mod listing;
 mod names;
 mod nodes;
-mod number;
 mod pages;
 mod tree;
 mod uses;

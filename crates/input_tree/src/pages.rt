@@ -5,7 +5,7 @@ ghost use Rattle.std.specs.Fmt as fmt;
 ghost use Rattle.message_fields.specs.Writing.{text, message_field};
 ghost use Rattle.input_tree.specs.Pages.{page_before, page_bytes, page_from, page_text, pages_along, place_asked, size_asked, takes_more};
 
-use crate::number::decimal;
+use decimals::decimal;
 use message_fields::{Message, Writer};
 use std::alloc::{AllocError, Global};
 use tree_messages::GetTreeResponse;

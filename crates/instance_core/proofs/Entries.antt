@@ -13,14 +13,14 @@ inserted id call (e ∷ es) = go (same_call id e.0) refl (inserted id call es) w
   go true is ih = rw is refl
   go false is ih = rw is (ap (λ (cs : List (CallId × CallValue)). e ∷ cs) ih)
 
-with_short : (id : CallId) (call : CallValue) (cs : Calls) → IsShortProgress call.progress → KeepShort cs → KeepShort (with_call id call cs)
+pub with_short : (id : CallId) (call : CallValue) (cs : Calls) → IsShortProgress call.progress → KeepShort cs → KeepShort (with_call id call cs)
 with_short id call [] h kept = (h, tt)
 with_short id call (c ∷ cs) h kept = go (same_call id c.0) (with_short id call cs h kept.1) where
   go : (b : Bool) → KeepShort (with_call id call cs) → KeepShort (cond b ((c.0, call) ∷ cs) (c ∷ with_call id call cs))
   go true ih = (h, kept.1)
   go false ih = (kept.0, ih)
 
-without_short : (id : CallId) (cs : Calls) → KeepShort cs → KeepShort (without_call id cs)
+pub without_short : (id : CallId) (cs : Calls) → KeepShort cs → KeepShort (without_call id cs)
 without_short id [] kept = tt
 without_short id (c ∷ cs) kept = go (same_call id c.0) (without_short id cs kept.1) where
   go : (b : Bool) → KeepShort (without_call id cs) → KeepShort (cond b cs (c ∷ without_call id cs))

@@ -1,5 +1,5 @@
 -- Replies are short where requests are, and kept requests stay short.
-use Rattle.std.proofs.Common.{◌≡◌, ℕ, ◌+◌, ◌<◌, ◌≤◌, ◌^◌, Bool, true, false, cond, List, [], ◌∷◌, ◌++◌, map, length, min, Option, Some, None, Result, Ok, Err, refl, eqb, arith, ltb-true}
+use Rattle.std.proofs.Common.{◌≡◌, ℕ, ◌+◌, ◌<◌, ◌≤◌, ◌^◌, Bool, true, false, cond, List, [], ◌∷◌, ◌++◌, map, length, min, Option, Some, None, Result, Ok, Err, refl, sym, subst, eqb, arith, ltb-true}
 use Rattle.std.specs.Prelude.{IfSome, IfOk, nat_lt}
 use Rattle.std.specs.List.{AllByRecursion}
 use Rattle.std.specs.declared.alloc.Global.{Global}
@@ -19,6 +19,7 @@ use Rattle.bytestream.specs.Writing.{WrittenValue, unfinished_reply}
 use Rattle.instance_core.specs.declared.event.CallId.{CallId}
 use Rattle.instance_core.specs.Calls.{Calls, CallValue, ProgressValue, waits, has, writes, CallEventValue, head, message, fault, end, cancel, tick, same_call, call_at, IsShortRequest, IsShortProgress, KeepShort}
 use Rattle.instance_core.specs.State.{InstanceState, WithinLimits}
+use Rattle.instance_core.specs.Slots.{InstanceSlots, state_in, IsKept}
 use Rattle.instance_core.specs.Methods.{is_served, reply_to, items_to}
 use Rattle.tree_calls.specs.GetTree.{get_tree_replies}
 use Rattle.tree_calls.proofs.Short.{get_tree_short, get_action_result_short, update_action_result_short}
@@ -179,3 +180,10 @@ pub shown_short : (p : Slots) (r : Result (Vec Reply Global) AllocError) (rs : L
     → IfOk r (λ replies. AllByRecursion IsShortReply (map (reply_shown p) replies.items))
 shown_short p (Ok replies) rs is all = rw is all
 shown_short p (Err e) rs is all = tt
+
+-- what an instance answers to an event within its limits
+pub event_short : (p q : Slots) (i j : InstanceSlots) (event : CallEventValue) (r : Result (Vec Reply Global) AllocError) → i ≡ j → IsKept p j →
+    IfOk r (λ replies. map (reply_shown q) replies.items ≡ (answer (state_in p i) event).replies) → IfOk r (λ replies. AllByRecursion IsShortReply (map (reply_shown q) replies.items))
+event_short p q i j event r same kept replies =
+    let within = subst (λ (k : InstanceSlots). WithinLimits (state_in p k)) (sym same) kept.within in
+    shown_short q r (answer (state_in p i) event).replies replies (replies_short (state_in p i) event within)

@@ -1,4 +1,4 @@
-mod Entries
+pub mod Entries
 mod Parts
 mod Items
 mod Short

@@ -1,10 +1,11 @@
 -- What each method but Write answers to the one message of its request, and what it does to the
 -- texts and the results.
-use Rattle.std.specs.Prelude.{◌≢◌, ℕ, Bool, true, false, List, [], ◌∷◌, ◌++◌, map, Result, Ok, Err}
+use Rattle.std.specs.Prelude.{◌≡◌, ◌≢◌, ℕ, Bool, true, false, List, [], ◌∷◌, ◌++◌, map, Result, Ok, Err}
 use Rattle.rpc.specs.declared.method.Method.{Method}
 use Rattle.rpc.specs.declared.method.Method.TheVariants.{FindMissingBlobs, BatchUpdateBlobs, BatchReadBlobs, GetTree, GetActionResult, UpdateActionResult, GetCapabilities, Read, Write, QueryWriteStatus}
 use Rattle.rpc.specs.declared.refusal.Refusal.{Refusal}
 use Rattle.rpc.specs.declared.refusal.Refusal.TheVariants.{UnknownMethod}
+use Rattle.instance_view.specs.Visible.{Blob}
 use Rattle.cas_service.specs.Changes as Texts
 use Rattle.cas_service.specs.FindMissing.{find_missing_reply, find_missing_changes}
 use Rattle.cas_service.specs.BatchUpdate.{batch_update_reply, batch_update_changes}
@@ -16,7 +17,7 @@ use Rattle.tree_calls.specs.GetTree.{get_tree_replies, get_tree_changes}
 use Rattle.tree_calls.specs.Results.{get_action_result_reply, get_action_result_changes, after_get, update_action_result_reply, after_update}
 use Rattle.instance_core.specs.Changes.{Change, Text, Keeps}
 use Rattle.instance_core.specs.Replies.{ReplyItemValue, items_of, messages_items, read_items}
-use Rattle.instance_core.specs.State.{InstanceState}
+use Rattle.instance_core.specs.State.{InstanceState, most_blobs}
 use Rattle.instance_core.specs.Capabilities.{get_capabilities_reply}
 
 abbrev pub is_served : Method → Bool
@@ -71,6 +72,15 @@ text_changes GetTree s message = get_tree_changes s.name s.visible message
 text_changes GetActionResult s message = get_action_result_changes s.name s.visible s.results message
 text_changes Read s message = use_asked (read_asked s.name message)
 text_changes _ s message = []
+
+-- the texts that are seen once a message was carried out, or a part of it for want of memory
+abbrev pub ShowsAfter : Method → List ℕ → InstanceState → List Blob → Type 0
+ShowsAfter method message s visible =
+    visible ≡ Texts.changed most_blobs s.quota (text_changes method s message) s.visible
+
+abbrev pub ShowsInPart : Method → List ℕ → InstanceState → List Blob → Type 0
+ShowsInPart method message s visible =
+    Texts.MadeInPart most_blobs s.quota (text_changes method s message) s.visible visible
 
 -- what is done to the results
 abbrev pub result_changes : Method → InstanceState → List ℕ → List Change

@@ -7,11 +7,10 @@ ghost use Rattle.instance_view.specs.Shown.{shown, holders};
 ghost use Rattle.quota_evict.specs.Kept.{AreKept};
 ghost use Rattle.quota_evict.specs.Within.{Within};
 ghost use Rattle.cas_service.specs.Answers.{Answers, IfAnswered};
-ghost use Rattle.cas_service.specs.Changes.{MadeInPart, changed};
 ghost use Rattle.instance_core.specs.Calls.{Calls};
 ghost use Rattle.instance_core.specs.State.{most_blobs};
 ghost use Rattle.tree_calls.specs.Complete.{AreWithin};
-ghost use Rattle.instance_core.specs.Methods.{IsPlain, LeavesResults, is_served, reply_to, items_to, text_changes, request_changes};
+ghost use Rattle.instance_core.specs.Methods.{IsPlain, LeavesResults, is_served, reply_to, items_to, request_changes, ShowsAfter, ShowsInPart};
 ghost use Rattle.instance_core.specs.Answer.{reply_with, items_sent};
 ghost use Rattle.instance_core.specs.Shown.{Gives, Makes, state_of};
 ghost use Rattle.instance_core.specs.Given.{holders_given};
@@ -66,14 +65,10 @@ fn reply_to(
         Answers (λ reply. reply.items) result (reply_to method old message.now) }
     ensures changed { (moment : ℕ) (calls : Calls) →
         let old = state_of settings.now moment pool.old contents.old calls in
-        let changes = text_changes method old message.now in
-        let new = shown pool.new contents.new.view in
-        IfAnswered result (new ≡ changed most_blobs old.quota changes old.visible) }
+        IfAnswered result (ShowsAfter method message.now old (shown pool.new contents.new.view)) }
     ensures memory { (moment : ℕ) (calls : Calls) →
         let old = state_of settings.now moment pool.old contents.old calls in
-        let changes = text_changes method old message.now in
-        let new = shown pool.new contents.new.view in
-        OnErr result (MadeInPart most_blobs old.quota changes old.visible new) }
+        OnErr result (ShowsInPart method message.now old (shown pool.new contents.new.view)) }
     ensures moves { Moves pool.old pool.new (holders contents.old.view)
         (holders contents.new.view) }
     ensures limit { contents.new.view.limit ≡ most_blobs }
@@ -130,14 +125,10 @@ fn answer_by_message(
     ensures given { (k : ℕ) → holders_given result k ≡ 0 }
     ensures changed { (moment : ℕ) (calls : Calls) →
         let old = state_of settings.now moment pool.old contents.old calls in
-        let changes = text_changes method old message.now in
-        let new = shown pool.new contents.new.view in
-        OnOk result (new ≡ changed most_blobs old.quota changes old.visible) }
+        OnOk result (ShowsAfter method message.now old (shown pool.new contents.new.view)) }
     ensures memory { (moment : ℕ) (calls : Calls) →
         let old = state_of settings.now moment pool.old contents.old calls in
-        let changes = text_changes method old message.now in
-        let new = shown pool.new contents.new.view in
-        OnErr result (MadeInPart most_blobs old.quota changes old.visible new) }
+        OnErr result (ShowsInPart method message.now old (shown pool.new contents.new.view)) }
     ensures moves { Moves pool.old pool.new (holders contents.old.view)
         (holders contents.new.view) }
     ensures limit { contents.new.view.limit ≡ most_blobs }
@@ -169,14 +160,10 @@ fn answer_from_texts(
         Gives pool.new result (items_sent call (items_to method old message.now)) }
     ensures changed { (moment : ℕ) (calls : Calls) →
         let old = state_of settings.now moment pool.old contents.old calls in
-        let changes = text_changes method old message.now in
-        let new = shown pool.new contents.new.view in
-        OnOk result (new ≡ changed most_blobs old.quota changes old.visible) }
+        OnOk result (ShowsAfter method message.now old (shown pool.new contents.new.view)) }
     ensures memory { (moment : ℕ) (calls : Calls) →
         let old = state_of settings.now moment pool.old contents.old calls in
-        let changes = text_changes method old message.now in
-        let new = shown pool.new contents.new.view in
-        OnErr result (MadeInPart most_blobs old.quota changes old.visible new) }
+        OnErr result (ShowsInPart method message.now old (shown pool.new contents.new.view)) }
     ensures moves { Moves pool.old pool.new (holders contents.old.view)
         (λ k. holders contents.new.view k + holders_given result k) }
     ensures limit { contents.new.view.limit ≡ most_blobs }

@@ -3,4 +3,4 @@
 
 mod view;
 
-pub use view::{MOST_LIMIT, Seen, View};
+pub use view::{MOST_LIMIT, Seen, View, copy_of};

@@ -233,3 +233,18 @@ fn find(cache: &Cache, digest: &Digest) -> Option<Seen>
     let kept = cache.peek(digest)?;
     Some(Seen::Text(*kept))
 }
+
+/// A copy of a text that an instance has.
+pub fn copy_of(alloc: Global, pool: &Pool, seen: Seen) -> Result<Vec<u8>, AllocError>
+    requires { (k : ℕ) → holders_seen seen k ≤ count_at pool.now k }
+    ensures { IfOk result (λ text. text.items ≡ text_seen pool.now seen) }
+{
+    let mut text = Vec::new(alloc);
+    if let Seen::Text(kept) = seen {
+        let hold = pool.back(kept);
+        let done = pool.copy_into(&hold, &mut text);
+        let _ = keep(hold);
+        done?;
+    }
+    Ok(text)
+}

@@ -17,9 +17,11 @@ use Rattle.digest.specs.Text.{IsWritten, hash_text, hash_in, is_lower_digit, dec
 use Rattle.digest.proofs.Writings.{is_written, is_read}
 use Rattle.resource_names.specs.declared.name.NameError.TheVariants.{Hash, Size}
 use Rattle.resource_names.specs.Names.{◌>>=◌, or_fault, digest_of_segments}
-use Rattle.resource_names.specs.Size.{is_decimal_digit, is_numeral, size_in}
+use Rattle.decimals.specs.Number.{is_decimal_digit}
+use Rattle.decimals.proofs.NumberLemmas.{AllDigits-from_list_all}
+use Rattle.resource_names.specs.Size.{is_numeral, size_in}
 use Rattle.resource_names.specs.Written.{HasNoSlash, IsNameable, digest_text}
-use Rattle.resource_names.proofs.SizeLemmas.{numeral_digits, AllDigits-from_list_all}
+use Rattle.resource_names.proofs.SizeLemmas.{numeral_digits}
 
 -- a text is the written form of a hash
 record IsHashText (text bytes : List ℕ) : Type 0 where

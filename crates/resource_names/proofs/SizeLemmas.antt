@@ -8,24 +8,9 @@ use Rattle.std.specs.Prelude.{nat_lt, nat_eq, codes}
 use Rattle.std.specs.Str.{bytes_eq}
 use Rattle.std.proofs.lemmas.Slice.Eq.{bytes_eq-Decides}
 use Rattle.std.specs.Str.Parse.{AllDigits, ParsesUnsigned, digits_value, without_leading_plus}
-use Rattle.resource_names.specs.Size.{is_decimal_digit, is_numeral, size_in}
-
-digit_below_ten : (byte : ℕ) → is_decimal_digit byte ≡ true → digit_value byte < 10
-digit_below_ten byte h = grind (arith, nat_tests)
-
-pub AllDigits-from_list_all : (text : List ℕ) → list_all is_decimal_digit text ≡ true → AllDigits 10 text
-AllDigits-from_list_all [] h = tt
-AllDigits-from_list_all (byte ∷ text) h =
-    let parts = and_parts (is_decimal_digit byte) (list_all is_decimal_digit text) h in
-    (digit_below_ten byte parts.0, AllDigits-from_list_all text parts.1)
-
-without_leading_plus-digits : (text : List ℕ) → list_all is_decimal_digit text ≡ true → without_leading_plus text ≡ text
-without_leading_plus-digits [] h = refl
-without_leading_plus-digits (byte ∷ text) h =
-    let parts = and_parts (is_decimal_digit byte) (list_all is_decimal_digit text) h in
-    let digit = parts.0 in
-    let other : (byte == 43) ≡ false = grind (arith, nat_tests) in
-    rw other refl
+use Rattle.decimals.specs.Number.{is_decimal_digit}
+use Rattle.decimals.proofs.NumberLemmas.{AllDigits-from_list_all, without_leading_plus-digits}
+use Rattle.resource_names.specs.Size.{is_numeral, size_in}
 
 some_digits : (text : List ℕ) (zero some first all : Bool) → (zero ≡ true → text ≡ codes "0")
     → not (length text == 0) ≡ some → list_all is_decimal_digit text ≡ all → (zero || (some && first && all)) ≡ true

@@ -1,19 +1,15 @@
 ghost use Rattle.std.specs.Prelude.{◌≡◌, ◌<◌, ◌^◌, IfSome};
-ghost use Rattle.std.specs.List.{list_all};
 ghost use Rattle.resource_names.specs.Size as sizes;
-ghost use Rattle.resource_names.specs.Size.{is_decimal_digit, size_in};
+ghost use Rattle.resource_names.specs.Size.{size_in};
 
-fn are_digits(text: &str) -> bool
-    ensures { result ≡ list_all is_decimal_digit text.now }
-{
-    text.as_bytes().iter().all(|byte| byte.is_ascii_digit())
-}
+use decimals::are_digits;
 
 /// Whether a text is `0`, or decimal digits of which the first is not `0`.
 fn is_numeral(text: &str) -> bool
     ensures { result ≡ sizes.is_numeral text.now }
 {
-    text == "0" || (!text.is_empty() && !text.as_bytes().starts_with(b"0") && are_digits(text))
+    text == "0"
+        || (!text.is_empty() && !text.as_bytes().starts_with(b"0") && are_digits(text.as_bytes()))
 }
 
 /// The size that a segment writes: at most 2^63 - 1, as `size_bytes` of a digest.

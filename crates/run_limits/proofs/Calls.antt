@@ -22,6 +22,7 @@ use Rattle.tree_calls.proofs.Short.{get_stays_within, update_stays_within}
 use Rattle.instance_core.specs.Methods.{is_served, text_changes, result_changes, request_changes}
 use Rattle.instance_core.specs.Changes.{Change, Text, Goes, Ends, Wrote, Keeps, Expires, change_made, changed}
 use Rattle.instance_core.specs.Writes.{write_state, part_of, first_changes, next_changes, first_outcome, next_outcome}
+use Rattle.instance_core.proofs.Entries.{with_short, without_short}
 use Rattle.instance_core.specs.Answer.{answer, after, at_head, first_written, next_written, with_first, with_message, at_message, at_fault, with_request, at_end}
 use Rattle.run_limits.specs.Named.{StoresNamedText, StoresNamed}
 use Rattle.run_limits.proofs.Texts.{all_append, changes_named, change_within}
@@ -75,20 +76,6 @@ without_once id (c ∷ cs) once =
     go false ih =
         IsDistinct-cons same_call c.0 (keys_of (without_call id cs))
         (none_without c.0 id cs (IsDistinct-head same_call c.0 (keys_of cs) once)) ih
-
-with_short : (id : CallId) (call : CallValue) (cs : Calls) → IsShortProgress call.progress → KeepShort cs → KeepShort (with_call id call cs)
-with_short id call [] h kept = (h, tt)
-with_short id call (c ∷ cs) h kept = go (same_call id c.0) (with_short id call cs h kept.1) where
-  go : (b : Bool) → KeepShort (with_call id call cs) → KeepShort (cond b ((c.0, call) ∷ cs) (c ∷ with_call id call cs))
-  go true ih = (h, kept.1)
-  go false ih = (kept.0, ih)
-
-without_short : (id : CallId) (cs : Calls) → KeepShort cs → KeepShort (without_call id cs)
-without_short id [] kept = tt
-without_short id (c ∷ cs) kept = go (same_call id c.0) (without_short id cs kept.1) where
-  go : (b : Bool) → KeepShort (without_call id cs) → KeepShort (cond b cs (c ∷ without_call id cs))
-  go true ih = kept.1
-  go false ih = (kept.0, ih)
 
 -- ---- changes
 

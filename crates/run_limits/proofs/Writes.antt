@@ -16,8 +16,8 @@ use Rattle.resource_names.specs.Names.{WriteNameValue, write_name}
 use Rattle.uploads.specs.declared.error.UploadError.{UploadError}
 use Rattle.uploads.specs.declared.error.UploadError.TheVariants.{Offset, Hash as WrongHash, Size as WrongSize, TooMany, OverQuota, NoMemory}
 use Rattle.uploads.specs.Uploads.{KeyValue, UploadList, text_so_far, WithinLimits}
-use Rattle.uploads.specs.Writing.{begin_answer, append_answer, finish_answer, after_piece, Answers}
-use Rattle.uploads.proofs.ListLemmas.{within_without, within_begin, within_append}
+use Rattle.uploads.specs.Writing.{call_answer, finish_answer, after_piece, Answers}
+use Rattle.uploads.proofs.ListLemmas.{within_without, within_call}
 use Rattle.bytestream.specs.Refusals.{named}
 use Rattle.bytestream.specs.Querying.{key_named}
 use Rattle.bytestream.specs.Writing as Writing
@@ -43,8 +43,7 @@ meaning (Err TooMany) m is = is
 meaning (Err OverQuota) m is = is
 
 taken_within : (first : Bool) (quota moment : ℕ) (part : PartValue) (us : UploadList) (r : Result Unit UploadError) → r ≡ piece_taken first quota part us → WithinLimits quota us → WithinLimits quota (after_piece moment part.key part.piece r us)
-taken_within true quota moment part us r is w = within_begin quota moment part.key part.piece us r w (meaning r (begin_answer quota part.key part.piece us) is)
-taken_within false quota moment part us r is w = within_append quota moment part.key part.piece us r w (meaning r (append_answer quota part.key part.piece us) is)
+taken_within first quota moment part us r is w = within_call first quota moment part.key part.piece us r w (meaning r (call_answer first quota part.key part.piece us) is)
 
 -- ---- the end of an upload
 

@@ -6,7 +6,7 @@ use Rattle.std.proofs.lemmas.List.{length_push}
 use Rattle.std.specs.Option.{option_or}
 use Rattle.std.specs.Prelude.{nat_lt, is_none, option_map, option_and_then}
 use Rattle.std.specs.Str.{bytes_eq, IsUtf8}
-use Rattle.script.specs.Number.{decimal_of}
+use Rattle.decimals.specs.Number.{decimal_of}
 use Rattle.script.specs.Parts.{words_of, lines_of}
 use Rattle.server_events.specs.Instance.{is_instance_name}
 use Rattle.server_events.proofs.NameLemmas.{IsInstanceName-from_test, IsUtf8-instance_name}

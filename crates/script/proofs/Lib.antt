@@ -5,7 +5,6 @@ pub mod FirstLemmas
 pub mod HexadecimalLemmas
 pub mod LineLemmas
 pub mod NumberForms
-pub mod NumberLemmas
 pub mod OutputLemmas
 pub mod PartsLemmas
 pub mod PlaceLemmas

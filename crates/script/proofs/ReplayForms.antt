@@ -6,7 +6,7 @@ use Rattle.std.proofs.lemmas.List.Splits.{join_with_byte-slice_split}
 use Rattle.std.proofs.lemmas.Slice.Eq.{bytes_eq-Decides}
 use Rattle.std.specs.Prelude.{◌↔◌, ◌⊎◌, nat_lt, is_none, option_map, option_and_then}
 use Rattle.std.specs.Str.{bytes_eq}
-use Rattle.script.specs.Number.{decimal_of}
+use Rattle.decimals.specs.Number.{decimal_of}
 use Rattle.script.specs.Parts.{words_of}
 use Rattle.script.proofs.SplitLemmas.{Lacks-parts_of, parts_of-join}
 use Rattle.server_events.specs.Configs.{ConfigValue, instance_limit, own_fault}

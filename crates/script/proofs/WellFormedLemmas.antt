@@ -13,7 +13,7 @@ use Rattle.std.specs.Str.{bytes_eq}
 use Rattle.script.specs.declared.unary.command.UnaryScript.{UnaryScript}
 use Rattle.script.specs.UnaryShown.{unary_script_value, command_value}
 use Rattle.script.specs.Hexadecimal.{bytes_of_hex}
-use Rattle.script.specs.Number.{decimal_of}
+use Rattle.decimals.specs.Number.{decimal_of}
 use Rattle.script.specs.Parts.{words_of, lines_of}
 use Rattle.server_events.specs.Instance.{IsInstanceName, is_instance_name, quota_limit}
 use Rattle.server_events.proofs.NameLemmas.{IsInstanceName-from_test}

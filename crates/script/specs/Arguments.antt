@@ -1,6 +1,6 @@
 -- The words after the first of a line.
 use Rattle.std.specs.Prelude.{ℕ, ℤ, pos, neg_ℤ, ◌+◌, ◌^◌, ◌==◌, nat_lt, if◌then◌else◌, List, [], ◌∷◌, Option, Some, None, option_map, option_and_then}
-use Rattle.script.specs.Number.{decimal_of}
+use Rattle.decimals.specs.Number.{decimal_of}
 
 -- ---- numbers
 

@@ -3,7 +3,6 @@ pub mod Faults
 pub mod FirstBadLine
 pub mod Hexadecimal
 pub mod Method
-pub mod Number
 pub mod Parts
 pub mod ReplayEvents
 pub mod ReplayLines

@@ -3,7 +3,7 @@ use Rattle.std.specs.Prelude.{◌≡◌, ◌≢◌, ℕ, ℤ, pos, neg_ℤ, ◌+
 use Rattle.std.specs.Char.{is_ascii}
 use Rattle.std.specs.List.{All, AllPass}
 use Rattle.script.specs.Hexadecimal.{IsBytes, hex_word}
-use Rattle.script.specs.Number.{decimal_of}
+use Rattle.decimals.specs.Number.{decimal_of}
 use Rattle.script.specs.Parts.{spaced}
 use Rattle.server_events.specs.Configs.{instance_limit}
 use Rattle.server_events.specs.Events.{OutputValue, WhatValue, opened, received, took, closed, tick, ended, failed, exited}

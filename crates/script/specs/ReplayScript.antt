@@ -2,7 +2,7 @@
 use Rattle.std.specs.Prelude.{ℕ, Bool, ◌&&◌, nat_lt, ◌==◌, if◌then◌else◌, List, [], ◌∷◌, ◌++◌, length, codes, Option, Some, None, is_none, option_and_then, option_map, Result}
 use Rattle.std.specs.Str.{bytes_eq}
 use Rattle.script.specs.FirstBadLine.{after_lines}
-use Rattle.script.specs.Number.{decimal_of}
+use Rattle.decimals.specs.Number.{decimal_of}
 use Rattle.script.specs.Parts.{lines_of, words_of}
 use Rattle.server_events.specs.Configs.{ConfigValue, instance_limit, own_fault}
 use Rattle.server_events.specs.Events.{EventValue}

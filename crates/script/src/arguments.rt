@@ -2,7 +2,8 @@
 ghost use Rattle.std.specs.Prelude.{◌≡◌, Option, option_map};
 ghost use Rattle.script.specs.Arguments.{one_of, two_of, three_of, number_of, exit_code_of, only_number_of};
 
-use crate::{Parts, decimal};
+use crate::Parts;
+use decimals::decimal;
 
 /// The number below 2^32 that a word writes in decimal.
 pub(crate) fn number(word: &[u8]) -> Option<u32>

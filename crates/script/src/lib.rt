@@ -10,7 +10,6 @@ mod arguments;
 mod fault;
 mod hexadecimal;
 pub mod laws;
-mod number;
 mod parts;
 mod reader;
 pub mod replay;
@@ -19,5 +18,4 @@ pub mod unary;
 
 pub use crate::fault::ScriptFault;
 pub use crate::hexadecimal::{hex_bytes, write_hex};
-pub use crate::number::decimal;
 pub use crate::parts::{Parts, lines, words};

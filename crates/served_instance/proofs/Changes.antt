@@ -3,6 +3,7 @@ use Rattle.std.proofs.Common.{◌≡◌, refl, sym, ap, ◌∙◌, subst, zero, 
 use Rattle.std.proofs.Math.ListN.{set}
 use Rattle.std.specs.Prelude.{ℕ, ◌==◌, if◌then◌else◌, Bool, true, false, List, [], ◌∷◌, map, option_map, Option, Some, None, ◌⊎◌, position, Result, Ok, Err, IfOk, OnOk, IsTrue, length}
 use Rattle.std.specs.Option.{option_map_or}
+use Rattle.std.proofs.lemmas.Bool.{cond-false, cond-true}
 use Rattle.grpc_sending.specs.Kept.{Look}
 use Rattle.conn_core.specs.Past.{Past}
 use Rattle.conn_core.specs.StandsFor.{Present, StandsFor as IsConnection, ReadsFrame as ReadsOne, unread}
@@ -18,18 +19,10 @@ use Rattle.served_instance.proofs.Serves.{SameAt, same_at}
 
 -- ---- in the code
 
-pick_true : {A : Type 0} (b : Bool) (x y : A) → b ≡ true → x ≡ (if b then x else y)
-pick_true true x y e = refl
-pick_true false x y e = cc
-
-pick_false : {A : Type 0} (b : Bool) (x y : A) → b ≡ false → y ≡ (if b then x else y)
-pick_false true x y e = cc
-pick_false false x y e = refl
-
 set_place : (c : ℕ) (os : List OpenConnection) (k : ℕ) (d : OpenConnection) (w : Present) → IsPlace c os k → set os k (record { number = (get_or os k d).number; connection = w }) ≡ replaced c w os
 set_place c [] k d w h = absurd h
-set_place c (o ∷ os) zero d w h = pick_true (o.number == c) (record o { connection = w } ∷ os) (o ∷ replaced c w os) h
-set_place c (o ∷ os) (suc k) d w h = ap (λ (xs : List OpenConnection). o ∷ xs) (set_place c os k d w h.1) ∙ pick_false (o.number == c) (record o { connection = w } ∷ os) (o ∷ replaced c w os) h.0
+set_place c (o ∷ os) zero d w h = sym (cond-true (o.number == c) (record o { connection = w } ∷ os) (o ∷ replaced c w os) h)
+set_place c (o ∷ os) (suc k) d w h = ap (λ (xs : List OpenConnection). o ∷ xs) (set_place c os k d w h.1) ∙ sym (cond-false (o.number == c) (record o { connection = w } ∷ os) (o ∷ replaced c w os) h.0)
 
 pub changed_none : (c : ℕ) (os : List OpenConnection) (R : Present → Present → Type 0) → position (is_numbered c) os ≡ None → Changed c os os R
 changed_none c os R h = let P : Option Present → Type 0 = λ v. ChangedFrom v c os os R in subst P (place_none c os h) refl
@@ -73,8 +66,8 @@ same_kept g c d [] v w h e = refl
 same_kept g c d (o ∷ os) v w h e = same_more g c d o os v w (o.number == c) h e (λ k. same_kept g c d os v w k e)
 
 new_more : (c : ℕ) (o : OpenConnection) (os : List OpenConnection) (v w : Present) (m : Bool) → o.number == c ≡ m → (if m then Some o.connection else kept_at c os) ≡ Some v → (kept_at c os ≡ Some v → kept_at c (replaced c w os) ≡ Some w) → kept_at c (if m then record o { connection = w } ∷ os else o ∷ replaced c w os) ≡ Some w
-new_more c o os v w true e h r = sym (pick_true (o.number == c) (Some w) (kept_at c os) e)
-new_more c o os v w false e h r = sym (pick_false (o.number == c) (Some o.connection) (kept_at c (replaced c w os)) e) ∙ r h
+new_more c o os v w true e h r = cond-true (o.number == c) (Some w) (kept_at c os) e
+new_more c o os v w false e h r = cond-false (o.number == c) (Some o.connection) (kept_at c (replaced c w os)) e ∙ r h
 
 pub new_kept : (c : ℕ) (os : List OpenConnection) (v w : Present) → kept_at c os ≡ Some v → kept_at c (replaced c w os) ≡ Some w
 new_kept c [] v w h = cc

@@ -21,7 +21,7 @@ use Rattle.served_instance.specs.Connections.{LoneConnection, is_open, open_ones
 use Rattle.served_instance.specs.Calls.{call_event_on}
 use Rattle.served_instance.specs.Lone.{Lone, happened, all_happened, was_opened, was_closed}
 use Rattle.served_instance.specs.Present.{is_numbered, CanTake, unless_more}
-use Rattle.std.proofs.lemmas.Bool.{ltb-false}
+use Rattle.std.proofs.lemmas.Bool.{cond-false, cond-true, ltb-false}
 use Rattle.served_instance.specs.declared.refusal.EventRefusal.TheVariants.{NoSuchConnection, TookTooMuch}
 use Rattle.served_instance.specs.StandsFor.{Served, AreServed}
 use Rattle.served_instance.specs.Shown.{served}
@@ -58,23 +58,15 @@ opens c v s os h = λ texts l st.
 
 -- ---- one goes
 
-pick_true : {A : Type 0} (b : Bool) (x y : A) → b ≡ true → x ≡ (if b then x else y)
-pick_true true x y e = refl
-pick_true false x y e = cc
-
-pick_false : {A : Type 0} (b : Bool) (x y : A) → b ≡ false → y ≡ (if b then x else y)
-pick_false true x y e = cc
-pick_false false x y e = refl
-
 removed_serves : (texts : Look) (c : ℕ) (os : List OpenConnection) (ls : List LoneConnection) (k : ℕ) → IsPlace c os k → AreServed texts (map served os) ls → AreServed texts (map served (take k os ++ drop (suc k) os)) (without_at c ls)
 removed_serves texts c [] ls k h s = absurd h
 removed_serves texts c (o ∷ os) [] k h s = absurd s
 removed_serves texts c (o ∷ os) (l ∷ ls) zero h s =
     let here : (l.number == c) ≡ true = ap (λ (n : ℕ). n == c) (sym s.0) ∙ h in
-    subst (λ (xs : List LoneConnection). AreServed texts (map served os) xs) (pick_true (l.number == c) ls (l ∷ without_at c ls) here) s.2
+    subst (λ (xs : List LoneConnection). AreServed texts (map served os) xs) (sym (cond-true (l.number == c) ls (l ∷ without_at c ls) here)) s.2
 removed_serves texts c (o ∷ os) (l ∷ ls) (suc k) h s =
     let there : (l.number == c) ≡ false = ap (λ (n : ℕ). n == c) (sym s.0) ∙ h.0 in
-    subst (λ (xs : List LoneConnection). AreServed texts (map served (o ∷ (take k os ++ drop (suc k) os))) xs) (pick_false (l.number == c) ls (l ∷ without_at c ls) there) (s.0, s.1, removed_serves texts c os ls k h.1 s.2)
+    subst (λ (xs : List LoneConnection). AreServed texts (map served (o ∷ (take k os ++ drop (suc k) os))) xs) (sym (cond-false (l.number == c) ls (l ∷ without_at c ls) there)) (s.0, s.1, removed_serves texts c os ls k h.1 s.2)
 
 pub closes : (c : ℕ) (s t : InstanceState) (os ns : List OpenConnection) (k : ℕ) (d : OpenConnection) → position (is_numbered c) os ≡ Some k → Acts s (take k os ++ drop (suc k) os) t ns (all_happened c (cancels_of (get_or os k d).connection)) → Acts s os t ns (was_closed c)
 closes c s t os ns k d h act = λ texts l st.

@@ -1,7 +1,7 @@
 -- Steps of connections that can be made in either order, and what replies leave.
 use Rattle.std.proofs.Common.{◌≡◌, refl, sym, ap, ◌∙◌, inl, inr}
 use Rattle.std.specs.Prelude.{ℕ, if◌then◌else◌, Bool, true, false, List, [], ◌∷◌, option_map, Option, Some}
-use Rattle.std.proofs.lemmas.Bool.{cases_Bool}
+use Rattle.std.proofs.lemmas.Bool.{cases_Bool, cond-false, cond-true}
 use Rattle.grpc_sending.specs.Owed.{Item}
 use Rattle.http2_streams.specs.Diary.{Entry}
 use Rattle.conn_core.specs.declared.event.CallEvent.{CallEvent}
@@ -11,22 +11,14 @@ use Rattle.served_instance.specs.Connections.{LoneConnection, is_at, open_at, at
 use Rattle.served_instance.specs.Calls.{items_of, with_items}
 use Rattle.served_instance.specs.Lone.{Lone, replied}
 
-pick_true : {A : Type 0} (b : Bool) (x y : A) → b ≡ true → (if b then x else y) ≡ x
-pick_true true x y e = refl
-pick_true false x y e = cc
-
-pick_false : {A : Type 0} (b : Bool) (x y : A) → b ≡ false → (if b then x else y) ≡ y
-pick_false true x y e = cc
-pick_false false x y e = refl
-
 abbrev stepped : (Past → Past) → LoneConnection → LoneConnection
 stepped f k = record k { past = f k.past }
 
 hit : (c : ℕ) (f : Past → Past) (k : LoneConnection) (ks : List LoneConnection) → is_at c k ≡ true → at_open c f (k ∷ ks) ≡ stepped f k ∷ ks
-hit c f k ks e = pick_true (is_at c k) (stepped f k ∷ ks) (k ∷ at_open c f ks) e
+hit c f k ks e = cond-true (is_at c k) (stepped f k ∷ ks) (k ∷ at_open c f ks) e
 
 miss : (c : ℕ) (f : Past → Past) (k : LoneConnection) (ks : List LoneConnection) → is_at c k ≡ false → at_open c f (k ∷ ks) ≡ k ∷ at_open c f ks
-miss c f k ks e = pick_false (is_at c k) (stepped f k ∷ ks) (k ∷ at_open c f ks) e
+miss c f k ks e = cond-false (is_at c k) (stepped f k ∷ ks) (k ∷ at_open c f ks) e
 
 -- ---- two steps
 
@@ -80,8 +72,8 @@ idle c (k ∷ ks) = idle_by (is_at c k) k ks (at_open c (λ p. p) ks) (idle c ks
 pub no_step : (c : ℕ) (f : Past → Past) (ks : List LoneConnection) → ((p : Past) → open_at c ks ≡ Some p → f p ≡ p) → at_open c f ks ≡ ks
 no_step c f [] h = refl
 no_step c f (k ∷ ks) h = elim (cases_Bool (is_at c k)) [
-  | inl x ↦ hit c f k ks x ∙ ap (λ (p : Past). record k { past = p } ∷ ks) (h k.past (pick_true (is_at c k) (Some k.past) (open_at c ks) x))
-  | inr x ↦ miss c f k ks x ∙ ap (λ (xs : List LoneConnection). k ∷ xs) (no_step c f ks (λ p e. h p (pick_false (is_at c k) (Some k.past) (open_at c ks) x ∙ e)))
+  | inl x ↦ hit c f k ks x ∙ ap (λ (p : Past). record k { past = p } ∷ ks) (h k.past (cond-true (is_at c k) (Some k.past) (open_at c ks) x))
+  | inr x ↦ miss c f k ks x ∙ ap (λ (xs : List LoneConnection). k ∷ xs) (no_step c f ks (λ p e. h p (cond-false (is_at c k) (Some k.past) (open_at c ks) x ∙ e)))
 ]
 
 -- ---- the past after a step
@@ -105,8 +97,8 @@ view_kept g a b f (k ∷ ks) h = view_by g a b f k ks h (view_kept g a b f ks h)
 pub open_stepped : (c : ℕ) (f : Past → Past) (ks : List LoneConnection) → open_at c (at_open c f ks) ≡ option_map f (open_at c ks)
 open_stepped c f [] = refl
 open_stepped c f (k ∷ ks) = elim (cases_Bool (is_at c k)) [
-  | inl x ↦ ap (open_at c) (hit c f k ks x) ∙ pick_true (is_at c k) (Some (f k.past)) (open_at c ks) x ∙ sym (ap (option_map f) (pick_true (is_at c k) (Some k.past) (open_at c ks) x))
-  | inr x ↦ ap (open_at c) (miss c f k ks x) ∙ pick_false (is_at c k) (Some k.past) (open_at c (at_open c f ks)) x ∙ open_stepped c f ks ∙ sym (ap (option_map f) (pick_false (is_at c k) (Some k.past) (open_at c ks) x))
+  | inl x ↦ ap (open_at c) (hit c f k ks x) ∙ cond-true (is_at c k) (Some (f k.past)) (open_at c ks) x ∙ sym (ap (option_map f) (cond-true (is_at c k) (Some k.past) (open_at c ks) x))
+  | inr x ↦ ap (open_at c) (miss c f k ks x) ∙ cond-false (is_at c k) (Some k.past) (open_at c (at_open c f ks)) x ∙ open_stepped c f ks ∙ sym (ap (option_map f) (cond-false (is_at c k) (Some k.past) (open_at c ks) x))
 ]
 
 -- ---- items

@@ -6,6 +6,7 @@ use Rattle.std.specs.Option.{option_map_or}
 use Rattle.std.specs.List.{list_any}
 use Rattle.std.proofs.lemmas.List.Elements.{filter_map-append}
 use Rattle.std.proofs.lemmas.List.Folds.{list_any-append}
+use Rattle.std.proofs.lemmas.Bool.{cond-false, cond-true}
 use Rattle.http2_frames.specs.declared.reader.TheConstants.{CLIENT_PREFACE}
 use Rattle.http2_frames.specs.declared.codes.ErrorCode.{ErrorCode}
 use Rattle.http2_frames.specs.declared.error.FrameError.{FrameError}
@@ -29,14 +30,6 @@ use Rattle.served_instance.specs.Lone.{Lone, happened, all_happened, due_at, non
 use Rattle.served_instance.specs.Acts.{rest_read}
 use Rattle.served_instance.proofs.Changes.{or_of}
 use Rattle.served_instance.proofs.Commutes.{Wire, wire, given, replied_is, given_commutes, given_keeps, items_due, items_keep_due, items_keep_wire, fuse, no_step, open_stepped, view_kept}
-
-pick_true : {A : Type 0} (b : Bool) (x y : A) → b ≡ true → (if b then x else y) ≡ x
-pick_true true x y e = refl
-pick_true false x y e = cc
-
-pick_false : {A : Type 0} (b : Bool) (x y : A) → b ≡ false → (if b then x else y) ≡ y
-pick_false true x y e = cc
-pick_false false x y e = refl
 
 -- ---- one event
 
@@ -145,7 +138,7 @@ frame_leads c f later l p h alive e =
     ∙ ap (λ (fs : List RawFrame). end_read c whole.end (frames_read c fs k)) (ap (drop (length (rr ++ f ∷ []))) e ∙ back)
     ∙ sym (rest_is c l p h
     ∙ ap (λ (fs : List RawFrame). end_read c whole.end (frames_read c fs l)) (ap (drop (length rr)) e ∙ drop-append_seam rr (f ∷ later))
-    ∙ ap (end_read c whole.end) (pick_false (is_over c l) l (frames_read c later (frame_read c f l)) (over_is c l p h ∙ alive)))
+    ∙ ap (end_read c whole.end) (cond-false (is_over c l) l (frames_read c later (frame_read c f l)) (over_is c l p h ∙ alive)))
 
 -- ---- a fault
 
@@ -163,11 +156,11 @@ failed_now d e code h =
 -- nothing is read behind an error of the connection
 over_frames : (c : ℕ) (fs : List RawFrame) (l : Lone) → is_over c l ≡ true → frames_read c fs l ≡ l
 over_frames c [] l h = refl
-over_frames c (f ∷ fs) l h = pick_true (is_over c l) l (frames_read c fs (frame_read c f l)) h
+over_frames c (f ∷ fs) l h = cond-true (is_over c l) l (frames_read c fs (frame_read c f l)) h
 
 over_end : (c : ℕ) (end : Result (List ℕ) FrameError) (l : Lone) → is_over c l ≡ true → end_read c end l ≡ l
 over_end c (Ok rest) l h = refl
-over_end c (Err e) l h = pick_true (is_over c l) l (fault_met c e l (reading_fault e)) h
+over_end c (Err e) l h = cond-true (is_over c l) l (fault_met c e l (reading_fault e)) h
 
 pub over_rest : (c : ℕ) (l : Lone) (p : Past) → open_at c l.connections ≡ Some p → has_failed p.diary ≡ true → rest_read c l ≡ l
 over_rest c l p h f =
@@ -197,5 +190,5 @@ fault_leads c e code l p h alive next =
     ∙ sym (rest_is c l p h
     ∙ ap (read_on c l (length (raw_received p.diary))) next.read
     ∙ ap (λ (fs : List RawFrame). end_read c (Err e) (frames_read c fs l)) (drop-length (raw_received p.diary))
-    ∙ pick_false (is_over c l) l (fault_met c e l (reading_fault e)) (over_is c l p h ∙ alive)
+    ∙ cond-false (is_over c l) l (fault_met c e l (reading_fault e)) (over_is c l p h ∙ alive)
     ∙ ap (fault_met c e l) next.fault)

@@ -26,7 +26,7 @@ use Rattle.served_instance.specs.Ranges.{served_with, sources_at, range_holders}
 use Rattle.served_instance.specs.Shown.{served}
 use Rattle.served_instance.specs.Slots.{holders_of, IsKept}
 use Rattle.served_instance.specs.StandsFor.{Served, AreServed}
-use Rattle.served_instance.specs.Acts.{ActsIn, StandsBy}
+use Rattle.served_instance.specs.Acts.{ActsIn, StandsBy, slots_of}
 use Rattle.served_instance.proofs.Commutes.{given, replied_is}
 use Rattle.served_instance.proofs.Frames.{happened_is}
 use Rattle.served_instance.proofs.Gives.{AreGiven}
@@ -129,6 +129,18 @@ answered_kept given IsGood p q r i j vs ws a short =
           (a.takes.fit (text_at q) a.good (fit_agreed_each (text_at p) (text_at q) vs (asked_finds given p q i j vs a.kept a.moves) a.kept.fit));
       few = a.takes.few a.kept.few;
     }
+
+-- what a call event answered was given to its connections
+pub answers_given : (p q r : Slots) (i j : InstanceSlots) (os ns : List OpenConnection) (rs ys : List Reply) → rs ≡ ys → IsKept p (slots_of i os) →
+    Moves p q (holders_of_instance i) (λ k. holders_of_instance j k + replies_holders ys k) → TakeRanges (replies_holders rs) (RepliesEndWithin rs) q (map served os) r (map served ns) → WithinLimits (state_in q j) →
+    AllByRecursion IsShortReply (map (reply_shown q) ys) → IsAnswered (replies_holders rs) (RepliesEndWithin rs) p q r i j (map served os) (map served ns)
+answers_given p q r i j os ns rs ys is kept moves takes within short = record {
+  kept = kept;
+  moves = subst (λ (xs : List Reply). Moves p q (holders_of_instance i) (λ k. holders_of_instance j k + replies_holders xs k)) (sym is) moves;
+  takes = takes;
+  within = within;
+  good = replies_end q rs (subst (λ (xs : List Reply). AllByRecursion IsShortReply (map (reply_shown q) xs)) (sym is) short);
+}
 
 -- ---- what it stands for
 

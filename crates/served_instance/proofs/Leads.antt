@@ -61,21 +61,28 @@ unchanged_stands : (texts : Look) (s : InstanceState) (os ns : List OpenConnecti
 unchanged_stands texts s os ns l k e f st =
     subst (λ (x : Lone). StandsBy texts s ns x) (sym f) (subst (λ (xs : List OpenConnection). StandsBy texts s xs l) (sym e) st)
 
+-- a step that the past of its connection does not show
+keeps_still : (texts : Look) (c : ℕ) (s : InstanceState) (os ns : List OpenConnection) (R : Present → Present → Type 0) (l k : Lone) → Changed c os ns R → (open_at c l.connections ≡ None → k ≡ l) →
+    ((v w : Present) (p : Past) → open_at c l.connections ≡ Some p → R v w → IsConnection texts v p → IsConnection texts w p × (k ≡ l)) → StandsBy texts s os l → StandsBy texts s ns k
+keeps_still texts c s os ns R l k d none there st = elim (kept_or_not (kept_at c os)) [
+  | inl gone ↦ unchanged_stands texts s os ns l k (changed_nowhere c os ns R gone d) (none (no_past texts c os l.connections gone st.connections)) st
+  | inr some ↦
+      let t = changed_there c os ns R some.0 some.1 d in
+      let past = open_past texts c os l.connections some.0 some.1 st.connections in
+      let now = there some.0 t.0 past.0 past.1 t.2 past.2 in
+      let still : StandsBy texts s ns l = record {
+        state = st.state;
+        connections = still_served texts c os ns some.0 t.0 l.connections past.0 some.1 t.1 past.1 now.0 st.connections;
+      } in
+      subst (λ (x : Lone). StandsBy texts s ns x) (sym now.1) still
+]
+
 -- ---- what is due
 
 pub popped_all : (c : ℕ) (s : InstanceState) (os ns : List OpenConnection) → Changed c os ns (Pops None) → Acts s os s ns (due_happened c)
-popped_all c s os ns d = λ texts l st. elim (kept_or_not (kept_at c os)) [
-  | inl none ↦ unchanged_stands texts s os ns l (due_happened c l) (changed_nowhere c os ns (Pops None) none d) (none_due_there c l (no_past texts c os l.connections none st.connections)) st
-  | inr some ↦
-      let t = changed_there c os ns (Pops None) some.0 some.1 d in
-      let past = open_past texts c os l.connections some.0 some.1 st.connections in
-      let popped = t.2.event texts past.0 past.2 in
-      let now : StandsBy texts s ns l = record {
-        state = st.state;
-        connections = still_served texts c os ns some.0 t.0 l.connections past.0 some.1 t.1 past.1 popped.1 st.connections;
-      } in
-      subst (λ (x : Lone). StandsBy texts s ns x) (sym (nothing_due c l past.0 past.1 popped.0)) now
-]
+popped_all c s os ns d = λ texts l st.
+    keeps_still texts c s os ns (Pops None) l (due_happened c l) d (none_due_there c l)
+    (λ v w p found pops stands. let popped = pops.event texts p stands in (popped.1, nothing_due c l p found popped.0)) st
 
 popped_next : (texts : Look) (c : ℕ) (s : InstanceState) (os ns : List OpenConnection) (event : CallEvent) → Changed c os ns (Pops (Some event)) → (kept_at c os ≡ None → ⊥) → (l : Lone) → StandsBy texts s os l →
     (k : Lone) × StandsBy texts s ns k × (due_happened c (happened (call_event_on c event) k) ≡ due_happened c l)
@@ -135,32 +142,13 @@ ended c l p o (inl failed) = over_rest c l p o failed
 ended c l p o (inr read) = read_rest c l p o read
 
 pub read_done : (c : ℕ) (s : InstanceState) (os ns : List OpenConnection) → Changed c os ns (ReadsFrame false) → Acts s os s ns (rest_read c)
-read_done c s os ns d = λ texts l st. elim (kept_or_not (kept_at c os)) [
-  | inl none ↦ unchanged_stands texts s os ns l (rest_read c l) (changed_nowhere c os ns (ReadsFrame false) none d) (nothing_there c l (no_past texts c os l.connections none st.connections)) st
-  | inr some ↦
-      let t = changed_there c os ns (ReadsFrame false) some.0 some.1 d in
-      let past = open_past texts c os l.connections some.0 some.1 st.connections in
-      let frame = t.2.frame texts past.0 past.2 in
-      let now : StandsBy texts s ns l = record {
-        state = st.state;
-        connections = still_served texts c os ns some.0 t.0 l.connections past.0 some.1 t.1 past.1 frame.1 st.connections;
-      } in
-      subst (λ (x : Lone). StandsBy texts s ns x) (sym (ended c l past.0 past.1 frame.0)) now
-]
+read_done c s os ns d = λ texts l st.
+    keeps_still texts c s os ns (ReadsFrame false) l (rest_read c l) d (nothing_there c l)
+    (λ v w p found reads stands. let frame = reads.frame texts p stands in (frame.1, ended c l p found frame.0)) st
 
 pub done_leads : (c : ℕ) (s : InstanceState) (os ns : List OpenConnection) → Changed c os ns (ReadsFrame false) → LeadsOn s os s ns (rest_read c) (rest_read c)
-done_leads c s os ns d = λ texts l st. elim (kept_or_not (kept_at c os)) [
-  | inl none ↦ (l, unchanged_stands texts s os ns l l (changed_nowhere c os ns (ReadsFrame false) none d) refl st, refl)
-  | inr some ↦
-      let t = changed_there c os ns (ReadsFrame false) some.0 some.1 d in
-      let past = open_past texts c os l.connections some.0 some.1 st.connections in
-      let frame = t.2.frame texts past.0 past.2 in
-      let now : StandsBy texts s ns l = record {
-        state = st.state;
-        connections = still_served texts c os ns some.0 t.0 l.connections past.0 some.1 t.1 past.1 frame.1 st.connections;
-      } in
-      (l, now, refl)
-]
+done_leads c s os ns d = λ texts l st.
+    (l, keeps_still texts c s os ns (ReadsFrame false) l l d (λ none. refl) (λ v w p found reads stands. ((reads.frame texts p stands).1, refl)) st, refl)
 
 pub read_fewer : (c : ℕ) (os ns xs : List OpenConnection) → Changed c os ns (ReadsFrame true) → (kept_at c os ≡ None → ⊥) → unread_at c xs ≡ unread_at c ns → unread_at c xs < unread_at c os
 read_fewer c os ns xs d there e = let lt = changed_fewer unread c os ns (ReadsFrame true) there d (λ v w r. r.fewer refl) in omega arith

@@ -2,7 +2,6 @@ pub mod Places
 pub mod Opens
 pub mod Serves
 pub mod Ranges
-mod Parts
 pub mod Refuses
 pub mod Changes
 pub mod Commutes

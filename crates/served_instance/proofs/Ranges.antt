@@ -14,7 +14,7 @@ use Rattle.grpc_sending.specs.Sources.{count_of, sources_in, sources_held}
 use Rattle.grpc_sending.specs.StandsFor.{IsSending}
 use Rattle.grpc_sending.specs.Kept.{Look, Kept, AgreeOn, KeepsFit, Fit, AreFit as ArePiecesFit, stored_on, shown, queue_in, sources_of}
 use Rattle.grpc_sending.proofs.Sources.{sum_append}
-use Rattle.grpc_sending.proofs.Agreeing.{stands_agreed, fit_agreed}
+use Rattle.grpc_sending.proofs.Agreeing.{count_append, agree_left, agree_right, same_shown, stands_agreed, fit_agreed}
 use Rattle.conn_core.specs.Past.{Past}
 use Rattle.conn_core.specs.StandsFor.{Present, StandsFor as IsConnection}
 use Rattle.served_instance.specs.declared.open_connection.OpenConnection.{OpenConnection}
@@ -71,15 +71,6 @@ plain_served texts (v ∷ vs) [] s = absurd s
 plain_served texts (v ∷ vs) (l ∷ ls) s = (s.0, plain_connection texts v l.past s.1, plain_served texts vs ls s.2)
 
 -- ---- only the texts of their sources matter
-
-pub count_append : (k : ℕ) (ms ns : List ℕ) → count_of k (ms ++ ns) ≡ count_of k ms + count_of k ns
-count_append k ms ns = sum_append (λ m. cond (k == m) 1 0) ms ns
-
-pub agree_left : (t u : Look) (ms ns : List ℕ) → AgreeOn (ms ++ ns) t u → AgreeOn ms t u
-agree_left t u ms ns h k some = h k (omega (arith, some, count_append k ms ns))
-
-pub agree_right : (t u : Look) (ms ns : List ℕ) → AgreeOn (ms ++ ns) t u → AgreeOn ns t u
-agree_right t u ms ns h k some = h k (omega (arith, some, count_append k ms ns))
 
 -- of the first connection's ranges, and of the others
 agree_first : (t u : Look) (v : Served) (vs : List Served) → AgreeOn (sources_at (v ∷ vs)) t u → AgreeOn (sources_held v.connection.sending.queues) t u
@@ -224,20 +215,6 @@ pub fit_none : (texts : Look) (w : Kept) → sources_of w ≡ [] → Fit texts w
 fit_none texts w none s = fit_on texts s w.queues (left_none (sources_held w.queues) w.spent none)
 
 -- ---- what is seen is the same by two look-ups that agree
-
-agree_here : (t u : Look) (n : ℕ) (ns : List ℕ) → AgreeOn (n ∷ ns) t u → t n ≡ u n
-agree_here t u n ns h =
-    let same : (n == n) ≡ true = grind (arith, nat_tests) in
-    let one : cond {A = ℕ} (n == n) 1 0 ≡ 1 = ap (λ b. cond b 1 0) same in
-    h n (omega (arith, one))
-
-same_shown : (t u : Look) (ps : List StoredPiece) → AgreeOn (sources_in ps) t u → flat_map (shown t) ps ≡ flat_map (shown u) ps
-same_shown t u [] h = refl
-same_shown t u (Encoded block ∷ ps) h = ap (λ (qs : List Piece). Block block ∷ qs) (same_shown t u ps h)
-same_shown t u (Framed bytes ∷ ps) h = ap (λ (qs : List Piece). Part bytes ∷ qs) (same_shown t u ps h)
-same_shown t u (Ranged s ∷ ps) h =
-    ap (λ (text : List ℕ). span_pieces most_read s text ++ flat_map (shown t) ps) (agree_here t u s.source (sources_in ps) h)
-    ∙ ap (λ (qs : List Piece). span_pieces most_read s (u s.source) ++ qs) (same_shown t u ps (agree_right t u (s.source ∷ []) (sources_in ps) h))
 
 same_stored : (t u : Look) (qs : List StoredQueue) → AgreeOn (sources_held qs) t u → map (queue_with t) qs ≡ map (queue_with u) qs
 same_stored t u [] h = refl

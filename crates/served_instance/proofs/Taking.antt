@@ -21,7 +21,7 @@ use Rattle.served_instance.specs.Given.{CanBeOwed, ReplyCanBeOwed, EndsWithin, I
 use Rattle.served_instance.specs.Shown.{served}
 use Rattle.served_instance.specs.Present.{is_numbered}
 use Rattle.served_instance.proofs.Places.{IsPlace, is_place}
-use Rattle.served_instance.proofs.Ranges.{count_append}
+use Rattle.grpc_sending.proofs.Agreeing.{count_append}
 
 -- ---- some are released, and then others
 

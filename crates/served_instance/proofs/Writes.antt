@@ -1,14 +1,15 @@
 -- All connections were written through a slice of them.
-use Rattle.std.proofs.Common.{◌≡◌, ◌≤◌, List, length, map, sym, subst, arith, ap, ◌∙◌}
+use Rattle.std.proofs.Common.{◌≡◌, ◌≤◌, List, length, map, refl, sym, subst, arith, ap, ◌∙◌}
 use Rattle.std.proofs.lemmas.List.{length-map}
 use Rattle.blob_pool.specs.Held.{Slots}
 use Rattle.blob_pool.specs.Moves.{Moves}
+use Rattle.blob_pool.proofs.Moves.{moves_trans}
 use Rattle.instance_core.specs.Slots.{InstanceSlots}
 use Rattle.served_instance.specs.declared.open_connection.OpenConnection.{OpenConnection}
 use Rattle.served_instance.specs.Slots.{holders_of, IsKept}
 use Rattle.served_instance.specs.Shown.{served}
 use Rattle.served_instance.specs.Acts.{HoldAlike, slots_of}
-use Rattle.served_instance.proofs.Kept.{alike_keeps, few_connections}
+use Rattle.served_instance.proofs.Kept.{alike_keeps, alike_moves, few_connections}
 
 -- os were seen as xs, which became ns, and are zs now
 pub alike_written : (os xs ns zs : List OpenConnection) → xs ≡ os → zs ≡ ns → HoldAlike xs ns → HoldAlike os zs
@@ -32,3 +33,12 @@ pub moves_written : (p q : Slots) (i j : InstanceSlots) (os xs ns zs : List Open
 moves_written p q i j os xs ns zs seen back m =
     subst (λ (ys : List OpenConnection). Moves p q (holders_of (slots_of i ys)) (holders_of (slots_of j zs))) seen
     (subst (λ (ys : List OpenConnection). Moves p q (holders_of (slots_of i xs)) (holders_of (slots_of j ys))) (sym back) m)
+
+-- the connections alone became others, which hold the same
+pub alike_after : (p : Slots) (i : InstanceSlots) (os ns : List OpenConnection) → length ns ≡ length os → IsKept p (slots_of i os) → HoldAlike os ns → IsKept p (slots_of i ns)
+alike_after p i os ns same kept alike = alike_writes p i os os ns ns refl refl same kept alike
+
+-- and then more happened
+pub moves_after : (p q : Slots) (i j : InstanceSlots) (os ns ms : List OpenConnection) → HoldAlike os ns → Moves p q (holders_of (slots_of i ns)) (holders_of (slots_of j ms)) → Moves p q (holders_of (slots_of i os)) (holders_of (slots_of j ms))
+moves_after p q i j os ns ms alike more =
+    moves_trans p p q (holders_of (slots_of i os)) (holders_of (slots_of i ns)) (holders_of (slots_of j ms)) (alike_moves p i (map served os) (map served ns) alike) more

@@ -18,7 +18,8 @@ use Rattle.served_instance.specs.Slots.{ServedSlots, served_in, holders_of}
 use Rattle.grpc_sending.specs.Sources.{count_of}
 use Rattle.grpc_sending.specs.Kept.{Look, sources_of}
 use Rattle.served_instance.specs.Ranges.{sources_at, range_holders, AreFit, HaveFew}
-use Rattle.served_instance.proofs.Ranges.{count_append, fit_none}
+use Rattle.grpc_sending.proofs.Agreeing.{count_append}
+use Rattle.served_instance.proofs.Ranges.{fit_none}
 use Rattle.server_core.specs.Shared.{all_in, all_holders, HasRanges, IsServer}
 use Rattle.run_record.specs.Runs.{begun}
 use Rattle.run_record.specs.StandsFor.{RecordValue, StandsFor as IsRecord}

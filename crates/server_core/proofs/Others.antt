@@ -24,7 +24,8 @@ use Rattle.served_instance.specs.Connections.{open_ones}
 use Rattle.served_instance.specs.StandsFor.{Served, ServedState, StandsFor as IsServed, IsWithin}
 use Rattle.served_instance.specs.Ranges.{served_with, sources_at, range_holders}
 use Rattle.served_instance.specs.Refusals.{connection_limit}
-use Rattle.served_instance.proofs.Ranges.{count_append, fit_agreed_each, plain_served, same_served}
+use Rattle.grpc_sending.proofs.Agreeing.{count_append}
+use Rattle.served_instance.proofs.Ranges.{fit_agreed_each, plain_served, same_served}
 use Rattle.served_instance.specs.Slots.{ServedSlots, served_in, holders_of, IsKept, HasConnections}
 use Rattle.server_core.specs.Shared.{all_in, all_holders, IsServer, HasRanges}
 use Rattle.server_core.specs.StandsFor.{StandsAt, instance_at}

@@ -7,7 +7,7 @@ use Rattle.grpc_sending.specs.Sources.{count_of}
 use Rattle.instance_view.specs.Shown.{Entry, blobs_in, entry_holders}
 use Rattle.served_instance.specs.Ranges.{sources_at}
 use Rattle.served_instance.specs.Slots.{ServedSlots, served_in}
-use Rattle.served_instance.proofs.Ranges.{count_append}
+use Rattle.grpc_sending.proofs.Agreeing.{count_append}
 use Rattle.server_core.specs.Shared.{all_in, all_holders}
 use Rattle.server_core.specs.Stored.{texts_of, own_texts, texts_of_all}
 

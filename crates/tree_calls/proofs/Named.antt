@@ -10,6 +10,7 @@ use Rattle.digest.specs.declared.Digest.{Digest}
 use Rattle.digest.specs.Naming.{Names, same, digest_of}
 use Rattle.digest.proofs.Same.{same_equal, same_names}
 use Rattle.instance_view.specs.Visible.{Blob, seen}
+use Rattle.quota_evict.proofs.Seen.{named_by}
 use Rattle.reapi_messages.specs.Digests.{DigestValue}
 use Rattle.tree_messages.specs.Directories.{DirectoryValue, FileNodeValue, TreeValue, tree_of}
 use Rattle.tree_messages.specs.Results.{ActionResultValue, OutputFileValue, OutputDirectoryValue, action_result_of}
@@ -33,27 +34,11 @@ use Rattle.tree_calls.proofs.Pages.{list_given}
 abbrev pub AllNamed : List Blob → Type 0
 AllNamed visible = AllByRecursion (λ (b : Blob). Names b.0 b.1) visible
 
-found_named : (d : Digest) (t : List ℕ) (bs : List Blob) → AllNamed bs → lookup (same d) bs ≡ Some t → Names d t
-found_named d t [] h is = absurd (cc)
-found_named d t (b ∷ bs) h is = go (same d b.0) refl is (λ later. found_named d t bs h.1 later) where
-  go : (c : Bool) → same d b.0 ≡ c → cond c (Some b.1) (lookup (same d) bs) ≡ Some t → (lookup (same d) bs ≡ Some t → Names d t) → Names d t
-  go true test is later =
-      let text_is : b.1 ≡ t = cc in
-      let digest_is : b.0 ≡ d = sym (same_equal d b.0 test) in
-      subst (λ (e : Digest). Names e t) digest_is (subst (λ (x : List ℕ). Names b.0 x) text_is h.0)
-  go false test is later = later is
-
-seen_named : (visible : List Blob) (d : Digest) (t : List ℕ) → AllNamed visible → seen d visible ≡ Some t → Names d t
-seen_named visible d t named is = go (same d (digest_of [])) refl is where
-  go : (c : Bool) → same d (digest_of []) ≡ c → cond c (Some []) (lookup (same d) visible) ≡ Some t → Names d t
-  go true test is = let none : [] ≡ t = cc in subst (λ (x : List ℕ). Names d x) none (same_names d [] test)
-  go false test is = found_named d t visible named is
-
 directory_named : (visible : List Blob) (d : Digest) → AllNamed visible → IsDirectory (texts_seen visible) d → Names d (text_or_none (texts_seen visible) d)
 directory_named visible d named h = go (seen d visible) refl h where
   go : (o : Option (List ℕ)) → seen d visible ≡ o → is_some (children_of_text o) ≡ true → Names d (unwrap_or o [])
   go None is h = absurd (cc)
-  go (Some t) is h = seen_named visible d t named is
+  go (Some t) is h = named_by visible d t named is
 
 -- ---- pages
 

@@ -22,7 +22,7 @@ use Rattle.tree_messages.specs.Results.{action_result_of}
 use Rattle.input_tree.specs.Directories.{checked, child_digests}
 use Rattle.input_tree.specs.Listing.{Lookup, children_of_text}
 use Rattle.input_tree.specs.Pages.{page_bytes, page_text, place_asked, place_within, text_or_none, texts}
-use Rattle.input_tree.specs.Number.{decimal_of}
+use Rattle.decimals.specs.Number.{decimal_of}
 use Rattle.action_cache.specs.Results.{front_within}
 use Rattle.action_cache.specs.Answering.{blobs_for}
 use Rattle.cas_service.specs.Requests.{readable, own_instance, known_function}

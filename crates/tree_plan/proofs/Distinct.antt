@@ -4,14 +4,10 @@ use Rattle.std.specs.List.{Contains, list_all, list_any}
 use Rattle.std.specs.Ordering.{nat_cmp, is_lt, ordering_reverse}
 use Rattle.std.specs.Cmp.Lexicographic.{slice_cmp}
 use Rattle.std.proofs.lemmas.Cmp.{nat_list_cmp_total}
+use Rattle.std.proofs.lemmas.Bool.{and_parts}
 use Rattle.input_tree.specs.Names.{is_name, is_name_byte, is_dots, precedes, are_alike, are_rising, are_apart}
 use Rattle.tree_plan.proofs.Kept.{in_none, in_cases}
 use Rattle.tree_plan.proofs.Pairs.{Pairs}
-
-pub both : (a b : Bool) → (a && b) ≡ true → (a ≡ true) × (b ≡ true)
-both true true h = (refl, refl)
-both true false h = cc
-both false b h = cc
 
 less_by : (o : Ordering) → is_lt o ≡ true → o ≡ Less
 less_by Less h = refl
@@ -35,7 +31,7 @@ rising_pairs : (ts : List (List ℕ)) → are_rising ts ≡ true → Pairs (λ t
 rising_pairs [] h = tt
 rising_pairs (t ∷ []) h = (λ y c. absurd (in_none y c), tt)
 rising_pairs (t ∷ (u ∷ us)) h =
-    let parts = both (precedes t u) (are_rising (u ∷ us)) h in
+    let parts = and_parts (precedes t u) (are_rising (u ∷ us)) h in
     let less = less_by (slice_cmp nat_cmp t u) parts.0 in
     let later = rising_pairs (u ∷ us) parts.1 in
     (λ y c. go less later y (in_cases u us y c), later) where
@@ -62,7 +58,7 @@ not_alike t (v ∷ vs) h u c = go (either_false (are_alike t v) (list_any (are_a
 
 pub apart_differ : (ts us : List (List ℕ)) → are_apart ts us ≡ true → (t u : List ℕ) → Contains ts t → Contains us u → t ≢ u
 apart_differ [] us h t u ct cu = absurd (in_none t ct)
-apart_differ (x ∷ ts) us h t u ct cu = go (both (not (list_any (are_alike x) us)) (are_apart ts us) h) (in_cases x ts t ct) (λ further c. apart_differ ts us further t u c cu) where
+apart_differ (x ∷ ts) us h t u ct cu = go (and_parts (not (list_any (are_alike x) us)) (are_apart ts us) h) (in_cases x ts t ct) (λ further c. apart_differ ts us further t u c cu) where
   go : (not (list_any (are_alike x) us) ≡ true) × (are_apart ts us ≡ true) → (x ≡ t) ⊎ Contains ts t → (are_apart ts us ≡ true → Contains ts t → t ≢ u) → t ≢ u
   go parts (inl is) later = rw (← is) (not_alike x us parts.0 u cu)
   go parts (inr c) later = later parts.1 c
@@ -70,7 +66,7 @@ apart_differ (x ∷ ts) us h t u ct cu = go (both (not (list_any (are_alike x) u
 -- ---- names without slashes
 
 pub name_bytes : (t : List ℕ) → is_name t ≡ true → list_all is_name_byte t ≡ true
-name_bytes t h = (both (not (is_dots t)) (list_all is_name_byte t) (both _ (not (is_dots t) && list_all is_name_byte t) h).1).1
+name_bytes t h = (and_parts (not (is_dots t)) (list_all is_name_byte t) (and_parts _ (not (is_dots t) && list_all is_name_byte t) h).1).1
 
 slash_no : (b : ℕ) (bs : List ℕ) → b ≡ 47 → list_all is_name_byte (b ∷ bs) ≡ true → ⊥
 slash_no b bs is h = let no : list_all is_name_byte (47 ∷ bs) ≡ true = rw is at h in cc
@@ -83,5 +79,5 @@ name_ends (x ∷ ts) [] tail h g is = absurd (slash_no x ts (let e : 47 ≡ x = 
 name_ends (x ∷ ts) (y ∷ us) tail h g is =
     let first : y ≡ x = cc in
     let rest : us ++ 47 ∷ [] ≡ ts ++ 47 ∷ tail = cc in
-    let same = name_ends ts us tail (both (is_name_byte x) (list_all is_name_byte ts) h).1 (both (is_name_byte y) (list_all is_name_byte us) g).1 rest in
+    let same = name_ends ts us tail (and_parts (is_name_byte x) (list_all is_name_byte ts) h).1 (and_parts (is_name_byte y) (list_all is_name_byte us) g).1 rest in
     cc

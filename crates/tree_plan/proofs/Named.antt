@@ -3,6 +3,7 @@ use Rattle.std.proofs.Common.{◌≡◌, ◌≢◌, ◌⊎◌, inl, inr, ℕ, �
 use Rattle.std.specs.List.{Contains, filter_map, list_all}
 use Rattle.std.proofs.lemmas.List.{map-append}
 use Rattle.std.proofs.lemmas.List.Elements.{Contains-append_cases}
+use Rattle.std.proofs.lemmas.Bool.{and_parts}
 use Rattle.message_fields.specs.declared.error.MessageError.{MessageError}
 use Rattle.message_fields.specs.Fields.{decoded}
 use Rattle.digest.specs.declared.Digest.{Digest}
@@ -14,7 +15,7 @@ use Rattle.tree_plan.specs.Nodes.{NodeKindValue, file, symlink, directory, PlanN
 use Rattle.tree_plan.specs.Walk.{taken, nodes_of_text, directory_nodes, nodes_below, nodes_inside, too_deep}
 use Rattle.tree_plan.proofs.Kept.{in_none, in_cases}
 use Rattle.tree_plan.proofs.Pairs.{Pairs, in_map, pairs_joined}
-use Rattle.tree_plan.proofs.Distinct.{both, distinct_by_order, apart_differ, name_bytes}
+use Rattle.tree_plan.proofs.Distinct.{distinct_by_order, apart_differ, name_bytes}
 
 -- the nodes' paths are names behind a text
 pub record Named (above : List ℕ) (nodes : List PlanNodeValue) : Type 0 where
@@ -36,7 +37,7 @@ record Gives {V : Type 0} (at : V → Option PlanNodeValue) (path : List ℕ) (v
 paths_given : {V : Type 0} (at : V → Option PlanNodeValue) (name : V → List ℕ) (is_good : V → Bool) (above : List ℕ) → ((v : V) → is_good v ≡ true → Gives at (above ++ name v) v) → (vs : List V) → list_all is_good vs ≡ true → map (λ n. n.path) (filter_map at vs) ≡ map (λ t. above ++ t) (map name vs)
 paths_given at name is_good above gives [] h = refl
 paths_given at name is_good above gives (v ∷ vs) h =
-    let parts = both (is_good v) (list_all is_good vs) h in
+    let parts = and_parts (is_good v) (list_all is_good vs) h in
     let first = gives v parts.0 in
     let first_is = first.node_is in
     let later = paths_given at name is_good above gives vs parts.1 in
@@ -44,7 +45,7 @@ paths_given at name is_good above gives (v ∷ vs) h =
 
 all_good : {V : Type 0} (is_good : V → Bool) (vs : List V) → list_all is_good vs ≡ true → (v : V) → Contains vs v → is_good v ≡ true
 all_good is_good [] h v c = absurd (in_none v c)
-all_good {V = V} is_good (w ∷ vs) h v c = go (both (is_good w) (list_all is_good vs) h) (in_cases w vs v c) (λ further c. all_good is_good vs further v c) where
+all_good {V = V} is_good (w ∷ vs) h v c = go (and_parts (is_good w) (list_all is_good vs) h) (in_cases w vs v c) (λ further c. all_good is_good vs further v c) where
   go : (is_good w ≡ true) × (list_all is_good vs ≡ true) → (w ≡ v) ⊎ Contains vs v → (list_all is_good vs ≡ true → Contains vs v → is_good v ≡ true) → is_good v ≡ true
   go parts (inl is) later = ap is_good (sym is) ∙ parts.0
   go parts (inr c) later = later parts.1 c
@@ -55,13 +56,13 @@ names_good name is_good leads vs h t c =
     name_bytes t (ap is_name (sym found.2) ∙ leads found.0 (all_good is_good vs h found.0 found.1))
 
 file_given : (above : List ℕ) (level : ℕ) (v : FileNodeValue) → is_file v ≡ true → Gives (file_at above level) (above ++ v.name) v
-file_given above level v h = go (digest_written v.digest) refl (both (is_name v.name) (is_some (digest_written v.digest)) h).1 where
+file_given above level v h = go (digest_written v.digest) refl (and_parts (is_name v.name) (is_some (digest_written v.digest)) h).1 where
   go : (d : Option Digest) → digest_written v.digest ≡ d → is_some d ≡ true → Gives (file_at above level) (above ++ v.name) v
   go (Some d) is some = record { node = record { path = above ++ v.name; level = level; kind = file d v.is_executable }; node_is = ap (option_map (λ d. record { path = above ++ v.name; level = level; kind = file d v.is_executable })) is; path_is = refl }
   go None is some = cc
 
 child_given : (above : List ℕ) (level : ℕ) (v : DirectoryNodeValue) → is_child v ≡ true → Gives (directory_at above level) (above ++ v.name) v
-child_given above level v h = go (digest_written v.digest) refl (both (is_name v.name) (is_some (digest_written v.digest)) h).1 where
+child_given above level v h = go (digest_written v.digest) refl (and_parts (is_name v.name) (is_some (digest_written v.digest)) h).1 where
   go : (d : Option Digest) → digest_written v.digest ≡ d → is_some d ≡ true → Gives (directory_at above level) (above ++ v.name) v
   go (Some d) is some = record { node = record { path = above ++ v.name; level = level; kind = directory d }; node_is = ap (option_map (λ d. record { path = above ++ v.name; level = level; kind = directory d })) is; path_is = refl }
   go None is some = cc
@@ -85,14 +86,14 @@ record Taken (v : DirectoryValue) : Type 0 where
 
 taken_by : (v : DirectoryValue) → is_directory v ≡ true → Taken v
 taken_by v h =
-    let whole = both (has_nodes v) (has_order v) h in
-    let files = both (list_all is_file v.files) (list_all is_child v.directories && list_all is_symlink v.symlinks) whole.0 in
-    let others = both (list_all is_child v.directories) (list_all is_symlink v.symlinks) files.1 in
-    let o1 = both (are_rising (file_names v)) _ whole.1 in
-    let o2 = both (are_rising (child_names v)) _ o1.1 in
-    let o3 = both (are_rising (symlink_names v)) _ o2.1 in
-    let o4 = both (are_apart (file_names v) (child_names v)) _ o3.1 in
-    let o5 = both (are_apart (file_names v) (symlink_names v)) (are_apart (child_names v) (symlink_names v)) o4.1 in
+    let whole = and_parts (has_nodes v) (has_order v) h in
+    let files = and_parts (list_all is_file v.files) (list_all is_child v.directories && list_all is_symlink v.symlinks) whole.0 in
+    let others = and_parts (list_all is_child v.directories) (list_all is_symlink v.symlinks) files.1 in
+    let o1 = and_parts (are_rising (file_names v)) _ whole.1 in
+    let o2 = and_parts (are_rising (child_names v)) _ o1.1 in
+    let o3 = and_parts (are_rising (symlink_names v)) _ o2.1 in
+    let o4 = and_parts (are_apart (file_names v) (child_names v)) _ o3.1 in
+    let o5 = and_parts (are_apart (file_names v) (symlink_names v)) (are_apart (child_names v) (symlink_names v)) o4.1 in
     record { files = files.0; directories = others.0; symlinks = others.1; file_order = o1.0; child_order = o2.0; symlink_order = o3.0; files_children = o4.0; files_symlinks = o5.0; children_symlinks = o5.1 }
 
 paths_of : (above : List ℕ) (level : ℕ) (v : DirectoryValue) → Taken v → map (λ n. n.path) (nodes_of above level v) ≡ map (λ t. above ++ t) (file_names v ++ (symlink_names v ++ child_names v))
@@ -120,11 +121,11 @@ names_distinct v t =
 names_are_good : (v : DirectoryValue) → Taken v → (n : List ℕ) → Contains (file_names v ++ (symlink_names v ++ child_names v)) n → list_all is_name_byte n ≡ true
 names_are_good v t n c = go (Contains-append_cases (file_names v) (symlink_names v ++ child_names v) n c) where
   others : Contains (symlink_names v) n ⊎ Contains (child_names v) n → list_all is_name_byte n ≡ true
-  others (inl c) = names_good (λ n. n.name) is_symlink (λ w h. (both (is_name w.name) (is_target w.target) h).0) v.symlinks t.symlinks n c
-  others (inr c) = names_good (λ n. n.name) is_child (λ w h. (both (is_name w.name) (is_some (digest_written w.digest)) h).0) v.directories t.directories n c
+  others (inl c) = names_good (λ n. n.name) is_symlink (λ w h. (and_parts (is_name w.name) (is_target w.target) h).0) v.symlinks t.symlinks n c
+  others (inr c) = names_good (λ n. n.name) is_child (λ w h. (and_parts (is_name w.name) (is_some (digest_written w.digest)) h).0) v.directories t.directories n c
 
   go : Contains (file_names v) n ⊎ Contains (symlink_names v ++ child_names v) n → list_all is_name_byte n ≡ true
-  go (inl c) = names_good (λ n. n.name) is_file (λ w h. (both (is_name w.name) (is_some (digest_written w.digest)) h).0) v.files t.files n c
+  go (inl c) = names_good (λ n. n.name) is_file (λ w h. (and_parts (is_name w.name) (is_some (digest_written w.digest)) h).0) v.files t.files n c
   go (inr c) = others (Contains-append_cases (symlink_names v) (child_names v) n c)
 
 named_by : (above : List ℕ) (level : ℕ) (v : DirectoryValue) → is_directory v ≡ true → Named above (nodes_of above level v)

@@ -9,7 +9,7 @@ use Rattle.digest.proofs.Same.{same_refl}
 use Rattle.uploads.specs.declared.error.UploadError.{UploadError}
 use Rattle.uploads.specs.declared.error.UploadError.TheVariants.{Offset, Size, Hash, TooMany, OverQuota, NoMemory}
 use Rattle.uploads.specs.Uploads.{KeyValue, UploadValue, UploadList, same_upload, upload_at, with_upload, without_upload, bytes_of, text_in, text_so_far, is_recent, unexpired, WithinLimits}
-use Rattle.uploads.specs.Writing.{PieceValue, is_at, if_ok, piece_answer, may_begin, begin_answer, append_answer, finish_answer, after_piece, after_finish, Fits, Answers}
+use Rattle.uploads.specs.Writing.{PieceValue, is_at, if_ok, piece_answer, may_begin, begin_answer, append_answer, call_answer, finish_answer, after_piece, after_finish, Fits, Answers}
 
 same_bytes : (bs : List ℕ) → pointwise nat_eq bs bs ≡ true
 same_bytes [] = refl
@@ -157,10 +157,6 @@ fits_piece quota k piece us small h =
     let own = text-short k us in
     record { named = named; short = omega arith }
 
-pub fits_answer : (quota : ℕ) (k : KeyValue) (piece : PieceValue) (us : UploadList) (r : Result Unit UploadError) → quota ≤ 2 ^ 40 → r ≡ piece_answer quota k piece us → OnOk r (Fits k piece.bytes us)
-fits_answer quota k piece us (Ok u) small h = fits_piece quota k piece us small (sym h)
-fits_answer quota k piece us (Err e) small h = tt
-
 within_with : (quota moment : ℕ) (k : KeyValue) (piece : PieceValue) (us : UploadList) → WithinLimits quota us
     → bytes_of us + length piece.bytes ≤ quota → length (with_upload k (record { text = text_so_far k us ++ piece.bytes; written = moment }) us) ≤ 64
     → WithinLimits quota (with_upload k (record { text = text_so_far k us ++ piece.bytes; written = moment }) us)
@@ -215,7 +211,7 @@ begin_count quota moment k u us h ok = go (is_some (upload_at k us)) refl (few_b
       let n = length_with k u us in
       omega arith
 
-pub within_begin : (quota moment : ℕ) (k : KeyValue) (piece : PieceValue) (us : UploadList) (r : Result Unit UploadError) → WithinLimits quota us
+within_begin : (quota moment : ℕ) (k : KeyValue) (piece : PieceValue) (us : UploadList) (r : Result Unit UploadError) → WithinLimits quota us
     → Answers r (begin_answer quota k piece us) → WithinLimits quota (after_piece moment k piece r us)
 within_begin quota moment k piece us (Ok u) h a =
     let both = if_ok_both (may_begin quota k us) (piece_answer quota k piece us) (sym a) in
@@ -223,7 +219,7 @@ within_begin quota moment k piece us (Ok u) h a =
     ((piece_room quota k piece us both.1).1, begin_count quota moment k (record { text = text_so_far k us ++ piece.bytes; written = moment }) us h.count both.0)
 within_begin quota moment k piece us (Err e) h a = within_after quota moment k piece us (Err e) h tt
 
-pub within_append : (quota moment : ℕ) (k : KeyValue) (piece : PieceValue) (us : UploadList) (r : Result Unit UploadError) → WithinLimits quota us
+within_append : (quota moment : ℕ) (k : KeyValue) (piece : PieceValue) (us : UploadList) (r : Result Unit UploadError) → WithinLimits quota us
     → Answers r (append_answer quota k piece us) → WithinLimits quota (after_piece moment k piece r us)
 within_append quota moment k piece us (Ok u) h a =
     let both = append_both (is_some (upload_at k us)) (piece_answer quota k piece us) (sym a) in
@@ -231,6 +227,18 @@ within_append quota moment k piece us (Ok u) h a =
     let few = h.count in
     within_after quota moment k piece us (Ok u) h ((piece_room quota k piece us both.1).1, omega arith)
 within_append quota moment k piece us (Err e) h a = within_after quota moment k piece us (Err e) h tt
+
+pub within_call : (first : Bool) (quota moment : ℕ) (k : KeyValue) (piece : PieceValue) (us : UploadList) (r : Result Unit UploadError) → WithinLimits quota us
+    → Answers r (call_answer first quota k piece us) → WithinLimits quota (after_piece moment k piece r us)
+within_call true quota moment k piece us r h a = within_begin quota moment k piece us r h a
+within_call false quota moment k piece us r h a = within_append quota moment k piece us r h a
+
+-- a piece that may be added leaves room for itself
+pub fits_call : (first : Bool) (quota : ℕ) (k : KeyValue) (piece : PieceValue) (us : UploadList) (r : Result Unit UploadError) → quota ≤ 2 ^ 40
+    → r ≡ call_answer first quota k piece us → OnOk r (Fits k piece.bytes us)
+fits_call true quota k piece us (Ok u) small h = fits_piece quota k piece us small (if_ok_both (may_begin quota k us) (piece_answer quota k piece us) (sym h)).1
+fits_call false quota k piece us (Ok u) small h = fits_piece quota k piece us small (append_both (is_some (upload_at k us)) (piece_answer quota k piece us) (sym h)).1
+fits_call first quota k piece us (Err e) small h = tt
 
 -- ---- an upload taken out and put back
 

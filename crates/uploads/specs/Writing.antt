@@ -49,6 +49,11 @@ abbrev pub append_answer : ℕ → KeyValue → PieceValue → UploadList → Re
 append_answer quota key piece uploads =
     if is_some (upload_at key uploads) then piece_answer quota key piece uploads else Err Offset
 
+-- a piece of a call, the first or a later one
+abbrev pub call_answer : Bool → ℕ → KeyValue → PieceValue → UploadList → Result Unit UploadError
+call_answer first quota key piece uploads =
+    if first then begin_answer quota key piece uploads else append_answer quota key piece uploads
+
 -- the uploads after a piece that was answered so: written at this moment, forgotten where it passed
 -- its size, and as they were at any other refusal and for want of memory
 abbrev pub after_piece : ℕ → KeyValue → PieceValue → Result Unit UploadError → UploadList → UploadList

@@ -8,7 +8,7 @@ ghost use Rattle.quota_evict.specs.Admission.{admitted};
 ghost use Rattle.quota_evict.specs.Kept.{AreKept};
 ghost use Rattle.uploads.specs.Uploads.{bytes_of, upload_at, with_upload, text_so_far, WithinLimits};
 ghost use Rattle.uploads.specs.Writing as writing;
-ghost use Rattle.uploads.specs.Writing.{Answers, Fits, piece_answer, begin_answer, append_answer, finish_answer, after_piece, after_finish, may_begin};
+ghost use Rattle.uploads.specs.Writing.{Answers, Fits, piece_answer, call_answer, finish_answer, after_piece, after_finish, may_begin};
 ghost use Rattle.uploads.specs.Shown.{key_shown, upload_shown, entry_shown, piece_shown, IsWhole, AreWhole};
 
 use crate::error::UploadError;
@@ -191,55 +191,52 @@ fn carry_out(
     }
 }
 
-/// The first piece of a call.
-pub fn begin(
-    table: &mut Table,
-    alloc: Global,
+/// Whether a piece of a call, the first or a later one, may be added.
+fn check(
+    table: &Table,
     quota: u64,
-    moment: u64,
+    first: bool,
     key: &UploadKey,
     piece: &Piece<'_>,
 ) -> Result<(), UploadError>
     requires quota { quota ≤ 2 ^ 40 }
-    requires within { WithinLimits quota (map entry_shown table.old.entries) }
-    requires whole { AreWhole table.old.entries }
-    ensures answer { Answers result (begin_answer quota (key_shown key.now) (piece_shown piece.now)
-        (map entry_shown table.old.entries)) }
-    ensures uploads { map entry_shown table.new.entries
-        ≡ after_piece moment (key_shown key.now) (piece_shown piece.now) result
-        (map entry_shown table.old.entries) }
-    ensures whole { AreWhole table.new.entries }
+    requires within { WithinLimits quota (map entry_shown table.now.entries) }
+    ensures { result ≡ call_answer first quota (key_shown key.now) (piece_shown piece.now)
+        (map entry_shown table.now.entries) }
 {
-    let answer = match check_begin(table, quota, key) {
+    if !first {
+        if find(table, key).is_none() {
+            return Err(UploadError::Offset);
+        }
+        return check_piece(table, quota, key, piece);
+    }
+    match check_begin(table, quota, key) {
         Ok(()) => check_piece(table, quota, key, piece),
         Err(error) => Err(error),
-    };
-    carry_out(table, alloc, moment, key, piece, answer)
+    }
 }
 
-/// A later piece of a call.
-pub fn append(
+/// A piece of a call, the first or a later one.
+pub fn take_piece(
     table: &mut Table,
     alloc: Global,
     quota: u64,
     moment: u64,
+    first: bool,
     key: &UploadKey,
     piece: &Piece<'_>,
 ) -> Result<(), UploadError>
     requires quota { quota ≤ 2 ^ 40 }
     requires within { WithinLimits quota (map entry_shown table.old.entries) }
     requires whole { AreWhole table.old.entries }
-    ensures answer { Answers result (append_answer quota (key_shown key.now) (piece_shown piece.now)
-        (map entry_shown table.old.entries)) }
+    ensures answer { Answers result (call_answer first quota (key_shown key.now)
+        (piece_shown piece.now) (map entry_shown table.old.entries)) }
     ensures uploads { map entry_shown table.new.entries
         ≡ after_piece moment (key_shown key.now) (piece_shown piece.now) result
         (map entry_shown table.old.entries) }
     ensures whole { AreWhole table.new.entries }
 {
-    if find(table, key).is_none() {
-        return Err(UploadError::Offset);
-    }
-    let answer = check_piece(table, quota, key, piece);
+    let answer = check(table, quota, first, key, piece);
     carry_out(table, alloc, moment, key, piece, answer)
 }
 

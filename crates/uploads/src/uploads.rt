@@ -4,7 +4,7 @@ ghost use Rattle.instance_view.specs.Shown.{shown, holders};
 ghost use Rattle.quota_evict.specs.Admission.{admitted};
 ghost use Rattle.quota_evict.specs.Kept.{AreKept};
 ghost use Rattle.uploads.specs.Uploads.{upload_at, text_so_far, unexpired, WithinLimits};
-ghost use Rattle.uploads.specs.Writing.{Answers, begin_answer, append_answer, finish_answer, after_piece, after_finish};
+ghost use Rattle.uploads.specs.Writing.{Answers, call_answer, finish_answer, after_piece, after_finish};
 ghost use Rattle.uploads.specs.Shown.{key_shown, piece_shown};
 
 use crate::error::UploadError;
@@ -56,47 +56,27 @@ impl Uploads {
         }
     }
 
-    /// Takes the first piece of a call, which begins the upload where it is not there. One that
-    /// goes past the size forgets the upload; any other refusal, and want of memory, leaves the
-    /// uploads as they were.
-    pub fn begin(
+    /// Takes a piece of a call: the first begins the upload where it is not there, and the upload of
+    /// a later one may be gone. One that goes past the size forgets the upload; any other refusal,
+    /// and want of memory, leaves the uploads as they were.
+    pub fn take_piece(
         &mut self,
         alloc: Global,
         quota: u64,
         moment: u64,
+        first: bool,
         key: &UploadKey,
         piece: &Piece<'_>,
     ) -> Result<(), UploadError>
         requires quota { quota ≤ 2 ^ 40 }
         requires within { WithinLimits quota self.old }
-        ensures answer { Answers result (begin_answer quota (key_shown key.now)
+        ensures answer { Answers result (call_answer first quota (key_shown key.now)
             (piece_shown piece.now) self.old) }
         ensures uploads { self.new ≡ after_piece moment (key_shown key.now)
             (piece_shown piece.now) result self.old }
         ensures within { WithinLimits quota self.new }
     {
-        steps::begin(&mut self.table, alloc, quota, moment, key, piece)
-    }
-
-    /// Takes a later piece of a call, whose upload may be gone. One that goes past the size forgets
-    /// the upload; any other refusal, and want of memory, leaves the uploads as they were.
-    pub fn append(
-        &mut self,
-        alloc: Global,
-        quota: u64,
-        moment: u64,
-        key: &UploadKey,
-        piece: &Piece<'_>,
-    ) -> Result<(), UploadError>
-        requires quota { quota ≤ 2 ^ 40 }
-        requires within { WithinLimits quota self.old }
-        ensures answer { Answers result (append_answer quota (key_shown key.now)
-            (piece_shown piece.now) self.old) }
-        ensures uploads { self.new ≡ after_piece moment (key_shown key.now)
-            (piece_shown piece.now) result self.old }
-        ensures within { WithinLimits quota self.new }
-    {
-        steps::append(&mut self.table, alloc, quota, moment, key, piece)
+        steps::take_piece(&mut self.table, alloc, quota, moment, first, key, piece)
     }
 
     /// Ends an upload. Where its digest names its text, the text is admitted to the instance's

@@ -1,6 +1,7 @@
 //! How bytes and words stand in the vectors, and bytes in what is written.
 
-use script::{decimal, hex_bytes, words, write_hex};
+use decimals::decimal;
+use script::{hex_bytes, words, write_hex};
 use std::alloc::Global;
 use std::io::{self, ErrorKind};
 

@@ -1,8 +1,9 @@
 //! Flow-control windows.
 
 use crate::octets::{bad_line, named};
+use decimals::decimal;
 use http2_flow::{FlowError, MAX_SIZE, Window};
-use script::{decimal, words};
+use script::words;
 use std::io::{self, Write};
 
 /// The number of a word, where it is at most 2^32 - 1.

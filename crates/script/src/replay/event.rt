@@ -6,7 +6,8 @@ ghost use Rattle.server_events.specs.Shown.{event_value, what_value};
 use crate::arguments::{exit_code, number, one, only_number, two};
 use crate::fault::LineFault;
 use crate::replay::output::read_outputs;
-use crate::{Parts, decimal, hex_bytes};
+use crate::{Parts, hex_bytes};
+use decimals::decimal;
 use server_events::{Event, Outcome, What};
 use std::alloc::Global;
 

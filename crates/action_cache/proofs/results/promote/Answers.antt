@@ -2,7 +2,8 @@ use Rattle.std.proofs.Common.{◌∙◌, ap, map}
 use Rattle.digest.specs.Naming.{same}
 use Rattle.instance_view.specs.Visible.{total}
 use Rattle.action_cache.specs.Results.{shown}
-use Rattle.action_cache.proofs.Pairs.{fronted-shown, total-fronted, length-fronted}
+use Rattle.instance_view.proofs.Visibles.{total-fronted, length-fronted}
+use Rattle.action_cache.proofs.Pairs.{fronted-shown}
 use Rattle.action_cache.proofs.results.promote.Goals as goal
 
 pub returns-clause-used : goal.returns-clause-used

@@ -12,7 +12,7 @@ use Rattle.served_instance.specs.Shown.{served}
 use Rattle.served_instance.specs.Acts.{slots_of}
 use Rattle.served_instance.proofs.Kept.{few_connections, instance_kept}
 use Rattle.served_instance.proofs.Taking.{take_none}
-use Rattle.served_instance.proofs.Happens.{replies_owed, replies_end, answered_kept, happens}
+use Rattle.served_instance.proofs.Happens.{replies_owed, answers_given, answered_kept, happens}
 use Rattle.served_instance.proofs.calls.happen.Goals as goal
 
 pub call_event-requires-clause-kept : goal.call_event-requires-clause-kept
@@ -43,40 +43,18 @@ give_all-requires-clause-owed c =
 
 pub returns-clause-happened : goal.returns-clause-happened
 returns-clause-happened c =
-    let p = c.args.pool.now in
     let q = c.call_event.new.pool in
-    let r = c.give_all.new.pool in
-    let i = c.args.instance.now in
-    let j = c.call_event.new.self in
-    let rs = c.deref.result.now in
-    let S : List Reply → Type 0 = λ ys. AllByRecursion IsShortReply (map (reply_shown q) ys) in
-    let M : List Reply → Type 0 = λ ys. Moves p q (holders_of_instance i) (λ k. holders_of_instance j k + replies_holders ys k) in
-    happens c.give_all.result p q r i j c.args.connections.now c.give_all.new.connections (event_shown c.args.event) rs (record {
-      kept = c.requires.kept;
-      moves = subst M (sym c.deref.ensures.value) c.in_ok-replies.ensures.moves;
-      takes = c.give_all.ensures.takes;
-      within = c.call_event.ensures.within;
-      good = replies_end q rs (subst S (sym c.deref.ensures.value) c.in_ok-replies.ensures.short);
-    })
+    let os = c.args.connections.now in
+    let ns = c.give_all.new.connections in
+    let answered = answers_given c.args.pool.now q c.give_all.new.pool c.args.instance.now c.call_event.new.self os ns c.deref.result.now c.in_ok-replies.replies.items c.deref.ensures.value c.requires.kept c.in_ok-replies.ensures.moves c.give_all.ensures.takes c.call_event.ensures.within c.in_ok-replies.ensures.short in
+    happens c.give_all.result c.args.pool.now q c.give_all.new.pool c.args.instance.now c.call_event.new.self os ns (event_shown c.args.event) c.deref.result.now answered
     (ap (map (reply_shown q)) c.deref.ensures.value ∙ c.in_ok-replies.ensures.replies) c.in_ok-replies.ensures.changed c.give_all.ensures.given
 
 pub returns-clause-kept : goal.returns-clause-kept
 returns-clause-kept c =
     let p = c.args.pool.now in
-    let q = c.call_event.new.pool in
-    let r = c.give_all.new.pool in
-    let i = c.args.instance.now in
-    let j = c.call_event.new.self in
     let os = c.args.connections.now in
     let ns = c.give_all.new.connections in
-    let rs = c.deref.result.now in
-    let S : List Reply → Type 0 = λ ys. AllByRecursion IsShortReply (map (reply_shown q) ys) in
-    let M : List Reply → Type 0 = λ ys. Moves p q (holders_of_instance i) (λ k. holders_of_instance j k + replies_holders ys k) in
-    answered_kept (replies_holders rs) (RepliesEndWithin rs) p q r i j (map served os) (map served ns) (record {
-      kept = c.requires.kept;
-      moves = subst M (sym c.deref.ensures.value) c.in_ok-replies.ensures.moves;
-      takes = c.give_all.ensures.takes;
-      within = c.call_event.ensures.within;
-      good = replies_end q rs (subst S (sym c.deref.ensures.value) c.in_ok-replies.ensures.short);
-    })
-    (omega (arith, c.give_all.auto.connections, few_connections p (slots_of i os) c.requires.kept, length-map os served, length-map ns served))
+    answered_kept (replies_holders c.deref.result.now) (RepliesEndWithin c.deref.result.now) p c.call_event.new.pool c.give_all.new.pool c.args.instance.now c.call_event.new.self (map served os) (map served ns)
+    (answers_given p c.call_event.new.pool c.give_all.new.pool c.args.instance.now c.call_event.new.self os ns c.deref.result.now c.in_ok-replies.replies.items c.deref.ensures.value c.requires.kept c.in_ok-replies.ensures.moves c.give_all.ensures.takes c.call_event.ensures.within c.in_ok-replies.ensures.short)
+    (omega (arith, c.give_all.auto.connections, few_connections p (slots_of c.args.instance.now os) c.requires.kept, length-map os served, length-map ns served))

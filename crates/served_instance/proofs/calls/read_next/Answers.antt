@@ -8,14 +8,12 @@ use Rattle.served_instance.specs.Shown.{served}
 use Rattle.served_instance.specs.Slots.{holders_of}
 use Rattle.served_instance.proofs.Kept.{alike_moves}
 use Rattle.served_instance.proofs.Leads.{read_leads, read_done, done_leads, read_fewer}
-use Rattle.served_instance.proofs.Writes.{alike_writes}
+use Rattle.served_instance.proofs.Writes.{alike_after, moves_after}
 use Rattle.served_instance.proofs.calls.read_next.Goals as goal
 
 pub give_due-requires : goal.give_due-requires
 give_due-requires c =
-    let os = c.args.connections.now in
-    let ns = c.read_frame.new.connections in
-    record { kept = alike_writes c.args.pool.now c.args.instance.now os os ns ns refl refl c.read_frame.auto.connections c.requires.kept c.read_frame.ensures.holds }
+    record { kept = alike_after c.args.pool.now c.args.instance.now c.args.connections.now c.read_frame.new.connections c.read_frame.auto.connections c.requires.kept c.read_frame.ensures.holds }
 
 pub returns-in_ok-give_due-clause-reads : goal.returns-in_ok-give_due-clause-reads
 returns-in_ok-give_due-clause-reads c =
@@ -39,28 +37,17 @@ returns-in_ok-give_due-clause-fewer c = λ more.
 
 pub returns-in_ok-give_due-clause-moves : goal.returns-in_ok-give_due-clause-moves
 returns-in_ok-give_due-clause-moves c =
-    let p = c.args.pool.now in
-    let os = c.args.connections.now in
-    let ns = c.read_frame.new.connections in
-    moves_trans p p c.give_due.new.pool (holders_of (slots_of c.args.instance.now os)) (holders_of (slots_of c.args.instance.now ns)) (holders_of (slots_of c.give_due.new.instance c.give_due.new.connections))
-    (alike_moves p c.args.instance.now (map served os) (map served ns) c.read_frame.ensures.holds) c.give_due.ensures.moves
+    moves_after c.args.pool.now c.give_due.new.pool c.args.instance.now c.give_due.new.instance c.args.connections.now c.read_frame.new.connections c.give_due.new.connections c.read_frame.ensures.holds c.give_due.ensures.moves
 
 pub returns-in_err-give_due-clause-moves : goal.returns-in_err-give_due-clause-moves
 returns-in_err-give_due-clause-moves c =
-    let p = c.args.pool.now in
-    let os = c.args.connections.now in
-    let ns = c.read_frame.new.connections in
-    moves_trans p p c.give_due.new.pool (holders_of (slots_of c.args.instance.now os)) (holders_of (slots_of c.args.instance.now ns)) (holders_of (slots_of c.give_due.new.instance c.give_due.new.connections))
-    (alike_moves p c.args.instance.now (map served os) (map served ns) c.read_frame.ensures.holds) c.give_due.ensures.moves
+    moves_after c.args.pool.now c.give_due.new.pool c.args.instance.now c.give_due.new.instance c.args.connections.now c.read_frame.new.connections c.give_due.new.connections c.read_frame.ensures.holds c.give_due.ensures.moves
 
 pub returns-in_err-read_frame-clause-moves : goal.returns-in_err-read_frame-clause-moves
 returns-in_err-read_frame-clause-moves c = alike_moves c.args.pool.now c.args.instance.now (map served c.args.connections.now) (map served c.read_frame.new.connections) c.read_frame.ensures.holds
 
 pub returns-in_err-read_frame-clause-kept : goal.returns-in_err-read_frame-clause-kept
-returns-in_err-read_frame-clause-kept c =
-    let os = c.args.connections.now in
-    let ns = c.read_frame.new.connections in
-    alike_writes c.args.pool.now c.args.instance.now os os ns ns refl refl c.read_frame.auto.connections c.requires.kept c.read_frame.ensures.holds
+returns-in_err-read_frame-clause-kept c = alike_after c.args.pool.now c.args.instance.now c.args.connections.now c.read_frame.new.connections c.read_frame.auto.connections c.requires.kept c.read_frame.ensures.holds
 
 pub returns-else-branch-clause-reads : goal.returns-else-branch-clause-reads
 returns-else-branch-clause-reads c =
@@ -76,7 +63,4 @@ pub returns-else-branch-clause-moves : goal.returns-else-branch-clause-moves
 returns-else-branch-clause-moves c = alike_moves c.args.pool.now c.args.instance.now (map served c.args.connections.now) (map served c.read_frame.new.connections) c.read_frame.ensures.holds
 
 pub returns-else-branch-clause-kept : goal.returns-else-branch-clause-kept
-returns-else-branch-clause-kept c =
-    let os = c.args.connections.now in
-    let ns = c.read_frame.new.connections in
-    alike_writes c.args.pool.now c.args.instance.now os os ns ns refl refl c.read_frame.auto.connections c.requires.kept c.read_frame.ensures.holds
+returns-else-branch-clause-kept c = alike_after c.args.pool.now c.args.instance.now c.args.connections.now c.read_frame.new.connections c.read_frame.auto.connections c.requires.kept c.read_frame.ensures.holds

@@ -9,7 +9,7 @@ use Rattle.served_instance.specs.Shown.{served}
 use Rattle.served_instance.specs.Slots.{holders_of}
 use Rattle.served_instance.proofs.Kept.{alike_moves}
 use Rattle.served_instance.proofs.Leads.{step_acts, leads_trans, leads_acts_by}
-use Rattle.served_instance.proofs.Writes.{alike_writes}
+use Rattle.served_instance.proofs.Writes.{alike_after}
 use Rattle.served_instance.proofs.calls.receive.Goals as goal
 
 pub frames-init : goal.frames-init
@@ -22,17 +22,14 @@ frames-init c =
           let k : Lone = record l { connections = at_open c.args.number (with_bytes c.args.bytes.now) l.connections } in
           (k, step_acts c.args.number (state_in p c.args.instance.now) os ns (with_bytes c.args.bytes.now) c.in_ok-feed.ensures.fed (text_at p) l st, refl);
       moves = alike_moves p c.args.instance.now (map served os) (map served ns) c.feed.ensures.holds;
-      kept = alike_writes p c.args.instance.now os os ns ns refl refl c.feed.auto.connections c.requires.kept c.feed.ensures.holds;
+      kept = alike_after p c.args.instance.now os ns c.feed.auto.connections c.requires.kept c.feed.ensures.holds;
     }
 
 pub returns-in_err-feed-clause-moves : goal.returns-in_err-feed-clause-moves
 returns-in_err-feed-clause-moves c = alike_moves c.args.pool.now c.args.instance.now (map served c.args.connections.now) (map served c.feed.new.connections) c.feed.ensures.holds
 
 pub returns-in_err-feed-clause-kept : goal.returns-in_err-feed-clause-kept
-returns-in_err-feed-clause-kept c =
-    let os = c.args.connections.now in
-    let ns = c.feed.new.connections in
-    alike_writes c.args.pool.now c.args.instance.now os os ns ns refl refl c.feed.auto.connections c.requires.kept c.feed.ensures.holds
+returns-in_err-feed-clause-kept c = alike_after c.args.pool.now c.args.instance.now c.args.connections.now c.feed.new.connections c.feed.auto.connections c.requires.kept c.feed.ensures.holds
 
 pub frames-smaller : goal.frames-smaller
 frames-smaller c = c.in_ok-read_next.ensures.fewer c.if-branch.true

@@ -4,4 +4,4 @@ use Rattle.grpc_sending.proofs.Sources.{room_of}
 use Rattle.grpc_sending.proofs.backlog.Backlog.remove_first.Goals as goal
 
 pub invariant_of-self : goal.invariant_of-self
-invariant_of-self c = (room_of (sources_held c.self.inside.queues.items) (sources_held c.remove_first.new.queues.items) c.self.inside.spent.items c.remove_first.new.spent.items c.self.inside.sources c.self.inside.sources c.remove_first.ensures.sources c.self.invariant.0 (omega arith), omega (arith, c.self.invariant.1, c.remove_first.ensures.capacity))
+invariant_of-self c = (room_of (sources_held c.self.inside.queues.items) (sources_held c.remove_on.new.queues.items) c.self.inside.spent.items c.remove_on.new.spent.items c.self.inside.sources c.self.inside.sources c.remove_on.ensures.sources c.self.invariant.0 (omega arith), omega (arith, c.self.invariant.1, c.remove_on.ensures.capacity))

@@ -4,4 +4,4 @@ use Rattle.grpc_sending.proofs.Sources.{room_of}
 use Rattle.grpc_sending.proofs.backlog.Backlog.take_off.Goals as goal
 
 pub invariant_of-self : goal.invariant_of-self
-invariant_of-self c = (room_of (sources_held c.self.inside.queues.items) (sources_held c.take_off.new.queues.items) c.self.inside.spent.items c.take_off.new.spent.items c.self.inside.sources c.self.inside.sources c.take_off.ensures.sources c.self.invariant.0 (omega arith), omega (arith, c.self.invariant.1, c.take_off.ensures.capacity))
+invariant_of-self c = (room_of (sources_held c.self.inside.queues.items) (sources_held c.remove_on.new.queues.items) c.self.inside.spent.items c.remove_on.new.spent.items c.self.inside.sources c.self.inside.sources c.remove_on.ensures.sources c.self.invariant.0 (omega arith), omega (arith, c.self.invariant.1, c.remove_on.ensures.capacity))

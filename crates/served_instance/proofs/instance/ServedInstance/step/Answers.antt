@@ -9,10 +9,10 @@ use Rattle.instance_core.specs.Slots.{state_in}
 use Rattle.served_instance.specs.Lone.{came_at, acted}
 use Rattle.served_instance.specs.StandsFor.{StandsFor}
 use Rattle.served_instance.specs.Slots.{ServedSlots, served_in, IsKept}
-use Rattle.served_instance.proofs.Refuses.{no_reason, refused_outcome, kept_at_refusal, stands_accepted, settled_accepted, came_stands, accepted_what, not_elsewhere, not_for_memory}
+use Rattle.served_instance.proofs.Refuses.{no_reason, refused_outcome, kept_at_refusal, stands_accepted, settled_accepted, accepted_what, not_elsewhere, not_for_memory}
 use Rattle.served_instance.proofs.Serves.{pump_settles}
 use Rattle.served_instance.proofs.Kept.{slots_at, instance_kept, moment_keeps}
-use Rattle.served_instance.proofs.Stands.{stands_by, stands_for}
+use Rattle.served_instance.proofs.Stands.{came_by, stands_for}
 use Rattle.served_instance.proofs.instance.ServedInstance.step.Goals as goal
 
 pub returns-in-Some-clause-outcome : goal.returns-in-Some-clause-outcome
@@ -31,12 +31,8 @@ pub returns-in-Ok-clause-stands : goal.returns-in-Ok-clause-stands
 returns-in-Ok-clause-stands c = λ l s n.
     let e = event_value c.args.event.now in
     let p = c.args.pool.now in
-    let i = c.self.inside.instance in
-    let os = c.self.inside.connections.items in
     let m = came_at e.moment l in
-    let P : ServedSlots → Type 0 = λ v. StandsFor (served_in p v) l in
-    let came = came_stands (text_at p) e.moment (state_in p i) (state_in p c.set_moment.new.self) os l (c.set_moment.ensures.changed p) (stands_by p i os l (subst P (sym c.self.view_is) s)) in
-    let acts = c.in-Ok.ensures.acted m came in
+    let acts = c.in-Ok.ensures.acted m (came_by p c.self.inside.instance c.set_moment.new.self c.self.inside.connections.items c.args.self.now e.moment l c.self.view_is (c.set_moment.ensures.changed p) s) in
     let q = c.act.new.pool in
     let here = stands_for q q c.act.new.instance c.act.new.connections.items (acted e.what m) (λ k some. refl) acts in
     stands_accepted p e c.args.self.now (served_in c.pump.new.pool c.pump.new.self) l (sym c.in_default.is ∙ c.refusal.ensures) s (c.pump.ensures.stands (acted e.what m) here)
@@ -45,12 +41,8 @@ pub returns-in-Ok-clause-settled : goal.returns-in-Ok-clause-settled
 returns-in-Ok-clause-settled c = λ l s.
     let e = event_value c.args.event.now in
     let p = c.args.pool.now in
-    let i = c.self.inside.instance in
-    let os = c.self.inside.connections.items in
     let m = came_at e.moment l in
-    let P : ServedSlots → Type 0 = λ v. StandsFor (served_in p v) l in
-    let came = came_stands (text_at p) e.moment (state_in p i) (state_in p c.set_moment.new.self) os l (c.set_moment.ensures.changed p) (stands_by p i os l (subst P (sym c.self.view_is) s)) in
-    let acts = c.in-Ok.ensures.acted m came in
+    let acts = c.in-Ok.ensures.acted m (came_by p c.self.inside.instance c.set_moment.new.self c.self.inside.connections.items c.args.self.now e.moment l c.self.view_is (c.set_moment.ensures.changed p) s) in
     settled_accepted p e c.args.self.now l (sym c.in_default.is ∙ c.refusal.ensures) s (pump_settles (text_at c.act.new.pool) (map served c.act.new.connections.items) (acted e.what m).connections acts.connections)
 
 pub act-requires : goal.act-requires

@@ -1,7 +1,7 @@
 use Rattle.std.proofs.Common.{ℕ, arith, ap, ◌∙◌}
 use Rattle.paged_text.specs.Pages.{part_of}
 use Rattle.blob_pool.specs.Held.{text_at}
-use Rattle.served_instance.proofs.Parts.{is_part}
+use Rattle.grpc_sending.proofs.Filling.{is_part}
 use Rattle.served_instance.proofs.pool_parts.PoolPartsParts.part.Goals as goal
 
 pub returns : goal.returns

@@ -1,6 +1,6 @@
 use Rattle.std.proofs.Common.{sym, ◌∙◌}
-use Rattle.script.proofs.NumberLemmas.{parsed, IsUtf8-digits}
-use Rattle.script.proofs.number.decimal.Goals as goal
+use Rattle.decimals.proofs.NumberLemmas.{parsed, IsUtf8-digits}
+use Rattle.decimals.proofs.number.decimal.Goals as goal
 
 pub returns-in-Ok : goal.returns-in-Ok
 returns-in-Ok c =

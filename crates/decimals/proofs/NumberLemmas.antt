@@ -10,7 +10,7 @@ use Rattle.std.specs.Prelude.{nat_lt}
 use Rattle.std.specs.Result.{OkIff, result_ok}
 use Rattle.std.specs.Str.{IsUtf8}
 use Rattle.std.specs.Str.Parse.{AllDigits, IsNumeral, ParsesUnsigned, without_leading_plus}
-use Rattle.script.specs.Number.{is_decimal_digit, decimal_of, decimal_value}
+use Rattle.decimals.specs.Number.{is_decimal_digit, decimal_of, decimal_value}
 
 digit_below_ten : (byte : ℕ) → is_decimal_digit byte ≡ true → digit_value byte < 10
 digit_below_ten byte h = grind (arith, nat_tests)

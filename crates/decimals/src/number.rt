@@ -1,7 +1,8 @@
 //! Numbers in decimal.
+
 ghost use Rattle.std.specs.Prelude.{◌≡◌};
 ghost use Rattle.std.specs.List.{list_all};
-ghost use Rattle.script.specs.Number.{decimal_of, is_decimal_digit};
+ghost use Rattle.decimals.specs.Number.{decimal_of, is_decimal_digit};
 
 use std::str;
 
@@ -19,7 +20,8 @@ pub fn decimal(word: &[u8]) -> Option<u64>
     }
 }
 
-fn are_digits(word: &[u8]) -> bool
+/// Whether all bytes are decimal digits.
+pub fn are_digits(word: &[u8]) -> bool
     ensures { result ≡ list_all is_decimal_digit word.now }
 {
     word.iter().all(|byte| byte.is_ascii_digit())

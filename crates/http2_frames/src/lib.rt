@@ -17,8 +17,8 @@ pub use error::FrameError;
 pub use frame::{Frame, RawFrame};
 pub use interpretation::interpret;
 pub use laws::{
-    a_text_divides_in_one_way, more_bytes_add_frames, padding_surrounds_the_content,
-    written_frames_are_read_again,
+    a_text_divides_in_one_way, constants_are_the_standard, more_bytes_add_frames,
+    padding_surrounds_the_content, written_frames_are_read_again,
 };
 pub use octets::{Octets, Payload};
 pub use reader::{CLIENT_PREFACE, FrameReader, HEADER_LENGTH, MAX_FRAME_SIZE};

@@ -22,9 +22,10 @@ mod requests;
 
 use crate::client::{Answer, Client};
 use crate::directories::{Blob, add_child, filled, leaf};
+use decimals::decimal;
 use digest::Digest;
 use program_status::{Status, read_all};
-use script::{decimal, lines, words, write_hex};
+use script::{lines, words, write_hex};
 use std::alloc::Global;
 use std::io::{self, BufWriter, ErrorKind, Write};
 use std::process::ExitCode;

@@ -11,10 +11,10 @@ use Rattle.std.proofs.lemmas.Bool.Decides.{nat_tests}
 use Rattle.lru.specs.LruCache.{LruCache, put_entries}
 use Rattle.lru.proofs.CallerLemmas.{Contains-lookup_entry}
 use Rattle.digest.specs.declared.Digest.{Digest}
-use Rattle.digest.specs.Naming.{same}
+use Rattle.digest.specs.Naming.{same_digest}
 use Rattle.digest.proofs.Same.{same_equal}
-use Rattle.instance_view.specs.Visible.{Blob, fronted, total, text_length, without_oldest}
-use Rattle.action_cache.specs.Results.{shown, front_within, length_given}
+use Rattle.instance_view.specs.Visible.{Blob, with_match_first, total_length, text_length, without_oldest}
+use Rattle.action_cache.specs.Results.{result_shown, front_within, length_or_zero}
 
 abbrev pub Kept : Type 0
 Kept = Digest × Vec ℕ Global
@@ -22,42 +22,42 @@ Kept = Digest × Vec ℕ Global
 abbrev items_of : Vec ℕ Global → List ℕ
 items_of text = text.items
 
-pub lookup-shown : (t : Digest → Bool) (es : List Kept) → lookup t (map shown es) ≡ option_map items_of (lookup t es)
-lookup-shown t es = lookup-map_values items_of t es
+pub lookup-result_shown : (t : Digest → Bool) (es : List Kept) → lookup t (map result_shown es) ≡ option_map items_of (lookup t es)
+lookup-result_shown t es = lookup-map_values items_of t es
 
-pub lookup_some : (t : Digest → Bool) (es : List Kept) (text : Vec ℕ Global) → Some text ≡ lookup t es → Some text.items ≡ lookup t (map shown es)
-lookup_some t es text is = sym (lookup-shown t es ∙ ap (option_map items_of) (sym is))
+pub lookup_some : (t : Digest → Bool) (es : List Kept) (text : Vec ℕ Global) → Some text ≡ lookup t es → Some text.items ≡ lookup t (map result_shown es)
+lookup_some t es text is = sym (lookup-result_shown t es ∙ ap (option_map items_of) (sym is))
 
-pub lookup_none : (t : Digest → Bool) (es : List Kept) → None ≡ lookup t es → None ≡ lookup t (map shown es)
-lookup_none t es is = sym (lookup-shown t es ∙ ap (option_map items_of) (sym is))
+pub lookup_none : (t : Digest → Bool) (es : List Kept) → None ≡ lookup t es → None ≡ lookup t (map result_shown es)
+lookup_none t es is = sym (lookup-result_shown t es ∙ ap (option_map items_of) (sym is))
 
-pub lookup_entry-shown : (t : Digest → Bool) (es : List Kept) → lookup_entry t (map shown es) ≡ option_map shown (lookup_entry t es)
-lookup_entry-shown t [] = refl
-lookup_entry-shown t (e ∷ es) = go (t e.0) refl (lookup_entry-shown t es) where
-  go : (b : Bool) → t e.0 ≡ b → lookup_entry t (map shown es) ≡ option_map shown (lookup_entry t es) → lookup_entry t (map shown (e ∷ es)) ≡ option_map shown (lookup_entry t (e ∷ es))
+pub lookup_entry-result_shown : (t : Digest → Bool) (es : List Kept) → lookup_entry t (map result_shown es) ≡ option_map result_shown (lookup_entry t es)
+lookup_entry-result_shown t [] = refl
+lookup_entry-result_shown t (e ∷ es) = go (t e.0) refl (lookup_entry-result_shown t es) where
+  go : (b : Bool) → t e.0 ≡ b → lookup_entry t (map result_shown es) ≡ option_map result_shown (lookup_entry t es) → lookup_entry t (map result_shown (e ∷ es)) ≡ option_map result_shown (lookup_entry t (e ∷ es))
   go true is ih = rw is refl
   go false is ih = rw is ih
 
-pub remove_entry-shown : (t : Digest → Bool) (es : List Kept) → remove_entry t (map shown es) ≡ map shown (remove_entry t es)
-remove_entry-shown t [] = refl
-remove_entry-shown t (e ∷ es) = go (t e.0) refl (remove_entry-shown t es) where
-  go : (b : Bool) → t e.0 ≡ b → remove_entry t (map shown es) ≡ map shown (remove_entry t es) → remove_entry t (map shown (e ∷ es)) ≡ map shown (remove_entry t (e ∷ es))
+pub remove_entry-result_shown : (t : Digest → Bool) (es : List Kept) → remove_entry t (map result_shown es) ≡ map result_shown (remove_entry t es)
+remove_entry-result_shown t [] = refl
+remove_entry-result_shown t (e ∷ es) = go (t e.0) refl (remove_entry-result_shown t es) where
+  go : (b : Bool) → t e.0 ≡ b → remove_entry t (map result_shown es) ≡ map result_shown (remove_entry t es) → remove_entry t (map result_shown (e ∷ es)) ≡ map result_shown (remove_entry t (e ∷ es))
   go true is ih = rw is refl
-  go false is ih = rw is (ap (λ (bs : List Blob). shown e ∷ bs) ih)
+  go false is ih = rw is (ap (λ (bs : List Blob). result_shown e ∷ bs) ih)
 
-pub fronted-shown : (t : Digest → Bool) (es : List Kept) → map shown (fronted t es) ≡ fronted t (map shown es)
-fronted-shown t es = go (lookup_entry t es) refl where
-  go : (o : Option Kept) → lookup_entry t es ≡ o → map shown (fronted t es) ≡ fronted t (map shown es)
-  go None is = let there : lookup_entry t (map shown es) ≡ None = lookup_entry-shown t es ∙ ap (option_map shown) is in rw (there, is) refl
-  go (Some e) is = let there : lookup_entry t (map shown es) ≡ Some (shown e) = lookup_entry-shown t es ∙ ap (option_map shown) is in let rest = remove_entry-shown t es in rw (there, is, rest) refl
+pub with_match_first-result_shown : (t : Digest → Bool) (es : List Kept) → map result_shown (with_match_first t es) ≡ with_match_first t (map result_shown es)
+with_match_first-result_shown t es = go (lookup_entry t es) refl where
+  go : (o : Option Kept) → lookup_entry t es ≡ o → map result_shown (with_match_first t es) ≡ with_match_first t (map result_shown es)
+  go None is = let there : lookup_entry t (map result_shown es) ≡ None = lookup_entry-result_shown t es ∙ ap (option_map result_shown) is in rw (there, is) refl
+  go (Some e) is = let there : lookup_entry t (map result_shown es) ≡ Some (result_shown e) = lookup_entry-result_shown t es ∙ ap (option_map result_shown) is in let rest = remove_entry-result_shown t es in rw (there, is, rest) refl
 
 -- what is beyond the first n, where that is one pair at most
-pub total-take : (n : ℕ) (bs : List Blob) → length bs ≤ n + 1 → total (take n bs) + text_length (slice_get bs n) ≡ total bs
-total-take zero [] h = refl
-total-take zero (b ∷ []) h = omega arith
-total-take zero (b ∷ c ∷ bs) h = absurd (omega arith)
-total-take (suc n) [] h = refl
-total-take (suc n) (b ∷ bs) h = let ih = total-take n bs (omega arith) in omega (arith, ih)
+pub total_length-take : (n : ℕ) (bs : List Blob) → length bs ≤ n + 1 → total_length (take n bs) + text_length (slice_get bs n) ≡ total_length bs
+total_length-take zero [] h = refl
+total_length-take zero (b ∷ []) h = omega arith
+total_length-take zero (b ∷ c ∷ bs) h = absurd (omega arith)
+total_length-take (suc n) [] h = refl
+total_length-take (suc n) (b ∷ bs) h = let ih = total_length-take n bs (omega arith) in omega (arith, ih)
 
 -- ---- a pair is put in front, in the place of an earlier one
 
@@ -75,47 +75,47 @@ take_all zero (e ∷ es) h = absurd (omega arith)
 take_all (suc n) (e ∷ es) h = ap (λ (xs : List Kept). e ∷ xs) (take_all n es (omega arith))
 
 pub put_shown : (d : Digest) (text : Vec ℕ Global) (n : ℕ) (c : LruCache Digest (Vec ℕ Global)) → c.cap ≡ n + 1 → length c.entries ≤ n
-    → map shown (put_entries same c d text) ≡ (d, text.items) ∷ remove_entry (same d) (map shown c.entries)
-put_shown d text n c most few = go (lookup_entry (same d) c.entries) refl where
-  rest : map shown (remove_entry (same d) c.entries) ≡ remove_entry (same d) (map shown c.entries)
-  rest = sym (remove_entry-shown (same d) c.entries)
+    → map result_shown (put_entries same_digest c d text) ≡ (d, text.items) ∷ remove_entry (same_digest d) (map result_shown c.entries)
+put_shown d text n c most few = go (lookup_entry (same_digest d) c.entries) refl where
+  rest : map result_shown (remove_entry (same_digest d) c.entries) ≡ remove_entry (same_digest d) (map result_shown c.entries)
+  rest = sym (remove_entry-result_shown (same_digest d) c.entries)
 
   less : c.cap - 1 ≡ n
   less = omega (arith, most)
 
-  go : (o : Option Kept) → lookup_entry (same d) c.entries ≡ o → map shown (put_entries same c d text) ≡ (d, text.items) ∷ remove_entry (same d) (map shown c.entries)
-  go None is = let absent = removed_absent (same d) c.entries is in rw (is, less, take_all n c.entries few) (ap (λ (bs : List Blob). (d, text.items) ∷ bs) (ap (map shown) (sym absent) ∙ rest))
-  go (Some e) is = let key : d ≡ e.0 = same_equal d e.0 (Contains-lookup_entry (same d) c.entries e is).1 in rw (is, ← key) (ap (λ (bs : List Blob). (d, text.items) ∷ bs) rest)
+  go : (o : Option Kept) → lookup_entry (same_digest d) c.entries ≡ o → map result_shown (put_entries same_digest c d text) ≡ (d, text.items) ∷ remove_entry (same_digest d) (map result_shown c.entries)
+  go None is = let absent = removed_absent (same_digest d) c.entries is in rw (is, less, take_all n c.entries few) (ap (λ (bs : List Blob). (d, text.items) ∷ bs) (ap (map result_shown) (sym absent) ∙ rest))
+  go (Some e) is = let key : d ≡ e.0 = same_equal d e.0 (Contains-lookup_entry (same_digest d) c.entries e is).1 in rw (is, ← key) (ap (λ (bs : List Blob). (d, text.items) ∷ bs) rest)
 
-total_removed : (t : Digest → Bool) (bs : List Blob) → total (remove_entry t bs) + length_given (lookup t bs) ≡ total bs
+total_removed : (t : Digest → Bool) (bs : List Blob) → total_length (remove_entry t bs) + length_or_zero (lookup t bs) ≡ total_length bs
 total_removed t [] = refl
 total_removed t (b ∷ bs) = go (t b.0) refl (total_removed t bs) where
-  go : (c : Bool) → t b.0 ≡ c → total (remove_entry t bs) + length_given (lookup t bs) ≡ total bs → total (remove_entry t (b ∷ bs)) + length_given (lookup t (b ∷ bs)) ≡ total (b ∷ bs)
+  go : (c : Bool) → t b.0 ≡ c → total_length (remove_entry t bs) + length_or_zero (lookup t bs) ≡ total_length bs → total_length (remove_entry t (b ∷ bs)) + length_or_zero (lookup t (b ∷ bs)) ≡ total_length (b ∷ bs)
   go true is ih = rw is (omega arith)
   go false is ih = rw is (omega (arith, ih))
 
 pub put_total : (d : Digest) (text : Vec ℕ Global) (n : ℕ) (c : LruCache Digest (Vec ℕ Global)) → c.cap ≡ n + 1 → length c.entries ≤ n
-    → total (map shown (put_entries same c d text)) + length_given (option_map items_of (lookup (same d) c.entries)) ≡ total (map shown c.entries) + length text.items
+    → total_length (map result_shown (put_entries same_digest c d text)) + length_or_zero (option_map items_of (lookup (same_digest d) c.entries)) ≡ total_length (map result_shown c.entries) + length text.items
 put_total d text n c most few =
-    let removed = total_removed (same d) (map shown c.entries) in
-    rw (put_shown d text n c most few, ← lookup-shown (same d) c.entries) (omega (arith, removed))
+    let removed = total_removed (same_digest d) (map result_shown c.entries) in
+    rw (put_shown d text n c most few, ← lookup-result_shown (same_digest d) c.entries) (omega (arith, removed))
 
-pub pop_total : (es : List Kept) → total (map shown (take (length es - 1) es)) + text_length (option_map shown (slice_get es (length es - 1))) ≡ total (map shown es)
+pub pop_total : (es : List Kept) → total_length (map result_shown (take (length es - 1) es)) + text_length (option_map result_shown (slice_get es (length es - 1))) ≡ total_length (map result_shown es)
 pop_total es =
-    let lost = slice_get-map shown es (length es - 1) in
-    let kept = total-take (length es - 1) (map shown es) (omega (arith, length-map es shown)) in
-    let shown_kept : map shown (take (length es - 1) es) ≡ take (length es - 1) (map shown es) = sym (take-map shown (length es - 1) es) in
+    let lost = slice_get-map result_shown es (length es - 1) in
+    let kept = total_length-take (length es - 1) (map result_shown es) (omega (arith, length-map es result_shown)) in
+    let shown_kept : map result_shown (take (length es - 1) es) ≡ take (length es - 1) (map result_shown es) = sym (take-map result_shown (length es - 1) es) in
     rw (shown_kept, ← lost) kept
 
-pub pop_shown : (es : List Kept) → map shown (take (length es - 1) es) ≡ without_oldest (map shown es)
-pop_shown es = rw (length-map es shown) (sym (take-map shown (length es - 1) es))
+pub pop_shown : (es : List Kept) → map result_shown (take (length es - 1) es) ≡ without_oldest (map result_shown es)
+pop_shown es = rw (length-map es result_shown) (sym (take-map result_shown (length es - 1) es))
 
 pub pop_length : (es : List Kept) → length (take (length es - 1) es) ≡ length es - 1
 pop_length es = length-take-le (length es - 1) es (omega arith)
 
 -- ---- what there is no room for
 
-front_whole : (n room : ℕ) (bs : List Blob) → length bs ≤ n → total bs ≤ room → front_within n room bs ≡ bs
+front_whole : (n room : ℕ) (bs : List Blob) → length bs ≤ n → total_length bs ≤ room → front_within n room bs ≡ bs
 unfolding front_within
 front_whole zero room [] few short = refl
 front_whole (suc n) room [] few short = refl
@@ -125,7 +125,7 @@ front_whole (suc n) room (b ∷ bs) few short =
     rw fits (ap (λ (xs : List Blob). b ∷ xs) (front_whole n (room - length b.1) bs (omega arith) (omega arith)))
 
 -- the last makes no difference where there is no room for all
-without_last : (n room m : ℕ) (bs : List Blob) → (n < length bs) ⊎ (room < total bs) → length bs ≡ m + 1 → front_within n room (take m bs) ≡ front_within n room bs
+without_last : (n room m : ℕ) (bs : List Blob) → (n < length bs) ⊎ (room < total_length bs) → length bs ≡ m + 1 → front_within n room (take m bs) ≡ front_within n room bs
 unfolding front_within
 without_last zero room m bs over is = refl
 without_last (suc n) room m [] over is = absurd (omega arith)
@@ -135,16 +135,16 @@ without_last (suc n) room zero (b ∷ []) over is = go (nat_le (length b.1) room
   go true fits = absurd (elim over [ inl few ↦ omega arith | inr short ↦ grind (arith, nat_tests) ])
   go false fits = refl
 without_last (suc n) room (suc m) (b ∷ xs) over is = go (nat_le (length b.1) room) refl (λ past. without_last n (room - length b.1) m xs past (omega arith)) where
-  go : (c : Bool) → nat_le (length b.1) room ≡ c → ((n < length xs) ⊎ (room - length b.1 < total xs) → front_within n (room - length b.1) (take m xs) ≡ front_within n (room - length b.1) xs) → cond c (b ∷ front_within n (room - length b.1) (take m xs)) [] ≡ cond c (b ∷ front_within n (room - length b.1) xs) []
+  go : (c : Bool) → nat_le (length b.1) room ≡ c → ((n < length xs) ⊎ (room - length b.1 < total_length xs) → front_within n (room - length b.1) (take m xs) ≡ front_within n (room - length b.1) xs) → cond c (b ∷ front_within n (room - length b.1) (take m xs)) [] ≡ cond c (b ∷ front_within n (room - length b.1) xs) []
   go true fits later = ap (λ (ys : List Blob). b ∷ ys) (later (elim over [ inl few ↦ inl (omega arith) | inr short ↦ inr (let le : length b.1 ≤ room = grind (arith, nat_tests) in omega (arith, le, short)) ]))
   go false fits later = refl
 
-front_shorter : (n room : ℕ) (bs : List Blob) → (n < length bs) ⊎ (room < total bs) → front_within n room (take (length bs - 1) bs) ≡ front_within n room bs
+front_shorter : (n room : ℕ) (bs : List Blob) → (n < length bs) ⊎ (room < total_length bs) → front_within n room (take (length bs - 1) bs) ≡ front_within n room bs
 front_shorter n room [] over = absurd (elim over [ inl few ↦ omega arith | inr short ↦ omega arith ])
 front_shorter n room (b ∷ bs) over = without_last n room (length (b ∷ bs) - 1) (b ∷ bs) over (omega arith)
 
-pub front_popped : (n room : ℕ) (es : List Kept) → (n < length es) ⊎ (room < total (map shown es)) → front_within n room (without_oldest (map shown es)) ≡ front_within n room (map shown es)
-front_popped n room es over = front_shorter n room (map shown es) (elim over [ inl few ↦ inl (omega (arith, few, length-map es shown)) | inr short ↦ inr short ])
+pub front_popped : (n room : ℕ) (es : List Kept) → (n < length es) ⊎ (room < total_length (map result_shown es)) → front_within n room (without_oldest (map result_shown es)) ≡ front_within n room (map result_shown es)
+front_popped n room es over = front_shorter n room (map result_shown es) (elim over [ inl few ↦ inl (omega (arith, few, length-map es result_shown)) | inr short ↦ inr short ])
 
-pub front_kept : (n room : ℕ) (es : List Kept) → length es ≤ n → total (map shown es) ≤ room → front_within n room (map shown es) ≡ map shown es
-front_kept n room es few short = front_whole n room (map shown es) (omega (arith, few, length-map es shown)) short
+pub front_kept : (n room : ℕ) (es : List Kept) → length es ≤ n → total_length (map result_shown es) ≤ room → front_within n room (map result_shown es) ≡ map result_shown es
+front_kept n room es few short = front_whole n room (map result_shown es) (omega (arith, few, length-map es result_shown)) short

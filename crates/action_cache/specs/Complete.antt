@@ -2,12 +2,12 @@
 -- there (remote_execution.proto, ActionCache.GetActionResult).
 use Rattle.std.specs.Prelude.{ℕ, List, [], ◌∷◌, ◌++◌, Option, Some, None, Result, Ok, Err, is_some, if◌then◌else◌}
 use Rattle.message_fields.specs.declared.error.MessageError.{MessageError}
-use Rattle.message_fields.specs.Fields.{decoded}
+use Rattle.message_fields.specs.Fields.{value_of_text}
 use Rattle.digest.specs.declared.Digest.{Digest}
 use Rattle.reapi_messages.specs.Digests.{DigestValue}
 use Rattle.tree_messages.specs.Directories.{DirectoryValue, FileNodeValue, TreeValue, tree_of}
 use Rattle.tree_messages.specs.Results.{ActionResultValue, OutputFileValue, OutputDirectoryValue, action_result_of}
-use Rattle.input_tree.specs.Directories.{digest_written}
+use Rattle.input_tree.specs.Directories.{written_digest}
 use Rattle.input_tree.specs.Listing.{Lookup}
 use Rattle.input_tree.specs.Pages.{text_or_none}
 
@@ -16,12 +16,12 @@ and_then None step = None
 and_then (Some x) step = step x
 
 -- the digests so far and one more, where its blob is there
-abbrev pub with_seen : Lookup → List Digest → Option Digest → Option (List Digest)
-with_seen look ds None = None
-with_seen look ds (Some d) = if is_some (look d) then Some (ds ++ d ∷ []) else None
+abbrev pub with_digest : Lookup → List Digest → Option Digest → Option (List Digest)
+with_digest look ds None = None
+with_digest look ds (Some d) = if is_some (look d) then Some (ds ++ d ∷ []) else None
 
 abbrev pub with_blob : Lookup → List Digest → Option DigestValue → Option (List Digest)
-with_blob look ds v = with_seen look ds (digest_written v)
+with_blob look ds v = with_digest look ds (written_digest v)
 
 -- one that need not be set
 abbrev pub with_set : Lookup → List Digest → Option DigestValue → Option (List Digest)
@@ -30,11 +30,13 @@ with_set look ds (Some v) = with_blob look ds (Some v)
 
 abbrev pub with_files : Lookup → List Digest → List FileNodeValue → Option (List Digest)
 with_files look ds [] = Some ds
-with_files look ds (n ∷ ns) = and_then (with_blob look ds n.digest) (λ more. with_files look more ns)
+with_files look ds (n ∷ ns) =
+    and_then (with_blob look ds n.digest) (λ more. with_files look more ns)
 
 abbrev pub with_directories : Lookup → List Digest → List DirectoryValue → Option (List Digest)
 with_directories look ds [] = Some ds
-with_directories look ds (v ∷ vs) = and_then (with_files look ds v.files) (λ more. with_directories look more vs)
+with_directories look ds (v ∷ vs) =
+    and_then (with_files look ds v.files) (λ more. with_directories look more vs)
 
 abbrev pub with_root : Lookup → List Digest → Option DirectoryValue → Option (List Digest)
 with_root look ds None = Some ds
@@ -43,31 +45,43 @@ with_root look ds (Some v) = with_files look ds v.files
 -- the files of a tree's root and of its children
 abbrev pub with_tree : Lookup → List Digest → Result TreeValue MessageError → Option (List Digest)
 with_tree look ds (Err e) = None
-with_tree look ds (Ok tree) = and_then (with_root look ds tree.root) (λ more. with_directories look more tree.children)
+with_tree look ds (Ok tree) =
+    and_then (with_root look ds tree.root) (λ more. with_directories look more tree.children)
 
 -- a tree, and then its files
 abbrev pub with_tree_of : Lookup → List Digest → Option Digest → Option (List Digest)
 with_tree_of look ds None = None
-with_tree_of look ds (Some d) = if is_some (look d) then with_tree look (ds ++ d ∷ []) (decoded tree_of (text_or_none look d)) else None
+with_tree_of look ds (Some d) =
+    if is_some (look d)
+    then with_tree look (ds ++ d ∷ []) (value_of_text tree_of (text_or_none look d))
+    else None
 
-abbrev pub with_output_directory : Lookup → List Digest → OutputDirectoryValue → Option (List Digest)
-with_output_directory look ds o = with_tree_of look ds (digest_written o.tree_digest)
+abbrev pub with_output_directory : Lookup → List Digest → OutputDirectoryValue →
+    Option (List Digest)
+with_output_directory look ds o = with_tree_of look ds (written_digest o.tree_digest)
 
-abbrev pub with_output_directories : Lookup → List Digest → List OutputDirectoryValue → Option (List Digest)
+abbrev pub with_output_directories : Lookup → List Digest → List OutputDirectoryValue →
+    Option (List Digest)
 with_output_directories look ds [] = Some ds
-with_output_directories look ds (o ∷ os) = and_then (with_output_directory look ds o) (λ more. with_output_directories look more os)
+with_output_directories look ds (o ∷ os) =
+    and_then (with_output_directory look ds o) (λ more. with_output_directories look more os)
 
 abbrev pub with_output_files : Lookup → List Digest → List OutputFileValue → Option (List Digest)
 with_output_files look ds [] = Some ds
-with_output_files look ds (f ∷ fs) = and_then (with_blob look ds f.digest) (λ more. with_output_files look more fs)
+with_output_files look ds (f ∷ fs) =
+    and_then (with_blob look ds f.digest) (λ more. with_output_files look more fs)
 
 abbrev pub with_streams : Lookup → List Digest → ActionResultValue → Option (List Digest)
-with_streams look ds v = and_then (with_set look ds v.stdout_digest) (λ more. with_set look more v.stderr_digest)
+with_streams look ds v =
+    and_then (with_set look ds v.stdout_digest) (λ more. with_set look more v.stderr_digest)
 
 abbrev pub with_outputs : Lookup → Result ActionResultValue MessageError → Option (List Digest)
 with_outputs look (Err e) = None
-with_outputs look (Ok v) = and_then (with_output_files look [] v.output_files) (λ files. and_then (with_output_directories look files v.output_directories) (λ all. with_streams look all v))
+with_outputs look (Ok v) =
+    and_then (with_output_files look [] v.output_files)
+    (λ files. and_then (with_output_directories look files v.output_directories)
+    (λ all. with_streams look all v))
 
 -- the digests of all blobs that a result names, in order, where it is complete
 abbrev pub blobs_of : Lookup → List ℕ → Option (List Digest)
-blobs_of look text = with_outputs look (decoded action_result_of text)
+blobs_of look text = with_outputs look (value_of_text action_result_of text)

@@ -5,25 +5,28 @@ use Rattle.std.specs.Map.{remove_entry}
 use Rattle.std.specs.declared.alloc.Global.{Global}
 use Rattle.std.specs.declared.vec.Vec.{Vec}
 use Rattle.digest.specs.declared.Digest.{Digest}
-use Rattle.digest.specs.Naming.{same}
+use Rattle.digest.specs.Naming.{same_digest}
 use Rattle.instance_view.specs.Visible.{Blob}
 
 -- a pair without where its bytes lie in memory
-abbrev pub shown : Digest × Vec ℕ Global → Blob
-shown e = (e.0, e.1.items)
+abbrev pub result_shown : Digest × Vec ℕ Global → Blob
+result_shown e = (e.0, e.1.items)
 
 -- the longest front of at most so many results that have at most so many bytes together
 unfoldable pub front_within : ℕ → ℕ → List Blob → List Blob
 front_within zero room rs = []
 front_within (suc count) room [] = []
-front_within (suc count) room (r ∷ rs) = if nat_le (length r.1) room then r ∷ front_within count (room - length r.1) rs else []
+front_within (suc count) room (r ∷ rs) =
+    if nat_le (length r.1) room then r ∷ front_within count (room - length r.1) rs else []
 
 -- a result goes first in the place of an earlier one, and the oldest go past 10,000 results or
 -- 67,108,864 bytes; one that has more bytes changes nothing
-abbrev pub stored : Digest → List ℕ → List Blob → List Blob
-stored d text results = if nat_lt 67108864 (length text) then results else front_within 10000 67108864 ((d, text) ∷ remove_entry (same d) results)
+abbrev pub results_after_store : Digest → List ℕ → List Blob → List Blob
+results_after_store d text results =
+    if nat_lt 67108864 (length text) then results
+    else front_within 10000 67108864 ((d, text) ∷ remove_entry (same_digest d) results)
 
 -- how long bytes are, and 0 for none
-abbrev pub length_given : Option (List ℕ) → ℕ
-length_given None = 0
-length_given (Some text) = length text
+abbrev pub length_or_zero : Option (List ℕ) → ℕ
+length_or_zero None = 0
+length_or_zero (Some text) = length text

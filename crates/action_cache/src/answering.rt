@@ -1,10 +1,10 @@
 //! GetActionResult.
 
 ghost use Rattle.std.specs.Prelude.{◌≡◌, ◌≤◌, ℕ, None, option_map, IfOk, OnOk, OnErr};
-ghost use Rattle.blob_pool.specs.Held.{Slots, count_at};
-ghost use Rattle.instance_view.specs.Shown.{shown, holders};
+ghost use Rattle.blob_pool.specs.Slots.{Slots, count_at};
+ghost use Rattle.instance_view.specs.Shown.{visible_in, holders};
 ghost use Rattle.input_tree.specs.Texts.{texts_of};
-ghost use Rattle.input_tree.specs.Uses.{all_used};
+ghost use Rattle.input_tree.specs.Uses.{visible_after_uses};
 ghost use Rattle.action_cache.specs.Answering.{blobs_used, result_for, results_after};
 
 use crate::complete::blobs_of;
@@ -35,8 +35,8 @@ pub fn get_result(
     ensures results { OnOk result (results.new
         ≡ results_after (texts_of pool.now view.old) action.now results.old) }
     ensures used { (p : Slots) → OnOk result
-        (shown p view.new ≡ all_used
-        (blobs_used (texts_of pool.now view.old) action.now results.old) (shown p view.old)) }
+        (visible_in p view.new ≡ visible_after_uses
+        (blobs_used (texts_of pool.now view.old) action.now results.old) (visible_in p view.old)) }
     ensures none { IfOk result (λ answer. answer ≡ None →
         (results.new ≡ results.old) × (view.new ≡ view.old)) }
     ensures err { OnErr result ((results.new ≡ results.old) × (view.new ≡ view.old)) }

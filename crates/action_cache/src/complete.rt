@@ -2,11 +2,11 @@
 //! there.
 
 ghost use Rattle.std.specs.Prelude.{◌≡◌, ◌≤◌, ℕ, map, is_some, option_map, IfOk};
-ghost use Rattle.message_fields.specs.Fields.{decoded};
+ghost use Rattle.message_fields.specs.Fields.{value_of_text};
 ghost use Rattle.reapi_messages.specs.Digests.{digest_shown};
 ghost use Rattle.tree_messages.specs.Directories.{directory_shown, file_node_shown, tree_of};
 ghost use Rattle.tree_messages.specs.Results.{output_directory_shown, output_file_shown};
-ghost use Rattle.blob_pool.specs.Held.{count_at};
+ghost use Rattle.blob_pool.specs.Slots.{count_at};
 ghost use Rattle.instance_view.specs.Shown.{holders};
 ghost use Rattle.input_tree.specs.Texts.{texts_of};
 ghost use Rattle.action_cache.specs.Complete.{with_blob, with_set, with_files, with_directories, with_root, with_tree, with_output_directory, with_output_directories, with_output_files, blobs_of};
@@ -134,7 +134,7 @@ fn name_tree(
     text: &[u8],
 ) -> Result<Option<Vec<Digest>>, AllocError>
     ensures { IfOk result (λ all. option_map (λ v. v.items) all
-        ≡ with_tree (texts_of pool.now view.now) named.items (decoded tree_of text.now)) }
+        ≡ with_tree (texts_of pool.now view.now) named.items (value_of_text tree_of text.now)) }
 {
     let tree = match Tree::decode(alloc, text) {
         Ok(tree) => tree,

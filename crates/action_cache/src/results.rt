@@ -1,9 +1,9 @@
 ghost use Rattle.std.specs.Prelude.{◌≡◌, ◌+◌, ◌-◌, ◌<◌, ◌≤◌, ◌⊎◌, true, false, [], ◌∷◌, length, map, is_some, option_map, IfOk, OnOk, OnErr};
 ghost use Rattle.std.specs.Option.{option_copied};
 ghost use Rattle.std.specs.Map.{lookup, remove_entry};
-ghost use Rattle.digest.specs.Naming.{same};
-ghost use Rattle.instance_view.specs.Visible.{fronted, total, text_length, without_oldest};
-ghost use Rattle.action_cache.specs.Results.{shown, front_within, stored, length_given};
+ghost use Rattle.digest.specs.Naming.{same_digest};
+ghost use Rattle.instance_view.specs.Visible.{with_match_first, total_length, text_length, without_oldest};
+ghost use Rattle.action_cache.specs.Results.{result_shown, front_within, results_after_store, length_or_zero};
 
 use digest::Digest;
 use lru::LruCache;
@@ -24,9 +24,10 @@ type Cache = LruCache<Digest, Vec<u8>>;
 
 /// Makes the pair of the digest the most recently used.
 fn promote(cache: &mut Cache, digest: &Digest)
-    ensures used { map shown cache.new.entries
-        ≡ fronted (same digest.now) (map shown cache.old.entries) }
-    ensures total { total (map shown cache.new.entries) ≡ total (map shown cache.old.entries) }
+    ensures used { map result_shown cache.new.entries
+        ≡ with_match_first (same_digest digest.now) (map result_shown cache.old.entries) }
+    ensures total { total_length (map result_shown cache.new.entries)
+        ≡ total_length (map result_shown cache.old.entries) }
     ensures length { length cache.new.entries ≡ length cache.old.entries }
     ensures cap { cache.new.cap ≡ cache.old.cap }
 {
@@ -36,7 +37,8 @@ fn promote(cache: &mut Cache, digest: &Digest)
 /// The bytes of the digest.
 #[tactic(auto, using(crate::proofs::Pairs::lookup_some, crate::proofs::Pairs::lookup_none))]
 fn find<'a>(cache: &'a Cache, digest: &Digest) -> Option<&'a [u8]>
-    ensures { option_copied result ≡ lookup (same digest.now) (map shown cache.now.entries) }
+    ensures { option_copied result
+        ≡ lookup (same_digest digest.now) (map result_shown cache.now.entries) }
 {
     let text = cache.peek(digest)?;
     Some(text.as_slice())
@@ -44,7 +46,7 @@ fn find<'a>(cache: &'a Cache, digest: &Digest) -> Option<&'a [u8]>
 
 /// How long bytes are, and 0 for none.
 fn length_given(text: Option<Vec<u8>>) -> usize
-    ensures { result ≡ length_given (option_map (λ v. v.items) text) }
+    ensures { result ≡ length_or_zero (option_map (λ v. v.items) text) }
 {
     match text {
         Some(text) => text.len(),
@@ -54,7 +56,7 @@ fn length_given(text: Option<Vec<u8>>) -> usize
 
 /// How long the bytes of a pair are, and 0 for none.
 fn text_length(pair: Option<(Digest, Vec<u8>)>) -> usize
-    ensures { result ≡ text_length (option_map shown pair) }
+    ensures { result ≡ text_length (option_map result_shown pair) }
 {
     match pair {
         Some((_, text)) => text.len(),
@@ -67,10 +69,11 @@ fn text_length(pair: Option<(Digest, Vec<u8>)>) -> usize
 fn put(cache: &mut Cache, digest: Digest, text: Vec<u8>) -> Result<usize, AllocError>
     requires cap { cache.old.cap ≡ 10001 }
     requires length { length cache.old.entries ≤ 10000 }
-    ensures put { OnOk result (map shown cache.new.entries ≡ (digest, text.items)
-        ∷ remove_entry (same digest) (map shown cache.old.entries)) }
-    ensures dropped { IfOk result (λ dropped. total (map shown cache.new.entries) + dropped
-        ≡ total (map shown cache.old.entries) + length text.items) }
+    ensures put { OnOk result (map result_shown cache.new.entries ≡ (digest, text.items)
+        ∷ remove_entry (same_digest digest) (map result_shown cache.old.entries)) }
+    ensures dropped { IfOk result (λ dropped.
+        total_length (map result_shown cache.new.entries) + dropped
+        ≡ total_length (map result_shown cache.old.entries) + length text.items) }
     ensures cap { cache.new.cap ≡ cache.old.cap }
     ensures err { OnErr result (cache.new ≡ cache.old) }
 {
@@ -80,9 +83,10 @@ fn put(cache: &mut Cache, digest: Digest, text: Vec<u8>) -> Result<usize, AllocE
 
 /// Takes out the least recently used pair, and says how long its bytes were.
 fn pop(cache: &mut Cache) -> usize
-    ensures shorter { map shown cache.new.entries ≡ without_oldest (map shown cache.old.entries) }
-    ensures dropped { total (map shown cache.new.entries) + result
-        ≡ total (map shown cache.old.entries) }
+    ensures shorter { map result_shown cache.new.entries
+        ≡ without_oldest (map result_shown cache.old.entries) }
+    ensures dropped { total_length (map result_shown cache.new.entries) + result
+        ≡ total_length (map result_shown cache.old.entries) }
     ensures length { length cache.new.entries ≡ length cache.old.entries - 1 }
     ensures cap { cache.new.cap ≡ cache.old.cap }
 {
@@ -100,10 +104,10 @@ fn is_over(cache: &Cache, bytes: u64) -> bool
 
 /// Takes out the least recently used pairs until the limits are kept.
 fn trim(cache: &mut Cache, bytes: &mut u64)
-    requires bytes { bytes.old ≡ total (map shown cache.old.entries) }
-    ensures entries { map shown cache.new.entries
-        ≡ front_within 10000 67108864 (map shown cache.old.entries) }
-    ensures bytes { bytes.new ≡ total (map shown cache.new.entries) }
+    requires bytes { bytes.old ≡ total_length (map result_shown cache.old.entries) }
+    ensures entries { map result_shown cache.new.entries
+        ≡ front_within 10000 67108864 (map result_shown cache.old.entries) }
+    ensures bytes { bytes.new ≡ total_length (map result_shown cache.new.entries) }
     ensures few { length cache.new.entries ≤ 10000 }
     ensures short { bytes.new ≤ 67108864 }
     ensures cap { cache.new.cap ≡ cache.old.cap }
@@ -120,19 +124,21 @@ fn store(
     digest: Digest,
     text: Vec<u8>,
 ) -> Result<(), AllocError>
-    requires bytes { bytes.old ≡ total (map shown cache.old.entries) }
+    requires bytes { bytes.old ≡ total_length (map result_shown cache.old.entries) }
     requires cap { cache.old.cap ≡ 10001 }
     requires few { length cache.old.entries ≤ 10000 }
     requires short { bytes.old ≤ 67108864 }
     requires fits { length text.items ≤ 67108864 }
-    ensures entries { OnOk result (map shown cache.new.entries
+    ensures entries { OnOk result (map result_shown cache.new.entries
         ≡ front_within 10000 67108864
-        ((digest, text.items) ∷ remove_entry (same digest) (map shown cache.old.entries))) }
-    ensures bytes { bytes.new ≡ total (map shown cache.new.entries) }
+        ((digest, text.items)
+        ∷ remove_entry (same_digest digest) (map result_shown cache.old.entries))) }
+    ensures bytes { bytes.new ≡ total_length (map result_shown cache.new.entries) }
     ensures few { length cache.new.entries ≤ 10000 }
     ensures short { bytes.new ≤ 67108864 }
     ensures cap { cache.new.cap ≡ cache.old.cap }
-    ensures err { OnErr result (map shown cache.new.entries ≡ map shown cache.old.entries) }
+    ensures err { OnErr result (map result_shown cache.new.entries
+        ≡ map result_shown cache.old.entries) }
 {
     let length = text.len() as u64;
     let dropped = put(cache, digest, text)?;
@@ -151,14 +157,15 @@ pub struct Results {
 
 impl Model for Results {
     ghost use Rattle.std.specs.Prelude.{◌≡◌, ◌≤◌, List, length, map};
-    ghost use Rattle.instance_view.specs.Visible.{Blob, total};
-    ghost use Rattle.action_cache.specs.Results.{shown};
+    ghost use Rattle.instance_view.specs.Visible.{Blob, total_length};
+    ghost use Rattle.action_cache.specs.Results.{result_shown};
 
     ghost Value = { List Blob };
 
-    ghost view = { λ r. map shown r.cache.entries };
+    ghost view = { λ r. map result_shown r.cache.entries };
 
-    ghost invariant = { λ r. (r.bytes ≡ total (map shown r.cache.entries)) × (r.cache.cap ≡ 10001)
+    ghost invariant = { λ r. (r.bytes ≡ total_length (map result_shown r.cache.entries))
+        × (r.cache.cap ≡ 10001)
         × (length r.cache.entries ≤ 10000) × (r.bytes ≤ 67108864) };
 }
 
@@ -174,14 +181,14 @@ impl Results {
 
     /// The bytes of an action's result. This is no use of it.
     pub fn get(&self, action: &Digest) -> Option<&[u8]>
-        ensures { option_copied result ≡ lookup (same action.now) self.now }
+        ensures { option_copied result ≡ lookup (same_digest action.now) self.now }
     {
         find(&self.cache, action)
     }
 
     /// Makes an action's result the most recently used. It takes no memory.
     pub fn touch(&mut self, action: &Digest)
-        ensures { self.new ≡ fronted (same action.now) self.old }
+        ensures { self.new ≡ with_match_first (same_digest action.now) self.old }
     {
         promote(&mut self.cache, action);
     }
@@ -190,7 +197,7 @@ impl Results {
     /// longest front stays that has at most 10,000 results and 67,108,864 bytes; one that has more
     /// bytes changes nothing.
     pub fn update(&mut self, action: &Digest, text: Vec<u8>) -> Result<(), AllocError>
-        ensures ok { OnOk result (self.new ≡ stored action.now text.items self.old) }
+        ensures ok { OnOk result (self.new ≡ results_after_store action.now text.items self.old) }
         ensures err { OnErr result (self.new ≡ self.old) }
     {
         if text.len() as u64 > MOST_RESULT_BYTES {

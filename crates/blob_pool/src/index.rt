@@ -1,7 +1,7 @@
 ghost use Rattle.std.specs.Prelude.{◌≡◌, ◌≢◌, ◌⊎◌, ℕ, [], Some, Contains, OnOk, OnErr};
 ghost use Rattle.std.specs.Map.{lookup};
 ghost use Rattle.digest.specs.declared.Digest.{Digest};
-ghost use Rattle.digest.specs.Naming.{same};
+ghost use Rattle.digest.specs.Naming.{same_digest};
 ghost use Rattle.blob_pool.specs.Listed.{Listing, IsListed};
 
 use digest::Digest;
@@ -18,10 +18,11 @@ fn list(
     digest: &Digest,
     slot: usize,
 ) -> Result<(), AllocError>
-    ensures listed { OnOk result ((lookup (same digest.now) firsts.new.entries
+    ensures listed { OnOk result ((lookup (same_digest digest.now) firsts.new.entries
         ≡ Some slot) ⊎ Contains others.new.items slot) }
     ensures firsts { OnOk result ((d : Digest) (k : ℕ) →
-        lookup (same d) firsts.old.entries ≡ Some k → lookup (same d) firsts.new.entries ≡ Some k) }
+        lookup (same_digest d) firsts.old.entries ≡ Some k →
+        lookup (same_digest d) firsts.new.entries ≡ Some k) }
     ensures others { OnOk result ((k : ℕ) → Contains others.old.items k →
         Contains others.new.items k) }
     ensures err { OnErr result ((firsts.new.entries ≡ firsts.old.entries)
@@ -37,9 +38,10 @@ fn list(
 
 /// Takes a slot off the list.
 fn unlist(firsts: &mut Firsts, others: &mut Vec<usize>, digest: &Digest, slot: usize)
-    ensures off { lookup (same digest.now) firsts.new.entries ≢ Some slot }
-    ensures firsts { (d : Digest) (k : ℕ) → k ≢ slot → lookup (same d) firsts.old.entries ≡ Some k →
-        lookup (same d) firsts.new.entries ≡ Some k }
+    ensures off { lookup (same_digest digest.now) firsts.new.entries ≢ Some slot }
+    ensures firsts { (d : Digest) (k : ℕ) → k ≢ slot →
+        lookup (same_digest d) firsts.old.entries ≡ Some k →
+        lookup (same_digest d) firsts.new.entries ≡ Some k }
     ensures others { (k : ℕ) → k ≢ slot → Contains others.old.items k →
         Contains others.new.items k }
 {
@@ -90,7 +92,7 @@ impl Index {
 
     /// The first slot of a digest.
     pub fn first(&self, digest: &Digest) -> Option<usize>
-        ensures { result ≡ lookup (same digest.now) self.now.firsts }
+        ensures { result ≡ lookup (same_digest digest.now) self.now.firsts }
     {
         self.firsts.get(digest).copied()
     }
@@ -114,7 +116,7 @@ impl Index {
 
     /// Takes a slot off the list. It takes no memory.
     pub fn unlist(&mut self, digest: &Digest, slot: usize)
-        ensures off { lookup (same digest.now) self.new.firsts ≢ Some slot }
+        ensures off { lookup (same_digest digest.now) self.new.firsts ≢ Some slot }
         ensures kept { (d : Digest) (k : ℕ) → k ≢ slot → IsListed self.old d k →
             IsListed self.new d k }
     {

@@ -1,8 +1,8 @@
 ghost use Rattle.std.specs.Prelude.{◌≡◌, ◌≢◌, ◌+◌, ◌<◌, ◌≤◌, ◌^◌, ◌++◌, ℕ, [], length, Some, None, IfOk, IfErr, OnOk, OnErr};
 ghost use Rattle.digest.specs.Naming.{Names};
 ghost use Rattle.paged_text.specs.Pages.{part_of};
-ghost use Rattle.blob_pool.specs.Held.{text_at, count_at, held_at, IsShared, texts_stored, bytes_stored};
-ghost use Rattle.blob_pool.specs.Moves.{Moves, HasRoom, nobody, one_at};
+ghost use Rattle.blob_pool.specs.Slots.{text_at, count_at, held_text_at, IsShared, texts_stored, bytes_stored};
+ghost use Rattle.blob_pool.specs.Moves.{Moves, HasRoom, no_holders, one_at};
 
 use crate::draft::Draft;
 use crate::hold::{Hold, Kept, keep};
@@ -24,7 +24,7 @@ pub struct Pool {
 }
 
 impl Model for Pool {
-    ghost use Rattle.blob_pool.specs.Held.{Slots};
+    ghost use Rattle.blob_pool.specs.Slots.{Slots};
     ghost use Rattle.blob_pool.specs.Listed.{IsPool};
 
     ghost Value = { Slots };
@@ -54,7 +54,7 @@ impl Pool {
         // Each text that is held stands in one slot.
         ensures shared { IsShared self.now }
         // Nothing stands there that nobody holds.
-        ensures held { (k : ℕ) → held_at self.now k ≢ None → 0 < count_at self.now k }
+        ensures held { (k : ℕ) → held_text_at self.now k ≢ None → 0 < count_at self.now k }
     {
         (self.slots.len() as u64, self.bytes)
     }
@@ -73,7 +73,7 @@ impl Pool {
     pub fn seal(&mut self, draft: Draft) -> Result<Hold, Draft>
         requires { HasRoom self.old }
         ensures text { IfOk result (λ hold. text_at self.new hold ≡ draft.text) }
-        ensures moves { IfOk result (λ hold. Moves self.old self.new nobody (one_at hold)) }
+        ensures moves { IfOk result (λ hold. Moves self.old self.new no_holders (one_at hold)) }
         // A text that is held already is not stored again.
         ensures same { IfOk result (λ hold. (k : ℕ) → 0 < count_at self.old k →
             text_at self.old k ≡ draft.text → hold ≡ k) }
@@ -91,7 +91,7 @@ impl Pool {
         requires room { HasRoom self.old }
         requires most { length bytes.now ≤ 2 ^ 48 }
         ensures text { IfOk result (λ hold. text_at self.new hold ≡ bytes.now) }
-        ensures moves { IfOk result (λ hold. Moves self.old self.new nobody (one_at hold)) }
+        ensures moves { IfOk result (λ hold. Moves self.old self.new no_holders (one_at hold)) }
         ensures same { IfOk result (λ hold. (k : ℕ) → 0 < count_at self.old k →
             text_at self.old k ≡ bytes.now → hold ≡ k) }
         ensures err { OnErr result (self.new ≡ self.old) }
@@ -109,7 +109,7 @@ impl Pool {
         requires held { 0 < count_at self.old hold.now }
         requires room { count_at self.old hold.now < 2 ^ 127 }
         ensures hold { result ≡ hold.now }
-        ensures moves { Moves self.old self.new nobody (one_at hold.now) }
+        ensures moves { Moves self.old self.new no_holders (one_at hold.now) }
     {
         let slot = hold.slot();
         hold_again(&mut self.slots, slot);
@@ -121,7 +121,7 @@ impl Pool {
         requires held { 0 < count_at self.old kept }
         requires room { count_at self.old kept < 2 ^ 127 }
         ensures kept { result ≡ kept }
-        ensures moves { Moves self.old self.new nobody (one_at kept) }
+        ensures moves { Moves self.old self.new no_holders (one_at kept) }
     {
         hold_again(&mut self.slots, kept.number());
         kept
@@ -130,7 +130,7 @@ impl Pool {
     /// Gives up the right to a text. A text that nobody holds goes. It takes no memory.
     pub fn release(&mut self, hold: Hold)
         requires { 0 < count_at self.old hold }
-        ensures { Moves self.old self.new (one_at hold) nobody }
+        ensures { Moves self.old self.new (one_at hold) no_holders }
     {
         let slot = keep(hold).number();
         take_text(&mut self.slots, &mut self.index, &mut self.bytes, slot);
@@ -175,7 +175,7 @@ impl Pool {
 /// Gives up the right that was kept. A text that nobody holds goes. It takes no memory.
 pub fn release_kept(pool: &mut Pool, kept: Kept)
     requires { 0 < count_at pool.old kept }
-    ensures { Moves pool.old pool.new (one_at kept) nobody }
+    ensures { Moves pool.old pool.new (one_at kept) no_holders }
 {
     let hold = pool.back(kept);
     pool.release(hold);

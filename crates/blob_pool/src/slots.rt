@@ -3,8 +3,8 @@
 ghost use Rattle.std.specs.Prelude.{◌≡◌, ◌+◌, ◌-◌, ◌<◌, ◌≤◌, ◌^◌, ◌↔◌, ℕ, length, Some, None, IsTrue, IfSome, IfNone, IfOk, IfErr, OnErr, slice_index_or};
 ghost use Rattle.std.specs.Option.{option_copied};
 ghost use Rattle.digest.specs.Naming.{digest_of};
-ghost use Rattle.blob_pool.specs.Held.{held_at, text_at, count_at, Puts, bytes_stored};
-ghost use Rattle.blob_pool.specs.Moves.{Moves, HasRoom, nobody, one_at};
+ghost use Rattle.blob_pool.specs.Slots.{held_text_at, text_at, count_at, Puts, bytes_stored};
+ghost use Rattle.blob_pool.specs.Moves.{Moves, HasRoom, no_holders, one_at};
 ghost use Rattle.blob_pool.specs.Listed.{Listing, IsListed, IsPool};
 
 use crate::draft::Draft;
@@ -78,7 +78,7 @@ pub fn hold_again(slots: &mut Slab<Slot>, slot: usize)
     requires room { count_at slots.old.slots slot < 2 ^ 127 }
     ensures pool { (index : Listing) (bytes : ℕ) → IsPool slots.old.slots index bytes →
         IsPool slots.new.slots index bytes }
-    ensures moves { Moves slots.old.slots slots.new.slots nobody (one_at slot) }
+    ensures moves { Moves slots.old.slots slots.new.slots no_holders (one_at slot) }
     ensures text { text_at slots.new.slots slot ≡ text_at slots.old.slots slot }
 {
     add_holder(slots, slot);
@@ -120,7 +120,7 @@ pub fn put_text(
     requires pool { IsPool slots.old.slots index.old bytes.old }
     requires room { HasRoom slots.old.slots }
     ensures pool { IsPool slots.new.slots index.new bytes.new }
-    ensures moves { IfOk result (λ k. Moves slots.old.slots slots.new.slots nobody (one_at k)) }
+    ensures moves { IfOk result (λ k. Moves slots.old.slots slots.new.slots no_holders (one_at k)) }
     ensures text { IfOk result (λ k. text_at slots.new.slots k ≡ draft.text) }
     ensures same { IfOk result (λ k. (j : ℕ) → 0 < count_at slots.old.slots j →
         text_at slots.old.slots j ≡ draft.text → k ≡ j) }
@@ -152,7 +152,7 @@ fn add_text(
     requires digest { digest ≡ digest_of text }
     requires short { length text ≤ 2 ^ 48 }
     ensures pool { IsPool slots.new.slots index.new bytes.new }
-    ensures moves { IfOk result (λ k. Moves slots.old.slots slots.new.slots nobody (one_at k)) }
+    ensures moves { IfOk result (λ k. Moves slots.old.slots slots.new.slots no_holders (one_at k)) }
     ensures text { IfOk result (λ k. text_at slots.new.slots k ≡ text) }
     ensures err { OnErr result (slots.new.slots ≡ slots.old.slots) }
     ensures back { IfErr result (λ t. t ≡ text) }
@@ -183,7 +183,7 @@ pub fn take_text(slots: &mut Slab<Slot>, index: &mut Index, bytes: &mut u128, sl
     requires pool { IsPool slots.old.slots index.old bytes.old }
     requires held { 0 < count_at slots.old.slots slot }
     ensures pool { IsPool slots.new.slots index.new bytes.new }
-    ensures moves { Moves slots.old.slots slots.new.slots (one_at slot) nobody }
+    ensures moves { Moves slots.old.slots slots.new.slots (one_at slot) no_holders }
 {
     if count(slots, slot) > 1 {
         take_holder(slots, slot);
@@ -197,7 +197,7 @@ fn drop_text(slots: &mut Slab<Slot>, index: &mut Index, bytes: &mut u128, slot: 
     requires pool { IsPool slots.old.slots index.old bytes.old }
     requires last { count_at slots.old.slots slot ≡ 1 }
     ensures pool { IsPool slots.new.slots index.new bytes.new }
-    ensures moves { Moves slots.old.slots slots.new.slots (one_at slot) nobody }
+    ensures moves { Moves slots.old.slots slots.new.slots (one_at slot) no_holders }
 {
     if let Some(held) = slots.try_remove(slot) {
         index.unlist(&held.digest(), slot);

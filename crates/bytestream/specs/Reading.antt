@@ -2,16 +2,16 @@
 -- message.
 use Rattle.std.specs.Prelude.{ℕ, ℤ, pos, negsuc, ◌+◌, min, nat_le, ◌==◌, if◌then◌else◌, List, length, Option, Some, None, Result, Ok, Err}
 use Rattle.reapi_messages.specs.Results.{◌>>=◌}
-use Rattle.reapi_messages.specs.Fields.{decoded}
+use Rattle.reapi_messages.specs.Fields.{value_of_text}
 use Rattle.reapi_messages.specs.ByteStream.{read_request_of}
 use Rattle.rpc.specs.declared.refusal.Refusal.{Refusal}
 use Rattle.rpc.specs.declared.refusal.Refusal.TheVariants.{NegativeLimit, BlobNotFound, OffsetOutOfRange}
 use Rattle.digest.specs.declared.Digest.{Digest}
-use Rattle.instance_view.specs.Visible.{Blob, seen, used}
-use Rattle.cas_service.specs.Requests.{readable, own_instance}
+use Rattle.instance_view.specs.Visible.{Blob, visible_text, visible_after_use}
+use Rattle.cas_service.specs.Requests.{message_or_refusal, instance_check}
 use Rattle.resource_names.specs.Names.{read_name}
 use Rattle.bytestream.specs.declared.reading.ReadAsked.{ReadAsked}
-use Rattle.bytestream.specs.Refusals.{named}
+use Rattle.bytestream.specs.Refusals.{name_or_refusal}
 
 -- a range of a text: the bytes from one place until before another
 pub record SourceValue : Type 0 where
@@ -27,9 +27,9 @@ limit_of (negsuc n) = Err NegativeLimit
 -- what a request asks for, or its refusal
 unfoldable pub read_asked : List ℕ → List ℕ → Result ReadAsked Refusal
 read_asked own message = do
-  request ← readable (decoded read_request_of message)
-  name ← named (read_name request.resource_name)
-  _ ← own_instance own name.instance
+  request ← message_or_refusal (value_of_text read_request_of message)
+  name ← name_or_refusal (read_name request.resource_name)
+  _ ← instance_check own name.instance
   limit ← limit_of request.read_limit
   Ok (record { digest = name.digest; offset = request.read_offset; limit = limit })
 
@@ -50,10 +50,11 @@ range_asked asked (Some text) = do
   Ok (record { digest = asked.digest; text = text; from = from; until = until_of asked.limit from (length text) })
 
 abbrev pub read_answer : List ℕ → List Blob → List ℕ → Result SourceValue Refusal
-read_answer own visible message = read_asked own message >>= λ asked. range_asked asked (seen asked.digest visible)
+read_answer own visible message =
+    read_asked own message >>= λ asked. range_asked asked (visible_text asked.digest visible)
 
 abbrev pub after_asking : Result ReadAsked Refusal → List Blob → List Blob
-after_asking (Ok asked) visible = used asked.digest visible
+after_asking (Ok asked) visible = visible_after_use asked.digest visible
 after_asking (Err refusal) visible = visible
 
 -- the blob that is asked for is used, where it is there, whatever its range

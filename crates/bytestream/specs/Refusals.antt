@@ -16,9 +16,9 @@ name_refusal Size = BadDigest
 name_refusal Compressed = UnsupportedCompressor
 
 -- a name, or the refusal of a text that is none
-abbrev pub named : {A : Type 0} → Result A NameError → Result A Refusal
-named (Ok name) = Ok name
-named (Err e) = Err (name_refusal e)
+abbrev pub name_or_refusal : {A : Type 0} → Result A NameError → Result A Refusal
+name_or_refusal (Ok name) = Ok name
+name_or_refusal (Err e) = Err (name_refusal e)
 
 abbrev pub upload_error : UploadError → CallError
 upload_error Upload.Offset = Refused WrongOffset

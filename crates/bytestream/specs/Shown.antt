@@ -1,6 +1,6 @@
 -- What the code's own types stand for.
 use Rattle.std.specs.Prelude.{Result, Ok, Err, string_bytes}
-use Rattle.blob_pool.specs.Held.{Slots}
+use Rattle.blob_pool.specs.Slots.{Slots}
 use Rattle.cas_service.specs.declared.error.CallError.{CallError}
 use Rattle.instance_view.specs.Shown.{text_seen}
 use Rattle.uploads.specs.Shown.{key_shown, piece_shown}
@@ -15,10 +15,12 @@ use Rattle.bytestream.specs.Writing.{PartValue, OpenWriteValue, WrittenValue, Fi
 
 -- the range that a source finds in a pool
 abbrev pub source_shown : Slots → Source → SourceValue
-source_shown p s = record { digest = s.digest; text = text_seen p s.text; from = s.from; until = s.until }
+source_shown p s =
+    record { digest = s.digest; text = text_seen p s.text; from = s.from; until = s.until }
 
 abbrev pub part_shown : Part → PartValue
-part_shown part = record { key = key_shown part.key.now; piece = piece_shown part.piece; is_last = part.is_last }
+part_shown part =
+    record { key = key_shown part.key.now; piece = piece_shown part.piece; is_last = part.is_last }
 
 abbrev pub first_part_shown : FirstPart → FirstAsked
 first_part_shown first = record {

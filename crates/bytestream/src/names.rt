@@ -4,7 +4,7 @@ ghost use Rattle.std.specs.Prelude.{◌≡◌, ◌<◌, ◌≤◌, ◌^◌, leng
 ghost use Rattle.reapi_messages.specs.Results.{Gives};
 ghost use Rattle.resource_names.specs.Names as names;
 ghost use Rattle.resource_names.specs.Shown.{read_name_shown, write_name_shown};
-ghost use Rattle.bytestream.specs.Refusals.{named, name_refusal};
+ghost use Rattle.bytestream.specs.Refusals.{name_or_refusal, name_refusal};
 
 use resource_names::{NameError, ReadName, WriteName, parse_read, parse_write};
 use rpc::Refusal;
@@ -21,7 +21,7 @@ fn refusal(error: NameError) -> Refusal
 
 /// What a `Read` names.
 pub(crate) fn read_name(text: &str) -> Result<ReadName<'_>, Refusal>
-    ensures { Gives read_name_shown result (named (names.read_name text.now)) }
+    ensures { Gives read_name_shown result (name_or_refusal (names.read_name text.now)) }
 {
     match parse_read(text) {
         Ok(name) => Ok(name),
@@ -31,7 +31,7 @@ pub(crate) fn read_name(text: &str) -> Result<ReadName<'_>, Refusal>
 
 /// What a `Write` or a `QueryWriteStatus` names.
 pub(crate) fn write_name(text: &str) -> Result<WriteName<'_>, Refusal>
-    ensures name { Gives write_name_shown result (named (names.write_name text.now)) }
+    ensures name { Gives write_name_shown result (name_or_refusal (names.write_name text.now)) }
     ensures most { IfOk result (λ name. name.digest.size < 2 ^ 63) }
     ensures uuid { IfOk result (λ name. length name.uuid.now ≤ 128) }
 {

@@ -2,7 +2,7 @@
 
 ghost use Rattle.std.specs.Prelude.{◌≡◌, ◌≤◌, ◌^◌, IsSome};
 ghost use Rattle.blob_pool.specs.Moves.{Moves};
-ghost use Rattle.instance_view.specs.Shown.{shown, holders};
+ghost use Rattle.instance_view.specs.Shown.{visible_in, holders};
 ghost use Rattle.quota_evict.specs.Kept.{AreKept};
 ghost use Rattle.cas_service.specs.Answers.{Answers, IfAnswered, IfNoMemory};
 ghost use Rattle.uploads.specs.Uploads.{WithinLimits, upload_at};
@@ -52,12 +52,12 @@ fn finish_last(
     requires there { IsSome (upload_at (part_shown part.now).key uploads.old) }
     ensures answer { Answers (λ complete. complete) result
         (end_answer (part_shown part.now) uploads.old) }
-    ensures visible { IfAnswered result (shown pool.new view.new
+    ensures visible { IfAnswered result (visible_in pool.new view.new
         ≡ (after_end view.old.limit quota (part_shown part.now)
-        (state_of (shown pool.old view.old) uploads.old)).visible) }
+        (state_of (visible_in pool.old view.old) uploads.old)).visible) }
     ensures uploads { IfAnswered result (uploads.new
         ≡ (after_end view.old.limit quota (part_shown part.now)
-        (state_of (shown pool.old view.old) uploads.old)).uploads) }
+        (state_of (visible_in pool.old view.old) uploads.old)).uploads) }
     ensures memory { IfNoMemory result ((view.new ≡ view.old) × (pool.new ≡ pool.old)
         × (uploads.new ≡ uploads.old)) }
     ensures within { WithinLimits quota uploads.new }
@@ -91,12 +91,12 @@ pub(crate) fn take_part(
     requires within { WithinLimits quota uploads.old }
     ensures answer { Answers (λ complete. complete) result
         (part_answer first quota moment (part_shown part.now) uploads.old) }
-    ensures visible { IfAnswered result (shown pool.new view.new
+    ensures visible { IfAnswered result (visible_in pool.new view.new
         ≡ (after_part first view.old.limit quota moment (part_shown part.now)
-        (state_of (shown pool.old view.old) uploads.old)).visible) }
+        (state_of (visible_in pool.old view.old) uploads.old)).visible) }
     ensures uploads { IfAnswered result (uploads.new
         ≡ (after_part first view.old.limit quota moment (part_shown part.now)
-        (state_of (shown pool.old view.old) uploads.old)).uploads) }
+        (state_of (visible_in pool.old view.old) uploads.old)).uploads) }
     ensures memory { IfNoMemory result ((view.new ≡ view.old) × (pool.new ≡ pool.old)
         × IsOldOrTaken first quota moment (part_shown part.now) uploads.old uploads.new) }
     ensures within { WithinLimits quota uploads.new }

@@ -1,8 +1,8 @@
 ghost use Rattle.std.specs.Prelude.{◌≡◌, ◌<◌, ◌^◌, IfOk};
 ghost use Rattle.reapi_messages.specs.Results.{Gives};
 ghost use Rattle.reapi_messages.specs.ByteStream.{query_write_status_response_shown};
-ghost use Rattle.blob_pool.specs.Held.{Slots};
-ghost use Rattle.instance_view.specs.Shown.{shown};
+ghost use Rattle.blob_pool.specs.Slots.{Slots};
+ghost use Rattle.instance_view.specs.Shown.{visible_in};
 ghost use Rattle.cas_service.specs.Answers.{Answers};
 ghost use Rattle.uploads.specs.Shown.{key_shown};
 ghost use Rattle.bytestream.specs.Querying as querying;
@@ -36,7 +36,7 @@ fn status(
 ) -> Result<QueryWriteStatusResponse, Refusal>
     requires { (key_shown key.now).digest.size < 2 ^ 63 }
     ensures { (p : Slots) → Gives query_write_status_response_shown result
-        (status_of (key_shown key.now) (shown p view.now) uploads.now) }
+        (status_of (key_shown key.now) (visible_in p view.now) uploads.now) }
 {
     let digest = key.digest();
     if view.contains(&digest) {
@@ -64,7 +64,7 @@ pub fn query(
     message: &[u8],
 ) -> Result<Vec<u8>, CallError>
     ensures { (p : Slots) → Answers (λ reply. reply.items) result
-        (query_reply own.now (shown p view.now) uploads.now message.now) }
+        (query_reply own.now (visible_in p view.now) uploads.now message.now) }
 {
     let key = query_asked(alloc, own, message)?;
     let status = status(view, uploads, &key)?;

@@ -1,9 +1,9 @@
 ghost use Rattle.std.specs.Prelude.{◌≡◌, ◌≤◌, ℕ, Some, length, IfOk, IfSome, OnErr, option_map};
 ghost use Rattle.reapi_messages.specs.Results.{Gives};
-ghost use Rattle.blob_pool.specs.Held.{Slots, count_at};
-ghost use Rattle.blob_pool.specs.Moves.{Moves, HasRoom, nobody};
-ghost use Rattle.instance_view.specs.Visible.{seen, used};
-ghost use Rattle.instance_view.specs.Shown.{shown, holders, holders_seen, text_seen};
+ghost use Rattle.blob_pool.specs.Slots.{Slots, count_at};
+ghost use Rattle.blob_pool.specs.Moves.{Moves, HasRoom, no_holders};
+ghost use Rattle.instance_view.specs.Visible.{visible_text, visible_after_use};
+ghost use Rattle.instance_view.specs.Shown.{visible_in, holders, holders_seen, text_seen};
 ghost use Rattle.cas_service.specs.Answers.{Answers, IfAnswered, IfNoMemory};
 ghost use Rattle.bytestream.specs.Reading as reading;
 ghost use Rattle.bytestream.specs.Reading.{limit_of, place_of, until_of, range_asked, read_answer, after_read};
@@ -143,7 +143,7 @@ fn range(pool: &Pool, asked: &ReadAsked, found: Option<Seen>) -> Result<Source, 
 fn hold(pool: &mut Pool, seen: Seen)
     requires held { (k : ℕ) → holders_seen seen k ≤ count_at pool.old k }
     requires room { HasRoom pool.old }
-    ensures { Moves pool.old pool.new nobody (holders_seen seen) }
+    ensures { Moves pool.old pool.new no_holders (holders_seen seen) }
 {
     if let Seen::Text(kept) = seen {
         pool.hold_again(kept);
@@ -153,8 +153,9 @@ fn hold(pool: &mut Pool, seen: Seen)
 /// What was found of a blob, which is then used.
 fn find(view: &mut View, digest: &Digest) -> Option<Seen>
     ensures text { (p : Slots) → option_map (text_seen p) result
-        ≡ seen digest.now (shown p view.old) }
-    ensures used { (p : Slots) → shown p view.new ≡ used digest.now (shown p view.old) }
+        ≡ visible_text digest.now (visible_in p view.old) }
+    ensures used { (p : Slots) → visible_in p view.new
+        ≡ visible_after_use digest.now (visible_in p view.old) }
     ensures held { (k : ℕ) → IfSome result (λ s. holders_seen s k ≤ holders view.old k) }
     ensures holders { (k : ℕ) → holders view.new k ≡ holders view.old k }
     ensures limit { view.new.limit ≡ view.old.limit }
@@ -177,14 +178,14 @@ pub fn read(
     requires held { (k : ℕ) → holders view.old k ≤ count_at pool.old k }
     requires room { HasRoom pool.old }
     ensures answer { Answers (source_shown pool.old) result
-        (read_answer own.now (shown pool.old view.old) message.now) }
+        (read_answer own.now (visible_in pool.old view.old) message.now) }
     ensures used { (p : Slots) → IfAnswered result
-        (shown p view.new ≡ after_read own.now message.now (shown p view.old)) }
+        (visible_in p view.new ≡ after_read own.now message.now (visible_in p view.old)) }
     ensures memory { IfNoMemory result (view.new ≡ view.old) }
     ensures there { (k : ℕ) → IfOk result
         (λ source. holders_seen source.text k ≤ count_at pool.old k) }
     ensures holds { IfOk result
-        (λ source. Moves pool.old pool.new nobody (holders_seen source.text)) }
+        (λ source. Moves pool.old pool.new no_holders (holders_seen source.text)) }
     ensures err { OnErr result (pool.new ≡ pool.old) }
     ensures holders { (k : ℕ) → holders view.new k ≡ holders view.old k }
     ensures limit { view.new.limit ≡ view.old.limit }

@@ -1,6 +1,6 @@
 ghost use Rattle.std.specs.Prelude.{◌≡◌, ◌≤◌, ◌<◌, ◌^◌, length, IfOk, option_map};
 ghost use Rattle.blob_pool.specs.Moves.{Moves};
-ghost use Rattle.instance_view.specs.Shown.{shown, holders};
+ghost use Rattle.instance_view.specs.Shown.{visible_in, holders};
 ghost use Rattle.quota_evict.specs.Kept.{AreKept};
 ghost use Rattle.cas_service.specs.Answers.{Answers, IfAnswered, IfNoMemory};
 ghost use Rattle.uploads.specs.Uploads.{WithinLimits};
@@ -151,14 +151,14 @@ pub fn write_first(
     requires within { WithinLimits quota uploads.old }
     ensures answer { Answers written_shown result
         (first_answer own.now quota moment
-        (state_of (shown pool.old view.old) uploads.old) message.now) }
+        (state_of (visible_in pool.old view.old) uploads.old) message.now) }
     ensures named { IfGoes result (λ call. (open_write_shown call).key.digest.size < 2 ^ 63) }
-    ensures visible { IfAnswered result (shown pool.new view.new
+    ensures visible { IfAnswered result (visible_in pool.new view.new
         ≡ (after_first own.now view.old.limit quota moment message.now
-        (state_of (shown pool.old view.old) uploads.old)).visible) }
+        (state_of (visible_in pool.old view.old) uploads.old)).visible) }
     ensures uploads { IfAnswered result (uploads.new
         ≡ (after_first own.now view.old.limit quota moment message.now
-        (state_of (shown pool.old view.old) uploads.old)).uploads) }
+        (state_of (visible_in pool.old view.old) uploads.old)).uploads) }
     ensures memory { IfNoMemory result ((view.new ≡ view.old) × (pool.new ≡ pool.old)
         × IsFirstOldOrTaken quota moment (writing.first_asked own.now message.now)
         uploads.old uploads.new) }
@@ -206,12 +206,12 @@ pub fn write_next(
     requires within { WithinLimits quota uploads.old }
     ensures answer { Answers (option_map (λ reply. reply.items)) result
         (next_answer (open_write_shown call.now) quota moment uploads.old message.now) }
-    ensures visible { IfAnswered result (shown pool.new view.new
+    ensures visible { IfAnswered result (visible_in pool.new view.new
         ≡ (after_next (open_write_shown call.now) view.old.limit quota moment message.now
-        (state_of (shown pool.old view.old) uploads.old)).visible) }
+        (state_of (visible_in pool.old view.old) uploads.old)).visible) }
     ensures uploads { IfAnswered result (uploads.new
         ≡ (after_next (open_write_shown call.now) view.old.limit quota moment message.now
-        (state_of (shown pool.old view.old) uploads.old)).uploads) }
+        (state_of (visible_in pool.old view.old) uploads.old)).uploads) }
     ensures memory { IfNoMemory result ((view.new ≡ view.old) × (pool.new ≡ pool.old)
         × IsNextOldOrTaken quota moment
         (writing.next_asked (open_write_shown call.now) message.now)

@@ -1,5 +1,5 @@
 ghost use Rattle.std.specs.Prelude.{◌≡◌, ◌≤◌, ◌^◌, ℕ, IfOk};
-ghost use Rattle.blob_pool.specs.Held.{count_at};
+ghost use Rattle.blob_pool.specs.Slots.{count_at};
 ghost use Rattle.instance_view.specs.Shown.{holders_seen};
 ghost use Rattle.quota_evict.specs.Kept.{AreKept};
 

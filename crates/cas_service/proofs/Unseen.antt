@@ -7,60 +7,60 @@ use Rattle.reapi_messages.specs.FindMissing.{find_missing_blobs_response_records
 use Rattle.std.specs.Prelude.{not, is_some, cond, Some, Ok}
 use Rattle.std.specs.Map.{lookup}
 use Rattle.digest.specs.declared.Digest.{Digest}
-use Rattle.digest.specs.Naming.{same, digest_of}
-use Rattle.blob_pool.specs.Held.{Slots}
-use Rattle.instance_view.specs.Visible.{Blob, seen}
-use Rattle.instance_view.specs.Shown.{ViewValue, shown}
+use Rattle.digest.specs.Naming.{same_digest, digest_of}
+use Rattle.blob_pool.specs.Slots.{Slots}
+use Rattle.instance_view.specs.Visible.{Blob, visible_text}
+use Rattle.instance_view.specs.Shown.{ViewValue, visible_in}
 use Rattle.instance_view.proofs.Entries.{is_some-shown}
-use Rattle.cas_service.specs.Changes.{Use, changed}
+use Rattle.cas_service.specs.Changes.{Use, visible_after_changes}
 use Rattle.cas_service.specs.declared.requests.Asked.{Asked}
 use Rattle.cas_service.specs.Requests.{digest_value}
-use Rattle.cas_service.specs.FindMissing.{is_missing, missing, missing_reply, digests_asked, find_missing_reply, find_missing_changes}
-use Rattle.cas_service.specs.Shown.{named, sent, is_unseen}
+use Rattle.cas_service.specs.FindMissing.{is_missing, missing_digests, missing_reply, digests_asked, find_missing_reply, find_missing_changes}
+use Rattle.cas_service.specs.Shown.{asked_digest, digest_as_sent, is_unseen}
 
-pub missing_sent : (visible : List Blob) (asked : List Asked) → map sent asked ≡ map digest_value (map named asked)
-    → map sent (filter (is_unseen visible) asked) ≡ map digest_value (missing visible (map named asked))
+pub missing_sent : (visible : List Blob) (asked : List Asked) → map digest_as_sent asked ≡ map digest_value (map asked_digest asked)
+    → map digest_as_sent (filter (is_unseen visible) asked) ≡ map digest_value (missing_digests visible (map asked_digest asked))
 missing_sent visible [] h = refl
 missing_sent visible (a ∷ as') h = go (is_missing visible a.digest) refl (missing_sent visible as' (tail_same h)) where
-  tail_same : sent a ∷ map sent as' ≡ digest_value a.digest ∷ map digest_value (map named as') → map sent as' ≡ map digest_value (map named as')
+  tail_same : digest_as_sent a ∷ map digest_as_sent as' ≡ digest_value a.digest ∷ map digest_value (map asked_digest as') → map digest_as_sent as' ≡ map digest_value (map asked_digest as')
   tail_same h = cc
 
-  head_same : sent a ∷ map sent as' ≡ digest_value a.digest ∷ map digest_value (map named as') → sent a ≡ digest_value a.digest
+  head_same : digest_as_sent a ∷ map digest_as_sent as' ≡ digest_value a.digest ∷ map digest_value (map asked_digest as') → digest_as_sent a ≡ digest_value a.digest
   head_same h = cc
 
-  go : (t : Bool) → is_missing visible a.digest ≡ t → map sent (filter (is_unseen visible) as') ≡ map digest_value (missing visible (map named as'))
-      → map sent (filter (is_unseen visible) (a ∷ as')) ≡ map digest_value (missing visible (map named (a ∷ as')))
+  go : (t : Bool) → is_missing visible a.digest ≡ t → map digest_as_sent (filter (is_unseen visible) as') ≡ map digest_value (missing_digests visible (map asked_digest as'))
+      → map digest_as_sent (filter (is_unseen visible) (a ∷ as')) ≡ map digest_value (missing_digests visible (map asked_digest (a ∷ as')))
   go true is ih = let first = head_same h in rw is (cc)
   go false is ih = rw is ih
 
-pub reply_is : (visible : List Blob) (asked : List Asked) (old new : List ℕ) (ds : List DigestValue) → map sent asked ≡ map digest_value (map named asked)
-    → ds ≡ map sent (filter (is_unseen visible) asked) → old ≡ [] → new ≡ old ++ text_for find_missing_blobs_response_records (record { missing_blob_digests = ds })
-    → new ≡ missing_reply (missing visible (map named asked))
+pub reply_is : (visible : List Blob) (asked : List Asked) (old new : List ℕ) (ds : List DigestValue) → map digest_as_sent asked ≡ map digest_value (map asked_digest asked)
+    → ds ≡ map digest_as_sent (filter (is_unseen visible) asked) → old ≡ [] → new ≡ old ++ text_for find_missing_blobs_response_records (record { missing_blob_digests = ds })
+    → new ≡ missing_reply (missing_digests visible (map asked_digest asked))
 reply_is visible asked old new ds written found empty encoded =
-    let is : ds ≡ map digest_value (missing visible (map named asked)) = found ∙ missing_sent visible asked written in
+    let is : ds ≡ map digest_value (missing_digests visible (map asked_digest asked)) = found ∙ missing_sent visible asked written in
     let of_digests : List DigestValue → List ℕ = λ vs. text_for find_missing_blobs_response_records (record { missing_blob_digests = vs }) in
     encoded ∙ ap (λ (front : List ℕ). front ++ of_digests ds) empty ∙ ap of_digests is
 
 -- which digests are missing is told by the entries alone, whatever their texts
-seen_anywhere : (p q : Slots) (v : ViewValue) (d : Digest) → is_some (seen d (shown p v)) ≡ is_some (seen d (shown q v))
-seen_anywhere p q v d = go (same d (digest_of [])) refl where
-  there : (p : Slots) → is_some (lookup (same d) v.entries) ≡ is_some (lookup (same d) (shown p v))
-  there p = is_some-shown p (same d) v.entries
+seen_anywhere : (p q : Slots) (v : ViewValue) (d : Digest) → is_some (visible_text d (visible_in p v)) ≡ is_some (visible_text d (visible_in q v))
+seen_anywhere p q v d = go (same_digest d (digest_of [])) refl where
+  there : (p : Slots) → is_some (lookup (same_digest d) v.entries) ≡ is_some (lookup (same_digest d) (visible_in p v))
+  there p = is_some-shown p (same_digest d) v.entries
 
-  go : (t : Bool) → same d (digest_of []) ≡ t → is_some (cond t (Some []) (lookup (same d) (shown p v))) ≡ is_some (cond t (Some []) (lookup (same d) (shown q v)))
+  go : (t : Bool) → same_digest d (digest_of []) ≡ t → is_some (cond t (Some []) (lookup (same_digest d) (visible_in p v))) ≡ is_some (cond t (Some []) (lookup (same_digest d) (visible_in q v)))
   go true is = refl
   go false is = sym (there p) ∙ there q
 
-missing_anywhere : (p q : Slots) (v : ViewValue) (ds : List Digest) → missing (shown p v) ds ≡ missing (shown q v) ds
+missing_anywhere : (p q : Slots) (v : ViewValue) (ds : List Digest) → missing_digests (visible_in p v) ds ≡ missing_digests (visible_in q v) ds
 missing_anywhere p q v [] = refl
 missing_anywhere p q v (d ∷ ds) =
-    let one : is_missing (shown p v) d ≡ is_missing (shown q v) d = ap (λ (b : Bool). not b) (seen_anywhere p q v d) in
+    let one : is_missing (visible_in p v) d ≡ is_missing (visible_in q v) d = ap (λ (b : Bool). not b) (seen_anywhere p q v d) in
     let rest = missing_anywhere p q v ds in
     rw (one, rest) refl
 
-pub reply_anywhere : (p q : Slots) (v : ViewValue) (own message : List ℕ) (ds : List Digest) (reply : List ℕ) → digests_asked own message ≡ Ok ds → reply ≡ missing_reply (missing (shown q v) ds) → find_missing_reply own (shown p v) message ≡ Ok reply
+pub reply_anywhere : (p q : Slots) (v : ViewValue) (own message : List ℕ) (ds : List Digest) (reply : List ℕ) → digests_asked own message ≡ Ok ds → reply ≡ missing_reply (missing_digests (visible_in q v) ds) → find_missing_reply own (visible_in p v) message ≡ Ok reply
 reply_anywhere p q v own message ds reply asked is =
     rw asked (ap (λ (t : List ℕ). Ok t) (ap missing_reply (missing_anywhere p q v ds) ∙ sym is))
 
-pub uses_asked : (limit quota : ℕ) (own message : List ℕ) (ds : List Digest) (old : List Blob) → digests_asked own message ≡ Ok ds → changed limit quota (map Use ds) old ≡ changed limit quota (find_missing_changes own message) old
+pub uses_asked : (limit quota : ℕ) (own message : List ℕ) (ds : List Digest) (old : List Blob) → digests_asked own message ≡ Ok ds → visible_after_changes limit quota (map Use ds) old ≡ visible_after_changes limit quota (find_missing_changes own message) old
 uses_asked limit quota own message ds old asked = rw asked refl

@@ -1,15 +1,15 @@
 ghost use Rattle.std.specs.Prelude.{◌≡◌, ℕ, List, [], map, is_some, OnOk, OnErr, IfOk};
 ghost use Rattle.std.specs.List.{filter};
 ghost use Rattle.reapi_messages.specs.Digests.{digest_shown};
-ghost use Rattle.blob_pool.specs.Held.{Slots};
-ghost use Rattle.instance_view.specs.Visible.{seen};
-ghost use Rattle.instance_view.specs.Shown.{shown, holders};
+ghost use Rattle.blob_pool.specs.Slots.{Slots};
+ghost use Rattle.instance_view.specs.Visible.{visible_text};
+ghost use Rattle.instance_view.specs.Shown.{visible_in, holders};
 ghost use Rattle.quota_evict.specs.Kept.{AreKept};
 ghost use Rattle.cas_service.specs.Answers.{Answers};
-ghost use Rattle.cas_service.specs.Changes.{changed};
+ghost use Rattle.cas_service.specs.Changes.{visible_after_changes};
 ghost use Rattle.cas_service.specs.Requests.{digest_value};
-ghost use Rattle.cas_service.specs.FindMissing.{digests_asked, missing, missing_reply, find_missing_reply, find_missing_changes};
-ghost use Rattle.cas_service.specs.Shown.{named, sent, is_unseen};
+ghost use Rattle.cas_service.specs.FindMissing.{digests_asked, missing_digests, missing_reply, find_missing_reply, find_missing_changes};
+ghost use Rattle.cas_service.specs.Shown.{asked_digest, digest_as_sent, is_unseen};
 
 use crate::error::CallError;
 use crate::requests::{Asked, check_function, check_instance, read_digests, use_all};
@@ -26,10 +26,10 @@ fn read_request<'a>(
     own: &str,
     message: &'a [u8],
 ) -> Result<Vec<Asked<'a>>, CallError>
-    ensures named { Answers (λ asked. map named asked.items) result
+    ensures named { Answers (λ asked. map asked_digest asked.items) result
         (digests_asked own.now message.now) }
-    ensures written { IfOk result (λ asked. map sent asked.items
-        ≡ map digest_value (map named asked.items)) }
+    ensures written { IfOk result (λ asked. map digest_as_sent asked.items
+        ≡ map digest_value (map asked_digest asked.items)) }
 {
     let request = FindMissingBlobsRequest::decode(alloc, message)?;
     check_instance(own, request.instance_name)?;
@@ -39,7 +39,7 @@ fn read_request<'a>(
 
 /// Whether there is a text of the digest.
 fn is_there(view: &View, digest: &Digest) -> bool
-    ensures { result ≡ is_some (seen digest.now (shown [] view.now)) }
+    ensures { result ≡ is_some (visible_text digest.now (visible_in [] view.now)) }
 {
     view.contains(digest)
 }
@@ -52,7 +52,7 @@ fn missing<'a>(
     asked: &[Asked<'a>],
 ) -> Result<Vec<messages::Digest<'a>>, AllocError>
     ensures { IfOk result (λ missing. map digest_shown missing.items
-        ≡ map sent (filter (is_unseen (shown [] view.now)) asked.now)) }
+        ≡ map digest_as_sent (filter (is_unseen (visible_in [] view.now)) asked.now)) }
 {
     let mut missing = Vec::new(alloc);
     let mut left = asked;
@@ -67,9 +67,10 @@ fn missing<'a>(
 
 /// The message that lists what is missing.
 fn reply_to(alloc: Global, view: &View, asked: &[Asked<'_>]) -> Result<Vec<u8>, AllocError>
-    requires written { map sent asked.now ≡ map digest_value (map named asked.now) }
+    requires written { map digest_as_sent asked.now
+        ≡ map digest_value (map asked_digest asked.now) }
     ensures { IfOk result (λ reply. reply.items
-        ≡ missing_reply (missing (shown [] view.now) (map named asked.now))) }
+        ≡ missing_reply (missing_digests (visible_in [] view.now) (map asked_digest asked.now))) }
 {
     let missing_blob_digests = missing(alloc, view, asked)?;
     let response = FindMissingBlobsResponse {
@@ -90,11 +91,11 @@ pub fn find_missing(
     message: &[u8],
 ) -> Result<Vec<u8>, CallError>
     ensures reply { (p : Slots) → Answers (λ reply. reply.items) result
-        (find_missing_reply own.now (shown p view.old) message.now) }
+        (find_missing_reply own.now (visible_in p view.old) message.now) }
     ensures used { (p : Slots) (quota : ℕ) →
-        OnOk result (shown p view.new
-        ≡ changed view.old.limit quota (find_missing_changes own.now message.now)
-        (shown p view.old)) }
+        OnOk result (visible_in p view.new
+        ≡ visible_after_changes view.old.limit quota (find_missing_changes own.now message.now)
+        (visible_in p view.old)) }
     ensures err { OnErr result (view.new ≡ view.old) }
     ensures holders { (k : ℕ) → holders view.new k ≡ holders view.old k }
     ensures kept { (p : Slots) (quota : ℕ) → AreKept quota p view.old → AreKept quota p view.new }

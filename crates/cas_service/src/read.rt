@@ -1,14 +1,14 @@
 ghost use Rattle.std.specs.Prelude.{◌≡◌, ◌≤◌, ℕ, List, map, OnOk, OnErr, IfOk};
 ghost use Rattle.reapi_messages.specs.Batches.{read_blob_response_shown};
-ghost use Rattle.instance_view.specs.Visible.{seen};
-ghost use Rattle.blob_pool.specs.Held.{Slots, count_at};
-ghost use Rattle.instance_view.specs.Shown.{shown, holders};
+ghost use Rattle.instance_view.specs.Visible.{visible_text};
+ghost use Rattle.blob_pool.specs.Slots.{Slots, count_at};
+ghost use Rattle.instance_view.specs.Shown.{visible_in, holders};
 ghost use Rattle.quota_evict.specs.Kept.{AreKept};
 ghost use Rattle.cas_service.specs.Answers.{Answers};
-ghost use Rattle.cas_service.specs.Changes.{changed};
-ghost use Rattle.cas_service.specs.Requests.{digest_value, of_batch_size};
+ghost use Rattle.cas_service.specs.Changes.{visible_after_changes};
+ghost use Rattle.cas_service.specs.Requests.{digest_value, batch_size_check};
 ghost use Rattle.cas_service.specs.BatchRead.{digests_to_read, stated_size, read_response, read_reply, batch_read_reply, batch_read_changes};
-ghost use Rattle.cas_service.specs.Shown.{named, sent, asked_of, text_found, response_of, AreFound};
+ghost use Rattle.cas_service.specs.Shown.{asked_digest, digest_as_sent, asked_of, text_found, response_of, AreFound};
 
 use crate::error::CallError;
 use crate::requests::{
@@ -23,7 +23,7 @@ use std::alloc::{AllocError, Global};
 
 /// The sizes that the digests state have to be at most 4,000,000 together.
 fn check_stated_size(asked: &[Asked<'_>]) -> Result<(), Refusal>
-    ensures { result ≡ of_batch_size (stated_size (map named asked.now)) }
+    ensures { result ≡ batch_size_check (stated_size (map asked_digest asked.now)) }
 {
     let mut room = MOST_BATCH_BYTES;
     let mut left = asked;
@@ -44,10 +44,10 @@ fn read_request<'a>(
     own: &str,
     message: &'a [u8],
 ) -> Result<Vec<Asked<'a>>, CallError>
-    ensures named { Answers (λ asked. map named asked.items) result
+    ensures named { Answers (λ asked. map asked_digest asked.items) result
         (digests_to_read own.now message.now) }
-    ensures written { IfOk result (λ asked. map sent asked.items
-        ≡ map digest_value (map named asked.items)) }
+    ensures written { IfOk result (λ asked. map digest_as_sent asked.items
+        ≡ map digest_value (map asked_digest asked.items)) }
 {
     let request = BatchReadBlobsRequest::decode(alloc, message)?;
     check_instance(own, request.instance_name)?;
@@ -74,7 +74,7 @@ fn find<'a>(
     requires { (k : ℕ) → holders view.now k ≤ count_at pool.now k }
     ensures asked { IfOk result (λ found. found.asked ≡ asked.now) }
     ensures text { IfOk result (λ found. text_found found
-        ≡ seen asked.now.digest (shown pool.now view.now)) }
+        ≡ visible_text asked.now.digest (visible_in pool.now view.now)) }
 {
     let text = match view.get(&asked.digest) {
         Some(seen) => Some(copy_of(alloc, pool, seen)?),
@@ -94,7 +94,7 @@ fn find_all<'a>(
     asked: &[Asked<'a>],
 ) -> Result<Vec<Found<'a>>, AllocError>
     requires { (k : ℕ) → holders view.now k ≤ count_at pool.now k }
-    ensures { IfOk result (λ found. AreFound (shown pool.now view.now) asked.now found.items) }
+    ensures { IfOk result (λ found. AreFound (visible_in pool.now view.now) asked.now found.items) }
 {
     let mut found = Vec::new(alloc);
     let mut left = asked;
@@ -108,7 +108,7 @@ fn find_all<'a>(
 
 /// The text of a digest, or that there is none.
 fn response_to<'a>(alloc: Global, found: &'a Found<'a>) -> ReadBlobResponse<'a>
-    requires written { sent found.now.asked ≡ digest_value found.now.asked.digest }
+    requires written { digest_as_sent found.now.asked ≡ digest_value found.now.asked.digest }
     ensures { read_blob_response_shown result
         ≡ read_response found.now.asked.digest (text_found found.now) }
 {
@@ -131,8 +131,8 @@ fn responses_to<'a>(
     alloc: Global,
     found: &'a [Found<'a>],
 ) -> Result<Vec<ReadBlobResponse<'a>>, AllocError>
-    requires written { map sent (map asked_of found.now)
-        ≡ map digest_value (map named (map asked_of found.now)) }
+    requires written { map digest_as_sent (map asked_of found.now)
+        ≡ map digest_value (map asked_digest (map asked_of found.now)) }
     ensures { IfOk result (λ responses. map read_blob_response_shown responses.items
         ≡ map response_of found.now) }
 {
@@ -153,9 +153,10 @@ fn reply_to(
     asked: &[Asked<'_>],
 ) -> Result<Vec<u8>, AllocError>
     requires held { (k : ℕ) → holders view.now k ≤ count_at pool.now k }
-    requires written { map sent asked.now ≡ map digest_value (map named asked.now) }
+    requires written { map digest_as_sent asked.now
+        ≡ map digest_value (map asked_digest asked.now) }
     ensures { IfOk result (λ reply. reply.items
-        ≡ read_reply (shown pool.now view.now) (map named asked.now)) }
+        ≡ read_reply (visible_in pool.now view.now) (map asked_digest asked.now)) }
 {
     let found = find_all(alloc, view, pool, asked)?;
     let responses = responses_to(alloc, &found)?;
@@ -177,11 +178,11 @@ pub fn batch_read(
 ) -> Result<Vec<u8>, CallError>
     requires held { (k : ℕ) → holders view.old k ≤ count_at pool.now k }
     ensures reply { Answers (λ reply. reply.items) result
-        (batch_read_reply own.now (shown pool.now view.old) message.now) }
+        (batch_read_reply own.now (visible_in pool.now view.old) message.now) }
     ensures used { (p : Slots) (quota : ℕ) →
-        OnOk result (shown p view.new
-        ≡ changed view.old.limit quota (batch_read_changes own.now message.now)
-        (shown p view.old)) }
+        OnOk result (visible_in p view.new
+        ≡ visible_after_changes view.old.limit quota (batch_read_changes own.now message.now)
+        (visible_in p view.old)) }
     ensures err { OnErr result (view.new ≡ view.old) }
     ensures holders { (k : ℕ) → holders view.new k ≡ holders view.old k }
     ensures kept { (p : Slots) (quota : ℕ) → AreKept quota p view.old → AreKept quota p view.new }

@@ -2,13 +2,13 @@
 
 ghost use Rattle.std.specs.Prelude.{◌≡◌, ℕ, List, map, OnOk, OnErr, IfOk};
 ghost use Rattle.reapi_messages.specs.Digests.{DigestValue, digest_shown};
-ghost use Rattle.blob_pool.specs.Held.{Slots};
-ghost use Rattle.instance_view.specs.Shown.{shown, holders};
+ghost use Rattle.blob_pool.specs.Slots.{Slots};
+ghost use Rattle.instance_view.specs.Shown.{visible_in, holders};
 ghost use Rattle.quota_evict.specs.Kept.{AreKept};
 ghost use Rattle.cas_service.specs.Answers.{Answers};
-ghost use Rattle.cas_service.specs.Changes.{Use, changed};
-ghost use Rattle.cas_service.specs.Requests.{own_instance, known_function, digest_sent, digests_sent, digest_value};
-ghost use Rattle.cas_service.specs.Shown.{named, sent};
+ghost use Rattle.cas_service.specs.Changes.{Use, visible_after_changes};
+ghost use Rattle.cas_service.specs.Requests.{instance_check, function_check, digest_sent, digests_sent, digest_value};
+ghost use Rattle.cas_service.specs.Shown.{asked_digest, digest_as_sent};
 
 use crate::error::CallError;
 use digest::Digest;
@@ -29,7 +29,7 @@ pub struct Asked<'a> {
 
 /// An instance name has to be empty or the own one.
 pub fn check_instance(own: &str, name: &str) -> Result<(), Refusal>
-    ensures { result ≡ own_instance own.now name.now }
+    ensures { result ≡ instance_check own.now name.now }
 {
     if name.is_empty() || name == own {
         Ok(())
@@ -40,7 +40,7 @@ pub fn check_instance(own: &str, name: &str) -> Result<(), Refusal>
 
 /// The digest function has to be unset or SHA-256.
 pub fn check_function(digest_function: i32) -> Result<(), Refusal>
-    ensures { result ≡ known_function digest_function }
+    ensures { result ≡ function_check digest_function }
 {
     if digest_function == 0 || digest_function == 1 {
         Ok(())
@@ -65,10 +65,10 @@ pub fn read_digests<'a>(
     alloc: Global,
     digests: &[messages::Digest<'a>],
 ) -> Result<Vec<Asked<'a>>, CallError>
-    ensures named { Answers (λ asked. map named asked.items) result
+    ensures named { Answers (λ asked. map asked_digest asked.items) result
         (digests_sent (map digest_shown digests.now)) }
-    ensures written { IfOk result (λ asked. map sent asked.items
-        ≡ map digest_value (map named asked.items)) }
+    ensures written { IfOk result (λ asked. map digest_as_sent asked.items
+        ≡ map digest_value (map asked_digest asked.items)) }
 {
     let mut asked = Vec::new(alloc);
     let mut left = digests;
@@ -86,8 +86,9 @@ pub fn read_digests<'a>(
 /// Uses each digest, in order.
 pub fn use_all(view: &mut View, asked: &[Asked<'_>])
     ensures used { (p : Slots) (quota : ℕ) →
-        shown p view.new ≡ changed view.old.limit quota (map Use (map named asked.now))
-        (shown p view.old) }
+        visible_in p view.new
+        ≡ visible_after_changes view.old.limit quota (map Use (map asked_digest asked.now))
+        (visible_in p view.old) }
     ensures holders { (k : ℕ) → holders view.new k ≡ holders view.old k }
     ensures kept { (p : Slots) (quota : ℕ) → AreKept quota p view.old → AreKept quota p view.new }
     ensures limit { view.new.limit ≡ view.old.limit }

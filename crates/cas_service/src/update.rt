@@ -4,17 +4,17 @@ ghost use Rattle.reapi_messages.specs.Batches.{update_blob_request_shown, update
 ghost use Rattle.reapi_messages.specs.Statuses.{status_shown};
 ghost use Rattle.rpc.specs.declared.refusal.Refusal.{Refusal};
 ghost use Rattle.digest.specs.Naming.{Names};
-ghost use Rattle.quota_evict.specs.Admission.{admitted};
+ghost use Rattle.quota_evict.specs.Admission.{visible_after_admission};
 ghost use Rattle.blob_pool.specs.Moves.{Moves};
-ghost use Rattle.instance_view.specs.Shown.{shown, holders};
+ghost use Rattle.instance_view.specs.Shown.{visible_in, holders};
 ghost use Rattle.quota_evict.specs.Kept.{AreKept};
 ghost use Rattle.cas_service.specs.declared.error.CallError.TheVariants.{Refused};
 ghost use Rattle.cas_service.specs.Answers.{Answers};
-ghost use Rattle.cas_service.specs.Changes.{MadeInPart, changed};
-ghost use Rattle.cas_service.specs.Requests.{of_batch_size};
+ghost use Rattle.cas_service.specs.Changes.{MadeInPart, visible_after_changes};
+ghost use Rattle.cas_service.specs.Requests.{batch_size_check};
 ghost use Rattle.cas_service.specs.Statuses.{status_of_result};
-ghost use Rattle.cas_service.specs.BatchUpdate.{blobs_sent, sent_size, known_compressor, set_digest, naming, within_quota, stored_under, update_response, update_reply, batch_update_reply, store_of, stores, batch_update_changes};
-ghost use Rattle.cas_service.specs.Shown.{blob, verdict};
+ghost use Rattle.cas_service.specs.BatchUpdate.{blobs_sent, sent_size, compressor_check, digest_or_refusal, naming_check, quota_check, storage_digest, update_response, update_reply, batch_update_reply, store_of, stores, batch_update_changes};
+ghost use Rattle.cas_service.specs.Shown.{judged_request, verdict};
 
 use crate::error::CallError;
 use crate::requests::{MOST_BATCH_BYTES, check_function, check_instance, read_digest};
@@ -40,7 +40,7 @@ pub struct Judged<'a> {
 
 /// The blobs of a request have to have at most 4,000,000 bytes together.
 fn check_sent_size(requests: &[UpdateBlobRequest<'_>]) -> Result<(), Refusal>
-    ensures { result ≡ of_batch_size (sent_size (map update_blob_request_shown requests.now)) }
+    ensures { result ≡ batch_size_check (sent_size (map update_blob_request_shown requests.now)) }
 {
     let mut room = MOST_BATCH_BYTES;
     let mut left = requests;
@@ -74,7 +74,7 @@ fn read_request<'a>(
 
 /// The compressor has to be the identity.
 fn check_compressor(compressor: i32) -> Result<(), Refusal>
-    ensures { result ≡ known_compressor compressor }
+    ensures { result ≡ compressor_check compressor }
 {
     if compressor == 0 {
         Ok(())
@@ -85,7 +85,7 @@ fn check_compressor(compressor: i32) -> Result<(), Refusal>
 
 /// The digest of a blob that is sent.
 fn read_set_digest(sent: &Option<messages::Digest<'_>>) -> Result<Digest, Refusal>
-    ensures { result ≡ set_digest (option_map digest_shown sent.now) }
+    ensures { result ≡ digest_or_refusal (option_map digest_shown sent.now) }
 {
     match sent {
         Some(digest) => read_digest(digest),
@@ -95,7 +95,7 @@ fn read_set_digest(sent: &Option<messages::Digest<'_>>) -> Result<Digest, Refusa
 
 /// The digest has to name the bytes.
 fn check_naming(digest: &Digest, bytes: &[u8]) -> Result<(), Refusal>
-    ensures { result ≡ naming digest.now bytes.now }
+    ensures { result ≡ naming_check digest.now bytes.now }
 {
     if digest::matches(digest, bytes) {
         Ok(())
@@ -106,7 +106,7 @@ fn check_naming(digest: &Digest, bytes: &[u8]) -> Result<(), Refusal>
 
 /// A blob has to be no longer than the quota.
 fn check_quota(quota: u64, bytes: &[u8]) -> Result<(), Refusal>
-    ensures { result ≡ within_quota quota bytes.now }
+    ensures { result ≡ quota_check quota bytes.now }
 {
     if bytes.len() as u64 > quota {
         Err(Refusal::QuotaExceeded)
@@ -116,9 +116,9 @@ fn check_quota(quota: u64, bytes: &[u8]) -> Result<(), Refusal>
 }
 
 /// The digest under which a blob is stored, or why it is not.
-#[tactic(auto, unfolding(crate::specs::BatchUpdate::stored_under))]
+#[tactic(auto, unfolding(crate::specs::BatchUpdate::storage_digest))]
 fn judge(quota: u64, sent: &UpdateBlobRequest<'_>) -> Result<Digest, Refusal>
-    ensures { result ≡ stored_under quota (update_blob_request_shown sent.now) }
+    ensures { result ≡ storage_digest quota (update_blob_request_shown sent.now) }
 {
     check_compressor(sent.compressor)?;
     let digest = read_set_digest(&sent.digest)?;
@@ -133,10 +133,11 @@ fn judge_all<'a>(
     quota: u64,
     requests: &[UpdateBlobRequest<'a>],
 ) -> Result<Vec<Judged<'a>>, AllocError>
-    ensures blobs { IfOk result (λ judged. map blob judged.items
+    ensures blobs { IfOk result (λ judged. map judged_request judged.items
         ≡ map update_blob_request_shown requests.now) }
     ensures verdicts { IfOk result
-        (λ judged. map verdict judged.items ≡ map (stored_under quota) (map blob judged.items)) }
+        (λ judged. map verdict judged.items
+        ≡ map (storage_digest quota) (map judged_request judged.items)) }
 {
     let mut judged = Vec::new(alloc);
     let mut left = requests;
@@ -167,9 +168,10 @@ fn responses_to<'a>(
     quota: u64,
     judged: &[Judged<'a>],
 ) -> Result<Vec<UpdateBlobResponse<'a>>, AllocError>
-    requires verdicts { map verdict judged.now ≡ map (stored_under quota) (map blob judged.now) }
+    requires verdicts { map verdict judged.now
+        ≡ map (storage_digest quota) (map judged_request judged.now) }
     ensures { IfOk result (λ responses. map update_blob_response_shown responses.items
-        ≡ map (update_response quota) (map blob judged.now)) }
+        ≡ map (update_response quota) (map judged_request judged.now)) }
 {
     let mut responses = Vec::new(alloc);
     let mut left = judged;
@@ -185,8 +187,10 @@ fn responses_to<'a>(
 
 /// The message that says what becomes of each blob.
 fn reply_to(alloc: Global, quota: u64, judged: &[Judged<'_>]) -> Result<Vec<u8>, AllocError>
-    requires verdicts { map verdict judged.now ≡ map (stored_under quota) (map blob judged.now) }
-    ensures { IfOk result (λ reply. reply.items ≡ update_reply quota (map blob judged.now)) }
+    requires verdicts { map verdict judged.now
+        ≡ map (storage_digest quota) (map judged_request judged.now) }
+    ensures { IfOk result (λ reply. reply.items
+        ≡ update_reply quota (map judged_request judged.now)) }
 {
     let responses = responses_to(alloc, quota, judged)?;
     let response = BatchUpdateBlobsResponse { responses };
@@ -207,8 +211,9 @@ fn store(
     requires kept { AreKept quota pool.old view.old }
     requires named { Names digest.now bytes.now }
     requires fits { length bytes.now ≤ quota }
-    ensures ok { OnOk result (shown pool.new view.new
-        ≡ admitted view.old.limit quota digest.now bytes.now (shown pool.old view.old)) }
+    ensures ok { OnOk result (visible_in pool.new view.new
+        ≡ visible_after_admission view.old.limit quota digest.now bytes.now
+        (visible_in pool.old view.old)) }
     ensures err { OnErr result ((view.new ≡ view.old) × (pool.new ≡ pool.old)) }
     ensures moves { Moves pool.old pool.new (holders view.old) (holders view.new) }
     ensures kept { AreKept quota pool.new view.new }
@@ -230,10 +235,11 @@ fn store_judged(
 ) -> Result<(), AllocError>
     requires quota { quota ≤ 2 ^ 40 }
     requires kept { AreKept quota pool.old view.old }
-    requires verdict { judged.now.verdict ≡ stored_under quota (blob judged.now) }
-    ensures ok { OnOk result (shown pool.new view.new
-        ≡ changed view.old.limit quota (store_of judged.now.sent.content.now judged.now.verdict)
-        (shown pool.old view.old)) }
+    requires verdict { judged.now.verdict ≡ storage_digest quota (judged_request judged.now) }
+    ensures ok { OnOk result (visible_in pool.new view.new
+        ≡ visible_after_changes view.old.limit quota
+        (store_of judged.now.sent.content.now judged.now.verdict)
+        (visible_in pool.old view.old)) }
     ensures err { OnErr result ((view.new ≡ view.old) × (pool.new ≡ pool.old)) }
     ensures moves { Moves pool.old pool.new (holders view.old) (holders view.new) }
     ensures kept { AreKept quota pool.new view.new }
@@ -254,12 +260,14 @@ fn store_all(
 ) -> Result<(), AllocError>
     requires quota { quota ≤ 2 ^ 40 }
     requires kept { AreKept quota pool.old view.old }
-    requires verdicts { map verdict judged.now ≡ map (stored_under quota) (map blob judged.now) }
-    ensures stored { OnOk result (shown pool.new view.new
-        ≡ changed view.old.limit quota (stores quota (map blob judged.now))
-        (shown pool.old view.old)) }
+    requires verdicts { map verdict judged.now
+        ≡ map (storage_digest quota) (map judged_request judged.now) }
+    ensures stored { OnOk result (visible_in pool.new view.new
+        ≡ visible_after_changes view.old.limit quota (stores quota (map judged_request judged.now))
+        (visible_in pool.old view.old)) }
     ensures memory { OnErr result (MadeInPart view.old.limit quota
-        (stores quota (map blob judged.now)) (shown pool.old view.old) (shown pool.new view.new)) }
+        (stores quota (map judged_request judged.now)) (visible_in pool.old view.old)
+        (visible_in pool.new view.new)) }
     ensures moves { Moves pool.old pool.new (holders view.old) (holders view.new) }
     ensures kept { AreKept quota pool.new view.new }
     ensures limit { view.new.limit ≡ view.old.limit }
@@ -287,14 +295,15 @@ pub fn batch_update(
     requires kept { AreKept quota pool.old view.old }
     ensures reply { Answers (λ reply. reply.items) result
         (batch_update_reply own.now quota message.now) }
-    ensures stored { OnOk result (shown pool.new view.new
-        ≡ changed view.old.limit quota (batch_update_changes own.now quota message.now)
-        (shown pool.old view.old)) }
+    ensures stored { OnOk result (visible_in pool.new view.new
+        ≡ visible_after_changes view.old.limit quota
+        (batch_update_changes own.now quota message.now)
+        (visible_in pool.old view.old)) }
     ensures refused { (refusal : Refusal) → IsErrOf result (Refused refusal) → (view.new ≡ view.old)
         × (pool.new ≡ pool.old) }
     ensures memory { OnErr result (MadeInPart view.old.limit quota
-        (batch_update_changes own.now quota message.now) (shown pool.old view.old)
-        (shown pool.new view.new)) }
+        (batch_update_changes own.now quota message.now) (visible_in pool.old view.old)
+        (visible_in pool.new view.new)) }
     ensures moves { Moves pool.old pool.new (holders view.old) (holders view.new) }
     ensures kept { AreKept quota pool.new view.new }
     ensures limit { view.new.limit ≡ view.old.limit }

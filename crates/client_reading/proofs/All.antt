@@ -2,10 +2,10 @@
 use Rattle.std.proofs.Common.{sym, subst, ℕ, List, [], ◌∷◌}
 use Rattle.std.specs.Prelude.{◌==◌, map, Some}
 use Rattle.std.specs.List.{AllByRecursion}
-use Rattle.http2_streams.specs.Diary.{sent}
+use Rattle.http2_streams.specs.History.{sent_frames}
 use Rattle.hpack.specs.Table.{new_table}
 use Rattle.grpc_sending.specs.Pieces.{Piece}
-use Rattle.grpc_sending.specs.Owed.{Owed, Item, item_on, owed_on}
+use Rattle.grpc_sending.specs.Owed.{OwedItem, Item, item_on, items_owed_on}
 use Rattle.conn_core.specs.Past.{Past}
 use Rattle.client_reading.specs.Changes.{Change, past_of, IsChange}
 use Rattle.client_reading.specs.Responses.{stream_parts, IsItemWithin, IsTakable, IsBeginning}
@@ -18,19 +18,19 @@ use Rattle.client_reading.proofs.Follows.{Follows, streams_past}
 use Rattle.client_reading.proofs.Singles.{piece_of, all_singles, all_pieces, all_parts, all_within}
 use Rattle.client_reading.proofs.Responses.{stream_read}
 
-on_stream : (limit s : ℕ) (os : List Owed) → IsTakable limit os → AllByRecursion (IsItemWithin limit) (owed_on s os)
+on_stream : (limit s : ℕ) (os : List OwedItem) → IsTakable limit os → AllByRecursion (IsItemWithin limit) (items_owed_on s os)
 on_stream limit s [] h = tt
-on_stream limit s (o ∷ os) h = all_append (IsItemWithin limit) (item_on s o) (owed_on s os) (choose (AllByRecursion (IsItemWithin limit)) (o.stream == s) (o.item ∷ []) [] (λ _. (h.0, tt)) (λ _. tt)) (on_stream limit s os h.1)
+on_stream limit s (o ∷ os) h = all_append (IsItemWithin limit) (item_on s o) (items_owed_on s os) (choose (AllByRecursion (IsItemWithin limit)) (o.stream == s) (o.item ∷ []) [] (λ _. (h.0, tt)) (λ _. tt)) (on_stream limit s os h.1)
 
 -- ---- all of it
 
 responses_past : (cs : List Change) → AllByRecursion IsChange cs → ReadsResponses (past_of cs)
 responses_past cs all limit small takable s =
     let p : Past = past_of cs in
-    let items : List Item = owed_on s p.owed in
+    let items : List Item = items_owed_on s p.owed in
     let within = all_within limit items (on_stream limit s p.owed takable) in
-    let follows : Follows s (Some new_table) (map piece_of (all_singles items)) (sent p.diary) = subst (λ (ps : List Piece). Follows s (Some new_table) ps (sent p.diary)) (all_pieces items) ((streams_past cs all).follows s) in
-    subst (IsBeginning limit (stream_parts p.diary s)) (sym (all_parts items)) (stream_read limit s (sent p.diary) (all_singles items) small within follows)
+    let follows : Follows s (Some new_table) (map piece_of (all_singles items)) (sent_frames p.history) = subst (λ (ps : List Piece). Follows s (Some new_table) ps (sent_frames p.history)) (all_pieces items) ((streams_past cs all).follows s) in
+    subst (IsBeginning limit (stream_parts p.history s)) (sym (all_parts items)) (stream_read limit s (sent_frames p.history) (all_singles items) small within follows)
 
 pub reads_past : (cs : List Change) → AllByRecursion IsChange cs → Reads (past_of cs)
 reads_past cs all = record { frames = frames_read cs all; turns = turns_past cs; control = control_past cs all; responses = responses_past cs all }

@@ -17,16 +17,16 @@ use Rattle.http2_frames.specs.declared.settings.Setting.{Setting}
 use Rattle.http2_frames.specs.Codes.{code_number}
 use Rattle.http2_frames.specs.Frames.{frame_of}
 use Rattle.http2_frames.specs.Writing.{IsStream, IsWritable}
-use Rattle.http2_headers.specs.HeaderBlock.{HeaderBlock, begun, continued, is_excessive}
+use Rattle.http2_headers.specs.HeaderBlock.{HeaderBlock, new_block, with_continuation, is_excessive}
 use Rattle.http2_headers.specs.declared.header_blocks.HeaderList.{HeaderList}
-use Rattle.http2_headers.specs.Decoding.{given, given_next, list_of}
+use Rattle.http2_headers.specs.Decoding.{list_of_block, list_of_continuation, list_of}
 use Rattle.http2_headers.specs.Request.{is_well_formed_request}
 use Rattle.http2_streams.specs.declared.event.Event.{Event}
 use Rattle.http2_streams.specs.declared.event.Event.TheVariants.{Nothing}
 use Rattle.http2_streams.specs.declared.event.StreamEvent.{StreamEvent}
-use Rattle.http2_streams.specs.Diary.{Entry}
+use Rattle.http2_streams.specs.History.{Entry}
 use Rattle.http2_streams.specs.Standing.{Standing, standing}
-use Rattle.http2_streams.specs.Rules.{is_idle, is_live_at, is_receiving, is_remembered, update, brings, nothing, stream_error, on_data, on_given, on_request, on_trailers, on_settings, settings_fault, on_ping, on_connection_update, on_stream_update, overflows, fits, on_content, on_frame_of, in_turn, answer_to, causes, control_frames}
+use Rattle.http2_streams.specs.Rules.{is_idle, is_live_at, is_receiving, is_remembered, window_update, event_only, no_effect, stream_error, on_data, on_header_list, on_request, on_trailers, on_settings, settings_fault, on_ping, on_connection_update, on_stream_update, overflows, may_grow, on_content, on_frame_of, is_in_turn, answer_to, answer_after, control_frames}
 use Rattle.http2_streams.specs.ControlAnswers.{IsAnswer}
 use Rattle.http2_streams.proofs.ControlLaw.{EachAnswer, IfFrame, answer_elim, answers_are_control, each_answer}
 use Rattle.client_reading.specs.Changes.{IsReceivable}
@@ -59,10 +59,10 @@ IsFit _ = Unit {0}
 abbrev AreFit : StreamEvent → Type 0
 AreFit a = EachAnswer IsFit a
 
-update_fit : (s n : ℕ) → s < 2 ^ 31 → n ≤ 16384 → IfFrame IsFit (update s n)
+update_fit : (s n : ℕ) → s < 2 ^ 31 → n ≤ 16384 → IfFrame IsFit (window_update s n)
 update_fit s n low small = choose (IfFrame IsFit) (n == 0) None (Some (WindowUpdate s n)) (λ _. tt) (λ _. (low, omega arith))
 
-event_fit : (e : Event) → AreFit (brings e)
+event_fit : (e : Event) → AreFit (event_only e)
 event_fit e = record { acknowledgement = tt; connection_update = tt; stream_update = tt; reset = tt }
 
 error_fit : (v : Standing) (s : ℕ) (code : ErrorCode) → IsStream s → AreFit (stream_error v s code)
@@ -74,7 +74,7 @@ Fit r = OkThen AreFit r
 data_fit : (v : Standing) (n s : ℕ) (e : Bool) (bytes : List ℕ) → n ≤ 16384 → IsStream s → Fit (on_data v n s e bytes)
 data_fit v n s e bytes small is =
     choose Fit (is_idle v s) _ _ (λ _. tt)
-    (λ _. choose Fit (is_receiving v s) _ _ (λ _. record { acknowledgement = tt; connection_update = update_fit 0 n (omega arith) small; stream_update = choose (IfFrame IsFit) e None (update s n) (λ _. tt) (λ _. update_fit s n is.1 small); reset = tt })
+    (λ _. choose Fit (is_receiving v s) _ _ (λ _. record { acknowledgement = tt; connection_update = update_fit 0 n (omega arith) small; stream_update = choose (IfFrame IsFit) e None (window_update s n) (λ _. tt) (λ _. update_fit s n is.1 small); reset = tt })
     (λ _. choose Fit (is_remembered v s) _ _ (λ _. record { acknowledgement = tt; connection_update = update_fit 0 n (omega arith) small; stream_update = tt; reset = tt })
     (λ _. record { acknowledgement = tt; connection_update = update_fit 0 n (omega arith) small; stream_update = tt; reset = (is, code_low StreamClosed) })))
 
@@ -98,16 +98,16 @@ list_given : (s : ℕ) (e : Bool) (r : Result (List Header) HpackError) → IsSt
 list_given s e (Ok fields) is = is
 list_given s e (Err x) is = tt
 
-block_given : (table : Option Table) (t : Bool) (b : HeaderBlock) → IsStream b.stream → Given (given table t b)
+block_given : (table : Option Table) (t : Bool) (b : HeaderBlock) → IsStream b.stream → Given (list_of_block table t b)
 block_given table t b is =
     choose Given (is_excessive b) _ _ (λ _. tt)
     (λ _. choose Given t _ _ (λ _. list_given b.stream b.end_stream (step table b.fragment).0 is) (λ _. tt))
 
-next_given : (table : Option Table) (u : Option HeaderBlock) (t : Bool) (fragment : List ℕ) → IsNumberedBlock u → Given (given_next table u t fragment)
+next_given : (table : Option Table) (u : Option HeaderBlock) (t : Bool) (fragment : List ℕ) → IsNumberedBlock u → Given (list_of_continuation table u t fragment)
 next_given table None t fragment is = tt
-next_given table (Some b) t fragment is = block_given table t (continued fragment b) is
+next_given table (Some b) t fragment is = block_given table t (with_continuation fragment b) is
 
-given_fit : (v : Standing) (g : Result (Option HeaderList) ErrorCode) → Given g → Fit (on_given v g)
+given_fit : (v : Standing) (g : Result (Option HeaderList) ErrorCode) → Given g → Fit (on_header_list v g)
 given_fit v (Err code) is = tt
 given_fit v (Ok None) is = event_fit Nothing
 given_fit v (Ok (Some block)) is =
@@ -116,7 +116,7 @@ given_fit v (Ok (Some block)) is =
     (λ _. choose Fit (is_receiving v block.stream) _ _ (λ _. trailers_fit v block.stream block.end_stream is)
     (λ _. choose Fit (is_remembered v block.stream) _ _ (λ _. event_fit Nothing) (λ _. tt))))
 
-settings_by : (fault : Option ErrorCode) → Fit (option_map_or Err fault (Ok (record nothing { acknowledgement = Some (Settings true []) })))
+settings_by : (fault : Option ErrorCode) → Fit (option_map_or Err fault (Ok (record no_effect { acknowledgement = Some (Settings true []) })))
 settings_by None = record { acknowledgement = tt; connection_update = tt; stream_update = tt; reset = tt }
 settings_by (Some code) = tt
 
@@ -136,14 +136,14 @@ stream_update_fit v s n is =
     (λ _. choose Fit (list_any (overflows s n) v.live) _ _ (λ _. error_fit v s FlowControlError is) (λ _. event_fit Nothing))))
 
 connection_update_fit : (v : Standing) (n : ℕ) → Fit (on_connection_update v n)
-connection_update_fit v n = choose Fit (n == 0) _ _ (λ _. tt) (λ _. choose Fit (fits n v.connection_window) _ _ (λ _. event_fit Nothing) (λ _. tt))
+connection_update_fit v n = choose Fit (n == 0) _ _ (λ _. tt) (λ _. choose Fit (may_grow n v.connection_window) _ _ (λ _. event_fit Nothing) (λ _. tt))
 
 above_none : (n : ℕ) → (n == 0) ≡ false → 0 < n
 above_none n h = grind (arith, nat_tests)
 
 content_fit : (v : Standing) (n : ℕ) (g : Frame) → n ≤ 16384 → IsNumberedBlock v.unfinished → IsNumbered g → Fit (on_content v n g)
 content_fit v n (Data s e bytes) small u is = data_fit v n s e bytes small is
-content_fit v n (Headers s e t fragment) small u is = given_fit v (given v.table t (begun s e fragment)) (block_given v.table t (begun s e fragment) is)
+content_fit v n (Headers s e t fragment) small u is = given_fit v (list_of_block v.table t (new_block s e fragment)) (block_given v.table t (new_block s e fragment) is)
 content_fit v n (Priority s p) small u is = event_fit Nothing
 content_fit v n (RstStream s code) small u is = choose Fit (is_idle v s) _ _ (λ _. tt) (λ _. event_fit _)
 content_fit v n (Settings ack settings) small u is = settings_fit v ack settings
@@ -151,7 +151,7 @@ content_fit v n (PushPromise flags s payload) small u is = tt
 content_fit v n (Ping ack o) small u is = ping_fit ack o
 content_fit v n (GoAway s code b) small u is = event_fit Nothing
 content_fit v n (WindowUpdate s m) small u is = choose Fit (s == 0) _ _ (λ _. connection_update_fit v m) (λ some. stream_update_fit v s m (above_none s some, is))
-content_fit v n (Continuation s t fragment) small u is = given_fit v (given_next v.table v.unfinished t fragment) (next_given v.table v.unfinished t fragment u)
+content_fit v n (Continuation s t fragment) small u is = given_fit v (list_of_continuation v.table v.unfinished t fragment) (next_given v.table v.unfinished t fragment u)
 content_fit v n (Unknown k f s p) small u is = event_fit Nothing
 
 frame_fit : (v : Standing) (n : ℕ) (r : Result Frame ErrorCode) → n ≤ 16384 → IsNumberedBlock v.unfinished → OkThen IsNumbered r → Fit (on_frame_of v n r)
@@ -161,14 +161,14 @@ frame_fit v n (Err code) small u is = tt
 answer_fit : (v : Standing) (f : RawFrame) → IsReceivable f → IsNumberedBlock v.unfinished → Fit (answer_to v f)
 answer_fit v f is u =
     choose Fit v.failed _ _ (λ _. event_fit Nothing)
-    (λ _. choose Fit (in_turn v f) _ _ (λ _. frame_fit v (length f.payload) (frame_of f) is.0 u (frame_numbered f is.1)) (λ _. tt))
+    (λ _. choose Fit (is_in_turn v f) _ _ (λ _. frame_fit v (length f.payload) (frame_of f) is.0 u (frame_numbered f is.1)) (λ _. tt))
 
 -- ---- answers are written
 
 answer_writable : (g : Frame) → IsAnswer g → IsFit g → IsWritable g
 answer_writable = answer_elim (λ g. IsFit g → IsWritable g) (λ ack settings h fit. rw h.1 (tt, omega arith, λ (e : ack ≡ true). refl)) (λ ack o h fit. h.1) (λ s n fit. fit) (λ s code fit. fit)
 
-pub answers_writable : (d : List Entry) (f : RawFrame) (a : StreamEvent) → AllByRecursion IsFramed d → IsReceivable f → causes d f ≡ Ok a → AllByRecursion IsWritable (control_frames a)
+pub answers_writable : (d : List Entry) (f : RawFrame) (a : StreamEvent) → AllByRecursion IsFramed d → IsReceivable f → answer_after d f ≡ Ok a → AllByRecursion IsWritable (control_frames a)
 answers_writable d f a framed is h =
     let fit : AreFit a = subst Fit h (answer_fit (standing d) f is (unfinished_numbered d framed)) in
     all_both IsAnswer IsFit IsWritable (control_frames a) answer_writable (answers_are_control (standing d) f a h) (each_answer IsFit a fit)

@@ -11,36 +11,36 @@ use Rattle.http2_frames.specs.declared.frame.RawFrame.{RawFrame}
 use Rattle.http2_frames.specs.declared.frame.Frame.{Frame}
 use Rattle.http2_frames.specs.declared.frame.Frame.TheVariants.{Data, Headers, Priority, RstStream, Settings, PushPromise, Ping, GoAway, WindowUpdate, Continuation, Unknown}
 use Rattle.http2_frames.specs.Codes.{code_number}
-use Rattle.http2_streams.specs.Diary.{Entry, In, Unreadable, Out, Took, received, sent, frame_out, highest, has_failed, resets, ends, data_ends, block_ends, no_blocks, blocks_after, is_reset, is_ended_by_client, is_ended_by_server, is_live}
+use Rattle.http2_streams.specs.History.{Entry, In, Unreadable, Out, Took, received_frames, sent_frames, frame_out, highest_stream, has_failed, resets, ends, data_ends, block_ends, no_blocks, blocks_after, is_reset, is_ended_by_client, is_ended_by_server, is_not_closed}
 use Rattle.http2_streams.proofs.LiveLaw.{live_falls}
 use Rattle.grpc_calls.specs.Responses.{fields_of, is_last}
 use Rattle.grpc_sending.specs.Pieces.{Piece}
 use Rattle.grpc_sending.specs.Bytes.{position}
-use Rattle.grpc_sending.specs.Owed.{Owed, left_on}
+use Rattle.grpc_sending.specs.Owed.{OwedItem, pieces_left_on}
 use Rattle.grpc_sending.specs.Pump.{reset_after}
-use Rattle.grpc_sending.proofs.Diaries.{sent_more, received_more}
+use Rattle.grpc_sending.proofs.Histories.{sent_more, received_more}
 use Rattle.conn_core.specs.Past.{Past, opening}
-use Rattle.conn_core.specs.Received.{outcome, fault_frames, entries}
+use Rattle.conn_core.specs.Received.{outcome, fault_frames, frame_entries}
 use Rattle.conn_core.proofs.Numbers.{any_later, same_number}
-use Rattle.client_reading.specs.Changes.{Change, change, past_of, IsChange, BytesReceived, FrameRead, FaultMet, ItemGiven, BytesTaken, FramesPut, EventsGiven}
+use Rattle.client_reading.specs.Changes.{Change, past_after_change, past_of, IsChange, BytesReceived, FrameRead, FaultMet, ItemGiven, BytesTaken, FramesPut, EventsGiven}
 use Rattle.client_reading.proofs.Choices.{fold_keeps}
 use Rattle.client_reading.proofs.Controls.{IsControl, out_sent, outcome_control, fault_control, reset_control}
 use Rattle.client_reading.proofs.Nexts.{Next, IsFront, portion, pump_keeps}
 
 abbrev pub EndsLive : List Entry → Type 0
-EndsLive d = (s : ℕ) → is_live d s ≡ true → is_ended_by_server d s ≡ false
+EndsLive d = (s : ℕ) → is_not_closed d s ≡ true → is_ended_by_server d s ≡ false
 
 -- ---- entries that end no live stream
 
-ended_more : (d es : List Entry) (s : ℕ) → is_ended_by_server (d ++ es) s ≡ (is_ended_by_server d s || list_any (ends s) (sent es))
-ended_more d es s = ap (list_any (ends s)) (filter_map-append frame_out d es) ∙ list_any-append (ends s) (sent d) (sent es)
+ended_more : (d es : List Entry) (s : ℕ) → is_ended_by_server (d ++ es) s ≡ (is_ended_by_server d s || list_any (ends s) (sent_frames es))
+ended_more d es s = ap (list_any (ends s)) (filter_map-append frame_out d es) ∙ list_any-append (ends s) (sent_frames d) (sent_frames es)
 
 neither : (b c : Bool) → b ≡ false → c ≡ false → (b || c) ≡ false
 neither true c h k = cc
 neither false c h k = k
 
-more : (d es : List Entry) → ((s : ℕ) → is_live (d ++ es) s ≡ true → list_any (ends s) (sent es) ≡ false) → EndsLive d → EndsLive (d ++ es)
-more d es none h s lives = ended_more d es s ∙ neither (is_ended_by_server d s) (list_any (ends s) (sent es)) (h s (live_falls d es s lives)) (none s lives)
+more : (d es : List Entry) → ((s : ℕ) → is_not_closed (d ++ es) s ≡ true → list_any (ends s) (sent_frames es) ≡ false) → EndsLive d → EndsLive (d ++ es)
+more d es none h s lives = ended_more d es s ∙ neither (is_ended_by_server d s) (list_any (ends s) (sent_frames es)) (h s (live_falls d es s lives)) (none s lives)
 
 control_ends : (s : ℕ) (f : Frame) → IsControl f → ends s f ≡ false
 control_ends s (Data t e b) h = cc
@@ -59,7 +59,7 @@ controls_end : (s : ℕ) (fs : List Frame) → AllByRecursion IsControl fs → l
 controls_end s [] h = refl
 controls_end s (f ∷ fs) h = neither (ends s f) (list_any (ends s) fs) (control_ends s f h.0) (controls_end s fs h.1)
 
-behind : (d : List Entry) (e : Entry) (fs : List Frame) → sent (e ∷ map Out fs) ≡ sent (map Out fs) → AllByRecursion IsControl fs → EndsLive d → EndsLive (d ++ e ∷ map Out fs)
+behind : (d : List Entry) (e : Entry) (fs : List Frame) → sent_frames (e ∷ map Out fs) ≡ sent_frames (map Out fs) → AllByRecursion IsControl fs → EndsLive d → EndsLive (d ++ e ∷ map Out fs)
 behind d e fs silent all h = more d (e ∷ map Out fs) (λ s lives. ap (λ (gs : List Frame). list_any (ends s) gs) (silent ∙ out_sent fs) ∙ controls_end s fs all) h
 
 -- ---- a block that ends a stream
@@ -81,15 +81,15 @@ client_same : (d : List Entry) (fs : List Frame) (s : ℕ) → is_ended_by_clien
 client_same d fs s = ap (λ (rs : List Frame). ended_c rs s) (received_more d fs)
 
 server_put : (d : List Entry) (fs : List Frame) (s : ℕ) → list_any (ends s) fs ≡ true → is_ended_by_server (d ++ map Out fs) s ≡ true
-server_put d fs s h = ended_more d (map Out fs) s ∙ any_later (is_ended_by_server d s) (list_any (ends s) (sent (map Out fs))) (ap (λ (gs : List Frame). list_any (ends s) gs) (out_sent fs) ∙ h)
+server_put d fs s h = ended_more d (map Out fs) s ∙ any_later (is_ended_by_server d s) (list_any (ends s) (sent_frames (map Out fs))) (ap (λ (gs : List Frame). list_any (ends s) gs) (out_sent fs) ∙ h)
 
 reset_put : (d : List Entry) (fs : List Frame) (s : ℕ) → list_any (resets s) fs ≡ true → is_reset (d ++ map Out fs) s ≡ true
 reset_put d fs s h =
-    let put : list_any (resets s) (sent (d ++ map Out fs)) ≡ true = ap (λ (gs : List Frame). list_any (resets s) gs) (sent_more d fs) ∙ list_any-append (resets s) (sent d) fs ∙ any_later (list_any (resets s) (sent d)) (list_any (resets s) fs) h in
-    any_later (list_any (resets s) (received (d ++ map Out fs))) (list_any (resets s) (sent (d ++ map Out fs))) put
+    let put : list_any (resets s) (sent_frames (d ++ map Out fs)) ≡ true = ap (λ (gs : List Frame). list_any (resets s) gs) (sent_more d fs) ∙ list_any-append (resets s) (sent_frames d) fs ∙ any_later (list_any (resets s) (sent_frames d)) (list_any (resets s) fs) h in
+    any_later (list_any (resets s) (received_frames (d ++ map Out fs))) (list_any (resets s) (sent_frames (d ++ map Out fs))) put
 
 -- while the stream is live, the block behind which these frames were put did not end it
-ends_none : (d : List Entry) (s : ℕ) (e x c : Bool) (fragment : List ℕ) → is_ended_by_client d s ≡ c → is_live (d ++ map Out (Headers s e x fragment ∷ reset_after s (e && not c))) s ≡ true → e ≡ false
+ends_none : (d : List Entry) (s : ℕ) (e x c : Bool) (fragment : List ℕ) → is_ended_by_client d s ≡ c → is_not_closed (d ++ map Out (Headers s e x fragment ∷ reset_after s (e && not c))) s ≡ true → e ≡ false
 ends_none d s false x c fragment is lives = refl
 ends_none d s true x true fragment is lives =
     let fs : List Frame = Headers s true x fragment ∷ [] in
@@ -114,7 +114,7 @@ last_block d s e x c fragment is h =
     let fs : List Frame = Headers s e x fragment ∷ reset_after s (e && not c) in
     more d (map Out fs) (λ t lives.
     ap (λ (gs : List Frame). list_any (ends t) gs) (out_sent fs)
-    ∙ neither (e && s == t) (list_any (ends t) (reset_after s (e && not c))) (no_end e s t (λ same. ends_none d s e x c fragment is (subst (λ (u : ℕ). is_live (d ++ map Out fs) u ≡ true) (sym (eqb-true s t same)) lives)))
+    ∙ neither (e && s == t) (list_any (ends t) (reset_after s (e && not c))) (no_end e s t (λ same. ends_none d s e x c fragment is (subst (λ (u : ℕ). is_not_closed (d ++ map Out fs) u ≡ true) (sym (eqb-true s t same)) lives)))
     (controls_end t (reset_after s (e && not c)) (reset_control s (e && not c)))) h
 
 -- ---- the pump
@@ -123,22 +123,22 @@ front_ends : (d : List Entry) (s : ℕ) (ps : List Piece) (fs : List Frame) → 
 front_ends d s ps fs (inl b) h = subst (λ (gs : List Frame). EndsLive (d ++ map Out gs)) (sym b.put) (last_block d s (is_last b.block) true (is_ended_by_client d s) (block_text (position d) (fields_of b.block)) refl h)
 front_ends d s ps fs (inr p) h = subst (λ (gs : List Frame). EndsLive (d ++ map Out gs)) (sym p.put) (more d (Out (Data s false (take (portion d s p.bytes) p.bytes)) ∷ []) (λ t lives. refl) h)
 
-turn_ends : (os : List Owed) (d : List Entry) (fs : List Frame) → Next d os fs → EndsLive d → EndsLive (d ++ map Out fs)
-turn_ends os d fs n h = front_ends d n.stream (left_on d os n.stream) fs n.front h
+turn_ends : (os : List OwedItem) (d : List Entry) (fs : List Frame) → Next d os fs → EndsLive d → EndsLive (d ++ map Out fs)
+turn_ends os d fs n h = front_ends d n.stream (pieces_left_on d os n.stream) fs n.front h
 
 -- ---- every past
 
-pub ends_frame : (d : List Entry) (f : RawFrame) → EndsLive d → EndsLive (d ++ entries d f)
+pub ends_frame : (d : List Entry) (f : RawFrame) → EndsLive d → EndsLive (d ++ frame_entries d f)
 ends_frame d f h = behind d (In f) (outcome d f).put refl (outcome_control d f) h
 
-ends_change : (p : Past) (c : Change) → IsChange c → EndsLive p.diary → EndsLive (change p c).diary
+ends_change : (p : Past) (c : Change) → IsChange c → EndsLive p.history → EndsLive (past_after_change p c).history
 ends_change p (BytesReceived bytes) is h = h
-ends_change p (FrameRead f) is h = ends_frame p.diary f h
-ends_change p (FaultMet e code) is h = behind p.diary (Unreadable e) (fault_frames (has_failed p.diary) (highest p.diary) code) refl (fault_control (has_failed p.diary) (highest p.diary) code) h
+ends_change p (FrameRead f) is h = ends_frame p.history f h
+ends_change p (FaultMet e code) is h = behind p.history (Unreadable e) (fault_frames (has_failed p.history) (highest_stream p.history) code) refl (fault_control (has_failed p.history) (highest_stream p.history) code) h
 ends_change p (ItemGiven t item) is h = h
-ends_change p (BytesTaken n) is h = more p.diary (Took n ∷ []) (λ s lives. refl) h
-ends_change p FramesPut is h = pump_keeps EndsLive p.owed (turn_ends p.owed) p.diary h
+ends_change p (BytesTaken n) is h = more p.history (Took n ∷ []) (λ s lives. refl) h
+ends_change p FramesPut is h = pump_keeps EndsLive p.owed (turn_ends p.owed) p.history h
 ends_change p (EventsGiven left) is h = h
 
-pub ends_past : (cs : List Change) → AllByRecursion IsChange cs → EndsLive (past_of cs).diary
-ends_past cs all = fold_keeps (λ (p : Past). EndsLive p.diary) IsChange change opening cs ends_change all (λ s lives. refl)
+pub ends_past : (cs : List Change) → AllByRecursion IsChange cs → EndsLive (past_of cs).history
+ends_past cs all = fold_keeps (λ (p : Past). EndsLive p.history) IsChange past_after_change opening cs ends_change all (λ s lives. refl)

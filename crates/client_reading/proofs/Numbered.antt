@@ -12,8 +12,8 @@ use Rattle.http2_frames.specs.declared.frame.Frame.{Frame}
 use Rattle.http2_frames.specs.declared.frame.Frame.TheVariants.{Data, Headers, Priority, RstStream, Settings, PushPromise, Ping, GoAway, WindowUpdate, Continuation, Unknown}
 use Rattle.http2_frames.specs.Frames.{frame_of, content_of, is_misaddressed, is_missized, is_overpadded, is_of_a_stream}
 use Rattle.http2_frames.specs.Writing.{IsStream}
-use Rattle.http2_headers.specs.HeaderBlock.{HeaderBlock, begun, continued}
-use Rattle.http2_streams.specs.Diary.{Entry, In, Unreadable, Out, Took, Blocks, frame_in, received, placed, blocks_after, no_blocks, blocks_of, unfinished, stream_of, rising, opened, highest, live, is_live}
+use Rattle.http2_headers.specs.HeaderBlock.{HeaderBlock, new_block, with_continuation}
+use Rattle.http2_streams.specs.History.{Entry, In, Unreadable, Out, Took, Blocks, frame_in, received_frames, blocks_with, blocks_after, no_blocks, blocks_of, unfinished_block, stream_of, rising_numbers, opened_streams, highest_stream, live_streams, is_not_closed}
 use Rattle.client_reading.specs.Changes.{IsReceivable}
 use Rattle.client_reading.proofs.Choices.{choose, OkThen, or_none, all_append, all_filter, of_all}
 
@@ -82,9 +82,9 @@ says : (r : Result Frame ErrorCode) → OkThen IsNumbered r → SaysNumber (resu
 says (Ok g) h = h
 says (Err e) h = tt
 
-received_numbered : (d : List Entry) → AllByRecursion IsFramed d → AllByRecursion IsNumbered (received d)
+received_numbered : (d : List Entry) → AllByRecursion IsFramed d → AllByRecursion IsNumbered (received_frames d)
 received_numbered [] h = tt
-received_numbered (In f ∷ d) h = said (frame_in (In f)) (received d) (says (frame_of f) (frame_numbered f h.0.1)) (received_numbered d h.1)
+received_numbered (In f ∷ d) h = said (frame_in (In f)) (received_frames d) (says (frame_of f) (frame_numbered f h.0.1)) (received_numbered d h.1)
 received_numbered (Unreadable e ∷ d) h = received_numbered d h.1
 received_numbered (Out f ∷ d) h = received_numbered d h.1
 received_numbered (Took n ∷ d) h = received_numbered d h.1
@@ -102,16 +102,16 @@ record AreNumbered (bs : Blocks) : Type 0 where
   finished : AllByRecursion HasStream bs.finished
   unfinished : IsNumberedBlock bs.unfinished
 
-placed_numbered : (bs : List HeaderBlock) (end_headers : Bool) (b : HeaderBlock) → AllByRecursion HasStream bs → IsStream b.stream → AreNumbered (placed bs end_headers b)
+placed_numbered : (bs : List HeaderBlock) (end_headers : Bool) (b : HeaderBlock) → AllByRecursion HasStream bs → IsStream b.stream → AreNumbered (blocks_with bs end_headers b)
 placed_numbered bs true b h k = record { finished = all_append HasStream bs (b ∷ []) h (k, tt); unfinished = tt }
 placed_numbered bs false b h k = record { finished = h; unfinished = k }
 
-continued_numbered : (bs : Blocks) (u : Option HeaderBlock) (end_headers : Bool) (fragment : List ℕ) → AreNumbered bs → IsNumberedBlock u → AreNumbered (option_map_or (λ b. placed bs.finished end_headers (continued fragment b)) u bs)
+continued_numbered : (bs : Blocks) (u : Option HeaderBlock) (end_headers : Bool) (fragment : List ℕ) → AreNumbered bs → IsNumberedBlock u → AreNumbered (option_map_or (λ b. blocks_with bs.finished end_headers (with_continuation fragment b)) u bs)
 continued_numbered bs None t fragment h k = h
-continued_numbered bs (Some b) t fragment h k = placed_numbered bs.finished t (continued fragment b) h.finished k
+continued_numbered bs (Some b) t fragment h k = placed_numbered bs.finished t (with_continuation fragment b) h.finished k
 
 after_numbered : (bs : Blocks) (f : Frame) → IsNumbered f → AreNumbered bs → AreNumbered (blocks_after bs f)
-after_numbered bs (Headers s e t fragment) n h = placed_numbered bs.finished t (begun s e fragment) h.finished n
+after_numbered bs (Headers s e t fragment) n h = placed_numbered bs.finished t (new_block s e fragment) h.finished n
 after_numbered bs (Continuation s t fragment) n h = continued_numbered bs bs.unfinished t fragment h h.unfinished
 after_numbered bs (Data s e bytes) n h = h
 after_numbered bs (Priority s p) n h = h
@@ -128,9 +128,9 @@ all_numbered bs [] all h = h
 all_numbered bs (f ∷ fs) all h = all_numbered (blocks_after bs f) fs all.1 (after_numbered bs f all.0 h)
 
 blocks_numbered : (d : List Entry) → AllByRecursion IsFramed d → AreNumbered (blocks_of d)
-blocks_numbered d h = all_numbered no_blocks (received d) (received_numbered d h) (record { finished = tt; unfinished = tt })
+blocks_numbered d h = all_numbered no_blocks (received_frames d) (received_numbered d h) (record { finished = tt; unfinished = tt })
 
-pub unfinished_numbered : (d : List Entry) → AllByRecursion IsFramed d → IsNumberedBlock (unfinished d)
+pub unfinished_numbered : (d : List Entry) → AllByRecursion IsFramed d → IsNumberedBlock (unfinished_block d)
 unfinished_numbered d h = (blocks_numbered d h).unfinished
 
 numbers : (bs : List HeaderBlock) → AllByRecursion HasStream bs → AllByRecursion IsStream (map stream_of bs)
@@ -144,12 +144,12 @@ lower : (m : ℕ) (xs : List ℕ) → AllByRecursion IsStream xs → m < 2 ^ 31 
 lower m [] h low = low
 lower m (x ∷ xs) h low = let k : x < 2 ^ 31 = h.0.1 in lower (max m x) xs h.1 (omega arith)
 
-pub highest_low : (d : List Entry) → AllByRecursion IsFramed d → highest d < 2 ^ 31
+pub highest_low : (d : List Entry) → AllByRecursion IsFramed d → highest_stream d < 2 ^ 31
 highest_low d h = lower 0 (map stream_of (blocks_of d).finished) (numbers_of d h) (omega arith)
 
-rising_numbered : (m : ℕ) (xs : List ℕ) → AllByRecursion IsStream xs → AllByRecursion IsStream (rising m xs)
+rising_numbered : (m : ℕ) (xs : List ℕ) → AllByRecursion IsStream xs → AllByRecursion IsStream (rising_numbers m xs)
 rising_numbered m [] h = tt
-rising_numbered m (x ∷ xs) h = choose (AllByRecursion IsStream) (nat_lt m x) (x ∷ rising x xs) (rising m xs) (λ _. (h.0, rising_numbered x xs h.1)) (λ _. rising_numbered m xs h.1)
+rising_numbered m (x ∷ xs) h = choose (AllByRecursion IsStream) (nat_lt m x) (x ∷ rising_numbers x xs) (rising_numbers m xs) (λ _. (h.0, rising_numbered x xs h.1)) (λ _. rising_numbered m xs h.1)
 
-pub live_numbered : (d : List Entry) (s : ℕ) → AllByRecursion IsFramed d → list_any (λ t. t == s) (live d) ≡ true → IsStream s
-live_numbered d s h lives = of_all IsStream s (live d) (all_filter IsStream (is_live d) (opened d) (rising_numbered 0 (map stream_of (blocks_of d).finished) (numbers_of d h))) lives
+pub live_numbered : (d : List Entry) (s : ℕ) → AllByRecursion IsFramed d → list_any (λ t. t == s) (live_streams d) ≡ true → IsStream s
+live_numbered d s h lives = of_all IsStream s (live_streams d) (all_filter IsStream (is_not_closed d) (opened_streams d) (rising_numbered 0 (map stream_of (blocks_of d).finished) (numbers_of d h))) lives

@@ -7,7 +7,7 @@ use Rattle.http2_frames.specs.Wire.{Spells, Split, IsSplit}
 use Rattle.http2_frames.specs.Reading.{split}
 use Rattle.http2_frames.proofs.Divisions.{split_found}
 use Rattle.conn_core.specs.Past.{Past, opening}
-use Rattle.client_reading.specs.Changes.{Change, change, IsReceivable, IsChange, IsPast}
+use Rattle.client_reading.specs.Changes.{Change, past_after_change, IsReceivable, IsChange, IsPast}
 use Rattle.client_reading.specs.Reads.{Reads}
 use Rattle.client_reading.proofs.Choices.{all_append}
 use Rattle.client_reading.proofs.All.{reads_past}
@@ -30,8 +30,8 @@ frames_received p text = split_frames p text (split p text) (split_found p text)
 pub first_past : IsPast opening
 first_past = ([], tt, refl)
 
-pub next_past : (p : Past) (c : Change) → IsChange c → IsPast p → IsPast (change p c)
-next_past p c is h = (h.0 ++ c ∷ [], all_append IsChange h.0 (c ∷ []) h.1 (is, tt), ap (λ (q : Past). change q c) h.2 ∙ sym (fold-append change opening h.0 (c ∷ [])))
+pub next_past : (p : Past) (c : Change) → IsChange c → IsPast p → IsPast (past_after_change p c)
+next_past p c is h = (h.0 ++ c ∷ [], all_append IsChange h.0 (c ∷ []) h.1 (is, tt), ap (λ (q : Past). past_after_change q c) h.2 ∙ sym (fold-append past_after_change opening h.0 (c ∷ [])))
 
 pub past_read : (p : Past) → IsPast p → Reads p
 past_read p h = subst (λ (q : Past). Reads q) (sym h.2) (reads_past h.0 h.1)

@@ -5,7 +5,7 @@ use Rattle.std.proofs.lemmas.Bool.{cases_Bool}
 use Rattle.std.proofs.lemmas.Bool.Decides.{nat_tests}
 use Rattle.std.proofs.lemmas.List.{length-drop, take-append-drop}
 use Rattle.grpc_sending.specs.Pieces.{read_message}
-use Rattle.grpc_sending.proofs.Diaries.{append-nil}
+use Rattle.grpc_sending.proofs.Histories.{append-nil}
 use Rattle.client_reading.specs.Responses.{messages_cut}
 use Rattle.client_reading.specs.Ranges.{BringBytes}
 

@@ -12,15 +12,15 @@ use Rattle.http2_frames.specs.declared.frame.Frame.{Frame}
 use Rattle.http2_frames.specs.declared.frame.Frame.TheVariants.{Data, Headers, Priority, RstStream, Settings, PushPromise, Ping, GoAway, WindowUpdate, Continuation, Unknown}
 use Rattle.grpc_messages.specs.Wire.{Split}
 use Rattle.grpc_messages.specs.Reading.{split}
-use Rattle.grpc_messages.specs.Writing.{framed}
+use Rattle.grpc_messages.specs.Writing.{framed_message}
 use Rattle.grpc_messages.proofs.Grammar.{part_split}
 use Rattle.grpc_calls.specs.declared.response.ResponseBlock.{ResponseBlock}
 use Rattle.grpc_calls.specs.Responses.{fields_of, is_last}
 use Rattle.grpc_sending.specs.Pieces.{Piece}
 use Rattle.grpc_sending.specs.Pieces.{Block as BlockPiece, Part}
-use Rattle.grpc_sending.specs.Owed.{put_by}
-use Rattle.grpc_sending.proofs.Diaries.{append-nil}
-use Rattle.client_reading.specs.Responses.{StreamPart, Fields, Bytes, stream_parts_of, stream_parts_from, table_after, ResponsePart, Block, WholeMessage, messages_to_end, response_from, message_rest, IsMessageFront, IsBeginning}
+use Rattle.grpc_sending.specs.Owed.{pieces_after_frame}
+use Rattle.grpc_sending.proofs.Histories.{append-nil}
+use Rattle.client_reading.specs.Responses.{StreamPart, Fields, Bytes, stream_parts_of, stream_parts_from, table_after_frame, ResponsePart, Block, WholeMessage, messages_to_end, response_from, message_rest, IsMessageFront, IsBeginning}
 use Rattle.client_reading.proofs.Choices.{all_append}
 use Rattle.client_reading.proofs.Singles.{Single, Headed, Message, piece_of, part_of, IsSingleWithin}
 use Rattle.client_reading.proofs.Follows.{BlockAt, Follows}
@@ -31,15 +31,15 @@ use Rattle.client_reading.proofs.Follows.{BlockAt, Follows}
 abbrev PieceAt : List ℕ → List Single → List Piece → Type 0
 PieceAt part [] ps = (part ≡ []) × (ps ≡ [])
 PieceAt part (Headed block ∷ items) ps = (part ≡ []) × (ps ≡ BlockPiece block ∷ map piece_of items)
-PieceAt part (Message m ∷ items) ps = (left : List ℕ) × (0 < length left) × (framed m ≡ part ++ left) × (ps ≡ Part left ∷ map piece_of items)
+PieceAt part (Message m ∷ items) ps = (left : List ℕ) × (0 < length left) × (framed_message m ≡ part ++ left) × (ps ≡ Part left ∷ map piece_of items)
 
-framed_some : (m : List ℕ) → 0 < length (framed m)
+framed_some : (m : List ℕ) → 0 < length (framed_message m)
 framed_some m = simp length-append (omega arith)
 
 fresh : (items : List Single) → PieceAt [] items (map piece_of items)
 fresh [] = (refl, refl)
 fresh (Headed block ∷ items) = (refl, refl)
-fresh (Message m ∷ items) = (framed m, framed_some m, refl, refl)
+fresh (Message m ∷ items) = (framed_message m, framed_some m, refl, refl)
 
 abbrev AreShort : ℕ → List (List ℕ) → Type 0
 AreShort limit ms = AllByRecursion (λ m. length m ≤ limit) ms
@@ -47,12 +47,12 @@ AreShort limit ms = AllByRecursion (λ m. length m ≤ limit) ms
 abbrev AreWithin : ℕ → List Single → Type 0
 AreWithin limit items = AllByRecursion (IsSingleWithin limit) items
 
-whole_split : (limit : ℕ) (ms : List (List ℕ)) (part : List ℕ) → limit < 2 ^ 32 → AreShort limit ms → part ≡ [] → split limit (flat_map framed ms ++ part) ≡ record { messages = ms; end = Ok part }
+whole_split : (limit : ℕ) (ms : List (List ℕ)) (part : List ℕ) → limit < 2 ^ 32 → AreShort limit ms → part ≡ [] → split limit (flat_map framed_message ms ++ part) ≡ record { messages = ms; end = Ok part }
 whole_split limit ms part small all is =
-    let f : split limit (flat_map framed ms ++ []) ≡ record { messages = ms; end = Ok [] } = part_split limit ms [] [] (framed []) small all (omega arith) refl (omega arith) in
-    subst (λ (p : List ℕ). split limit (flat_map framed ms ++ p) ≡ record { messages = ms; end = Ok p }) (sym is) f
+    let f : split limit (flat_map framed_message ms ++ []) ≡ record { messages = ms; end = Ok [] } = part_split limit ms [] [] (framed_message []) small all (omega arith) refl (omega arith) in
+    subst (λ (p : List ℕ). split limit (flat_map framed_message ms ++ p) ≡ record { messages = ms; end = Ok p }) (sym is) f
 
-split_at : (limit : ℕ) (ms : List (List ℕ)) (part : List ℕ) (items : List Single) (ps : List Piece) → limit < 2 ^ 32 → AreShort limit ms → AreWithin limit items → PieceAt part items ps → split limit (flat_map framed ms ++ part) ≡ record { messages = ms; end = Ok part }
+split_at : (limit : ℕ) (ms : List (List ℕ)) (part : List ℕ) (items : List Single) (ps : List Piece) → limit < 2 ^ 32 → AreShort limit ms → AreWithin limit items → PieceAt part items ps → split limit (flat_map framed_message ms ++ part) ≡ record { messages = ms; end = Ok part }
 split_at limit ms part [] ps small all within at = whole_split limit ms part small all at.0
 split_at limit ms part (Headed block ∷ items) ps small all within at = whole_split limit ms part small all at.0
 split_at limit ms part (Message m ∷ items) ps small all within at = part_split limit ms m part at.0 small all within.0 at.2 at.1
@@ -73,7 +73,7 @@ record Begins (limit : ℕ) (ms : List (List ℕ)) (text : List ℕ) (hs : List 
   rest : IsMessageFront (message_rest limit text hs) (map part_of later)
 
 abbrev ReadsAll : ℕ → ℕ → List Frame → Type 0
-ReadsAll limit s fs = (table : Option Table) (ps : List Piece) (items : List Single) (ms : List (List ℕ)) (part : List ℕ) → AreShort limit ms → AreWithin limit items → PieceAt part items ps → Follows s table ps fs → Begins limit ms (flat_map framed ms ++ part) (stream_parts_from s table fs) items
+ReadsAll limit s fs = (table : Option Table) (ps : List Piece) (items : List Single) (ms : List (List ℕ)) (part : List ℕ) → AreShort limit ms → AreWithin limit items → PieceAt part items ps → Follows s table ps fs → Begins limit ms (flat_map framed_message ms ++ part) (stream_parts_from s table fs) items
 
 reads_none : (limit s : ℕ) → limit < 2 ^ 32 → ReadsAll limit s []
 reads_none limit s small table ps items ms part all within at h =
@@ -87,10 +87,10 @@ reads_none limit s small table ps items ms part all within at h =
     }
 
 -- a frame of which the stream hears nothing
-skips : (limit s : ℕ) (f : Frame) (fs : List Frame) (table : Option Table) (ps : List Piece) (items : List Single) (ms : List (List ℕ)) (part : List ℕ) → ReadsAll limit s fs → AreShort limit ms → AreWithin limit items → PieceAt part items ps → stream_parts_of s table f ≡ [] → put_by s ps f ≡ ps → Follows s (table_after table f) (put_by s ps f) fs → Begins limit ms (flat_map framed ms ++ part) (stream_parts_from s table (f ∷ fs)) items
+skips : (limit s : ℕ) (f : Frame) (fs : List Frame) (table : Option Table) (ps : List Piece) (items : List Single) (ms : List (List ℕ)) (part : List ℕ) → ReadsAll limit s fs → AreShort limit ms → AreWithin limit items → PieceAt part items ps → stream_parts_of s table f ≡ [] → pieces_after_frame s ps f ≡ ps → Follows s (table_after_frame table f) (pieces_after_frame s ps f) fs → Begins limit ms (flat_map framed_message ms ++ part) (stream_parts_from s table (f ∷ fs)) items
 skips limit s f fs table ps items ms part later all within at none same h =
-    let r = later (table_after table f) ps items ms part all within at (subst (λ (qs : List Piece). Follows s (table_after table f) qs fs) same h) in
-    subst (λ (hs : List StreamPart). Begins limit ms (flat_map framed ms ++ part) (hs ++ stream_parts_from s (table_after table f) fs) items) (sym none) r
+    let r = later (table_after_frame table f) ps items ms part all within at (subst (λ (qs : List Piece). Follows s (table_after_frame table f) qs fs) same h) in
+    subst (λ (hs : List StreamPart). Begins limit ms (flat_map framed_message ms ++ part) (hs ++ stream_parts_from s (table_after_frame table f) fs) items) (sym none) r
 
 -- ---- a header block
 
@@ -107,22 +107,22 @@ at_block part (Headed b ∷ items) ps block rest at is =
     record { none = at.0; others = items; is = (let k : b ≡ block = cc in ap (λ (x : ResponseBlock). Headed x ∷ items) k); pieces = cc }
 at_block part (Message m ∷ items) ps block rest at is = let e : ps ≡ Part at.0 ∷ map piece_of items = at.3 in cc
 
-block_put : (s t : ℕ) (e x : Bool) (fragment : List ℕ) (ps : List Piece) (block : ResponseBlock) (rest : List Piece) → (t == s) ≡ true → ps ≡ BlockPiece block ∷ rest → put_by s ps (Headers t e x fragment) ≡ rest
+block_put : (s t : ℕ) (e x : Bool) (fragment : List ℕ) (ps : List Piece) (block : ResponseBlock) (rest : List Piece) → (t == s) ≡ true → ps ≡ BlockPiece block ∷ rest → pieces_after_frame s ps (Headers t e x fragment) ≡ rest
 block_put s t e x fragment ps block rest same is = rw (same, is) refl
 
 block_is_heard : (s t : ℕ) (table : Option Table) (e x : Bool) (fragment : List ℕ) (block : ResponseBlock) → (t == s) ≡ true → e ≡ is_last block → x ≡ true → (step table fragment).0 ≡ Ok (fields_of block) → stream_parts_of s table (Headers t e x fragment) ≡ Fields (is_last block) (fields_of block) ∷ []
 block_is_heard s t table e x fragment block same end whole read = rw (same, end, whole, read) refl
 
-reads_block : (limit s t : ℕ) (e x : Bool) (fragment : List ℕ) (fs : List Frame) → limit < 2 ^ 32 → ReadsAll limit s fs → (table : Option Table) (ps : List Piece) (items : List Single) (ms : List (List ℕ)) (part : List ℕ) → AreShort limit ms → AreWithin limit items → PieceAt part items ps → (t == s) ≡ true → BlockAt table ps e x fragment → Follows s (table_after table (Headers t e x fragment)) (put_by s ps (Headers t e x fragment)) fs → Begins limit ms (flat_map framed ms ++ part) (stream_parts_from s table (Headers t e x fragment ∷ fs)) items
+reads_block : (limit s t : ℕ) (e x : Bool) (fragment : List ℕ) (fs : List Frame) → limit < 2 ^ 32 → ReadsAll limit s fs → (table : Option Table) (ps : List Piece) (items : List Single) (ms : List (List ℕ)) (part : List ℕ) → AreShort limit ms → AreWithin limit items → PieceAt part items ps → (t == s) ≡ true → BlockAt table ps e x fragment → Follows s (table_after_frame table (Headers t e x fragment)) (pieces_after_frame s ps (Headers t e x fragment)) fs → Begins limit ms (flat_map framed_message ms ++ part) (stream_parts_from s table (Headers t e x fragment ∷ fs)) items
 reads_block limit s t e x fragment fs small later table ps items ms part all within at same b h =
     let k = at_block part items ps b.block b.rest at b.is in
-    let put : put_by s ps (Headers t e x fragment) ≡ map piece_of k.others = block_put s t e x fragment ps b.block b.rest same b.is ∙ k.pieces in
+    let put : pieces_after_frame s ps (Headers t e x fragment) ≡ map piece_of k.others = block_put s t e x fragment ps b.block b.rest same b.is ∙ k.pieces in
     let within' : AreWithin limit (Headed b.block ∷ k.others) = subst (λ (is : List Single). AreWithin limit is) k.is within in
     let r = later (step table fragment).1 (map piece_of k.others) k.others [] [] tt within'.1 (fresh k.others) (subst (λ (qs : List Piece). Follows s (step table fragment).1 qs fs) put h) in
     let heard = block_is_heard s t table e x fragment b.block same b.end b.whole b.read in
     let halves = whole_split limit ms part small all k.none in
-    let closes : messages_to_end (split limit (flat_map framed ms ++ part)) ≡ map WholeMessage ms = ap messages_to_end halves ∙ ap (λ (p : List ℕ). messages_to_end (record { messages = ms; end = Ok p })) k.none ∙ append-nil (map WholeMessage ms) in
-    subst (λ (hs : List StreamPart). Begins limit ms (flat_map framed ms ++ part) (hs ++ stream_parts_from s (step table fragment).1 fs) items) (sym heard)
+    let closes : messages_to_end (split limit (flat_map framed_message ms ++ part)) ≡ map WholeMessage ms = ap messages_to_end halves ∙ ap (λ (p : List ℕ). messages_to_end (record { messages = ms; end = Ok p })) k.none ∙ append-nil (map WholeMessage ms) in
+    subst (λ (hs : List StreamPart). Begins limit ms (flat_map framed_message ms ++ part) (hs ++ stream_parts_from s (step table fragment).1 fs) items) (sym heard)
     (record {
       whole = Headed b.block ∷ r.whole;
       later = r.later;
@@ -138,7 +138,7 @@ record AtPart (part : List ℕ) (items : List Single) (bytes : List ℕ) (rest :
   message : List ℕ
   others : List Single
   is : items ≡ Message message ∷ others
-  text : framed message ≡ part ++ bytes
+  text : framed_message message ≡ part ++ bytes
   pieces : rest ≡ map piece_of others
 
 at_part : (part : List ℕ) (items : List Single) (ps : List Piece) (bytes : List ℕ) (rest : List Piece) → PieceAt part items ps → ps ≡ Part bytes ∷ rest → AtPart part items bytes rest
@@ -159,19 +159,19 @@ front_less xs ys y = let l = length-append xs (y ∷ ys) in let m : length xs < 
 front_all : (xs : List ℕ) → nat_lt (length xs) (length (xs ++ [])) ≡ false
 front_all xs = let l = length-append xs [] in let m : length (xs ++ []) ≤ length xs = omega (arith, l) in grind (arith, nat_tests)
 
-part_put : (s t : ℕ) (e : Bool) (bytes left : List ℕ) (y : ℕ) (ps rest : List Piece) → (t == s) ≡ true → ps ≡ Part (bytes ++ y ∷ left) ∷ rest → put_by s ps (Data t e bytes) ≡ Part (y ∷ left) ∷ rest
+part_put : (s t : ℕ) (e : Bool) (bytes left : List ℕ) (y : ℕ) (ps rest : List Piece) → (t == s) ≡ true → ps ≡ Part (bytes ++ y ∷ left) ∷ rest → pieces_after_frame s ps (Data t e bytes) ≡ Part (y ∷ left) ∷ rest
 part_put s t e bytes left y ps rest same is = let less = front_less bytes left y in let d = drop_front bytes (y ∷ left) in rw (same, is, less, d) refl
 
-all_put : (s t : ℕ) (e : Bool) (bytes : List ℕ) (ps rest : List Piece) → (t == s) ≡ true → ps ≡ Part (bytes ++ []) ∷ rest → put_by s ps (Data t e bytes) ≡ rest
+all_put : (s t : ℕ) (e : Bool) (bytes : List ℕ) (ps rest : List Piece) → (t == s) ≡ true → ps ≡ Part (bytes ++ []) ∷ rest → pieces_after_frame s ps (Data t e bytes) ≡ rest
 all_put s t e bytes ps rest same is = let more = front_all bytes in rw (same, is, more) refl
 
 part_is_heard : (s t : ℕ) (table : Option Table) (e : Bool) (bytes : List ℕ) → (t == s) ≡ true → e ≡ false → stream_parts_of s table (Data t e bytes) ≡ Bytes false bytes ∷ []
 part_is_heard s t table e bytes same end = rw (same, end) refl
 
 -- more of the text is read
-joined : (limit : ℕ) (ms : List (List ℕ)) (part bytes : List ℕ) (hs : List StreamPart) (items : List Single) → Begins limit ms (flat_map framed ms ++ (part ++ bytes)) hs items → Begins limit ms (flat_map framed ms ++ part) (Bytes false bytes ∷ hs) items
+joined : (limit : ℕ) (ms : List (List ℕ)) (part bytes : List ℕ) (hs : List StreamPart) (items : List Single) → Begins limit ms (flat_map framed_message ms ++ (part ++ bytes)) hs items → Begins limit ms (flat_map framed_message ms ++ part) (Bytes false bytes ∷ hs) items
 joined limit ms part bytes hs items r =
-    let e : flat_map framed ms ++ (part ++ bytes) ≡ (flat_map framed ms ++ part) ++ bytes = sym (append_assoc (flat_map framed ms) part bytes) in
+    let e : flat_map framed_message ms ++ (part ++ bytes) ≡ (flat_map framed_message ms ++ part) ++ bytes = sym (append_assoc (flat_map framed_message ms) part bytes) in
     record {
       whole = r.whole;
       later = r.later;
@@ -181,9 +181,9 @@ joined limit ms part bytes hs items r =
     }
 
 -- a message is whole
-completed : (limit : ℕ) (ms : List (List ℕ)) (m text : List ℕ) (hs : List StreamPart) (others : List Single) → framed m ≡ text → Begins limit (ms ++ m ∷ []) (flat_map framed (ms ++ m ∷ []) ++ []) hs others → Begins limit ms (flat_map framed ms ++ text) hs (Message m ∷ others)
+completed : (limit : ℕ) (ms : List (List ℕ)) (m text : List ℕ) (hs : List StreamPart) (others : List Single) → framed_message m ≡ text → Begins limit (ms ++ m ∷ []) (flat_map framed_message (ms ++ m ∷ []) ++ []) hs others → Begins limit ms (flat_map framed_message ms ++ text) hs (Message m ∷ others)
 completed limit ms m text hs others is r =
-    let e : flat_map framed (ms ++ m ∷ []) ++ [] ≡ flat_map framed ms ++ text = append-nil (flat_map framed (ms ++ m ∷ [])) ∙ flat_map-append framed ms (m ∷ []) ∙ ap (λ (x : List ℕ). flat_map framed ms ++ x) (append-nil (framed m) ∙ is) in
+    let e : flat_map framed_message (ms ++ m ∷ []) ++ [] ≡ flat_map framed_message ms ++ text = append-nil (flat_map framed_message (ms ++ m ∷ [])) ∙ flat_map-append framed_message ms (m ∷ []) ∙ ap (λ (x : List ℕ). flat_map framed_message ms ++ x) (append-nil (framed_message m) ∙ is) in
     record {
       whole = Message m ∷ r.whole;
       later = r.later;
@@ -192,21 +192,21 @@ completed limit ms m text hs others is r =
       rest = subst (λ (x : List ℕ). IsMessageFront (message_rest limit x hs) (map part_of r.later)) e r.rest;
     }
 
-reads_part : (limit s t : ℕ) (e : Bool) (bytes : List ℕ) (fs : List Frame) → ReadsAll limit s fs → (table : Option Table) (ps : List Piece) (items : List Single) (ms : List (List ℕ)) (part left : List ℕ) (rest : List Piece) → AreShort limit ms → AreWithin limit items → PieceAt part items ps → (t == s) ≡ true → e ≡ false → ps ≡ Part (bytes ++ left) ∷ rest → Follows s table (put_by s ps (Data t e bytes)) fs → Begins limit ms (flat_map framed ms ++ part) (stream_parts_from s table (Data t e bytes ∷ fs)) items
+reads_part : (limit s t : ℕ) (e : Bool) (bytes : List ℕ) (fs : List Frame) → ReadsAll limit s fs → (table : Option Table) (ps : List Piece) (items : List Single) (ms : List (List ℕ)) (part left : List ℕ) (rest : List Piece) → AreShort limit ms → AreWithin limit items → PieceAt part items ps → (t == s) ≡ true → e ≡ false → ps ≡ Part (bytes ++ left) ∷ rest → Follows s table (pieces_after_frame s ps (Data t e bytes)) fs → Begins limit ms (flat_map framed_message ms ++ part) (stream_parts_from s table (Data t e bytes ∷ fs)) items
 reads_part limit s t e bytes fs later table ps items ms part [] rest all within at same end is h =
     let k = at_part part items ps (bytes ++ []) rest at is in
-    let put : put_by s ps (Data t e bytes) ≡ map piece_of k.others = all_put s t e bytes ps rest same is ∙ k.pieces in
+    let put : pieces_after_frame s ps (Data t e bytes) ≡ map piece_of k.others = all_put s t e bytes ps rest same is ∙ k.pieces in
     let within' : AreWithin limit (Message k.message ∷ k.others) = subst (λ (is : List Single). AreWithin limit is) k.is within in
     let r = later table (map piece_of k.others) k.others (ms ++ k.message ∷ []) [] (all_append (λ (m : List ℕ). length m ≤ limit) ms (k.message ∷ []) all (within'.0, tt)) within'.1 (fresh k.others) (subst (λ (qs : List Piece). Follows s table qs fs) put h) in
     let c = completed limit ms k.message (part ++ bytes) (stream_parts_from s table fs) k.others (k.text ∙ ap (λ (bs : List ℕ). part ++ bs) (append-nil bytes)) r in
-    subst (λ (hs : List StreamPart). Begins limit ms (flat_map framed ms ++ part) (hs ++ stream_parts_from s table fs) items) (sym (part_is_heard s t table e bytes same end))
-    (joined limit ms part bytes (stream_parts_from s table fs) items (subst (λ (is : List Single). Begins limit ms (flat_map framed ms ++ (part ++ bytes)) (stream_parts_from s table fs) is) (sym k.is) c))
+    subst (λ (hs : List StreamPart). Begins limit ms (flat_map framed_message ms ++ part) (hs ++ stream_parts_from s table fs) items) (sym (part_is_heard s t table e bytes same end))
+    (joined limit ms part bytes (stream_parts_from s table fs) items (subst (λ (is : List Single). Begins limit ms (flat_map framed_message ms ++ (part ++ bytes)) (stream_parts_from s table fs) is) (sym k.is) c))
 reads_part limit s t e bytes fs later table ps items ms part (y ∷ left) rest all within at same end is h =
     let k = at_part part items ps (bytes ++ y ∷ left) rest at is in
-    let put : put_by s ps (Data t e bytes) ≡ Part (y ∷ left) ∷ map piece_of k.others = part_put s t e bytes left y ps rest same is ∙ ap (λ (qs : List Piece). Part (y ∷ left) ∷ qs) k.pieces in
+    let put : pieces_after_frame s ps (Data t e bytes) ≡ Part (y ∷ left) ∷ map piece_of k.others = part_put s t e bytes left y ps rest same is ∙ ap (λ (qs : List Piece). Part (y ∷ left) ∷ qs) k.pieces in
     let stands : PieceAt (part ++ bytes) (Message k.message ∷ k.others) (Part (y ∷ left) ∷ map piece_of k.others) = (y ∷ left, omega arith, k.text ∙ sym (append_assoc part bytes (y ∷ left)), refl) in
     let r = later table (Part (y ∷ left) ∷ map piece_of k.others) items ms (part ++ bytes) all within (subst (λ (is : List Single). PieceAt (part ++ bytes) is (Part (y ∷ left) ∷ map piece_of k.others)) (sym k.is) stands) (subst (λ (qs : List Piece). Follows s table qs fs) put h) in
-    subst (λ (hs : List StreamPart). Begins limit ms (flat_map framed ms ++ part) (hs ++ stream_parts_from s table fs) items) (sym (part_is_heard s t table e bytes same end))
+    subst (λ (hs : List StreamPart). Begins limit ms (flat_map framed_message ms ++ part) (hs ++ stream_parts_from s table fs) items) (sym (part_is_heard s t table e bytes same end))
     (joined limit ms part bytes (stream_parts_from s table fs) items r)
 
 -- ---- all frames

@@ -4,11 +4,11 @@ use Rattle.std.specs.Prelude.{map, zero, suc, take, drop, nat_lt}
 use Rattle.std.proofs.lemmas.Bool.{cases_Bool}
 use Rattle.std.specs.List.{AllByRecursion, flat_map}
 use Rattle.std.proofs.lemmas.List.{map-append}
-use Rattle.grpc_messages.specs.Writing.{framed}
+use Rattle.grpc_messages.specs.Writing.{framed_message}
 use Rattle.grpc_calls.specs.declared.response.ResponseBlock.{ResponseBlock}
 use Rattle.grpc_calls.specs.Responses.{fields_of, is_last}
 use Rattle.grpc_sending.specs.Pieces.{Piece}
-use Rattle.grpc_sending.specs.Pieces.{Block as BlockPiece, Part, most_read, read_piece, cut}
+use Rattle.grpc_sending.specs.Pieces.{Block as BlockPiece, Part, most_read, read_piece, message_pieces}
 use Rattle.grpc_sending.specs.Owed as Owed
 use Rattle.client_reading.specs.Responses.{messages_cut, read_messages, ResponsePart, Block, WholeMessage, response_parts, response_of, IsWithin, IsItemWithin}
 use Rattle.client_reading.proofs.Choices.{all_append}
@@ -19,7 +19,7 @@ pub data Single : Type 0 where
 
 abbrev pub piece_of : Single → Piece
 piece_of (Headed block) = BlockPiece block
-piece_of (Message message) = Part (framed message)
+piece_of (Message message) = Part (framed_message message)
 
 abbrev pub part_of : Single → ResponsePart
 part_of (Headed block) = Block (is_last block) (fields_of block)
@@ -35,7 +35,7 @@ all_singles items = flat_map singles_of items
 
 -- ---- as they are put
 
-cut_pieces : (n k : ℕ) (bytes : List ℕ) → cut n k bytes ≡ map piece_of (map Message (messages_cut n k bytes))
+cut_pieces : (n k : ℕ) (bytes : List ℕ) → message_pieces n k bytes ≡ map piece_of (map Message (messages_cut n k bytes))
 cut_pieces n zero bytes = refl
 cut_pieces n (suc k) bytes = elim (cases_Bool (nat_lt n (length bytes))) [
   | inl more ↦ rw more (ap (λ (ps : List Piece). read_piece (take n bytes) ∷ ps) (cut_pieces n k (drop n bytes)))

@@ -4,7 +4,7 @@ use Rattle.std.specs.Prelude.{Bool, true, false, not, ◌&&◌, map, take, min, 
 use Rattle.std.specs.List.{AllByRecursion}
 use Rattle.std.proofs.lemmas.List.{length-take}
 use Rattle.std.proofs.lemmas.List.Elements.{filter_map-append}
-use Rattle.http2_flow.specs.Credit.{left}
+use Rattle.http2_flow.specs.Credit.{window_left}
 use Rattle.http2_frames.specs.declared.codes.ErrorCode.{ErrorCode}
 use Rattle.http2_frames.specs.declared.codes.ErrorCode.TheVariants.{EnhanceYourCalm}
 use Rattle.http2_frames.specs.declared.error.FrameError.{FrameError}
@@ -15,18 +15,18 @@ use Rattle.http2_frames.specs.Writing.{IsStream, IsWritable, text_of, raw_of}
 use Rattle.http2_frames.specs.Frames.{frame_of}
 use Rattle.http2_frames.proofs.Again.{again, texts_again}
 use Rattle.http2_streams.specs.declared.event.StreamEvent.{StreamEvent}
-use Rattle.http2_streams.specs.Diary.{Entry, In, Unreadable, Out, Took, sent, frame_out, highest, has_failed, window, connection_window, is_ended_by_client}
-use Rattle.http2_streams.specs.Rules.{causes, control_frames}
+use Rattle.http2_streams.specs.History.{Entry, In, Unreadable, Out, Took, sent_frames, frame_out, highest_stream, has_failed, window, connection_window, is_ended_by_client}
+use Rattle.http2_streams.specs.Rules.{answer_after, control_frames}
 use Rattle.grpc_calls.specs.Responses.{is_last}
 use Rattle.grpc_calls.proofs.Blocks.{short}
 use Rattle.grpc_sending.specs.Pieces.{Piece}
-use Rattle.grpc_sending.specs.Bytes.{position, untaken}
-use Rattle.grpc_sending.specs.Owed.{Owed, left_on}
-use Rattle.grpc_sending.specs.Pump.{natural, block_frame, reset_after, pumped}
-use Rattle.grpc_sending.proofs.Diaries.{sent_more}
+use Rattle.grpc_sending.specs.Bytes.{position, untaken_count}
+use Rattle.grpc_sending.specs.Owed.{OwedItem, pieces_left_on}
+use Rattle.grpc_sending.specs.Pump.{natural_part, block_frame, reset_after, history_after_pump}
+use Rattle.grpc_sending.proofs.Histories.{sent_more}
 use Rattle.conn_core.specs.Past.{Past, opening}
-use Rattle.conn_core.specs.Received.{Outcome, outcome, outcome_of, fits, fitting, all_fit, goaway, fault_frames, entries, fault_entries}
-use Rattle.client_reading.specs.Changes.{Change, change, past_of, IsReceivable, IsChange, BytesReceived, FrameRead, FaultMet, ItemGiven, BytesTaken, FramesPut, EventsGiven}
+use Rattle.conn_core.specs.Received.{Outcome, outcome, outcome_of, may_put, frames_to_put, may_put_all, goaway_frame, fault_frames, frame_entries, fault_entries}
+use Rattle.client_reading.specs.Changes.{Change, past_after_change, past_of, IsReceivable, IsChange, BytesReceived, FrameRead, FaultMet, ItemGiven, BytesTaken, FramesPut, EventsGiven}
 use Rattle.client_reading.specs.Reads.{ReadsFrames}
 use Rattle.client_reading.proofs.Choices.{choose, all_append, all_by, fold_keeps}
 use Rattle.client_reading.proofs.Numbered.{IsFramed, highest_low, live_numbered}
@@ -36,7 +36,7 @@ use Rattle.client_reading.proofs.Nexts.{Next, IsFront, portion, pump_keeps}
 -- all frames that were received are frames, and all that were put can be written
 pub record Sound (d : List Entry) : Type 0 where
   pub framed : AllByRecursion IsFramed d
-  pub written : AllByRecursion IsWritable (sent d)
+  pub written : AllByRecursion IsWritable (sent_frames d)
 
 outs_framed : (fs : List Frame) → AllByRecursion IsFramed (map Out fs)
 outs_framed [] = tt
@@ -45,30 +45,30 @@ outs_framed (f ∷ fs) = (tt, outs_framed fs)
 pub sound_put : (d : List Entry) (fs : List Frame) → AllByRecursion IsWritable fs → Sound d → Sound (d ++ map Out fs)
 sound_put d fs h s = record {
   framed = all_append IsFramed d (map Out fs) s.framed (outs_framed fs);
-  written = subst (λ (gs : List Frame). AllByRecursion IsWritable gs) (sym (sent_more d fs)) (all_append IsWritable (sent d) fs s.written h);
+  written = subst (λ (gs : List Frame). AllByRecursion IsWritable gs) (sym (sent_more d fs)) (all_append IsWritable (sent_frames d) fs s.written h);
 }
 
 -- an entry that puts nothing
 abbrev IsSilent : Entry → Type 0
-IsSilent e = sent (e ∷ []) ≡ []
+IsSilent e = sent_frames (e ∷ []) ≡ []
 
-append_none : (d : List Entry) (xs : List Frame) → xs ≡ [] → sent d ++ xs ≡ sent d ++ []
-append_none d xs h = ap (λ (ys : List Frame). sent d ++ ys) h
+append_none : (d : List Entry) (xs : List Frame) → xs ≡ [] → sent_frames d ++ xs ≡ sent_frames d ++ []
+append_none d xs h = ap (λ (ys : List Frame). sent_frames d ++ ys) h
 
 sound_entry : (d : List Entry) (e : Entry) → IsSilent e → IsFramed e → Sound d → Sound (d ++ e ∷ [])
 sound_entry d e silent framed s = record {
   framed = all_append IsFramed d (e ∷ []) s.framed (framed, tt);
-  written = subst (λ (gs : List Frame). AllByRecursion IsWritable gs) (sym (filter_map-append frame_out d (e ∷ []))) (all_append IsWritable (sent d) (sent (e ∷ [])) s.written (subst (λ (gs : List Frame). AllByRecursion IsWritable gs) (sym silent) tt));
+  written = subst (λ (gs : List Frame). AllByRecursion IsWritable gs) (sym (filter_map-append frame_out d (e ∷ []))) (all_append IsWritable (sent_frames d) (sent_frames (e ∷ [])) s.written (subst (λ (gs : List Frame). AllByRecursion IsWritable gs) (sym silent) tt));
 }
 
 -- ---- what is put for a frame
 
-goaway_writable : (last : ℕ) (code : ErrorCode) → last < 2 ^ 31 → IsWritable (goaway last code)
+goaway_writable : (last : ℕ) (code : ErrorCode) → last < 2 ^ 31 → IsWritable (goaway_frame last code)
 goaway_writable last code low = (low, code_low code, omega arith)
 
-fitting_writable : (n : ℕ) (fs : List Frame) → AllByRecursion IsWritable fs → AllByRecursion IsWritable (fitting n fs)
+fitting_writable : (n : ℕ) (fs : List Frame) → AllByRecursion IsWritable fs → AllByRecursion IsWritable (frames_to_put n fs)
 fitting_writable n [] h = tt
-fitting_writable n (f ∷ fs) h = choose (AllByRecursion IsWritable) (fits n f) (f ∷ fitting (n + length (text_of f)) fs) [] (λ _. (h.0, fitting_writable (n + length (text_of f)) fs h.1)) (λ _. tt)
+fitting_writable n (f ∷ fs) h = choose (AllByRecursion IsWritable) (may_put n f) (f ∷ frames_to_put (n + length (text_of f)) fs) [] (λ _. (h.0, fitting_writable (n + length (text_of f)) fs h.1)) (λ _. tt)
 
 abbrev IsWrittenOutcome : Outcome → Type 0
 IsWrittenOutcome o = AllByRecursion IsWritable o.put
@@ -76,19 +76,19 @@ IsWrittenOutcome o = AllByRecursion IsWritable o.put
 outcome_by : (n before after : ℕ) (r : _) → before < 2 ^ 31 → after < 2 ^ 31 → ((a : StreamEvent) → r ≡ Ok a → AllByRecursion IsWritable (control_frames a)) → IsWrittenOutcome (outcome_of n before after r)
 outcome_by n before after (Err code) low high h = (goaway_writable before code low, tt)
 outcome_by n before after (Ok a) low high h =
-    choose IsWrittenOutcome (all_fit n (control_frames a)) _ _ (λ _. h a refl)
-    (λ _. all_append IsWritable (fitting n (control_frames a)) (goaway after EnhanceYourCalm ∷ []) (fitting_writable n (control_frames a) (h a refl)) (goaway_writable after EnhanceYourCalm high, tt))
+    choose IsWrittenOutcome (may_put_all n (control_frames a)) _ _ (λ _. h a refl)
+    (λ _. all_append IsWritable (frames_to_put n (control_frames a)) (goaway_frame after EnhanceYourCalm ∷ []) (fitting_writable n (control_frames a) (h a refl)) (goaway_writable after EnhanceYourCalm high, tt))
 
 outcome_writable : (d : List Entry) (f : RawFrame) → AllByRecursion IsFramed d → IsReceivable f → AllByRecursion IsWritable (outcome d f).put
 outcome_writable d f framed is =
-    outcome_by (untaken d) (highest d) (highest (d ++ In f ∷ [])) (causes d f) (highest_low d framed)
+    outcome_by (untaken_count d) (highest_stream d) (highest_stream (d ++ In f ∷ [])) (answer_after d f) (highest_low d framed)
     (highest_low (d ++ In f ∷ []) (all_append IsFramed d (In f ∷ []) framed (is, tt))) (λ a h. answers_writable d f a framed is h)
 
 two_steps : (d : List Entry) (e : Entry) (fs : List Frame) → (d ++ e ∷ []) ++ map Out fs ≡ d ++ e ∷ map Out fs
 two_steps [] e fs = refl
 two_steps (x ∷ d) e fs = ap (λ (es : List Entry). x ∷ es) (two_steps d e fs)
 
-sound_frame : (d : List Entry) (f : RawFrame) → IsReceivable f → Sound d → Sound (d ++ entries d f)
+sound_frame : (d : List Entry) (f : RawFrame) → IsReceivable f → Sound d → Sound (d ++ frame_entries d f)
 sound_frame d f is s = subst Sound (two_steps d (In f) (outcome d f).put) (sound_put (d ++ In f ∷ []) (outcome d f).put (outcome_writable d f s.framed is) (sound_entry d (In f) refl is s))
 
 fault_writable : (failed : Bool) (last : ℕ) (code : ErrorCode) → last < 2 ^ 31 → AllByRecursion IsWritable (fault_frames failed last code)
@@ -96,7 +96,7 @@ fault_writable true last code low = tt
 fault_writable false last code low = (goaway_writable last code low, tt)
 
 sound_fault : (d : List Entry) (e : FrameError) (code : ErrorCode) → Sound d → Sound (d ++ fault_entries d e code)
-sound_fault d e code s = subst Sound (two_steps d (Unreadable e) (fault_frames (has_failed d) (highest d) code)) (sound_put (d ++ Unreadable e ∷ []) (fault_frames (has_failed d) (highest d) code) (fault_writable (has_failed d) (highest d) code (highest_low d s.framed)) (sound_entry d (Unreadable e) refl tt s))
+sound_fault d e code s = subst Sound (two_steps d (Unreadable e) (fault_frames (has_failed d) (highest_stream d) code)) (sound_put (d ++ Unreadable e ∷ []) (fault_frames (has_failed d) (highest_stream d) code) (fault_writable (has_failed d) (highest_stream d) code (highest_low d s.framed)) (sound_entry d (Unreadable e) refl tt s))
 
 -- ---- what the pump puts
 
@@ -116,36 +116,36 @@ front_writable d s ps fs is (inl b) =
     let here : IsWritable (block_frame d s b.block) = (is, omega (arith, short')) in
     subst (λ (gs : List Frame). AllByRecursion IsWritable gs) (sym b.put) (here, reset_writable s (is_last b.block && not (is_ended_by_client d s)) is)
 front_writable d s ps fs is (inr p) =
-    let low = part_low (length p.bytes) (natural (left (window d s))) (natural (left (connection_window d))) in
+    let low = part_low (length p.bytes) (natural_part (window_left (window d s))) (natural_part (window_left (connection_window d))) in
     let less = taken_low (portion d s p.bytes) p.bytes in
     let here : IsWritable (Data s false (take (portion d s p.bytes) p.bytes)) = (is, omega (arith, low, less)) in
     subst (λ (gs : List Frame). AllByRecursion IsWritable gs) (sym p.put) (here, tt)
 
-sound_turn : (os : List Owed) (d : List Entry) (fs : List Frame) → Next d os fs → Sound d → Sound (d ++ map Out fs)
-sound_turn os d fs n s = sound_put d fs (front_writable d n.stream (left_on d os n.stream) fs (live_numbered d n.stream s.framed n.lives) n.front) s
+sound_turn : (os : List OwedItem) (d : List Entry) (fs : List Frame) → Next d os fs → Sound d → Sound (d ++ map Out fs)
+sound_turn os d fs n s = sound_put d fs (front_writable d n.stream (pieces_left_on d os n.stream) fs (live_numbered d n.stream s.framed n.lives) n.front) s
 
-pub sound_pumped : (d : List Entry) (os : List Owed) → Sound d → Sound (pumped d os)
+pub sound_pumped : (d : List Entry) (os : List OwedItem) → Sound d → Sound (history_after_pump d os)
 sound_pumped d os s = pump_keeps Sound os (sound_turn os) d s
 
 -- ---- every past
 
-pub sound_change : (p : Past) (c : Change) → IsChange c → Sound p.diary → Sound (change p c).diary
+pub sound_change : (p : Past) (c : Change) → IsChange c → Sound p.history → Sound (past_after_change p c).history
 sound_change p (BytesReceived bytes) is s = s
-sound_change p (FrameRead f) is s = sound_frame p.diary f is s
-sound_change p (FaultMet e code) is s = sound_fault p.diary e code s
+sound_change p (FrameRead f) is s = sound_frame p.history f is s
+sound_change p (FaultMet e code) is s = sound_fault p.history e code s
 sound_change p (ItemGiven t item) is s = s
-sound_change p (BytesTaken n) is s = sound_entry p.diary (Took n) refl tt s
-sound_change p FramesPut is s = sound_pumped p.diary p.owed s
+sound_change p (BytesTaken n) is s = sound_entry p.history (Took n) refl tt s
+sound_change p FramesPut is s = sound_pumped p.history p.owed s
 sound_change p (EventsGiven left) is s = s
 
-sound_opening : Sound opening.diary
+sound_opening : Sound opening.history
 sound_opening = record { framed = (tt, tt); written = ((((omega arith, omega arith), tt), omega arith, λ h. cc), tt) }
 
-pub sound_past : (cs : List Change) → AllByRecursion IsChange cs → Sound (past_of cs).diary
-sound_past cs all = fold_keeps (λ (p : Past). Sound p.diary) IsChange change opening cs sound_change all sound_opening
+pub sound_past : (cs : List Change) → AllByRecursion IsChange cs → Sound (past_of cs).history
+sound_past cs all = fold_keeps (λ (p : Past). Sound p.history) IsChange past_after_change opening cs sound_change all sound_opening
 
 pub sound_reads : (d : List Entry) → Sound d → ReadsFrames d
-sound_reads d s = record { divided = texts_again [] (sent d) s.written; understood = all_by IsWritable (λ f. frame_of (raw_of f) ≡ Ok f) (sent d) again s.written }
+sound_reads d s = record { divided = texts_again [] (sent_frames d) s.written; understood = all_by IsWritable (λ f. frame_of (raw_of f) ≡ Ok f) (sent_frames d) again s.written }
 
-pub frames_read : (cs : List Change) → AllByRecursion IsChange cs → ReadsFrames (past_of cs).diary
-frames_read cs all = sound_reads (past_of cs).diary (sound_past cs all)
+pub frames_read : (cs : List Change) → AllByRecursion IsChange cs → ReadsFrames (past_of cs).history
+frames_read cs all = sound_reads (past_of cs).history (sound_past cs all)

@@ -25,14 +25,14 @@ pub data Change : Type 0 where
   -- of the events of calls that are due these are left
   EventsGiven : List CallEvent → Change
 
-abbrev pub change : Past → Change → Past
-change p (BytesReceived bytes) = record p { text = p.text ++ bytes }
-change p (FrameRead f) = with_frame p f
-change p (FaultMet e code) = with_fault p e code
-change p (ItemGiven s item) = with_item p s item
-change p (BytesTaken n) = with_taken p n
-change p FramesPut = with_pumped p
-change p (EventsGiven left) = record p { due = left }
+abbrev pub past_after_change : Past → Change → Past
+past_after_change p (BytesReceived bytes) = record p { text = p.text ++ bytes }
+past_after_change p (FrameRead f) = with_frame p f
+past_after_change p (FaultMet e code) = with_fault p e code
+past_after_change p (ItemGiven s item) = with_item p s item
+past_after_change p (BytesTaken n) = with_taken p n
+past_after_change p FramesPut = with_pumped p
+past_after_change p (EventsGiven left) = record p { due = left }
 
 -- a frame as it can be read: section 4.2 for its length, section 4.1 for its stream
 abbrev pub IsReceivable : RawFrame → Type 0
@@ -45,7 +45,7 @@ IsChange (FaultMet e code) = reading_fault e ≡ Some code
 IsChange _ = Unit {0}
 
 abbrev pub past_of : List Change → Past
-past_of cs = fold change opening cs
+past_of cs = fold past_after_change opening cs
 
 -- what such changes made of the opening
 abbrev pub IsPast : Past → Type 0

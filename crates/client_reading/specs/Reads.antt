@@ -2,17 +2,17 @@
 use Rattle.std.specs.Prelude.{◌≡◌, ◌<◌, ◌^◌, if◌then◌else◌, ℕ, Bool, true, false, not, List, [], ◌∷◌, ◌++◌, length, map, filter, Ok, pos, ◌≤ℤ◌}
 use Rattle.std.specs.List.{AllByRecursion}
 use Rattle.std.specs.Option.{option_map_or}
-use Rattle.http2_flow.specs.Credit.{left}
+use Rattle.http2_flow.specs.Credit.{window_left}
 use Rattle.http2_frames.specs.declared.frame.Frame.{Frame}
 use Rattle.http2_frames.specs.declared.frame.Frame.TheVariants.{Data, Headers}
 use Rattle.http2_frames.specs.Frames.{frame_of}
 use Rattle.http2_frames.specs.Writing.{raw_of}
 use Rattle.http2_frames.specs.Reading.{split}
-use Rattle.http2_streams.specs.Diary.{Entry, In, Unreadable, Out, sent, live, window, connection_window, highest, has_failed, is_ended_by_client}
+use Rattle.http2_streams.specs.History.{Entry, In, Unreadable, Out, sent_frames, live_streams, window, connection_window, highest_stream, has_failed, is_ended_by_client}
 use Rattle.http2_streams.specs.LiveStreams.{has_stream}
 use Rattle.http2_streams.specs.Rules.{reading_fault}
 use Rattle.grpc_sending.specs.Bytes.{bytes_put}
-use Rattle.grpc_sending.specs.Owed.{owed_on}
+use Rattle.grpc_sending.specs.Owed.{items_owed_on}
 use Rattle.grpc_sending.specs.Pump.{reset_after}
 use Rattle.conn_core.specs.Received.{outcome, fault_frames}
 use Rattle.conn_core.specs.Past.{Past, greeting}
@@ -23,26 +23,27 @@ use Rattle.client_reading.specs.Responses.{stream_parts, response_of, IsBeginnin
 -- the bytes divide into the frames that were put and nothing is left over, and each is understood
 -- as it was meant
 pub record ReadsFrames (d : List Entry) : Type 0 where
-  pub divided : split [] (bytes_put d) ≡ record { frames = map raw_of (sent d); end = Ok [] }
-  pub understood : AllByRecursion (λ f. frame_of (raw_of f) ≡ Ok f) (sent d)
+  pub divided : split [] (bytes_put d) ≡ record { frames = map raw_of (sent_frames d); end = Ok [] }
+  pub understood : AllByRecursion (λ f. frame_of (raw_of f) ≡ Ok f) (sent_frames d)
 
 -- ---- HEADERS and DATA
 
 -- DATA is not empty, its stream is live, and both windows are for it (sections 5.1 and 5.2)
 pub record IsDataInTurn (before : List Entry) (s : ℕ) (bytes : List ℕ) : Type 0 where
-  pub stream : has_stream (live before) s ≡ true
+  pub stream : has_stream (live_streams before) s ≡ true
   pub some : 0 < length bytes
-  pub stream_window : pos (length bytes) ≤ℤ left (window before s)
-  pub connection_window : pos (length bytes) ≤ℤ left (connection_window before)
+  pub stream_window : pos (length bytes) ≤ℤ window_left (window before s)
+  pub connection_window : pos (length bytes) ≤ℤ window_left (connection_window before)
 
 -- what HEADERS and DATA have to keep to when they are put behind these entries
 abbrev pub IsInTurn : List Entry → Frame → Type 0
-IsInTurn before (Headers s end_stream end_headers fragment) = has_stream (live before) s ≡ true
+IsInTurn before (Headers s end_stream end_headers fragment) = has_stream (live_streams before) s ≡ true
 IsInTurn before (Data s end_stream bytes) = IsDataInTurn before s bytes
 IsInTurn before _ = Unit {0}
 
 abbrev pub ReadsInTurn : List Entry → Type 0
-ReadsInTurn d = (before after : List Entry) (f : Frame) → d ≡ before ++ Out f ∷ after → IsInTurn before f
+ReadsInTurn d =
+    (before after : List Entry) (f : Frame) → d ≡ before ++ Out f ∷ after → IsInTurn before f
 
 -- ---- control frames
 
@@ -54,29 +55,36 @@ is_control _ = true
 -- what an entry causes to be put besides HEADERS and DATA: a received frame its answers, bytes that
 -- are no frame GOAWAY, and a block with END_STREAM, where the client has not ended its side,
 -- RST_STREAM with NO_ERROR (section 8.1)
-abbrev pub caused_by : List Entry → Entry → List Frame
-caused_by before (In f) = (outcome before f).put
-caused_by before (Unreadable e) = option_map_or (fault_frames (has_failed before) (highest before)) (reading_fault e) []
-caused_by before (Out (Headers s end_stream end_headers fragment)) = if end_stream then reset_after s (not (is_ended_by_client before s)) else []
-caused_by before _ = []
+abbrev pub frames_caused_by : List Entry → Entry → List Frame
+frames_caused_by before (In f) = (outcome before f).put
+frames_caused_by before (Unreadable e) =
+    option_map_or (fault_frames (has_failed before) (highest_stream before)) (reading_fault e) []
+frames_caused_by before (Out (Headers s end_stream end_headers fragment)) =
+    if end_stream then reset_after s (not (is_ended_by_client before s)) else []
+frames_caused_by before _ = []
 
-abbrev pub caused_from : List Entry → List Entry → List Frame
-caused_from before [] = []
-caused_from before (e ∷ es) = caused_by before e ++ caused_from (before ++ e ∷ []) es
+abbrev pub frames_caused_from : List Entry → List Entry → List Frame
+frames_caused_from before [] = []
+frames_caused_from before (e ∷ es) =
+    frames_caused_by before e ++ frames_caused_from (before ++ e ∷ []) es
 
 -- the greeting stands first, and behind it is what was caused, in order
 abbrev pub ReadsControl : List Entry → Type 0
-ReadsControl d = (later : List Entry) × (d ≡ greeting ∷ later) × (filter is_control (sent later) ≡ caused_from (greeting ∷ []) later)
+ReadsControl d =
+    (later : List Entry) × (d ≡ greeting ∷ later)
+    × (filter is_control (sent_frames later) ≡ frames_caused_from (greeting ∷ []) later)
 
 -- ---- all of it
 
 -- where a client takes every message that was owed, each stream has a beginning of what was owed to
 -- it
 abbrev pub ReadsResponses : Past → Type 0
-ReadsResponses p = (limit : ℕ) → limit < 2 ^ 32 → IsTakable limit p.owed → (s : ℕ) → IsBeginning limit (stream_parts p.diary s) (response_of (owed_on s p.owed))
+ReadsResponses p =
+    (limit : ℕ) → limit < 2 ^ 32 → IsTakable limit p.owed → (s : ℕ) →
+    IsBeginning limit (stream_parts p.history s) (response_of (items_owed_on s p.owed))
 
 pub record Reads (p : Past) : Type 0 where
-  pub frames : ReadsFrames p.diary
-  pub turns : ReadsInTurn p.diary
-  pub control : ReadsControl p.diary
+  pub frames : ReadsFrames p.history
+  pub turns : ReadsInTurn p.history
+  pub control : ReadsControl p.history
   pub responses : ReadsResponses p

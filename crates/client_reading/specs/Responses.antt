@@ -9,14 +9,14 @@ use Rattle.hpack.specs.Table.{Table, new_table}
 use Rattle.hpack.specs.Block.{step}
 use Rattle.http2_frames.specs.declared.frame.Frame.{Frame}
 use Rattle.http2_frames.specs.declared.frame.Frame.TheVariants.{Data, Headers}
-use Rattle.http2_streams.specs.Diary.{Entry, sent}
+use Rattle.http2_streams.specs.History.{Entry, sent_frames}
 use Rattle.grpc_messages.specs.declared.error.MessagesError.{MessagesError}
 use Rattle.grpc_messages.specs.Wire.{Split}
 use Rattle.grpc_messages.specs.Reading.{split}
-use Rattle.grpc_messages.specs.Writing.{framed}
+use Rattle.grpc_messages.specs.Writing.{framed_message}
 use Rattle.grpc_calls.specs.Responses.{fields_of, is_last}
 use Rattle.grpc_sending.specs.Pieces.{most_read, read_message}
-use Rattle.grpc_sending.specs.Owed.{Owed, Item, Headed, Message, Range}
+use Rattle.grpc_sending.specs.Owed.{OwedItem, Item, Headed, Message, Range}
 
 -- ---- header blocks and DATA
 
@@ -33,22 +33,25 @@ block_part end_stream true (Ok fields) = Fields end_stream fields
 block_part end_stream _ _ = Garbled
 
 abbrev pub stream_parts_of : ℕ → Option Table → Frame → List StreamPart
-stream_parts_of s table (Headers t end_stream end_headers fragment) = if t == s then block_part end_stream end_headers (step table fragment).0 ∷ [] else []
-stream_parts_of s table (Data t end_stream bytes) = if t == s then Bytes end_stream bytes ∷ [] else []
+stream_parts_of s table (Headers t end_stream end_headers fragment) =
+    if t == s then block_part end_stream end_headers (step table fragment).0 ∷ [] else []
+stream_parts_of s table (Data t end_stream bytes) =
+    if t == s then Bytes end_stream bytes ∷ [] else []
 stream_parts_of s table _ = []
 
 -- one dynamic table for the blocks of all streams (RFC 7541, section 2.2)
-abbrev pub table_after : Option Table → Frame → Option Table
-table_after table (Headers t end_stream end_headers fragment) = (step table fragment).1
-table_after table _ = table
+abbrev pub table_after_frame : Option Table → Frame → Option Table
+table_after_frame table (Headers t end_stream end_headers fragment) = (step table fragment).1
+table_after_frame table _ = table
 
 abbrev pub stream_parts_from : ℕ → Option Table → List Frame → List StreamPart
 stream_parts_from s table [] = []
-stream_parts_from s table (f ∷ fs) = stream_parts_of s table f ++ stream_parts_from s (table_after table f) fs
+stream_parts_from s table (f ∷ fs) =
+    stream_parts_of s table f ++ stream_parts_from s (table_after_frame table f) fs
 
 -- what is received on stream s
 abbrev pub stream_parts : List Entry → ℕ → List StreamPart
-stream_parts d s = stream_parts_from s (Some new_table) (sent d)
+stream_parts d s = stream_parts_from s (Some new_table) (sent_frames d)
 
 -- ---- responses
 
@@ -59,21 +62,23 @@ pub data ResponsePart : Type 0 where
   -- by a block, DATA with END_STREAM
   Fault : ResponsePart
 
-abbrev pub behind_messages : Result (List ℕ) MessagesError → List ResponsePart
-behind_messages (Ok []) = []
-behind_messages (Ok (b ∷ bs)) = Fault ∷ []
-behind_messages (Err e) = Fault ∷ []
+abbrev pub parts_behind_messages : Result (List ℕ) MessagesError → List ResponsePart
+parts_behind_messages (Ok []) = []
+parts_behind_messages (Ok (b ∷ bs)) = Fault ∷ []
+parts_behind_messages (Err e) = Fault ∷ []
 
 -- the messages of a text to which no more is added
 abbrev pub messages_to_end : Split → List ResponsePart
-messages_to_end s = map WholeMessage s.messages ++ behind_messages s.end
+messages_to_end s = map WholeMessage s.messages ++ parts_behind_messages s.end
 
 -- adjacent DATA is joined and divided into messages of at most `limit` bytes; `text` stands before
 -- what is left
 abbrev pub response_from : ℕ → List ℕ → List StreamPart → List ResponsePart
 response_from limit text [] = map WholeMessage (split limit text).messages
-response_from limit text (Bytes end_stream bytes ∷ hs) = if end_stream then Fault ∷ [] else response_from limit (text ++ bytes) hs
-response_from limit text (Fields end_stream fields ∷ hs) = messages_to_end (split limit text) ++ Block end_stream fields ∷ response_from limit [] hs
+response_from limit text (Bytes end_stream bytes ∷ hs) =
+    if end_stream then Fault ∷ [] else response_from limit (text ++ bytes) hs
+response_from limit text (Fields end_stream fields ∷ hs) =
+    messages_to_end (split limit text) ++ Block end_stream fields ∷ response_from limit [] hs
 response_from limit text (Garbled ∷ hs) = Fault ∷ []
 
 -- what stands behind the last whole message
@@ -88,7 +93,9 @@ message_rest limit text (Garbled ∷ hs) = message_rest limit text hs
 -- bytes as google.bytestream.ReadResponse, each with at most n of them; at most so many messages
 abbrev pub messages_cut : ℕ → ℕ → List ℕ → List (List ℕ)
 messages_cut n zero bytes = []
-messages_cut n (suc k) bytes = if nat_lt n (length bytes) then read_message (take n bytes) ∷ messages_cut n k (drop n bytes) else read_message bytes ∷ []
+messages_cut n (suc k) bytes =
+    if nat_lt n (length bytes) then read_message (take n bytes) ∷ messages_cut n k (drop n bytes)
+    else read_message bytes ∷ []
 
 abbrev pub read_messages : List ℕ → List (List ℕ)
 read_messages bytes = messages_cut most_read (length bytes) bytes
@@ -105,7 +112,8 @@ response_of items = flat_map response_parts items
 -- nothing, or a true front of the message that comes next
 abbrev pub IsMessageFront : Result (List ℕ) MessagesError → List ResponsePart → Type 0
 IsMessageFront (Ok []) later = Unit {0}
-IsMessageFront (Ok (b ∷ bs)) (WholeMessage message ∷ later) = (more : List ℕ) × (0 < length more) × (framed message ≡ (b ∷ bs) ++ more)
+IsMessageFront (Ok (b ∷ bs)) (WholeMessage message ∷ later) =
+    (more : List ℕ) × (0 < length more) × (framed_message message ≡ (b ∷ bs) ++ more)
 IsMessageFront _ later = ⊥
 
 -- what is read is a beginning of this response: some of its parts whole, then perhaps a front of
@@ -125,5 +133,5 @@ abbrev pub IsItemWithin : ℕ → Item → Type 0
 IsItemWithin limit item = AllByRecursion (IsWithin limit) (response_parts item)
 
 -- no message that was ever owed is longer
-abbrev pub IsTakable : ℕ → List Owed → Type 0
+abbrev pub IsTakable : ℕ → List OwedItem → Type 0
 IsTakable limit os = AllByRecursion (λ o. IsItemWithin limit o.item) os

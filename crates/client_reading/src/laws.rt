@@ -6,7 +6,7 @@ ghost use Rattle.http2_frames.specs.Reading.{split};
 ghost use Rattle.http2_frames.specs.declared.frame.RawFrame.{RawFrame};
 ghost use Rattle.conn_core.specs.Past.{Past, opening, with_frame};
 ghost use Rattle.client_reading.specs.Answerable.{CanGoOn, AreAnswerableCalls, AnswersOnStreams};
-ghost use Rattle.client_reading.specs.Changes.{Change, change, IsReceivable, IsChange, IsPast};
+ghost use Rattle.client_reading.specs.Changes.{Change, past_after_change, IsReceivable, IsChange, IsPast};
 ghost use Rattle.client_reading.specs.Responses.{read_messages};
 ghost use Rattle.client_reading.specs.Ranges.{BringBytes};
 ghost use Rattle.client_reading.specs.Reads.{Reads};
@@ -20,7 +20,8 @@ pub fn received_frames_are_frames()
 /// A connection begins with a past, and each change of one makes another.
 pub fn changes_make_pasts()
     ensures opening { IsPast opening }
-    ensures change { (p : Past) (c : Change) → IsChange c → IsPast p → IsPast (change p c) }
+    ensures change { (p : Past) (c : Change) → IsChange c → IsPast p →
+        IsPast (past_after_change p c) }
 {}
 
 /// All that a client reads of the bytes that were put: frames as they were meant (RFC 9113),

@@ -12,7 +12,7 @@ use Rattle.clap.proofs.WalkLemmas.{both, one_text-rows}
 use Rattle.clap.specs.declared.parser.matches.ArgMatches.{ArgMatches}
 use Rattle.clap.specs.declared.parser.matches.Found.{Found}
 use Rattle.command_line.specs.CommandLine.{command_line, is_decimal, number_below, number_of, task_of}
-use Rattle.command_line.specs.Shown.{asked}
+use Rattle.command_line.specs.Shown.{task_asked}
 
 digits_pass : (digits : List ℕ) → AllDigits 10 digits → list_all (λ digit. nat_lt (digit_value digit) 10) digits ≡ true
 digits_pass [] all = refl
@@ -58,6 +58,6 @@ is_simple_command = refl
 
 -- what the words ask for is what their matches do
 pub asked_is : (app : App) (words : List Text) (m : ArgMatches) → app ≡ command_line → HasMatchesOf app words m
-    → asked words ≡ task_of (subcommand_rows_of m)
+    → task_asked words ≡ task_of (subcommand_rows_of m)
 asked_is app words m is has =
     sym (ap task_of ((has (ap is_simple is ∙ is_simple_command)).1 ∙ ap (λ (a : App). subcommand_of a words) is))

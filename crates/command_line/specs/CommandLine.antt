@@ -24,7 +24,9 @@ abbrev pub count : ValueParser
 count = Unsigned 0 9223372036854775807
 
 abbrev pub port : Rule
-port = record (long_option (codes "port")) { required = true; parser = Some (Signed (pos 1) (pos 65535)) }
+port =
+    record (long_option (codes "port"))
+    { required = true; parser = Some (Signed (pos 1) (pos 65535)) }
 
 abbrev pub send : Rule
 send = record (long_option (codes "send")) { required = true }
@@ -33,14 +35,16 @@ abbrev pub want : Rule
 want = record (long_option (codes "want")) { required = true; parser = Some count }
 
 abbrev pub turns : Rule
-turns = record (long_option (codes "turns")) { parser = Some count; defaults = codes "1000000000" ∷ [] }
+turns =
+    record (long_option (codes "turns")) { parser = Some count; defaults = codes "1000000000" ∷ [] }
 
 abbrev pub work : Rule
 work = record (long_option (codes "work")) { required = true }
 
 -- one word or more for instances
 abbrev pub instances : Rule
-instances = record (new_rule (codes "NAME:PORT:QUOTA:SLOTS")) { required = true; action = Some Append }
+instances =
+    record (new_rule (codes "NAME:PORT:QUOTA:SLOTS")) { required = true; action = Some Append }
 
 abbrev pub unary_command : Shape
 unary_command = (with_rule (new_app (codes "unary")) file).top
@@ -52,7 +56,8 @@ abbrev pub probe_command : Shape
 probe_command = (with_rule (with_rule (with_rule (with_rule (new_app (codes "probe")) port) send) want) turns).top
 
 abbrev pub serve_command : Shape
-serve_command = (with_rule (with_rule (with_rule (new_app (codes "serve")) work) turns) instances).top
+serve_command =
+    (with_rule (with_rule (with_rule (new_app (codes "serve")) work) turns) instances).top
 
 -- a command that tells its version
 abbrev pub with_version : App → App
@@ -76,7 +81,8 @@ pub data TaskValue : Type 0 where
 
 -- one decimal digit or more, and nothing else
 abbrev pub is_decimal : Text → Bool
-is_decimal digits = nat_lt 0 (length digits) && list_all (λ digit. nat_lt (digit_value digit) 10) digits
+is_decimal digits =
+    nat_lt 0 (length digits) && list_all (λ digit. nat_lt (digit_value digit) 10) digits
 
 -- the number below a bound that a text writes in decimal, with a plus sign or none
 abbrev pub number_below : ℕ → Text → Option ℕ
@@ -113,7 +119,8 @@ file_or_probe_by name given =
 
 -- what a command of this name asks for, with what was given to it
 abbrev pub task_by : Text → List Row → Option TaskValue
-task_by name given = if bytes_eq name (codes "serve") then serve_of given else file_or_probe_by name given
+task_by name given =
+    if bytes_eq name (codes "serve") then serve_of given else file_or_probe_by name given
 
 -- what the command that the words name asks for; where they name none, it is the script on standard
 -- input

@@ -14,12 +14,13 @@ use Rattle.command_line.specs.CommandLine.{TaskValue, unary, replay, serve, prob
 abbrev pub task_value : Task → TaskValue
 task_value (task.Unary file) = unary (option_map (λ f. f.now) file)
 task_value (task.Replay file) = replay file.now
-task_value (task.Serve work turns instances) = serve work.now turns (map (λ word. word.now) instances.items)
+task_value (task.Serve work turns instances) =
+    serve work.now turns (map (λ word. word.now) instances.items)
 task_value (task.Probe port send want turns) = probe port send.now want turns
 
 -- what the words of a command line ask for
-abbrev pub asked : List Text → Option TaskValue
-asked words = task_of (subcommand_of command_line words)
+abbrev pub task_asked : List Text → Option TaskValue
+task_asked words = task_of (subcommand_of command_line words)
 
 -- `clap` finds no fault in the words
 abbrev pub HasNoFault : List Text → Type 0
@@ -30,7 +31,7 @@ HasNoFault words = fault_of command_line words ≡ []
 abbrev pub IsFaultOf : List Text → CommandLineError → Type 0
 IsFaultOf words NoMemory = ⊤
 IsFaultOf words (Answered error) =
-    IsAmong (kind_of error) (fault_of command_line words) ⊎ ((kind_of error ≡ MissingRequiredArgument) × (asked words ≡ None))
+    IsAmong (kind_of error) (fault_of command_line words) ⊎ ((kind_of error ≡ MissingRequiredArgument) × (task_asked words ≡ None))
 
 -- an error of `clap` as the crate's own: it is kept, but for want of memory
 abbrev pub IsFrom : Error → CommandLineError → Type 0

@@ -6,7 +6,7 @@ ghost use Rattle.clap.specs.Words.{all_of, app_of, first_of, found_of, kind_of, 
 ghost use Rattle.clap.specs.declared.builder.command.Command.TheViews.{out-Command as fields_of};
 ghost use Rattle.clap.specs.declared.error.kind.ErrorKind.TheVariants.{DisplayHelp, DisplayVersion};
 ghost use Rattle.command_line.specs.CommandLine.{command_line, file, long_option, number_of, port, send, want, turns, unary_command, replay_command, probe_command, probe_of, work, instances, serve_command, serve_of, file_or_probe_by, task_by, task_of};
-ghost use Rattle.command_line.specs.Shown.{task_value, asked, HasNoFault, IsFaultOf, IsFrom};
+ghost use Rattle.command_line.specs.Shown.{task_value, task_asked, HasNoFault, IsFaultOf, IsFrom};
 
 use clap::error::ErrorKind;
 use clap::{Arg, ArgAction, ArgMatches, Command, Error, value_parser};
@@ -321,7 +321,7 @@ impl From<Error> for CommandLineError {
 }
 
 fn missing(command: &mut Command<'_>) -> CommandLineError
-    ensures { (words : List (List ℕ)) → asked words ≡ None → IsFaultOf words result }
+    ensures { (words : List (List ℕ)) → task_asked words ≡ None → IsFaultOf words result }
 {
     match command.error(ErrorKind::MissingRequiredArgument, "an argument is missing") {
         Ok(error) => CommandLineError::from(error),
@@ -331,7 +331,7 @@ fn missing(command: &mut Command<'_>) -> CommandLineError
 
 /// What the words of a command line ask for.
 pub fn parse<'a>(alloc: Global, words: &'a [String]) -> Result<Task<'a>, CommandLineError>
-    ensures task { IfOk result (λ task. asked (map string_bytes words.entry.now)
+    ensures task { IfOk result (λ task. task_asked (map string_bytes words.entry.now)
         ≡ Some (task_value task)) }
     ensures faultless { IfOk result (λ _. HasNoFault (map string_bytes words.entry.now)) }
     ensures fault { IfErr result (IsFaultOf (map string_bytes words.entry.now)) }

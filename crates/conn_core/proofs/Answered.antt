@@ -12,15 +12,15 @@ use Rattle.http2_frames.specs.declared.frame.Frame.TheVariants.{Data, Headers, P
 use Rattle.http2_frames.specs.declared.reader.TheConstants.{CLIENT_PREFACE}
 use Rattle.http2_frames.specs.Reader.{StandsFor as IsReader}
 use Rattle.http2_streams.specs.declared.event.StreamEvent.{StreamEvent}
-use Rattle.http2_streams.specs.Diary.{Entry, In, Out, sent, frame_out, has_failed, is_goaway, is_live, opened, highest}
+use Rattle.http2_streams.specs.History.{Entry, In, Out, sent_frames, frame_out, has_failed, is_goaway, is_not_closed, opened_streams, highest_stream}
 use Rattle.http2_streams.specs.Standing.{Standing, standing}
 use Rattle.http2_streams.specs.StandsFor.{StandsFor as AreStreams}
-use Rattle.http2_streams.specs.Rules.{causes, control_frames, frames_put, entries_of}
-use Rattle.grpc_sending.specs.Bytes.{untaken}
-use Rattle.grpc_sending.specs.Kept.{Look, sending_in, Kept, StandsFor as IsSending}
-use Rattle.grpc_sending.proofs.Diaries.{append-nil}
+use Rattle.http2_streams.specs.Rules.{answer_after, control_frames, frames_put, entries_of}
+use Rattle.grpc_sending.specs.Bytes.{untaken_count}
+use Rattle.grpc_sending.specs.StoredSending.{Look, sending_in, StoredSending, StandsFor as IsSending}
+use Rattle.grpc_sending.proofs.Histories.{append-nil}
 use Rattle.grpc_sending.proofs.Received.{frame_heard}
-use Rattle.conn_core.specs.Received.{raw_received, raw_in, Outcome, outcome, outcome_of, entries, fault, fitting, all_fit}
+use Rattle.conn_core.specs.Received.{received_raw_frames, raw_in, Outcome, outcome, outcome_of, frame_entries, fault_outcome, frames_to_put, may_put_all}
 use Rattle.conn_core.specs.Past.{Past}
 use Rattle.conn_core.specs.StandsFor.{Present}
 use Rattle.conn_core.specs.Step.{AreCalls, ChangesStreams, HasBrought, after_frame}
@@ -39,24 +39,24 @@ abbrev pub good : StreamEvent → Outcome
 good a = record { put = control_frames a; event = a.event; fails = false }
 
 abbrev pub cut : ℕ → ℕ → StreamEvent → Outcome
-cut n h a = fault (fitting n (control_frames a)) h EnhanceYourCalm
+cut n h a = fault_outcome (frames_to_put n (control_frames a)) h EnhanceYourCalm
 
-pub outcome_good : (d : List Entry) (f : RawFrame) (a : StreamEvent) → causes d f ≡ Ok a → all_fit (untaken d) (control_frames a) ≡ true → outcome d f ≡ good a
-outcome_good d f a h fit = ap (λ (r : Result StreamEvent ErrorCode). outcome_of (untaken d) (highest d) (highest (d ++ In f ∷ [])) r) h ∙ ap (λ b. cond b (good a) (cut (untaken d) (highest (d ++ In f ∷ [])) a)) fit
+pub outcome_good : (d : List Entry) (f : RawFrame) (a : StreamEvent) → answer_after d f ≡ Ok a → may_put_all (untaken_count d) (control_frames a) ≡ true → outcome d f ≡ good a
+outcome_good d f a h fit = ap (λ (r : Result StreamEvent ErrorCode). outcome_of (untaken_count d) (highest_stream d) (highest_stream (d ++ In f ∷ [])) r) h ∙ ap (λ b. cond b (good a) (cut (untaken_count d) (highest_stream (d ++ In f ∷ [])) a)) fit
 
-pub outcome_cut : (d : List Entry) (f : RawFrame) (a : StreamEvent) → causes d f ≡ Ok a → all_fit (untaken d) (control_frames a) ≡ false → outcome d f ≡ cut (untaken d) (highest (d ++ In f ∷ [])) a
-outcome_cut d f a h fit = ap (λ (r : Result StreamEvent ErrorCode). outcome_of (untaken d) (highest d) (highest (d ++ In f ∷ [])) r) h ∙ ap (λ b. cond b (good a) (cut (untaken d) (highest (d ++ In f ∷ [])) a)) fit
+pub outcome_cut : (d : List Entry) (f : RawFrame) (a : StreamEvent) → answer_after d f ≡ Ok a → may_put_all (untaken_count d) (control_frames a) ≡ false → outcome d f ≡ cut (untaken_count d) (highest_stream (d ++ In f ∷ [])) a
+outcome_cut d f a h fit = ap (λ (r : Result StreamEvent ErrorCode). outcome_of (untaken_count d) (highest_stream d) (highest_stream (d ++ In f ∷ [])) r) h ∙ ap (λ b. cond b (good a) (cut (untaken_count d) (highest_stream (d ++ In f ∷ [])) a)) fit
 
-pub outcome_fault : (d : List Entry) (f : RawFrame) (code : ErrorCode) → causes d f ≡ Err code → outcome d f ≡ fault [] (highest d) code
-outcome_fault d f code h = ap (λ (r : Result StreamEvent ErrorCode). outcome_of (untaken d) (highest d) (highest (d ++ In f ∷ [])) r) h
+pub outcome_fault : (d : List Entry) (f : RawFrame) (code : ErrorCode) → answer_after d f ≡ Err code → outcome d f ≡ fault_outcome [] (highest_stream d) code
+outcome_fault d f code h = ap (λ (r : Result StreamEvent ErrorCode). outcome_of (untaken_count d) (highest_stream d) (highest_stream (d ++ In f ∷ [])) r) h
 
 -- ---- a frame and what is put for it
 
 pub in_front : (d : List Entry) (f : RawFrame) (fs : List Frame) → d ++ In f ∷ map Out fs ≡ (d ++ In f ∷ []) ++ map Out fs
 in_front d f fs = sym (append_assoc d (In f ∷ []) (map Out fs))
 
-sent_in : (d : List Entry) (f : RawFrame) → sent (d ++ In f ∷ []) ≡ sent d
-sent_in d f = filter_map-append frame_out d (In f ∷ []) ∙ append-nil (sent d)
+sent_in : (d : List Entry) (f : RawFrame) → sent_frames (d ++ In f ∷ []) ≡ sent_frames d
+sent_in d f = filter_map-append frame_out d (In f ∷ []) ∙ append-nil (sent_frames d)
 
 no_goaway : (f : Frame) → is_answer f ≡ true → is_goaway f ≡ false
 no_goaway (GoAway s c b) h = cc
@@ -83,10 +83,10 @@ answers_quiet (f ∷ fs) h = elim (cases_Bool (is_answer f)) [
 pub failed_after : (d : List Entry) (f : RawFrame) (fs : List Frame) → list_any is_goaway fs ≡ false → has_failed (d ++ In f ∷ map Out fs) ≡ has_failed d
 failed_after d f fs quiet = ap has_failed (in_front d f fs) ∙ failed_same (d ++ In f ∷ []) fs quiet ∙ ap (λ (gs : List Frame). list_any is_goaway gs) (sent_in d f)
 
-pub raw_after : (d : List Entry) (f : RawFrame) (fs : List Frame) → raw_received (d ++ In f ∷ map Out fs) ≡ raw_received d ++ f ∷ []
-raw_after d f fs = ap raw_received (in_front d f fs) ∙ raw_out (d ++ In f ∷ []) fs ∙ filter_map-append raw_in d (In f ∷ [])
+pub raw_after : (d : List Entry) (f : RawFrame) (fs : List Frame) → received_raw_frames (d ++ In f ∷ map Out fs) ≡ received_raw_frames d ++ f ∷ []
+raw_after d f fs = ap received_raw_frames (in_front d f fs) ∙ raw_out (d ++ In f ∷ []) fs ∙ filter_map-append raw_in d (In f ∷ [])
 
-pub entries_caused : (d : List Entry) (f : RawFrame) (a : StreamEvent) → causes d f ≡ Ok a → entries_of d f ≡ In f ∷ map Out (control_frames a)
+pub entries_caused : (d : List Entry) (f : RawFrame) (a : StreamEvent) → answer_after d f ≡ Ok a → entries_of d f ≡ In f ∷ map Out (control_frames a)
 entries_caused d f a h = ap (λ (r : Result StreamEvent ErrorCode). In f ∷ map Out (frames_put (standing d) r)) h
 
 -- ---- the streams
@@ -95,53 +95,53 @@ both : (a b : Bool) → a ≡ true → b ≡ true → (a && b) ≡ true
 both true b h k = k
 both false b h k = cc
 
-pub changes : (u : Standing) (d : List Entry) (f : RawFrame) (a : StreamEvent) → AreStreams u d → has_failed d ≡ false → causes d f ≡ Ok a → ChangesStreams d (d ++ entries_of d f) a.event
+pub changes : (u : Standing) (d : List Entry) (f : RawFrame) (a : StreamEvent) → AreStreams u d → has_failed d ≡ false → answer_after d f ≡ Ok a → ChangesStreams d (d ++ entries_of d f) a.event
 changes u d f a at fine h = record {
   streams = live_after_frame u d f a at fine h;
   falls = λ s lives. live_falls d (entries_of d f) s lives;
   event = event_on_stream d f a h;
   idle = λ s above. idle d s above;
-  begun = λ s call lives. in_live d s ∙ both (list_any (λ t. t == s) (opened d)) (is_live d s) (call_opened d s call) lives;
+  begun = λ s call lives. in_live d s ∙ both (list_any (λ t. t == s) (opened_streams d)) (is_not_closed d s) (call_opened d s call) lives;
   opened = λ s member. let l = listed_is_live d s member in (l.1, l.0);
 }
 
 -- ---- all of it
 
-kept_calls : (v : Present) (w : Kept) (d : List Entry) → AreCalls v d → AreCalls (with_sending v w) d
+kept_calls : (v : Present) (w : StoredSending) (d : List Entry) → AreCalls v d → AreCalls (with_sending v w) d
 kept_calls v w d h = record { calls = h.calls; order = h.order }
 
-has_brought : (texts : Look) (v : Present) (p : Past) (f : RawFrame) (a : StreamEvent) (w : Kept) → IsAnswered texts v p f a → all_fit (untaken p.diary) (control_frames a) ≡ true → IsSending texts w (p.diary ++ In f ∷ map Out (control_frames a)) p.owed → HasBrought texts (with_sending v w) p f a.event
+has_brought : (texts : Look) (v : Present) (p : Past) (f : RawFrame) (a : StreamEvent) (w : StoredSending) → IsAnswered texts v p f a → may_put_all (untaken_count p.history) (control_frames a) ≡ true → IsSending texts w (p.history ++ In f ∷ map Out (control_frames a)) p.owed → HasBrought texts (with_sending v w) p f a.event
 has_brought texts v p f a w h fit sending =
-    let o : outcome p.diary f ≡ good a = outcome_good p.diary f a h.causes fit in
-    let es : entries p.diary f ≡ In f ∷ map Out (control_frames a) = ap (λ (x : Outcome). In f ∷ map Out x.put) o in
-    let is : after_frame p f ≡ p.diary ++ In f ∷ map Out (control_frames a) = ap (λ (xs : List Entry). p.diary ++ xs) es in
-    let same : p.diary ++ entries_of p.diary f ≡ after_frame p f = ap (λ (xs : List Entry). p.diary ++ xs) (entries_caused p.diary f a h.causes) ∙ sym is in
+    let o : outcome p.history f ≡ good a = outcome_good p.history f a h.causes fit in
+    let es : frame_entries p.history f ≡ In f ∷ map Out (control_frames a) = ap (λ (x : Outcome). In f ∷ map Out x.put) o in
+    let is : after_frame p f ≡ p.history ++ In f ∷ map Out (control_frames a) = ap (λ (xs : List Entry). p.history ++ xs) es in
+    let same : p.history ++ entries_of p.history f ≡ after_frame p f = ap (λ (xs : List Entry). p.history ++ xs) (entries_caused p.history f a h.causes) ∙ sym is in
     record {
       ended = h.ended;
       is_event = ap (λ (x : Outcome). x.event) o;
       fits = ap (λ (x : Outcome). x.fails) o;
-      lives = ap has_failed is ∙ failed_after p.diary f (control_frames a) (answers_quiet (control_frames a) (answers_are p.diary f a h.causes)) ∙ h.lives;
-      reader = subst (λ (rs : List RawFrame). IsReader CLIENT_PREFACE.now v.reader p.text rs) (sym (ap raw_received is ∙ raw_after p.diary f (control_frames a))) h.reader;
+      lives = ap has_failed is ∙ failed_after p.history f (control_frames a) (answers_quiet (control_frames a) (answers_are p.history f a h.causes)) ∙ h.lives;
+      reader = subst (λ (rs : List RawFrame). IsReader CLIENT_PREFACE.now v.reader p.text rs) (sym (ap received_raw_frames is ∙ raw_after p.history f (control_frames a))) h.reader;
       streams = subst (λ (x : List Entry). AreStreams v.streams x) same h.streams;
       sending = subst (λ (x : List Entry). IsSending texts w x p.owed) (sym is) sending;
       due = h.due;
-      calls = kept_calls v w p.diary h.calls;
-      change = subst (λ (x : List Entry). ChangesStreams p.diary x a.event) same (changes h.before p.diary f a h.stood h.lives h.causes);
+      calls = kept_calls v w p.history h.calls;
+      change = subst (λ (x : List Entry). ChangesStreams p.history x a.event) same (changes h.before p.history f a h.stood h.lives h.causes);
     }
 
-pub fits_of : (texts : Look) (v : Present) (p : Past) (f : RawFrame) (a : StreamEvent) (w : Present) (b : Bool) → IsAnswered texts v p f a → Puts v (control_frames a) b w → all_fit (untaken p.diary) (control_frames a) ≡ b
-fits_of texts v p f a w b h puts = ap (λ n. all_fit n (control_frames a)) (sym (ap length h.sending.pending)) ∙ sym puts.all
+pub fits_of : (texts : Look) (v : Present) (p : Past) (f : RawFrame) (a : StreamEvent) (w : Present) (b : Bool) → IsAnswered texts v p f a → Puts v (control_frames a) b w → may_put_all (untaken_count p.history) (control_frames a) ≡ b
+fits_of texts v p f a w b h puts = ap (λ n. may_put_all n (control_frames a)) (sym (ap length h.sending.pending)) ∙ sym puts.all
 
 -- what was put stands behind the frame
-pub put_behind : (texts : Look) (v : Present) (p : Past) (f : RawFrame) (a : StreamEvent) (w : Present) (b : Bool) → IsAnswered texts v p f a → Puts v (control_frames a) b w → IsSending texts w.sending (p.diary ++ In f ∷ map Out (fitting (untaken p.diary) (control_frames a))) p.owed
+pub put_behind : (texts : Look) (v : Present) (p : Past) (f : RawFrame) (a : StreamEvent) (w : Present) (b : Bool) → IsAnswered texts v p f a → Puts v (control_frames a) b w → IsSending texts w.sending (p.history ++ In f ∷ map Out (frames_to_put (untaken_count p.history) (control_frames a))) p.owed
 put_behind texts v p f a w b h puts =
-    let n : length v.sending.pending ≡ untaken p.diary = ap length h.sending.pending in
-    let there = puts.sending texts (p.diary ++ In f ∷ []) p.owed (frame_heard (sending_in texts v.sending) p.diary p.owed f h.sending) in
-    let there' : IsSending texts w.sending ((p.diary ++ In f ∷ []) ++ map Out (fitting (untaken p.diary) (control_frames a))) p.owed = subst (λ (m : ℕ). IsSending texts w.sending ((p.diary ++ In f ∷ []) ++ map Out (fitting m (control_frames a))) p.owed) n there in
-    subst (λ (x : List Entry). IsSending texts w.sending x p.owed) (sym (in_front p.diary f (fitting (untaken p.diary) (control_frames a)))) there'
+    let n : length v.sending.pending ≡ untaken_count p.history = ap length h.sending.pending in
+    let there = puts.sending texts (p.history ++ In f ∷ []) p.owed (frame_heard (sending_in texts v.sending) p.history p.owed f h.sending) in
+    let there' : IsSending texts w.sending ((p.history ++ In f ∷ []) ++ map Out (frames_to_put (untaken_count p.history) (control_frames a))) p.owed = subst (λ (m : ℕ). IsSending texts w.sending ((p.history ++ In f ∷ []) ++ map Out (frames_to_put m (control_frames a))) p.owed) n there in
+    subst (λ (x : List Entry). IsSending texts w.sending x p.owed) (sym (in_front p.history f (frames_to_put (untaken_count p.history) (control_frames a)))) there'
 
 pub answered_fits : (texts : Look) (v w : Present) (p : Past) (f : RawFrame) (a : StreamEvent) → IsAnswered texts v p f a → Puts v (control_frames a) true w → HasBrought texts w p f a.event
 answered_fits texts v w p f a h puts =
     let fit = fits_of texts v p f a w true h puts in
-    let sending : IsSending texts w.sending (p.diary ++ In f ∷ map Out (control_frames a)) p.owed = subst (λ (fs : List Frame). IsSending texts w.sending (p.diary ++ In f ∷ map Out fs) p.owed) (fitting_all (untaken p.diary) (control_frames a) fit) (put_behind texts v p f a w true h puts) in
+    let sending : IsSending texts w.sending (p.history ++ In f ∷ map Out (control_frames a)) p.owed = subst (λ (fs : List Frame). IsSending texts w.sending (p.history ++ In f ∷ map Out fs) p.owed) (fitting_all (untaken_count p.history) (control_frames a) fit) (put_behind texts v p f a w true h puts) in
     subst (λ (y : Present). HasBrought texts y p f a.event) (sym puts.rest) (has_brought texts v p f a w.sending h fit sending)

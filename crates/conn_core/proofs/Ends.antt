@@ -15,25 +15,25 @@ use Rattle.http2_streams.specs.declared.event.Event.{Event}
 use Rattle.http2_streams.specs.declared.event.Event.TheVariants.{Nothing, Request, Content, Trailers, Cancel}
 use Rattle.http2_streams.specs.declared.event.StreamEvent.{StreamEvent}
 use Rattle.http2_streams.specs.declared.stream.Stream.{Stream}
-use Rattle.http2_streams.specs.Diary.{Entry, In, Unreadable, Out, sent, has_failed, is_goaway, live, highest, is_ended_by_server, blocks_after, no_blocks, stream_of}
+use Rattle.http2_streams.specs.History.{Entry, In, Unreadable, Out, sent_frames, has_failed, is_goaway, live_streams, highest_stream, is_ended_by_server, blocks_after, no_blocks, stream_of}
 use Rattle.http2_streams.specs.Standing.{Standing}
 use Rattle.http2_streams.specs.StandsFor.{StandsFor as AreStreams}
-use Rattle.http2_streams.specs.Rules.{number_is, causes, control_frames, entries_of}
-use Rattle.grpc_sending.specs.Bytes.{untaken}
-use Rattle.grpc_sending.specs.Kept.{Look, sending_in, StandsFor as IsSending}
-use Rattle.grpc_sending.proofs.Diaries.{received_more, sent_more}
+use Rattle.http2_streams.specs.Rules.{number_is, answer_after, control_frames, entries_of}
+use Rattle.grpc_sending.specs.Bytes.{untaken_count}
+use Rattle.grpc_sending.specs.StoredSending.{Look, sending_in, StandsFor as IsSending}
+use Rattle.grpc_sending.proofs.Histories.{received_more, sent_more}
 use Rattle.grpc_sending.proofs.Received.{frame_heard, fault_heard}
 use Rattle.grpc_sending.proofs.Takes.{live_is}
 use Rattle.grpc_messages.specs.declared.error.MessagesError.{MessagesError}
 use Rattle.conn_core.specs.declared.call.Call.{Call}
 use Rattle.conn_core.specs.declared.event.CallEvent.{CallEvent}
 use Rattle.conn_core.specs.declared.event.CallEvent.TheVariants.{Cancel as CallCancel}
-use Rattle.conn_core.specs.Received.{Outcome, outcome, fault, fitting, goaway, fault_frames, fault_entries}
-use Rattle.conn_core.specs.Calls.{is_call, cancels, call_events_of, answered_at_once}
-use Rattle.conn_core.specs.Past.{Past, owe_all, with_frame, with_fault}
-use Rattle.conn_core.specs.StandsFor.{Present, StandsFor, IsCall, call_on, among, stream_of as call_stream}
+use Rattle.conn_core.specs.Received.{Outcome, outcome, fault_outcome, frames_to_put, goaway_frame, fault_frames, fault_entries}
+use Rattle.conn_core.specs.Calls.{is_call, cancels, call_events_of, items_at_once}
+use Rattle.conn_core.specs.Past.{Past, owed_with_items, with_frame, with_fault}
+use Rattle.conn_core.specs.StandsFor.{Present, StandsFor, IsCall, call_on, members_of, stream_of as call_stream}
 use Rattle.conn_core.specs.Step.{AreCalls, IsTaking}
-use Rattle.http2_streams.specs.LiveStreams.{IsOnItsStream, live_after, others, named}
+use Rattle.http2_streams.specs.LiveStreams.{IsOnItsStream, live_after, other_streams, stream_of_event}
 use Rattle.conn_core.specs.Putting.{Puts, Fails, IsAnswered, is_that, is_ending, ended_calls}
 use Rattle.conn_core.proofs.Numbers.{any_kept}
 use Rattle.http2_streams.proofs.EventLaw.{live_after_frame, event_on_stream}
@@ -58,10 +58,10 @@ filter_same p q (x ∷ xs) h =
       | inr drops ↦ let k : p x ≡ false = here ∙ drops in rw (drops, k) rest
     ]
 
-cancels_are : (d : List Entry) (xs : List ℕ) (streams : List Stream) (reset : Option ℕ) → has_failed d ≡ false → among (live d) xs ≡ filter (is_call d) (live d) → ((s : ℕ) → list_any (λ t. t == s) xs ≡ true → is_ending streams reset s ≡ list_any (λ t. t == s) (live d)) → ended_calls streams reset xs ≡ cancels d
+cancels_are : (d : List Entry) (xs : List ℕ) (streams : List Stream) (reset : Option ℕ) → has_failed d ≡ false → members_of (live_streams d) xs ≡ filter (is_call d) (live_streams d) → ((s : ℕ) → list_any (λ t. t == s) xs ≡ true → is_ending streams reset s ≡ list_any (λ t. t == s) (live_streams d)) → ended_calls streams reset xs ≡ cancels d
 cancels_are d xs streams reset fine order same =
-    ap (λ (ss : List ℕ). map CallCancel ss) (filter_same (is_ending streams reset) (λ s. list_any (λ t. t == s) (live d)) xs same ∙ order)
-    ∙ ap (λ b. cond b [] (map CallCancel (filter (is_call d) (live d)))) (sym fine)
+    ap (λ (ss : List ℕ). map CallCancel ss) (filter_same (is_ending streams reset) (λ s. list_any (λ t. t == s) (live_streams d)) xs same ∙ order)
+    ∙ ap (λ b. cond b [] (map CallCancel (filter (is_call d) (live_streams d)))) (sym fine)
 
 or_none : (b : Bool) → (b || false) ≡ b
 or_none true = refl
@@ -82,15 +82,15 @@ all_end u streams d v at fine same calls = cancels_are d (map call_stream v.call
 
 -- ---- of a frame whose answer does not fit, the stream of its event ends, too
 
-with_that : (ss : List ℕ) (s t : ℕ) (b : Bool) → list_any (λ u. u == t) ss ≡ true → (list_any (λ u. u == s) (cond b (others t ss) ss) || (t == s)) ≡ list_any (λ u. u == s) ss
+with_that : (ss : List ℕ) (s t : ℕ) (b : Bool) → list_any (λ u. u == t) ss ≡ true → (list_any (λ u. u == s) (cond b (other_streams t ss) ss) || (t == s)) ≡ list_any (λ u. u == s) ss
 with_that ss s t b h = elim (cases_Bool (t == s)) [
   | inl same ↦
       let e : t ≡ s = eqb-true t s same in
       let h' : list_any (λ u. u == s) ss ≡ true = subst (λ (n : ℕ). list_any (λ u. u == n) ss ≡ true) e h in
-      ap (λ c. list_any (λ u. u == s) (cond b (others t ss) ss) || c) same ∙ or_all (list_any (λ u. u == s) (cond b (others t ss) ss)) ∙ sym h'
+      ap (λ c. list_any (λ u. u == s) (cond b (other_streams t ss) ss) || c) same ∙ or_all (list_any (λ u. u == s) (cond b (other_streams t ss) ss)) ∙ sym h'
   | inr other ↦
       let other' : (s == t) ≡ false = grind (arith, nat_tests) in
-      ap (λ c. list_any (λ u. u == s) (cond b (others t ss) ss) || c) other ∙ or_none (list_any (λ u. u == s) (cond b (others t ss) ss)) ∙ elim (cases_Bool b) [
+      ap (λ c. list_any (λ u. u == s) (cond b (other_streams t ss) ss) || c) other ∙ or_none (list_any (λ u. u == s) (cond b (other_streams t ss) ss)) ∙ elim (cases_Bool b) [
         | inl leaves ↦ rw leaves (any_kept (λ u. not (u == t)) s ss ∙ ap (λ c. list_any (λ u. u == s) ss && not c) other' ∙ and_all (list_any (λ u. u == s) ss))
         | inr stays ↦ rw stays refl
       ]
@@ -100,14 +100,14 @@ abbrev IsOther : Event → ℕ → Type 0
 IsOther (Request t fields end_stream) s = (t == s) ≡ false
 IsOther _ s = Unit {0}
 
-ends_with : (d : List Entry) (event : Event) (s : ℕ) → IsOnItsStream d event → IsOther event s → (list_any (λ t. t == s) (live_after d event) || is_that (named event) s) ≡ list_any (λ t. t == s) (live d)
-ends_with d Nothing s h k = or_none (list_any (λ t. t == s) (live d))
+ends_with : (d : List Entry) (event : Event) (s : ℕ) → IsOnItsStream d event → IsOther event s → (list_any (λ t. t == s) (live_after d event) || is_that (stream_of_event event) s) ≡ list_any (λ t. t == s) (live_streams d)
+ends_with d Nothing s h k = or_none (list_any (λ t. t == s) (live_streams d))
 ends_with d (Request t fields end_stream) s h k =
-    ap (λ b. list_any (λ u. u == s) (live d ++ t ∷ []) || b) k ∙ or_none (list_any (λ u. u == s) (live d ++ t ∷ [])) ∙ list_any-append (λ u. u == s) (live d) (t ∷ []) ∙ ap (λ b. list_any (λ u. u == s) (live d) || (b || false)) k ∙ or_none (list_any (λ u. u == s) (live d))
-ends_with d (Content t content true) s h k = with_that (live d) s t (is_ended_by_server d t) h
-ends_with d (Content t content false) s h k = with_that (live d) s t false h
-ends_with d (Trailers t) s h k = with_that (live d) s t (is_ended_by_server d t) h
-ends_with d (Cancel t) s h k = with_that (live d) s t true h
+    ap (λ b. list_any (λ u. u == s) (live_streams d ++ t ∷ []) || b) k ∙ or_none (list_any (λ u. u == s) (live_streams d ++ t ∷ [])) ∙ list_any-append (λ u. u == s) (live_streams d) (t ∷ []) ∙ ap (λ b. list_any (λ u. u == s) (live_streams d) || (b || false)) k ∙ or_none (list_any (λ u. u == s) (live_streams d))
+ends_with d (Content t content true) s h k = with_that (live_streams d) s t (is_ended_by_server d t) h
+ends_with d (Content t content false) s h k = with_that (live_streams d) s t false h
+ends_with d (Trailers t) s h k = with_that (live_streams d) s t (is_ended_by_server d t) h
+ends_with d (Cancel t) s h k = with_that (live_streams d) s t true h
 
 no_call : (d : List Entry) (s : ℕ) (o : Option (Result (List ℕ) MessagesError)) → IsCall d s o → is_call d s ≡ false → o ≡ None
 no_call d s None h k = refl
@@ -134,41 +134,41 @@ other_than u d v (Request t fields end_stream) s at fine calls h member = elim (
   | inr other ↦ other
 ]
 
-failing_fine : (texts : Look) (v : Present) (p : Past) (f : RawFrame) (a : StreamEvent) → IsAnswered texts v p f a → has_failed (p.diary ++ entries_of p.diary f) ≡ false
-failing_fine texts v p f a h = ap (λ (es : List Entry). has_failed (p.diary ++ es)) (entries_caused p.diary f a h.causes) ∙ failed_after p.diary f (control_frames a) (answers_quiet (control_frames a) (answers_are p.diary f a h.causes)) ∙ h.lives
+failing_fine : (texts : Look) (v : Present) (p : Past) (f : RawFrame) (a : StreamEvent) → IsAnswered texts v p f a → has_failed (p.history ++ entries_of p.history f) ≡ false
+failing_fine texts v p f a h = ap (λ (es : List Entry). has_failed (p.history ++ es)) (entries_caused p.history f a h.causes) ∙ failed_after p.history f (control_frames a) (answers_quiet (control_frames a) (answers_are p.history f a h.causes)) ∙ h.lives
 
-cut_end : (texts : Look) (v : Present) (p : Past) (f : RawFrame) (a : StreamEvent) → IsAnswered texts v p f a → ended_calls v.streams.live (named a.event) (map call_stream v.calls) ≡ cancels p.diary
+cut_end : (texts : Look) (v : Present) (p : Past) (f : RawFrame) (a : StreamEvent) → IsAnswered texts v p f a → ended_calls v.streams.live (stream_of_event a.event) (map call_stream v.calls) ≡ cancels p.history
 cut_end texts v p f a h =
-    let fine : has_failed (p.diary ++ entries_of p.diary f) ≡ false = failing_fine texts v p f a h in
-    let of : IsOnItsStream p.diary a.event = event_on_stream p.diary f a h.causes in
-    cancels_are p.diary (map call_stream v.calls) v.streams.live (named a.event) h.lives h.calls.order (λ s member.
-    ap (λ b. b || is_that (named a.event) s) (live_is v.streams (p.diary ++ entries_of p.diary f) s h.streams (h.streams.fault ∙ fine) ∙ ap (list_any (λ t. t == s)) (live_after_frame h.before p.diary f a h.stood h.lives h.causes))
-    ∙ ends_with p.diary a.event s of (other_than h.before p.diary v a.event s h.stood h.lives h.calls of member))
+    let fine : has_failed (p.history ++ entries_of p.history f) ≡ false = failing_fine texts v p f a h in
+    let of : IsOnItsStream p.history a.event = event_on_stream p.history f a h.causes in
+    cancels_are p.history (map call_stream v.calls) v.streams.live (stream_of_event a.event) h.lives h.calls.order (λ s member.
+    ap (λ b. b || is_that (stream_of_event a.event) s) (live_is v.streams (p.history ++ entries_of p.history f) s h.streams (h.streams.fault ∙ fine) ∙ ap (list_any (λ t. t == s)) (live_after_frame h.before p.history f a h.stood h.lives h.causes))
+    ∙ ends_with p.history a.event s of (other_than h.before p.history v a.event s h.stood h.lives h.calls of member))
 
 -- ---- the highest number after a frame
 
 abbrev top : List Frame → ℕ
 top rs = fold max 0 (map stream_of (fold blocks_after no_blocks rs).finished)
 
-highest_in : (d : List Entry) (f : RawFrame) (fs : List Frame) → highest (d ++ In f ∷ map Out fs) ≡ highest (d ++ In f ∷ [])
-highest_in d f fs = ap highest (in_front d f fs) ∙ ap top (received_more (d ++ In f ∷ []) fs)
+highest_in : (d : List Entry) (f : RawFrame) (fs : List Frame) → highest_stream (d ++ In f ∷ map Out fs) ≡ highest_stream (d ++ In f ∷ [])
+highest_in d f fs = ap highest_stream (in_front d f fs) ∙ ap top (received_more (d ++ In f ∷ []) fs)
 
-highest_after : (texts : Look) (v : Present) (p : Past) (f : RawFrame) (a : StreamEvent) → IsAnswered texts v p f a → v.streams.highest ≡ highest (p.diary ++ In f ∷ [])
+highest_after : (texts : Look) (v : Present) (p : Past) (f : RawFrame) (a : StreamEvent) → IsAnswered texts v p f a → v.streams.highest ≡ highest_stream (p.history ++ In f ∷ [])
 highest_after texts v p f a h =
     ap (λ (u : Standing). u.highest) (h.streams.state (failing_fine texts v p f a h)).is
-    ∙ ap (λ (es : List Entry). highest (p.diary ++ es)) (entries_caused p.diary f a h.causes) ∙ highest_in p.diary f (control_frames a)
+    ∙ ap (λ (es : List Entry). highest_stream (p.history ++ es)) (entries_caused p.history f a h.causes) ∙ highest_in p.history f (control_frames a)
 
 -- ---- a connection that ended
 
-pub failed_with : (d : List Entry) (h : ℕ) (code : ErrorCode) → has_failed (d ++ Out (goaway h code) ∷ []) ≡ true
-failed_with d h code = ap (list_any is_goaway) (sent_more d (goaway h code ∷ [])) ∙ list_any-append is_goaway (sent d) (goaway h code ∷ []) ∙ or_all (list_any is_goaway (sent d))
+pub failed_with : (d : List Entry) (h : ℕ) (code : ErrorCode) → has_failed (d ++ Out (goaway_frame h code) ∷ []) ≡ true
+failed_with d h code = ap (list_any is_goaway) (sent_more d (goaway_frame h code ∷ [])) ∙ list_any-append is_goaway (sent_frames d) (goaway_frame h code ∷ []) ∙ or_all (list_any is_goaway (sent_frames d))
 
-ended_stands : (texts : Look) (v x : Present) (code : ErrorCode) (reset : Option ℕ) (d : List Entry) (q : Past) → Fails v code reset x → q.diary ≡ d ++ Out (goaway v.streams.highest code) ∷ [] → IsSending texts v.sending d q.owed → q.due ≡ v.due ++ ended_calls v.streams.live reset (map call_stream v.calls) → StandsFor texts x q
+ended_stands : (texts : Look) (v x : Present) (code : ErrorCode) (reset : Option ℕ) (d : List Entry) (q : Past) → Fails v code reset x → q.history ≡ d ++ Out (goaway_frame v.streams.highest code) ∷ [] → IsSending texts v.sending d q.owed → q.due ≡ v.due ++ ended_calls v.streams.live reset (map call_stream v.calls) → StandsFor texts x q
 ended_stands texts v x code reset d q h is sending due =
-    let failed : has_failed q.diary ≡ true = ap has_failed is ∙ failed_with d v.streams.highest code in
+    let failed : has_failed q.history ≡ true = ap has_failed is ∙ failed_with d v.streams.highest code in
     record {
       ended = h.ended ∙ sym failed;
-      streams = h.streams q.diary failed;
+      streams = h.streams q.history failed;
       sending = subst (λ (es : List Entry). IsSending texts x.sending es q.owed) (sym is) (h.sending texts d q.owed sending);
       due = h.due ∙ sym due;
       alive = λ alive. let no : true ≡ false = sym failed ∙ alive in absurd (let z : ⊥ = cc in z);
@@ -176,40 +176,40 @@ ended_stands texts v x code reset d q h is sending due =
 
 abbrev frame_by : Past → RawFrame → Outcome → Past
 frame_by p f o = record p {
-  diary = p.diary ++ In f ∷ map Out o.put;
-  owed = owe_all (p.diary ++ In f ∷ map Out o.put) p.owed (answered_at_once o.event);
-  due = p.due ++ cond o.fails (cancels p.diary) (call_events_of p.diary o.event);
+  history = p.history ++ In f ∷ map Out o.put;
+  owed = owed_with_items (p.history ++ In f ∷ map Out o.put) p.owed (items_at_once o.event);
+  due = p.due ++ cond o.fails (cancels p.history) (call_events_of p.history o.event);
 }
 
-fails_frame : (texts : Look) (v x : Present) (p : Past) (f : RawFrame) (fs : List Frame) (n : ℕ) (code : ErrorCode) (reset : Option ℕ) → outcome p.diary f ≡ fault fs n code → v.streams.highest ≡ n → IsSending texts v.sending (p.diary ++ In f ∷ map Out fs) p.owed → v.due ≡ p.due → ended_calls v.streams.live reset (map call_stream v.calls) ≡ cancels p.diary → Fails v code reset x → StandsFor texts x (with_frame p f)
+fails_frame : (texts : Look) (v x : Present) (p : Past) (f : RawFrame) (fs : List Frame) (n : ℕ) (code : ErrorCode) (reset : Option ℕ) → outcome p.history f ≡ fault_outcome fs n code → v.streams.highest ≡ n → IsSending texts v.sending (p.history ++ In f ∷ map Out fs) p.owed → v.due ≡ p.due → ended_calls v.streams.live reset (map call_stream v.calls) ≡ cancels p.history → Fails v code reset x → StandsFor texts x (with_frame p f)
 fails_frame texts v x p f fs n code reset o top-is sending due ended h =
-    let diary : p.diary ++ In f ∷ map Out (fs ++ goaway n code ∷ []) ≡ (p.diary ++ In f ∷ map Out fs) ++ Out (goaway v.streams.highest code) ∷ [] =
-    ap (λ (es : List Entry). p.diary ++ In f ∷ es) (map-append Out fs (goaway n code ∷ [])) ∙ sym (append_assoc p.diary (In f ∷ map Out fs) (Out (goaway n code) ∷ [])) ∙ ap (λ (m : ℕ). (p.diary ++ In f ∷ map Out fs) ++ Out (goaway m code) ∷ []) (sym top-is) in
-    let q : Past = frame_by p f (fault fs n code) in
+    let history : p.history ++ In f ∷ map Out (fs ++ goaway_frame n code ∷ []) ≡ (p.history ++ In f ∷ map Out fs) ++ Out (goaway_frame v.streams.highest code) ∷ [] =
+    ap (λ (es : List Entry). p.history ++ In f ∷ es) (map-append Out fs (goaway_frame n code ∷ [])) ∙ sym (append_assoc p.history (In f ∷ map Out fs) (Out (goaway_frame n code) ∷ [])) ∙ ap (λ (m : ℕ). (p.history ++ In f ∷ map Out fs) ++ Out (goaway_frame m code) ∷ []) (sym top-is) in
+    let q : Past = frame_by p f (fault_outcome fs n code) in
     subst (λ (y : Outcome). StandsFor texts x (frame_by p f y)) (sym o)
-    (ended_stands texts v x code reset (p.diary ++ In f ∷ map Out fs) (frame_by p f (fault fs n code)) h diary sending (ap (λ (es : List CallEvent). es ++ cancels p.diary) (sym due) ∙ ap (λ (es : List CallEvent). v.due ++ es) (sym ended)))
+    (ended_stands texts v x code reset (p.history ++ In f ∷ map Out fs) (frame_by p f (fault_outcome fs n code)) h history sending (ap (λ (es : List CallEvent). es ++ cancels p.history) (sym due) ∙ ap (λ (es : List CallEvent). v.due ++ es) (sym ended)))
 
 -- the answer of a frame does not fit
-pub answered_cut : (texts : Look) (v w x : Present) (p : Past) (f : RawFrame) (a : StreamEvent) → IsAnswered texts v p f a → Puts v (control_frames a) false w → Fails w EnhanceYourCalm (named a.event) x → StandsFor texts x (with_frame p f)
+pub answered_cut : (texts : Look) (v w x : Present) (p : Past) (f : RawFrame) (a : StreamEvent) → IsAnswered texts v p f a → Puts v (control_frames a) false w → Fails w EnhanceYourCalm (stream_of_event a.event) x → StandsFor texts x (with_frame p f)
 answered_cut texts v w x p f a h puts fails =
-    let o = outcome_cut p.diary f a h.causes (fits_of texts v p f a w false h puts) in
+    let o = outcome_cut p.history f a h.causes (fits_of texts v p f a w false h puts) in
     let streams : w.streams ≡ v.streams = ap (λ (y : Present). y.streams) puts.rest in
     let calls : w.calls ≡ v.calls = ap (λ (y : Present). y.calls) puts.rest in
     let due : w.due ≡ p.due = ap (λ (y : Present). y.due) puts.rest ∙ h.due in
-    let ended : ended_calls w.streams.live (named a.event) (map call_stream w.calls) ≡ cancels p.diary =
-    ap (λ (u : Standing). ended_calls u.live (named a.event) (map call_stream w.calls)) streams ∙ ap (λ (cs : List Call). ended_calls v.streams.live (named a.event) (map call_stream cs)) calls ∙ cut_end texts v p f a h in
-    fails_frame texts w x p f (fitting (untaken p.diary) (control_frames a)) (highest (p.diary ++ In f ∷ [])) EnhanceYourCalm (named a.event) o (ap (λ (u : Standing). u.highest) streams ∙ highest_after texts v p f a h) (put_behind texts v p f a w false h puts) due ended fails
+    let ended : ended_calls w.streams.live (stream_of_event a.event) (map call_stream w.calls) ≡ cancels p.history =
+    ap (λ (u : Standing). ended_calls u.live (stream_of_event a.event) (map call_stream w.calls)) streams ∙ ap (λ (cs : List Call). ended_calls v.streams.live (stream_of_event a.event) (map call_stream cs)) calls ∙ cut_end texts v p f a h in
+    fails_frame texts w x p f (frames_to_put (untaken_count p.history) (control_frames a)) (highest_stream (p.history ++ In f ∷ [])) EnhanceYourCalm (stream_of_event a.event) o (ap (λ (u : Standing). u.highest) streams ∙ highest_after texts v p f a h) (put_behind texts v p f a w false h puts) due ended fails
 
 -- a frame is an error of the connection
-pub taken_fault : (texts : Look) (v x : Present) (u : Standing) (p : Past) (f : RawFrame) (code : ErrorCode) → IsTaking texts v p f → causes p.diary f ≡ Err code → u.live ≡ v.streams.live → u.highest ≡ v.streams.highest → Fails (record v { streams = u }) code None x → StandsFor texts x (with_frame p f)
+pub taken_fault : (texts : Look) (v x : Present) (u : Standing) (p : Past) (f : RawFrame) (code : ErrorCode) → IsTaking texts v p f → answer_after p.history f ≡ Err code → u.live ≡ v.streams.live → u.highest ≡ v.streams.highest → Fails (record v { streams = u }) code None x → StandsFor texts x (with_frame p f)
 taken_fault texts v x u p f code h is same top-is fails =
-    let high : u.highest ≡ highest p.diary = top-is ∙ ap (λ (s : Standing). s.highest) (h.streams.state h.lives).is in
-    fails_frame texts (record v { streams = u }) x p f [] (highest p.diary) code None (outcome_fault p.diary f code is) high (frame_heard (sending_in texts v.sending) p.diary p.owed f h.sending) h.due (all_end v.streams u.live p.diary v h.streams h.lives same h.calls) fails
+    let high : u.highest ≡ highest_stream p.history = top-is ∙ ap (λ (s : Standing). s.highest) (h.streams.state h.lives).is in
+    fails_frame texts (record v { streams = u }) x p f [] (highest_stream p.history) code None (outcome_fault p.history f code is) high (frame_heard (sending_in texts v.sending) p.history p.owed f h.sending) h.due (all_end v.streams u.live p.history v h.streams h.lives same h.calls) fails
 
 -- bytes that are no frame
-pub read_fault : (texts : Look) (v x : Present) (p : Past) (e : FrameError) (code : ErrorCode) → has_failed p.diary ≡ false → AreStreams v.streams p.diary → IsSending texts v.sending p.diary p.owed → v.due ≡ p.due → AreCalls v p.diary → Fails v code None x → StandsFor texts x (with_fault p e code)
+pub read_fault : (texts : Look) (v x : Present) (p : Past) (e : FrameError) (code : ErrorCode) → has_failed p.history ≡ false → AreStreams v.streams p.history → IsSending texts v.sending p.history p.owed → v.due ≡ p.due → AreCalls v p.history → Fails v code None x → StandsFor texts x (with_fault p e code)
 read_fault texts v x p e code fine at sending due calls h =
-    let high : v.streams.highest ≡ highest p.diary = ap (λ (s : Standing). s.highest) (at.state fine).is in
-    let diary : p.diary ++ fault_entries p.diary e code ≡ (p.diary ++ Unreadable e ∷ []) ++ Out (goaway v.streams.highest code) ∷ [] =
-    ap (λ b. p.diary ++ Unreadable e ∷ map Out (fault_frames b (highest p.diary) code)) fine ∙ ap (λ (m : ℕ). p.diary ++ Unreadable e ∷ Out (goaway m code) ∷ []) (sym high) ∙ sym (append_assoc p.diary (Unreadable e ∷ []) (Out (goaway v.streams.highest code) ∷ [])) in
-    ended_stands texts v x code None (p.diary ++ Unreadable e ∷ []) (with_fault p e code) h diary (fault_heard (sending_in texts v.sending) p.diary p.owed e sending) (ap (λ (es : List CallEvent). es ++ cancels p.diary) (sym due) ∙ ap (λ (es : List CallEvent). v.due ++ es) (sym (all_end v.streams v.streams.live p.diary v at fine refl calls)))
+    let high : v.streams.highest ≡ highest_stream p.history = ap (λ (s : Standing). s.highest) (at.state fine).is in
+    let history : p.history ++ fault_entries p.history e code ≡ (p.history ++ Unreadable e ∷ []) ++ Out (goaway_frame v.streams.highest code) ∷ [] =
+    ap (λ b. p.history ++ Unreadable e ∷ map Out (fault_frames b (highest_stream p.history) code)) fine ∙ ap (λ (m : ℕ). p.history ++ Unreadable e ∷ Out (goaway_frame m code) ∷ []) (sym high) ∙ sym (append_assoc p.history (Unreadable e ∷ []) (Out (goaway_frame v.streams.highest code) ∷ [])) in
+    ended_stands texts v x code None (p.history ++ Unreadable e ∷ []) (with_fault p e code) h history (fault_heard (sending_in texts v.sending) p.history p.owed e sending) (ap (λ (es : List CallEvent). es ++ cancels p.history) (sym due) ∙ ap (λ (es : List CallEvent). v.due ++ es) (sym (all_end v.streams v.streams.live p.history v at fine refl calls)))

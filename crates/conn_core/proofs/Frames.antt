@@ -8,27 +8,27 @@ use Rattle.http2_frames.specs.declared.error.FrameError.TheVariants.{Preface, Si
 use Rattle.http2_frames.specs.declared.frame.RawFrame.{RawFrame}
 use Rattle.http2_frames.specs.declared.frame.Frame.{Frame}
 use Rattle.http2_frames.specs.declared.reader.TheConstants.{CLIENT_PREFACE}
-use Rattle.http2_frames.specs.Reading.{split, behind}
+use Rattle.http2_frames.specs.Reading.{split, split_behind}
 use Rattle.http2_frames.specs.Wire.{Split}
-use Rattle.http2_frames.specs.Reader.{Unread, text_left, split_left, followed_by, frames_in, IsFrame, StandsFor as IsReader}
+use Rattle.http2_frames.specs.Reader.{Unread, text_left, split_left, with_more_bytes, frames_in, IsFrame, StandsFor as IsReader}
 use Rattle.http2_headers.specs.declared.fault.H2Fault.{H2Fault}
 use Rattle.http2_headers.specs.declared.fault.H2Fault.TheVariants.{Connection}
 use Rattle.http2_headers.specs.Decoding.{Gives}
 use Rattle.http2_streams.specs.declared.event.StreamEvent.{StreamEvent}
 use Rattle.http2_streams.specs.declared.stream.Stream.{Stream}
-use Rattle.http2_streams.specs.Diary.{Entry, Out, has_failed}
-use Rattle.http2_streams.specs.LiveStreams.{named}
+use Rattle.http2_streams.specs.History.{Entry, Out, has_failed}
+use Rattle.http2_streams.specs.LiveStreams.{stream_of_event}
 use Rattle.http2_streams.specs.Standing.{Standing}
 use Rattle.http2_streams.specs.StandsFor.{InMemory, StandsFor as AreStreams}
-use Rattle.http2_streams.specs.Rules.{causes, control_frames, entries_of, reading_fault}
-use Rattle.grpc_sending.specs.Owed.{Owed}
-use Rattle.grpc_sending.specs.Kept.{Look, Kept, StandsFor as IsSending}
-use Rattle.grpc_sending.proofs.Diaries.{append-nil}
+use Rattle.http2_streams.specs.Rules.{answer_after, control_frames, entries_of, reading_fault}
+use Rattle.grpc_sending.specs.Owed.{OwedItem}
+use Rattle.grpc_sending.specs.StoredSending.{Look, StoredSending, StandsFor as IsSending}
+use Rattle.grpc_sending.proofs.Histories.{append-nil}
 use Rattle.conn_core.specs.declared.call.Call.{Call}
 use Rattle.conn_core.specs.declared.event.CallEvent.{CallEvent}
-use Rattle.conn_core.specs.Received.{raw_received, goaway}
+use Rattle.conn_core.specs.Received.{received_raw_frames, goaway_frame}
 use Rattle.conn_core.specs.Past.{Past, with_frame}
-use Rattle.conn_core.specs.StandsFor.{Present, StandsFor, IsAlive, FrameRead, IsNextFrame, unread, stream_of as call_stream}
+use Rattle.conn_core.specs.StandsFor.{Present, StandsFor, IsAlive, StandsAfterReading, IsNextFrame, unread_length, stream_of as call_stream}
 use Rattle.conn_core.specs.Step.{IsTaking, HasBrought}
 use Rattle.conn_core.specs.Putting.{Puts, Fails, IsAnswered, ended_calls}
 use Rattle.conn_core.proofs.Putting.{PutsIf}
@@ -38,34 +38,34 @@ use Rattle.conn_core.proofs.Ends.{answered_cut, taken_fault, read_fault}
 
 -- ---- an error of the connection
 
-pub fails_by : (v old : Present) (code : ErrorCode) (reset : Option ℕ) (one two : Kept) (u : Standing) (calls none : List Call) (due : List CallEvent) (f : Frame) (h : ℕ) (live : List Stream) → v ≡ old → h ≡ v.streams.highest → f ≡ goaway h code
-    → ((texts : Look) (d : List Entry) (os : List Owed) → IsSending texts v.sending d os → IsSending texts one (d ++ Out f ∷ []) os)
-    → ((texts : Look) (d : List Entry) (os : List Owed) → has_failed d ≡ true → IsSending texts one d os → IsSending texts two d os)
-    → ((d : List Entry) → has_failed (d ++ Out (goaway v.streams.highest code) ∷ []) ≡ true)
+pub fails_by : (v old : Present) (code : ErrorCode) (reset : Option ℕ) (one two : StoredSending) (u : Standing) (calls none : List Call) (due : List CallEvent) (f : Frame) (h : ℕ) (live : List Stream) → v ≡ old → h ≡ v.streams.highest → f ≡ goaway_frame h code
+    → ((texts : Look) (d : List Entry) (os : List OwedItem) → IsSending texts v.sending d os → IsSending texts one (d ++ Out f ∷ []) os)
+    → ((texts : Look) (d : List Entry) (os : List OwedItem) → has_failed d ≡ true → IsSending texts one d os → IsSending texts two d os)
+    → ((d : List Entry) → has_failed (d ++ Out (goaway_frame v.streams.highest code) ∷ []) ≡ true)
     → live ≡ v.streams.live → calls ≡ v.calls → due ≡ v.due ++ ended_calls live reset (map call_stream calls) → ((d : List Entry) → has_failed d ≡ true → AreStreams u d) → none ≡ []
     → Fails old code reset (record { reader = v.reader; streams = u; sending = two; calls = none; due = due; ended = true })
 fails_by v old code reset one two u calls none due f h live is top is_goaway put forget failed lives same ends streams empty =
-    let f_is : f ≡ goaway v.streams.highest code = is_goaway ∙ ap (λ (n : ℕ). goaway n code) top in
+    let f_is : f ≡ goaway_frame v.streams.highest code = is_goaway ∙ ap (λ (n : ℕ). goaway_frame n code) top in
     subst (λ (y : Present). Fails y code reset (record { reader = v.reader; streams = u; sending = two; calls = none; due = due; ended = true })) is (record {
       ended = refl;
       streams = streams;
-      sending = λ texts d os st. forget texts (d ++ Out (goaway v.streams.highest code) ∷ []) os (failed d) (subst (λ (g : Frame). IsSending texts one (d ++ Out g ∷ []) os) f_is (put texts d os st));
+      sending = λ texts d os st. forget texts (d ++ Out (goaway_frame v.streams.highest code) ∷ []) os (failed d) (subst (λ (g : Frame). IsSending texts one (d ++ Out g ∷ []) os) f_is (put texts d os st));
       due = ends ∙ ap (λ (xs : List Stream). v.due ++ ended_calls xs reset (map call_stream calls)) lives ∙ ap (λ (cs : List Call). v.due ++ ended_calls v.streams.live reset (map call_stream cs)) same;
       calls = empty;
     })
 
 -- ---- the answer to a frame
 
-pub cut_by : (texts : Look) {T E : Type 0} (r : Result T E) (v w x : Present) (a : StreamEvent) (reset : Option ℕ) (b : Bool) → b ≡ false → PutsIf v (control_frames a) b w → reset ≡ named a.event → OnOk r (Fails w EnhanceYourCalm reset x) → OnOk r ((p : Past) (f : RawFrame) → IsAnswered texts v p f a → StandsFor texts x (with_frame p f))
+pub cut_by : (texts : Look) {T E : Type 0} (r : Result T E) (v w x : Present) (a : StreamEvent) (reset : Option ℕ) (b : Bool) → b ≡ false → PutsIf v (control_frames a) b w → reset ≡ stream_of_event a.event → OnOk r (Fails w EnhanceYourCalm reset x) → OnOk r ((p : Past) (f : RawFrame) → IsAnswered texts v p f a → StandsFor texts x (with_frame p f))
 cut_by texts (Err e) v w x a reset b cut put is fails = tt
 cut_by texts (Ok y) v w x a reset b cut put is fails = λ p f h.
-    let puts : Puts v (control_frames a) false w = subst (λ (c : Bool). Puts v (control_frames a) c w) cut (put (answers_are p.diary f a h.causes)) in
+    let puts : Puts v (control_frames a) false w = subst (λ (c : Bool). Puts v (control_frames a) c w) cut (put (answers_are p.history f a h.causes)) in
     answered_cut texts v w x p f a h puts (subst (λ (o : Option ℕ). Fails w EnhanceYourCalm o x) is fails)
 
 pub brought_by : (texts : Look) {T E : Type 0} (r : Result T E) (v w x : Present) (a : StreamEvent) (b : Bool) → b ≡ true → PutsIf v (control_frames a) b w → OnOk r ((p : Past) (f : RawFrame) → HasBrought texts w p f a.event → StandsFor texts x (with_frame p f)) → OnOk r ((p : Past) (f : RawFrame) → IsAnswered texts v p f a → StandsFor texts x (with_frame p f))
 brought_by texts (Err e) v w x a b fits put bring = tt
 brought_by texts (Ok y) v w x a b fits put bring = λ p f h.
-    let puts : Puts v (control_frames a) true w = subst (λ (c : Bool). Puts v (control_frames a) c w) fits (put (answers_are p.diary f a h.causes)) in
+    let puts : Puts v (control_frames a) true w = subst (λ (c : Bool). Puts v (control_frames a) c w) fits (put (answers_are p.history f a h.causes)) in
     bring p f (answered_fits texts v w p f a h puts)
 
 -- ---- a frame
@@ -73,7 +73,7 @@ brought_by texts (Ok y) v w x a b fits put bring = λ p f h.
 abbrev with_streams : Present → Standing → Present
 with_streams v u = record { reader = v.reader; streams = u; sending = v.sending; calls = v.calls; due = v.due; ended = v.ended }
 
-is_answered : (texts : Look) (v : Present) (u : Standing) (p : Past) (f : RawFrame) (a : StreamEvent) → IsTaking texts v p f → causes p.diary f ≡ Ok a → AreStreams u (p.diary ++ entries_of p.diary f) → IsAnswered texts (with_streams v u) p f a
+is_answered : (texts : Look) (v : Present) (u : Standing) (p : Past) (f : RawFrame) (a : StreamEvent) → IsTaking texts v p f → answer_after p.history f ≡ Ok a → AreStreams u (p.history ++ entries_of p.history f) → IsAnswered texts (with_streams v u) p f a
 is_answered texts v u p f a h is streams = record {
   ended = h.ended;
   lives = h.lives;
@@ -88,22 +88,22 @@ is_answered texts v u p f a h is streams = record {
 }
 
 pub taken_by : (texts : Look) {T E : Type 0} (r : Result T E) (o : Result StreamEvent H2Fault) (v old x : Present) (u : Standing) (f : RawFrame) (a : StreamEvent) → v ≡ old → o ≡ Ok a
-    → ((d : List Entry) → AreStreams v.streams d → Gives o (causes d f)) → InMemory o ((d : List Entry) → AreStreams v.streams d → AreStreams u (d ++ entries_of d f))
+    → ((d : List Entry) → AreStreams v.streams d → Gives o (answer_after d f)) → InMemory o ((d : List Entry) → AreStreams v.streams d → AreStreams u (d ++ entries_of d f))
     → OnOk r ((p : Past) (g : RawFrame) → IsAnswered texts (with_streams v u) p g a → StandsFor texts x (with_frame p g)) → OnOk r ((p : Past) → IsTaking texts old p f → StandsFor texts x (with_frame p f))
 taken_by texts (Err e) o v old x u f a is ok gives stands answer = tt
 taken_by texts (Ok y) o v old x u f a is ok gives stands answer = λ p h0.
     let h : IsTaking texts v p f = subst (λ (z : Present). IsTaking texts z p f) (sym is) h0 in
-    let caused : causes p.diary f ≡ Ok a = subst (λ (z : Result StreamEvent H2Fault). Gives z (causes p.diary f)) ok (gives p.diary h.streams) in
+    let caused : answer_after p.history f ≡ Ok a = subst (λ (z : Result StreamEvent H2Fault). Gives z (answer_after p.history f)) ok (gives p.history h.streams) in
     let after : (d : List Entry) → AreStreams v.streams d → AreStreams u (d ++ entries_of d f) = subst (λ (z : Result StreamEvent H2Fault). InMemory z ((d : List Entry) → AreStreams v.streams d → AreStreams u (d ++ entries_of d f))) ok stands in
-    answer p f (is_answered texts v u p f a h caused (after p.diary h.streams))
+    answer p f (is_answered texts v u p f a h caused (after p.history h.streams))
 
 pub fault_by : (texts : Look) {T E : Type 0} (r : Result T E) (o : Result StreamEvent H2Fault) (v old x : Present) (u : Standing) (f : RawFrame) (code : ErrorCode) → v ≡ old → o ≡ Err (Connection code)
-    → ((d : List Entry) → AreStreams v.streams d → Gives o (causes d f)) → OnErr o (u.live ≡ v.streams.live) → OnErr o (u.highest ≡ v.streams.highest)
+    → ((d : List Entry) → AreStreams v.streams d → Gives o (answer_after d f)) → OnErr o (u.live ≡ v.streams.live) → OnErr o (u.highest ≡ v.streams.highest)
     → OnOk r (Fails (with_streams v u) code None x) → OnOk r ((p : Past) → IsTaking texts old p f → StandsFor texts x (with_frame p f))
 fault_by texts (Err e) o v old x u f code is err gives live highest fails = tt
 fault_by texts (Ok y) o v old x u f code is err gives live highest fails = λ p h0.
     let h : IsTaking texts v p f = subst (λ (z : Present). IsTaking texts z p f) (sym is) h0 in
-    let caused : causes p.diary f ≡ Err code = subst (λ (z : Result StreamEvent H2Fault). Gives z (causes p.diary f)) err (gives p.diary h.streams) in
+    let caused : answer_after p.history f ≡ Err code = subst (λ (z : Result StreamEvent H2Fault). Gives z (answer_after p.history f)) err (gives p.history h.streams) in
     let live' : u.live ≡ v.streams.live = subst (λ (z : Result StreamEvent H2Fault). OnErr z (u.live ≡ v.streams.live)) err live in
     let highest' : u.highest ≡ v.streams.highest = subst (λ (z : Result StreamEvent H2Fault). OnErr z (u.highest ≡ v.streams.highest)) err highest in
     taken_fault texts v x u p f code h caused live' highest' fails
@@ -119,20 +119,20 @@ Reads old r new = (preface text : List ℕ) (given : List RawFrame) → IsReader
 alive_of : (texts : Look) (v : Present) (p : Past) → StandsFor texts v p → v.ended ≡ false → IsAlive v p
 alive_of texts v p st alive = st.alive (sym st.ended ∙ alive)
 
-pub read_ended : (texts : Look) (v old : Present) → v ≡ old → v.ended ≡ true → (p : Past) → StandsFor texts old p → FrameRead texts p false v
+pub read_ended : (texts : Look) (v old : Present) → v ≡ old → v.ended ≡ true → (p : Past) → StandsFor texts old p → StandsAfterReading texts p false v
 read_ended texts v old is ended p st0 =
     let st : StandsFor texts v p = subst (λ (y : Present). StandsFor texts y p) (sym is) st0 in
     (inl (sym st.ended ∙ ended), st)
 
 pub read_none : (texts : Look) (v old : Present) (u : Result Unread FrameError) (r : Result (Option RawFrame) FrameError) → v ≡ old → v.ended ≡ false → r ≡ Ok None → Reads v.reader r u
-    → IfOk r (λ o. IfNone o ((preface text : List ℕ) (given : List RawFrame) → IsReader preface v.reader text given → split preface text ≡ record { frames = given; end = Ok (text_left u) })) → (p : Past) → StandsFor texts old p → FrameRead texts p false (with_reader v u)
+    → IfOk r (λ o. IfNone o ((preface text : List ℕ) (given : List RawFrame) → IsReader preface v.reader text given → split preface text ≡ record { frames = given; end = Ok (text_left u) })) → (p : Past) → StandsFor texts old p → StandsAfterReading texts p false (with_reader v u)
 read_none texts v old u r is alive none reads ends p st0 =
     let st : StandsFor texts v p = subst (λ (y : Present). StandsFor texts y p) (sym is) st0 in
     let a = alive_of texts v p st alive in
     let ends' : (preface text : List ℕ) (given : List RawFrame) → IsReader preface v.reader text given → split preface text ≡ record { frames = given; end = Ok (text_left u) } =
     subst (λ (z : Result (Option RawFrame) FrameError). IfOk z (λ o. IfNone o ((preface text : List ℕ) (given : List RawFrame) → IsReader preface v.reader text given → split preface text ≡ record { frames = given; end = Ok (text_left u) }))) none ends in
-    let same : IsReader CLIENT_PREFACE.now u p.text (raw_received p.diary) = subst (λ (gs : List RawFrame). IsReader CLIENT_PREFACE.now u p.text gs) (ap (λ (z : Result (Option RawFrame) FrameError). raw_received p.diary ++ frames_in z) none ∙ append-nil (raw_received p.diary)) (reads CLIENT_PREFACE.now p.text (raw_received p.diary) a.reader) in (
-      inr (text_left u, ends' CLIENT_PREFACE.now p.text (raw_received p.diary) a.reader),
+    let same : IsReader CLIENT_PREFACE.now u p.text (received_raw_frames p.history) = subst (λ (gs : List RawFrame). IsReader CLIENT_PREFACE.now u p.text gs) (ap (λ (z : Result (Option RawFrame) FrameError). received_raw_frames p.history ++ frames_in z) none ∙ append-nil (received_raw_frames p.history)) (reads CLIENT_PREFACE.now p.text (received_raw_frames p.history) a.reader) in (
+      inr (text_left u, ends' CLIENT_PREFACE.now p.text (received_raw_frames p.history) a.reader),
       record {
         ended = st.ended;
         streams = st.streams;
@@ -142,17 +142,17 @@ read_none texts v old u r is alive none reads ends p st0 =
       },
     )
 
-next_is : (p : Past) (f : RawFrame) (u : Result Unread FrameError) → IsReader CLIENT_PREFACE.now u p.text (raw_received p.diary ++ f ∷ []) → IsNextFrame p f
+next_is : (p : Past) (f : RawFrame) (u : Result Unread FrameError) → IsReader CLIENT_PREFACE.now u p.text (received_raw_frames p.history ++ f ∷ []) → IsNextFrame p f
 next_is p f u h =
-    let now : split CLIENT_PREFACE.now p.text ≡ behind (raw_received p.diary ++ f ∷ []) (split_left (followed_by u [])) = ap (split CLIENT_PREFACE.now) (sym (append-nil p.text)) ∙ h [] in
-    ((split_left (followed_by u [])).frames, ap (λ (s : Split). s.frames) now ∙ append_assoc (raw_received p.diary) (f ∷ []) (split_left (followed_by u [])).frames)
+    let now : split CLIENT_PREFACE.now p.text ≡ split_behind (received_raw_frames p.history ++ f ∷ []) (split_left (with_more_bytes u [])) = ap (split CLIENT_PREFACE.now) (sym (append-nil p.text)) ∙ h [] in
+    ((split_left (with_more_bytes u [])).frames, ap (λ (s : Split). s.frames) now ∙ append_assoc (received_raw_frames p.history) (f ∷ []) (split_left (with_more_bytes u [])).frames)
 
 pub read_some : (texts : Look) (v old x : Present) (u : Result Unread FrameError) (r : Result (Option RawFrame) FrameError) (f : RawFrame) → v ≡ old → v.ended ≡ false → r ≡ Ok (Some f) → Reads v.reader r u → IfOk r (λ o. IfSome o IsFrame)
-    → ((p : Past) → IsTaking texts (with_reader v u) p f → StandsFor texts x (with_frame p f)) → (p : Past) → StandsFor texts old p → FrameRead texts p true x
+    → ((p : Past) → IsTaking texts (with_reader v u) p f → StandsFor texts x (with_frame p f)) → (p : Past) → StandsFor texts old p → StandsAfterReading texts p true x
 read_some texts v old x u r f is alive some reads frame take p st0 =
     let st : StandsFor texts v p = subst (λ (y : Present). StandsFor texts y p) (sym is) st0 in
     let a = alive_of texts v p st alive in
-    let reader : IsReader CLIENT_PREFACE.now u p.text (raw_received p.diary ++ f ∷ []) = subst (λ (z : Result (Option RawFrame) FrameError). IsReader CLIENT_PREFACE.now u p.text (raw_received p.diary ++ frames_in z)) some (reads CLIENT_PREFACE.now p.text (raw_received p.diary) a.reader) in
+    let reader : IsReader CLIENT_PREFACE.now u p.text (received_raw_frames p.history ++ f ∷ []) = subst (λ (z : Result (Option RawFrame) FrameError). IsReader CLIENT_PREFACE.now u p.text (received_raw_frames p.history ++ frames_in z)) some (reads CLIENT_PREFACE.now p.text (received_raw_frames p.history) a.reader) in
     let is_frame : IsFrame f = subst (λ (z : Result (Option RawFrame) FrameError). IfOk z (λ o. IfSome o IsFrame)) some frame in (
       sym st.ended ∙ alive,
       inl (
@@ -178,7 +178,7 @@ no_memory NoMemory code h = λ no. cc
 
 pub read_refused : (texts : Look) (v old x : Present) (u : Result Unread FrameError) (r : Result (Option RawFrame) FrameError) (e : FrameError) (code : ErrorCode) → v ≡ old → v.ended ≡ false → r ≡ Err e → reading_fault e ≡ Some code
     → IfErr r (λ fault. fault ≢ NoMemory → (preface text : List ℕ) (given : List RawFrame) → IsReader preface v.reader text given → split preface text ≡ record { frames = given; end = Err fault })
-    → Fails (with_reader v u) code None x → (p : Past) → StandsFor texts old p → FrameRead texts p true x
+    → Fails (with_reader v u) code None x → (p : Past) → StandsFor texts old p → StandsAfterReading texts p true x
 read_refused texts v old x u r e code is alive err fault refused fails p st0 =
     let st : StandsFor texts v p = subst (λ (y : Present). StandsFor texts y p) (sym is) st0 in
     let a = alive_of texts v p st alive in
@@ -188,29 +188,29 @@ read_refused texts v old x u r e code is alive err fault refused fails p st0 =
       inr (
         e,
         code,
-        record { read = refused' (no_memory e code fault) CLIENT_PREFACE.now p.text (raw_received p.diary) a.reader; fault = fault },
+        record { read = refused' (no_memory e code fault) CLIENT_PREFACE.now p.text (received_raw_frames p.history) a.reader; fault = fault },
         read_fault texts (with_reader v u) x p e code (sym st.ended ∙ alive) st.streams st.sending st.due (record { calls = a.calls; order = a.order }) fails,
       ),
     )
 
 -- ---- what is left to read
 
-unread_left : (x : Present) → unread x ≤ 1 + length (text_left x.reader)
+unread_left : (x : Present) → unread_length x ≤ 1 + length (text_left x.reader)
 unread_left x = at x.ended refl where
   at : (b : Bool) → x.ended ≡ b → cond b 0 (1 + length (text_left x.reader)) ≤ 1 + length (text_left x.reader)
   at true h = omega arith
   at false h = omega arith
 
-unread_alive : (v : Present) → v.ended ≡ false → unread v ≡ 1 + length (text_left v.reader)
+unread_alive : (v : Present) → v.ended ≡ false → unread_length v ≡ 1 + length (text_left v.reader)
 unread_alive v h = ap (λ b. cond b 0 (1 + length (text_left v.reader))) h
 
-pub fewer_frame : (v old x : Present) (u : Result Unread FrameError) (r : Result (Option RawFrame) FrameError) (f : RawFrame) → v ≡ old → v.ended ≡ false → r ≡ Ok (Some f) → IfOk r (λ o. OnSome o (length (text_left u) < length (text_left v.reader))) → x.reader ≡ u → unread x < unread old
+pub fewer_frame : (v old x : Present) (u : Result Unread FrameError) (r : Result (Option RawFrame) FrameError) (f : RawFrame) → v ≡ old → v.ended ≡ false → r ≡ Ok (Some f) → IfOk r (λ o. OnSome o (length (text_left u) < length (text_left v.reader))) → x.reader ≡ u → unread_length x < unread_length old
 fewer_frame v old x u r f is alive some shorter same =
     let less : length (text_left u) < length (text_left v.reader) = subst (λ (z : Result (Option RawFrame) FrameError). IfOk z (λ o. OnSome o (length (text_left u) < length (text_left v.reader)))) some shorter in
     let left : length (text_left x.reader) ≡ length (text_left u) = ap (λ (z : Result Unread FrameError). length (text_left z)) same in
-    omega (arith, less, left, unread_left x, unread_alive v alive, ap unread is)
+    omega (arith, less, left, unread_left x, unread_alive v alive, ap unread_length is)
 
-pub fewer_ended : (v old x : Present) → v ≡ old → v.ended ≡ false → x.ended ≡ true → unread x < unread old
+pub fewer_ended : (v old x : Present) → v ≡ old → v.ended ≡ false → x.ended ≡ true → unread_length x < unread_length old
 fewer_ended v old x is alive ended =
-    let none : unread x ≡ 0 = ap (λ b. cond b 0 (1 + length (text_left x.reader))) ended in
-    omega (arith, none, unread_alive v alive, ap unread is)
+    let none : unread_length x ≡ 0 = ap (λ b. cond b 0 (1 + length (text_left x.reader))) ended in
+    omega (arith, none, unread_alive v alive, ap unread_length is)

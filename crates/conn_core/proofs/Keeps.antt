@@ -13,27 +13,27 @@ use Rattle.http2_frames.specs.declared.frame.RawFrame.{RawFrame}
 use Rattle.http2_frames.specs.Reader.{Unread, StandsFor as IsReader}
 use Rattle.http2_frames.specs.Reading.{split}
 use Rattle.http2_streams.specs.declared.event.Event.{Event}
-use Rattle.http2_streams.specs.Diary.{Entry, Out, Took, sent, received, frame_in, frame_out, has_failed, is_goaway, is_live, live, resets, data_ends, block_ends, ends, rising, stream_of, blocks_after, no_blocks}
+use Rattle.http2_streams.specs.History.{Entry, Out, Took, sent_frames, received_frames, frame_in, frame_out, has_failed, is_goaway, is_not_closed, live_streams, resets, data_ends, block_ends, ends, rising_numbers, stream_of, blocks_after, no_blocks}
 use Rattle.http2_streams.specs.Standing.{Standing}
 use Rattle.http2_streams.specs.StandsFor.{StandsFor as AreStreams}
 use Rattle.http2_streams.proofs.PutLaw.{no_matter}
 use Rattle.grpc_messages.specs.declared.error.MessagesError.{MessagesError}
 use Rattle.digest.specs.declared.Digest.{Digest}
-use Rattle.grpc_sending.specs.Owed.{Item, Owed, Range}
-use Rattle.grpc_sending.specs.StandsFor.{owed_more}
-use Rattle.grpc_sending.specs.Kept.{Look, Kept, StandsFor as IsSending}
-use Rattle.grpc_sending.proofs.Diaries.{append-nil}
+use Rattle.grpc_sending.specs.Owed.{Item, OwedItem, Range}
+use Rattle.grpc_sending.specs.StandsFor.{owed_with_item}
+use Rattle.grpc_sending.specs.StoredSending.{Look, StoredSending, StandsFor as IsSending}
+use Rattle.grpc_sending.proofs.Histories.{append-nil}
 use Rattle.conn_core.specs.declared.call.Call.{Call}
 use Rattle.conn_core.specs.declared.event.CallEvent.{CallEvent}
-use Rattle.conn_core.specs.Received.{raw_received}
-use Rattle.conn_core.specs.Calls.{events, begins_call, content_on, text, messages_of}
+use Rattle.conn_core.specs.Received.{received_raw_frames}
+use Rattle.conn_core.specs.Calls.{events, begins_call, content_on, stream_text, messages_of}
 use Rattle.conn_core.specs.Past.{Past, greeting, opening, with_item, with_taken}
-use Rattle.conn_core.specs.StandsFor.{Present, StandsFor, IsAlive, IsCall, call_on, among, stream_of as call_stream}
+use Rattle.conn_core.specs.StandsFor.{Present, StandsFor, IsAlive, IsCall, call_on, members_of, stream_of as call_stream}
 use Rattle.conn_core.proofs.Events.{events_took, raw_took}
 
 -- ---- an item
 
-pub item_kept : (texts : Look) (v : Present) (w : Kept) (p : Past) (s : ℕ) (item : Item) → StandsFor texts v p → IsSending texts w p.diary (owed_more p.diary p.owed s item) → StandsFor texts (record { reader = v.reader; streams = v.streams; sending = w; calls = v.calls; due = v.due; ended = v.ended }) (with_item p s item)
+pub item_kept : (texts : Look) (v : Present) (w : StoredSending) (p : Past) (s : ℕ) (item : Item) → StandsFor texts v p → IsSending texts w p.history (owed_with_item p.history p.owed s item) → StandsFor texts (record { reader = v.reader; streams = v.streams; sending = w; calls = v.calls; due = v.due; ended = v.ended }) (with_item p s item)
 item_kept texts v w p s item st sending = record {
   ended = st.ended;
   streams = st.streams;
@@ -42,47 +42,47 @@ item_kept texts v w p s item st sending = record {
   alive = λ alive. let a = st.alive alive in record { reader = a.reader; calls = a.calls; order = a.order };
 }
 
-pub item_by : (texts : Look) {T E : Type 0} (r : Result T E) (v old : Present) (w : Kept) (s : ℕ) (item : Item) → v ≡ old →
-    OnOk r ((d : List Entry) (os : List Owed) → AreStreams v.streams d → IsSending texts v.sending d os → IsSending texts w d (owed_more d os s item)) →
+pub item_by : (texts : Look) {T E : Type 0} (r : Result T E) (v old : Present) (w : StoredSending) (s : ℕ) (item : Item) → v ≡ old →
+    OnOk r ((d : List Entry) (os : List OwedItem) → AreStreams v.streams d → IsSending texts v.sending d os → IsSending texts w d (owed_with_item d os s item)) →
     OnOk r ((p : Past) → StandsFor texts old p → StandsFor texts (record { reader = v.reader; streams = v.streams; sending = w; calls = v.calls; due = v.due; ended = v.ended }) (with_item p s item))
 item_by texts (Err e) v old w s item is h = tt
 item_by texts (Ok x) v old w s item is h = λ p st0.
     let st : StandsFor texts v p = subst (λ (y : Present). StandsFor texts y p) (sym is) st0 in
-    item_kept texts v w p s item st (h p.diary p.owed st.streams st.sending)
+    item_kept texts v w p s item st (h p.history p.owed st.streams st.sending)
 
 -- a range, whatever digest names its text
-pub for_digest : {T E : Type 0} (r : Result T E) (v old : Present) (w : Kept) (s : ℕ) (text : List ℕ) (from count : ℕ) (texts : Look) → v ≡ old →
-    OnOk r ((digest : Digest) (d : List Entry) (os : List Owed) → AreStreams v.streams d → IsSending texts v.sending d os → IsSending texts w d (owed_more d os s (Range digest text from count))) →
+pub for_digest : {T E : Type 0} (r : Result T E) (v old : Present) (w : StoredSending) (s : ℕ) (text : List ℕ) (from count : ℕ) (texts : Look) → v ≡ old →
+    OnOk r ((digest : Digest) (d : List Entry) (os : List OwedItem) → AreStreams v.streams d → IsSending texts v.sending d os → IsSending texts w d (owed_with_item d os s (Range digest text from count))) →
     OnOk r ((digest : Digest) (p : Past) → StandsFor texts old p → StandsFor texts (record { reader = v.reader; streams = v.streams; sending = w; calls = v.calls; due = v.due; ended = v.ended }) (with_item p s (Range digest text from count)))
 for_digest (Err e) v old w s text from count texts is h = tt
 for_digest {T = T} {E = E} (Ok x) v old w s text from count texts is h = λ digest. item_by texts {T = T} {E = E} (Ok x) v old w s (Range digest text from count) is (h digest)
 
 -- ---- bytes that were taken
 
-took_sent : (d : List Entry) (n : ℕ) → sent (d ++ Took n ∷ []) ≡ sent d
-took_sent d n = filter_map-append frame_out d (Took n ∷ []) ∙ append-nil (sent d)
+took_sent : (d : List Entry) (n : ℕ) → sent_frames (d ++ Took n ∷ []) ≡ sent_frames d
+took_sent d n = filter_map-append frame_out d (Took n ∷ []) ∙ append-nil (sent_frames d)
 
-took_received : (d : List Entry) (n : ℕ) → received (d ++ Took n ∷ []) ≡ received d
-took_received d n = filter_map-append frame_in d (Took n ∷ []) ∙ append-nil (received d)
+took_received : (d : List Entry) (n : ℕ) → received_frames (d ++ Took n ∷ []) ≡ received_frames d
+took_received d n = filter_map-append frame_in d (Took n ∷ []) ∙ append-nil (received_frames d)
 
 abbrev lives_by : List Frame → List Frame → ℕ → Bool
 lives_by rs ss s = not (list_any (resets s) rs || list_any (resets s) ss) && not ((list_any (data_ends s) rs || list_any (block_ends s) (fold blocks_after no_blocks rs).finished) && list_any (ends s) ss)
 
 abbrev live_by : List Frame → List Frame → List ℕ
-live_by rs ss = filter (lives_by rs ss) (rising 0 (map stream_of (fold blocks_after no_blocks rs).finished))
+live_by rs ss = filter (lives_by rs ss) (rising_numbers 0 (map stream_of (fold blocks_after no_blocks rs).finished))
 
--- two diaries that received, put and brought the same
+-- two histories that received, put and brought the same
 pub record IsSame (d e : List Entry) : Type 0 where
-  pub received : received e ≡ received d
-  pub sent : sent e ≡ sent d
+  pub received : received_frames e ≡ received_frames d
+  pub sent : sent_frames e ≡ sent_frames d
   pub events : events e ≡ events d
-  pub raw : raw_received e ≡ raw_received d
+  pub raw : received_raw_frames e ≡ received_raw_frames d
 
-same_live : (d e : List Entry) (s : ℕ) → IsSame d e → is_live e s ≡ is_live d s
-same_live d e s h = ap (λ (rs : List Frame). lives_by rs (sent e) s) h.received ∙ ap (λ (ss : List Frame). lives_by (received d) ss s) h.sent
+same_live : (d e : List Entry) (s : ℕ) → IsSame d e → is_not_closed e s ≡ is_not_closed d s
+same_live d e s h = ap (λ (rs : List Frame). lives_by rs (sent_frames e) s) h.received ∙ ap (λ (ss : List Frame). lives_by (received_frames d) ss s) h.sent
 
-same_lives : (d e : List Entry) → IsSame d e → live e ≡ live d
-same_lives d e h = ap (λ (rs : List Frame). live_by rs (sent e)) h.received ∙ ap (λ (ss : List Frame). live_by (received d) ss) h.sent
+same_lives : (d e : List Entry) → IsSame d e → live_streams e ≡ live_streams d
+same_lives d e h = ap (λ (rs : List Frame). live_by rs (sent_frames e)) h.received ∙ ap (λ (ss : List Frame). live_by (received_frames d) ss) h.sent
 
 pub same_call : (d e : List Entry) (s : ℕ) (o : Option (Result (List ℕ) MessagesError)) → events e ≡ events d → IsCall d s o → IsCall e s o
 same_call d e s None h call = ap (λ (es : List Event). list_any (begins_call s) es) h ∙ call
@@ -94,33 +94,33 @@ same_call d e s (Some m) h call = (
 abbrev calls_by : List Event → List ℕ → List ℕ
 calls_by es ss = filter (λ s. list_any (begins_call s) es) ss
 
-pub same_alive : (v : Present) (w : Kept) (p q : Past) → q.text ≡ p.text → IsSame p.diary q.diary → IsAlive v p → IsAlive (record { reader = v.reader; streams = v.streams; sending = w; calls = v.calls; due = v.due; ended = v.ended }) q
+pub same_alive : (v : Present) (w : StoredSending) (p q : Past) → q.text ≡ p.text → IsSame p.history q.history → IsAlive v p → IsAlive (record { reader = v.reader; streams = v.streams; sending = w; calls = v.calls; due = v.due; ended = v.ended }) q
 same_alive v w p q text_is h a = record {
-  reader = subst (λ (t : List ℕ). IsReader CLIENT_PREFACE.now v.reader t (raw_received q.diary)) (sym text_is) (subst (λ (fs : List RawFrame). IsReader CLIENT_PREFACE.now v.reader p.text fs) (sym h.raw) a.reader);
-  calls = λ s lives. same_call p.diary q.diary s (call_on s v.calls) h.events (a.calls s (sym (same_live p.diary q.diary s h) ∙ lives));
-  order = ap (λ (ss : List ℕ). among ss (map call_stream v.calls)) (same_lives p.diary q.diary h) ∙ a.order ∙ ap (λ (es : List Event). calls_by es (live p.diary)) (sym h.events) ∙ ap (calls_by (events q.diary)) (sym (same_lives p.diary q.diary h));
+  reader = subst (λ (t : List ℕ). IsReader CLIENT_PREFACE.now v.reader t (received_raw_frames q.history)) (sym text_is) (subst (λ (fs : List RawFrame). IsReader CLIENT_PREFACE.now v.reader p.text fs) (sym h.raw) a.reader);
+  calls = λ s lives. same_call p.history q.history s (call_on s v.calls) h.events (a.calls s (sym (same_live p.history q.history s h) ∙ lives));
+  order = ap (λ (ss : List ℕ). members_of ss (map call_stream v.calls)) (same_lives p.history q.history h) ∙ a.order ∙ ap (λ (es : List Event). calls_by es (live_streams p.history)) (sym h.events) ∙ ap (calls_by (events q.history)) (sym (same_lives p.history q.history h));
 }
 
 took_same : (d : List Entry) (n : ℕ) → IsSame d (d ++ Took n ∷ [])
 took_same d n = record { received = took_received d n; sent = took_sent d n; events = events_took d n; raw = raw_took d n }
 
-pub took_kept : (texts : Look) (v : Present) (w : Kept) (p : Past) (n : ℕ) → StandsFor texts v p → IsSending texts w (p.diary ++ Took n ∷ []) p.owed → StandsFor texts (record { reader = v.reader; streams = v.streams; sending = w; calls = v.calls; due = v.due; ended = v.ended }) (with_taken p n)
+pub took_kept : (texts : Look) (v : Present) (w : StoredSending) (p : Past) (n : ℕ) → StandsFor texts v p → IsSending texts w (p.history ++ Took n ∷ []) p.owed → StandsFor texts (record { reader = v.reader; streams = v.streams; sending = w; calls = v.calls; due = v.due; ended = v.ended }) (with_taken p n)
 took_kept texts v w p n st sending = record {
-  ended = st.ended ∙ ap (λ (ss : List Frame). list_any is_goaway ss) (sym (took_sent p.diary n));
-  streams = no_matter v.streams p.diary (Took n) tt st.streams;
+  ended = st.ended ∙ ap (λ (ss : List Frame). list_any is_goaway ss) (sym (took_sent p.history n));
+  streams = no_matter v.streams p.history (Took n) tt st.streams;
   sending = sending;
   due = st.due;
-  alive = λ alive. same_alive v w p (with_taken p n) refl (took_same p.diary n) (st.alive (ap (λ (ss : List Frame). list_any is_goaway ss) (sym (took_sent p.diary n)) ∙ alive));
+  alive = λ alive. same_alive v w p (with_taken p n) refl (took_same p.history n) (st.alive (ap (λ (ss : List Frame). list_any is_goaway ss) (sym (took_sent p.history n)) ∙ alive));
 }
 
-pub took_by : (texts : Look) (v old : Present) (w : Kept) (n : ℕ) → v ≡ old → ((d : List Entry) (os : List Owed) → IsSending texts v.sending d os → IsSending texts w (d ++ Took n ∷ []) os) → (p : Past) → StandsFor texts old p → StandsFor texts (record { reader = v.reader; streams = v.streams; sending = w; calls = v.calls; due = v.due; ended = v.ended }) (with_taken p n)
+pub took_by : (texts : Look) (v old : Present) (w : StoredSending) (n : ℕ) → v ≡ old → ((d : List Entry) (os : List OwedItem) → IsSending texts v.sending d os → IsSending texts w (d ++ Took n ∷ []) os) → (p : Past) → StandsFor texts old p → StandsFor texts (record { reader = v.reader; streams = v.streams; sending = w; calls = v.calls; due = v.due; ended = v.ended }) (with_taken p n)
 took_by texts v old w n is h p st0 =
     let st : StandsFor texts v p = subst (λ (y : Present). StandsFor texts y p) (sym is) st0 in
-    took_kept texts v w p n st (h p.diary p.owed st.sending)
+    took_kept texts v w p n st (h p.history p.owed st.sending)
 
 -- ---- a new connection
 
-pub new_stands : (texts : Look) (reader : Result Unread FrameError) (streams : Standing) (w : Kept) → IsReader CLIENT_PREFACE.now reader [] [] → AreStreams streams [] → IsSending texts w (greeting ∷ []) [] → StandsFor texts (record { reader = reader; streams = streams; sending = w; calls = []; due = []; ended = false }) opening
+pub new_stands : (texts : Look) (reader : Result Unread FrameError) (streams : Standing) (w : StoredSending) → IsReader CLIENT_PREFACE.now reader [] [] → AreStreams streams [] → IsSending texts w (greeting ∷ []) [] → StandsFor texts (record { reader = reader; streams = streams; sending = w; calls = []; due = []; ended = false }) opening
 new_stands texts reader streams w read at sending = record {
   ended = refl;
   streams = no_matter streams [] greeting tt at;
@@ -131,7 +131,7 @@ new_stands texts reader streams w read at sending = record {
 
 -- ---- more bytes
 
-pub more_kept : (texts : Look) (v : Present) (r : Result Unread FrameError) (p : Past) (piece : List ℕ) → StandsFor texts v p → (has_failed p.diary ≡ false → IsReader CLIENT_PREFACE.now r (p.text ++ piece) (raw_received p.diary)) → StandsFor texts (record { reader = r; streams = v.streams; sending = v.sending; calls = v.calls; due = v.due; ended = v.ended }) (record p { text = p.text ++ piece })
+pub more_kept : (texts : Look) (v : Present) (r : Result Unread FrameError) (p : Past) (piece : List ℕ) → StandsFor texts v p → (has_failed p.history ≡ false → IsReader CLIENT_PREFACE.now r (p.text ++ piece) (received_raw_frames p.history)) → StandsFor texts (record { reader = r; streams = v.streams; sending = v.sending; calls = v.calls; due = v.due; ended = v.ended }) (record p { text = p.text ++ piece })
 more_kept texts v r p piece st read = record {
   ended = st.ended;
   streams = st.streams;
@@ -144,7 +144,7 @@ more_kept texts v r p piece st read = record {
 pub refused_more : (preface text piece : List ℕ) (given : List RawFrame) (e : FrameError) → IsReader preface (Err e) text given → IsReader preface (Err e) (text ++ piece) given
 refused_more preface text piece given e h = λ more. ap (split preface) (append_assoc text piece more) ∙ h (piece ++ more)
 
-pub new_by : (texts : Look) (reader : Result Unread FrameError) (streams : Standing) (w : Kept) (calls : List Call) (due : List CallEvent) (ss : List Setting) → calls ≡ [] → due ≡ [] → ss ≡ record { identifier = 3; value = 100 } ∷ [] → IsReader CLIENT_PREFACE.now reader [] [] → AreStreams streams [] → IsSending texts w (Out (Settings false ss) ∷ []) [] → StandsFor texts (record { reader = reader; streams = streams; sending = w; calls = calls; due = due; ended = false }) opening
+pub new_by : (texts : Look) (reader : Result Unread FrameError) (streams : Standing) (w : StoredSending) (calls : List Call) (due : List CallEvent) (ss : List Setting) → calls ≡ [] → due ≡ [] → ss ≡ record { identifier = 3; value = 100 } ∷ [] → IsReader CLIENT_PREFACE.now reader [] [] → AreStreams streams [] → IsSending texts w (Out (Settings false ss) ∷ []) [] → StandsFor texts (record { reader = reader; streams = streams; sending = w; calls = calls; due = due; ended = false }) opening
 new_by texts reader streams w calls due ss none none' settings read at sending =
     let f : List Call → List CallEvent → Present = λ cs es. record { reader = reader; streams = streams; sending = w; calls = cs; due = es; ended = false } in
     let s : IsSending texts w (greeting ∷ []) [] = subst (λ (xs : List Setting). IsSending texts w (Out (Settings false xs) ∷ []) []) settings sending in
@@ -160,12 +160,12 @@ fed (Err e) old new preface text piece given ok err refused memory h =
 pub fed_by : (texts : Look) (v old : Present) (r : Result Unit FrameError) (new : Result Unread FrameError) (piece : List ℕ) → v ≡ old → OnOk r ((p t : List ℕ) (g : List RawFrame) → IsReader p v.reader t g → IsReader p new (t ++ piece) g) → OnErr r (new ≡ v.reader) → IfErr r (λ fault. (fault ≡ NoMemory → ⊥) → v.reader ≡ Err fault) → (r ≡ Err NoMemory → ⊥) → (p : Past) → StandsFor texts old p → StandsFor texts (record { reader = new; streams = v.streams; sending = v.sending; calls = v.calls; due = v.due; ended = v.ended }) (record p { text = p.text ++ piece })
 fed_by texts v old r new piece is ok err refused memory p st0 =
     let st : StandsFor texts v p = subst (λ (y : Present). StandsFor texts y p) (sym is) st0 in
-    more_kept texts v new p piece st (λ alive. fed r v.reader new CLIENT_PREFACE.now p.text piece (raw_received p.diary) ok err refused memory (st.alive alive).reader)
+    more_kept texts v new p piece st (λ alive. fed r v.reader new CLIENT_PREFACE.now p.text piece (received_raw_frames p.history) ok err refused memory (st.alive alive).reader)
 
 pub fed_ended : (texts : Look) (v old : Present) (piece : List ℕ) → v ≡ old → v.ended ≡ true → (p : Past) → StandsFor texts old p → StandsFor texts v (record p { text = p.text ++ piece })
 fed_ended texts v old piece is ended p st0 =
     let st : StandsFor texts v p = subst (λ (y : Present). StandsFor texts y p) (sym is) st0 in
-    let failed : has_failed p.diary ≡ true = sym st.ended ∙ ended in
+    let failed : has_failed p.history ≡ true = sym st.ended ∙ ended in
     more_kept texts v v.reader p piece st (λ alive. let no : true ≡ false = sym failed ∙ alive in absurd (let z : ⊥ = cc in z))
 
 pub fed_ok : (texts : Look) {T E : Type 0} (o : Result T E) (v old : Present) (r : Result Unit FrameError) (new : Result Unread FrameError) (piece : List ℕ) → v ≡ old → OnOk r ((p t : List ℕ) (g : List RawFrame) → IsReader p v.reader t g → IsReader p new (t ++ piece) g) → OnErr r (new ≡ v.reader) → IfErr r (λ fault. (fault ≡ NoMemory → ⊥) → v.reader ≡ Err fault) → OnOk o (r ≡ Err NoMemory → ⊥) → OnOk o ((p : Past) → StandsFor texts old p → StandsFor texts (record { reader = new; streams = v.streams; sending = v.sending; calls = v.calls; due = v.due; ended = v.ended }) (record p { text = p.text ++ piece }))

@@ -1,7 +1,7 @@
 -- A clause for every look-up of the texts of sources.
 use Rattle.std.proofs.Common.{◌≡◌, sym, subst, List, ℕ}
 use Rattle.std.specs.Prelude.{Result, Ok, Err, OnOk}
-use Rattle.grpc_sending.specs.Kept.{Look, Kept, Fit}
+use Rattle.grpc_sending.specs.StoredSending.{Look, StoredSending, Fit}
 use Rattle.grpc_sending.specs.declared.queue.StoredQueue.{StoredQueue}
 use Rattle.conn_core.specs.StandsFor.{Present}
 
@@ -19,5 +19,5 @@ fit_by v old qs is keeps texts h = keeps texts (subst (λ (x : Present). Fit tex
 pub fit_same : (v old : Present) → v ≡ old → (texts : Look) → Fit texts old.sending.queues → Fit texts v.sending.queues
 fit_same v old is texts h = subst (λ (x : Present). Fit texts x.sending.queues) (sym is) h
 
-pub fit_rest : (v old : Present) (w : Kept) (bytes : List ℕ) → v ≡ old → w ≡ record v.sending { pending = bytes } → (texts : Look) → Fit texts old.sending.queues → Fit texts w.queues
-fit_rest v old w bytes is rest texts h = subst (λ (x : Kept). Fit texts x.queues) (sym rest) (fit_same v old is texts h)
+pub fit_rest : (v old : Present) (w : StoredSending) (bytes : List ℕ) → v ≡ old → w ≡ record v.sending { pending = bytes } → (texts : Look) → Fit texts old.sending.queues → Fit texts w.queues
+fit_rest v old w bytes is rest texts h = subst (λ (x : StoredSending). Fit texts x.queues) (sym rest) (fit_same v old is texts h)

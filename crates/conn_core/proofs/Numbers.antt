@@ -4,7 +4,7 @@ use Rattle.std.specs.Prelude.{Bool, true, false, filter, ◌&&◌, ◌||◌, ◌
 use Rattle.std.specs.List.{list_any}
 use Rattle.std.proofs.lemmas.Bool.{and_parts, cases_Bool, eqb-true}
 use Rattle.std.proofs.lemmas.Bool.Decides.{nat_tests}
-use Rattle.conn_core.specs.StandsFor.{among}
+use Rattle.conn_core.specs.StandsFor.{members_of}
 
 pub false_both : (b : Bool) → (b && false) ≡ false
 false_both true = refl
@@ -67,7 +67,7 @@ filter_turned : (p q : ℕ → Bool) (xs : List ℕ) → filter p (filter q xs) 
 filter_turned p q xs = filter_twice p q xs ∙ filter_agree (λ x. q x && p x) (λ x. p x && q x) xs (λ t h. and_turned (q t) (p t)) ∙ sym (filter_twice q p xs)
 
 -- of the numbers, those that stay
-pub sifted : (q c c' : ℕ → Bool) (os xs : List ℕ) → among os xs ≡ filter c os → ((t : ℕ) → c' t ≡ c t) → among (filter q os) xs ≡ filter c' (filter q os)
+pub sifted : (q c c' : ℕ → Bool) (os xs : List ℕ) → members_of os xs ≡ filter c os → ((t : ℕ) → c' t ≡ c t) → members_of (filter q os) xs ≡ filter c' (filter q os)
 sifted q c c' os xs order same =
     filter_agree (λ t. list_any (λ u. u == t) (filter q os)) (λ t. list_any (λ u. u == t) os && q t) xs (λ t h. any_kept q t os)
     ∙ sym (filter_twice q (λ t. list_any (λ u. u == t) os) xs)

@@ -10,12 +10,12 @@ use Rattle.http2_frames.specs.declared.frame.RawFrame.{RawFrame}
 use Rattle.http2_streams.specs.declared.event.Event.{Event}
 use Rattle.http2_streams.specs.declared.event.Event.TheVariants.{Nothing, Request, Content, Trailers, Cancel}
 use Rattle.http2_streams.specs.declared.event.StreamEvent.{StreamEvent}
-use Rattle.http2_streams.specs.Diary.{Entry, In, Unreadable, Out, Took, opened, highest, live, is_live}
-use Rattle.http2_streams.specs.Rules.{causes, control_frames}
+use Rattle.http2_streams.specs.History.{Entry, In, Unreadable, Out, Took, opened_streams, highest_stream, live_streams, is_not_closed}
+use Rattle.http2_streams.specs.Rules.{answer_after, control_frames}
 use Rattle.grpc_calls.specs.Requests.{head_of}
-use Rattle.grpc_sending.specs.Bytes.{untaken}
-use Rattle.conn_core.specs.Received.{outcome, outcome_of, all_fit}
-use Rattle.conn_core.specs.Calls.{brought, brought_from, events, begins_call, content_on, is_call, text}
+use Rattle.grpc_sending.specs.Bytes.{untaken_count}
+use Rattle.conn_core.specs.Received.{outcome, outcome_of, may_put_all}
+use Rattle.conn_core.specs.Calls.{events_of_entry, events_of_entries, events, begins_call, content_on, is_call, stream_text}
 use Rattle.http2_streams.specs.LiveStreams.{IsOnItsStream}
 use Rattle.http2_streams.proofs.EventLaw.{event_on_stream}
 use Rattle.conn_core.proofs.Numbers.{any_first}
@@ -30,30 +30,30 @@ names s (Trailers t) = t == s
 names s (Cancel t) = t == s
 
 abbrev pub IsOpened : List Entry → ℕ → Type 0
-IsOpened d s = list_any (λ t. t == s) (opened d) ≡ true
+IsOpened d s = list_any (λ t. t == s) (opened_streams d) ≡ true
 
 pub opened_still : (d es : List Entry) (s : ℕ) → IsOpened d s → IsOpened (d ++ es) s
 opened_still d es s h =
     let m = opened_more d es in
-    ap (list_any (λ t. t == s)) m.1 ∙ list_any-append (λ t. t == s) (opened d) m.0 ∙ any_first (list_any (λ t. t == s) (opened d)) (list_any (λ t. t == s) m.0) h
+    ap (list_any (λ t. t == s)) m.1 ∙ list_any-append (λ t. t == s) (opened_streams d) m.0 ∙ any_first (list_any (λ t. t == s) (opened_streams d)) (list_any (λ t. t == s) m.0) h
 
 -- ---- of one frame
 
-live_opened : (d : List Entry) (f : RawFrame) (s t : ℕ) → list_any (λ u. u == t) (live d) ≡ true → (t == s) ≡ true → IsOpened (d ++ In f ∷ []) s
+live_opened : (d : List Entry) (f : RawFrame) (s t : ℕ) → list_any (λ u. u == t) (live_streams d) ≡ true → (t == s) ≡ true → IsOpened (d ++ In f ∷ []) s
 live_opened d f s t h same =
-    let o : IsOpened d t = (and_parts (list_any (λ u. u == t) (opened d)) (is_live d t) (sym (in_live d t) ∙ h)).0 in
+    let o : IsOpened d t = (and_parts (list_any (λ u. u == t) (opened_streams d)) (is_not_closed d t) (sym (in_live d t) ∙ h)).0 in
     opened_still d (In f ∷ []) s (subst (λ (n : ℕ). IsOpened d n) (eqb-true t s same) o)
 
-event_opened : (d : List Entry) (f : RawFrame) (s : ℕ) (a : StreamEvent) (e : Event) → causes d f ≡ Ok a → a.event ≡ e → IsOnItsStream d e → names s e ≡ true → IsOpened (d ++ In f ∷ []) s
+event_opened : (d : List Entry) (f : RawFrame) (s : ℕ) (a : StreamEvent) (e : Event) → answer_after d f ≡ Ok a → a.event ≡ e → IsOnItsStream d e → names s e ≡ true → IsOpened (d ++ In f ∷ []) s
 event_opened d f s a Nothing h is on named = absurd (let no : false ≡ true = named in let z : ⊥ = cc in z)
 event_opened d f s a (Request t fields end_stream) h is on named = subst (λ (n : ℕ). IsOpened (d ++ In f ∷ []) n) (eqb-true t s named) (request_opened d f a t fields end_stream h is)
 event_opened d f s a (Content t content end_stream) h is on named = live_opened d f s t on named
 event_opened d f s a (Trailers t) h is on named = live_opened d f s t on named
 event_opened d f s a (Cancel t) h is on named = live_opened d f s t on named
 
-named_of : (d : List Entry) (f : RawFrame) (s n h k : ℕ) (r : Result StreamEvent ErrorCode) → causes d f ≡ r → names s (outcome_of n h k r).event ≡ true → IsOpened (d ++ In f ∷ []) s
+named_of : (d : List Entry) (f : RawFrame) (s n h k : ℕ) (r : Result StreamEvent ErrorCode) → answer_after d f ≡ r → names s (outcome_of n h k r).event ≡ true → IsOpened (d ++ In f ∷ []) s
 named_of d f s n h k (Err code) is named = let no : false ≡ true = named in absurd (let z : ⊥ = cc in z)
-named_of d f s n h k (Ok a) is named = elim (cases_Bool (all_fit n (control_frames a))) [
+named_of d f s n h k (Ok a) is named = elim (cases_Bool (may_put_all n (control_frames a))) [
   | inl fit ↦ let named' : names s a.event ≡ true = rw fit at named in event_opened d f s a a.event is refl (event_on_stream d f a is) named'
   | inr short ↦ let no : false ≡ true = rw short at named in absurd (let z : ⊥ = cc in z)
 ]
@@ -64,20 +64,20 @@ both_lists : (a b : Bool) (P : Type 0) → (a || b) ≡ true → (a ≡ true →
 both_lists true b P h l r = l refl
 both_lists false b P h l r = r h
 
-brought_opened : (before : List Entry) (e : Entry) (s : ℕ) → list_any (names s) (brought before e) ≡ true → IsOpened (before ++ e ∷ []) s
+brought_opened : (before : List Entry) (e : Entry) (s : ℕ) → list_any (names s) (events_of_entry before e) ≡ true → IsOpened (before ++ e ∷ []) s
 brought_opened before (In f) s h =
     let h' : names s (outcome before f).event ≡ true = both_lists (names s (outcome before f).event) false (names s (outcome before f).event ≡ true) h (λ x. x) (λ no. absurd (let z : ⊥ = cc in z)) in
-    named_of before f s (untaken before) (highest before) (highest (before ++ In f ∷ [])) (causes before f) refl h'
+    named_of before f s (untaken_count before) (highest_stream before) (highest_stream (before ++ In f ∷ [])) (answer_after before f) refl h'
 brought_opened before (Unreadable x) s h = absurd (let z : ⊥ = cc in z)
 brought_opened before (Out g) s h = absurd (let z : ⊥ = cc in z)
 brought_opened before (Took n) s h = absurd (let z : ⊥ = cc in z)
 
-named_opened : (before es : List Entry) (s : ℕ) → list_any (names s) (brought_from before es) ≡ true → IsOpened (before ++ es) s
+named_opened : (before es : List Entry) (s : ℕ) → list_any (names s) (events_of_entries before es) ≡ true → IsOpened (before ++ es) s
 named_opened before [] s h = absurd (let z : ⊥ = cc in z)
 named_opened before (e ∷ es) s h =
     let e' : (before ++ e ∷ []) ++ es ≡ before ++ e ∷ es = append_assoc before (e ∷ []) es in
-    let h' : (list_any (names s) (brought before e) || list_any (names s) (brought_from (before ++ e ∷ []) es)) ≡ true = sym (list_any-append (names s) (brought before e) (brought_from (before ++ e ∷ []) es)) ∙ h in
-    subst (λ (d : List Entry). IsOpened d s) e' (both_lists (list_any (names s) (brought before e)) (list_any (names s) (brought_from (before ++ e ∷ []) es)) (IsOpened ((before ++ e ∷ []) ++ es) s) h'
+    let h' : (list_any (names s) (events_of_entry before e) || list_any (names s) (events_of_entries (before ++ e ∷ []) es)) ≡ true = sym (list_any-append (names s) (events_of_entry before e) (events_of_entries (before ++ e ∷ []) es)) ∙ h in
+    subst (λ (d : List Entry). IsOpened d s) e' (both_lists (list_any (names s) (events_of_entry before e)) (list_any (names s) (events_of_entries (before ++ e ∷ []) es)) (IsOpened ((before ++ e ∷ []) ++ es) s) h'
     (λ here. opened_still (before ++ e ∷ []) es s (brought_opened before e s here))
     (λ later. named_opened (before ++ e ∷ []) es s later))
 
@@ -123,9 +123,9 @@ not_true true h = absurd (h refl)
 not_true false h = refl
 
 -- nothing was received on a stream above all that were opened
-pub idle : (d : List Entry) (s : ℕ) → highest d < s → (is_call d s ≡ false) × (text d s ≡ [])
+pub idle : (d : List Entry) (s : ℕ) → highest_stream d < s → (is_call d s ≡ false) × (stream_text d s ≡ [])
 idle d s above =
-    let none : IsOpened d s → ⊥ = λ o. let low : s ≤ highest d = opened_low d s o in omega (arith, low, above) in (
+    let none : IsOpened d s → ⊥ = λ o. let low : s ≤ highest_stream d = opened_low d s o in omega (arith, low, above) in (
       not_true (is_call d s) (λ h. none (call_opened d s h)),
       no_text s (events d) (not_true (list_any (names s) (events d)) (λ h. none (named_opened [] d s h))),
     )

@@ -12,7 +12,7 @@ use Rattle.rpc.specs.declared.method.Method.{Method}
 use Rattle.conn_core.specs.declared.call.Call.{Call}
 use Rattle.conn_core.specs.declared.event.CallEvent.{CallEvent}
 use Rattle.conn_core.specs.declared.event.CallEvent.TheVariants.{Head}
-use Rattle.conn_core.specs.Calls.{messages_of, more_text}
+use Rattle.conn_core.specs.Calls.{messages_of, events_of_content}
 use Rattle.conn_core.specs.StandsFor.{call_on, stream_of}
 use Rattle.conn_core.specs.CallSteps.{place_of, TakesOn, BeginsCall, KeepsOpen, has_call}
 use Rattle.conn_core.proofs.Takes.{Took}
@@ -95,7 +95,7 @@ takes_at s content end_stream cs x d before after h same takes =
           let m : (get_or cs (place_of s cs) d).messages ≡ (messages_of u).end = let e : Some (get_or cs (place_of s cs) d).messages ≡ Some (messages_of u).end = sym at.1 ∙ k in cc in
           let t = takes u m in (
             set_at s cs x h is ∙ ap (λ (r : Result (List ℕ) MessagesError). Some r) t.messages,
-            t.events ∙ ap (λ (n : ℕ). before ++ more_text n u content end_stream) at.0,
+            t.events ∙ ap (λ (n : ℕ). before ++ events_of_content n u content end_stream) at.0,
           );
     }
 
@@ -173,7 +173,7 @@ pub takes_none_by : (s i n : ℕ) (content : List ℕ) (end_stream : Bool) (cs :
 takes_none_by s i n content end_stream cs es at past size = takes_none s content end_stream cs es (no_place s cs (omega (arith, at, past, size)))
 
 abbrev pub TakesEvents : Call → Call → List ℕ → Bool → List CallEvent → List CallEvent → Type 0
-TakesEvents old new content end_stream before after = (t : List ℕ) → old.messages ≡ (messages_of t).end → after ≡ before ++ more_text old.stream t content end_stream
+TakesEvents old new content end_stream before after = (t : List ℕ) → old.messages ≡ (messages_of t).end → after ≡ before ++ events_of_content old.stream t content end_stream
 
 abbrev pub TakesMessages : Call → Call → List ℕ → Type 0
 TakesMessages old new content = (t : List ℕ) → old.messages ≡ (messages_of t).end → new.messages ≡ (messages_of (t ++ content)).end
@@ -195,7 +195,7 @@ begins_by s method end_stream live old kept new fresh call before mid after keep
   messages = messages [] nothing;
   calls = calls;
   events = events [] nothing
-      ∙ ap (λ (n : ℕ). mid ++ more_text n [] [] end_stream) at
-      ∙ ap (λ (es : List CallEvent). es ++ more_text s [] [] end_stream) head
-      ∙ append_assoc before (Head s method ∷ []) (more_text s [] [] end_stream);
+      ∙ ap (λ (n : ℕ). mid ++ events_of_content n [] [] end_stream) at
+      ∙ ap (λ (es : List CallEvent). es ++ events_of_content s [] [] end_stream) head
+      ∙ append_assoc before (Head s method ∷ []) (events_of_content s [] [] end_stream);
 }

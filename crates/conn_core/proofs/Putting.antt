@@ -8,13 +8,13 @@ use Rattle.std.proofs.lemmas.List.{map-append}
 use Rattle.std.proofs.lemmas.Grind.{flat_map-append}
 use Rattle.http2_frames.specs.declared.frame.Frame.{Frame}
 use Rattle.http2_frames.specs.Writing.{text_of, raw_of}
-use Rattle.http2_streams.specs.Diary.{Entry, Out}
+use Rattle.http2_streams.specs.History.{Entry, Out}
 use Rattle.http2_streams.specs.declared.event.StreamEvent.{StreamEvent}
 use Rattle.http2_streams.specs.Rules.{control_frames}
-use Rattle.grpc_sending.specs.Owed.{Owed}
-use Rattle.grpc_sending.specs.Kept.{Look, Kept, StandsFor as IsSending}
-use Rattle.grpc_sending.proofs.Diaries.{append-nil, text_length}
-use Rattle.conn_core.specs.Received.{fits, fitting, all_fit}
+use Rattle.grpc_sending.specs.Owed.{OwedItem}
+use Rattle.grpc_sending.specs.StoredSending.{Look, StoredSending, StandsFor as IsSending}
+use Rattle.grpc_sending.proofs.Histories.{append-nil, text_length}
+use Rattle.conn_core.specs.Received.{may_put, frames_to_put, may_put_all}
 use Rattle.conn_core.specs.StandsFor.{Present}
 use Rattle.conn_core.specs.Putting.{Puts, is_answer, are_answers}
 
@@ -23,46 +23,46 @@ use Rattle.conn_core.specs.Putting.{Puts, is_answer, are_answers}
 abbrev after : ℕ → List Frame → ℕ
 after n fs = n + length (flat_map text_of fs)
 
-all_fit-append : (n : ℕ) (fs gs : List Frame) → all_fit n fs ≡ true → all_fit n (fs ++ gs) ≡ all_fit (after n fs) gs
-all_fit-append n [] gs h = ap (λ m. all_fit m gs) (omega arith)
-all_fit-append n (f ∷ fs) gs h = elim (cases_Bool (fits n f)) [
+may_put_all-append : (n : ℕ) (fs gs : List Frame) → may_put_all n fs ≡ true → may_put_all n (fs ++ gs) ≡ may_put_all (after n fs) gs
+may_put_all-append n [] gs h = ap (λ m. may_put_all m gs) (omega arith)
+may_put_all-append n (f ∷ fs) gs h = elim (cases_Bool (may_put n f)) [
   | inl here ↦
-      let h' : all_fit (n + length (text_of f)) fs ≡ true = rw here at h in
+      let h' : may_put_all (n + length (text_of f)) fs ≡ true = rw here at h in
       let e : after (n + length (text_of f)) fs ≡ after n (f ∷ fs) = omega (arith, length-append (text_of f) (flat_map text_of fs)) in
-      rw here (all_fit-append (n + length (text_of f)) fs gs h' ∙ ap (λ m. all_fit m gs) e)
+      rw here (may_put_all-append (n + length (text_of f)) fs gs h' ∙ ap (λ m. may_put_all m gs) e)
   | inr short ↦ let no : false ≡ true = rw short at h in cc
 ]
 
-none_more : (n : ℕ) (fs gs : List Frame) → all_fit n fs ≡ false → (all_fit n (fs ++ gs) ≡ false) × (fitting n (fs ++ gs) ≡ fitting n fs)
+none_more : (n : ℕ) (fs gs : List Frame) → may_put_all n fs ≡ false → (may_put_all n (fs ++ gs) ≡ false) × (frames_to_put n (fs ++ gs) ≡ frames_to_put n fs)
 none_more n [] gs h = cc
-none_more n (f ∷ fs) gs h = elim (cases_Bool (fits n f)) [
+none_more n (f ∷ fs) gs h = elim (cases_Bool (may_put n f)) [
   | inl here ↦
-      let h' : all_fit (n + length (text_of f)) fs ≡ false = rw here at h in
+      let h' : may_put_all (n + length (text_of f)) fs ≡ false = rw here at h in
       let e = none_more (n + length (text_of f)) fs gs h' in
       rw here (e.0, ap (λ (xs : List Frame). f ∷ xs) e.1)
   | inr short ↦ rw short (refl, refl)
 ]
 
-pub fitting_all : (n : ℕ) (fs : List Frame) → all_fit n fs ≡ true → fitting n fs ≡ fs
+pub fitting_all : (n : ℕ) (fs : List Frame) → may_put_all n fs ≡ true → frames_to_put n fs ≡ fs
 fitting_all n [] h = refl
-fitting_all n (f ∷ fs) h = elim (cases_Bool (fits n f)) [
-  | inl here ↦ let h' : all_fit (n + length (text_of f)) fs ≡ true = rw here at h in rw here (ap (λ (xs : List Frame). f ∷ xs) (fitting_all (n + length (text_of f)) fs h'))
+fitting_all n (f ∷ fs) h = elim (cases_Bool (may_put n f)) [
+  | inl here ↦ let h' : may_put_all (n + length (text_of f)) fs ≡ true = rw here at h in rw here (ap (λ (xs : List Frame). f ∷ xs) (fitting_all (n + length (text_of f)) fs h'))
   | inr short ↦ let no : false ≡ true = rw short at h in cc
 ]
 
-fitting-append : (n : ℕ) (fs gs : List Frame) → all_fit n fs ≡ true → fitting n (fs ++ gs) ≡ fs ++ fitting (after n fs) gs
-fitting-append n [] gs h = ap (λ m. fitting m gs) (omega arith)
-fitting-append n (f ∷ fs) gs h = elim (cases_Bool (fits n f)) [
+frames_to_put-append : (n : ℕ) (fs gs : List Frame) → may_put_all n fs ≡ true → frames_to_put n (fs ++ gs) ≡ fs ++ frames_to_put (after n fs) gs
+frames_to_put-append n [] gs h = ap (λ m. frames_to_put m gs) (omega arith)
+frames_to_put-append n (f ∷ fs) gs h = elim (cases_Bool (may_put n f)) [
   | inl here ↦
-      let h' : all_fit (n + length (text_of f)) fs ≡ true = rw here at h in
+      let h' : may_put_all (n + length (text_of f)) fs ≡ true = rw here at h in
       let e : after (n + length (text_of f)) fs ≡ after n (f ∷ fs) = omega (arith, length-append (text_of f) (flat_map text_of fs)) in
-      rw here (ap (λ (xs : List Frame). f ∷ xs) (fitting-append (n + length (text_of f)) fs gs h' ∙ ap (λ m. fs ++ fitting m gs) e))
+      rw here (ap (λ (xs : List Frame). f ∷ xs) (frames_to_put-append (n + length (text_of f)) fs gs h' ∙ ap (λ m. fs ++ frames_to_put m gs) e))
   | inr short ↦ let no : false ≡ true = rw short at h in cc
 ]
 
 -- ---- one frame after another
 
-abbrev pub with_sending : Present → Kept → Present
+abbrev pub with_sending : Present → StoredSending → Present
 with_sending v w = record { reader = v.reader; streams = v.streams; sending = w; calls = v.calls; due = v.due; ended = v.ended }
 
 pub puts_none : (v : Present) → Puts v [] true v
@@ -76,19 +76,19 @@ puts_none v = record {
 pub puts_more : (v w x : Present) (fs gs : List Frame) (all : Bool) → Puts v fs true w → Puts w gs all x → Puts v (fs ++ gs) all x
 puts_more v w x fs gs all a b =
     let n : ℕ = length v.sending.pending in
-    let fit : all_fit (length v.sending.pending) fs ≡ true = sym a.all in
-    let whole : fitting (length v.sending.pending) fs ≡ fs = fitting_all (length v.sending.pending) fs fit in
+    let fit : may_put_all (length v.sending.pending) fs ≡ true = sym a.all in
+    let whole : frames_to_put (length v.sending.pending) fs ≡ fs = fitting_all (length v.sending.pending) fs fit in
     let size : length w.sending.pending ≡ after (length v.sending.pending) fs = a.size ∙ ap (λ (xs : List Frame). length v.sending.pending + length (flat_map text_of xs)) whole in
-    let joined : fitting (length v.sending.pending) (fs ++ gs) ≡ fs ++ fitting (length w.sending.pending) gs = fitting-append (length v.sending.pending) fs gs fit ∙ ap (λ m. fs ++ fitting m gs) (sym size) in
+    let joined : frames_to_put (length v.sending.pending) (fs ++ gs) ≡ fs ++ frames_to_put (length w.sending.pending) gs = frames_to_put-append (length v.sending.pending) fs gs fit ∙ ap (λ m. fs ++ frames_to_put m gs) (sym size) in
     record {
-      all = b.all ∙ ap (λ m. all_fit m gs) size ∙ sym (all_fit-append (length v.sending.pending) fs gs fit);
+      all = b.all ∙ ap (λ m. may_put_all m gs) size ∙ sym (may_put_all-append (length v.sending.pending) fs gs fit);
       sending = λ texts d os st.
           let one : IsSending texts w.sending (d ++ map Out fs) os = subst (λ (xs : List Frame). IsSending texts w.sending (d ++ map Out xs) os) whole (a.sending texts d os st) in
           let two = b.sending texts (d ++ map Out fs) os one in
-          let e : (d ++ map Out fs) ++ map Out (fitting (length w.sending.pending) gs) ≡ d ++ map Out (fitting (length v.sending.pending) (fs ++ gs)) =
-          append_assoc d (map Out fs) (map Out (fitting (length w.sending.pending) gs)) ∙ ap (λ (es : List Entry). d ++ es) (sym (map-append Out fs (fitting (length w.sending.pending) gs))) ∙ ap (λ (xs : List Frame). d ++ map Out xs) (sym joined) in
+          let e : (d ++ map Out fs) ++ map Out (frames_to_put (length w.sending.pending) gs) ≡ d ++ map Out (frames_to_put (length v.sending.pending) (fs ++ gs)) =
+          append_assoc d (map Out fs) (map Out (frames_to_put (length w.sending.pending) gs)) ∙ ap (λ (es : List Entry). d ++ es) (sym (map-append Out fs (frames_to_put (length w.sending.pending) gs))) ∙ ap (λ (xs : List Frame). d ++ map Out xs) (sym joined) in
           subst (λ (e : List Entry). IsSending texts x.sending e os) e two;
-      size = omega (arith, b.size, size, ap (λ (xs : List Frame). length (flat_map text_of xs)) joined, ap length (flat_map-append text_of fs (fitting (length w.sending.pending) gs)), length-append (flat_map text_of fs) (flat_map text_of (fitting (length w.sending.pending) gs)));
+      size = omega (arith, b.size, size, ap (λ (xs : List Frame). length (flat_map text_of xs)) joined, ap length (flat_map-append text_of fs (frames_to_put (length w.sending.pending) gs)), length-append (flat_map text_of fs) (flat_map text_of (frames_to_put (length w.sending.pending) gs)));
       rest = b.rest ∙ ap (λ (y : Present). with_sending y x.sending) a.rest;
     }
 
@@ -104,9 +104,9 @@ puts_short v w fs gs a =
 
 -- ---- one frame
 
-pub fits_is : (n : ℕ) (f : Frame) (b : Bool) → (IsTrue b ↔ ((n + (9 + length (raw_of f).payload)) ≤ 131055)) → fits n f ≡ b
+pub fits_is : (n : ℕ) (f : Frame) (b : Bool) → (IsTrue b ↔ ((n + (9 + length (raw_of f).payload)) ≤ 131055)) → may_put n f ≡ b
 fits_is n f true h = le-leb (n + length (text_of f)) 131055 (let few = h.0 refl in omega (arith, few, text_length (raw_of f)))
-fits_is n f false h = elim (cases_Bool (fits n f)) [
+fits_is n f false h = elim (cases_Bool (may_put n f)) [
   | inl few ↦
       let small : (n + length (text_of f)) ≤ 131055 = leb-true (n + length (text_of f)) 131055 few in
       let no : false ≡ true = h.1 (omega (arith, small, text_length (raw_of f))) in
@@ -114,10 +114,10 @@ fits_is n f false h = elim (cases_Bool (fits n f)) [
   | inr many ↦ many
 ]
 
-pub puts_one : (v old : Present) (w : Kept) (f : Frame) (b : Bool) → v ≡ old → b ≡ true → (IsTrue b ↔ ((length v.sending.pending + (9 + length (raw_of f).payload)) ≤ 131055)) → ((texts : Look) (d : List Entry) (os : List Owed) → IsSending texts v.sending d os → IsSending texts w (d ++ Out f ∷ []) os) → length w.pending ≡ length v.sending.pending + (9 + length (raw_of f).payload) → Puts old (f ∷ []) true (with_sending v w)
+pub puts_one : (v old : Present) (w : StoredSending) (f : Frame) (b : Bool) → v ≡ old → b ≡ true → (IsTrue b ↔ ((length v.sending.pending + (9 + length (raw_of f).payload)) ≤ 131055)) → ((texts : Look) (d : List Entry) (os : List OwedItem) → IsSending texts v.sending d os → IsSending texts w (d ++ Out f ∷ []) os) → length w.pending ≡ length v.sending.pending + (9 + length (raw_of f).payload) → Puts old (f ∷ []) true (with_sending v w)
 puts_one v old w f b is room-is room stands size =
-    let fit : fits (length v.sending.pending) f ≡ true = fits_is (length v.sending.pending) f b room ∙ room-is in
-    let one : fitting (length v.sending.pending) (f ∷ []) ≡ f ∷ [] = rw fit refl in
+    let fit : may_put (length v.sending.pending) f ≡ true = fits_is (length v.sending.pending) f b room ∙ room-is in
+    let one : frames_to_put (length v.sending.pending) (f ∷ []) ≡ f ∷ [] = rw fit refl in
     subst (λ (y : Present). Puts y (f ∷ []) true (with_sending v w)) is (record {
       all = sym (rw fit refl);
       sending = λ texts d os st. subst (λ (xs : List Frame). IsSending texts w (d ++ map Out xs) os) (sym one) (stands texts d os st);
@@ -127,8 +127,8 @@ puts_one v old w f b is room-is room stands size =
 
 pub puts_not : (v old : Present) (f : Frame) (b : Bool) → v ≡ old → b ≡ false → (IsTrue b ↔ ((length v.sending.pending + (9 + length (raw_of f).payload)) ≤ 131055)) → Puts old (f ∷ []) false v
 puts_not v old f b is room-is room =
-    let fit : fits (length v.sending.pending) f ≡ false = fits_is (length v.sending.pending) f b room ∙ room-is in
-    let none : fitting (length v.sending.pending) (f ∷ []) ≡ [] = rw fit refl in
+    let fit : may_put (length v.sending.pending) f ≡ false = fits_is (length v.sending.pending) f b room ∙ room-is in
+    let none : frames_to_put (length v.sending.pending) (f ∷ []) ≡ [] = rw fit refl in
     subst (λ (y : Present). Puts y (f ∷ []) false v) is (record {
       all = sym (rw fit refl);
       sending = λ texts d os st. subst (λ (xs : List Frame). IsSending texts v.sending (d ++ map Out xs) os) (sym none) (subst (λ (e : List Entry). IsSending texts v.sending e os) (sym (append-nil d)) st);

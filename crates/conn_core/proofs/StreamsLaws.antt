@@ -16,9 +16,9 @@ use Rattle.http2_headers.specs.HeaderBlock.{HeaderBlock}
 use Rattle.http2_streams.specs.declared.event.Event.{Event}
 use Rattle.http2_streams.specs.declared.event.Event.TheVariants.{Request}
 use Rattle.http2_streams.specs.declared.event.StreamEvent.{StreamEvent}
-use Rattle.http2_streams.specs.Diary.{Entry, In, frame_in, received, Blocks, blocks_after, no_blocks, blocks, stream_of, rising, live, is_live, opened, highest}
+use Rattle.http2_streams.specs.History.{Entry, In, frame_in, received_frames, Blocks, blocks_after, no_blocks, blocks, stream_of, rising_numbers, live_streams, is_not_closed, opened_streams, highest_stream}
 use Rattle.http2_streams.specs.Standing.{standing}
-use Rattle.http2_streams.specs.Rules.{causes, control_frames}
+use Rattle.http2_streams.specs.Rules.{answer_after, control_frames}
 use Rattle.http2_streams.specs.LiveStreams.{IsOnItsStream}
 use Rattle.http2_streams.specs.ControlAnswers.{IsAnswer}
 use Rattle.http2_streams.proofs.EventLaw.{event_on_stream, request_is_highest}
@@ -40,34 +40,34 @@ are_all : (fs : List Frame) → AllByRecursion IsAnswer fs → are_answers fs �
 are_all [] h = refl
 are_all (f ∷ fs) h = let is : is_answer f ≡ true = is_one f h.0 in rw is (are_all fs h.1)
 
-pub answers_are : (d : List Entry) (f : RawFrame) (a : StreamEvent) → causes d f ≡ Ok a → are_answers (control_frames a) ≡ true
+pub answers_are : (d : List Entry) (f : RawFrame) (a : StreamEvent) → answer_after d f ≡ Ok a → are_answers (control_frames a) ≡ true
 answers_are d f a h = are_all (control_frames a) (answers_are_control (standing d) f a h)
 
-pub in_live : (d : List Entry) (s : ℕ) → list_any (λ t. t == s) (live d) ≡ (list_any (λ t. t == s) (opened d) && is_live d s)
-in_live d s = any_kept (is_live d) s (opened d)
+pub in_live : (d : List Entry) (s : ℕ) → list_any (λ t. t == s) (live_streams d) ≡ (list_any (λ t. t == s) (opened_streams d) && is_not_closed d s)
+in_live d s = any_kept (is_not_closed d) s (opened_streams d)
 
 -- ---- what was opened
 
-rising-append : (m : ℕ) (xs ys : List ℕ) → rising m (xs ++ ys) ≡ rising m xs ++ rising (fold max m xs) ys
-rising-append m [] ys = refl
-rising-append m (x ∷ xs) ys = elim (cases_Bool (nat_lt m x)) [
+rising_numbers-append : (m : ℕ) (xs ys : List ℕ) → rising_numbers m (xs ++ ys) ≡ rising_numbers m xs ++ rising_numbers (fold max m xs) ys
+rising_numbers-append m [] ys = refl
+rising_numbers-append m (x ∷ xs) ys = elim (cases_Bool (nat_lt m x)) [
   | inl higher ↦
       let above : m < x = ltb-true m x higher in
       let e : max m x ≡ x = omega (arith, above) in
-      rw (higher, e) (ap (λ (zs : List ℕ). x ∷ zs) (rising-append x xs ys))
+      rw (higher, e) (ap (λ (zs : List ℕ). x ∷ zs) (rising_numbers-append x xs ys))
   | inr lower ↦
       let below : x ≤ m = ltb-false m x lower in
       let e : max m x ≡ m = omega (arith, below) in
-      rw (lower, e) (rising-append m xs ys)
+      rw (lower, e) (rising_numbers-append m xs ys)
 ]
 
-pub opened_more : (d es : List Entry) → (more : List ℕ) × (opened (d ++ es) ≡ opened d ++ more)
+pub opened_more : (d es : List Entry) → (more : List ℕ) × (opened_streams (d ++ es) ≡ opened_streams d ++ more)
 opened_more d es =
-    let old : Blocks = fold blocks_after no_blocks (received d) in
-    let b = blocks_stay (fold blocks_after no_blocks (received d)) (received es) in
+    let old : Blocks = fold blocks_after no_blocks (received_frames d) in
+    let b = blocks_stay (fold blocks_after no_blocks (received_frames d)) (received_frames es) in
     let finished : blocks (d ++ es) ≡ blocks d ++ b.0 =
-    ap (λ (rs : List Frame). (fold blocks_after no_blocks rs).finished) (filter_map-append frame_in d es) ∙ ap (λ (x : Blocks). x.finished) (fold-append blocks_after no_blocks (received d) (received es)) ∙ b.1 in
-    (rising (fold max 0 (map stream_of (blocks d))) (map stream_of b.0), ap (λ (bs : List HeaderBlock). rising 0 (map stream_of bs)) finished ∙ ap (rising 0) (map-append stream_of (blocks d) b.0) ∙ rising-append 0 (map stream_of (blocks d)) (map stream_of b.0))
+    ap (λ (rs : List Frame). (fold blocks_after no_blocks rs).finished) (filter_map-append frame_in d es) ∙ ap (λ (x : Blocks). x.finished) (fold-append blocks_after no_blocks (received_frames d) (received_frames es)) ∙ b.1 in
+    (rising_numbers (fold max 0 (map stream_of (blocks d))) (map stream_of b.0), ap (λ (bs : List HeaderBlock). rising_numbers 0 (map stream_of bs)) finished ∙ ap (rising_numbers 0) (map-append stream_of (blocks d) b.0) ∙ rising_numbers-append 0 (map stream_of (blocks d)) (map stream_of b.0))
 
 max_from : (n : ℕ) (xs : List ℕ) → n ≤ fold max n xs
 max_from n [] = omega arith
@@ -79,14 +79,14 @@ any_head x s xs h = elim (cases_Bool (x == s)) [
   | inr other ↦ let h' : list_any (λ t. t == s) xs ≡ true = rw other at h in inr h'
 ]
 
-rising_low : (m : ℕ) (xs : List ℕ) (s : ℕ) → list_any (λ t. t == s) (rising m xs) ≡ true → s ≤ fold max m xs
+rising_low : (m : ℕ) (xs : List ℕ) (s : ℕ) → list_any (λ t. t == s) (rising_numbers m xs) ≡ true → s ≤ fold max m xs
 rising_low m [] s h = absurd (let no : false ≡ true = h in let z : ⊥ = cc in z)
 rising_low m (x ∷ xs) s h = elim (cases_Bool (nat_lt m x)) [
   | inl higher ↦
       let above : m < x = ltb-true m x higher in
       let e : max m x ≡ x = omega (arith, above) in
-      let h' : list_any (λ t. t == s) (x ∷ rising x xs) ≡ true = rw higher at h in
-      let low : s ≤ fold max x xs = elim (any_head x s (rising x xs) h') [
+      let h' : list_any (λ t. t == s) (x ∷ rising_numbers x xs) ≡ true = rw higher at h in
+      let low : s ≤ fold max x xs = elim (any_head x s (rising_numbers x xs) h') [
         | inl same ↦ omega (arith, same, max_from x xs)
         | inr later ↦ rising_low x xs s later
       ] in
@@ -94,15 +94,15 @@ rising_low m (x ∷ xs) s h = elim (cases_Bool (nat_lt m x)) [
   | inr lower ↦
       let below : x ≤ m = ltb-false m x lower in
       let e : max m x ≡ m = omega (arith, below) in
-      let h' : list_any (λ t. t == s) (rising m xs) ≡ true = rw lower at h in
+      let h' : list_any (λ t. t == s) (rising_numbers m xs) ≡ true = rw lower at h in
       rw e (rising_low m xs s h')
 ]
 
-pub opened_low : (d : List Entry) (s : ℕ) → list_any (λ t. t == s) (opened d) ≡ true → s ≤ highest d
+pub opened_low : (d : List Entry) (s : ℕ) → list_any (λ t. t == s) (opened_streams d) ≡ true → s ≤ highest_stream d
 opened_low d s h = rising_low 0 (map stream_of (blocks d)) s h
 
 -- the highest of all numbers is one that rises
-top_rises : (m : ℕ) (xs : List ℕ) (s : ℕ) → m < s → fold max m xs ≡ s → list_any (λ t. t == s) (rising m xs) ≡ true
+top_rises : (m : ℕ) (xs : List ℕ) (s : ℕ) → m < s → fold max m xs ≡ s → list_any (λ t. t == s) (rising_numbers m xs) ≡ true
 top_rises m [] s above is = absurd (let same : m ≡ s = is in omega (arith, above, same))
 top_rises m (x ∷ xs) s above is = elim (cases_Bool (nat_lt m x)) [
   | inl higher ↦
@@ -123,7 +123,7 @@ top_rises m (x ∷ xs) s above is = elim (cases_Bool (nat_lt m x)) [
       rw lower (top_rises m xs s above is')
 ]
 
-pub request_opened : (d : List Entry) (f : RawFrame) (a : StreamEvent) (s : ℕ) (fields : List Header) (end_stream : Bool) → causes d f ≡ Ok a → a.event ≡ Request s fields end_stream → list_any (λ t. t == s) (opened (d ++ In f ∷ [])) ≡ true
+pub request_opened : (d : List Entry) (f : RawFrame) (a : StreamEvent) (s : ℕ) (fields : List Header) (end_stream : Bool) → answer_after d f ≡ Ok a → a.event ≡ Request s fields end_stream → list_any (λ t. t == s) (opened_streams (d ++ In f ∷ [])) ≡ true
 request_opened d f a s fields end_stream h is =
-    let above : highest d < s = subst (λ (e : Event). IsOnItsStream d e) is (event_on_stream d f a h) in
+    let above : highest_stream d < s = subst (λ (e : Event). IsOnItsStream d e) is (event_on_stream d f a h) in
     top_rises 0 (map stream_of (blocks (d ++ In f ∷ []))) s (omega (arith, above)) (request_is_highest d f a s fields end_stream h is)

@@ -9,10 +9,10 @@ use Rattle.grpc_messages.specs.Wire.{Split}
 use Rattle.grpc_messages.specs.Reading.{split}
 use Rattle.grpc_messages.specs.Reader.{bytes_left, messages_in, StandsFor as AreMessages}
 use Rattle.grpc_messages.proofs.MoreBytes.{fault_lasts}
-use Rattle.grpc_sending.proofs.Diaries.{append-nil}
+use Rattle.grpc_sending.proofs.Histories.{append-nil}
 use Rattle.conn_core.specs.declared.event.CallEvent.{CallEvent}
 use Rattle.conn_core.specs.declared.event.CallEvent.TheVariants.{Message, Fault}
-use Rattle.conn_core.specs.Calls.{message_limit, messages_of, at_end, behind_messages, more_text, refusal_of}
+use Rattle.conn_core.specs.Calls.{message_limit, messages_of, events_at_end, events_behind_messages, events_of_content, refusal_of}
 use Rattle.conn_core.specs.CallSteps.{GaveMessages, GaveAll, TakesAll}
 use Rattle.conn_core.proofs.Texts.{rest_is, no_more, more_is, stands_behind}
 
@@ -57,7 +57,7 @@ gave_all given s t old mid new before after h stands none u earlier st =
         all = ap (λ (x : Split). x.messages) is;
         end = rest_is message_limit new u (earlier ++ given) now is;
         whole = ap (λ (e : Kept). is_ok e) end;
-        events = h.events ∙ ap (λ (es : List CallEvent). before ++ es) (sym (ap (λ (e : Kept). map (Message s) given ++ behind_messages s false e) end ∙ append-nil (map (Message s) given)));
+        events = h.events ∙ ap (λ (es : List CallEvent). before ++ es) (sym (ap (λ (e : Kept). map (Message s) given ++ events_behind_messages s false e) end ∙ append-nil (map (Message s) given)));
       },
     )
 
@@ -81,7 +81,7 @@ gave_fault given s t old mid new before after later fault h refused is events u 
             ∙ ap (λ (es : List CallEvent). es ++ Fault t (refusal_of fault) ∷ []) h.events
             ∙ append_assoc before (map (Message s) given) (Fault t (refusal_of fault) ∷ [])
             ∙ ap (λ (n : ℕ). before ++ (map (Message s) given ++ Fault n (refusal_of fault) ∷ [])) h.stream
-            ∙ ap (λ (e : Kept). before ++ (map (Message s) given ++ behind_messages s false e)) (sym end);
+            ∙ ap (λ (e : Kept). before ++ (map (Message s) given ++ events_behind_messages s false e)) (sym end);
       },
     )
 
@@ -97,7 +97,7 @@ gave_fault_by given s t old mid new before after later fault r h is other refuse
 -- what is kept of the longer text, and what its data brought
 pub record Took (s : ℕ) (content : List ℕ) (end_stream : Bool) (new : Kept) (before after : List CallEvent) (t : List ℕ) : Type 0 where
   pub messages : new ≡ (messages_of (t ++ content)).end
-  pub events : after ≡ before ++ more_text s t content end_stream
+  pub events : after ≡ before ++ events_of_content s t content end_stream
 
 abbrev pub Takes : ℕ → List ℕ → Bool → Kept → Kept → List CallEvent → List CallEvent → Type 0
 Takes s content end_stream old new before after = (t : List ℕ) → old ≡ (messages_of t).end → Took s content end_stream new before after t
@@ -120,16 +120,16 @@ was_whole : (old : Kept) → IfErr old (λ e. fed_ok ≡ Err e) → (rest : List
 was_whole (Ok bytes) h = (bytes, refl)
 was_whole (Err e) h = absurd cc
 
-behind_end : (s : ℕ) (end m : Kept) → m ≡ end → is_ok end ≡ true → behind_messages s false end ++ at_end s (bytes_left m) ≡ behind_messages s true end
-behind_end s (Ok rest) m is ok = ap (λ (x : Kept). at_end s (bytes_left x)) is
+behind_end : (s : ℕ) (end m : Kept) → m ≡ end → is_ok end ≡ true → events_behind_messages s false end ++ events_at_end s (bytes_left m) ≡ events_behind_messages s true end
+behind_end s (Ok rest) m is ok = ap (λ (x : Kept). events_at_end s (bytes_left x)) is
 behind_end s (Err e) m is ok = absurd cc
 
-behind_open : (s : ℕ) (whole end_stream : Bool) (end : Kept) → is_ok end ≡ whole → (whole && end_stream) ≡ false → behind_messages s false end ≡ behind_messages s end_stream end
+behind_open : (s : ℕ) (whole end_stream : Bool) (end : Kept) → is_ok end ≡ whole → (whole && end_stream) ≡ false → events_behind_messages s false end ≡ events_behind_messages s end_stream end
 behind_open s whole end_stream (Err e) ok h = refl
 behind_open s whole false (Ok rest) ok h = refl
 behind_open s whole true (Ok rest) ok h = let k : (true && true) ≡ false = ap (λ (b : Bool). b && true) ok ∙ h in absurd cc
 
-took_from : (s : ℕ) (content rest : List ℕ) (end_stream whole : Bool) (given : List (List ℕ)) (new : Kept) (before after later : List CallEvent) (t : List ℕ) → (messages_of t).end ≡ Ok rest → GaveAll given (messages_of t).messages (t ++ content) s whole new before after → later ≡ before ++ (map (Message s) given ++ behind_messages s end_stream (messages_of (t ++ content)).end) → Took s content end_stream new before later t
+took_from : (s : ℕ) (content rest : List ℕ) (end_stream whole : Bool) (given : List (List ℕ)) (new : Kept) (before after later : List CallEvent) (t : List ℕ) → (messages_of t).end ≡ Ok rest → GaveAll given (messages_of t).messages (t ++ content) s whole new before after → later ≡ before ++ (map (Message s) given ++ events_behind_messages s end_stream (messages_of (t ++ content)).end) → Took s content end_stream new before later t
 took_from s content rest end_stream whole given new before after later t first g events = record {
   messages = g.end;
   events = events ∙ ap (λ (es : List CallEvent). before ++ es) (sym (more_is s t content rest end_stream given first g.all));
@@ -150,30 +150,30 @@ took_open s content end_stream whole old fed new before after first feeds takes 
     (g.1.events ∙ ap (λ (es : List CallEvent). before ++ (map (Message s) g.0 ++ es)) (behind_open s whole end_stream (messages_of (t ++ content)).end g.1.whole open'))
 
 -- the request ends behind whole messages, or in one
-pub took_end : (s : ℕ) (content : List ℕ) (old fed new : Kept) (before after later : List CallEvent) → IfErr old (λ e. fed_ok ≡ Err e) → Fed old fed content → TakesAll s true fed new before after → later ≡ after ++ at_end s (bytes_left new) → Takes s content true old new before later
+pub took_end : (s : ℕ) (content : List ℕ) (old fed new : Kept) (before after later : List CallEvent) → IfErr old (λ e. fed_ok ≡ Err e) → Fed old fed content → TakesAll s true fed new before after → later ≡ after ++ events_at_end s (bytes_left new) → Takes s content true old new before later
 took_end s content old fed new before after later first feeds takes events t h =
     let w = was_whole old first in
     let g = takes (t ++ content) (messages_of t).messages (at_front old fed content t feeds h) in
     let end : Kept = (messages_of (t ++ content)).end in
     took_from s content w.0 true true g.0 new before after later t (sym h ∙ w.1) g.1
     (events
-    ∙ ap (λ (es : List CallEvent). es ++ at_end s (bytes_left new)) g.1.events
-    ∙ append_assoc before (map (Message s) g.0 ++ behind_messages s false (messages_of (t ++ content)).end) (at_end s (bytes_left new))
-    ∙ ap (λ (es : List CallEvent). before ++ es) (append_assoc (map (Message s) g.0) (behind_messages s false (messages_of (t ++ content)).end) (at_end s (bytes_left new)))
+    ∙ ap (λ (es : List CallEvent). es ++ events_at_end s (bytes_left new)) g.1.events
+    ∙ append_assoc before (map (Message s) g.0 ++ events_behind_messages s false (messages_of (t ++ content)).end) (events_at_end s (bytes_left new))
+    ∙ ap (λ (es : List CallEvent). before ++ es) (append_assoc (map (Message s) g.0) (events_behind_messages s false (messages_of (t ++ content)).end) (events_at_end s (bytes_left new)))
     ∙ ap (λ (es : List CallEvent). before ++ (map (Message s) g.0 ++ es)) (behind_end s (messages_of (t ++ content)).end new g.1.end g.1.whole))
 
 -- ---- the same by what the code holds
 
-pub took_end_by : {T E : Type 0} (r : Result T E) (s n : ℕ) (content : List ℕ) (end_stream whole : Bool) (old fed new : Kept) (before after later : List CallEvent) → end_stream ≡ true → whole ≡ true → n ≡ s → IfErr old (λ e. fed_ok ≡ Err e) → Fed old fed content → TakesAll s whole fed new before after → OnOk r (later ≡ after ++ at_end n (bytes_left new)) → OnOk r (Takes s content end_stream old new before later)
+pub took_end_by : {T E : Type 0} (r : Result T E) (s n : ℕ) (content : List ℕ) (end_stream whole : Bool) (old fed new : Kept) (before after later : List CallEvent) → end_stream ≡ true → whole ≡ true → n ≡ s → IfErr old (λ e. fed_ok ≡ Err e) → Fed old fed content → TakesAll s whole fed new before after → OnOk r (later ≡ after ++ events_at_end n (bytes_left new)) → OnOk r (Takes s content end_stream old new before later)
 took_end_by (Err x) s n content end_stream whole old fed new before after later ends is at first feeds takes events = tt
 took_end_by (Ok x) s n content end_stream whole old fed new before after later ends is at first feeds takes events =
     subst (λ (b : Bool). Takes s content b old new before later) (sym ends)
-    (took_end s content old fed new before after later first feeds (subst (λ (b : Bool). TakesAll s b fed new before after) is takes) (events ∙ ap (λ (k : ℕ). after ++ at_end k (bytes_left new)) at))
+    (took_end s content old fed new before after later first feeds (subst (λ (b : Bool). TakesAll s b fed new before after) is takes) (events ∙ ap (λ (k : ℕ). after ++ events_at_end k (bytes_left new)) at))
 
 pub took_messages : {T E : Type 0} (r : Result T E) (s : ℕ) (content : List ℕ) (end_stream : Bool) (old new : Kept) (before after : List CallEvent) → OnOk r (Takes s content end_stream old new before after) → OnOk r ((t : List ℕ) → old ≡ (messages_of t).end → new ≡ (messages_of (t ++ content)).end)
 took_messages (Err x) s content end_stream old new before after h = tt
 took_messages (Ok x) s content end_stream old new before after h = λ t k. (h t k).messages
 
-pub took_events : {T E : Type 0} (r : Result T E) (s : ℕ) (content : List ℕ) (end_stream : Bool) (old new : Kept) (before after : List CallEvent) → OnOk r (Takes s content end_stream old new before after) → OnOk r ((t : List ℕ) → old ≡ (messages_of t).end → after ≡ before ++ more_text s t content end_stream)
+pub took_events : {T E : Type 0} (r : Result T E) (s : ℕ) (content : List ℕ) (end_stream : Bool) (old new : Kept) (before after : List CallEvent) → OnOk r (Takes s content end_stream old new before after) → OnOk r ((t : List ℕ) → old ≡ (messages_of t).end → after ≡ before ++ events_of_content s t content end_stream)
 took_events (Err x) s content end_stream old new before after h = tt
 took_events (Ok x) s content end_stream old new before after h = λ t k. (h t k).events

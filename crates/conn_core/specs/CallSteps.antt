@@ -11,7 +11,7 @@ use Rattle.rpc.specs.declared.method.Method.{Method}
 use Rattle.conn_core.specs.declared.call.Call.{Call}
 use Rattle.conn_core.specs.declared.event.CallEvent.{CallEvent}
 use Rattle.conn_core.specs.declared.event.CallEvent.TheVariants.{Head, Message, Cancel}
-use Rattle.conn_core.specs.Calls.{message_limit, messages_of, behind_messages, more_text}
+use Rattle.conn_core.specs.Calls.{message_limit, messages_of, events_behind_messages, events_of_content}
 use Rattle.conn_core.specs.StandsFor.{call_on, stream_of}
 
 -- ---- the text of one call
@@ -20,18 +20,23 @@ use Rattle.conn_core.specs.StandsFor.{call_on, stream_of}
 pub record GaveMessages (given : List (List ℕ)) (s t : ℕ) (old new : Result (List ℕ) MessagesError) (before after : List CallEvent) : Type 0 where
   pub stream : t ≡ s
   pub events : after ≡ before ++ map (Message s) given
-  pub stands : (u : List ℕ) (earlier : List (List ℕ)) → AreMessages message_limit old u earlier → AreMessages message_limit new u (earlier ++ given)
+  pub stands : (u : List ℕ) (earlier : List (List ℕ)) → AreMessages message_limit old u earlier →
+      AreMessages message_limit new u (earlier ++ given)
 
 -- behind those that were given earlier, the others were given
 pub record GaveAll (given earlier : List (List ℕ)) (u : List ℕ) (s : ℕ) (is_whole : Bool) (new : Result (List ℕ) MessagesError) (before after : List CallEvent) : Type 0 where
   pub all : (messages_of u).messages ≡ earlier ++ given
   pub end : new ≡ (messages_of u).end
   pub whole : is_ok (messages_of u).end ≡ is_whole
-  pub events : after ≡ before ++ (map (Message s) given ++ behind_messages s false (messages_of u).end)
+  pub events : after ≡ before
+      ++ (map (Message s) given ++ events_behind_messages s false (messages_of u).end)
 
 -- messages were taken until none was whole, or a fault was met
-abbrev pub TakesAll : ℕ → Bool → Result (List ℕ) MessagesError → Result (List ℕ) MessagesError → List CallEvent → List CallEvent → Type 0
-TakesAll s whole old new before after = (u : List ℕ) (earlier : List (List ℕ)) → AreMessages message_limit old u earlier → (given : List (List ℕ)) × GaveAll given earlier u s whole new before after
+abbrev pub TakesAll : ℕ → Bool → Result (List ℕ) MessagesError → Result (List ℕ) MessagesError →
+    List CallEvent → List CallEvent → Type 0
+TakesAll s whole old new before after =
+    (u : List ℕ) (earlier : List (List ℕ)) → AreMessages message_limit old u earlier →
+    (given : List (List ℕ)) × GaveAll given earlier u s whole new before after
 
 -- ---- one call among others
 
@@ -45,14 +50,16 @@ pub record TakesOn (s : ℕ) (content : List ℕ) (end_stream : Bool) (old new :
   pub streams : map stream_of new ≡ map stream_of old
   pub others : (t : ℕ) → (s == t) ≡ false → call_on t new ≡ call_on t old
   pub no_call : call_on s old ≡ None → (call_on s new ≡ None) × (after ≡ before)
-  pub call : (u : List ℕ) → call_on s old ≡ Some (messages_of u).end → (call_on s new ≡ Some (messages_of (u ++ content)).end) × (after ≡ before ++ more_text s u content end_stream)
+  pub call : (u : List ℕ) → call_on s old ≡ Some (messages_of u).end →
+      (call_on s new ≡ Some (messages_of (u ++ content)).end)
+      × (after ≡ before ++ events_of_content s u content end_stream)
 
-abbrev pub is_open : List Stream → Call → Bool
-is_open live c = list_any (number_is c.stream) live
+abbrev pub has_live_stream : List Stream → Call → Bool
+has_live_stream live c = list_any (number_is c.stream) live
 
 -- all, or those on live streams
 abbrev pub KeepsOpen : List Stream → List Call → List Call → Type 0
-KeepsOpen live old new = (new ≡ old) ⊎ (new ≡ filter (is_open live) old)
+KeepsOpen live old new = (new ≡ old) ⊎ (new ≡ filter (has_live_stream live) old)
 
 pub record BeginsCall (s : ℕ) (method : Method) (end_stream : Bool) (live : List Stream) (old new : List Call) (before after : List CallEvent) : Type 0 where
   pub kept : List Call
@@ -61,7 +68,7 @@ pub record BeginsCall (s : ℕ) (method : Method) (end_stream : Bool) (live : Li
   pub stream : call.stream ≡ s
   pub messages : call.messages ≡ (messages_of []).end
   pub calls : new ≡ kept ++ call ∷ []
-  pub events : after ≡ before ++ Head s method ∷ more_text s [] [] end_stream
+  pub events : after ≡ before ++ Head s method ∷ events_of_content s [] [] end_stream
 
 abbrev pub without_call : ℕ → List Call → List Call
 without_call s cs = filter (λ c. not (c.stream == s)) cs

@@ -11,15 +11,15 @@ use Rattle.http2_frames.specs.Reader.{StandsFor as IsReader}
 use Rattle.http2_frames.specs.Writing.{text_of}
 use Rattle.http2_streams.specs.declared.stream.Stream.{Stream}
 use Rattle.http2_streams.specs.declared.event.StreamEvent.{StreamEvent}
-use Rattle.http2_streams.specs.Diary.{Entry, Out, has_failed}
+use Rattle.http2_streams.specs.History.{Entry, Out, has_failed}
 use Rattle.http2_streams.specs.Standing.{Standing}
-use Rattle.http2_streams.specs.Rules.{number_is, causes, entries_of}
+use Rattle.http2_streams.specs.Rules.{number_is, answer_after, entries_of}
 use Rattle.http2_streams.specs.StandsFor.{StandsFor as AreStreams}
-use Rattle.grpc_sending.specs.Owed.{Owed}
-use Rattle.grpc_sending.specs.Kept.{Look, StandsFor as IsSending}
+use Rattle.grpc_sending.specs.Owed.{OwedItem}
+use Rattle.grpc_sending.specs.StoredSending.{Look, StandsFor as IsSending}
 use Rattle.conn_core.specs.declared.event.CallEvent.{CallEvent}
 use Rattle.conn_core.specs.declared.event.CallEvent.TheVariants.{Cancel as CallCancel}
-use Rattle.conn_core.specs.Received.{raw_received, fitting, all_fit, goaway}
+use Rattle.conn_core.specs.Received.{received_raw_frames, frames_to_put, may_put_all, goaway_frame}
 use Rattle.conn_core.specs.Past.{Past, with_frame}
 use Rattle.conn_core.specs.StandsFor.{StandsFor, Present, stream_of}
 use Rattle.conn_core.specs.Step.{AreCalls}
@@ -38,9 +38,13 @@ are_answers (f ∷ fs) = if is_answer f then are_answers fs else false
 
 -- of these frames those were put that fit, and all did or not
 pub record Puts (v : Present) (fs : List Frame) (fit : Bool) (w : Present) : Type 0 where
-  pub all : fit ≡ all_fit (length v.sending.pending) fs
-  pub sending : (texts : Look) (d : List Entry) (os : List Owed) → IsSending texts v.sending d os → IsSending texts w.sending (d ++ map Out (fitting (length v.sending.pending) fs)) os
-  pub size : length w.sending.pending ≡ length v.sending.pending + length (flat_map text_of (fitting (length v.sending.pending) fs))
+  pub all : fit ≡ may_put_all (length v.sending.pending) fs
+  pub sending : (texts : Look) (d : List Entry) (os : List OwedItem) →
+      IsSending texts v.sending d os →
+      IsSending texts w.sending (d ++ map Out (frames_to_put (length v.sending.pending) fs)) os
+  pub size : length w.sending.pending
+      ≡ length v.sending.pending + length
+      (flat_map text_of (frames_to_put (length v.sending.pending) fs))
   pub rest : w ≡ record v { sending = w.sending }
 
 abbrev pub is_that : Option ℕ → ℕ → Bool
@@ -58,23 +62,27 @@ ended_calls live reset ss = map CallCancel (filter (is_ending live reset) ss)
 pub record Fails (v : Present) (code : ErrorCode) (reset : Option ℕ) (w : Present) : Type 0 where
   pub ended : w.ended ≡ true
   pub streams : (d : List Entry) → has_failed d ≡ true → AreStreams w.streams d
-  pub sending : (texts : Look) (d : List Entry) (os : List Owed) → IsSending texts v.sending d os → IsSending texts w.sending (d ++ Out (goaway v.streams.highest code) ∷ []) os
+  pub sending : (texts : Look) (d : List Entry) (os : List OwedItem) →
+      IsSending texts v.sending d os →
+      IsSending texts w.sending (d ++ Out (goaway_frame v.streams.highest code) ∷ []) os
   pub due : w.due ≡ v.due ++ ended_calls v.streams.live reset (map stream_of v.calls)
   pub calls : w.calls ≡ []
 
 -- the streams took the frame, and its answer is not put yet
 pub record IsAnswered (texts : Look) (v : Present) (p : Past) (f : RawFrame) (a : StreamEvent) : Type 0 where
   pub ended : v.ended ≡ false
-  pub lives : has_failed p.diary ≡ false
-  pub causes : causes p.diary f ≡ Ok a
+  pub lives : has_failed p.history ≡ false
+  pub causes : answer_after p.history f ≡ Ok a
   -- what was kept of the streams before
   pub before : Standing
-  pub stood : AreStreams before p.diary
-  pub reader : IsReader CLIENT_PREFACE.now v.reader p.text (raw_received p.diary ++ f ∷ [])
-  pub streams : AreStreams v.streams (p.diary ++ entries_of p.diary f)
-  pub sending : IsSending texts v.sending p.diary p.owed
+  pub stood : AreStreams before p.history
+  pub reader : IsReader CLIENT_PREFACE.now v.reader p.text (received_raw_frames p.history ++ f ∷ [])
+  pub streams : AreStreams v.streams (p.history ++ entries_of p.history f)
+  pub sending : IsSending texts v.sending p.history p.owed
   pub due : v.due ≡ p.due
-  pub calls : AreCalls v p.diary
+  pub calls : AreCalls v p.history
 
 abbrev pub Answers : Present → StreamEvent → Present → Type 0
-Answers v a w = (texts : Look) (p : Past) (f : RawFrame) → IsAnswered texts v p f a → StandsFor texts w (with_frame p f)
+Answers v a w =
+    (texts : Look) (p : Past) (f : RawFrame) → IsAnswered texts v p f a →
+    StandsFor texts w (with_frame p f)

@@ -6,64 +6,70 @@ use Rattle.http2_frames.specs.declared.frame.RawFrame.{RawFrame}
 use Rattle.http2_frames.specs.declared.reader.TheConstants.{CLIENT_PREFACE}
 use Rattle.http2_frames.specs.Reader.{StandsFor as IsReader}
 use Rattle.http2_streams.specs.declared.event.Event.{Event}
-use Rattle.http2_streams.specs.Diary.{Entry, live, is_live, has_failed, highest}
+use Rattle.http2_streams.specs.History.{Entry, live_streams, is_not_closed, has_failed, highest_stream}
 use Rattle.http2_streams.specs.LiveStreams.{IsOnItsStream, live_after}
 use Rattle.http2_streams.specs.StandsFor.{StandsFor as AreStreams}
-use Rattle.grpc_sending.specs.Kept.{Look, StandsFor as IsSending}
-use Rattle.conn_core.specs.Received.{raw_received, outcome, entries}
-use Rattle.conn_core.specs.Calls.{is_call, text}
+use Rattle.grpc_sending.specs.StoredSending.{Look, StandsFor as IsSending}
+use Rattle.conn_core.specs.Received.{received_raw_frames, outcome, frame_entries}
+use Rattle.conn_core.specs.Calls.{is_call, stream_text}
 use Rattle.conn_core.specs.Past.{Past, with_frame}
-use Rattle.conn_core.specs.StandsFor.{StandsFor, Present, IsCall, call_on, among, stream_of}
+use Rattle.conn_core.specs.StandsFor.{StandsFor, Present, IsCall, call_on, members_of, stream_of}
 
--- what is kept of the calls, by the diary before the frame
+-- what is kept of the calls, by the history before the frame
 pub record AreCalls (v : Present) (d : List Entry) : Type 0 where
-  pub calls : (s : ℕ) → is_live d s ≡ true → IsCall d s (call_on s v.calls)
-  pub order : among (live d) (map stream_of v.calls) ≡ filter (is_call d) (live d)
+  pub calls : (s : ℕ) → is_not_closed d s ≡ true → IsCall d s (call_on s v.calls)
+  pub order : members_of (live_streams d) (map stream_of v.calls)
+      ≡ filter (is_call d) (live_streams d)
 
 -- the frame was read, and nothing else was done yet
 pub record IsTaking (texts : Look) (v : Present) (p : Past) (f : RawFrame) : Type 0 where
   pub ended : v.ended ≡ false
-  pub lives : has_failed p.diary ≡ false
+  pub lives : has_failed p.history ≡ false
   pub short : length f.payload ≤ 16384
-  pub reader : IsReader CLIENT_PREFACE.now v.reader p.text (raw_received p.diary ++ f ∷ [])
-  pub streams : AreStreams v.streams p.diary
-  pub sending : IsSending texts v.sending p.diary p.owed
+  pub reader : IsReader CLIENT_PREFACE.now v.reader p.text (received_raw_frames p.history ++ f ∷ [])
+  pub streams : AreStreams v.streams p.history
+  pub sending : IsSending texts v.sending p.history p.owed
   pub due : v.due ≡ p.due
-  pub calls : AreCalls v p.diary
+  pub calls : AreCalls v p.history
 
 abbrev pub after_frame : Past → RawFrame → List Entry
-after_frame p f = p.diary ++ entries p.diary f
+after_frame p f = p.history ++ frame_entries p.history f
 
 -- what the frame did to the streams
 pub record ChangesStreams (d e : List Entry) (brought : Event) : Type 0 where
-  pub streams : live e ≡ live_after d brought
-  pub falls : (s : ℕ) → is_live e s ≡ true → is_live d s ≡ true
+  pub streams : live_streams e ≡ live_after d brought
+  pub falls : (s : ℕ) → is_not_closed e s ≡ true → is_not_closed d s ≡ true
   pub event : IsOnItsStream d brought
   -- nothing was received on a stream that was not opened
-  pub idle : (s : ℕ) → highest d < s → (is_call d s ≡ false) × (text d s ≡ [])
+  pub idle : (s : ℕ) → highest_stream d < s → (is_call d s ≡ false) × (stream_text d s ≡ [])
   -- a call on a stream that nothing closed is among the live ones
-  pub begun : (s : ℕ) → is_call d s ≡ true → is_live d s ≡ true → list_any (λ t. t == s) (live d) ≡ true
+  pub begun : (s : ℕ) → is_call d s ≡ true → is_not_closed d s ≡ true →
+      list_any (λ t. t == s) (live_streams d) ≡ true
   -- numbers of live streams are at most the highest
-  pub opened : (s : ℕ) → list_any (λ t. t == s) (live d) ≡ true → (s ≤ highest d) × (is_live d s ≡ true)
+  pub opened : (s : ℕ) → list_any (λ t. t == s) (live_streams d) ≡ true →
+      (s ≤ highest_stream d) × (is_not_closed d s ≡ true)
 
 -- the answers of the frame were put, all of them, and it brought this; calls are as before
 pub record HasBrought (texts : Look) (v : Present) (p : Past) (f : RawFrame) (event : Event) : Type 0 where
   pub ended : v.ended ≡ false
-  pub is_event : (outcome p.diary f).event ≡ event
-  pub fits : (outcome p.diary f).fails ≡ false
+  pub is_event : (outcome p.history f).event ≡ event
+  pub fits : (outcome p.history f).fails ≡ false
   pub lives : has_failed (after_frame p f) ≡ false
-  pub reader : IsReader CLIENT_PREFACE.now v.reader p.text (raw_received (after_frame p f))
+  pub reader : IsReader CLIENT_PREFACE.now v.reader p.text (received_raw_frames (after_frame p f))
   pub streams : AreStreams v.streams (after_frame p f)
   pub sending : IsSending texts v.sending (after_frame p f) p.owed
   pub due : v.due ≡ p.due
-  pub calls : AreCalls v p.diary
-  pub change : ChangesStreams p.diary (after_frame p f) event
+  pub calls : AreCalls v p.history
+  pub change : ChangesStreams p.history (after_frame p f) event
 
 abbrev pub TakesFrame : Present → RawFrame → Present → Type 0
-TakesFrame v f w = (texts : Look) (p : Past) → IsTaking texts v p f → StandsFor texts w (with_frame p f)
+TakesFrame v f w =
+    (texts : Look) (p : Past) → IsTaking texts v p f → StandsFor texts w (with_frame p f)
 
 abbrev pub Brings : Present → Event → Present → Type 0
-Brings v event w = (texts : Look) (p : Past) (f : RawFrame) → HasBrought texts v p f event → StandsFor texts w (with_frame p f)
+Brings v event w =
+    (texts : Look) (p : Past) (f : RawFrame) → HasBrought texts v p f event →
+    StandsFor texts w (with_frame p f)
 
 -- neither what is still to be read nor the streams change
 abbrev pub ChangesCalls : Present → Present → Type 0

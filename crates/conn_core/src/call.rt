@@ -6,9 +6,9 @@ ghost use Rattle.std.specs.Option.{option_to_list};
 ghost use Rattle.http2_streams.specs.Rules.{number_is};
 ghost use Rattle.grpc_messages.specs.Reader.{bytes_left};
 ghost use Rattle.grpc_messages.specs.declared.error.MessagesError.{MessagesError};
-ghost use Rattle.conn_core.specs.Calls.{messages_of, more_text, at_end, refusal_of};
+ghost use Rattle.conn_core.specs.Calls.{messages_of, events_of_content, events_at_end, refusal_of};
 ghost use Rattle.conn_core.specs.StandsFor.{live_numbers};
-ghost use Rattle.conn_core.specs.CallSteps.{TakesAll, TakesOn, BeginsCall, place_of, is_open, without_call, cancel_if, has_call};
+ghost use Rattle.conn_core.specs.CallSteps.{TakesAll, TakesOn, BeginsCall, place_of, has_live_stream, without_call, cancel_if, has_call};
 ghost use Rattle.conn_core.specs.declared.event.CallEvent.TheVariants.{Fault};
 
 use crate::event::CallEvent;
@@ -48,7 +48,8 @@ impl Call {
         ensures messages { OnOk result ((t : List ℕ) → self.old.messages ≡ (messages_of t).end →
             self.new.messages ≡ (messages_of (t ++ content.now)).end) }
         ensures events { OnOk result ((t : List ℕ) → self.old.messages ≡ (messages_of t).end →
-            due.new.items ≡ due.old.items ++ more_text self.old.stream t content.now end_stream) }
+            due.new.items ≡ due.old.items
+            ++ events_of_content self.old.stream t content.now end_stream) }
     {
         match self.messages.feed(content) {
             Ok(()) => {}
@@ -86,7 +87,7 @@ impl Call {
     /// The request ends; it was divided into messages up to here.
     fn take_end(&self, due: &mut VecDeque<CallEvent>) -> Result<(), AllocError>
         ensures { OnOk result (due.new.items ≡ due.old.items
-            ++ at_end self.now.stream (bytes_left self.now.messages)) }
+            ++ events_at_end self.now.stream (bytes_left self.now.messages)) }
     {
         let stream = self.stream;
         if self.messages.is_empty() {
@@ -176,7 +177,7 @@ pub(crate) fn begin_call(
 }
 
 fn drop_closed(calls: &mut Vec<Call>, live: &[Stream])
-    ensures { calls.new.items ≡ filter (is_open live.now) calls.old.items }
+    ensures { calls.new.items ≡ filter (has_live_stream live.now) calls.old.items }
 {
     calls.retain(|call| is_live(live, call.stream));
 }

@@ -5,15 +5,15 @@ ghost use Rattle.http2_frames.specs.Writing.{raw_of};
 ghost use Rattle.grpc_sending.specs.Step.{IsControl};
 ghost use Rattle.http2_frames.specs.declared.error.FrameError.{FrameError};
 ghost use Rattle.grpc_sending.specs.Bytes.{most_untaken};
-ghost use Rattle.grpc_sending.specs.Kept.{Look, Fit, Tells, KeepsFit, KeepsFitWith, KeepsSources, HoldsMore, HasFew, sources_of};
+ghost use Rattle.grpc_sending.specs.StoredSending.{Look, Fit, Tells, KeepsFit, KeepsFitWith, KeepsSources, HoldsMore, HasFew, sources_of};
 ghost use Rattle.grpc_sending.specs.Owed.{Headed, Message};
-ghost use Rattle.conn_core.specs.Past.{opening, with_text, with_taken};
-ghost use Rattle.conn_core.specs.StandsFor.{StandsFor, Becomes, Owes, OwesRange, Pumps, Pops, ReadsFrame, unread, live_calls, stream_of};
+ghost use Rattle.conn_core.specs.Past.{opening, with_bytes, with_taken};
+ghost use Rattle.conn_core.specs.StandsFor.{StandsFor, Becomes, Owes, OwesRange, Pumps, Pops, ReadsFrame, unread_length, live_calls, stream_of};
 ghost use Rattle.conn_core.specs.Step.{TakesFrame, Brings, ChangesCalls};
-ghost use Rattle.conn_core.specs.Received.{goaway};
+ghost use Rattle.conn_core.specs.Received.{goaway_frame};
 ghost use Rattle.conn_core.specs.Putting.{Puts, Fails, Answers, is_answer, are_answers, is_ending, ended_calls};
 ghost use Rattle.http2_streams.specs.Rules.{control_frames};
-ghost use Rattle.http2_streams.specs.LiveStreams.{named};
+ghost use Rattle.http2_streams.specs.LiveStreams.{stream_of_event};
 ghost use Rattle.http2_frames.specs.declared.frame.RawFrame.{RawFrame};
 ghost use Rattle.http2_streams.specs.declared.event.Event.TheVariants.{Request, Content, Trailers, Cancel};
 
@@ -86,7 +86,7 @@ impl Connection {
     /// refused all but what is still to be read is as before.
     pub fn feed(&mut self, piece: &[u8]) -> Result<(), AllocError>
         ensures rest { self.new ≡ record self.old { reader = self.new.reader } }
-        ensures stands { OnOk result (Becomes self.old (with_text piece.now) self.new) }
+        ensures stands { OnOk result (Becomes self.old (with_bytes piece.now) self.new) }
     {
         if self.ended {
             return Ok(());
@@ -108,7 +108,8 @@ impl Connection {
     /// stands for no past any more: it is to be closed, and holds each source as before.
     pub fn read_frame(&mut self) -> Result<bool, AllocError>
         ensures frame { IfOk result (λ read. ReadsFrame self.old read self.new) }
-        ensures fewer { IfOk result (λ read. IsTrue read → unread self.new < unread self.old) }
+        ensures fewer { IfOk result (λ read. IsTrue read →
+            unread_length self.new < unread_length self.old) }
         ensures fit { KeepsFit self.old.sending self.new.sending }
         ensures sources { KeepsSources self.old.sending self.new.sending }
     {
@@ -429,7 +430,7 @@ impl Connection {
 }
 
 fn goaway(last_stream: u32, code: ErrorCode) -> Frame<'static>
-    ensures { result ≡ goaway last_stream code }
+    ensures { result ≡ goaway_frame last_stream code }
 {
     Frame::GoAway {
         last_stream,
@@ -478,7 +479,7 @@ fn is_ending(live: &[Stream], reset: Option<u32>, stream: u32) -> bool
 
 /// The stream that an event names.
 fn named(event: &Event<'_>) -> Option<u32>
-    ensures { result ≡ named event.now }
+    ensures { result ≡ stream_of_event event.now }
 {
     match event {
         Event::Nothing => None,

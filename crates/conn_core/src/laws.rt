@@ -1,8 +1,8 @@
 //! Laws about the definitions.
 
 ghost use Rattle.std.specs.Prelude.{◌≡◌, List, map};
-ghost use Rattle.http2_streams.specs.Diary.{Entry};
-ghost use Rattle.grpc_sending.specs.Kept.{Look, AgreeFor};
+ghost use Rattle.http2_streams.specs.History.{Entry};
+ghost use Rattle.grpc_sending.specs.StoredSending.{Look, AgreeFor};
 ghost use Rattle.conn_core.specs.Calls.{calls_left, cancels};
 ghost use Rattle.conn_core.specs.Past.{Past};
 ghost use Rattle.conn_core.specs.StandsFor.{Present, StandsFor, StandsAlike, live_calls};
@@ -12,7 +12,7 @@ ghost use Rattle.conn_core.specs.declared.event.CallEvent.TheVariants.{Cancel};
 /// error cancels them.
 pub fn calls_on_live_streams()
     ensures calls { (texts : Look) (v : Present) (p : Past) → StandsFor texts v p →
-        live_calls v ≡ calls_left p.diary }
+        live_calls v ≡ calls_left p.history }
     ensures cancels { (d : List Entry) → cancels d ≡ map Cancel (calls_left d) }
 {}
 

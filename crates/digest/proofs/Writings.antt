@@ -6,10 +6,10 @@ use Rattle.hex.specs.declared.error.FromHexError.{FromHexError}
 use Rattle.hex.specs.Hex.{IsBytes, encode_with, encode_lower, decode_pairs, decode_sized}
 use Rattle.hex.proofs.HexLemmas.{decode_sized-encode_lower, decode_sized-twice, decode_sized-ok, decode_of-even}
 use Rattle.digest.specs.declared.Digest.{Digest}
-use Rattle.digest.specs.Text.{IsWritten, is_lower_digit, decoded, hash_in, with_hash, digest_in}
+use Rattle.digest.specs.Text.{IsWritten, is_lower_hex_digit, bytes_decoded, hash_in, with_hash, digest_in}
 use Rattle.digest.proofs.Digits.{lower_at, written_pairs}
 
-lower_text : (bytes : List ℕ) → IsBytes bytes → list_all is_lower_digit (encode_lower bytes) ≡ true
+lower_text : (bytes : List ℕ) → IsBytes bytes → list_all is_lower_hex_digit (encode_lower bytes) ≡ true
 unfolding encode_with
 lower_text [] h = refl
 lower_text (b ∷ bs) h =
@@ -25,8 +25,8 @@ sized_pairs digits bytes e =
     sym (decode_sized-twice digits 32 len ∙ decode_of-even digits (omega (arith, len))) ∙ e
 
 hash_written : (digits bytes : List ℕ) → hash_in digits ≡ Some bytes → digits ≡ encode_lower bytes
-hash_written digits bytes h = go (list_all is_lower_digit digits) (decode_sized digits 32) refl refl h where
-  go : (t : Bool) (r : Result (List ℕ) FromHexError) → list_all is_lower_digit digits ≡ t → decode_sized digits 32 ≡ r → cond t (decoded r) None ≡ Some bytes → digits ≡ encode_lower bytes
+hash_written digits bytes h = go (list_all is_lower_hex_digit digits) (decode_sized digits 32) refl refl h where
+  go : (t : Bool) (r : Result (List ℕ) FromHexError) → list_all is_lower_hex_digit digits ≡ t → decode_sized digits 32 ≡ r → cond t (bytes_decoded r) None ≡ Some bytes → digits ≡ encode_lower bytes
   go true (Ok bs) lower is h =
       let same : bs ≡ bytes = cc in
       sym (written_pairs 0 digits bytes lower (sized_pairs digits bytes (is ∙ ap (λ (x : List ℕ). Ok x) same)))

@@ -14,12 +14,12 @@ abbrev pub digest_of : List ℕ → Digest
 digest_of bytes = record { hash = sha256 bytes; size = length bytes }
 
 -- whether two digests are one
-abbrev pub same : Digest → Digest → Bool
-same a b = pointwise nat_eq a.hash b.hash && a.size == b.size
+abbrev pub same_digest : Digest → Digest → Bool
+same_digest a b = pointwise nat_eq a.hash b.hash && a.size == b.size
 
 -- whether the digest is that of the bytes
 abbrev pub is_digest_of : Digest → List ℕ → Bool
-is_digest_of d bytes = same d (digest_of bytes)
+is_digest_of d bytes = same_digest d (digest_of bytes)
 
 -- whether the digest is that of the empty text
 abbrev pub is_empty_digest : Digest → Bool

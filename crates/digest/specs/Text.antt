@@ -11,21 +11,22 @@ abbrev pub hash_text : Digest → List ℕ
 hash_text d = encode_lower d.hash
 
 -- `0` to `9` and `a` to `f`
-abbrev pub is_lower_digit : ℕ → Bool
-is_lower_digit c = (nat_le 48 c && nat_le c 57) || (nat_le 97 c && nat_le c 102)
+abbrev pub is_lower_hex_digit : ℕ → Bool
+is_lower_hex_digit c = (nat_le 48 c && nat_le c 57) || (nat_le 97 c && nat_le c 102)
 
 -- a text and a number write the digest
 pub record IsWritten (d : Digest) (hash : List ℕ) (size : ℤ) : Type 0 where
   pub hash_is : hash ≡ hash_text d
   pub size_is : size ≡ pos d.size
 
-abbrev pub decoded : Result (List ℕ) FromHexError → Option (List ℕ)
-decoded (Ok bytes) = Some bytes
-decoded (Err e) = None
+abbrev pub bytes_decoded : Result (List ℕ) FromHexError → Option (List ℕ)
+bytes_decoded (Ok bytes) = Some bytes
+bytes_decoded (Err e) = None
 
 -- the hash that 64 lower-case digits write
 abbrev pub hash_in : List ℕ → Option (List ℕ)
-hash_in digits = if list_all is_lower_digit digits then decoded (decode_sized digits 32) else None
+hash_in digits =
+    if list_all is_lower_hex_digit digits then bytes_decoded (decode_sized digits 32) else None
 
 abbrev pub unsigned_of : ℤ → Option ℕ
 unsigned_of (pos n) = Some n

@@ -2,7 +2,7 @@
 #![tactic(auto)]
 
 ghost use Rattle.std.specs.Prelude.{◌≡◌, ◌↔◌, ◌<◌, ◌^◌, ◌++◌, ℕ, List, [], length, IsTrue, IfSome, IsNone};
-ghost use Rattle.digest.specs.Naming.{Names, digest_of, is_digest_of, is_empty_digest, same};
+ghost use Rattle.digest.specs.Naming.{Names, digest_of, is_digest_of, is_empty_digest, same_digest};
 ghost use Rattle.std.specs.List.{list_all};
 ghost use Rattle.hex.specs.Hex.{IsBytes};
 ghost use Rattle.digest.specs.Text as text;
@@ -52,14 +52,14 @@ impl Digest {
 }
 
 fn is_lower_digit(c: u8) -> bool
-    ensures { result ≡ text.is_lower_digit c }
+    ensures { result ≡ text.is_lower_hex_digit c }
 {
     (b'0' <= c && c <= b'9') || (b'a' <= c && c <= b'f')
 }
 
 /// Whether the bytes are lower-case hexadecimal digits.
 fn are_lower_digits(bytes: &[u8]) -> bool
-    ensures { result ≡ list_all text.is_lower_digit bytes.now }
+    ensures { result ≡ list_all text.is_lower_hex_digit bytes.now }
 {
     bytes.iter().all(|c| is_lower_digit(*c))
 }
@@ -97,7 +97,7 @@ fn read(digits: &str, size: i64) -> Option<Digest>
 
 /// Whether two digests are one.
 pub fn is_same(a: &Digest, b: &Digest) -> bool
-    ensures { result ≡ same a.now b.now }
+    ensures { result ≡ same_digest a.now b.now }
 {
     a == b
 }

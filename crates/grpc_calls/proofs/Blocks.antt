@@ -16,9 +16,9 @@ use Rattle.rpc.specs.Status.{code_of, text_of}
 use Rattle.grpc_calls.specs.declared.response.Status.TheVariants.{Success, Refused}
 use Rattle.grpc_calls.specs.declared.response.ResponseBlock.{ResponseBlock}
 use Rattle.grpc_calls.specs.declared.response.ResponseBlock.TheVariants.{Head, Trailers, TrailersOnly, MethodNotAllowed, UnsupportedMediaType}
-use Rattle.grpc_calls.specs.Responses.{fields_of, percent_encoded}
+use Rattle.grpc_calls.specs.Responses.{fields_of, percent_encoding}
 
-pub text_is_plain : (r : Refusal) → percent_encoded (text_of r) ≡ text_of r
+pub text_is_plain : (r : Refusal) → percent_encoding (text_of r) ≡ text_of r
 text_is_plain UnknownMethod = refl
 text_is_plain _ = refl
 

@@ -10,7 +10,7 @@ use Rattle.rpc.specs.declared.method.Method.TheVariants.{FindMissingBlobs, Batch
 use Rattle.grpc_calls.specs.declared.request.HeadFault.{HeadFault}
 use Rattle.grpc_calls.specs.declared.request.HeadFault.TheVariants.{Method as BadMethod, ContentType as BadContentType, Path as BadPath}
 use Rattle.rpc.specs.Methods.{path_of, methods, method_in, method_at}
-use Rattle.grpc_calls.specs.Requests.{IsPost, IsGrpcType, IsGrpc, HasPathOf, IsCall, is_value, is_grpc_type, method_for, called, head_of}
+use Rattle.grpc_calls.specs.Requests.{IsPost, IsGrpcType, IsGrpc, HasPathOf, IsCall, is_value, is_grpc_type, method_for, method_or_fault, head_of}
 
 same : (xs ys : List ℕ) → bytes_eq xs ys ≡ true → xs ≡ ys
 same xs ys e = (bytes_eq-Decides xs ys).0 e
@@ -102,7 +102,7 @@ is_grpc_of (h ∷ hs) (inr g) = on_right (is_grpc_type h) (list_any is_grpc_type
 -- ---- a head by its three tests
 
 abbrev head_by : Bool → Bool → Option Method → Result Method HeadFault
-head_by post grpc o = cond post (cond grpc (called o) (Err BadContentType)) (Err BadMethod)
+head_by post grpc o = cond post (cond grpc (method_or_fault o) (Err BadContentType)) (Err BadMethod)
 
 abbrev post_of : List Header → Bool
 post_of hs = is_value (codes "POST") (value_of (codes ":method") hs)

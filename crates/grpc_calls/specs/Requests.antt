@@ -15,7 +15,9 @@ IsPost hs = value_of (codes ":method") hs ≡ Some (codes "POST")
 
 -- a content type of gRPC, perhaps with the message's format behind it
 abbrev pub IsGrpcType : Header → Type 0
-IsGrpcType h = (h.name ≡ codes "content-type") × ((format : List ℕ) × (h.value ≡ codes "application/grpc" ++ format))
+IsGrpcType h =
+    (h.name ≡ codes "content-type")
+    × ((format : List ℕ) × (h.value ≡ codes "application/grpc" ++ format))
 
 -- one of the fields is such a content type
 abbrev pub IsGrpc : List Header → Type 0
@@ -37,18 +39,19 @@ is_value text None = false
 is_value text (Some value) = bytes_eq value text
 
 abbrev pub is_grpc_type : Header → Bool
-is_grpc_type h = bytes_eq h.name (codes "content-type") && starts_with nat_eq h.value (codes "application/grpc")
+is_grpc_type h =
+    bytes_eq h.name (codes "content-type") && starts_with nat_eq h.value (codes "application/grpc")
 
 abbrev pub method_for : Option (List ℕ) → Option Method
 method_for None = None
 method_for (Some path) = method_at path
 
-abbrev pub called : Option Method → Result Method HeadFault
-called None = Err BadPath
-called (Some m) = Ok m
+abbrev pub method_or_fault : Option Method → Result Method HeadFault
+method_or_fault None = Err BadPath
+method_or_fault (Some m) = Ok m
 
 abbrev pub head_of : List Header → Result Method HeadFault
 head_of hs =
     if is_value (codes "POST") (value_of (codes ":method") hs) then
-    (if list_any is_grpc_type hs then called (method_for (value_of (codes ":path") hs)) else Err BadContentType)
+    (if list_any is_grpc_type hs then method_or_fault (method_for (value_of (codes ":path") hs)) else Err BadContentType)
     else Err BadMethod

@@ -17,7 +17,9 @@ header name value = record { name = name; value = value }
 
 -- Response-Headers
 abbrev pub head_fields : List Header
-head_fields = header (codes ":status") (codes "200") ∷ header (codes "content-type") (codes "application/grpc") ∷ []
+head_fields =
+    header (codes ":status") (codes "200")
+    ∷ header (codes "content-type") (codes "application/grpc") ∷ []
 
 -- Status-Message: a byte from space to `~` stands for itself, but for `%`; any other is `%` and its
 -- two hexadecimal digits
@@ -27,16 +29,19 @@ is_plain b = nat_le 32 b && nat_lt b 127 && (if b == 37 then false else true)
 abbrev pub hex_digit : ℕ → ℕ
 hex_digit d = if nat_lt d 10 then 48 + d else 55 + d
 
-abbrev pub percent_encoded_byte : ℕ → List ℕ
-percent_encoded_byte b = if is_plain b then b ∷ [] else 37 ∷ hex_digit (b / 16) ∷ hex_digit (b % 16) ∷ []
+abbrev pub byte_percent_encoding : ℕ → List ℕ
+byte_percent_encoding b =
+    if is_plain b then b ∷ [] else 37 ∷ hex_digit (b / 16) ∷ hex_digit (b % 16) ∷ []
 
-abbrev pub percent_encoded : List ℕ → List ℕ
-percent_encoded text = flat_map percent_encoded_byte text
+abbrev pub percent_encoding : List ℕ → List ℕ
+percent_encoding text = flat_map byte_percent_encoding text
 
 -- Status, and Status-Message where the code is not 0
 abbrev pub status_fields : Status → List Header
 status_fields Success = header (codes "grpc-status") (decimal 0) ∷ []
-status_fields (Refused r) = header (codes "grpc-status") (decimal (code_of r)) ∷ header (codes "grpc-message") (percent_encoded (text_of r)) ∷ []
+status_fields (Refused r) =
+    header (codes "grpc-status") (decimal (code_of r))
+    ∷ header (codes "grpc-message") (percent_encoding (text_of r)) ∷ []
 
 abbrev pub fields_of : ResponseBlock → List Header
 fields_of Head = head_fields

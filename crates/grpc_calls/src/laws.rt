@@ -14,7 +14,7 @@ ghost use Rattle.grpc_calls.specs.declared.request.HeadFault.{HeadFault};
 ghost use Rattle.grpc_calls.specs.declared.response.ResponseBlock.{ResponseBlock};
 ghost use Rattle.rpc.specs.Methods.{path_of, method_at};
 ghost use Rattle.grpc_calls.specs.Requests.{IsCall, IsPost, IsGrpc, HasPathOf, head_of};
-ghost use Rattle.grpc_calls.specs.Responses.{fields_of, percent_encoded};
+ghost use Rattle.grpc_calls.specs.Responses.{fields_of, percent_encoding};
 
 /// A request calls a method exactly where its head is answered with it, and each fault comes
 /// exactly where it stands and none before it.
@@ -50,7 +50,7 @@ pub fn response_blocks_are_short()
 
 /// The texts of refusals are written as they are.
 pub fn status_messages_need_no_encoding()
-    ensures { (r : Refusal) → percent_encoded (text_of r) ≡ text_of r }
+    ensures { (r : Refusal) → percent_encoding (text_of r) ≡ text_of r }
 {}
 
 /// The code of a refusal is one of gRPC's, and never OK.

@@ -5,7 +5,7 @@ ghost use Rattle.std.specs.Fmt.{decimal};
 ghost use Rattle.rpc.specs.Status.{code_of, text_of};
 ghost use Rattle.hpack.specs.Encoding.{block_text};
 ghost use Rattle.hpack.specs.Shown.{field_shown};
-ghost use Rattle.grpc_calls.specs.Responses.{fields_of, is_last, header, percent_encoded};
+ghost use Rattle.grpc_calls.specs.Responses.{fields_of, is_last, header, percent_encoding};
 
 use hpack::{Field, Position, encode_into};
 use rpc::Refusal;
@@ -116,7 +116,7 @@ fn code(refusal: Refusal) -> Field<'static>
 /// No text of a refusal has a byte that is written otherwise.
 fn message(refusal: Refusal) -> Field<'static>
     ensures { field_shown result
-        ≡ header (codes "grpc-message") (percent_encoded (text_of refusal)) }
+        ≡ header (codes "grpc-message") (percent_encoding (text_of refusal)) }
 {
     Field {
         name: b"grpc-message",

@@ -9,8 +9,8 @@ use Rattle.byteorder.specs.Endian.{big_number, big_bytes}
 use Rattle.byteorder.specs.Numbers.{big_number-reads_back}
 use Rattle.grpc_messages.specs.declared.error.MessagesError.{MessagesError}
 use Rattle.grpc_messages.specs.Wire.{Split, IsSplit, IsMessageText, Spells, IsEnd, IsUnfinished, flag_of, size_of}
-use Rattle.grpc_messages.specs.Reading.{whole_at, message_at, behind, rest_only, split_by, split_in, split}
-use Rattle.grpc_messages.specs.Writing.{framed}
+use Rattle.grpc_messages.specs.Reading.{whole_at, message_at, split_behind, rest_only, split_by, split_in, split}
+use Rattle.grpc_messages.specs.Writing.{framed_message}
 use Rattle.grpc_messages.proofs.Fronts.{flag_more, size_more, IsWhole, whole_is, is_whole, fault_is, is_fault, unfinished_is, is_unfinished}
 use Rattle.grpc_messages.proofs.Splits.{split_partial, split_fault, split_whole}
 
@@ -53,13 +53,13 @@ begins_with limit x m h rest =
     let size = ap (big_number 4) (sym s.4) ∙ h.sized in
     subst (λ (q : List ℕ). BeginsWith limit q m rest) (sym whole) (begins_at limit s.0 s.1 s.2 s.3 m rest size h.short)
 
-split_after : (limit : ℕ) (x m rest : List ℕ) → IsMessageText limit x m → split limit (x ++ rest) ≡ behind (m ∷ []) (split limit rest)
+split_after : (limit : ℕ) (x m rest : List ℕ) → IsMessageText limit x m → split limit (x ++ rest) ≡ split_behind (m ∷ []) (split limit rest)
 split_after limit x m rest h =
     let b = begins_with limit x m h rest in
     let text = x ++ rest in
     split_whole limit text (length m) b.whole
-    ∙ ap (λ (y : List ℕ). behind (y ∷ []) (split limit (drop (5 + length m) text))) b.first
-    ∙ ap (λ (q : List ℕ). behind (m ∷ []) (split limit q)) b.others
+    ∙ ap (λ (y : List ℕ). split_behind (y ∷ []) (split limit (drop (5 + length m) text))) b.first
+    ∙ ap (λ (q : List ℕ). split_behind (m ∷ []) (split limit q)) b.others
 
 only_from : (limit : ℕ) (front rest : List ℕ) (messages : List (List ℕ)) (end : Result (List ℕ) MessagesError) → Spells limit front messages → IsEnd limit rest end → split limit (front ++ rest) ≡ record { messages = messages; end = end }
 only_from limit front rest [] (Ok r) h e = ap (λ (q : List ℕ). split limit (q ++ rest)) h ∙ split_partial limit rest (is_unfinished limit rest e.1) ∙ ap rest_only e.0
@@ -67,7 +67,7 @@ only_from limit front rest [] (Err d) h e = ap (λ (q : List ℕ). split limit (
 only_from limit front rest (m ∷ ms) end h e =
     ap (split limit) (ap (λ (q : List ℕ). q ++ rest) h.2 ∙ append_assoc h.0 h.1 rest)
     ∙ split_after limit h.0 m (h.1 ++ rest) h.3
-    ∙ ap (behind (m ∷ [])) (only_from limit h.1 rest ms end h.4 e)
+    ∙ ap (split_behind (m ∷ [])) (only_from limit h.1 rest ms end h.4 e)
 
 pub split_only : (limit : ℕ) (text : List ℕ) (s : Split) → IsSplit limit text s → split limit text ≡ s
 split_only limit text s h = ap (split limit) h.parts ∙ only_from limit h.front h.rest s.messages s.end h.messages h.end
@@ -122,7 +122,7 @@ split_found limit text = found_in limit (suc (length text)) text (omega arith)
 
 -- ---- writing
 
-framed_is : (limit : ℕ) (m : List ℕ) → length m ≤ limit → length m < 2 ^ 32 → IsMessageText limit (framed m) m
+framed_is : (limit : ℕ) (m : List ℕ) → length m ≤ limit → length m < 2 ^ 32 → IsMessageText limit (framed_message m) m
 framed_is limit m short fits = record {
   size = big_bytes 4 (length m);
   parts = refl;
@@ -132,20 +132,20 @@ framed_is limit m short fits = record {
 }
 
 pub framed_split : (limit : ℕ) (messages : List (List ℕ)) (rest : List ℕ) → limit < 2 ^ 32 → AllByRecursion (λ m. length m ≤ limit) messages
-    → split limit (flat_map framed messages ++ rest) ≡ behind messages (split limit rest)
+    → split limit (flat_map framed_message messages ++ rest) ≡ split_behind messages (split limit rest)
 framed_split limit [] rest small h = refl
 framed_split limit (m ∷ ms) rest small h =
     let short = h.0 in
-    ap (split limit) (ap (λ (q : List ℕ). q ++ rest) (flat_map-cons framed m ms) ∙ append_assoc (framed m) (flat_map framed ms) rest)
-    ∙ split_after limit (framed m) m (flat_map framed ms ++ rest) (framed_is limit m short (omega arith))
-    ∙ ap (behind (m ∷ [])) (framed_split limit ms rest small h.1)
+    ap (split limit) (ap (λ (q : List ℕ). q ++ rest) (flat_map-cons framed_message m ms) ∙ append_assoc (framed_message m) (flat_map framed_message ms) rest)
+    ∙ split_after limit (framed_message m) m (flat_map framed_message ms ++ rest) (framed_is limit m short (omega arith))
+    ∙ ap (split_behind (m ∷ [])) (framed_split limit ms rest small h.1)
 
 -- ---- a message that has come in part
 
-framed_size : (m : List ℕ) → length m < 2 ^ 32 → size_of (framed m) ≡ length m
+framed_size : (m : List ℕ) → length m < 2 ^ 32 → size_of (framed_message m) ≡ length m
 framed_size m fits = big_number-reads_back 4 (length m) m (omega arith)
 
-part_is_unfinished : (limit : ℕ) (m part more : List ℕ) → limit < 2 ^ 32 → length m ≤ limit → framed m ≡ part ++ more → 0 < length more → IsUnfinished limit part
+part_is_unfinished : (limit : ℕ) (m part more : List ℕ) → limit < 2 ^ 32 → length m ≤ limit → framed_message m ≡ part ++ more → 0 < length more → IsUnfinished limit part
 part_is_unfinished limit m part more small short e some = elim (cases_lt (length part) 5) [
   | inl less ↦ inl less
   | inr five ↦ (
@@ -155,9 +155,9 @@ part_is_unfinished limit m part more small short e some = elim (cases_lt (length
       inr (flag, omega arith, omega arith))
 ]
 
-pub part_split : (limit : ℕ) (messages : List (List ℕ)) (m part more : List ℕ) → limit < 2 ^ 32 → AllByRecursion (λ x. length x ≤ limit) messages → length m ≤ limit → framed m ≡ part ++ more → 0 < length more
-    → split limit (flat_map framed messages ++ part) ≡ record { messages = messages; end = Ok part }
+pub part_split : (limit : ℕ) (messages : List (List ℕ)) (m part more : List ℕ) → limit < 2 ^ 32 → AllByRecursion (λ x. length x ≤ limit) messages → length m ≤ limit → framed_message m ≡ part ++ more → 0 < length more
+    → split limit (flat_map framed_message messages ++ part) ≡ record { messages = messages; end = Ok part }
 part_split limit messages m part more small h short e some =
     framed_split limit messages part small h
-    ∙ ap (behind messages) (split_partial limit part (is_unfinished limit part (part_is_unfinished limit m part more small short e some)))
+    ∙ ap (split_behind messages) (split_partial limit part (is_unfinished limit part (part_is_unfinished limit m part more small short e some)))
     ∙ ap (λ (xs : List (List ℕ)). record { messages = xs; end = Ok part }) (append-nil messages)

@@ -3,7 +3,7 @@ use Rattle.std.proofs.Common.{◌≡◌, ℕ, zero, suc, ◌+◌, ◌<◌, List,
 use Rattle.std.proofs.lemmas.List.{length-drop}
 use Rattle.grpc_messages.specs.declared.error.MessagesError.{MessagesError}
 use Rattle.grpc_messages.specs.Wire.{Split}
-use Rattle.grpc_messages.specs.Reading.{whole_at, message_at, behind, rest_only, fault_only, split}
+use Rattle.grpc_messages.specs.Reading.{whole_at, message_at, split_behind, rest_only, fault_only, split}
 use Rattle.grpc_messages.proofs.Fronts.{whole_is, fault_more}
 use Rattle.grpc_messages.proofs.Splits.{split_partial, split_fault, split_whole, split_whole_more}
 
@@ -24,10 +24,10 @@ from_rest r u = record { more = (u.messages, refl); ended = λ e h. absurd (no_f
 from_fault : (d : MessagesError) → Grows (fault_only d) (fault_only d)
 from_fault d = record { more = ([], refl); ended = λ e h. refl }
 
-from_message : (m : List ℕ) (s u : Split) → Grows s u → Grows (behind (m ∷ []) s) (behind (m ∷ []) u)
+from_message : (m : List ℕ) (s u : Split) → Grows s u → Grows (split_behind (m ∷ []) s) (split_behind (m ∷ []) u)
 from_message m s u g = record {
   more = (g.more.0, ap (λ (ms : List (List ℕ)). m ∷ ms) g.more.1);
-  ended = λ e h. ap (behind (m ∷ [])) (g.ended e h);
+  ended = λ e h. ap (split_behind (m ∷ [])) (g.ended e h);
 }
 
 grows_as : (s s' u u' : Split) → s ≡ s' → u ≡ u' → Grows s' u' → Grows s u
@@ -43,7 +43,7 @@ messages_grow limit (suc k) t more p = go (whole_at limit t) refl (λ (r : List 
       let w = whole_is limit t n e in
       let f = w.fits in
       let r : List ℕ = drop (5 + n) t in
-      grows_as _ (behind (message_at t ∷ []) (split limit r)) _ (behind (message_at t ∷ []) (split limit (r ++ more))) (split_whole limit t n e) (split_whole_more limit t more n e)
+      grows_as _ (split_behind (message_at t ∷ []) (split limit r)) _ (split_behind (message_at t ∷ []) (split limit (r ++ more))) (split_whole limit t n e) (split_whole_more limit t more n e)
       (from_message (message_at t) (split limit r) (split limit (r ++ more)) (others r (omega (arith, length-drop (5 + n) t))))
 
 grows : (limit : ℕ) (t more : List ℕ) → Grows (split limit t) (split limit (t ++ more))

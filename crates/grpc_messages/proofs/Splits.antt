@@ -3,7 +3,7 @@ use Rattle.std.proofs.Common.{◌≡◌, ℕ, zero, suc, ◌+◌, ◌<◌, List,
 use Rattle.std.proofs.lemmas.List.{drop-append-le, length-drop}
 use Rattle.grpc_messages.specs.declared.error.MessagesError.{MessagesError}
 use Rattle.grpc_messages.specs.Wire.{size_of}
-use Rattle.grpc_messages.specs.Reading.{whole_at, message_at, behind, rest_only, fault_only, split_by, split_in, split}
+use Rattle.grpc_messages.specs.Reading.{whole_at, message_at, split_behind, rest_only, fault_only, split_by, split_in, split}
 use Rattle.grpc_messages.proofs.Fronts.{whole_is, whole_more, message_more}
 
 abbrev after_message : List ℕ → List ℕ
@@ -22,7 +22,7 @@ split_fuel limit (suc j) (suc k) t p q = go (whole_at limit t) refl (split_fuel 
       → split_by w t (split_in limit j (after_message t)) ≡ split_by w t (split_in limit k (after_message t))
   go (Ok None) e same = refl
   go (Err d) e same = refl
-  go (Ok (Some n)) e same = let less = message_shrinks limit t n e in ap (behind (message_at t ∷ [])) (same (omega arith) (omega arith))
+  go (Ok (Some n)) e same = let less = message_shrinks limit t n e in ap (split_behind (message_at t ∷ [])) (same (omega arith) (omega arith))
 
 -- what stands at the front, and then the rest
 pub split_step : (limit : ℕ) (t : List ℕ) → split limit t ≡ split_by (whole_at limit t) t (split limit (after_message t))
@@ -31,7 +31,7 @@ split_step limit t = go (whole_at limit t) refl where
   go : (w : Result (Option ℕ) MessagesError) → whole_at limit t ≡ w → split_by w t (split_in limit (length t) (after_message t)) ≡ split_by w t (split limit (after_message t))
   go (Ok None) e = refl
   go (Err d) e = refl
-  go (Ok (Some n)) e = let less = message_shrinks limit t n e in ap (behind (message_at t ∷ [])) (split_fuel limit (length t) (suc (length (after_message t))) (after_message t) (omega arith) (omega arith))
+  go (Ok (Some n)) e = let less = message_shrinks limit t n e in ap (split_behind (message_at t ∷ [])) (split_fuel limit (length t) (suc (length (after_message t))) (after_message t) (omega arith) (omega arith))
 
 split_at : (limit : ℕ) (t : List ℕ) (w : Result (Option ℕ) MessagesError) → whole_at limit t ≡ w → split limit t ≡ split_by w t (split limit (after_message t))
 split_at limit t w e = split_step limit t ∙ ap (λ (v : Result (Option ℕ) MessagesError). split_by v t (split limit (after_message t))) e
@@ -42,16 +42,16 @@ split_partial limit t e = split_at limit t (Ok None) e
 pub split_fault : (limit : ℕ) (t : List ℕ) (d : MessagesError) → whole_at limit t ≡ Err d → split limit t ≡ fault_only d
 split_fault limit t d e = split_at limit t (Err d) e
 
-pub split_whole : (limit : ℕ) (t : List ℕ) (n : ℕ) → whole_at limit t ≡ Ok (Some n) → split limit t ≡ behind (message_at t ∷ []) (split limit (drop (5 + n) t))
+pub split_whole : (limit : ℕ) (t : List ℕ) (n : ℕ) → whole_at limit t ≡ Ok (Some n) → split limit t ≡ split_behind (message_at t ∷ []) (split limit (drop (5 + n) t))
 split_whole limit t n e =
     let w = whole_is limit t n e in
-    split_at limit t (Ok (Some n)) e ∙ ap (λ (m : ℕ). behind (message_at t ∷ []) (split limit (drop (5 + m) t))) (sym w.size)
+    split_at limit t (Ok (Some n)) e ∙ ap (λ (m : ℕ). split_behind (message_at t ∷ []) (split limit (drop (5 + m) t))) (sym w.size)
 
 -- a whole message stays the first one, whatever follows
-pub split_whole_more : (limit : ℕ) (t more : List ℕ) (n : ℕ) → whole_at limit t ≡ Ok (Some n) → split limit (t ++ more) ≡ behind (message_at t ∷ []) (split limit (drop (5 + n) t ++ more))
+pub split_whole_more : (limit : ℕ) (t more : List ℕ) (n : ℕ) → whole_at limit t ≡ Ok (Some n) → split limit (t ++ more) ≡ split_behind (message_at t ∷ []) (split limit (drop (5 + n) t ++ more))
 split_whole_more limit t more n e =
     let w = whole_is limit t n e in
     let f = w.fits in
     split_whole limit (t ++ more) n (whole_more limit t more n e)
-    ∙ ap (λ (x : List ℕ). behind (x ∷ []) (split limit (drop (5 + n) (t ++ more)))) (message_more limit t more n e)
-    ∙ ap (λ (x : List ℕ). behind (message_at t ∷ []) (split limit x)) (drop-append-le (5 + n) t more f)
+    ∙ ap (λ (x : List ℕ). split_behind (x ∷ []) (split limit (drop (5 + n) (t ++ more)))) (message_more limit t more n e)
+    ∙ ap (λ (x : List ℕ). split_behind (message_at t ∷ []) (split limit x)) (drop-append-le (5 + n) t more f)

@@ -3,10 +3,10 @@ use Rattle.std.proofs.Common.{◌≡◌, ◌≢◌, ℕ, ◌+◌, ◌<◌, ◌�
 use Rattle.std.proofs.lemmas.List.{append-nil, length-drop, length-take-le}
 use Rattle.grpc_messages.specs.declared.error.MessagesError.{MessagesError}
 use Rattle.grpc_messages.specs.declared.error.MessagesError.TheVariants.{Compressed, TooLarge, CutOff, NoMemory}
-use Rattle.grpc_messages.specs.Wire.{Split, ended, size_of, IsUnfinished}
-use Rattle.grpc_messages.specs.Reading.{whole_at, message_at, behind, rest_only, fault_only, split}
-use Rattle.grpc_messages.specs.Reader.{bytes_left, split_left, followed_by, StandsFor, messages_in}
-use Rattle.grpc_messages.specs.Step.{taken_by, taken, Takes, ended_by, ends_at}
+use Rattle.grpc_messages.specs.Wire.{Split, end_of_rest, size_of, IsUnfinished}
+use Rattle.grpc_messages.specs.Reading.{whole_at, message_at, split_behind, rest_only, fault_only, split}
+use Rattle.grpc_messages.specs.Reader.{bytes_left, split_left, with_more_bytes, StandsFor, messages_in}
+use Rattle.grpc_messages.specs.Step.{step_by_front, step, Takes, end_by_front, ends_at}
 use Rattle.grpc_messages.proofs.Fronts.{fault_more, unfinished_is, IsWhole, whole_is}
 use Rattle.grpc_messages.proofs.Splits.{split_partial, split_fault, split_whole, split_whole_more}
 
@@ -16,24 +16,24 @@ Reader = Result (List ℕ) MessagesError
 abbrev Answer : Type 0
 Answer = Result (Option (List ℕ)) MessagesError
 
-followed_twice : (v : Reader) (piece more : List ℕ) → followed_by (followed_by v piece) more ≡ followed_by v (piece ++ more)
+followed_twice : (v : Reader) (piece more : List ℕ) → with_more_bytes (with_more_bytes v piece) more ≡ with_more_bytes v (piece ++ more)
 followed_twice (Ok bytes) piece more = ap (λ (x : List ℕ). Ok x) (append_assoc bytes piece more)
 followed_twice (Err e) piece more = refl
 
-pub stands_fed : (limit : ℕ) (v : Reader) (piece text : List ℕ) (given : List (List ℕ)) → StandsFor limit v text given → StandsFor limit (followed_by v piece) (text ++ piece) given
+pub stands_fed : (limit : ℕ) (v : Reader) (piece text : List ℕ) (given : List (List ℕ)) → StandsFor limit v text given → StandsFor limit (with_more_bytes v piece) (text ++ piece) given
 stands_fed limit v piece text given stands more =
-    ap (split limit) (append_assoc text piece more) ∙ stands (piece ++ more) ∙ ap (λ (x : Reader). behind given (split_left limit x)) (sym (followed_twice v piece more))
+    ap (split limit) (append_assoc text piece more) ∙ stands (piece ++ more) ∙ ap (λ (x : Reader). split_behind given (split_left limit x)) (sym (followed_twice v piece more))
 
-pub stands_on_ok : (limit : ℕ) (r : Result Unit MessagesError) (old : Reader) (piece : List ℕ) (new : Reader) → OnOk r (new ≡ followed_by old piece)
+pub stands_on_ok : (limit : ℕ) (r : Result Unit MessagesError) (old : Reader) (piece : List ℕ) (new : Reader) → OnOk r (new ≡ with_more_bytes old piece)
     → OnOk r ((text : List ℕ) (given : List (List ℕ)) → StandsFor limit old text given → StandsFor limit new (text ++ piece) given)
 stands_on_ok limit (Ok u) old piece new e = λ text given stands.
     subst (λ (v : Reader). StandsFor limit v (text ++ piece) given) (sym e) (stands_fed limit old piece text given stands)
 stands_on_ok limit (Err d) old piece new e = tt
 
-taken_follows : (limit : ℕ) (v : Reader) (more : List ℕ) → split_left limit (followed_by v more) ≡ behind (messages_in (taken limit v).0) (split_left limit (followed_by (taken limit v).1 more))
+taken_follows : (limit : ℕ) (v : Reader) (more : List ℕ) → split_left limit (with_more_bytes v more) ≡ split_behind (messages_in (step limit v).0) (split_left limit (with_more_bytes (step limit v).1 more))
 taken_follows limit (Err e) more = refl
 taken_follows limit (Ok bytes) more = at_front (whole_at limit bytes) refl where
-  at_front : (w : Result (Option ℕ) MessagesError) → whole_at limit bytes ≡ w → split limit (bytes ++ more) ≡ behind (messages_in (taken_by w bytes).0) (split_left limit (followed_by (taken_by w bytes).1 more))
+  at_front : (w : Result (Option ℕ) MessagesError) → whole_at limit bytes ≡ w → split limit (bytes ++ more) ≡ split_behind (messages_in (step_by_front w bytes).0) (split_left limit (with_more_bytes (step_by_front w bytes).1 more))
   at_front (Ok None) e = refl
   at_front (Ok (Some n)) e = split_whole_more limit bytes more n e
   at_front (Err d) e = split_fault limit (bytes ++ more) d (fault_more limit bytes more d e)
@@ -44,42 +44,42 @@ SaysEnd limit old (Ok None) new = (split_left limit old ≡ rest_only (bytes_lef
 SaysEnd limit old (Ok (Some f)) new = Unit {0}
 SaysEnd limit old (Err e) new = (split_left limit old ≡ fault_only e) × (new ≡ Err e)
 
-taken_ends : (limit : ℕ) (v : Reader) → SaysEnd limit v (taken limit v).0 (taken limit v).1
+taken_ends : (limit : ℕ) (v : Reader) → SaysEnd limit v (step limit v).0 (step limit v).1
 taken_ends limit (Err e) = (refl, refl)
 taken_ends limit (Ok bytes) = at_front (whole_at limit bytes) refl where
-  at_front : (w : Result (Option ℕ) MessagesError) → whole_at limit bytes ≡ w → SaysEnd limit (Ok bytes) (taken_by w bytes).0 (taken_by w bytes).1
+  at_front : (w : Result (Option ℕ) MessagesError) → whole_at limit bytes ≡ w → SaysEnd limit (Ok bytes) (step_by_front w bytes).0 (step_by_front w bytes).1
   at_front (Ok None) e = (split_partial limit bytes e, unfinished_is limit bytes e)
   at_front (Ok (Some n)) e = tt
   at_front (Err d) e = (split_fault limit bytes d e, refl)
 
-behind_both : (gs ms : List (List ℕ)) (s : Split) → behind gs (behind ms s) ≡ behind (gs ++ ms) s
+behind_both : (gs ms : List (List ℕ)) (s : Split) → split_behind gs (split_behind ms s) ≡ split_behind (gs ++ ms) s
 behind_both gs ms s = ap (λ (xs : List (List ℕ)). record { messages = xs; end = s.end }) (sym (append_assoc gs ms s.messages))
 
-taken_as : (limit : ℕ) (old : Reader) (r : Answer) (new : Reader) → taken limit old ≡ (r, new) → (more : List ℕ) → split_left limit (followed_by old more) ≡ behind (messages_in r) (split_left limit (followed_by new more))
-taken_as limit old r new e more = taken_follows limit old more ∙ ap (λ (x : Answer × Reader). behind (messages_in x.0) (split_left limit (followed_by x.1 more))) e
+taken_as : (limit : ℕ) (old : Reader) (r : Answer) (new : Reader) → step limit old ≡ (r, new) → (more : List ℕ) → split_left limit (with_more_bytes old more) ≡ split_behind (messages_in r) (split_left limit (with_more_bytes new more))
+taken_as limit old r new e more = taken_follows limit old more ∙ ap (λ (x : Answer × Reader). split_behind (messages_in x.0) (split_left limit (with_more_bytes x.1 more))) e
 
-takes_follows : (limit : ℕ) (old : Reader) (r : Answer) (new : Reader) → Takes limit old r new → (more : List ℕ) → split_left limit (followed_by old more) ≡ behind (messages_in r) (split_left limit (followed_by new more))
+takes_follows : (limit : ℕ) (old : Reader) (r : Answer) (new : Reader) → Takes limit old r new → (more : List ℕ) → split_left limit (with_more_bytes old more) ≡ split_behind (messages_in r) (split_left limit (with_more_bytes new more))
 takes_follows limit old (Ok o) new h more = taken_as limit old (Ok o) new h more
 takes_follows limit old (Err Compressed) new h more = taken_as limit old (Err Compressed) new h more
 takes_follows limit old (Err TooLarge) new h more = taken_as limit old (Err TooLarge) new h more
 takes_follows limit old (Err CutOff) new h more = taken_as limit old (Err CutOff) new h more
-takes_follows limit old (Err NoMemory) new h more = ap (λ (v : Reader). split_left limit (followed_by v more)) (sym h.0)
+takes_follows limit old (Err NoMemory) new h more = ap (λ (v : Reader). split_left limit (with_more_bytes v more)) (sym h.0)
 
 pub stands_after : (limit : ℕ) (old : Reader) (r : Answer) (new : Reader) → Takes limit old r new
     → (t : List ℕ) (gs : List (List ℕ)) → StandsFor limit old t gs → StandsFor limit new t (gs ++ messages_in r)
 stands_after limit old r new h t gs stands more =
-    stands more ∙ ap (behind gs) (takes_follows limit old r new h more) ∙ behind_both gs (messages_in r) (split_left limit (followed_by new more))
+    stands more ∙ ap (split_behind gs) (takes_follows limit old r new h more) ∙ behind_both gs (messages_in r) (split_left limit (with_more_bytes new more))
 
-followed_by_none : (v : Reader) → followed_by v [] ≡ v
+followed_by_none : (v : Reader) → with_more_bytes v [] ≡ v
 followed_by_none (Ok bytes) = ap (λ (x : List ℕ). Ok x) (append-nil bytes)
 followed_by_none (Err e) = refl
 
 -- what is left now, where nothing follows
-left_now : (limit : ℕ) (v : Reader) (t : List ℕ) (gs : List (List ℕ)) → StandsFor limit v t gs → split limit t ≡ behind gs (split_left limit v)
+left_now : (limit : ℕ) (v : Reader) (t : List ℕ) (gs : List (List ℕ)) → StandsFor limit v t gs → split limit t ≡ split_behind gs (split_left limit v)
 left_now limit v t gs stands =
-    ap (split limit) (sym (append-nil t)) ∙ stands [] ∙ ap (λ (x : Reader). behind gs (split_left limit x)) (followed_by_none v)
+    ap (split limit) (sym (append-nil t)) ∙ stands [] ∙ ap (λ (x : Reader). split_behind gs (split_left limit x)) (followed_by_none v)
 
-says : (limit : ℕ) (old : Reader) (r : Answer) (new : Reader) → taken limit old ≡ (r, new) → SaysEnd limit old r new
+says : (limit : ℕ) (old : Reader) (r : Answer) (new : Reader) → step limit old ≡ (r, new) → SaysEnd limit old r new
 says limit old r new h = subst (λ (x : Answer × Reader). SaysEnd limit old x.0 x.1) h (taken_ends limit old)
 
 abbrev pub IsAllGiven : ℕ → Reader → Reader → Type 0
@@ -88,9 +88,9 @@ IsAllGiven limit old new = (t : List ℕ) (gs : List (List ℕ)) → StandsFor l
 abbrev pub IsFaultOf : ℕ → Reader → MessagesError → Type 0
 IsFaultOf limit old e = (t : List ℕ) (gs : List (List ℕ)) → StandsFor limit old t gs → split limit t ≡ record { messages = gs; end = Err e }
 
-none_after : (limit : ℕ) (old : Reader) (new : Reader) → taken limit old ≡ (Ok None, new) → IsAllGiven limit old new
+none_after : (limit : ℕ) (old : Reader) (new : Reader) → step limit old ≡ (Ok None, new) → IsAllGiven limit old new
 none_after limit old new h t gs stands =
-    left_now limit old t gs stands ∙ ap (behind gs) (says limit old (Ok None) new h).0 ∙ ap (λ (xs : List (List ℕ)). record { messages = xs; end = Ok (bytes_left new) }) (append-nil gs)
+    left_now limit old t gs stands ∙ ap (split_behind gs) (says limit old (Ok None) new h).0 ∙ ap (λ (xs : List (List ℕ)). record { messages = xs; end = Ok (bytes_left new) }) (append-nil gs)
 
 pub all_given : (limit : ℕ) (old : Reader) (r : Answer) (new : Reader) → Takes limit old r new → IfOk r (λ o. IfNone o (IsAllGiven limit old new))
 all_given limit old (Ok None) new h = none_after limit old new h
@@ -106,11 +106,11 @@ kept_is_unfinished limit old (Ok None) new h = unfinished_below limit (bytes_lef
 kept_is_unfinished limit old (Ok (Some f)) new h = tt
 kept_is_unfinished limit old (Err e) new h = tt
 
-fault_as : (limit : ℕ) (old : Reader) (e : MessagesError) (new : Reader) → taken limit old ≡ (Err e, new) → IsFaultOf limit old e
+fault_as : (limit : ℕ) (old : Reader) (e : MessagesError) (new : Reader) → step limit old ≡ (Err e, new) → IsFaultOf limit old e
 fault_as limit old e new h t gs stands =
-    left_now limit old t gs stands ∙ ap (behind gs) (says limit old (Err e) new h).0 ∙ ap (λ (xs : List (List ℕ)). record { messages = xs; end = Err e }) (append-nil gs)
+    left_now limit old t gs stands ∙ ap (split_behind gs) (says limit old (Err e) new h).0 ∙ ap (λ (xs : List (List ℕ)). record { messages = xs; end = Err e }) (append-nil gs)
 
-fault_after : (limit : ℕ) (old : Reader) (e : MessagesError) (new : Reader) → Takes limit old (Err e) new → e ≢ NoMemory → taken limit old ≡ (Err e, new)
+fault_after : (limit : ℕ) (old : Reader) (e : MessagesError) (new : Reader) → Takes limit old (Err e) new → e ≢ NoMemory → step limit old ≡ (Err e, new)
 fault_after limit old Compressed new h other = h
 fault_after limit old TooLarge new h other = h
 fault_after limit old CutOff new h other = h
@@ -152,10 +152,10 @@ given_at limit bytes n w =
     let size : length (message_at bytes) ≡ size_of bytes = length-take-le (size_of bytes) (drop 5 bytes) (omega arith) in
     (omega arith, omega arith)
 
-taken_gives : (limit : ℕ) (v : Reader) → SaysGiven limit v (taken limit v).0 (taken limit v).1
+taken_gives : (limit : ℕ) (v : Reader) → SaysGiven limit v (step limit v).0 (step limit v).1
 taken_gives limit (Err e) = tt
 taken_gives limit (Ok bytes) = at_front (whole_at limit bytes) refl where
-  at_front : (w : Result (Option ℕ) MessagesError) → whole_at limit bytes ≡ w → SaysGiven limit (Ok bytes) (taken_by w bytes).0 (taken_by w bytes).1
+  at_front : (w : Result (Option ℕ) MessagesError) → whole_at limit bytes ≡ w → SaysGiven limit (Ok bytes) (step_by_front w bytes).0 (step_by_front w bytes).1
   at_front (Ok None) e = tt
   at_front (Ok (Some n)) e = given_at limit bytes n (whole_is limit bytes n e)
   at_front (Err d) e = tt
@@ -202,31 +202,31 @@ split_as s ms end p q =
 nothing_left : (limit : ℕ) (v : Reader) (t : List ℕ) (gs : List (List ℕ)) (end : Result (List ℕ) MessagesError)
     → StandsFor limit v t gs → split limit t ≡ record { messages = gs; end = end } → split_left limit v ≡ record { messages = []; end = end }
 nothing_left limit v t gs end stands e =
-    let now : behind gs (split_left limit v) ≡ record { messages = gs; end = end } = sym (left_now limit v t gs stands) ∙ e in
+    let now : split_behind gs (split_left limit v) ≡ record { messages = gs; end = end } = sym (left_now limit v t gs stands) ∙ e in
     let none : (split_left limit v).messages ≡ [] = none_more gs _ (ap (λ (s : Split). s.messages) now) in
     let last : (split_left limit v).end ≡ end = ap (λ (s : Split). s.end) now in
     split_as (split_left limit v) [] end none last
 
-ended_left : (limit : ℕ) (v : Reader) (end : Result (List ℕ) MessagesError) → split_left limit v ≡ record { messages = []; end = end } → ends_at limit v ≡ ended end
-ended_left limit (Err d) end e = ap (λ (s : Split). ended s.end) e
+ended_left : (limit : ℕ) (v : Reader) (end : Result (List ℕ) MessagesError) → split_left limit v ≡ record { messages = []; end = end } → ends_at limit v ≡ end_of_rest end
+ended_left limit (Err d) end e = ap (λ (s : Split). end_of_rest s.end) e
 ended_left limit (Ok bytes) end e = at_front (whole_at limit bytes) refl where
-  none : (bs : List ℕ) → ended_by (Ok None) bs ≡ ended (Ok bs)
+  none : (bs : List ℕ) → end_by_front (Ok None) bs ≡ end_of_rest (Ok bs)
   none [] = refl
   none (b ∷ bs) = refl
 
-  at_front : (w : Result (Option ℕ) MessagesError) → whole_at limit bytes ≡ w → ended_by w bytes ≡ ended end
-  at_front (Ok None) h = none bytes ∙ ap (λ (s : Split). ended s.end) (sym (split_partial limit bytes h) ∙ e)
+  at_front : (w : Result (Option ℕ) MessagesError) → whole_at limit bytes ≡ w → end_by_front w bytes ≡ end_of_rest end
+  at_front (Ok None) h = none bytes ∙ ap (λ (s : Split). end_of_rest s.end) (sym (split_partial limit bytes h) ∙ e)
   at_front (Ok (Some n)) h = let first = sym (split_whole limit bytes n h) ∙ e in let some = ap (λ (s : Split). s.messages) first in cc
-  at_front (Err d) h = ap (λ (s : Split). ended s.end) (sym (split_fault limit bytes d h) ∙ e)
+  at_front (Err d) h = ap (λ (s : Split). end_of_rest s.end) (sym (split_fault limit bytes d h) ∙ e)
 
 pub end_is : (limit : ℕ) (v : Reader) (r : Result Unit MessagesError) → r ≡ ends_at limit v → (t : List ℕ) (gs : List (List ℕ)) (end : Result (List ℕ) MessagesError)
-    → StandsFor limit v t gs → split limit t ≡ record { messages = gs; end = end } → r ≡ ended end
+    → StandsFor limit v t gs → split limit t ≡ record { messages = gs; end = end } → r ≡ end_of_rest end
 end_is limit v r h t gs end stands e = h ∙ ended_left limit v end (nothing_left limit v t gs end stands e)
 
 ends_empty : (limit : ℕ) (v : Reader) → OnOk (ends_at limit v) (split_left limit v ≡ rest_only [])
 ends_empty limit (Err d) = tt
 ends_empty limit (Ok bytes) = at_front (whole_at limit bytes) refl bytes refl where
-  at_front : (w : Result (Option ℕ) MessagesError) → whole_at limit bytes ≡ w → (bs : List ℕ) → bytes ≡ bs → OnOk (ended_by w bs) (split limit bytes ≡ rest_only [])
+  at_front : (w : Result (Option ℕ) MessagesError) → whole_at limit bytes ≡ w → (bs : List ℕ) → bytes ≡ bs → OnOk (end_by_front w bs) (split limit bytes ≡ rest_only [])
   at_front (Ok None) h [] e = split_partial limit bytes h ∙ ap rest_only e
   at_front (Ok None) h (b ∷ bs) e = tt
   at_front (Ok (Some n)) h bs e = tt
@@ -236,7 +236,7 @@ ends_empty limit (Ok bytes) = at_front (whole_at limit bytes) refl bytes refl wh
 pub untaken : (limit : ℕ) (v : Reader) (r : Result Unit MessagesError) → r ≡ ends_at limit v → (split_left limit v).messages ≢ [] → r ≡ Err CutOff
 untaken limit (Err d) r h some = absurd (some refl)
 untaken limit (Ok bytes) r h some = h ∙ at_front (whole_at limit bytes) refl where
-  at_front : (w : Result (Option ℕ) MessagesError) → whole_at limit bytes ≡ w → ended_by w bytes ≡ Err CutOff
+  at_front : (w : Result (Option ℕ) MessagesError) → whole_at limit bytes ≡ w → end_by_front w bytes ≡ Err CutOff
   at_front (Ok None) e = absurd (some (ap (λ (s : Split). s.messages) (split_partial limit bytes e)))
   at_front (Ok (Some n)) e = refl
   at_front (Err d) e = absurd (some (ap (λ (s : Split). s.messages) (split_fault limit bytes d e)))
@@ -248,4 +248,4 @@ on_ok (Err e) p f = tt
 pub end_is_whole : (limit : ℕ) (v : Reader) (r : Result Unit MessagesError) → r ≡ ends_at limit v
     → OnOk r ((t : List ℕ) (gs : List (List ℕ)) → StandsFor limit v t gs → split limit t ≡ record { messages = gs; end = Ok [] })
 end_is_whole limit v r h = on_ok r (subst (λ (x : Result Unit MessagesError). OnOk x (split_left limit v ≡ rest_only [])) (sym h) (ends_empty limit v))
-    (λ empty t gs stands. left_now limit v t gs stands ∙ ap (behind gs) empty ∙ ap (λ (xs : List (List ℕ)). record { messages = xs; end = Ok [] }) (append-nil gs))
+    (λ empty t gs stands. left_now limit v t gs stands ∙ ap (split_behind gs) empty ∙ ap (λ (xs : List (List ℕ)). record { messages = xs; end = Ok [] }) (append-nil gs))

@@ -2,7 +2,7 @@
 use Rattle.std.specs.Prelude.{◌≡◌, ℕ, List, [], ◌∷◌, ◌++◌, Option, Some, None, Result, Ok, Err}
 use Rattle.grpc_messages.specs.declared.error.MessagesError.{MessagesError}
 use Rattle.grpc_messages.specs.Wire.{Split}
-use Rattle.grpc_messages.specs.Reading.{split, behind, fault_only}
+use Rattle.grpc_messages.specs.Reading.{split, split_behind, fault_only}
 
 -- the bytes that were not given yet, or the refusal
 abbrev pub left_of : List ℕ → Option MessagesError → Result (List ℕ) MessagesError
@@ -13,9 +13,9 @@ abbrev pub bytes_left : Result (List ℕ) MessagesError → List ℕ
 bytes_left (Ok bytes) = bytes
 bytes_left (Err e) = []
 
-abbrev pub followed_by : Result (List ℕ) MessagesError → List ℕ → Result (List ℕ) MessagesError
-followed_by (Ok bytes) more = Ok (bytes ++ more)
-followed_by (Err e) more = Err e
+abbrev pub with_more_bytes : Result (List ℕ) MessagesError → List ℕ → Result (List ℕ) MessagesError
+with_more_bytes (Ok bytes) more = Ok (bytes ++ more)
+with_more_bytes (Err e) more = Err e
 
 abbrev pub split_left : ℕ → Result (List ℕ) MessagesError → Split
 split_left limit (Ok bytes) = split limit bytes
@@ -23,7 +23,9 @@ split_left limit (Err e) = fault_only e
 
 -- the reader has given these messages of the text, and will give the others, whatever follows
 abbrev pub StandsFor : ℕ → Result (List ℕ) MessagesError → List ℕ → List (List ℕ) → Type 0
-StandsFor limit reader text given = (more : List ℕ) → split limit (text ++ more) ≡ behind given (split_left limit (followed_by reader more))
+StandsFor limit reader text given =
+    (more : List ℕ) → split limit (text ++ more)
+    ≡ split_behind given (split_left limit (with_more_bytes reader more))
 
 -- the messages in an answer
 abbrev pub messages_in : Result (Option (List ℕ)) MessagesError → List (List ℕ)

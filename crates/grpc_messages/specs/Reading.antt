@@ -17,8 +17,8 @@ whole_at limit bytes =
 abbrev pub message_at : List ℕ → List ℕ
 message_at bytes = take (size_of bytes) (drop 5 bytes)
 
-abbrev pub behind : List (List ℕ) → Split → Split
-behind given s = record { messages = given ++ s.messages; end = s.end }
+abbrev pub split_behind : List (List ℕ) → Split → Split
+split_behind given s = record { messages = given ++ s.messages; end = s.end }
 
 abbrev pub rest_only : List ℕ → Split
 rest_only bytes = record { messages = []; end = Ok bytes }
@@ -29,13 +29,14 @@ fault_only e = record { messages = []; end = Err e }
 -- the split of the bytes, by what stands at their front and the split of what follows it
 abbrev pub split_by : Result (Option ℕ) MessagesError → List ℕ → Split → Split
 split_by (Ok None) bytes later = rest_only bytes
-split_by (Ok (Some n)) bytes later = behind (message_at bytes ∷ []) later
+split_by (Ok (Some n)) bytes later = split_behind (message_at bytes ∷ []) later
 split_by (Err e) bytes later = fault_only e
 
 -- at most so many messages
 unfoldable pub split_in : ℕ → ℕ → List ℕ → Split
 split_in limit zero bytes = rest_only bytes
-split_in limit (suc more) bytes = split_by (whole_at limit bytes) bytes (split_in limit more (drop (5 + size_of bytes) bytes))
+split_in limit (suc more) bytes =
+    split_by (whole_at limit bytes) bytes (split_in limit more (drop (5 + size_of bytes) bytes))
 
 -- a text has fewer messages than bytes
 abbrev pub split : ℕ → List ℕ → Split

@@ -16,7 +16,9 @@ pub record IsMessageText (limit : ℕ) (text message : List ℕ) : Type 0 where
 -- one message after another, and nothing else
 abbrev pub Spells : ℕ → List ℕ → List (List ℕ) → Type 0
 Spells limit text [] = text ≡ []
-Spells limit text (m ∷ ms) = (front : List ℕ) × (rest : List ℕ) × (text ≡ front ++ rest) × IsMessageText limit front m × Spells limit rest ms
+Spells limit text (m ∷ ms) =
+    (front : List ℕ) × (rest : List ℕ) × (text ≡ front ++ rest) × IsMessageText limit front m
+    × Spells limit rest ms
 
 -- the five bytes that stand before a message, read: its flag and its length
 abbrev pub flag_of : List ℕ → ℕ
@@ -27,14 +29,17 @@ size_of bytes = big_number 4 (drop 1 bytes)
 
 -- less than a whole message, of which no fault can be seen yet
 abbrev pub IsUnfinished : ℕ → List ℕ → Type 0
-IsUnfinished limit bytes = (length bytes < 5) ⊎ (flag_of bytes ≡ 0) × (size_of bytes ≤ limit) × (length bytes < 5 + size_of bytes)
+IsUnfinished limit bytes =
+    (length bytes < 5) ⊎ (flag_of bytes ≡ 0) × (size_of bytes ≤ limit)
+    × (length bytes < 5 + size_of bytes)
 
 -- what stands behind the last whole message: an unfinished one, or the first five bytes of one that
 -- is refused
 abbrev pub IsEnd : ℕ → List ℕ → Result (List ℕ) MessagesError → Type 0
 IsEnd limit bytes (Ok rest) = (bytes ≡ rest) × IsUnfinished limit bytes
 IsEnd limit bytes (Err Compressed) = (5 ≤ length bytes) × (flag_of bytes ≢ 0)
-IsEnd limit bytes (Err TooLarge) = (5 ≤ length bytes) × (flag_of bytes ≡ 0) × (limit < size_of bytes)
+IsEnd limit bytes (Err TooLarge) =
+    (5 ≤ length bytes) × (flag_of bytes ≡ 0) × (limit < size_of bytes)
 IsEnd limit bytes (Err CutOff) = ⊥
 IsEnd limit bytes (Err NoMemory) = ⊥
 
@@ -51,7 +56,7 @@ pub record IsSplit (limit : ℕ) (text : List ℕ) (s : Split) : Type 0 where
   pub end : IsEnd limit rest s.end
 
 -- the end of a text to which nothing more is added
-abbrev pub ended : Result (List ℕ) MessagesError → Result Unit MessagesError
-ended (Ok []) = Ok tt
-ended (Ok (b ∷ bs)) = Err CutOff
-ended (Err e) = Err e
+abbrev pub end_of_rest : Result (List ℕ) MessagesError → Result Unit MessagesError
+end_of_rest (Ok []) = Ok tt
+end_of_rest (Ok (b ∷ bs)) = Err CutOff
+end_of_rest (Err e) = Err e

@@ -2,5 +2,5 @@
 use Rattle.std.specs.Prelude.{ℕ, List, ◌∷◌, ◌++◌, length}
 use Rattle.byteorder.specs.Endian.{big_bytes}
 
-abbrev pub framed : List ℕ → List ℕ
-framed message = (0 ∷ big_bytes 4 (length message)) ++ message
+abbrev pub framed_message : List ℕ → List ℕ
+framed_message message = (0 ∷ big_bytes 4 (length message)) ++ message

@@ -4,8 +4,8 @@ ghost use Rattle.std.specs.Prelude.{◌≡◌, ◌++◌, ◌<◌, ◌≤◌, ◌
 ghost use Rattle.std.specs.List.{AllByRecursion, flat_map};
 ghost use Rattle.grpc_messages.specs.declared.error.MessagesError.{MessagesError};
 ghost use Rattle.grpc_messages.specs.Wire.{Split, IsSplit};
-ghost use Rattle.grpc_messages.specs.Reading.{split, behind};
-ghost use Rattle.grpc_messages.specs.Writing.{framed};
+ghost use Rattle.grpc_messages.specs.Reading.{split, split_behind};
+ghost use Rattle.grpc_messages.specs.Writing.{framed_message};
 
 /// A text divides into messages in one way alone, and that is how it is read.
 pub fn a_text_divides_in_one_way()
@@ -28,10 +28,11 @@ pub fn more_bytes_add_messages()
 pub fn framed_messages_are_split_again()
     ensures whole { (limit : ℕ) (messages : List (List ℕ)) (rest : List ℕ) → limit < 2 ^ 32 →
         AllByRecursion (λ m. length m ≤ limit) messages →
-        split limit (flat_map framed messages ++ rest) ≡ behind messages (split limit rest) }
+        split limit (flat_map framed_message messages ++ rest)
+        ≡ split_behind messages (split limit rest) }
     ensures part { (limit : ℕ) (messages : List (List ℕ)) (message part more : List ℕ) →
         limit < 2 ^ 32 → AllByRecursion (λ m. length m ≤ limit) messages → length message ≤ limit →
-        framed message ≡ part ++ more → 0 < length more →
-        split limit (flat_map framed messages ++ part)
+        framed_message message ≡ part ++ more → 0 < length more →
+        split limit (flat_map framed_message messages ++ part)
         ≡ record { messages = messages; end = Ok part } }
 {}

@@ -2,9 +2,9 @@
 
 ghost use Rattle.std.specs.Prelude.{◌≡◌, ◌≢◌, ◌↔◌, IsTrue, ◌+◌, ◌++◌, ◌<◌, ◌≤◌, [], drop, length, List, ℕ, Ok, Err, IfOk, IfErr, IfNone, IfSome, OnOk, OnErr, OnSome, IsErrOf, IsOk, Result};
 ghost use Rattle.grpc_messages.specs.declared.error.MessagesError.{MessagesError};
-ghost use Rattle.grpc_messages.specs.Wire.{ended, size_of};
+ghost use Rattle.grpc_messages.specs.Wire.{end_of_rest, size_of};
 ghost use Rattle.grpc_messages.specs.Reading.{split, whole_at, message_at};
-ghost use Rattle.grpc_messages.specs.Reader.{StandsFor, bytes_left, followed_by, messages_in, split_left};
+ghost use Rattle.grpc_messages.specs.Reader.{StandsFor, bytes_left, with_more_bytes, messages_in, split_left};
 ghost use Rattle.grpc_messages.specs.Step.{Takes, ends_at, after_end};
 
 use crate::error::MessagesError;
@@ -59,7 +59,7 @@ impl Messages {
 
     /// Takes the next piece of the request's data. A reader that refused repeats its refusal.
     pub fn feed(&mut self, piece: &[u8]) -> Result<(), MessagesError>
-        ensures ok { OnOk result (self.new ≡ followed_by self.old piece.now) }
+        ensures ok { OnOk result (self.new ≡ with_more_bytes self.old piece.now) }
         ensures stands { OnOk result ((text : List ℕ) (given : List (List ℕ)) →
             StandsFor MESSAGE_LIMIT self.old text given →
             StandsFor MESSAGE_LIMIT self.new (text ++ piece.now) given) }
@@ -72,7 +72,7 @@ impl Messages {
     }
 
     fn append(&mut self, piece: &[u8]) -> Result<(), MessagesError>
-        ensures ok { OnOk result (self.new ≡ followed_by self.old piece.now) }
+        ensures ok { OnOk result (self.new ≡ with_more_bytes self.old piece.now) }
         ensures repeated { IfErr self.old (λ refusal. result ≡ Err refusal) }
         ensures refused { IsOk self.old → IfErr result
             (λ refusal. refusal ≡ MessagesError.NoMemory) }
@@ -158,7 +158,8 @@ impl Messages {
     pub fn end(&mut self) -> Result<(), MessagesError>
         ensures answer { (text : List ℕ) (given : List (List ℕ))
             (end : Result (List ℕ) MessagesError) → StandsFor MESSAGE_LIMIT self.old text given →
-            split MESSAGE_LIMIT text ≡ record { messages = given; end = end } → result ≡ ended end }
+            split MESSAGE_LIMIT text ≡ record { messages = given; end = end } →
+            result ≡ end_of_rest end }
         ensures whole { OnOk result ((text : List ℕ) (given : List (List ℕ)) →
             StandsFor MESSAGE_LIMIT self.old text given →
             split MESSAGE_LIMIT text ≡ record { messages = given; end = Ok [] }) }

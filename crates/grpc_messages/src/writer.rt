@@ -1,7 +1,7 @@
 //! Framing a message that is sent.
 
 ghost use Rattle.std.specs.Prelude.{◌≡◌, ◌++◌, ◌<◌, ◌^◌, length, OnOk, OnErr};
-ghost use Rattle.grpc_messages.specs.Writing.{framed};
+ghost use Rattle.grpc_messages.specs.Writing.{framed_message};
 
 use crate::reader::PREFIX_LENGTH;
 use byteorder::{BigEndian, ByteOrder};
@@ -11,7 +11,7 @@ use std::alloc::AllocError;
 /// memory is refused the bytes are as before.
 pub fn write_message(out: &mut Vec<u8>, message: &[u8]) -> Result<(), AllocError>
     requires fits { length message.now < 2 ^ 32 }
-    ensures ok { OnOk result (out.new.items ≡ out.old.items ++ framed message.now) }
+    ensures ok { OnOk result (out.new.items ≡ out.old.items ++ framed_message message.now) }
     ensures err { OnErr result (out.new.items ≡ out.old.items) }
 {
     out.reserve(PREFIX_LENGTH + message.len())?;

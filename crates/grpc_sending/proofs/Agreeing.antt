@@ -4,16 +4,16 @@ use Rattle.std.specs.Prelude.{true, ◌==◌, cond, map}
 use Rattle.std.specs.List.{flat_map}
 use Rattle.std.proofs.lemmas.Bool.{cases_Bool}
 use Rattle.std.proofs.lemmas.Bool.Decides.{nat_tests}
-use Rattle.http2_streams.specs.Diary.{Entry}
+use Rattle.http2_streams.specs.History.{Entry}
 use Rattle.grpc_sending.specs.declared.piece.StoredPiece.{StoredPiece}
 use Rattle.grpc_sending.specs.declared.piece.StoredPiece.TheVariants.{Encoded, Framed, Ranged}
 use Rattle.grpc_sending.specs.declared.queue.StoredQueue.{StoredQueue}
 use Rattle.grpc_sending.specs.Pieces.{Piece, Block, Part, Queue, most_read}
-use Rattle.grpc_sending.specs.Owed.{Owed}
+use Rattle.grpc_sending.specs.Owed.{OwedItem}
 use Rattle.grpc_sending.specs.Spans.{IsSpan, span_pieces}
 use Rattle.grpc_sending.specs.StandsFor.{IsSending}
 use Rattle.grpc_sending.specs.Sources.{count_of, sources_in, sources_held}
-use Rattle.grpc_sending.specs.Kept.{Look, Kept, StandsFor, AreFit, Fit, AgreeOn, shown, queue_in, stored_on}
+use Rattle.grpc_sending.specs.StoredSending.{Look, StoredSending, StandsFor, AreFit, Fit, AgreeOn, pieces_in, queue_in, stored_on}
 use Rattle.grpc_sending.proofs.Sources.{sum_append}
 
 pub count_append : (n : ℕ) (ms ns : List ℕ) → count_of n (ms ++ ns) ≡ count_of n ms + count_of n ns
@@ -31,12 +31,12 @@ agree_first texts others n ns h =
     let one : cond {A = ℕ} (n == n) 1 0 ≡ 1 = ap (λ b. cond b 1 0) same in
     h n (omega (arith, one))
 
-pub same_shown : (texts others : Look) (ps : List StoredPiece) → AgreeOn (sources_in ps) texts others → flat_map (shown texts) ps ≡ flat_map (shown others) ps
+pub same_shown : (texts others : Look) (ps : List StoredPiece) → AgreeOn (sources_in ps) texts others → flat_map (pieces_in texts) ps ≡ flat_map (pieces_in others) ps
 same_shown texts others [] h = refl
 same_shown texts others (Encoded block ∷ ps) h = ap (λ (qs : List Piece). Block block ∷ qs) (same_shown texts others ps h)
 same_shown texts others (Framed bytes ∷ ps) h = ap (λ (qs : List Piece). Part bytes ∷ qs) (same_shown texts others ps h)
 same_shown texts others (Ranged s ∷ ps) h =
-    ap (λ (text : List ℕ). span_pieces most_read s text ++ flat_map (shown texts) ps) (agree_first texts others s.source (sources_in ps) h)
+    ap (λ (text : List ℕ). span_pieces most_read s text ++ flat_map (pieces_in texts) ps) (agree_first texts others s.source (sources_in ps) h)
     ∙ ap (λ (qs : List Piece). span_pieces most_read s (others s.source) ++ qs) (same_shown texts others ps (agree_right texts others (s.source ∷ []) (sources_in ps) h))
 
 same_queues : (texts others : Look) (qs : List StoredQueue) → AgreeOn (sources_held qs) texts others → map (queue_in texts) qs ≡ map (queue_in others) qs
@@ -45,7 +45,7 @@ same_queues texts others (q ∷ qs) h =
     ap (λ (ps : List Piece). record { stream = q.stream; pieces = ps } ∷ map (queue_in texts) qs) (same_shown texts others q.pieces (agree_left texts others (sources_in q.pieces) (sources_held qs) h))
     ∙ ap (λ (rs : List Queue). queue_in others q ∷ rs) (same_queues texts others qs (agree_right texts others (sources_in q.pieces) (sources_held qs) h))
 
-pub stands_agreed : (texts others : Look) (w : Kept) (d : List Entry) (os : List Owed) → AgreeOn (sources_held w.queues) texts others → StandsFor texts w d os → StandsFor others w d os
+pub stands_agreed : (texts others : Look) (w : StoredSending) (d : List Entry) (os : List OwedItem) → AgreeOn (sources_held w.queues) texts others → StandsFor texts w d os → StandsFor others w d os
 stands_agreed texts others w d os h st = subst (λ (qs : List Queue). IsSending (record { pending = w.pending; position = w.position; queues = qs }) d os) (same_queues texts others w.queues h) st
 
 -- ---- ranges within their texts
@@ -63,5 +63,5 @@ agree_on texts others s (q ∷ qs) h = elim (cases_Bool (q.stream == s)) [
   | inr later ↦ rw later (agree_on texts others s qs (agree_right texts others (sources_in q.pieces) (sources_held qs) h))
 ]
 
-pub fit_agreed : (texts others : Look) (w : Kept) → AgreeOn (sources_held w.queues) texts others → Fit texts w.queues → Fit others w.queues
+pub fit_agreed : (texts others : Look) (w : StoredSending) → AgreeOn (sources_held w.queues) texts others → Fit texts w.queues → Fit others w.queues
 fit_agreed texts others w h fit s = fit_pieces texts others (stored_on s w.queues) (agree_on texts others s w.queues h) (fit s)

@@ -9,7 +9,7 @@ use Rattle.byteorder.specs.Endian.{big_bytes}
 use Rattle.http2_frames.specs.declared.frame.Frame.TheVariants.{Data}
 use Rattle.http2_frames.specs.declared.codes.frame_type.TheConstants.{DATA}
 use Rattle.http2_frames.specs.Writing.{header_text, text_of}
-use Rattle.grpc_messages.specs.Writing.{framed}
+use Rattle.grpc_messages.specs.Writing.{framed_message}
 use Rattle.grpc_sending.specs.Pieces.{length_text, read_message}
 use Rattle.grpc_sending.specs.Spans.{Span, span_count, read_size, span_front, read_head, IsSpan}
 use Rattle.grpc_sending.proofs.Spans.{front_length}
@@ -64,7 +64,7 @@ bound n put head rest of_head skipped count size a b c d e f = omega (arith, a, 
 
 -- ---- the head and the text
 
-framed_head : (bytes : List ℕ) → framed (read_message bytes) ≡ read_head (length bytes) ++ bytes
+framed_head : (bytes : List ℕ) → framed_message (read_message bytes) ≡ read_head (length bytes) ++ bytes
 framed_head bytes =
     let size : length (82 ∷ (length_text (length bytes) ++ bytes)) ≡ 1 + (length (length_text (length bytes)) + length bytes) = omega (arith, length-append (length_text (length bytes)) bytes) in
     ap (λ n. (0 ∷ big_bytes 4 n) ++ (82 ∷ (length_text (length bytes) ++ bytes))) size
@@ -87,7 +87,7 @@ head_text m s text is =
 
 sizes : (m n : ℕ) (s : Span) (text head rest : List ℕ) (of_head skipped : ℕ) → IsSpan m s text → n ≤ length (span_front m s text) → Shares m n s head rest of_head skipped → skipped + (n - of_head) ≤ span_count m s
 sizes m n s text head rest of_head skipped is there h =
-    let whole : length (span_front m s text) ≡ read_size (span_count m s) - s.put = length-drop s.put (framed (read_message (take (span_count m s) (drop s.from text)))) ∙ ap (λ k. k - s.put) (front_length m s text is) in
+    let whole : length (span_front m s text) ≡ read_size (span_count m s) - s.put = length-drop s.put (framed_message (read_message (take (span_count m s) (drop s.from text)))) ∙ ap (λ k. k - s.put) (front_length m s text is) in
     let head_long : length head + span_count m s ≡ read_size (span_count m s) = ap (λ (t : List ℕ). length t + span_count m s) h.head_is ∙ head_size (span_count m s) in
     let rest_long : length rest ≡ length head - s.put = ap length h.rest_is ∙ length-drop s.put head in
     let front : n ≤ read_size (span_count m s) - s.put = omega (arith, there, whole) in

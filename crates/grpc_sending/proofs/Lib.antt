@@ -1,5 +1,5 @@
 pub mod Options
-pub mod Diaries
+pub mod Histories
 pub mod Pumps
 pub mod Entries
 pub mod Turns

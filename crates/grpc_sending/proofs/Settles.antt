@@ -6,16 +6,16 @@ use Rattle.std.specs.Option.{option_map_or}
 use Rattle.std.proofs.lemmas.Bool.{cases_Bool, ltb-true}
 use Rattle.std.proofs.lemmas.Bool.Decides.{nat_tests}
 use Rattle.std.proofs.lemmas.Int.{ints}
-use Rattle.http2_flow.specs.Credit.{left}
+use Rattle.http2_flow.specs.Credit.{window_left}
 use Rattle.http2_frames.specs.declared.frame.Frame.{Frame}
 use Rattle.http2_frames.specs.declared.frame.Frame.TheVariants.{Data, Headers, Priority, RstStream, Settings, PushPromise, Ping, GoAway, WindowUpdate, Continuation, Unknown}
-use Rattle.http2_streams.specs.Diary.{Entry, sent, live, window, connection_window, has_failed}
-use Rattle.grpc_messages.specs.Writing.{framed}
-use Rattle.grpc_sending.specs.Pieces.{Piece, most_read, read_message, cut, read_pieces}
+use Rattle.http2_streams.specs.History.{Entry, sent_frames, live_streams, window, connection_window, has_failed}
+use Rattle.grpc_messages.specs.Writing.{framed_message}
+use Rattle.grpc_sending.specs.Pieces.{Piece, most_read, read_message, message_pieces, read_pieces}
 use Rattle.grpc_sending.specs.Pieces.{Block, Part}
-use Rattle.grpc_sending.specs.Bytes.{untaken, taken, bytes_put}
-use Rattle.grpc_sending.specs.Owed.{Owed, Item, Headed, Message, Range, owed_on, pieces_of, without_front, put_by, left_by, left_on}
-use Rattle.grpc_sending.specs.Pump.{natural, part_size, block_frames, frames_on, frames_for, first_of, next, pumped}
+use Rattle.grpc_sending.specs.Bytes.{untaken_count, count_taken, bytes_put}
+use Rattle.grpc_sending.specs.Owed.{OwedItem, Item, Headed, Message, Range, items_owed_on, pieces_of, without_front, pieces_after_frame, pieces_after_frames, pieces_left_on}
+use Rattle.grpc_sending.specs.Pump.{natural_part, part_size, block_frames, frames_on, frames_for, first_of, next_frames, history_after_pump}
 use Rattle.grpc_sending.specs.Settled.{Waits, WaitsOn, IsSettled}
 use Rattle.grpc_sending.proofs.Pumps.{ended}
 
@@ -28,11 +28,11 @@ HasBytes (Part bytes) = 0 < length bytes
 abbrev AreFilled : List Piece → Type 0
 AreFilled ps = AllByRecursion HasBytes ps
 
-filled_cut : (n k : ℕ) (bytes : List ℕ) → AreFilled (cut n k bytes)
+filled_cut : (n k : ℕ) (bytes : List ℕ) → AreFilled (message_pieces n k bytes)
 filled_cut n zero bytes = tt
 filled_cut n (suc k) bytes = elim (cases_Bool (nat_lt n (length bytes))) [
-  | inl more ↦ let some : 0 < length (framed (read_message (take n bytes))) = simp length-append (omega arith) in rw more (some, filled_cut n k (drop n bytes))
-  | inr last ↦ let some : 0 < length (framed (read_message bytes)) = simp length-append (omega arith) in rw last (some, tt)
+  | inl more ↦ let some : 0 < length (framed_message (read_message (take n bytes))) = simp length-append (omega arith) in rw more (some, filled_cut n k (drop n bytes))
+  | inr last ↦ let some : 0 < length (framed_message (read_message bytes)) = simp length-append (omega arith) in rw last (some, tt)
 ]
 
 filled_more : (ps qs : List Piece) → AreFilled ps → AreFilled qs → AreFilled (ps ++ qs)
@@ -61,7 +61,7 @@ filled_if : (b : Bool) (ps qs : List Piece) → AreFilled ps → AreFilled qs �
 filled_if true ps qs h k = h
 filled_if false ps qs h k = k
 
-filled_by : (s : ℕ) (ps : List Piece) (f : Frame) → AreFilled ps → AreFilled (put_by s ps f)
+filled_by : (s : ℕ) (ps : List Piece) (f : Frame) → AreFilled ps → AreFilled (pieces_after_frame s ps f)
 filled_by s ps (Data t e bytes) h = filled_if (t == s) (without_front (length bytes) ps) ps (filled_front (length bytes) ps h) h
 filled_by s ps (Headers t e eh b) h = filled_if (t == s) (drop 1 ps) ps (filled_first ps h) h
 filled_by s ps (Priority t p) h = h
@@ -74,9 +74,9 @@ filled_by s ps (WindowUpdate t n) h = h
 filled_by s ps (Continuation t eh b) h = h
 filled_by s ps (Unknown k f t p) h = h
 
-filled_left : (fs : List Frame) (s : ℕ) (ps : List Piece) → AreFilled ps → AreFilled (left_by fs s ps)
+filled_left : (fs : List Frame) (s : ℕ) (ps : List Piece) → AreFilled ps → AreFilled (pieces_after_frames fs s ps)
 filled_left [] s ps h = h
-filled_left (f ∷ fs) s ps h = filled_left fs s (put_by s ps f) (filled_by s ps f h)
+filled_left (f ∷ fs) s ps h = filled_left fs s (pieces_after_frame s ps f) (filled_by s ps f h)
 
 -- ---- a stream that puts nothing waits
 
@@ -86,7 +86,7 @@ none_of n fs h = elim (cases_Bool (n == 0)) [
   | inr some ↦ let k : Some fs ≡ None = ap (λ b. cond b None (Some fs)) (sym some) ∙ h in cc
 ]
 
-not_above : (z : ℤ) → natural z ≡ 0 → z ≤ℤ pos 0
+not_above : (z : ℤ) → natural_part z ≡ 0 → z ≤ℤ pos 0
 not_above (pos n) h = grind (arith, ints)
 not_above (negsuc n) h = grind (arith, ints)
 
@@ -100,33 +100,33 @@ waits : (d : List Entry) (s : ℕ) (ps : List Piece) → AreFilled ps → frames
 waits d s [] h none = tt
 waits d s (Block block ∷ ps) h none = let k : Some (block_frames d s block) ≡ None = none in let z : ⊥ = cc in z
 waits d s (Part bytes ∷ ps) h none =
-    let a : ℤ = left (window d s) in
-    let b : ℤ = left (connection_window d) in
-    let n = none_of (part_size (length bytes) (left (window d s)) (left (connection_window d))) _ none in
-    elim (smaller_is (length bytes) (natural (left (window d s))) (natural (left (connection_window d))) h.0 n) [
-      | inl e ↦ inl (not_above (left (window d s)) e)
-      | inr e ↦ inr (not_above (left (connection_window d)) e)
+    let a : ℤ = window_left (window d s) in
+    let b : ℤ = window_left (connection_window d) in
+    let n = none_of (part_size (length bytes) (window_left (window d s)) (window_left (connection_window d))) _ none in
+    elim (smaller_is (length bytes) (natural_part (window_left (window d s))) (natural_part (window_left (connection_window d))) h.0 n) [
+      | inl e ↦ inl (not_above (window_left (window d s)) e)
+      | inr e ↦ inr (not_above (window_left (connection_window d)) e)
     ]
 
-all_wait : (d : List Entry) (os : List Owed) (ss : List ℕ) → first_of (frames_for d os) ss ≡ None → AllByRecursion (WaitsOn d os) ss
+all_wait : (d : List Entry) (os : List OwedItem) (ss : List ℕ) → first_of (frames_for d os) ss ≡ None → AllByRecursion (WaitsOn d os) ss
 all_wait d os [] h = tt
 all_wait d os (s ∷ ss) h =
     let at : (o : Option (List Frame)) → frames_for d os s ≡ o → option_map_or Some o (first_of (frames_for d os) ss) ≡ None → AllByRecursion (WaitsOn d os) (s ∷ ss) = elim [
-      | None ↦ λ is e. (waits d s (left_on d os s) (filled_left (sent d) s (flat_map pieces_of (owed_on s os)) (filled_items (owed_on s os))) is, all_wait d os ss e)
+      | None ↦ λ is e. (waits d s (pieces_left_on d os s) (filled_left (sent_frames d) s (flat_map pieces_of (items_owed_on s os)) (filled_items (items_owed_on s os))) is, all_wait d os ss e)
       | Some fs ↦ λ is e. let z : ⊥ = cc in absurd z
     ] in
     at (frames_for d os s) refl h
 
-pub settled : (d : List Entry) (os : List Owed) → next d os ≡ None → IsSettled d os
+pub settled : (d : List Entry) (os : List OwedItem) → next_frames d os ≡ None → IsSettled d os
 settled d os h = elim (cases_Bool (has_failed d)) [
   | inl failed ↦ inl failed
-  | inr alive ↦ elim (cases_Bool (nat_le 65536 (untaken d))) [
+  | inr alive ↦ elim (cases_Bool (nat_le 65536 (untaken_count d))) [
     | inl full ↦ inr (inl (grind (arith, nat_tests)))
     | inr few ↦
-        let e : next d os ≡ first_of (frames_for d os) (live d) = rw (alive, few) refl in
-        inr (inr (all_wait d os (live d) (sym e ∙ h)))
+        let e : next_frames d os ≡ first_of (frames_for d os) (live_streams d) = rw (alive, few) refl in
+        inr (inr (all_wait d os (live_streams d) (sym e ∙ h)))
   ]
 ]
 
-pub pump_settles : (d : List Entry) (os : List Owed) → taken d ≤ length (bytes_put d) → IsSettled (pumped d os) os
-pump_settles d os within = settled (pumped d os) os (ended d os within)
+pub pump_settles : (d : List Entry) (os : List OwedItem) → count_taken d ≤ length (bytes_put d) → IsSettled (history_after_pump d os) os
+pump_settles d os within = settled (history_after_pump d os) os (ended d os within)

@@ -6,15 +6,15 @@ use Rattle.std.proofs.lemmas.Bool.{cases_Bool, ltb-true, ltb-false}
 use Rattle.std.proofs.lemmas.Bool.Decides.{nat_tests}
 use Rattle.std.proofs.lemmas.Grind.{common_steps}
 use Rattle.std.proofs.lemmas.List.{take-take, drop-take, take_all, drop_all, length-take-le}
-use Rattle.grpc_messages.specs.Writing.{framed}
-use Rattle.grpc_sending.specs.Pieces.{Piece, Part, most_read, length_text, read_message, read_piece, cut}
+use Rattle.grpc_messages.specs.Writing.{framed_message}
+use Rattle.grpc_sending.specs.Pieces.{Piece, Part, most_read, length_text, read_message, read_piece, message_pieces}
 use Rattle.grpc_sending.specs.Owed.{without_front}
 use Rattle.grpc_sending.specs.Spans.{Span, span_count, read_size, span_size, span_text, span_pieces, span_front, span_after, IsSpan}
-use Rattle.grpc_sending.proofs.Diaries.{append-nil}
+use Rattle.grpc_sending.proofs.Histories.{append-nil}
 
 -- ---- cutting
 
-cut_same : (m j k : ℕ) (bytes : List ℕ) → 0 < m → 0 < length bytes → length bytes ≤ j → length bytes ≤ k → cut m j bytes ≡ cut m k bytes
+cut_same : (m j k : ℕ) (bytes : List ℕ) → 0 < m → 0 < length bytes → length bytes ≤ j → length bytes ≤ k → message_pieces m j bytes ≡ message_pieces m k bytes
 cut_same m zero k bytes pos some h i = absurd (omega (arith, some, h))
 cut_same m (suc j) zero bytes pos some h i = absurd (omega (arith, some, i))
 cut_same m (suc j) (suc k) bytes pos some h i = elim (cases_Bool (nat_lt m (length bytes))) [
@@ -26,7 +26,7 @@ cut_same m (suc j) (suc k) bytes pos some h i = elim (cases_Bool (nat_lt m (leng
 ]
 
 -- the first message, and the others
-pub cut_first : (m : ℕ) (bytes : List ℕ) → 0 < m → 0 < length bytes → cut m (length bytes) bytes ≡ read_piece (take m bytes) ∷ cut m (length (drop m bytes)) (drop m bytes)
+pub cut_first : (m : ℕ) (bytes : List ℕ) → 0 < m → 0 < length bytes → message_pieces m (length bytes) bytes ≡ read_piece (take m bytes) ∷ message_pieces m (length (drop m bytes)) (drop m bytes)
 cut_first m [] pos some = absurd (omega (arith, some))
 cut_first m (x ∷ xs) pos some = elim (cases_Bool (nat_lt m (length (x ∷ xs)))) [
   | inl more ↦
@@ -34,15 +34,15 @@ cut_first m (x ∷ xs) pos some = elim (cases_Bool (nat_lt m (length (x ∷ xs))
       let left : length (drop m (x ∷ xs)) ≡ length (x ∷ xs) - m = length-drop m (x ∷ xs) in
       let size : length (x ∷ xs) ≡ suc (length xs) = refl in
       let same : length (drop m (x ∷ xs)) ≤ length (drop m (x ∷ xs)) = omega arith in
-      ap (λ b. cond b (read_piece (take m (x ∷ xs)) ∷ cut m (length xs) (drop m (x ∷ xs))) (read_piece (x ∷ xs) ∷ [])) more
+      ap (λ b. cond b (read_piece (take m (x ∷ xs)) ∷ message_pieces m (length xs) (drop m (x ∷ xs))) (read_piece (x ∷ xs) ∷ [])) more
       ∙ ap (λ (ps : List Piece). read_piece (take m (x ∷ xs)) ∷ ps) (cut_same m (length xs) (length (drop m (x ∷ xs))) (drop m (x ∷ xs)) pos (omega (arith, left, less)) (omega (arith, left, pos, size, less)) same)
   | inr last ↦
       let few : length (x ∷ xs) ≤ m = let f = ltb-false m (length (x ∷ xs)) last in omega (arith, f) in
       let all : take m (x ∷ xs) ≡ x ∷ xs = take_all m (x ∷ xs) few in
       let none : drop m (x ∷ xs) ≡ [] = drop_all m (x ∷ xs) few in
-      ap (λ b. cond b (read_piece (take m (x ∷ xs)) ∷ cut m (length xs) (drop m (x ∷ xs))) (read_piece (x ∷ xs) ∷ [])) last
+      ap (λ b. cond b (read_piece (take m (x ∷ xs)) ∷ message_pieces m (length xs) (drop m (x ∷ xs))) (read_piece (x ∷ xs) ∷ [])) last
       ∙ ap (λ (bs : List ℕ). read_piece bs ∷ []) (sym all)
-      ∙ ap (λ (bs : List ℕ). read_piece (take m (x ∷ xs)) ∷ cut m (length bs) bs) (sym none)
+      ∙ ap (λ (bs : List ℕ). read_piece (take m (x ∷ xs)) ∷ message_pieces m (length bs) bs) (sym none)
 ]
 
 -- ---- sizes
@@ -53,7 +53,7 @@ length_text_three n = elim (cases_Bool (nat_lt n 128)) [
   | inr b ↦ elim (cases_Bool (nat_lt n 16384)) [ inl c ↦ rw (b, c) (omega arith) | inr e ↦ rw (b, e) (omega arith) ]
 ]
 
-pub framed_size : (bytes : List ℕ) → length (framed (read_message bytes)) ≡ read_size (length bytes)
+pub framed_size : (bytes : List ℕ) → length (framed_message (read_message bytes)) ≡ read_size (length bytes)
 framed_size bytes = simp length-append (omega arith)
 
 drop-drop : (n m : ℕ) (xs : List ℕ) → drop m (drop n xs) ≡ drop (n + m) xs
@@ -76,7 +76,7 @@ front_text m s text there = elim (cases_Bool (nat_lt m (s.until - s.from))) [
       take_all m (span_text s text) (omega (arith, f, span_length s text there)) ∙ ap (λ k. take k (drop s.from text)) (sym c)
 ]
 
-pub front_length : (m : ℕ) (s : Span) (text : List ℕ) → IsSpan m s text → length (framed (read_message (take (span_count m s) (drop s.from text)))) ≡ read_size (span_count m s)
+pub front_length : (m : ℕ) (s : Span) (text : List ℕ) → IsSpan m s text → length (framed_message (read_message (take (span_count m s) (drop s.from text)))) ≡ read_size (span_count m s)
 front_length m s text is =
     let size : length (take (span_count m s) (drop s.from text)) ≡ span_count m s = length-take-le (span_count m s) (drop s.from text) (omega (arith, is.there, length-drop s.from text)) in
     framed_size (take (span_count m s) (drop s.from text)) ∙ ap read_size size
@@ -85,19 +85,19 @@ without : (n : ℕ) (bytes : List ℕ) (ps : List Piece) → n < length bytes �
 without n bytes ps less = let b : nat_lt n (length bytes) ≡ true = grind (arith, nat_tests) in rw b refl
 
 abbrev pub span_rest : ℕ → Span → List ℕ → List Piece
-span_rest m s text = cut m (length (drop m (span_text s text))) (drop m (span_text s text))
+span_rest m s text = message_pieces m (length (drop m (span_text s text))) (drop m (span_text s text))
 
 -- a span begins with its front
 pub span_is : (m : ℕ) (s : Span) (text : List ℕ) → 0 < m → IsSpan m s text → span_pieces m s text ≡ Part (span_front m s text) ∷ span_rest m s text
 span_is m s text pos is =
     let some : 0 < length (span_text s text) = omega (arith, span_length s text is.there, is.some) in
-    let less : s.put < length (framed (read_message (take (span_count m s) (drop s.from text)))) = omega (arith, is.put, front_length m s text is) in
+    let less : s.put < length (framed_message (read_message (take (span_count m s) (drop s.from text)))) = omega (arith, is.put, front_length m s text is) in
     ap (without_front s.put) (cut_first m (span_text s text) pos some)
     ∙ ap (λ (bs : List ℕ). without_front s.put (read_piece bs ∷ span_rest m s text)) (front_text m s text is.there)
-    ∙ without s.put (framed (read_message (take (span_count m s) (drop s.from text)))) (span_rest m s text) less
+    ∙ without s.put (framed_message (read_message (take (span_count m s) (drop s.from text)))) (span_rest m s text) less
 
 pub span_front_size : (m : ℕ) (s : Span) (text : List ℕ) → IsSpan m s text → length (span_front m s text) ≡ span_size m s
-span_front_size m s text is = length-drop s.put (framed (read_message (take (span_count m s) (drop s.from text)))) ∙ ap (λ k. k - s.put) (front_length m s text is)
+span_front_size m s text is = length-drop s.put (framed_message (read_message (take (span_count m s) (drop s.from text)))) ∙ ap (λ k. k - s.put) (front_length m s text is)
 
 -- part of the first message was put
 pub span_less : (m n : ℕ) (s : Span) (text : List ℕ) → IsSpan m s text → n < span_size m s → IsSpan m (record s { put = s.put + n }) text
@@ -114,11 +114,11 @@ rest_next m s text more =
     ∙ drop-take m (s.until - (s.from + m)) (drop s.from text)
     ∙ ap (take (s.until - (s.from + m))) (drop-drop s.from m text)
 
-pub without_none : (m k : ℕ) (bytes : List ℕ) → without_front 0 (cut m k bytes) ≡ cut m k bytes
+pub without_none : (m k : ℕ) (bytes : List ℕ) → without_front 0 (message_pieces m k bytes) ≡ message_pieces m k bytes
 without_none m zero bytes = refl
 without_none m (suc k) bytes = elim (cases_Bool (nat_lt m (length bytes))) [
-  | inl more ↦ let some : 0 < length (framed (read_message (take m bytes))) = simp length-append (omega arith) in rw more (without 0 (framed (read_message (take m bytes))) (cut m k (drop m bytes)) some)
-  | inr last ↦ let some : 0 < length (framed (read_message bytes)) = simp length-append (omega arith) in rw last (without 0 (framed (read_message bytes)) [] some)
+  | inl more ↦ let some : 0 < length (framed_message (read_message (take m bytes))) = simp length-append (omega arith) in rw more (without 0 (framed_message (read_message (take m bytes))) (message_pieces m k (drop m bytes)) some)
+  | inr last ↦ let some : 0 < length (framed_message (read_message bytes)) = simp length-append (omega arith) in rw last (without 0 (framed_message (read_message bytes)) [] some)
 ]
 
 -- what is left when n bytes were put is what the definition leaves
@@ -131,7 +131,7 @@ span_put m n s text ps pos is few =
           let less : n < span_size m s = ltb-true n (span_size m s) part in
           let t : Span = record s { put = s.put + n } in
           let one : span_pieces m (record s { put = s.put + n }) text ≡ Part (span_front m (record s { put = s.put + n }) text) ∷ span_rest m s text = span_is m (record s { put = s.put + n }) text pos (span_less m n s text is less) in
-          let front : span_front m (record s { put = s.put + n }) text ≡ drop n (span_front m s text) = sym (drop-drop s.put n (framed (read_message (take (span_count m s) (drop s.from text))))) in
+          let front : span_front m (record s { put = s.put + n }) text ≡ drop n (span_front m s text) = sym (drop-drop s.put n (framed_message (read_message (take (span_count m s) (drop s.from text))))) in
           let small : n < length (span_front m s text) = omega (arith, less, span_front_size m s text is) in
           rw part (ap (λ (qs : List Piece). qs ++ ps) (append-nil (span_pieces m (record s { put = s.put + n }) text) ∙ one ∙ ap (λ (bs : List ℕ). Part bs ∷ span_rest m s text) front) ∙ sym (without n (span_front m s text) (span_rest m s text ++ ps) small) ∙ sym now)
       | inr whole ↦
@@ -143,12 +143,12 @@ span_put m n s text ps pos is few =
                 let less : m < s.until - s.from = ltb-true m (s.until - s.from) more in
                 let next : span_pieces m (record s { from = s.from + m; put = 0 }) text ≡ span_rest m s text =
                 without_none m (length (span_text (record s { from = s.from + m; put = 0 }) text)) (span_text (record s { from = s.from + m; put = 0 }) text)
-                ∙ ap (λ (bs : List ℕ). cut m (length bs) bs) (sym (rest_next m s text less)) in
+                ∙ ap (λ (bs : List ℕ). message_pieces m (length bs) bs) (sym (rest_next m s text less)) in
                 rw (whole, more) (ap (λ (qs : List Piece). qs ++ ps) (append-nil (span_pieces m (record s { from = s.from + m; put = 0 }) text) ∙ next) ∙ sym later ∙ sym now)
             | inr last ↦
                 let g = ltb-false m (s.until - s.from) last in
                 let none : drop m (span_text s text) ≡ [] = drop_all m (span_text s text) (omega (arith, g, span_length s text is.there)) in
-                let gone : span_rest m s text ≡ [] = ap (λ (bs : List ℕ). cut m (length bs) bs) none in
+                let gone : span_rest m s text ≡ [] = ap (λ (bs : List ℕ). message_pieces m (length bs) bs) none in
                 rw (whole, last) (ap (λ (qs : List Piece). qs ++ ps) (sym gone) ∙ sym later ∙ sym now)
           ]
     ]

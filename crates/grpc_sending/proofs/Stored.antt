@@ -6,7 +6,7 @@ use Rattle.std.specs.Option.{option_map_or, option_map}
 use Rattle.std.proofs.lemmas.Bool.{cases_Bool, ltb-true}
 use Rattle.std.proofs.lemmas.Bool.Decides.{nat_tests}
 use Rattle.std.proofs.lemmas.Grind.{flat_map-append}
-use Rattle.http2_flow.specs.Credit.{left}
+use Rattle.http2_flow.specs.Credit.{window_left}
 use Rattle.http2_streams.specs.declared.stream.Stream.{Stream}
 use Rattle.grpc_calls.specs.declared.response.ResponseBlock.{ResponseBlock}
 use Rattle.grpc_sending.specs.declared.piece.StoredPiece.{StoredPiece}
@@ -19,12 +19,12 @@ use Rattle.grpc_sending.specs.Owed.{without_front}
 use Rattle.grpc_sending.specs.Pump.{part_size}
 use Rattle.grpc_sending.specs.StandsFor.{pieces_on}
 use Rattle.grpc_sending.specs.Step.{content_turn, turn_of, turn_on, next_turn, without_first_at, without_front_at}
-use Rattle.grpc_sending.specs.Kept.{Look, IsFit, AreFit, Fit, shown, queue_in, stored_on, stored_front, stored_first_at, stored_front_at, front_bytes, count_due, due_of, due_on, next_due}
+use Rattle.grpc_sending.specs.StoredSending.{Look, IsFit, AreFit, Fit, pieces_in, queue_in, stored_on, stored_front, stored_first_at, stored_front_at, front_bytes, count_due, due_of, due_on, next_due}
 use Rattle.grpc_sending.specs.Spans.{Span, span_pieces, span_front, span_size, span_after, IsSpan}
 use Rattle.grpc_sending.proofs.Spans.{span_is, span_rest, span_front_size, span_put, span_less, span_next}
 use Rattle.grpc_sending.proofs.Queues.{same_test, other_test, changed_on}
 
-pub on_in : (texts : Look) (s : ℕ) (qs : List StoredQueue) → pieces_on s (map (queue_in texts) qs) ≡ flat_map (shown texts) (stored_on s qs)
+pub on_in : (texts : Look) (s : ℕ) (qs : List StoredQueue) → pieces_on s (map (queue_in texts) qs) ≡ flat_map (pieces_in texts) (stored_on s qs)
 on_in texts s [] = refl
 on_in texts s (q ∷ qs) = elim (cases_Bool (q.stream == s)) [
   | inl here ↦ rw here refl
@@ -63,21 +63,21 @@ stored_changed g s t (q ∷ qs) h = elim (cases_Bool (q.stream == t)) [
 
 -- a change of what is kept on one stream is the change of its pieces
 pub record Changes (texts : Look) (g : List StoredPiece → List StoredPiece) (f : List Piece → List Piece) (ps : List StoredPiece) : Type 0 where
-  pub same : flat_map (shown texts) (g ps) ≡ f (flat_map (shown texts) ps)
+  pub same : flat_map (pieces_in texts) (g ps) ≡ f (flat_map (pieces_in texts) ps)
 
 changed_in : (texts : Look) (g : List StoredPiece → List StoredPiece) (f : List Piece → List Piece) (s : ℕ) (qs : List StoredQueue) → g [] ≡ [] → f [] ≡ [] → Changes texts g f (stored_on s qs) →
     (t : ℕ) → pieces_on t (map (queue_in texts) (map (stored_at g s) qs)) ≡ pieces_on t (map (λ (q : Queue). cond (q.stream == s) (record q { pieces = f q.pieces }) q) (map (queue_in texts) qs))
 changed_in texts g f s qs h k c t =
-    let before : pieces_on t (map (queue_in texts) (map (stored_at g s) qs)) ≡ flat_map (shown texts) (cond (s == t) (g (stored_on t qs)) (stored_on t qs)) = on_in texts t (map (stored_at g s) qs) ∙ ap (flat_map (shown texts)) (stored_changed g s t qs h) in
-    let after : cond (s == t) (f (flat_map (shown texts) (stored_on t qs))) (flat_map (shown texts) (stored_on t qs)) ≡ pieces_on t (map (λ (q : Queue). cond (q.stream == s) (record q { pieces = f q.pieces }) q) (map (queue_in texts) qs)) =
+    let before : pieces_on t (map (queue_in texts) (map (stored_at g s) qs)) ≡ flat_map (pieces_in texts) (cond (s == t) (g (stored_on t qs)) (stored_on t qs)) = on_in texts t (map (stored_at g s) qs) ∙ ap (flat_map (pieces_in texts)) (stored_changed g s t qs h) in
+    let after : cond (s == t) (f (flat_map (pieces_in texts) (stored_on t qs))) (flat_map (pieces_in texts) (stored_on t qs)) ≡ pieces_on t (map (λ (q : Queue). cond (q.stream == s) (record q { pieces = f q.pieces }) q) (map (queue_in texts) qs)) =
     ap (λ (ps : List Piece). cond (s == t) (f ps) ps) (sym (on_in texts t qs)) ∙ sym (changed_on f s t (map (queue_in texts) qs) k) in
     elim (cases_Bool (s == t)) [
       | inl same ↦
           let e : s ≡ t = grind (arith, nat_tests) in
-          let c' : flat_map (shown texts) (g (stored_on t qs)) ≡ f (flat_map (shown texts) (stored_on t qs)) = ap (λ n. flat_map (shown texts) (g (stored_on n qs))) (sym e) ∙ c.same ∙ ap (λ n. f (flat_map (shown texts) (stored_on n qs))) e in
-          before ∙ ap (λ b. flat_map (shown texts) (cond b (g (stored_on t qs)) (stored_on t qs))) same ∙ c' ∙ ap (λ b. cond b (f (flat_map (shown texts) (stored_on t qs))) (flat_map (shown texts) (stored_on t qs))) (sym same) ∙ after
+          let c' : flat_map (pieces_in texts) (g (stored_on t qs)) ≡ f (flat_map (pieces_in texts) (stored_on t qs)) = ap (λ n. flat_map (pieces_in texts) (g (stored_on n qs))) (sym e) ∙ c.same ∙ ap (λ n. f (flat_map (pieces_in texts) (stored_on n qs))) e in
+          before ∙ ap (λ b. flat_map (pieces_in texts) (cond b (g (stored_on t qs)) (stored_on t qs))) same ∙ c' ∙ ap (λ b. cond b (f (flat_map (pieces_in texts) (stored_on t qs))) (flat_map (pieces_in texts) (stored_on t qs))) (sym same) ∙ after
       | inr other ↦
-          before ∙ ap (λ b. flat_map (shown texts) (cond b (g (stored_on t qs)) (stored_on t qs))) other ∙ ap (λ b. cond b (f (flat_map (shown texts) (stored_on t qs))) (flat_map (shown texts) (stored_on t qs))) (sym other) ∙ after
+          before ∙ ap (λ b. flat_map (pieces_in texts) (cond b (g (stored_on t qs)) (stored_on t qs))) other ∙ ap (λ b. cond b (f (flat_map (pieces_in texts) (stored_on t qs))) (flat_map (pieces_in texts) (stored_on t qs))) (sym other) ∙ after
     ]
 
 -- ---- turns
@@ -93,18 +93,18 @@ count_is s n bytes h = elim (cases_Bool (n == 0)) [
 ]
 
 -- a range in front
-range_front : (texts : Look) (s : Span) (ps : List StoredPiece) → IsSpan most_read s (texts s.source) → flat_map (shown texts) (Ranged s ∷ ps) ≡ Part (span_front most_read s (texts s.source)) ∷ (span_rest most_read s (texts s.source) ++ flat_map (shown texts) ps)
-range_front texts s ps h = ap (λ (qs : List Piece). qs ++ flat_map (shown texts) ps) (span_is most_read s (texts s.source) (omega arith) h)
+range_front : (texts : Look) (s : Span) (ps : List StoredPiece) → IsSpan most_read s (texts s.source) → flat_map (pieces_in texts) (Ranged s ∷ ps) ≡ Part (span_front most_read s (texts s.source)) ∷ (span_rest most_read s (texts s.source) ++ flat_map (pieces_in texts) ps)
+range_front texts s ps h = ap (λ (qs : List Piece). qs ++ flat_map (pieces_in texts) ps) (span_is most_read s (texts s.source) (omega arith) h)
 
-due_is_of : (texts : Look) (cw : ℤ) (x : Stream) (ps : List StoredPiece) → AreFit texts ps → due_of cw x ps ≡ option_map counted (turn_of cw x (flat_map (shown texts) ps))
+due_is_of : (texts : Look) (cw : ℤ) (x : Stream) (ps : List StoredPiece) → AreFit texts ps → due_of cw x ps ≡ option_map counted (turn_of cw x (flat_map (pieces_in texts) ps))
 due_is_of texts cw x [] h = refl
 due_is_of texts cw x (Encoded block ∷ ps) h = refl
-due_is_of texts cw x (Framed bytes ∷ ps) h = count_is x.number (part_size (length bytes) (left x.window) cw) bytes (omega arith)
+due_is_of texts cw x (Framed bytes ∷ ps) h = count_is x.number (part_size (length bytes) (window_left x.window) cw) bytes (omega arith)
 due_is_of texts cw x (Ranged s ∷ ps) h =
     let bytes : List ℕ = span_front most_read s (texts s.source) in
     let size : length (span_front most_read s (texts s.source)) ≡ span_size most_read s = span_front_size most_read s (texts s.source) h.0 in
-    ap (λ k. count_due x.number (part_size k (left x.window) cw)) (sym size)
-    ∙ count_is x.number (part_size (length (span_front most_read s (texts s.source))) (left x.window) cw) (span_front most_read s (texts s.source)) (omega arith)
+    ap (λ k. count_due x.number (part_size k (window_left x.window) cw)) (sym size)
+    ∙ count_is x.number (part_size (length (span_front most_read s (texts s.source))) (window_left x.window) cw) (span_front most_read s (texts s.source)) (omega arith)
     ∙ ap (λ (qs : List Piece). option_map counted (turn_of cw x qs)) (sym (range_front texts s ps h.0))
 
 due_is_on : (texts : Look) (qs : List StoredQueue) (cw : ℤ) (x : Stream) → Fit texts qs → due_on qs cw x ≡ option_map counted (turn_on (map (queue_in texts) qs) cw x)
@@ -159,23 +159,23 @@ turn_content texts qs cw xs s n fit h = content_counted (next_turn (map (queue_i
 
 -- ---- changes
 
-block_front : (texts : Look) (block : ResponseBlock) (rest : List Piece) (ps : List StoredPiece) → AreFit texts ps → flat_map (shown texts) ps ≡ Block block ∷ rest → Changes texts (drop 1) (drop 1) ps
+block_front : (texts : Look) (block : ResponseBlock) (rest : List Piece) (ps : List StoredPiece) → AreFit texts ps → flat_map (pieces_in texts) ps ≡ Block block ∷ rest → Changes texts (drop 1) (drop 1) ps
 block_front texts block rest [] fit h = record { same = refl }
 block_front texts block rest (Encoded b ∷ ps) fit h = record { same = refl }
 block_front texts block rest (Framed bytes ∷ ps) fit h = record { same = refl }
-block_front texts block rest (Ranged s ∷ ps) fit h = let k : Part (span_front most_read s (texts s.source)) ∷ (span_rest most_read s (texts s.source) ++ flat_map (shown texts) ps) ≡ Block block ∷ rest = sym (range_front texts s ps fit.0) ∙ h in cc
+block_front texts block rest (Ranged s ∷ ps) fit h = let k : Part (span_front most_read s (texts s.source)) ∷ (span_rest most_read s (texts s.source) ++ flat_map (pieces_in texts) ps) ≡ Block block ∷ rest = sym (range_front texts s ps fit.0) ∙ h in cc
 
 pub block_removed : (texts : Look) (s : ℕ) (qs : List StoredQueue) (block : ResponseBlock) (rest : List Piece) → Fit texts qs → pieces_on s (map (queue_in texts) qs) ≡ Block block ∷ rest →
     (t : ℕ) → pieces_on t (map (queue_in texts) (map (stored_first_at s) qs)) ≡ pieces_on t (map (without_first_at s) (map (queue_in texts) qs))
 block_removed texts s qs block rest fit is = changed_in texts (drop 1) (drop 1) s qs refl refl (block_front texts block rest (stored_on s qs) (fit s) (sym (on_in texts s qs) ∙ is))
 
-after_shown : (texts : Look) (n : ℕ) (s : Span) → flat_map (shown texts) (map Ranged (span_after most_read n s)) ≡ flat_map (λ (u : Span). span_pieces most_read u (texts s.source)) (span_after most_read n s)
+after_shown : (texts : Look) (n : ℕ) (s : Span) → flat_map (pieces_in texts) (map Ranged (span_after most_read n s)) ≡ flat_map (λ (u : Span). span_pieces most_read u (texts s.source)) (span_after most_read n s)
 after_shown texts n s = elim (cases_Bool (nat_lt n (span_size most_read s))) [
   | inl part ↦ rw part refl
   | inr whole ↦ elim (cases_Bool (nat_lt most_read (s.until - s.from))) [ inl more ↦ rw (whole, more) refl | inr last ↦ rw (whole, last) refl ]
 ]
 
-part_front : (texts : Look) (n : ℕ) (bytes : List ℕ) (rest : List Piece) (ps : List StoredPiece) → AreFit texts ps → flat_map (shown texts) ps ≡ Part bytes ∷ rest → n ≤ length bytes → Changes texts (stored_front n) (without_front n) ps
+part_front : (texts : Look) (n : ℕ) (bytes : List ℕ) (rest : List Piece) (ps : List StoredPiece) → AreFit texts ps → flat_map (pieces_in texts) ps ≡ Part bytes ∷ rest → n ≤ length bytes → Changes texts (stored_front n) (without_front n) ps
 part_front texts n bytes rest [] fit h k = record { same = refl }
 part_front texts n bytes rest (Encoded b ∷ ps) fit h k = record { same = refl }
 part_front texts n bytes rest (Framed bs ∷ ps) fit h k = elim (cases_Bool (nat_lt n (length bs))) [
@@ -183,20 +183,20 @@ part_front texts n bytes rest (Framed bs ∷ ps) fit h k = elim (cases_Bool (nat
   | inr all ↦ record { same = rw all refl }
 ]
 part_front texts n bytes rest (Ranged s ∷ ps) fit h k =
-    let e : Part (span_front most_read s (texts s.source)) ∷ (span_rest most_read s (texts s.source) ++ flat_map (shown texts) ps) ≡ Part bytes ∷ rest = sym (range_front texts s ps fit.0) ∙ h in
+    let e : Part (span_front most_read s (texts s.source)) ∷ (span_rest most_read s (texts s.source) ++ flat_map (pieces_in texts) ps) ≡ Part bytes ∷ rest = sym (range_front texts s ps fit.0) ∙ h in
     let b : span_front most_read s (texts s.source) ≡ bytes = cc in
     let few : n ≤ span_size most_read s = omega (arith, k, ap length b, span_front_size most_read s (texts s.source) fit.0) in
-    record { same = flat_map-append (shown texts) (map Ranged (span_after most_read n s)) ps ∙ ap (λ (qs : List Piece). qs ++ flat_map (shown texts) ps) (after_shown texts n s) ∙ span_put most_read n s (texts s.source) (flat_map (shown texts) ps) (omega arith) fit.0 few }
+    record { same = flat_map-append (pieces_in texts) (map Ranged (span_after most_read n s)) ps ∙ ap (λ (qs : List Piece). qs ++ flat_map (pieces_in texts) ps) (after_shown texts n s) ∙ span_put most_read n s (texts s.source) (flat_map (pieces_in texts) ps) (omega arith) fit.0 few }
 
 pub part_removed : (texts : Look) (s n : ℕ) (qs : List StoredQueue) (bytes : List ℕ) (rest : List Piece) → Fit texts qs → pieces_on s (map (queue_in texts) qs) ≡ Part bytes ∷ rest → n ≤ length bytes →
     (t : ℕ) → pieces_on t (map (queue_in texts) (map (stored_front_at s n) qs)) ≡ pieces_on t (map (without_front_at s n) (map (queue_in texts) qs))
 part_removed texts s n qs bytes rest fit is short = changed_in texts (stored_front n) (without_front n) s qs refl refl (part_front texts n bytes rest (stored_on s qs) (fit s) (sym (on_in texts s qs) ∙ is) short)
 
-front_of : (texts : Look) (bytes : List ℕ) (rest : List Piece) (ps : List StoredPiece) → AreFit texts ps → flat_map (shown texts) ps ≡ Part bytes ∷ rest → front_bytes texts ps ≡ bytes
+front_of : (texts : Look) (bytes : List ℕ) (rest : List Piece) (ps : List StoredPiece) → AreFit texts ps → flat_map (pieces_in texts) ps ≡ Part bytes ∷ rest → front_bytes texts ps ≡ bytes
 front_of texts bytes rest [] fit h = cc
-front_of texts bytes rest (Encoded b ∷ ps) fit h = let k : Block b ∷ flat_map (shown texts) ps ≡ Part bytes ∷ rest = h in cc
-front_of texts bytes rest (Framed bs ∷ ps) fit h = let k : Part bs ∷ flat_map (shown texts) ps ≡ Part bytes ∷ rest = h in cc
-front_of texts bytes rest (Ranged s ∷ ps) fit h = let k : Part (span_front most_read s (texts s.source)) ∷ (span_rest most_read s (texts s.source) ++ flat_map (shown texts) ps) ≡ Part bytes ∷ rest = sym (range_front texts s ps fit.0) ∙ h in cc
+front_of texts bytes rest (Encoded b ∷ ps) fit h = let k : Block b ∷ flat_map (pieces_in texts) ps ≡ Part bytes ∷ rest = h in cc
+front_of texts bytes rest (Framed bs ∷ ps) fit h = let k : Part bs ∷ flat_map (pieces_in texts) ps ≡ Part bytes ∷ rest = h in cc
+front_of texts bytes rest (Ranged s ∷ ps) fit h = let k : Part (span_front most_read s (texts s.source)) ∷ (span_rest most_read s (texts s.source) ++ flat_map (pieces_in texts) ps) ≡ Part bytes ∷ rest = sym (range_front texts s ps fit.0) ∙ h in cc
 
 pub front_is : (texts : Look) (s : ℕ) (qs : List StoredQueue) (bytes : List ℕ) (rest : List Piece) → Fit texts qs → pieces_on s (map (queue_in texts) qs) ≡ Part bytes ∷ rest → front_bytes texts (stored_on s qs) ≡ bytes
 front_is texts s qs bytes rest fit is = front_of texts bytes rest (stored_on s qs) (fit s) (sym (on_in texts s qs) ∙ is)

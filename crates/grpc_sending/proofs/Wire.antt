@@ -3,9 +3,9 @@ use Rattle.std.proofs.Common.{◌≡◌, ℕ, zero, suc, ◌/◌, ◌<◌, ◌�
 use Rattle.std.specs.Prelude.{true, false, nat_lt, ◌==◌}
 use Rattle.std.proofs.lemmas.Bool.{cases_Bool, ltb-true, ltb-false}
 use Rattle.std.proofs.lemmas.Bool.Decides.{nat_tests}
-use Rattle.protobuf_wire.specs.Writing.{groups_in, varint, text, bytes_field}
+use Rattle.protobuf_wire.specs.Writing.{groups_in, varint, records_text, bytes_field}
 use Rattle.grpc_sending.specs.Pieces.{length_text, read_message}
-use Rattle.grpc_sending.proofs.Diaries.{append-nil}
+use Rattle.grpc_sending.proofs.Histories.{append-nil}
 
 groups_three : (k n : ℕ) → n < 2097152 → groups_in (suc (suc (suc k))) n ≡ length_text n
 unfolding groups_in
@@ -41,7 +41,7 @@ tag_is : varint 82 ≡ 82 ∷ []
 unfolding varint groups_in
 tag_is = refl
 
-pub read_is : (bytes : List ℕ) → 0 < length bytes → length bytes < 2097152 → read_message bytes ≡ text (bytes_field 10 bytes)
+pub read_is : (bytes : List ℕ) → 0 < length bytes → length bytes < 2097152 → read_message bytes ≡ records_text (bytes_field 10 bytes)
 read_is bytes some small =
     let full : (length bytes == 0) ≡ false = grind (arith, nat_tests) in
     sym (rw full (append-nil (varint 82 ++ (varint (length bytes) ++ bytes))) ∙ ap (λ (t : List ℕ). t ++ (varint (length bytes) ++ bytes)) tag_is ∙ ap (λ (t : List ℕ). 82 ∷ (t ++ bytes)) (varint_is (length bytes) small))

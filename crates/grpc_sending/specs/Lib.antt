@@ -1,6 +1,6 @@
 pub mod Bytes
 pub mod Owed
-pub mod Kept
+pub mod StoredSending
 pub mod Parts
 pub mod Pieces
 pub mod Pump

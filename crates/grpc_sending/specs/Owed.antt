@@ -3,9 +3,9 @@ use Rattle.std.specs.Prelude.{ℕ, ◌==◌, nat_lt, if◌then◌else◌, List, 
 use Rattle.std.specs.List.{flat_map}
 use Rattle.http2_frames.specs.declared.frame.Frame.{Frame}
 use Rattle.http2_frames.specs.declared.frame.Frame.TheVariants.{Data, Headers}
-use Rattle.http2_streams.specs.Diary.{Entry, sent}
+use Rattle.http2_streams.specs.History.{Entry, sent_frames}
 use Rattle.digest.specs.declared.Digest.{Digest}
-use Rattle.grpc_messages.specs.Writing.{framed}
+use Rattle.grpc_messages.specs.Writing.{framed_message}
 use Rattle.grpc_calls.specs.declared.response.ResponseBlock.{ResponseBlock}
 use Rattle.grpc_sending.specs.Pieces.{Piece, Block, Part, read_pieces}
 
@@ -18,22 +18,22 @@ pub data Item : Type 0 where
   Range : Digest → List ℕ → ℕ → ℕ → Item
 
 -- an item that was given to a stream
-pub record Owed : Type 0 where
+pub record OwedItem : Type 0 where
   pub stream : ℕ
   pub item : Item
 
-abbrev pub item_on : ℕ → Owed → List Item
+abbrev pub item_on : ℕ → OwedItem → List Item
 item_on s o = if o.stream == s then o.item ∷ [] else []
 
 -- all items that a stream was ever given, in order
-abbrev pub owed_on : ℕ → List Owed → List Item
-owed_on s os = flat_map (item_on s) os
+abbrev pub items_owed_on : ℕ → List OwedItem → List Item
+items_owed_on s os = flat_map (item_on s) os
 
 -- an item as it is to be put: a header block, the bytes of a message with its prefix, or those of
 -- each message of a range
 abbrev pub pieces_of : Item → List Piece
 pieces_of (Headed block) = Block block ∷ []
-pieces_of (Message message) = Part (framed message) ∷ []
+pieces_of (Message message) = Part (framed_message message) ∷ []
 pieces_of (Range digest text from count) = read_pieces (take count (drop from text))
 
 -- n bytes of the message in front
@@ -44,15 +44,18 @@ without_front n (Part bytes ∷ ps) = if nat_lt n (length bytes) then Part (drop
 
 -- what a frame leaves of what is to be put on stream s: HEADERS puts a block, DATA a part of a
 -- message
-abbrev pub put_by : ℕ → List Piece → Frame → List Piece
-put_by s ps (Headers t end_stream end_headers fragment) = if t == s then drop 1 ps else ps
-put_by s ps (Data t end_stream bytes) = if t == s then without_front (length bytes) ps else ps
-put_by s ps _ = ps
+abbrev pub pieces_after_frame : ℕ → List Piece → Frame → List Piece
+pieces_after_frame s ps (Headers t end_stream end_headers fragment) =
+    if t == s then drop 1 ps else ps
+pieces_after_frame s ps (Data t end_stream bytes) =
+    if t == s then without_front (length bytes) ps else ps
+pieces_after_frame s ps _ = ps
 
 -- what frames leave of these pieces
-abbrev pub left_by : List Frame → ℕ → List Piece → List Piece
-left_by fs s ps = fold (put_by s) ps fs
+abbrev pub pieces_after_frames : List Frame → ℕ → List Piece → List Piece
+pieces_after_frames fs s ps = fold (pieces_after_frame s) ps fs
 
 -- what is owed to stream s and was not put
-abbrev pub left_on : List Entry → List Owed → ℕ → List Piece
-left_on d os s = left_by (sent d) s (flat_map pieces_of (owed_on s os))
+abbrev pub pieces_left_on : List Entry → List OwedItem → ℕ → List Piece
+pieces_left_on d os s =
+    pieces_after_frames (sent_frames d) s (flat_map pieces_of (items_owed_on s os))

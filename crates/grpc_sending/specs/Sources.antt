@@ -56,5 +56,5 @@ pub record Waiting : Type 0 where
   pub queues : List StoredQueue
   pub spent : List ℕ
 
-abbrev pub held_by : Waiting → List ℕ
-held_by w = sources_held w.queues ++ w.spent
+abbrev pub sources_waiting : Waiting → List ℕ
+sources_waiting w = sources_held w.queues ++ w.spent

@@ -1,8 +1,8 @@
 -- What is left of a range of a text: the piece that the code keeps for it, and what it stands for.
 use Rattle.std.specs.Prelude.{ℕ, ◌+◌, ◌-◌, ◌<◌, ◌≤◌, nat_lt, min, if◌then◌else◌, List, [], ◌∷◌, ◌++◌, length, take, drop}
 use Rattle.byteorder.specs.Endian.{big_bytes}
-use Rattle.grpc_messages.specs.Writing.{framed}
-use Rattle.grpc_sending.specs.Pieces.{Piece, length_text, read_message, cut}
+use Rattle.grpc_messages.specs.Writing.{framed_message}
+use Rattle.grpc_sending.specs.Pieces.{Piece, length_text, read_message, message_pieces}
 use Rattle.grpc_sending.specs.Owed.{without_front}
 
 -- a source of which the text from a place until another is to be put, and how many bytes of the
@@ -34,11 +34,13 @@ span_text s text = take (s.until - s.from) (drop s.from text)
 
 -- the pieces that it stands for, messages of at most m bytes
 abbrev pub span_pieces : ℕ → Span → List ℕ → List Piece
-span_pieces m s text = without_front s.put (cut m (length (span_text s text)) (span_text s text))
+span_pieces m s text =
+    without_front s.put (message_pieces m (length (span_text s text)) (span_text s text))
 
 -- the bytes of the first
 abbrev pub span_front : ℕ → Span → List ℕ → List ℕ
-span_front m s text = drop s.put (framed (read_message (take (span_count m s) (drop s.from text))))
+span_front m s text =
+    drop s.put (framed_message (read_message (take (span_count m s) (drop s.from text))))
 
 -- after n bytes of the first message were put
 abbrev pub span_after : ℕ → ℕ → Span → List Span

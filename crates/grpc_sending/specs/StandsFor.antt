@@ -1,13 +1,13 @@
--- What is kept for sending stands for a diary and for all that was ever owed.
+-- What is kept for sending stands for a history and for all that was ever owed.
 use Rattle.std.specs.Prelude.{◌≡◌, ◌≤◌, ◌==◌, ℕ, true, false, List, [], ◌∷◌, ◌++◌, length, if◌then◌else◌}
 use Rattle.std.specs.List.{flat_map, list_any}
 use Rattle.hpack.specs.declared.encoder.Position.{Position}
 use Rattle.hpack.specs.declared.encoder.Position.TheVariants.{First}
-use Rattle.http2_streams.specs.Diary.{Entry, sent, live, is_live, has_failed}
+use Rattle.http2_streams.specs.History.{Entry, sent_frames, live_streams, is_not_closed, has_failed}
 use Rattle.grpc_sending.specs.Pieces.{Piece}
 use Rattle.grpc_sending.specs.Pieces.{Queue}
-use Rattle.grpc_sending.specs.Bytes.{bytes_put, taken, pending, position}
-use Rattle.grpc_sending.specs.Owed.{Owed, Item, pieces_of, owed_on, left_by}
+use Rattle.grpc_sending.specs.Bytes.{bytes_put, count_taken, pending_bytes, position}
+use Rattle.grpc_sending.specs.Owed.{OwedItem, Item, pieces_of, items_owed_on, pieces_after_frames}
 
 pub record Sending : Type 0 where
   -- the bytes that were put and not taken
@@ -27,18 +27,21 @@ pieces_on s (q ∷ qs) = if q.stream == s then q.pieces else pieces_on s qs
 
 -- the queue of stream s is what is left of the items owed to it, and more items would stand behind
 -- it
-abbrev pub IsQueue : List Entry → List Owed → List Queue → ℕ → Type 0
-IsQueue d os qs s = (more : List Piece) → left_by (sent d) s (flat_map pieces_of (owed_on s os) ++ more) ≡ pieces_on s qs ++ more
+abbrev pub IsQueue : List Entry → List OwedItem → List Queue → ℕ → Type 0
+IsQueue d os qs s =
+    (more : List Piece) →
+    pieces_after_frames (sent_frames d) s (flat_map pieces_of (items_owed_on s os) ++ more)
+    ≡ pieces_on s qs ++ more
 
-pub record IsSending (v : Sending) (d : List Entry) (os : List Owed) : Type 0 where
-  pub pending : v.pending ≡ pending d
-  pub taken : taken d ≤ length (bytes_put d)
+pub record IsSending (v : Sending) (d : List Entry) (os : List OwedItem) : Type 0 where
+  pub pending : v.pending ≡ pending_bytes d
+  pub taken : count_taken d ≤ length (bytes_put d)
   pub position : v.position ≡ position d
-  pub queues : has_failed d ≡ false → (s : ℕ) → is_live d s ≡ true → IsQueue d os v.queues s
+  pub queues : has_failed d ≡ false → (s : ℕ) → is_not_closed d s ≡ true → IsQueue d os v.queues s
 
 -- an item is owed to a live stream; to any other nothing is
-abbrev pub owed_more : List Entry → List Owed → ℕ → Item → List Owed
-owed_more d os s item =
+abbrev pub owed_with_item : List Entry → List OwedItem → ℕ → Item → List OwedItem
+owed_with_item d os s item =
     if has_failed d then os
-    else if list_any (λ t. t == s) (live d) then os ++ record { stream = s; item = item } ∷ []
+    else if list_any (λ t. t == s) (live_streams d) then os ++ record { stream = s; item = item } ∷ []
     else os

@@ -1,8 +1,8 @@
 //! What waits to be put, and the sources of ranges that are over.
 
 ghost use Rattle.std.specs.Prelude.{◌≡◌, ◌≤◌, ◌<◌, ◌==◌, ◌^◌, ◌++◌, ◌∷◌, [], ℕ, List, None, OnOk, OnErr, MatchOption, length, map, filter, not, if◌then◌else◌, vec_capacity};
-ghost use Rattle.grpc_sending.specs.Kept.{Appends, Tells, stored_first_at, stored_front_at};
-ghost use Rattle.grpc_sending.specs.Sources.{AreSame, source_of, held_by};
+ghost use Rattle.grpc_sending.specs.StoredSending.{Appends, Tells, stored_first_at, stored_front_at};
+ghost use Rattle.grpc_sending.specs.Sources.{AreSame, source_of, sources_waiting};
 ghost use Rattle.grpc_sending.specs.declared.piece.StoredPiece.TheVariants.{Ranged};
 
 use crate::piece::StoredPiece;
@@ -59,7 +59,7 @@ impl Backlog {
     /// The first piece of the stream was put.
     pub(crate) fn remove_first(&mut self, stream: u32)
         ensures queues { self.new.queues ≡ map (stored_first_at stream) self.old.queues }
-        ensures sources { AreSame (held_by self.old) (held_by self.new) }
+        ensures sources { AreSame (sources_waiting self.old) (sources_waiting self.new) }
     {
         queue::remove_on(
             &mut self.queues,
@@ -72,7 +72,7 @@ impl Backlog {
     /// Bytes of the first piece of the stream were put.
     pub(crate) fn take_off(&mut self, stream: u32, count: usize)
         ensures queues { self.new.queues ≡ map (stored_front_at stream count) self.old.queues }
-        ensures sources { AreSame (held_by self.old) (held_by self.new) }
+        ensures sources { AreSame (sources_waiting self.old) (sources_waiting self.new) }
     {
         let front = Removal::FrontBytes(count);
         queue::remove_on(&mut self.queues, stream, front, &mut self.spent);
@@ -81,7 +81,7 @@ impl Backlog {
     /// Nothing more is to be put on the stream.
     pub(crate) fn forget(&mut self, stream: u32)
         ensures queues { self.new.queues ≡ filter (λ q. not (q.stream == stream)) self.old.queues }
-        ensures sources { AreSame (held_by self.old) (held_by self.new) }
+        ensures sources { AreSame (sources_waiting self.old) (sources_waiting self.new) }
     {
         queue::forget(&mut self.queues, stream, &mut self.spent);
     }
@@ -89,7 +89,7 @@ impl Backlog {
     /// Nothing more is to be put on any stream.
     pub(crate) fn forget_all(&mut self)
         ensures queues { self.new.queues ≡ [] }
-        ensures sources { AreSame (held_by self.old) (held_by self.new) }
+        ensures sources { AreSame (sources_waiting self.old) (sources_waiting self.new) }
     {
         queue::forget_all(&mut self.queues, &mut self.spent);
     }
@@ -98,7 +98,8 @@ impl Backlog {
     pub(crate) fn push(&mut self, stream: u32, piece: StoredPiece) -> Result<(), AllocError>
         requires { source_of piece ≡ [] }
         ensures ok { OnOk result (Appends stream piece self.old.queues self.new.queues) }
-        ensures sources { OnOk result (AreSame (held_by self.old) (held_by self.new)) }
+        ensures sources { OnOk result (AreSame (sources_waiting self.old)
+            (sources_waiting self.new)) }
         ensures err { OnErr result (self.new ≡ self.old) }
     {
         queue::push(&mut self.queues, stream, piece)
@@ -107,9 +108,9 @@ impl Backlog {
     /// Appends a range to what is to be put on the stream.
     pub(crate) fn push_range(&mut self, stream: u32, range: Cursor) -> Result<(), AllocError>
         ensures ok { OnOk result (Appends stream (Ranged range) self.old.queues self.new.queues) }
-        ensures sources { OnOk result (AreSame (range.source ∷ held_by self.old)
-            (held_by self.new)) }
-        ensures few { OnOk result (length (held_by self.new) < 2 ^ 64) }
+        ensures sources { OnOk result (AreSame (range.source ∷ sources_waiting self.old)
+            (sources_waiting self.new)) }
+        ensures few { OnOk result (length (sources_waiting self.new) < 2 ^ 64) }
         ensures err { OnErr result (self.new ≡ self.old) }
     {
         make_room(&mut self.spent, self.sources)?;
@@ -122,7 +123,7 @@ impl Backlog {
     pub(crate) fn spend(&mut self, source: usize) -> Result<(), AllocError>
         ensures ok { OnOk result (self.new
             ≡ record self.old { spent = self.old.spent ++ source ∷ [] }) }
-        ensures few { OnOk result (length (held_by self.new) < 2 ^ 64) }
+        ensures few { OnOk result (length (sources_waiting self.new) < 2 ^ 64) }
         ensures err { OnErr result (self.new ≡ self.old) }
     {
         make_room(&mut self.spent, self.sources)?;

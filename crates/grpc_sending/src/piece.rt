@@ -4,9 +4,9 @@ ghost use Rattle.std.specs.Prelude.{◌≡◌, ◌≤◌, ◌<◌, ◌^◌, ◌+
 ghost use Rattle.hpack.specs.Encoding.{block_text};
 ghost use Rattle.hpack.specs.declared.encoder.Position.TheVariants.{Later};
 ghost use Rattle.grpc_calls.specs.Responses.{fields_of, is_last};
-ghost use Rattle.grpc_messages.specs.Writing.{framed};
+ghost use Rattle.grpc_messages.specs.Writing.{framed_message};
 ghost use Rattle.grpc_sending.specs.declared.piece.StoredPiece.{StoredPiece};
-ghost use Rattle.grpc_sending.specs.Kept.{stored_front};
+ghost use Rattle.grpc_sending.specs.StoredSending.{stored_front};
 ghost use Rattle.grpc_sending.specs.Sources.{source_of};
 
 use crate::range::Cursor;
@@ -112,7 +112,7 @@ impl Model for FramedMessage {
 impl FramedMessage {
     pub(crate) fn new(alloc: Global, message: &[u8]) -> Result<FramedMessage, AllocError>
         requires { length message.now < 2 ^ 32 }
-        ensures { IfOk result (λ m. m ≡ framed message.now) }
+        ensures { IfOk result (λ m. m ≡ framed_message message.now) }
     {
         let mut text = Vec::new(alloc);
         write_message(&mut text, message)?;

@@ -1,7 +1,7 @@
 //! What is still to be put on each stream.
 
 ghost use Rattle.std.specs.Prelude.{◌≡◌, ◌≤◌, ◌<◌, ◌==◌, ◌+◌, ◌++◌, ◌∷◌, [], ℕ, List, IfOk, OnOk, OnErr, MatchOption, length, drop, map, filter, not, slice_set, slice_index_or, if◌then◌else◌, vec_capacity};
-ghost use Rattle.grpc_sending.specs.Kept.{Appends, stored_on, stored_front, pieces_left, left_at, first_at, with_piece};
+ghost use Rattle.grpc_sending.specs.StoredSending.{Appends, stored_on, stored_front, pieces_left, left_at, first_at, with_piece};
 ghost use Rattle.grpc_sending.specs.Sources.{Spends, SpendsOf, HasRoom, HasRoomOf, Takes, source_of};
 ghost use Rattle.grpc_sending.specs.declared.piece.StoredPiece.{StoredPiece};
 ghost use Rattle.grpc_sending.specs.declared.queue.StoredQueue.{StoredQueue};

@@ -3,14 +3,14 @@
 ghost use Rattle.std.specs.Prelude.{◌≡◌, ◌≤◌, ◌<◌, ◌+◌, ◌-◌, ◌^◌, ◌++◌, ◌∷◌, ◌↔◌, [], ℕ, List, true, false, IsTrue, IfOk, OnOk, OnErr, MatchOption, length, take, drop, Some, None};
 ghost use Rattle.http2_frames.specs.Writing.{raw_of, text_of};
 ghost use Rattle.http2_frames.specs.declared.frame.Frame.TheVariants.{Data, RstStream};
-ghost use Rattle.http2_streams.specs.Diary.{Entry, Out, Took, is_live, has_failed};
+ghost use Rattle.http2_streams.specs.History.{Entry, Out, Took, is_not_closed, has_failed};
 ghost use Rattle.digest.specs.declared.Digest.{Digest};
 ghost use Rattle.http2_streams.specs.StandsFor.{StandsFor as AreStreams};
 ghost use Rattle.grpc_sending.specs.Bytes.{most_untaken};
-ghost use Rattle.grpc_sending.specs.Owed.{Owed, Headed, Message, Range};
-ghost use Rattle.grpc_sending.specs.Pump.{pumped, next};
-ghost use Rattle.grpc_sending.specs.StandsFor.{owed_more};
-ghost use Rattle.grpc_sending.specs.Kept.{Tells, Enters, DropsClosed, DropsAll, Owes, OwesRange, PumpsStreams, PumpsSending, PutsBy, ResetsBy, FinishesBy, KeepsFit, KeepsFitWith, Look, Kept, StandsFor, Fit, IsFit, KeepsSources, HoldsMore, HasFew, new_kept, sending_in, stored_on, front_bytes, front_frame};
+ghost use Rattle.grpc_sending.specs.Owed.{OwedItem, Headed, Message, Range};
+ghost use Rattle.grpc_sending.specs.Pump.{history_after_pump, next_frames};
+ghost use Rattle.grpc_sending.specs.StandsFor.{owed_with_item};
+ghost use Rattle.grpc_sending.specs.StoredSending.{Tells, Enters, DropsClosed, DropsAll, Owes, OwesRange, PumpsStreams, PumpsSending, PutsBy, ResetsBy, FinishesBy, KeepsFit, KeepsFitWith, Look, StoredSending, StandsFor, Fit, IsFit, KeepsSources, HoldsMore, HasFew, new_stored_sending, sending_in, stored_on, front_bytes, front_frame};
 ghost use Rattle.grpc_sending.specs.Step.{Puts, Rests, IsControl, Finishes, Resets};
 
 use crate::backlog::Backlog;
@@ -44,9 +44,9 @@ pub struct Sender {
 }
 
 impl Model for Sender {
-    ghost use Rattle.grpc_sending.specs.Kept.{Kept};
+    ghost use Rattle.grpc_sending.specs.StoredSending.{StoredSending};
 
-    ghost Value = { Kept };
+    ghost Value = { StoredSending };
 
     ghost view = { λ s. record { pending = s.buffer; position = s.position; queues = s.backlog.queues; spent = s.backlog.spent } };
 }
@@ -55,7 +55,7 @@ impl Sender {
     /// Takes the room for all bytes that can wait.
     pub fn new(alloc: Global) -> Result<Sender, AllocError>
         ensures stands { IfOk result (λ s. (texts : Look) → StandsFor texts s [] []) }
-        ensures kept { IfOk result (λ s. s ≡ new_kept) }
+        ensures kept { IfOk result (λ s. s ≡ new_stored_sending) }
     {
         Ok(Sender {
             buffer: OutBuffer::new(alloc)?,

@@ -1,9 +1,9 @@
 //! Whose turn it is.
 
 ghost use Rattle.std.specs.Prelude.{◌≡◌, ◌≤◌, length};
-ghost use Rattle.http2_flow.specs.Credit.{left};
+ghost use Rattle.http2_flow.specs.Credit.{window_left};
 ghost use Rattle.grpc_sending.specs.Pump.{part_size};
-ghost use Rattle.grpc_sending.specs.Kept.{count_due, due_of, due_on, next_due};
+ghost use Rattle.grpc_sending.specs.StoredSending.{count_due, due_of, due_on, next_due};
 
 use crate::piece::{BlockText, StoredPiece};
 use crate::queue::{Pieces, StoredQueue};
@@ -102,7 +102,8 @@ fn first_turn<'a>(
 
 /// The turn of the first of the live streams that has one.
 pub(crate) fn next_due<'a>(queues: &'a [StoredQueue], streams: &Streams) -> Option<Due<'a>>
-    ensures { result ≡ next_due queues.now (left streams.now.connection_window) streams.now.live }
+    ensures { result ≡ next_due queues.now
+        (window_left streams.now.connection_window) streams.now.live }
 {
     first_turn(queues, streams.connection_window(), streams.live())
 }

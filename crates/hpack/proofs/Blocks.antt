@@ -9,9 +9,9 @@ use Rattle.hpack.specs.declared.error.HpackError.TheVariants.{Index, Integer, St
 use Rattle.hpack.specs.Results.{◌>>=◌}
 use Rattle.hpack.specs.Header.{Header, size_of, total_size}
 use Rattle.hpack.specs.Integer.{IsInteger}
-use Rattle.hpack.specs.Table.{Table, largest_table, resized}
+use Rattle.hpack.specs.Table.{Table, largest_table, table_after_resize}
 use Rattle.hpack.specs.Representation.{IsField, field_at}
-use Rattle.hpack.specs.Block.{list_limit, AreUpdates, resized_by, AreFields, IsBlock, begins_update, update_at, updates_in, updates_of, fields_in, fields_of, block_of, Refuses, FaultsAt, PassesLimit, IsFault}
+use Rattle.hpack.specs.Block.{list_limit, AreUpdates, table_after_updates, AreFields, IsBlock, begins_update, update_at, updates_in, updates_of, fields_in, fields_of, block_of, Refuses, FaultsAt, PassesLimit, IsFault}
 use Rattle.hpack.proofs.Continuations.{put_first}
 use Rattle.hpack.proofs.Tools.{bind_ok, bind_err, chosen, passed, ok_is}
 use Rattle.hpack.proofs.Numbers.{integer_again}
@@ -34,22 +34,22 @@ update_again front rest m h small =
     let read : update_at ((32 + p.prefix) ∷ (p.more ++ rest)) ≡ Ok (m, rest) = rw (prefix, p.read, fits) refl in
     (ap (λ (y : List ℕ). begins_update (y ++ rest)) p.parts ∙ begun, ap (λ (y : List ℕ). update_at (y ++ rest)) p.parts ∙ read)
 
-updates_again : (front rest : List ℕ) (ms : List ℕ) (table : Table) → AreUpdates front ms → updates_of table (front ++ rest) ≡ updates_of (resized_by ms table) rest
+updates_again : (front rest : List ℕ) (ms : List ℕ) (table : Table) → AreUpdates front ms → updates_of table (front ++ rest) ≡ updates_of (table_after_updates ms table) rest
 updates_again front rest [] table h = ap (λ (y : List ℕ). updates_of table (y ++ rest)) h
 updates_again front rest (m ∷ ms) table h =
     let one = h.0 in
     let others = h.1 in
     let whole : front ++ rest ≡ one ++ (others ++ rest) = ap (λ (y : List ℕ). y ++ rest) h.2 ∙ append_assoc one others rest in
     let u = update_again one (others ++ rest) m h.3 h.4 in
-    let read : updates_of table (one ++ (others ++ rest)) ≡ updates_of (resized m table) (others ++ rest) = updates_go table (one ++ (others ++ rest)) u.0 ∙ rw u.1 refl in
-    ap (updates_of table) whole ∙ read ∙ updates_again others rest ms (resized m table) h.5
+    let read : updates_of table (one ++ (others ++ rest)) ≡ updates_of (table_after_resize m table) (others ++ rest) = updates_go table (one ++ (others ++ rest)) u.0 ∙ rw u.1 refl in
+    ap (updates_of table) whole ∙ read ∙ updates_again others rest ms (table_after_resize m table) h.5
 
 -- what is read is spelled so
 record Updated (table : Table) (bytes : List ℕ) (x : Table × List ℕ) : Type 0 where
   front : List ℕ
   maxima : List ℕ
   updated : AreUpdates front maxima
-  table_is : x.0 ≡ resized_by maxima table
+  table_is : x.0 ≡ table_after_updates maxima table
   ended : begins_update x.1 ≡ false
   parts : bytes ≡ front ++ x.1
 
@@ -58,15 +58,15 @@ unfolding updates_in
 updates_take zero table [] x le e = subst (Updated table []) (ok_is (table, []) x e) (record { front = []; maxima = []; updated = refl; table_is = refl; ended = refl; parts = refl })
 updates_take zero table (b ∷ bs) x le e = absurd (omega arith)
 updates_take (suc more) table bytes x le e =
-    elim (chosen (begins_update bytes) (update_at bytes >>= λ m. updates_in more (resized m.0 table) m.1) (Ok (table, bytes)) (Ok x) e) [
+    elim (chosen (begins_update bytes) (update_at bytes >>= λ m. updates_in more (table_after_resize m.0 table) m.1) (Ok (table, bytes)) (Ok x) e) [
       | inr h ↦ subst (Updated table bytes) (ok_is (table, bytes) x h.1) (record { front = []; maxima = []; updated = refl; table_is = refl; ended = h.0; parts = refl })
       | inl h ↦
-          let a = bind_ok (update_at bytes) (λ m. updates_in more (resized m.0 table) m.1) x h.1 in
+          let a = bind_ok (update_at bytes) (λ m. updates_in more (table_after_resize m.0 table) m.1) x h.1 in
           let m = a.0 in
           let t = update_takes bytes m h.0 a.1 in
           let one = t.1 in
           let shorter = update_shrinks bytes m a.1 in
-          let u = updates_take more (resized m.0 table) m.1 x (omega arith) a.2 in
+          let u = updates_take more (table_after_resize m.0 table) m.1 x (omega arith) a.2 in
           let parts : bytes ≡ (one.front ++ u.front) ++ x.1 = one.parts ∙ ap (λ (y : List ℕ). one.front ++ y) u.parts ∙ sym (append_assoc one.front u.front x.1) in
           record { front = one.front ++ u.front; maxima = m.0 ∷ u.maxima; updated = (one.front, u.front, refl, one.holds, t.0, u.updated); table_is = u.table_is; ended = u.ended; parts = parts }
     ]
@@ -90,15 +90,15 @@ updates_stopped zero table bytes e h = absurd (clash (table, bytes) e h) where
   clash : (x : Table × List ℕ) (e : HpackError) → taken x ≡ Err e → ⊥
   clash x e h = cc
 updates_stopped (suc more) table bytes e h =
-    elim (chosen (begins_update bytes) (update_at bytes >>= λ m. updates_in more (resized m.0 table) m.1) (Ok (table, bytes)) (Err e) h) [
+    elim (chosen (begins_update bytes) (update_at bytes >>= λ m. updates_in more (table_after_resize m.0 table) m.1) (Ok (table, bytes)) (Err e) h) [
       | inr k ↦ absurd (clash (table, bytes) e k.1)
-      | inl k ↦ elim (bind_err (update_at bytes) (λ m. updates_in more (resized m.0 table) m.1) e k.1) [
+      | inl k ↦ elim (bind_err (update_at bytes) (λ m. updates_in more (table_after_resize m.0 table) m.1) e k.1) [
         | inl here ↦ record { front = []; rest = bytes; maxima = []; updated = refl; begins = k.0; fault = here; parts = refl }
         | inr later ↦
             let m = later.0 in
             let t = update_takes bytes m k.0 later.1 in
             let one = t.1 in
-            let u = updates_stopped more (resized m.0 table) m.1 e later.2 in
+            let u = updates_stopped more (table_after_resize m.0 table) m.1 e later.2 in
             let parts : bytes ≡ (one.front ++ u.front) ++ u.rest = one.parts ∙ ap (λ (y : List ℕ). one.front ++ y) u.parts ∙ sym (append_assoc one.front u.front u.rest) in
             record { front = one.front ++ u.front; rest = u.rest; maxima = m.0 ∷ u.maxima; updated = (one.front, u.front, refl, one.holds, t.0, u.updated); begins = u.begins; fault = u.fault; parts = parts }
       ]
@@ -251,7 +251,7 @@ regrouped updates fields front rest bytes p q = q ∙ ap (λ (y : List ℕ). y +
 block_some : (bytes front rest : List ℕ) (table : Table) (h : Header) (hs : List Header) (after : Table) → IsBlock front table (h ∷ hs) after → bytes ≡ front ++ rest → (mid : Table) × (fields : List ℕ) × AreFields fields mid (h ∷ hs) after × (block_of table bytes ≡ fields_of list_limit mid (fields ++ rest))
 unfolding block_of
 block_some bytes front rest table h hs after b parts =
-    let mid = resized_by b.maxima table in
+    let mid = table_after_updates b.maxima table in
     let read : updates_of table bytes ≡ Ok (mid, b.fields ++ rest) =
     ap (updates_of table) (regrouped b.updates b.fields front rest bytes b.parts parts) ∙ updates_again b.updates (b.fields ++ rest) b.maxima table b.updated ∙ updates_stop mid (b.fields ++ rest) (fields_begin b.fields rest mid h hs after b.given) in
     (mid, b.fields, b.given, rw read refl)
@@ -332,14 +332,14 @@ unfolding block_of
 block_stopped bytes table e h = elim (bind_err (updates_of table bytes) fields_after e h) [
   | inl here ↦
       let u = updates_stopped (length bytes) table bytes e here in
-      let M : Bool → Type 0 = λ b. MatchBool b (update_at u.rest ≡ Err e) (field_at (resized_by u.maxima table) u.rest ≡ Err e) in
-      let spelled : IsBlock u.front table [] (resized_by u.maxima table) = record { updates = u.front; maxima = u.maxima; fields = []; updated = u.updated; given = (refl, refl); parts = sym (append-nil u.front) } in
-      record { why = inl (record { front = u.front; rest = u.rest; hs = []; between = resized_by u.maxima table; read = spelled; within = omega arith; some = some_begins u.rest u.begins; fault = subst M (sym u.begins) u.fault; parts = u.parts }, sound_fault (update_at u.rest) e (update_sound u.rest) u.fault) }
+      let M : Bool → Type 0 = λ b. MatchBool b (update_at u.rest ≡ Err e) (field_at (table_after_updates u.maxima table) u.rest ≡ Err e) in
+      let spelled : IsBlock u.front table [] (table_after_updates u.maxima table) = record { updates = u.front; maxima = u.maxima; fields = []; updated = u.updated; given = (refl, refl); parts = sym (append-nil u.front) } in
+      record { why = inl (record { front = u.front; rest = u.rest; hs = []; between = table_after_updates u.maxima table; read = spelled; within = omega arith; some = some_begins u.rest u.begins; fault = subst M (sym u.begins) u.fault; parts = u.parts }, sound_fault (update_at u.rest) e (update_sound u.rest) u.fault) }
   | inr later ↦
       let x = later.0 in
       let u = updates_take (length bytes) table bytes x (omega arith) later.1 in
       let s = fields_stopped (length x.1) list_limit x.0 x.1 e (omega arith) later.2 in
-      let given : AreFields s.front (resized_by u.maxima table) s.hs s.between = subst (λ (t : Table). AreFields s.front t s.hs s.between) u.table_is s.given in
+      let given : AreFields s.front (table_after_updates u.maxima table) s.hs s.between = subst (λ (t : Table). AreFields s.front t s.hs s.between) u.table_is s.given in
       let parts : bytes ≡ (u.front ++ s.front) ++ s.rest = u.parts ∙ ap (λ (y : List ℕ). u.front ++ y) s.parts ∙ sym (append_assoc u.front s.front s.rest) in
       elim s.why [
         | inl fault ↦
@@ -347,7 +347,7 @@ block_stopped bytes table e h = elim (bind_err (updates_of table bytes) fields_a
         | inr over ↦
             let f = over.0 in
             let t = field_takes s.between s.rest f over.1 in
-            let more : AreFields (s.front ++ t.front) (resized_by u.maxima table) (s.hs ++ f.0 ∷ []) f.1 = fields_push s.front t.front (resized_by u.maxima table) s.between f.1 s.hs f.0 given t.holds in
+            let more : AreFields (s.front ++ t.front) (table_after_updates u.maxima table) (s.hs ++ f.0 ∷ []) f.1 = fields_push s.front t.front (table_after_updates u.maxima table) s.between f.1 s.hs f.0 given t.holds in
             let total = total_size-push s.hs f.0 in
             let exceeds : list_limit < total_size s.hs + size_of f.0 = over.2 in
             let front : List ℕ = u.front ++ (s.front ++ t.front) in

@@ -4,15 +4,15 @@ use Rattle.hpack.specs.declared.error.HpackError.{HpackError}
 use Rattle.hpack.specs.declared.error.HpackError.TheVariants.{SizeUpdate}
 use Rattle.hpack.specs.Results.{◌>>=◌}
 use Rattle.hpack.specs.Header.{Header}
-use Rattle.hpack.specs.StringLiteral.{expanded, string_at}
-use Rattle.hpack.specs.Table.{Table, largest_table, inserted, header_at}
-use Rattle.hpack.specs.Representation.{there}
+use Rattle.hpack.specs.StringLiteral.{expansion, string_at}
+use Rattle.hpack.specs.Table.{Table, largest_table, table_after_insertion, header_at}
+use Rattle.hpack.specs.Representation.{entry_or_fault}
 
 abbrev pub finished : List ℕ × List ℕ → Result (List ℕ × List ℕ) HpackError
-finished s = expanded s.0 >>= λ text. Ok (text, s.1)
+finished s = expansion s.0 >>= λ text. Ok (text, s.1)
 
 abbrev pub entry_name : Table → ℕ × List ℕ → Result (List ℕ × List ℕ) HpackError
-entry_name table i = there (header_at table i.0) >>= λ entry. Ok (entry.name, i.1)
+entry_name table i = entry_or_fault (header_at table i.0) >>= λ entry. Ok (entry.name, i.1)
 
 abbrev pub chosen_name : Table → ℕ × List ℕ → Result (List ℕ × List ℕ) HpackError
 chosen_name table i = cond (eqb i.0 0) (string_at i.1) (entry_name table i)
@@ -21,13 +21,13 @@ abbrev pub with_value : List ℕ × List ℕ → Result (Header × List ℕ) Hpa
 with_value name = string_at name.1 >>= λ value. Ok (record { name = name.0; value = value.0 }, value.1)
 
 abbrev pub entry_of : Table → ℕ × List ℕ → Result (Header × List ℕ) HpackError
-entry_of table i = there (header_at table i.0) >>= λ entry. Ok (entry, i.1)
+entry_of table i = entry_or_fault (header_at table i.0) >>= λ entry. Ok (entry, i.1)
 
 abbrev pub kept : Table → Header × List ℕ → Result (Header × Table × List ℕ) HpackError
 kept table x = Ok (x.0, table, x.1)
 
 abbrev pub added : Table → Header × List ℕ → Result (Header × Table × List ℕ) HpackError
-added table x = Ok (x.0, inserted x.0 table, x.1)
+added table x = Ok (x.0, table_after_insertion x.0 table, x.1)
 
 abbrev pub refused : ℕ × List ℕ → Result (Header × Table × List ℕ) HpackError
 refused x = Err SizeUpdate

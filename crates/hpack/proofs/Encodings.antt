@@ -11,7 +11,7 @@ use Rattle.hpack.specs.Header.{Header, size_of, total_size}
 use Rattle.hpack.specs.Integer.{AreGroups, IsInteger, groups, integer_text}
 use Rattle.hpack.specs.StringLiteral.{IsString, string_text}
 use Rattle.hpack.specs.StaticTable.{static_table, name_index_in, name_index}
-use Rattle.hpack.specs.Table.{Table, longest_front, resized, header_at}
+use Rattle.hpack.specs.Table.{Table, longest_front, table_after_resize, header_at}
 use Rattle.hpack.specs.Representation.{IsName, IsField, Indexed, WithoutIndexing}
 use Rattle.hpack.specs.Block.{AreFields, list_limit, block_of}
 use Rattle.hpack.specs.Encoding.{name_text, field_text, block_text}
@@ -144,7 +144,7 @@ later_read table hs small = block_read (block_text Later hs) table table hs (rec
 pub first_read : (table : Table) (hs : List Header) → total_size hs ≤ list_limit → block_of table (block_text First hs) ≡ Ok (hs, record { maximum = 0; entries = [] })
 first_read table hs small =
     let emptied : Table = record { maximum = 0; entries = [] } in
-    let cleared : resized 0 table ≡ emptied = ap (λ (es : List Header). record { maximum = 0; entries = es }) (none_fits table.entries) in
+    let cleared : table_after_resize 0 table ≡ emptied = ap (λ (es : List Header). record { maximum = 0; entries = es }) (none_fits table.entries) in
     let update : IsInteger 32 31 (32 ∷ []) 0 = (refl, omega arith) in
-    let given : AreFields (flat_map field_text hs) (resized 0 table) hs emptied = subst (λ (t : Table). AreFields (flat_map field_text hs) t hs emptied) (sym cleared) (fields_are emptied hs small) in
+    let given : AreFields (flat_map field_text hs) (table_after_resize 0 table) hs emptied = subst (λ (t : Table). AreFields (flat_map field_text hs) t hs emptied) (sym cleared) (fields_are emptied hs small) in
     block_read (block_text First hs) table emptied hs (record { updates = 32 ∷ []; maxima = 0 ∷ []; fields = flat_map field_text hs; updated = (32 ∷ [], [], refl, update, omega arith, refl); given = given; parts = refl }) small

@@ -1,14 +1,14 @@
 -- What the reading of one representation can be refused for.
 use Rattle.std.proofs.Common.{◌≡◌, ℕ, ◌-◌, ◌+◌, ◌*◌, ◌^◌, Bool, true, false, cond, ltb, leb, eqb, List, [], ◌∷◌, length, take, drop, Option, Some, None, Result, Ok, Err, subst}
 use Rattle.hpack_huffman.specs.declared.HuffmanError.{HuffmanError}
-use Rattle.hpack_huffman.specs.Reading.{decoded}
+use Rattle.hpack_huffman.specs.Reading.{text_of_octets}
 use Rattle.hpack.specs.declared.error.HpackError.{HpackError}
 use Rattle.hpack.specs.declared.error.HpackError.TheVariants.{Integer, String as TooShort, SizeUpdate, ListTooLarge, NoMemory, Failed}
 use Rattle.hpack.specs.Results.{◌>>=◌}
 use Rattle.hpack.specs.Integer.{below_limit, groups_at, integer_at}
-use Rattle.hpack.specs.StringLiteral.{octets_at, expanded, expanded_from, string_at}
+use Rattle.hpack.specs.StringLiteral.{octets_at, expansion, expansion_of, string_at}
 use Rattle.hpack.specs.Table.{Table, largest_table, header_at}
-use Rattle.hpack.specs.Representation.{there, name_at, literal_at, indexed_at, field_at}
+use Rattle.hpack.specs.Representation.{entry_or_fault, name_at, literal_at, indexed_at, field_at}
 use Rattle.hpack.specs.Block.{update_at}
 use Rattle.hpack.proofs.Continuations.{finished, entry_name, with_value, entry_of, kept, added, refused, checked}
 
@@ -55,7 +55,7 @@ integer_sound full prefix bytes =
 octets_sound : (count : ℕ) (bytes : List ℕ) → Sound (octets_at count bytes)
 octets_sound count bytes = either (ltb (length bytes) count) (Err TooShort) (Ok (take count bytes, drop count bytes)) tt tt
 
-expanded_sound : (r : Result (List ℕ) HuffmanError) → Sound (expanded_from r)
+expanded_sound : (r : Result (List ℕ) HuffmanError) → Sound (expansion_of r)
 expanded_sound (Ok text) = tt
 expanded_sound (Err e) = tt
 
@@ -65,9 +65,9 @@ string_sound [] = tt
 string_sound (b ∷ bs) =
     either (ltb b 128) (integer_at 127 b bs >>= λ n. octets_at n.0 n.1) (integer_at 127 (b - 128) bs >>= λ n. octets_at n.0 n.1 >>= finished)
     (bind (integer_at 127 b bs) (λ n. octets_at n.0 n.1) (integer_sound 127 b bs) (λ n. octets_sound n.0 n.1))
-    (bind (integer_at 127 (b - 128) bs) (λ n. octets_at n.0 n.1 >>= finished) (integer_sound 127 (b - 128) bs) (λ n. bind (octets_at n.0 n.1) finished (octets_sound n.0 n.1) (λ s. bind (expanded s.0) (λ text. Ok (text, s.1)) (expanded_sound (decoded s.0)) (λ text. tt))))
+    (bind (integer_at 127 (b - 128) bs) (λ n. octets_at n.0 n.1 >>= finished) (integer_sound 127 (b - 128) bs) (λ n. bind (octets_at n.0 n.1) finished (octets_sound n.0 n.1) (λ s. bind (expansion s.0) (λ text. Ok (text, s.1)) (expanded_sound (text_of_octets s.0)) (λ text. tt))))
 
-there_sound : {A : Type 0} (o : Option A) → Sound (there o)
+there_sound : {A : Type 0} (o : Option A) → Sound (entry_or_fault o)
 there_sound None = tt
 there_sound (Some x) = tt
 
@@ -75,7 +75,7 @@ name_sound : (table : Table) (full prefix : ℕ) (bytes : List ℕ) → Sound (n
 unfolding name_at
 name_sound table full prefix bytes =
     bind (integer_at full prefix bytes) (λ i. cond (eqb i.0 0) (string_at i.1) (entry_name table i)) (integer_sound full prefix bytes)
-    (λ i. either (eqb i.0 0) (string_at i.1) (entry_name table i) (string_sound i.1) (bind (there (header_at table i.0)) (λ entry. Ok (entry.name, i.1)) (there_sound (header_at table i.0)) (λ entry. tt)))
+    (λ i. either (eqb i.0 0) (string_at i.1) (entry_name table i) (string_sound i.1) (bind (entry_or_fault (header_at table i.0)) (λ entry. Ok (entry.name, i.1)) (there_sound (header_at table i.0)) (λ entry. tt)))
 
 literal_sound : (table : Table) (full prefix : ℕ) (bytes : List ℕ) → Sound (literal_at table full prefix bytes)
 unfolding literal_at
@@ -87,7 +87,7 @@ indexed_sound : (table : Table) (prefix : ℕ) (bytes : List ℕ) → Sound (ind
 unfolding indexed_at
 indexed_sound table prefix bytes =
     bind (integer_at 127 prefix bytes) (entry_of table) (integer_sound 127 prefix bytes)
-    (λ i. bind (there (header_at table i.0)) (λ entry. Ok (entry, i.1)) (there_sound (header_at table i.0)) (λ entry. tt))
+    (λ i. bind (entry_or_fault (header_at table i.0)) (λ entry. Ok (entry, i.1)) (there_sound (header_at table i.0)) (λ entry. tt))
 
 pub field_sound : (table : Table) (bytes : List ℕ) → Sound (field_at table bytes)
 unfolding field_at

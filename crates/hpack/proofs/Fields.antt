@@ -7,8 +7,8 @@ use Rattle.hpack.specs.Results.{◌>>=◌}
 use Rattle.hpack.specs.Header.{Header}
 use Rattle.hpack.specs.Integer.{IsInteger, integer_at}
 use Rattle.hpack.specs.StringLiteral.{string_at}
-use Rattle.hpack.specs.Table.{Table, inserted, header_at}
-use Rattle.hpack.specs.Representation.{IsName, IsLiteral, IsIndexed, IsField, Indexed, Incremental, WithoutIndexing, NeverIndexed, there, name_at, literal_at, indexed_at, field_at}
+use Rattle.hpack.specs.Table.{Table, table_after_insertion, header_at}
+use Rattle.hpack.specs.Representation.{IsName, IsLiteral, IsIndexed, IsField, Indexed, Incremental, WithoutIndexing, NeverIndexed, entry_or_fault, name_at, literal_at, indexed_at, field_at}
 use Rattle.hpack.specs.Block.{begins_update}
 use Rattle.hpack.proofs.Continuations.{entry_name, chosen_name, with_value, entry_of, kept, added, refused}
 use Rattle.hpack.proofs.Tools.{bind_ok, chosen, ok_is, there_is, Fronts}
@@ -29,7 +29,7 @@ name_takes table flags full prefix bytes x e =
           let parts : bytes ≡ (n.front ++ s.front) ++ x.1 = n.parts ∙ ap (λ (y : List ℕ). n.front ++ y) s.parts ∙ sym (append_assoc n.front s.front x.1) in
           record { front = n.front ++ s.front; holds = inr (record { mark = (flags + prefix) ∷ n.front; text = s.front; zero_index = mark; spelled = s.holds; parts = refl }); parts = parts }
       | inr h ↦
-          let b = bind_ok (there (header_at table a.0.0)) (λ entry. Ok (entry.name, a.0.1)) x h.1 in
+          let b = bind_ok (entry_or_fault (header_at table a.0.0)) (λ entry. Ok (entry.name, a.0.1)) x h.1 in
           let at = there_is (header_at table a.0.0) b.0 b.1 in
           subst (λ (y : List ℕ × List ℕ). Fronts (λ front. IsName table flags full ((flags + prefix) ∷ front) y.0) bytes y.1) (ok_is (b.0.name, a.0.1) x b.2)
           (record { front = n.front; holds = inl (record { index = a.0.0; entry = b.0; spelled = n.holds; there = at; name_is = refl }); parts = n.parts })
@@ -93,7 +93,7 @@ indexed_takes : (table : Table) (prefix : ℕ) (bytes : List ℕ) (x : Header ×
 unfolding indexed_at
 indexed_takes table prefix bytes x e =
     let a = bind_ok (integer_at 127 prefix bytes) (entry_of table) x e in
-    let b = bind_ok (there (header_at table a.0.0)) (λ entry. Ok (entry, a.0.1)) x a.2 in
+    let b = bind_ok (entry_or_fault (header_at table a.0.0)) (λ entry. Ok (entry, a.0.1)) x a.2 in
     let n = integer_takes 128 127 prefix bytes a.0 a.1 in
     let at = there_is (header_at table a.0.0) b.0 b.1 in
     subst (λ (y : Header × List ℕ). Fronts (λ front. IsIndexed table ((128 + prefix) ∷ front) y.0) bytes y.1) (ok_is (b.0, a.0.1) x b.2)
@@ -151,8 +151,8 @@ field_takes table (b ∷ bs) x e =
             | inl d ↦
                 let from = ltb-false b 64 f.0 in
                 let a = bind_ok (literal_at table 63 (b - 64) bs) (added table) x d.1 in
-                subst (Kept table (b ∷ bs)) (ok_is (a.0.0, inserted a.0.0 table, a.0.1) x a.2)
-                (literal_field table (inserted a.0.0 table) 64 63 b bs a.0.1 a.0.0 from (λ front is. Incremental is refl) (literal_takes table 64 63 (b - 64) bs a.0 a.1))
+                subst (Kept table (b ∷ bs)) (ok_is (a.0.0, table_after_insertion a.0.0 table, a.0.1) x a.2)
+                (literal_field table (table_after_insertion a.0.0 table) 64 63 b bs a.0.1 a.0.0 from (λ front is. Incremental is refl) (literal_takes table 64 63 (b - 64) bs a.0 a.1))
             | inr d ↦
                 let from = ltb-false b 128 d.0 in
                 let a = bind_ok (indexed_at table (b - 128) bs) (kept table) x d.1 in

@@ -6,7 +6,7 @@ use Rattle.std.specs.Option.{option_copied}
 use Rattle.std.specs.Slice.{IsItemAt}
 use Rattle.hpack.specs.Header.{Header}
 use Rattle.hpack.specs.StaticTable.{static_table}
-use Rattle.hpack.specs.Table.{indexed_in}
+use Rattle.hpack.specs.Table.{header_by_index}
 
 pub static_length : length static_table ≡ 61
 unfolding static_table
@@ -22,13 +22,13 @@ slice_get-append [] ys i le = ap (slice_get ys) (omega arith)
 slice_get-append (x ∷ xs) ys zero le = absurd (omega arith)
 slice_get-append (x ∷ xs) ys (suc i) le = slice_get-append xs ys i (omega arith) ∙ ap (slice_get ys) (omega arith)
 
-pub indexed_static : (entries : List Header) (index : ℕ) → 0 < index → index ≤ 61 → indexed_in entries index ≡ slice_get static_table (index - 1)
+pub indexed_static : (entries : List Header) (index : ℕ) → 0 < index → index ≤ 61 → header_by_index entries index ≡ slice_get static_table (index - 1)
 indexed_static entries index some near =
     let long = static_length in
     let test : eqb index 0 ≡ false = grind (arith, nat_tests) in
     rw test (slice_get-append_left static_table entries (index - 1) (omega arith))
 
-pub indexed_dynamic : (entries : List Header) (index : ℕ) → 61 < index → indexed_in entries index ≡ slice_get entries (index - 1 - 61)
+pub indexed_dynamic : (entries : List Header) (index : ℕ) → 61 < index → header_by_index entries index ≡ slice_get entries (index - 1 - 61)
 indexed_dynamic entries index far =
     let long = static_length in
     let test : eqb index 0 ≡ false = grind (arith, nat_tests) in

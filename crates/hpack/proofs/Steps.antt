@@ -8,7 +8,7 @@ use Rattle.hpack.specs.declared.error.HpackError.TheVariants.{Index, Integer, St
 use Rattle.hpack.specs.Results.{◌>>=◌, Fails}
 use Rattle.hpack.specs.Header.{Header, size_of}
 use Rattle.hpack.specs.Integer.{IsInteger, integer_at}
-use Rattle.hpack.specs.Table.{Table, largest_table, resized}
+use Rattle.hpack.specs.Table.{Table, largest_table, table_after_resize}
 use Rattle.hpack.specs.Representation.{field_at}
 use Rattle.hpack.specs.Block.{begins_update, update_at, updates_in, updates_of, fields_in, fields_of}
 use Rattle.hpack.proofs.Continuations.{checked, put_first}
@@ -50,19 +50,19 @@ updates_more (suc j) (suc k) table [] p q = refl
 updates_more zero (suc k) table (b ∷ bs) p q = absurd (omega arith)
 updates_more (suc j) zero table (b ∷ bs) p q = absurd (omega arith)
 updates_more (suc j) (suc k) table (b ∷ bs) p q = ap (λ (r : Result (Table × List ℕ) HpackError). cond (begins_update (b ∷ bs)) r (Ok (table, b ∷ bs))) (go (update_at (b ∷ bs)) refl (λ after u le₁ le₂. updates_more j k after u le₁ le₂)) where
-  go : (r : Result (ℕ × List ℕ) HpackError) → update_at (b ∷ bs) ≡ r → ((after : Table) (u : List ℕ) → length u ≤ j → length u ≤ k → updates_in j after u ≡ updates_in k after u) → (r >>= λ m. updates_in j (resized m.0 table) m.1) ≡ (r >>= λ m. updates_in k (resized m.0 table) m.1)
+  go : (r : Result (ℕ × List ℕ) HpackError) → update_at (b ∷ bs) ≡ r → ((after : Table) (u : List ℕ) → length u ≤ j → length u ≤ k → updates_in j after u ≡ updates_in k after u) → (r >>= λ m. updates_in j (table_after_resize m.0 table) m.1) ≡ (r >>= λ m. updates_in k (table_after_resize m.0 table) m.1)
   go (Err e) h same = refl
-  go (Ok x) h same = let shorter = update_shrinks (b ∷ bs) x h in same (resized x.0 table) x.1 (omega arith) (omega arith)
+  go (Ok x) h same = let shorter = update_shrinks (b ∷ bs) x h in same (table_after_resize x.0 table) x.1 (omega arith) (omega arith)
 
-updates_step : (table : Table) (t : List ℕ) → updates_of table t ≡ cond (begins_update t) (update_at t >>= λ m. updates_of (resized m.0 table) m.1) (Ok (table, t))
+updates_step : (table : Table) (t : List ℕ) → updates_of table t ≡ cond (begins_update t) (update_at t >>= λ m. updates_of (table_after_resize m.0 table) m.1) (Ok (table, t))
 unfolding updates_in
 updates_step table [] = refl
 updates_step table (b ∷ bs) = ap (λ (r : Result (Table × List ℕ) HpackError). cond (begins_update (b ∷ bs)) r (Ok (table, b ∷ bs))) (go (update_at (b ∷ bs)) refl) where
-  go : (r : Result (ℕ × List ℕ) HpackError) → update_at (b ∷ bs) ≡ r → (r >>= λ m. updates_in (length bs) (resized m.0 table) m.1) ≡ (r >>= λ m. updates_in (length m.1) (resized m.0 table) m.1)
+  go : (r : Result (ℕ × List ℕ) HpackError) → update_at (b ∷ bs) ≡ r → (r >>= λ m. updates_in (length bs) (table_after_resize m.0 table) m.1) ≡ (r >>= λ m. updates_in (length m.1) (table_after_resize m.0 table) m.1)
   go (Err e) h = refl
-  go (Ok x) h = let shorter = update_shrinks (b ∷ bs) x h in updates_more (length bs) (length x.1) (resized x.0 table) x.1 (omega arith) (omega arith)
+  go (Ok x) h = let shorter = update_shrinks (b ∷ bs) x h in updates_more (length bs) (length x.1) (table_after_resize x.0 table) x.1 (omega arith) (omega arith)
 
-pub updates_go : (table : Table) (t : List ℕ) → begins_update t ≡ true → updates_of table t ≡ (update_at t >>= λ m. updates_of (resized m.0 table) m.1)
+pub updates_go : (table : Table) (t : List ℕ) → begins_update t ≡ true → updates_of table t ≡ (update_at t >>= λ m. updates_of (table_after_resize m.0 table) m.1)
 updates_go table t begins = updates_step table t ∙ rw begins refl
 
 pub updates_stop : (table : Table) (t : List ℕ) → begins_update t ≡ false → updates_of table t ≡ Ok (table, t)

@@ -3,13 +3,13 @@ use Rattle.std.proofs.Common.{◌≡◌, ℕ, ◌+◌, ◌-◌, ◌≤◌, false
 use Rattle.std.proofs.lemmas.Bool.{ltb-false, lt-ltb, le-ltb}
 use Rattle.std.proofs.lemmas.List.{take_at, drop_at, take-append-drop, length-append, length-take-le}
 use Rattle.hpack_huffman.specs.declared.HuffmanError.{HuffmanError}
-use Rattle.hpack_huffman.specs.Reading.{decoded}
+use Rattle.hpack_huffman.specs.Reading.{text_of_octets}
 use Rattle.hpack_huffman.proofs.Texts.{grammar_read, read_grammar}
 use Rattle.hpack.specs.declared.error.HpackError.{HpackError}
 use Rattle.hpack.specs.declared.error.HpackError.TheVariants.{String as TooShort}
 use Rattle.hpack.specs.Results.{◌>>=◌}
 use Rattle.hpack.specs.Integer.{IsInteger, integer_at}
-use Rattle.hpack.specs.StringLiteral.{IsPlain, IsCoded, IsString, octets_at, expanded, expanded_from, string_at}
+use Rattle.hpack.specs.StringLiteral.{IsPlain, IsCoded, IsString, octets_at, expansion, expansion_of, string_at}
 use Rattle.hpack.proofs.Continuations.{finished}
 use Rattle.hpack.proofs.Tools.{bind_ok, chosen, passed, ok_is, Fronts}
 use Rattle.hpack.proofs.Numbers.{integer_takes, integer_again}
@@ -25,7 +25,7 @@ octets_again front rest =
     let long : ltb (length (front ++ rest)) (length front) ≡ false = le-ltb _ _ (omega (arith, length-append front rest)) in
     rw (long, take_at front rest (length front) refl, drop_at front rest (length front) refl) refl
 
-expanded_is : (r : Result (List ℕ) HuffmanError) (text : List ℕ) → expanded_from r ≡ Ok text → r ≡ Ok text
+expanded_is : (r : Result (List ℕ) HuffmanError) (text : List ℕ) → expansion_of r ≡ Ok text → r ≡ Ok text
 expanded_is (Ok t) text e = cc
 expanded_is (Err f) text e = absurd cc
 
@@ -33,7 +33,7 @@ abbrev plain_at : ℕ → List ℕ → Result (List ℕ × List ℕ) HpackError
 plain_at prefix bytes = integer_at 127 prefix bytes >>= λ n. octets_at n.0 n.1
 
 abbrev coded_at : ℕ → List ℕ → Result (List ℕ × List ℕ) HpackError
-coded_at prefix bytes = integer_at 127 prefix bytes >>= λ n. octets_at n.0 n.1 >>= λ s. expanded s.0 >>= λ text. Ok (text, s.1)
+coded_at prefix bytes = integer_at 127 prefix bytes >>= λ n. octets_at n.0 n.1 >>= λ s. expansion s.0 >>= λ text. Ok (text, s.1)
 
 plain_takes : (b : ℕ) (bytes : List ℕ) (x : List ℕ × List ℕ) → plain_at b bytes ≡ Ok x → Fronts (λ front. IsString front x.0) (b ∷ bytes) x.1
 plain_takes b bytes x e =
@@ -49,8 +49,8 @@ coded_takes : (b : ℕ) (bytes : List ℕ) (x : List ℕ × List ℕ) → 128 �
 coded_takes b bytes x big e =
     let a = bind_ok (integer_at 127 (b - 128) bytes) (λ n. octets_at n.0 n.1 >>= finished) x e in
     let o = bind_ok (octets_at a.0.0 a.0.1) finished x a.2 in
-    let d = bind_ok (expanded o.0.0) (λ text. Ok (text, o.0.1)) x o.2 in
-    let text = expanded_is (decoded o.0.0) d.0 d.1 in
+    let d = bind_ok (expansion o.0.0) (λ text. Ok (text, o.0.1)) x o.2 in
+    let text = expanded_is (text_of_octets o.0.0) d.0 d.1 in
     let n = integer_takes 128 127 (b - 128) bytes a.0 a.1 in
     let t = octets_take a.0.0 a.0.1 o.0 o.1 in
     let first : 128 + (b - 128) ≡ b = omega arith in

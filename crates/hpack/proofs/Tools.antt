@@ -1,7 +1,7 @@
 -- Steps that succeeded, and tests that were passed.
 use Rattle.std.proofs.Common.{◌≡◌, ◌⊎◌, inl, inr, ℕ, Bool, true, false, cond, List, ◌++◌, Option, Some, None, Result, Ok, Err, refl}
 use Rattle.hpack.specs.Results.{◌>>=◌}
-use Rattle.hpack.specs.Representation.{there}
+use Rattle.hpack.specs.Representation.{entry_or_fault}
 
 -- a step that succeeded, and the one after it
 pub bind_ok : {A B E : Type 0} (r : Result A E) (f : A → Result B E) (y : B) → (r >>= f) ≡ Ok y → (x : A) × (r ≡ Ok x) × (f x ≡ Ok y)
@@ -33,7 +33,7 @@ done x = Ok x
 pub ok_is : {A E : Type 0} (x y : A) → done {E = E} x ≡ done y → x ≡ y
 ok_is x y e = cc
 
-pub there_is : {A : Type 0} (o : Option A) (x : A) → there o ≡ Ok x → o ≡ Some x
+pub there_is : {A : Type 0} (o : Option A) (x : A) → entry_or_fault o ≡ Ok x → o ≡ Some x
 there_is None x e = absurd cc
 there_is (Some y) x e = cc
 

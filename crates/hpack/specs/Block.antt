@@ -5,7 +5,7 @@ use Rattle.hpack.specs.declared.error.HpackError.TheVariants.{SizeUpdate, ListTo
 use Rattle.hpack.specs.Results.{◌>>=◌}
 use Rattle.hpack.specs.Header.{Header, size_of, total_size}
 use Rattle.hpack.specs.Integer.{IsInteger, integer_at}
-use Rattle.hpack.specs.Table.{Table, largest_table, resized}
+use Rattle.hpack.specs.Table.{Table, largest_table, table_after_resize}
 use Rattle.hpack.specs.Representation.{IsField, field_at}
 
 -- the greatest size of a field list that is taken
@@ -17,16 +17,20 @@ list_limit = 65536
 -- section 6.3: size updates, one after another, to these maxima
 abbrev pub AreUpdates : List ℕ → List ℕ → Type 0
 AreUpdates bytes [] = bytes ≡ []
-AreUpdates bytes (m ∷ ms) = (front : List ℕ) × (rest : List ℕ) × (bytes ≡ front ++ rest) × IsInteger 32 31 front m × (m ≤ largest_table) × AreUpdates rest ms
+AreUpdates bytes (m ∷ ms) =
+    (front : List ℕ) × (rest : List ℕ) × (bytes ≡ front ++ rest) × IsInteger 32 31 front m
+    × (m ≤ largest_table) × AreUpdates rest ms
 
-abbrev pub resized_by : List ℕ → Table → Table
-resized_by [] t = t
-resized_by (m ∷ ms) t = resized_by ms (resized m t)
+abbrev pub table_after_updates : List ℕ → Table → Table
+table_after_updates [] t = t
+table_after_updates (m ∷ ms) t = table_after_updates ms (table_after_resize m t)
 
 -- header fields, one after another, which turn the one table into the other
 abbrev pub AreFields : List ℕ → Table → List Header → Table → Type 0
 AreFields bytes table [] after = (bytes ≡ []) × (after ≡ table)
-AreFields bytes table (h ∷ hs) after = (front : List ℕ) × (rest : List ℕ) × (between : Table) × (bytes ≡ front ++ rest) × IsField table front h between × AreFields rest between hs after
+AreFields bytes table (h ∷ hs) after =
+    (front : List ℕ) × (rest : List ℕ) × (between : Table) × (bytes ≡ front ++ rest)
+    × IsField table front h between × AreFields rest between hs after
 
 -- a block is size updates and then header fields: it gives the fields hs, and turns the one table
 -- into the other
@@ -35,7 +39,7 @@ pub record IsBlock (bytes : List ℕ) (table : Table) (hs : List Header) (after 
   pub maxima : List ℕ
   pub fields : List ℕ
   pub updated : AreUpdates updates maxima
-  pub given : AreFields fields (resized_by maxima table) hs after
+  pub given : AreFields fields (table_after_updates maxima table) hs after
   pub parts : bytes ≡ updates ++ fields
 
 -- ---- reading a block from left to right, with the first fault that is met
@@ -47,14 +51,15 @@ begins_update (b ∷ bs) = nat_le 32 b && nat_lt b 64
 
 abbrev pub update_at : List ℕ → Result (ℕ × List ℕ) HpackError
 update_at [] = Err SizeUpdate
-update_at (b ∷ bs) = integer_at 31 (b - 32) bs >>= λ m. if nat_lt largest_table m.0 then Err SizeUpdate else Ok m
+update_at (b ∷ bs) =
+    integer_at 31 (b - 32) bs >>= λ m. if nat_lt largest_table m.0 then Err SizeUpdate else Ok m
 
 -- the table after all size updates at the front, of which there are at most so many, and what
 -- follows them
 unfoldable pub updates_in : ℕ → Table → List ℕ → Result (Table × List ℕ) HpackError
 updates_in zero table bytes = Ok (table, bytes)
 updates_in (suc more) table bytes =
-    if begins_update bytes then (update_at bytes >>= λ m. updates_in more (resized m.0 table) m.1) else Ok (table, bytes)
+    if begins_update bytes then (update_at bytes >>= λ m. updates_in more (table_after_resize m.0 table) m.1) else Ok (table, bytes)
 
 -- the fields, of which there are at most so many as octets and whose sizes together are no more
 -- than the room, and the table after them
@@ -78,7 +83,8 @@ block_of table bytes = updates_of table bytes >>= λ u. fields_of list_limit u.0
 
 -- ---- a decoder stands at a table, or has failed; its answer to a block, and where it stands then
 
-abbrev pub answer_of : Result (List Header × Table) HpackError → Result (List Header) HpackError × Option Table
+abbrev pub answer_of : Result (List Header × Table) HpackError →
+    Result (List Header) HpackError × Option Table
 answer_of (Ok x) = (Ok x.0, Some x.1)
 answer_of (Err e) = (Err e, None)
 
@@ -90,7 +96,8 @@ step (Some table) bytes = answer_of (block_of table bytes)
 
 -- the representation at the front of the rest, which comes after these fields, is refused
 abbrev pub Refuses : List Header → Table → List ℕ → HpackError → Type 0
-Refuses [] table rest e = MatchBool (begins_update rest) (update_at rest ≡ Err e) (field_at table rest ≡ Err e)
+Refuses [] table rest e =
+    MatchBool (begins_update rest) (update_at rest ≡ Err e) (field_at table rest ≡ Err e)
 Refuses (h ∷ hs) table rest e = field_at table rest ≡ Err e
 
 -- a front is a block within the limit, and what follows begins with a representation that is

@@ -18,12 +18,14 @@ name_text index name = if index == 0 then 0 ∷ string_text name else integer_te
 
 -- RFC 7541, section 6.1 with index 8 for a status of 200, and otherwise section 6.2.2
 abbrev pub field_text : Header → List ℕ
-field_text h = if is_status_200 h then 136 ∷ [] else name_text (name_index h.name) h.name ++ string_text h.value
+field_text h =
+    if is_status_200 h then 136 ∷ []
+    else name_text (name_index h.name) h.name ++ string_text h.value
 
 -- the first block of a connection begins with the size update to 0
-abbrev pub opening : Position → List ℕ
-opening First = 32 ∷ []
-opening Later = []
+abbrev pub block_opening : Position → List ℕ
+block_opening First = 32 ∷ []
+block_opening Later = []
 
 abbrev pub block_text : Position → List Header → List ℕ
-block_text position hs = opening position ++ flat_map field_text hs
+block_text position hs = block_opening position ++ flat_map field_text hs

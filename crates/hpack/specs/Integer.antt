@@ -10,7 +10,8 @@ use Rattle.hpack.specs.Results.{◌>>=◌}
 abbrev pub AreGroups : List ℕ → ℕ → Type 0
 AreGroups [] n = ⊥
 AreGroups (b ∷ []) n = (b < 128) × (n ≡ b)
-AreGroups (b ∷ c ∷ bs) n = (128 ≤ b) × (high : ℕ) × (n ≡ 128 * high + (b - 128)) × AreGroups (c ∷ bs) high
+AreGroups (b ∷ c ∷ bs) n =
+    (128 ≤ b) × (high : ℕ) × (n ≡ 128 * high + (b - 128)) × AreGroups (c ∷ bs) high
 
 -- A number begins in the low bits of an octet, the prefix, below its other bits, the flags. It
 -- stands there if it is less than full, the prefix of ones alone; otherwise those ones stand there,
@@ -18,7 +19,9 @@ AreGroups (b ∷ c ∷ bs) n = (128 ≤ b) × (high : ℕ) × (n ≡ 128 * high 
 abbrev pub IsInteger : ℕ → ℕ → List ℕ → ℕ → Type 0
 IsInteger flags full [] n = ⊥
 IsInteger flags full (b ∷ []) n = (b ≡ flags + n) × (n < full)
-IsInteger flags full (b ∷ c ∷ bs) n = (b ≡ flags + full) × (beyond : ℕ) × (n ≡ full + beyond) × AreGroups (c ∷ bs) beyond × (length (c ∷ bs) ≤ 5) × (n < 2 ^ 32)
+IsInteger flags full (b ∷ c ∷ bs) n =
+    (b ≡ flags + full) × (beyond : ℕ) × (n ≡ full + beyond) × AreGroups (c ∷ bs) beyond
+    × (length (c ∷ bs) ≤ 5) × (n < 2 ^ 32)
 
 -- ---- reading a number from left to right; given with it is what follows
 
@@ -51,4 +54,5 @@ unfoldable pub groups : ℕ → List ℕ
 groups n = groups_in n n
 
 unfoldable pub integer_text : ℕ → ℕ → ℕ → List ℕ
-integer_text flags full n = if nat_lt n full then (flags + n) ∷ [] else (flags + full) ∷ groups (n - full)
+integer_text flags full n =
+    if nat_lt n full then (flags + n) ∷ [] else (flags + full) ∷ groups (n - full)

@@ -19,6 +19,7 @@ Gives view (Ok x) read = read ≡ Ok (view x)
 Gives view (Err e) read = read ≡ Err e
 
 -- the same, unless memory ran out
-abbrev pub GivesInMemory : {X Y : Type 0} → (X → Y) → Result X HpackError → Result Y HpackError → Type 0
+abbrev pub GivesInMemory : {X Y : Type 0} → (X → Y) → Result X HpackError → Result Y HpackError →
+    Type 0
 GivesInMemory view (Ok x) read = read ≡ Ok (view x)
 GivesInMemory view (Err e) read = Fails e read

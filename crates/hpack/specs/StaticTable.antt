@@ -75,7 +75,8 @@ static_table =
 -- the index of the first row with a name, counted from 1, or 0 where no row has it
 abbrev pub name_index_in : List Header → ℕ → List ℕ → ℕ
 name_index_in [] index name = 0
-name_index_in (row ∷ rows) index name = if bytes_eq row.name name then index else name_index_in rows (index + 1) name
+name_index_in (row ∷ rows) index name =
+    if bytes_eq row.name name then index else name_index_in rows (index + 1) name
 
 unfoldable pub name_index : List ℕ → ℕ
 name_index name = name_index_in static_table 1 name

@@ -2,7 +2,7 @@
 use Rattle.std.specs.Prelude.{◌≡◌, ℕ, ◌-◌, ◌⊎◌, List, [], ◌∷◌, ◌++◌, length, take, drop, Result, Ok, Err, nat_lt, if◌then◌else◌}
 use Rattle.hpack_huffman.specs.declared.HuffmanError.{HuffmanError}
 use Rattle.hpack_huffman.specs.Grammar.{IsHuffman}
-use Rattle.hpack_huffman.specs.Reading.{decoded}
+use Rattle.hpack_huffman.specs.Reading.{text_of_octets}
 use Rattle.hpack.specs.declared.error.HpackError.{HpackError}
 use Rattle.hpack.specs.declared.error.HpackError.TheVariants.{String as TooShort, Huffman}
 use Rattle.hpack.specs.Results.{◌>>=◌}
@@ -30,20 +30,21 @@ IsString bytes text = IsPlain bytes text ⊎ IsCoded bytes text
 -- ---- reading a string from left to right; given with it is what follows
 
 abbrev pub octets_at : ℕ → List ℕ → Result (List ℕ × List ℕ) HpackError
-octets_at count bytes = if nat_lt (length bytes) count then Err TooShort else Ok (take count bytes, drop count bytes)
+octets_at count bytes =
+    if nat_lt (length bytes) count then Err TooShort else Ok (take count bytes, drop count bytes)
 
-abbrev pub expanded_from : Result (List ℕ) HuffmanError → Result (List ℕ) HpackError
-expanded_from (Ok text) = Ok text
-expanded_from (Err e) = Err Huffman
+abbrev pub expansion_of : Result (List ℕ) HuffmanError → Result (List ℕ) HpackError
+expansion_of (Ok text) = Ok text
+expansion_of (Err e) = Err Huffman
 
-abbrev pub expanded : List ℕ → Result (List ℕ) HpackError
-expanded coding = expanded_from (decoded coding)
+abbrev pub expansion : List ℕ → Result (List ℕ) HpackError
+expansion coding = expansion_of (text_of_octets coding)
 
 unfoldable pub string_at : List ℕ → Result (List ℕ × List ℕ) HpackError
 string_at [] = Err TooShort
 string_at (b ∷ bs) =
     if nat_lt b 128 then (integer_at 127 b bs >>= λ n. octets_at n.0 n.1)
-    else (integer_at 127 (b - 128) bs >>= λ n. octets_at n.0 n.1 >>= λ s. expanded s.0 >>= λ text. Ok (text, s.1))
+    else (integer_at 127 (b - 128) bs >>= λ n. octets_at n.0 n.1 >>= λ s. expansion s.0 >>= λ text. Ok (text, s.1))
 
 -- ---- writing a string, always as it is
 

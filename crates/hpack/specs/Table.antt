@@ -21,26 +21,31 @@ table_size t = total_size t.entries
 -- the longest front whose sizes together are no more than the room
 abbrev pub longest_front : ℕ → List Header → List Header
 longest_front room [] = []
-longest_front room (h ∷ hs) = if nat_le (size_of h) room then h ∷ longest_front (room - size_of h) hs else []
+longest_front room (h ∷ hs) =
+    if nat_le (size_of h) room then h ∷ longest_front (room - size_of h) hs else []
 
 -- what it is to be that front
 pub record IsLongestFront (room : ℕ) (entries front : List Header) : Type 0 where
   pub rest : List Header
   pub parts : entries ≡ front ++ rest
   pub fits : total_size front ≤ room
-  pub longest : (h : Header) (hs : List Header) → rest ≡ h ∷ hs → room < total_size front + size_of h
+  pub longest : (h : Header) (hs : List Header) → rest ≡ h ∷ hs →
+      room < total_size front + size_of h
 
 -- section 4.3: the oldest entries go until the others fit
-abbrev pub resized : ℕ → Table → Table
-resized maximum t = record { maximum = maximum; entries = longest_front maximum t.entries }
+abbrev pub table_after_resize : ℕ → Table → Table
+table_after_resize maximum t =
+    record { maximum = maximum; entries = longest_front maximum t.entries }
 
 -- section 4.4: a new entry, for which the oldest go; one that is too large for the table empties it
-abbrev pub inserted : Header → Table → Table
-inserted h t = record { maximum = t.maximum; entries = longest_front t.maximum (h ∷ t.entries) }
+abbrev pub table_after_insertion : Header → Table → Table
+table_after_insertion h t =
+    record { maximum = t.maximum; entries = longest_front t.maximum (h ∷ t.entries) }
 
 -- section 2.3.3: indices begin at 1 with the static table, and go on with the dynamic table
-abbrev pub indexed_in : List Header → ℕ → Option Header
-indexed_in entries index = if index == 0 then None else slice_get (static_table ++ entries) (index - 1)
+abbrev pub header_by_index : List Header → ℕ → Option Header
+header_by_index entries index =
+    if index == 0 then None else slice_get (static_table ++ entries) (index - 1)
 
 abbrev pub header_at : Table → ℕ → Option Header
-header_at t index = indexed_in t.entries index
+header_at t index = header_by_index t.entries index

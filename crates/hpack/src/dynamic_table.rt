@@ -4,7 +4,7 @@ ghost use Rattle.std.specs.Prelude.{◌≡◌, ◌+◌, ◌<◌, ◌≤◌, [], 
 ghost use Rattle.std.specs.Option.{option_map, option_copied};
 ghost use Rattle.std.specs.VecDeque.{deque_len, deque_capacity};
 ghost use Rattle.hpack.specs.Header.{total_size};
-ghost use Rattle.hpack.specs.Table.{Table, longest_front, resized, inserted, indexed_in, header_at, table_size, new_table};
+ghost use Rattle.hpack.specs.Table.{Table, longest_front, table_after_resize, table_after_insertion, header_by_index, header_at, table_size, new_table};
 ghost use Rattle.hpack.specs.Shown.{row_shown};
 
 use crate::header::HeaderField;
@@ -46,7 +46,7 @@ fn dynamic_entry(entries: &VecDeque<HeaderField>, place: usize) -> Option<&Heade
 /// The name and the value at an index of both tables.
 #[tactic(auto, using(crate::proofs::Lookups::indexed_dynamic, crate::proofs::Lookups::indexed_static))]
 fn entry_at(entries: &VecDeque<HeaderField>, index: u32) -> Option<(&[u8], &[u8])>
-    ensures { option_map row_shown result ≡ indexed_in entries.now.items index }
+    ensures { option_map row_shown result ≡ header_by_index entries.now.items index }
 {
     if index == 0 {
         return None;
@@ -112,7 +112,7 @@ impl DynamicTable {
 
     /// Sets the maximum (section 4.3).
     pub(crate) fn resize(&mut self, maximum: u32)
-        ensures { self.new ≡ resized maximum self.old }
+        ensures { self.new ≡ table_after_resize maximum self.old }
     {
         self.maximum = maximum as usize;
         self.size = evict(&mut self.entries, self.size, maximum as usize);
@@ -120,7 +120,7 @@ impl DynamicTable {
 
     /// Adds an entry (section 4.4). A refused table is as before.
     pub(crate) fn insert(&mut self, field: &HeaderField) -> Result<(), AllocError>
-        ensures ok { OnOk result (self.new ≡ inserted field.now self.old) }
+        ensures ok { OnOk result (self.new ≡ table_after_insertion field.now self.old) }
         ensures err { OnErr result (self.new ≡ self.old) }
     {
         let Some(room) = field.room_after(self.maximum) else {

@@ -2,7 +2,7 @@
 
 ghost use Rattle.std.specs.Prelude.{◌≡◌, ◌++◌, OnOk};
 ghost use Rattle.hpack.specs.Results.{Gives, GivesInMemory};
-ghost use Rattle.hpack.specs.StringLiteral.{octets_at, expanded, string_at, string_text};
+ghost use Rattle.hpack.specs.StringLiteral.{octets_at, expansion, string_at, string_text};
 
 use crate::error::HpackError;
 use crate::integer::{push_integer, read_integer};
@@ -21,7 +21,7 @@ fn split(count: u32, bytes: &[u8]) -> Result<(&[u8], &[u8]), HpackError>
 
 /// The text of a Huffman coding.
 fn expand(alloc: Global, coding: &[u8]) -> Result<Vec<u8>, HpackError>
-    ensures { GivesInMemory (λ text. text.items) result (expanded coding.now) }
+    ensures { GivesInMemory (λ text. text.items) result (expansion coding.now) }
 {
     let mut text = Vec::new(alloc);
     match decode_into(coding, &mut text) {

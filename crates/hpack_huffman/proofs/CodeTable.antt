@@ -6,13 +6,13 @@ use Rattle.std.proofs.lemmas.Nat.{shr-shr, pow_pos, le-div, div_below}
 use Rattle.hpack_huffman.specs.declared.code.Codes.{Codes}
 use Rattle.hpack_huffman.specs.declared.code.TheConstants.{SHORT_LENGTHS, SHORT_SYMBOLS, CODES, SYMBOLS, EOS}
 use Rattle.hpack_huffman.specs.Lengths.{lengths}
-use Rattle.hpack_huffman.specs.Code.{bits, code_length, count_of, first_code, code_number, code}
+use Rattle.hpack_huffman.specs.Code.{bits, code_length, count_of, first_code, code_value, code}
 use Rattle.hpack_huffman.proofs.BitLists.{bits-add}
 use Rattle.hpack_huffman.specs.Table.{all_below, count_to, entry_ok, row_ok, rows_ok, IsAmong, IsIn, AreShort, OpensWith}
 use Rattle.hpack_huffman.proofs.Canonical.{all_below_at}
 
 table_ok : rows_ok 0 CODES ≡ true
-unfolding lengths code_length count_of first_code code_number entry_ok row_ok rows_ok
+unfolding lengths code_length count_of first_code code_value entry_ok row_ok rows_ok
 table_ok = refl
 
 pub among_all : (window : ℕ) → IsAmong window CODES
@@ -46,10 +46,10 @@ among_here window c cs lt h =
     let end : window < (c.first + count) * low = omega arith in
     let below : number < c.first + count = div_below window low (c.first + count) positive end in
     let entry = all_below_at (entry_ok c) count more tail.1 (omega arith) in
-    let place = and_parts (nat_lt (c.place + more) 256) (code_length symbol == c.length && code_number symbol == c.first + more) entry in
-    let values = and_parts (code_length symbol == c.length) (code_number symbol == c.first + more) place.1 in
+    let place = and_parts (nat_lt (c.place + more) 256) (code_length symbol == c.length && code_value symbol == c.first + more) entry in
+    let values = and_parts (code_length symbol == c.length) (code_value symbol == c.first + more) place.1 in
     let len : code_length symbol ≡ c.length = eqb-true (code_length symbol) c.length values.0 in
-    let num : code_number symbol ≡ number = let e = eqb-true (code_number symbol) (c.first + more) values.1 in omega arith in
+    let num : code_value symbol ≡ number = let e = eqb-true (code_value symbol) (c.first + more) values.1 in omega arith in
     let whole : 30 ≡ c.length + (30 - c.length) = omega arith in
     record {
       short = short;
@@ -76,26 +76,26 @@ among_end window rows i lt past h = among_none window lt (rw (← drop_all i row
 
 -- the octet begins with no short code, or with this one
 unfoldable short_ok : ℕ → ℕ → ℕ → Bool
-short_ok length symbol octet = (length == 0) || (nat_le length 8 && (code_length symbol == length && code_number symbol == octet / 2 ^ (8 - length)))
+short_ok length symbol octet = (length == 0) || (nat_le length 8 && (code_length symbol == length && code_value symbol == octet / 2 ^ (8 - length)))
 
 all_short : all_below (λ octet. short_ok (slice_index SHORT_LENGTHS octet) (slice_index SHORT_SYMBOLS octet) octet) 256 ≡ true
-unfolding lengths code_length count_of first_code code_number short_ok
+unfolding lengths code_length count_of first_code code_value short_ok
 all_short = refl
 
 short_here : (window length symbol : ℕ) → short_ok length symbol (window / 2 ^ 22) ≡ true → (length ≡ 0 → ⊥) → OpensWith window symbol length
 unfolding short_ok code
 short_here window length symbol h some =
     let octet = window / 2 ^ 22 in
-    elim (or_cases (length == 0) (nat_le length 8 && (code_length symbol == length && code_number symbol == octet / 2 ^ (8 - length))) h) [
+    elim (or_cases (length == 0) (nat_le length 8 && (code_length symbol == length && code_value symbol == octet / 2 ^ (8 - length))) h) [
       | inl none ↦ absurd (some (eqb-true length 0 none))
       | inr found ↦
-          let parts = and_parts (nat_le length 8) (code_length symbol == length && code_number symbol == octet / 2 ^ (8 - length)) found in
-          let values = and_parts (code_length symbol == length) (code_number symbol == octet / 2 ^ (8 - length)) parts.1 in
+          let parts = and_parts (nat_le length 8) (code_length symbol == length && code_value symbol == octet / 2 ^ (8 - length)) found in
+          let values = and_parts (code_length symbol == length) (code_value symbol == octet / 2 ^ (8 - length)) parts.1 in
           let short : length ≤ 8 = leb-true length 8 parts.0 in
           let len : code_length symbol ≡ length = eqb-true (code_length symbol) length values.0 in
           let low : 22 + (8 - length) ≡ 30 - length = omega arith in
-          let num : code_number symbol ≡ window / 2 ^ (30 - length) =
-          eqb-true (code_number symbol) (octet / 2 ^ (8 - length)) values.1 ∙ shr-shr window 22 (8 - length) ∙ ap (λ (k : ℕ). window / 2 ^ k) low in
+          let num : code_value symbol ≡ window / 2 ^ (30 - length) =
+          eqb-true (code_value symbol) (octet / 2 ^ (8 - length)) values.1 ∙ shr-shr window 22 (8 - length) ∙ ap (λ (k : ℕ). window / 2 ^ k) low in
           let whole : 30 ≡ length + (30 - length) = omega arith in
           record {
             short = omega arith;

@@ -8,7 +8,7 @@ use Rattle.hpack_huffman.specs.declared.HuffmanError.{HuffmanError}
 use Rattle.hpack_huffman.specs.declared.HuffmanError.TheVariants.{Eos, Padding, NoMemory}
 use Rattle.hpack_huffman.specs.Code.{eos, bits_of, code, code_length, codes_of}
 use Rattle.hpack_huffman.specs.Grammar.{AreOctets, IsHuffman, HasEos}
-use Rattle.hpack_huffman.specs.Reading.{symbol_at, is_padding, with_first, after_symbol, text_in, text_of_bits, decoded}
+use Rattle.hpack_huffman.specs.Reading.{symbol_at, is_padding, with_first, after_symbol, text_in, text_of_bits, text_of_octets}
 use Rattle.hpack_huffman.proofs.Canonical.{length-code, code_length_least}
 use Rattle.hpack_huffman.proofs.Symbols.{symbol_at_found, symbol_at_is, ones_none}
 
@@ -117,12 +117,12 @@ read_eos (s ∷ front) bs rest octets e =
     let others = read_eos front left rest octets.1 refl in
     text_symbol s bs left octets.0 (e ∙ codes_of-cons s front (code eos ++ rest)) ∙ ap (with_first s) others
 
-pub grammar_read : (octets text : List ℕ) → IsHuffman octets text → decoded octets ≡ Ok text
-unfolding decoded
+pub grammar_read : (octets text : List ℕ) → IsHuffman octets text → text_of_octets octets ≡ Ok text
+unfolding text_of_octets
 grammar_read octets text h = read_text text (bits_of octets) h.padding h.symbols h.short h.parts
 
-pub eos_read : (octets : List ℕ) → HasEos octets → decoded octets ≡ Err Eos
-unfolding decoded
+pub eos_read : (octets : List ℕ) → HasEos octets → text_of_octets octets ≡ Err Eos
+unfolding text_of_octets
 eos_read octets h = read_eos h.front (bits_of octets) h.rest h.symbols (h.parts ∙ append_assoc (codes_of h.front) (code eos) h.rest)
 
 -- ---- what is read is in the grammar
@@ -227,32 +227,32 @@ never_memory (suc most) bs e = go (symbol_at bs) e (λ u h. never_memory most u 
     symbol true e = cc
     symbol false e = later (drop (code_length s) bs) (first_err s (text_in most (drop (code_length s) bs)) NoMemory e)
 
-pub read_grammar : (octets text : List ℕ) → decoded octets ≡ Ok text → IsHuffman octets text
-unfolding decoded text_of_bits
+pub read_grammar : (octets text : List ℕ) → text_of_octets octets ≡ Ok text → IsHuffman octets text
+unfolding text_of_octets text_of_bits
 read_grammar octets text e =
     let s = spells_in (length (bits_of octets)) (bits_of octets) text e in
     record { padding = s.padding; short = s.short; symbols = s.symbols; parts = s.parts }
 
-pub read_meets : (octets : List ℕ) → decoded octets ≡ Err Eos → HasEos octets
-unfolding decoded text_of_bits
+pub read_meets : (octets : List ℕ) → text_of_octets octets ≡ Err Eos → HasEos octets
+unfolding text_of_octets text_of_bits
 read_meets octets e =
     let m = meets_in (length (bits_of octets)) (bits_of octets) e in
     record { front = m.front; rest = m.rest; symbols = m.symbols; parts = m.parts ∙ sym (append_assoc (codes_of m.front) (code eos) m.rest) }
 
-pub decoded-never_memory : (octets : List ℕ) → decoded octets ≡ Err NoMemory → ⊥
-unfolding decoded text_of_bits
-decoded-never_memory octets e = never_memory (length (bits_of octets)) (bits_of octets) e
+pub text_of_octets-never_memory : (octets : List ℕ) → text_of_octets octets ≡ Err NoMemory → ⊥
+unfolding text_of_octets text_of_bits
+text_of_octets-never_memory octets e = never_memory (length (bits_of octets)) (bits_of octets) e
 
-pub read_refused : (octets : List ℕ) → ((text : List ℕ) → IsHuffman octets text → ⊥) → (HasEos octets → ⊥) → decoded octets ≡ Err Padding
-read_refused octets spelled met = go (decoded octets) refl where
-  go : (read : Text) → decoded octets ≡ read → read ≡ Err Padding
+pub read_refused : (octets : List ℕ) → ((text : List ℕ) → IsHuffman octets text → ⊥) → (HasEos octets → ⊥) → text_of_octets octets ≡ Err Padding
+read_refused octets spelled met = go (text_of_octets octets) refl where
+  go : (read : Text) → text_of_octets octets ≡ read → read ≡ Err Padding
   go (Ok text) e = absurd (spelled text (read_grammar octets text e))
   go (Err Eos) e = absurd (met (read_meets octets e))
   go (Err Padding) e = refl
-  go (Err NoMemory) e = absurd (decoded-never_memory octets e)
+  go (Err NoMemory) e = absurd (text_of_octets-never_memory octets e)
 
-pub refused_text : (octets : List ℕ) → decoded octets ≡ Err Padding → (text : List ℕ) → IsHuffman octets text → ⊥
+pub refused_text : (octets : List ℕ) → text_of_octets octets ≡ Err Padding → (text : List ℕ) → IsHuffman octets text → ⊥
 refused_text octets e text h = let read = grammar_read octets text h in cc
 
-pub refused_eos : (octets : List ℕ) → decoded octets ≡ Err Padding → HasEos octets → ⊥
+pub refused_eos : (octets : List ℕ) → text_of_octets octets ≡ Err Padding → HasEos octets → ⊥
 refused_eos octets e h = let read = eos_read octets h in cc

@@ -32,11 +32,12 @@ first_code (suc n) = 2 * (first_code n + count_of n lengths)
 
 -- a symbol's code as a number: the first of its length, and one more for each lower symbol of that
 -- length
-unfoldable pub code_number : ℕ → ℕ
-code_number symbol = first_code (code_length symbol) + count_of (code_length symbol) (take symbol lengths)
+unfoldable pub code_value : ℕ → ℕ
+code_value symbol =
+    first_code (code_length symbol) + count_of (code_length symbol) (take symbol lengths)
 
 unfoldable pub code : ℕ → List ℕ
-code symbol = bits (code_length symbol) (code_number symbol)
+code symbol = bits (code_length symbol) (code_value symbol)
 
 -- the codes of symbols, one after another
 unfoldable pub codes_of : List ℕ → List ℕ

@@ -13,7 +13,8 @@ unfoldable pub window_of : List ℕ → List ℕ
 window_of bs = take 30 (bs ++ replicate 30 1)
 
 -- an answer, and then what is read after it
-abbrev pub reads_then : Result (Option ℕ) HuffmanError → Result (List ℕ) HuffmanError → Result (List ℕ) HuffmanError
+abbrev pub reads_then : Result (Option ℕ) HuffmanError → Result (List ℕ) HuffmanError →
+    Result (List ℕ) HuffmanError
 reads_then (Ok (Some symbol)) rest = with_first symbol rest
 reads_then (Ok None) rest = Ok []
 reads_then (Err e) rest = Err e

@@ -20,18 +20,21 @@ abbrev pub with_first : ℕ → Result (List ℕ) HuffmanError → Result (List 
 with_first symbol (Ok text) = Ok (symbol ∷ text)
 with_first symbol (Err e) = Err e
 
-abbrev pub after_symbol : Option ℕ → (ℕ → Result (List ℕ) HuffmanError) → List ℕ → Result (List ℕ) HuffmanError
+abbrev pub after_symbol : Option ℕ → (ℕ → Result (List ℕ) HuffmanError) → List ℕ →
+    Result (List ℕ) HuffmanError
 after_symbol None more bs = if is_padding bs then Ok [] else Err Padding
-after_symbol (Some symbol) more bs = if symbol == eos then Err Eos else with_first symbol (more symbol)
+after_symbol (Some symbol) more bs =
+    if symbol == eos then Err Eos else with_first symbol (more symbol)
 
 -- the text that bits spell, of which there are at most so many symbols
 unfoldable pub text_in : ℕ → List ℕ → Result (List ℕ) HuffmanError
 text_in zero bs = after_symbol None (λ symbol. Ok []) bs
-text_in (suc most) bs = after_symbol (symbol_at bs) (λ symbol. text_in most (drop (code_length symbol) bs)) bs
+text_in (suc most) bs =
+    after_symbol (symbol_at bs) (λ symbol. text_in most (drop (code_length symbol) bs)) bs
 
 unfoldable pub text_of_bits : List ℕ → Result (List ℕ) HuffmanError
 text_of_bits bs = text_in (length bs) bs
 
 -- the text that octets spell
-unfoldable pub decoded : List ℕ → Result (List ℕ) HuffmanError
-decoded octets = text_of_bits (bits_of octets)
+unfoldable pub text_of_octets : List ℕ → Result (List ℕ) HuffmanError
+text_of_octets octets = text_of_bits (bits_of octets)

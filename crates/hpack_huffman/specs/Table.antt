@@ -3,7 +3,7 @@
 use Rattle.std.specs.Prelude.{◌≡◌, ◌≢◌, ℕ, zero, suc, ◌+◌, ◌-◌, ◌*◌, ◌/◌, ◌^◌, ◌==◌, ◌<◌, ◌≤◌, nat_lt, nat_le, Bool, true, ◌&&◌, List, [], ◌∷◌, ◌++◌, slice_index}
 use Rattle.hpack_huffman.specs.declared.code.Codes.{Codes}
 use Rattle.hpack_huffman.specs.declared.code.TheConstants.{SYMBOLS, EOS}
-use Rattle.hpack_huffman.specs.Code.{bits, code_length, code_number, code}
+use Rattle.hpack_huffman.specs.Code.{bits, code_length, code_value, code}
 
 -- p holds of each number below n
 abbrev pub all_below : (ℕ → Bool) → ℕ → Bool
@@ -16,7 +16,7 @@ count_to c start = (c.limit - start) / 2 ^ (30 - c.length)
 
 -- the symbol in a place has the code that stands for the place
 unfoldable pub entry_ok : Codes → ℕ → Bool
-entry_ok c more = nat_lt (c.place + more) 256 && (code_length (slice_index SYMBOLS (c.place + more)) == c.length && code_number (slice_index SYMBOLS (c.place + more)) == c.first + more)
+entry_ok c more = nat_lt (c.place + more) 256 && (code_length (slice_index SYMBOLS (c.place + more)) == c.length && code_value (slice_index SYMBOLS (c.place + more)) == c.first + more)
 
 unfoldable pub row_ok : ℕ → Codes → Bool
 row_ok start c = (nat_le c.length 30 && c.first * 2 ^ (30 - c.length) == start)

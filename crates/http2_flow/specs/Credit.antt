@@ -9,5 +9,5 @@ pub record Credit : Type 0 where
 
 -- how many bytes may be sent; below 0 where the initial size was lowered after they were sent
 -- (section 6.9.2)
-abbrev pub left : Credit → ℤ
-left w = pos w.initial +ℤ w.change
+abbrev pub window_left : Credit → ℤ
+window_left w = pos w.initial +ℤ w.change

@@ -1,5 +1,5 @@
 ghost use Rattle.std.specs.Prelude.{◌≡◌, ◌≢◌, ◌↔◌, ◌⊎◌, ◌<◌, ◌^◌, ℕ, ℤ, pos, ◌+ℤ◌, ◌-ℤ◌, ◌<ℤ◌, ◌≤ℤ◌, IsOk, OnOk, OnErr, IsErrOf, IsTrue};
-ghost use Rattle.http2_flow.specs.Credit.{Credit, left};
+ghost use Rattle.http2_flow.specs.Credit.{Credit, window_left};
 
 use std::marker::Model;
 
@@ -52,9 +52,9 @@ impl Window {
 
     /// How many bytes may be sent. It is below 0 where the initial size was lowered too late.
     pub fn left(&self) -> i64
-        ensures value { result ≡ left self.now }
-        ensures high { left self.now <ℤ pos (2 ^ 31) }
-        ensures low { pos 0 <ℤ (left self.now +ℤ pos (2 ^ 31)) }
+        ensures value { result ≡ window_left self.now }
+        ensures high { window_left self.now <ℤ pos (2 ^ 31) }
+        ensures low { pos 0 <ℤ (window_left self.now +ℤ pos (2 ^ 31)) }
     {
         self.initial as i64 + self.change
     }
@@ -66,7 +66,7 @@ impl Window {
             ≡ record self.old { change = self.old.change +ℤ pos increment }) }
         ensures zero { IsErrOf result FlowError.Zero ↔ (increment ≡ 0) }
         ensures too_large { IsErrOf result FlowError.TooLarge
-            ↔ ((increment ≢ 0) × (pos (2 ^ 31) ≤ℤ (left self.old +ℤ pos increment))) }
+            ↔ ((increment ≢ 0) × (pos (2 ^ 31) ≤ℤ (window_left self.old +ℤ pos increment))) }
         ensures enough { IsErrOf result FlowError.NotEnough → ⊥ }
         ensures err { OnErr result (self.new ≡ self.old) }
     {
@@ -85,7 +85,8 @@ impl Window {
     pub fn spend(&mut self, bytes: u32) -> Result<(), FlowError>
         ensures ok { OnOk result (self.new
             ≡ record self.old { change = self.old.change -ℤ pos bytes }) }
-        ensures not_enough { IsErrOf result FlowError.NotEnough ↔ (left self.old <ℤ pos bytes) }
+        ensures not_enough { IsErrOf result FlowError.NotEnough
+            ↔ (window_left self.old <ℤ pos bytes) }
         ensures kind { IsOk result ⊎ IsErrOf result FlowError.NotEnough }
         ensures err { OnErr result (self.new ≡ self.old) }
     {

@@ -8,7 +8,7 @@ use Rattle.http2_frames.specs.declared.error.FrameError.{FrameError}
 use Rattle.http2_frames.specs.declared.error.FrameError.TheVariants.{Preface}
 use Rattle.http2_frames.specs.declared.frame.RawFrame.{RawFrame}
 use Rattle.http2_frames.specs.Wire.{IsFrameText, Spells, Split, IsEnd, IsInFrames, Leaves, IsCutShort, IsSplit}
-use Rattle.http2_frames.specs.Reading.{whole_at, frame_at, behind, rest_only, fault_only, split_by, split_in, split_frames, split}
+use Rattle.http2_frames.specs.Reading.{whole_at, frame_at, split_behind, rest_only, fault_only, split_by, split_in, split_frames, split}
 use Rattle.http2_frames.proofs.Fronts.{begins, begin, IsWhole, whole_is, is_whole, oversized_is, is_oversized, partial_is, is_partial}
 use Rattle.http2_frames.proofs.Splits.{split_partial, split_oversized, split_whole, past, short, off}
 
@@ -71,9 +71,9 @@ in_frames_only front rest (f ∷ fs) end h e =
     let text = h.0 ++ (h.1 ++ rest) in
     ap split_frames (ap (λ (q : List ℕ). q ++ rest) h.2 ∙ append_assoc h.0 h.1 rest)
     ∙ split_whole text (length f.payload) b.whole
-    ∙ ap (λ (g : RawFrame). behind (g ∷ []) (split_frames (drop (9 + length f.payload) text))) b.frame
-    ∙ ap (λ (q : List ℕ). behind (f ∷ []) (split_frames q)) b.others
-    ∙ ap (behind (f ∷ [])) (in_frames_only h.1 rest fs end h.4 e)
+    ∙ ap (λ (g : RawFrame). split_behind (g ∷ []) (split_frames (drop (9 + length f.payload) text))) b.frame
+    ∙ ap (λ (q : List ℕ). split_behind (f ∷ []) (split_frames q)) b.others
+    ∙ ap (split_behind (f ∷ [])) (in_frames_only h.1 rest fs end h.4 e)
 
 frame_text_at : (a b c k g w x y z : ℕ) (r : List ℕ) (n : ℕ) → n ≡ big_number 3 (a ∷ b ∷ c ∷ []) → n ≤ 16384 → n ≤ length r
     → IsFrameText (take (9 + n) (a ∷ b ∷ c ∷ k ∷ g ∷ w ∷ x ∷ y ∷ z ∷ r)) (record { kind = k; flags = g; stream = big_number 4 (w ∷ x ∷ y ∷ z ∷ []) % 2 ^ 31; payload = take n r })

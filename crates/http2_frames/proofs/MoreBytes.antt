@@ -5,7 +5,7 @@ use Rattle.http2_frames.specs.declared.error.FrameError.{FrameError}
 use Rattle.http2_frames.specs.declared.error.FrameError.TheVariants.{Preface}
 use Rattle.http2_frames.specs.declared.frame.RawFrame.{RawFrame}
 use Rattle.http2_frames.specs.Wire.{Split, Leaves}
-use Rattle.http2_frames.specs.Reading.{whole_at, frame_at, behind, rest_only, fault_only, split_frames, split}
+use Rattle.http2_frames.specs.Reading.{whole_at, frame_at, split_behind, rest_only, fault_only, split_frames, split}
 use Rattle.http2_frames.proofs.Fronts.{whole_is, oversized_more}
 use Rattle.http2_frames.proofs.Splits.{split_partial, split_oversized, split_whole, split_whole_more}
 use Rattle.http2_frames.proofs.Divisions.{Compared, compared, past_only, short_only, off_only}
@@ -34,10 +34,10 @@ from_rest r u = record { more = (u.frames, refl); ended = λ e h. absurd (no_fau
 from_fault : (d : FrameError) → Grows (fault_only d) (fault_only d)
 from_fault d = record { more = ([], refl); ended = λ e h. refl }
 
-from_frame : (f : RawFrame) (s u : Split) → Grows s u → Grows (behind (f ∷ []) s) (behind (f ∷ []) u)
+from_frame : (f : RawFrame) (s u : Split) → Grows s u → Grows (split_behind (f ∷ []) s) (split_behind (f ∷ []) u)
 from_frame f s u g = record {
   more = (g.more.0, ap (λ (fs : List RawFrame). f ∷ fs) g.more.1);
-  ended = λ e h. ap (behind (f ∷ [])) (g.ended e h);
+  ended = λ e h. ap (split_behind (f ∷ [])) (g.ended e h);
 }
 
 grows_as : (s s' u u' : Split) → s ≡ s' → u ≡ u' → Grows s' u' → Grows s u
@@ -53,7 +53,7 @@ frames_grow (suc k) t more p = go (whole_at t) refl (λ (r : List ℕ) (q : leng
       let w = whole_is t n e in
       let f = w.fits in
       let r : List ℕ = drop (9 + n) t in
-      grows_as _ (behind (frame_at t ∷ []) (split_frames r)) _ (behind (frame_at t ∷ []) (split_frames (r ++ more))) (split_whole t n e) (split_whole_more t more n e)
+      grows_as _ (split_behind (frame_at t ∷ []) (split_frames r)) _ (split_behind (frame_at t ∷ []) (split_frames (r ++ more))) (split_whole t n e) (split_whole_more t more n e)
       (from_frame (frame_at t) (split_frames r) (split_frames (r ++ more)) (others r (omega (arith, length-drop (9 + n) t))))
 
 off_longer : (p t more : List ℕ) → Leaves p t → Leaves p (t ++ more)

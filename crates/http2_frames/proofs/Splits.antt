@@ -7,7 +7,7 @@ use Rattle.byteorder.specs.Endian.{big_number}
 use Rattle.http2_frames.specs.declared.error.FrameError.{FrameError}
 use Rattle.http2_frames.specs.declared.error.FrameError.TheVariants.{Preface}
 use Rattle.http2_frames.specs.declared.frame.RawFrame.{RawFrame}
-use Rattle.http2_frames.specs.Reading.{whole_at, frame_at, behind, rest_only, fault_only, split_by, split_in, split_frames, split}
+use Rattle.http2_frames.specs.Reading.{whole_at, frame_at, split_behind, rest_only, fault_only, split_by, split_in, split_frames, split}
 use Rattle.http2_frames.proofs.Fronts.{begins, begin, front_of, whole_is, whole_more, frame_more}
 
 abbrev after_frame : List ℕ → List ℕ
@@ -26,7 +26,7 @@ split_fuel (suc j) (suc k) t p q = go (whole_at t) refl (split_fuel j k (after_f
       → split_by w t (split_in j (after_frame t)) ≡ split_by w t (split_in k (after_frame t))
   go (Ok None) e same = refl
   go (Err d) e same = refl
-  go (Ok (Some n)) e same = let less = frame_shrinks t n e in ap (behind (frame_at t ∷ [])) (same (omega arith) (omega arith))
+  go (Ok (Some n)) e same = let less = frame_shrinks t n e in ap (split_behind (frame_at t ∷ [])) (same (omega arith) (omega arith))
 
 -- what stands at the front, and then the rest
 pub split_step : (t : List ℕ) → split_frames t ≡ split_by (whole_at t) t (split_frames (after_frame t))
@@ -35,7 +35,7 @@ split_step t = go (whole_at t) refl where
   go : (w : Result (Option ℕ) FrameError) → whole_at t ≡ w → split_by w t (split_in (length t) (after_frame t)) ≡ split_by w t (split_frames (after_frame t))
   go (Ok None) e = refl
   go (Err d) e = refl
-  go (Ok (Some n)) e = let less = frame_shrinks t n e in ap (behind (frame_at t ∷ [])) (split_fuel (length t) (suc (length (after_frame t))) (after_frame t) (omega arith) (omega arith))
+  go (Ok (Some n)) e = let less = frame_shrinks t n e in ap (split_behind (frame_at t ∷ [])) (split_fuel (length t) (suc (length (after_frame t))) (after_frame t) (omega arith) (omega arith))
 
 pub split_partial : (t : List ℕ) → whole_at t ≡ Ok None → split_frames t ≡ rest_only t
 split_partial t e = split_step t ∙ ap (λ (w : Result (Option ℕ) FrameError). split_by w t (split_frames (after_frame t))) e
@@ -43,20 +43,20 @@ split_partial t e = split_step t ∙ ap (λ (w : Result (Option ℕ) FrameError)
 pub split_oversized : (t : List ℕ) (d : FrameError) → whole_at t ≡ Err d → split_frames t ≡ fault_only d
 split_oversized t d e = split_step t ∙ ap (λ (w : Result (Option ℕ) FrameError). split_by w t (split_frames (after_frame t))) e
 
-pub split_whole : (t : List ℕ) (n : ℕ) → whole_at t ≡ Ok (Some n) → split_frames t ≡ behind (frame_at t ∷ []) (split_frames (drop (9 + n) t))
+pub split_whole : (t : List ℕ) (n : ℕ) → whole_at t ≡ Ok (Some n) → split_frames t ≡ split_behind (frame_at t ∷ []) (split_frames (drop (9 + n) t))
 split_whole t n e =
     let w = whole_is t n e in
     split_step t ∙ ap (λ (w : Result (Option ℕ) FrameError). split_by w t (split_frames (after_frame t))) e
-    ∙ ap (λ (m : ℕ). behind (frame_at t ∷ []) (split_frames (drop (9 + m) t))) (sym w.size)
+    ∙ ap (λ (m : ℕ). split_behind (frame_at t ∷ []) (split_frames (drop (9 + m) t))) (sym w.size)
 
 -- a whole frame stays the first one, whatever follows
-pub split_whole_more : (t more : List ℕ) (n : ℕ) → whole_at t ≡ Ok (Some n) → split_frames (t ++ more) ≡ behind (frame_at t ∷ []) (split_frames (drop (9 + n) t ++ more))
+pub split_whole_more : (t more : List ℕ) (n : ℕ) → whole_at t ≡ Ok (Some n) → split_frames (t ++ more) ≡ split_behind (frame_at t ∷ []) (split_frames (drop (9 + n) t ++ more))
 split_whole_more t more n e =
     let w = whole_is t n e in
     let f = w.fits in
     split_whole (t ++ more) n (whole_more t more n e)
-    ∙ ap (λ (x : RawFrame). behind (x ∷ []) (split_frames (drop (9 + n) (t ++ more)))) (frame_more t more n e)
-    ∙ ap (λ (x : List ℕ). behind (frame_at t ∷ []) (split_frames x)) (drop-append-le (9 + n) t more f)
+    ∙ ap (λ (x : RawFrame). split_behind (x ∷ []) (split_frames (drop (9 + n) (t ++ more)))) (frame_more t more n e)
+    ∙ ap (λ (x : List ℕ). split_behind (frame_at t ∷ []) (split_frames x)) (drop-append-le (9 + n) t more f)
 
 -- ---- the preface
 

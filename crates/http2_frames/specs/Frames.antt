@@ -14,25 +14,30 @@ abbrev pub has_flag : RawFrame → ℕ → Bool
 has_flag f bit = not (bit_and f.flags bit == 0)
 
 -- sections 6.1 and 6.2: the bytes of pad length and priority, which stand before what may be padded
-abbrev pub lead : RawFrame → ℕ
-lead f = (if has_flag f PADDED then 1 else 0) + (if (f.kind == HEADERS) && has_flag f PRIORITY_FLAG then 5 else 0)
+abbrev pub lead_length : RawFrame → ℕ
+lead_length f =
+    (if has_flag f PADDED then 1 else 0) +
+    (if (f.kind == HEADERS) && has_flag f PRIORITY_FLAG then 5 else 0)
 
 abbrev pub pad_length : RawFrame → ℕ
 pad_length f = if has_flag f PADDED then slice_index f.payload 0 else 0
 
 -- what stands between them and the padding
-abbrev pub unpadded : RawFrame → List ℕ
-unpadded f = slice_range f.payload (lead f) (length f.payload - pad_length f)
+abbrev pub unpadded_content : RawFrame → List ℕ
+unpadded_content f = slice_range f.payload (lead_length f) (length f.payload - pad_length f)
 
 abbrev pub is_of_a_stream : RawFrame → Bool
-is_of_a_stream f = (f.kind == DATA) || (f.kind == HEADERS) || (f.kind == PRIORITY) || (f.kind == RST_STREAM) || (f.kind == CONTINUATION)
+is_of_a_stream f =
+    (f.kind == DATA) || (f.kind == HEADERS) || (f.kind == PRIORITY) || (f.kind == RST_STREAM) ||
+    (f.kind == CONTINUATION)
 
 abbrev pub is_of_the_connection : RawFrame → Bool
 is_of_the_connection f = (f.kind == SETTINGS) || (f.kind == PING) || (f.kind == GOAWAY)
 
 -- a stream number where none belongs, or none where one belongs
 abbrev pub is_misaddressed : RawFrame → Bool
-is_misaddressed f = (is_of_a_stream f && (f.stream == 0)) || (is_of_the_connection f && not (f.stream == 0))
+is_misaddressed f =
+    (is_of_a_stream f && (f.stream == 0)) || (is_of_the_connection f && not (f.stream == 0))
 
 abbrev pub may_be_padded : RawFrame → Bool
 may_be_padded f = (f.kind == DATA) || (f.kind == HEADERS)
@@ -45,16 +50,16 @@ is_missized f =
     || ((f.kind == PING) && not (length f.payload == 8))
     || ((f.kind == GOAWAY) && nat_lt (length f.payload) 8)
     || ((f.kind == SETTINGS) && (not (length f.payload % 6 == 0) || (has_flag f ACK && not (length f.payload == 0))))
-    || (may_be_padded f && nat_lt (length f.payload) (lead f))
+    || (may_be_padded f && nat_lt (length f.payload) (lead_length f))
 
 -- more padding than the rest of the payload
 abbrev pub is_overpadded : RawFrame → Bool
-is_overpadded f = may_be_padded f && nat_lt (length f.payload - lead f) (pad_length f)
+is_overpadded f = may_be_padded f && nat_lt (length f.payload - lead_length f) (pad_length f)
 
 abbrev pub content_of : RawFrame → Frame
 content_of f =
-    if f.kind == DATA then Data f.stream (has_flag f END_STREAM) (unpadded f)
-    else if f.kind == HEADERS then Headers f.stream (has_flag f END_STREAM) (has_flag f END_HEADERS) (unpadded f)
+    if f.kind == DATA then Data f.stream (has_flag f END_STREAM) (unpadded_content f)
+    else if f.kind == HEADERS then Headers f.stream (has_flag f END_STREAM) (has_flag f END_HEADERS) (unpadded_content f)
     else if f.kind == PRIORITY then Priority f.stream f.payload
     else if f.kind == RST_STREAM then RstStream f.stream (big_number 4 f.payload)
     else if f.kind == SETTINGS then Settings (has_flag f ACK) (settings_of f.payload)
@@ -80,5 +85,5 @@ pub record IsPadded (f : RawFrame) (content : List ℕ) : Type 0 where
   pub fields : List ℕ
   pub padding : List ℕ
   pub parts : f.payload ≡ fields ++ (content ++ padding)
-  pub fields_length : length fields ≡ lead f
+  pub fields_length : length fields ≡ lead_length f
   pub padding_length : length padding ≡ pad_length f

@@ -3,7 +3,7 @@ use Rattle.std.specs.Prelude.{◌≡◌, ℕ, ◌<◌, ◌≤◌, ◌^◌, List,
 use Rattle.http2_frames.specs.declared.error.FrameError.{FrameError}
 use Rattle.http2_frames.specs.declared.frame.RawFrame.{RawFrame}
 use Rattle.http2_frames.specs.Wire.{Split}
-use Rattle.http2_frames.specs.Reading.{split, behind, fault_only}
+use Rattle.http2_frames.specs.Reading.{split, split_behind, fault_only}
 
 -- what a reader has not given yet: the preface, where it has to come still, and bytes
 pub record Unread : Type 0 where
@@ -23,13 +23,15 @@ abbrev pub split_left : Result Unread FrameError → Split
 split_left (Ok u) = split u.preface u.text
 split_left (Err e) = fault_only e
 
-abbrev pub followed_by : Result Unread FrameError → List ℕ → Result Unread FrameError
-followed_by (Ok u) more = Ok (record { preface = u.preface; text = u.text ++ more })
-followed_by (Err e) more = Err e
+abbrev pub with_more_bytes : Result Unread FrameError → List ℕ → Result Unread FrameError
+with_more_bytes (Ok u) more = Ok (record { preface = u.preface; text = u.text ++ more })
+with_more_bytes (Err e) more = Err e
 
 -- the reader has given these frames of the text, and will give the others, whatever follows
 abbrev pub StandsFor : List ℕ → Result Unread FrameError → List ℕ → List RawFrame → Type 0
-StandsFor preface reader text given = (more : List ℕ) → split preface (text ++ more) ≡ behind given (split_left (followed_by reader more))
+StandsFor preface reader text given =
+    (more : List ℕ) → split preface (text ++ more)
+    ≡ split_behind given (split_left (with_more_bytes reader more))
 
 -- the frames in an answer
 abbrev pub frames_in : Result (Option RawFrame) FrameError → List RawFrame

@@ -24,8 +24,8 @@ frame_at bytes = record {
   payload = take (big_number 3 bytes) (drop 9 bytes);
 }
 
-abbrev pub behind : List RawFrame → Split → Split
-behind given s = record { frames = given ++ s.frames; end = s.end }
+abbrev pub split_behind : List RawFrame → Split → Split
+split_behind given s = record { frames = given ++ s.frames; end = s.end }
 
 abbrev pub rest_only : List ℕ → Split
 rest_only bytes = record { frames = []; end = Ok bytes }
@@ -36,13 +36,14 @@ fault_only e = record { frames = []; end = Err e }
 -- the split of the bytes, by what stands at their front and the split of what follows it
 abbrev pub split_by : Result (Option ℕ) FrameError → List ℕ → Split → Split
 split_by (Ok None) bytes later = rest_only bytes
-split_by (Ok (Some n)) bytes later = behind (frame_at bytes ∷ []) later
+split_by (Ok (Some n)) bytes later = split_behind (frame_at bytes ∷ []) later
 split_by (Err e) bytes later = fault_only e
 
 -- at most so many frames
 unfoldable pub split_in : ℕ → List ℕ → Split
 split_in zero bytes = rest_only bytes
-split_in (suc more) bytes = split_by (whole_at bytes) bytes (split_in more (drop (9 + big_number 3 bytes) bytes))
+split_in (suc more) bytes =
+    split_by (whole_at bytes) bytes (split_in more (drop (9 + big_number 3 bytes) bytes))
 
 -- a text without preface; it has fewer frames than bytes
 abbrev pub split_frames : List ℕ → Split

@@ -22,7 +22,9 @@ pub record IsFrameText (text : List ℕ) (f : RawFrame) : Type 0 where
 -- one frame after another, and nothing else
 abbrev pub Spells : List ℕ → List RawFrame → Type 0
 Spells text [] = text ≡ []
-Spells text (f ∷ fs) = (front : List ℕ) × (rest : List ℕ) × (text ≡ front ++ rest) × IsFrameText front f × Spells rest fs
+Spells text (f ∷ fs) =
+    (front : List ℕ) × (rest : List ℕ) × (text ≡ front ++ rest) × IsFrameText front f
+    × Spells rest fs
 
 -- what a text divides into: whole frames, and then a rest or a fault
 pub record Split : Type 0 where
@@ -31,7 +33,9 @@ pub record Split : Type 0 where
 
 -- less than a whole frame, or the head of a frame that is too long
 abbrev pub IsEnd : List ℕ → Result (List ℕ) FrameError → Type 0
-IsEnd bytes (Ok rest) = (bytes ≡ rest) × ((length bytes < 9) ⊎ (big_number 3 bytes ≤ 16384) × (length bytes < 9 + big_number 3 bytes))
+IsEnd bytes (Ok rest) =
+    (bytes ≡ rest) × ((length bytes < 9) ⊎ (big_number 3 bytes ≤ 16384)
+    × (length bytes < 9 + big_number 3 bytes))
 IsEnd bytes (Err e) = (e ≡ Size) × (9 ≤ length bytes) × (16384 < big_number 3 bytes)
 
 -- the text is these frames, and then its end

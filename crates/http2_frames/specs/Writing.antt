@@ -23,17 +23,39 @@ set_if is flag = if is then flag else 0
 
 -- the frame that says so
 abbrev pub raw_of : Frame → RawFrame
-raw_of (Data s end_stream bytes) = record { kind = DATA; flags = set_if end_stream END_STREAM; stream = s; payload = bytes }
-raw_of (Headers s end_stream end_headers fragment) = record { kind = HEADERS; flags = set_if end_stream END_STREAM + set_if end_headers END_HEADERS; stream = s; payload = fragment }
+raw_of (Data s end_stream bytes) =
+    record { kind = DATA; flags = set_if end_stream END_STREAM; stream = s; payload = bytes }
+raw_of (Headers s end_stream end_headers fragment) = record {
+  kind = HEADERS;
+  flags = set_if end_stream END_STREAM + set_if end_headers END_HEADERS;
+  stream = s;
+  payload = fragment;
+}
 raw_of (Priority s priority) = record { kind = PRIORITY; flags = 0; stream = s; payload = priority }
-raw_of (RstStream s error_code) = record { kind = RST_STREAM; flags = 0; stream = s; payload = big_bytes 4 error_code }
-raw_of (Settings ack settings) = record { kind = SETTINGS; flags = set_if ack ACK; stream = 0; payload = settings_text settings }
-raw_of (PushPromise flags s payload) = record { kind = PUSH_PROMISE; flags = flags; stream = s; payload = payload }
-raw_of (Ping ack opaque_data) = record { kind = PING; flags = set_if ack ACK; stream = 0; payload = opaque_data }
-raw_of (GoAway last_stream error_code debug_data) = record { kind = GOAWAY; flags = 0; stream = 0; payload = big_bytes 4 last_stream ++ big_bytes 4 error_code ++ debug_data }
-raw_of (WindowUpdate s increment) = record { kind = WINDOW_UPDATE; flags = 0; stream = s; payload = big_bytes 4 increment }
-raw_of (Continuation s end_headers fragment) = record { kind = CONTINUATION; flags = set_if end_headers END_HEADERS; stream = s; payload = fragment }
-raw_of (Unknown kind flags s payload) = record { kind = kind; flags = flags; stream = s; payload = payload }
+raw_of (RstStream s error_code) =
+    record { kind = RST_STREAM; flags = 0; stream = s; payload = big_bytes 4 error_code }
+raw_of (Settings ack settings) =
+    record { kind = SETTINGS; flags = set_if ack ACK; stream = 0; payload = settings_text settings }
+raw_of (PushPromise flags s payload) =
+    record { kind = PUSH_PROMISE; flags = flags; stream = s; payload = payload }
+raw_of (Ping ack opaque_data) =
+    record { kind = PING; flags = set_if ack ACK; stream = 0; payload = opaque_data }
+raw_of (GoAway last_stream error_code debug_data) = record {
+  kind = GOAWAY;
+  flags = 0;
+  stream = 0;
+  payload = big_bytes 4 last_stream ++ big_bytes 4 error_code ++ debug_data;
+}
+raw_of (WindowUpdate s increment) =
+    record { kind = WINDOW_UPDATE; flags = 0; stream = s; payload = big_bytes 4 increment }
+raw_of (Continuation s end_headers fragment) = record {
+  kind = CONTINUATION;
+  flags = set_if end_headers END_HEADERS;
+  stream = s;
+  payload = fragment;
+}
+raw_of (Unknown kind flags s payload) =
+    record { kind = kind; flags = flags; stream = s; payload = payload }
 
 abbrev pub text_of : Frame → List ℕ
 text_of f = frame_text (raw_of f)
@@ -50,10 +72,13 @@ IsWritable (Data s end_stream bytes) = IsStream s × (length bytes ≤ 16384)
 IsWritable (Headers s end_stream end_headers fragment) = IsStream s × (length fragment ≤ 16384)
 IsWritable (Priority s priority) = IsStream s × (length priority ≡ 5)
 IsWritable (RstStream s error_code) = IsStream s × (error_code < 2 ^ 32)
-IsWritable (Settings ack settings) = AllByRecursion IsSetting settings × (6 * length settings ≤ 16384) × (ack ≡ true → settings ≡ [])
+IsWritable (Settings ack settings) =
+    AllByRecursion IsSetting settings × (6 * length settings ≤ 16384) × (ack ≡ true → settings ≡ [])
 IsWritable (PushPromise flags s payload) = (s < 2 ^ 31) × (length payload ≤ 16384)
 IsWritable (Ping ack opaque_data) = length opaque_data ≡ 8
-IsWritable (GoAway last_stream error_code debug_data) = (last_stream < 2 ^ 31) × (error_code < 2 ^ 32) × (8 + length debug_data ≤ 16384)
+IsWritable (GoAway last_stream error_code debug_data) =
+    (last_stream < 2 ^ 31) × (error_code < 2 ^ 32) × (8 + length debug_data ≤ 16384)
 IsWritable (WindowUpdate s increment) = (s < 2 ^ 31) × (increment < 2 ^ 31)
 IsWritable (Continuation s end_headers fragment) = IsStream s × (length fragment ≤ 16384)
-IsWritable (Unknown kind flags s payload) = (CONTINUATION < kind) × (s < 2 ^ 31) × (length payload ≤ 16384)
+IsWritable (Unknown kind flags s payload) =
+    (CONTINUATION < kind) × (s < 2 ^ 31) × (length payload ≤ 16384)

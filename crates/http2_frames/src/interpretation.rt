@@ -2,7 +2,7 @@
 
 ghost use Rattle.std.specs.Prelude.{◌≡◌, ◌-◌, ◌≤◌, ◌%◌, ◌^◌, length, drop, slice_range, Ok, Err, false};
 ghost use Rattle.byteorder.specs.Endian.{big_number};
-ghost use Rattle.http2_frames.specs.Frames.{has_flag, lead, pad_length, unpadded, is_misaddressed, is_missized, is_overpadded, may_be_padded, content_of, frame_of};
+ghost use Rattle.http2_frames.specs.Frames.{has_flag, lead_length, pad_length, unpadded_content, is_misaddressed, is_missized, is_overpadded, may_be_padded, content_of, frame_of};
 
 use crate::codes::{ErrorCode, flag, frame_type};
 use crate::frame::{Frame, RawFrame};
@@ -38,7 +38,7 @@ fn is_misaddressed(frame: &RawFrame) -> bool
 
 /// How many bytes stand before what may be padded.
 fn lead(frame: &RawFrame) -> usize
-    ensures { result ≡ lead frame.now }
+    ensures { result ≡ lead_length frame.now }
 {
     let pad_length = if has_flag(frame, flag::PADDED) { 1 } else { 0 };
     if frame.kind == frame_type::HEADERS && has_flag(frame, flag::PRIORITY) {
@@ -63,7 +63,7 @@ fn is_missized(frame: &RawFrame) -> bool
 }
 
 fn pad_length(frame: &RawFrame) -> usize
-    requires { lead frame.now ≤ length frame.now.payload }
+    requires { lead_length frame.now ≤ length frame.now.payload }
     ensures { result ≡ pad_length frame.now }
 {
     if has_flag(frame, flag::PADDED) {
@@ -156,9 +156,9 @@ fn content(frame: &RawFrame) -> Frame<'_>
 }
 
 fn unpadded(frame: &RawFrame) -> &[u8]
-    requires sized { lead frame.now ≤ length frame.now.payload }
-    requires padded { pad_length frame.now ≤ length frame.now.payload - lead frame.now }
-    ensures { result.now ≡ unpadded frame.now }
+    requires sized { lead_length frame.now ≤ length frame.now.payload }
+    requires padded { pad_length frame.now ≤ length frame.now.payload - lead_length frame.now }
+    ensures { result.now ≡ unpadded_content frame.now }
 {
     let payload = frame.payload.as_slice();
     &payload[lead(frame)..payload.len() - pad_length(frame)]

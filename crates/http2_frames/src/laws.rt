@@ -7,7 +7,7 @@ ghost use Rattle.http2_frames.specs.declared.error.FrameError.{FrameError};
 ghost use Rattle.http2_frames.specs.declared.frame.RawFrame.{RawFrame};
 ghost use Rattle.http2_frames.specs.declared.frame.Frame.{Frame};
 ghost use Rattle.http2_frames.specs.declared.reader.TheConstants.{CLIENT_PREFACE, MAX_FRAME_SIZE};
-ghost use Rattle.http2_frames.specs.Frames.{frame_of, may_be_padded, unpadded, IsPadded};
+ghost use Rattle.http2_frames.specs.Frames.{frame_of, may_be_padded, unpadded_content, IsPadded};
 ghost use Rattle.http2_frames.specs.Writing.{raw_of, text_of, IsWritable};
 ghost use Rattle.http2_frames.specs.Wire.{Split, IsSplit};
 ghost use Rattle.http2_frames.specs.Reading.{split};
@@ -50,5 +50,5 @@ pub fn written_frames_are_read_again()
 /// What DATA and HEADERS hold stands between their fields and their padding.
 pub fn padding_surrounds_the_content()
     ensures { (raw : RawFrame) (frame : Frame) → may_be_padded raw ≡ true →
-        frame_of raw ≡ Ok frame → IsPadded raw (unpadded raw) }
+        frame_of raw ≡ Ok frame → IsPadded raw (unpadded_content raw) }
 {}

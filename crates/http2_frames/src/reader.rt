@@ -6,8 +6,8 @@ ghost use Rattle.byteorder.specs.Endian.{big_number};
 ghost use Rattle.http2_frames.specs.declared.frame.RawFrame.{RawFrame};
 ghost use Rattle.http2_frames.specs.declared.error.FrameError.{FrameError};
 ghost use Rattle.http2_frames.specs.Reading.{split, whole_at, frame_at};
-ghost use Rattle.http2_frames.specs.Reader.{StandsFor, IsFrame, followed_by, frames_in, text_left, split_left};
-ghost use Rattle.http2_frames.specs.Step.{past_preface, Takes, WaitsShortly};
+ghost use Rattle.http2_frames.specs.Reader.{StandsFor, IsFrame, with_more_bytes, frames_in, text_left, split_left};
+ghost use Rattle.http2_frames.specs.Step.{after_preface, Takes, WaitsShortly};
 
 use crate::error::FrameError;
 use crate::frame::RawFrame;
@@ -83,7 +83,7 @@ impl FrameReader {
         ensures stands { OnOk result ((preface text : List ℕ) (given : List RawFrame) →
             StandsFor preface self.old text given →
             StandsFor preface self.new (text ++ piece.now) given) }
-        ensures ok { OnOk result (self.new ≡ followed_by self.old piece.now) }
+        ensures ok { OnOk result (self.new ≡ with_more_bytes self.old piece.now) }
 
         // It is refused for want of memory, or as before.
         ensures err { OnErr result (self.new ≡ self.old) }
@@ -136,7 +136,7 @@ impl FrameReader {
     }
 
     fn pass_preface(&mut self)
-        ensures passed { self.new ≡ past_preface self.old }
+        ensures passed { self.new ≡ after_preface self.old }
         ensures short { WaitsShortly self.new }
     {
         if self.fault.is_some() {

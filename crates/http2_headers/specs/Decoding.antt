@@ -10,7 +10,7 @@ use Rattle.http2_frames.specs.declared.codes.ErrorCode.TheVariants.{ProtocolErro
 use Rattle.http2_headers.specs.declared.fault.H2Fault.{H2Fault}
 use Rattle.http2_headers.specs.declared.fault.H2Fault.TheVariants.{Connection, NoMemory}
 use Rattle.http2_headers.specs.declared.header_blocks.HeaderList.{HeaderList}
-use Rattle.http2_headers.specs.HeaderBlock.{HeaderBlock, continued, is_excessive}
+use Rattle.http2_headers.specs.HeaderBlock.{HeaderBlock, with_continuation, is_excessive}
 
 -- the block that is not at its end yet, and the dynamic table, or none after a refusal
 pub record HeaderState : Type 0 where
@@ -29,31 +29,37 @@ abbrev pub fault_of : HpackError → ErrorCode
 fault_of ListTooLarge = EnhanceYourCalm
 fault_of _ = CompressionError
 
-abbrev pub list_of : ℕ → Bool → Result (List Header) HpackError → Result (Option HeaderList) ErrorCode
-list_of stream end_stream (Ok fields) = Ok (Some (record { stream = stream; end_stream = end_stream; fields = fields }))
+abbrev pub list_of : ℕ → Bool → Result (List Header) HpackError →
+    Result (Option HeaderList) ErrorCode
+list_of stream end_stream (Ok fields) =
+    Ok (Some (record { stream = stream; end_stream = end_stream; fields = fields }))
 list_of stream end_stream (Err e) = Err (fault_of e)
 
 -- what a block gives so far: its fields where END_HEADERS stands at its last frame
-abbrev pub given : Option Table → Bool → HeaderBlock → Result (Option HeaderList) ErrorCode
-given table end_headers b =
+abbrev pub list_of_block : Option Table → Bool → HeaderBlock → Result (Option HeaderList) ErrorCode
+list_of_block table end_headers b =
     if is_excessive b then Err EnhanceYourCalm
     else if end_headers then list_of b.stream b.end_stream (step table b.fragment).0
     else Ok None
 
 -- what is kept then
-abbrev pub kept : Option Table → Bool → HeaderBlock → HeaderState
-kept table end_headers b =
+abbrev pub state_after_block : Option Table → Bool → HeaderBlock → HeaderState
+state_after_block table end_headers b =
     if end_headers then record { unfinished = None; table = (step table b.fragment).1 }
     else record { unfinished = Some b; table = table }
 
 -- the same of a CONTINUATION frame, which needs an unfinished block (section 6.10)
-abbrev pub given_next : Option Table → Option HeaderBlock → Bool → List ℕ → Result (Option HeaderList) ErrorCode
-given_next table None end_headers fragment = Err ProtocolError
-given_next table (Some b) end_headers fragment = given table end_headers (continued fragment b)
+abbrev pub list_of_continuation : Option Table → Option HeaderBlock → Bool → List ℕ →
+    Result (Option HeaderList) ErrorCode
+list_of_continuation table None end_headers fragment = Err ProtocolError
+list_of_continuation table (Some b) end_headers fragment =
+    list_of_block table end_headers (with_continuation fragment b)
 
-abbrev pub kept_next : Option Table → Option HeaderBlock → Bool → List ℕ → HeaderState
-kept_next table None end_headers fragment = failed_state
-kept_next table (Some b) end_headers fragment = kept table end_headers (continued fragment b)
+abbrev pub state_after_continuation : Option Table → Option HeaderBlock → Bool → List ℕ →
+    HeaderState
+state_after_continuation table None end_headers fragment = failed_state
+state_after_continuation table (Some b) end_headers fragment =
+    state_after_block table end_headers (with_continuation fragment b)
 
 -- the fault is the one that the frame meets; want of memory says nothing of the frame
 abbrev pub Fails : {A : Type 0} → H2Fault → Result A ErrorCode → Type 0

@@ -16,7 +16,8 @@ is_name_byte b = nat_lt 0x20 b && nat_lt b 0x7f && not (nat_le 0x41 b && nat_le 
 
 -- not empty, and with a colon in front only, where it marks a pseudo-header field
 abbrev pub is_valid_name : List ℕ → Bool
-is_valid_name name = nat_lt 0 (length name) && list_all is_name_byte name && not (list_any is_colon (drop 1 name))
+is_valid_name name =
+    nat_lt 0 (length name) && list_all is_name_byte name && not (list_any is_colon (drop 1 name))
 
 -- NUL, LF or CR
 abbrev pub is_forbidden : ℕ → Bool
@@ -28,7 +29,9 @@ is_blank b = b == 32 || b == 9
 
 -- with no forbidden byte, and no blank at either end
 abbrev pub is_valid_value : List ℕ → Bool
-is_valid_value value = not (list_any is_forbidden value) && not (list_any is_blank (take 1 value)) && not (list_any is_blank (drop (length value - 1) value))
+is_valid_value value =
+    not (list_any is_forbidden value) && not (list_any is_blank (take 1 value)) && not
+    (list_any is_blank (drop (length value - 1) value))
 
 -- a pseudo-header field (section 8.3)
 abbrev pub is_pseudo : List ℕ → Bool
@@ -36,7 +39,9 @@ is_pseudo name = list_any is_colon (take 1 name)
 
 -- one of those that a request may have (section 8.3.1)
 abbrev pub is_request_pseudo : List ℕ → Bool
-is_request_pseudo name = is_text name (codes ":method") || is_text name (codes ":scheme") || is_text name (codes ":authority") || is_text name (codes ":path")
+is_request_pseudo name =
+    is_text name (codes ":method") || is_text name (codes ":scheme") || is_text name
+    (codes ":authority") || is_text name (codes ":path")
 
 -- it concerns one connection of HTTP/1.1 (section 8.2.2)
 abbrev pub is_connection_specific : List ℕ → Bool

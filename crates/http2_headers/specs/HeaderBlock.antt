@@ -11,11 +11,13 @@ pub record HeaderBlock : Type 0 where
   -- all fragments, joined
   pub fragment : List ℕ
 
-abbrev pub begun : ℕ → Bool → List ℕ → HeaderBlock
-begun stream end_stream fragment = record { stream = stream; end_stream = end_stream; continuations = 0; fragment = fragment }
+abbrev pub new_block : ℕ → Bool → List ℕ → HeaderBlock
+new_block stream end_stream fragment =
+    record { stream = stream; end_stream = end_stream; continuations = 0; fragment = fragment }
 
-abbrev pub continued : List ℕ → HeaderBlock → HeaderBlock
-continued fragment b = record b { continuations = b.continuations + 1; fragment = b.fragment ++ fragment }
+abbrev pub with_continuation : List ℕ → HeaderBlock → HeaderBlock
+with_continuation fragment b =
+    record b { continuations = b.continuations + 1; fragment = b.fragment ++ fragment }
 
 -- more than the server takes: section 10.5.1 leaves the limits to it
 abbrev pub is_excessive : HeaderBlock → Bool

@@ -13,8 +13,8 @@ is_pseudo_field h = is_pseudo h.name
 abbrev pub is_named : List ℕ → Header → Bool
 is_named name h = is_text h.name name
 
-abbrev pub times : List ℕ → List Header → ℕ
-times name hs = count_by (is_named name) hs
+abbrev pub count_of_name : List ℕ → List Header → ℕ
+count_of_name name hs = count_by (is_named name) hs
 
 -- section 8.3: no pseudo-header field stands after another field
 abbrev pub has_pseudo_fields_first : List Header → Bool
@@ -28,8 +28,8 @@ abbrev pub is_well_formed_request : List Header → Bool
 is_well_formed_request hs =
     list_all is_lawful hs
     && has_pseudo_fields_first hs
-    && times (codes ":method") hs == 1
-    && times (codes ":scheme") hs == 1
-    && times (codes ":path") hs == 1
-    && nat_le (times (codes ":authority") hs) 1
+    && count_of_name (codes ":method") hs == 1
+    && count_of_name (codes ":scheme") hs == 1
+    && count_of_name (codes ":path") hs == 1
+    && nat_le (count_of_name (codes ":authority") hs) 1
     && not (list_any is_empty_path hs)

@@ -5,7 +5,12 @@ use Rattle.http2_headers.specs.declared.header_blocks.Fragments.{Fragments}
 use Rattle.http2_headers.specs.HeaderBlock.{HeaderBlock}
 
 abbrev pub block_shown : Fragments → HeaderBlock
-block_shown f = record { stream = f.stream; end_stream = f.end_stream; continuations = f.continuations; fragment = f.bytes.items }
+block_shown f = record {
+  stream = f.stream;
+  end_stream = f.end_stream;
+  continuations = f.continuations;
+  fragment = f.bytes.items;
+}
 
 abbrev pub table_shown : Option (Option Table) → Option Table
 table_shown None = None

@@ -2,9 +2,9 @@
 
 ghost use Rattle.std.specs.Prelude.{◌≡◌, ◌≤◌, ◌<◌, ◌+◌, ◌++◌, length, Option, Some, None, IsSome, IfSome, OnOk, OnErr, IfOk, Ok, Err, option_map};
 ghost use Rattle.hpack.specs.Block.{step};
-ghost use Rattle.http2_headers.specs.HeaderBlock.{begun, continued, is_excessive};
+ghost use Rattle.http2_headers.specs.HeaderBlock.{new_block, with_continuation, is_excessive};
 ghost use Rattle.http2_headers.specs.Shown.{block_shown};
-ghost use Rattle.http2_headers.specs.Decoding.{new_state, failed_state, given, kept, given_next, kept_next, Gives, list_of};
+ghost use Rattle.http2_headers.specs.Decoding.{new_state, failed_state, list_of_block, state_after_block, list_of_continuation, state_after_continuation, Gives, list_of};
 
 use crate::fault::H2Fault;
 use hpack::{Decoder, Headers, HpackError};
@@ -88,10 +88,11 @@ impl HeaderBlocks {
         end_headers: bool,
         fragment: &[u8],
     ) -> Result<Option<HeaderList>, H2Fault>
-        ensures given { Gives result (given self.old.table end_headers
-            (begun stream end_stream fragment.now)) }
+        ensures given { Gives result (list_of_block self.old.table end_headers
+            (new_block stream end_stream fragment.now)) }
         ensures kept { OnOk result (self.new
-            ≡ kept self.old.table end_headers (begun stream end_stream fragment.now)) }
+            ≡ state_after_block self.old.table end_headers
+            (new_block stream end_stream fragment.now)) }
         ensures failed { OnErr result (self.new ≡ failed_state) }
     {
         let outcome = self.begin_block(stream, end_stream, end_headers, fragment);
@@ -108,10 +109,12 @@ impl HeaderBlocks {
         end_headers: bool,
         fragment: &[u8],
     ) -> Result<Option<HeaderList>, H2Fault>
-        ensures given { Gives result (given_next self.old.table self.old.unfinished end_headers
+        ensures given { Gives result (list_of_continuation self.old.table self.old.unfinished
+            end_headers
             fragment.now) }
         ensures kept { OnOk result (self.new
-            ≡ kept_next self.old.table self.old.unfinished end_headers fragment.now) }
+            ≡ state_after_continuation self.old.table self.old.unfinished end_headers
+            fragment.now) }
         ensures failed { OnErr result (self.new ≡ failed_state) }
     {
         let outcome = self.go_on_with_block(end_headers, fragment);
@@ -135,10 +138,11 @@ impl HeaderBlocks {
         end_headers: bool,
         fragment: &[u8],
     ) -> Result<Option<HeaderList>, H2Fault>
-        ensures given { Gives result (given self.old.table end_headers
-            (begun stream end_stream fragment.now)) }
+        ensures given { Gives result (list_of_block self.old.table end_headers
+            (new_block stream end_stream fragment.now)) }
         ensures kept { OnOk result (self.new
-            ≡ kept self.old.table end_headers (begun stream end_stream fragment.now)) }
+            ≡ state_after_block self.old.table end_headers
+            (new_block stream end_stream fragment.now)) }
     {
         self.unfinished = None;
         if fragment.len() > MAX_BLOCK {
@@ -162,10 +166,12 @@ impl HeaderBlocks {
         end_headers: bool,
         fragment: &[u8],
     ) -> Result<Option<HeaderList>, H2Fault>
-        ensures given { Gives result (given_next self.old.table self.old.unfinished end_headers
+        ensures given { Gives result (list_of_continuation self.old.table self.old.unfinished
+            end_headers
             fragment.now) }
         ensures kept { OnOk result (self.new
-            ≡ kept_next self.old.table self.old.unfinished end_headers fragment.now) }
+            ≡ state_after_continuation self.old.table self.old.unfinished end_headers
+            fragment.now) }
     {
         let Some(mut block) = mem::replace(&mut self.unfinished, None) else {
             return Err(OUT_OF_PLACE);

@@ -3,7 +3,7 @@
 ghost use Rattle.std.specs.Prelude.{◌≡◌, ◌<◌, ◌^◌, codes, count_by, length, take_while};
 ghost use Rattle.std.specs.List.{list_any, list_all};
 ghost use Rattle.http2_headers.specs.FieldSyntax.{is_request_field};
-ghost use Rattle.http2_headers.specs.Request.{is_lawful, is_pseudo_field, is_named, times, has_pseudo_fields_first, is_empty_path, is_well_formed_request};
+ghost use Rattle.http2_headers.specs.Request.{is_lawful, is_pseudo_field, is_named, count_of_name, has_pseudo_fields_first, is_empty_path, is_well_formed_request};
 
 use crate::field_syntax::{is_request_field, names_pseudo};
 use hpack::HeaderField;
@@ -72,7 +72,7 @@ fn is_named(field: &HeaderField, name: &[u8]) -> bool
 
 /// How many fields have the name.
 fn count_of(fields: &[HeaderField], name: &[u8]) -> usize
-    ensures { result ≡ times name.now fields.now }
+    ensures { result ≡ count_of_name name.now fields.now }
 {
     fields.iter().filter(|field| is_named(*field, name)).count()
 }

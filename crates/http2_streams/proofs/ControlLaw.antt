@@ -13,15 +13,15 @@ use Rattle.http2_frames.specs.declared.frame.Frame.TheVariants.{Data, Headers, P
 use Rattle.http2_frames.specs.declared.settings.Setting.{Setting}
 use Rattle.http2_frames.specs.Frames.{frame_of, content_of, is_misaddressed, is_missized, is_overpadded}
 use Rattle.http2_frames.specs.Writing.{raw_of}
-use Rattle.http2_headers.specs.HeaderBlock.{begun}
+use Rattle.http2_headers.specs.HeaderBlock.{new_block}
 use Rattle.http2_headers.specs.declared.header_blocks.HeaderList.{HeaderList}
-use Rattle.http2_headers.specs.Decoding.{given, given_next}
+use Rattle.http2_headers.specs.Decoding.{list_of_block, list_of_continuation}
 use Rattle.http2_headers.specs.Request.{is_well_formed_request}
 use Rattle.http2_streams.specs.declared.event.Event.{Event}
 use Rattle.http2_streams.specs.declared.event.Event.TheVariants.{Nothing}
 use Rattle.http2_streams.specs.declared.event.StreamEvent.{StreamEvent}
 use Rattle.http2_streams.specs.Standing.{Standing}
-use Rattle.http2_streams.specs.Rules.{is_idle, is_live_at, is_receiving, is_remembered, update, brings, nothing, stream_error, on_data, on_given, on_request, on_trailers, on_settings, settings_fault, on_ping, on_connection_update, on_stream_update, overflows, fits, on_content, on_frame_of, in_turn, answer_to, control_frames}
+use Rattle.http2_streams.specs.Rules.{is_idle, is_live_at, is_receiving, is_remembered, window_update, event_only, no_effect, stream_error, on_data, on_header_list, on_request, on_trailers, on_settings, settings_fault, on_ping, on_connection_update, on_stream_update, overflows, may_grow, on_content, on_frame_of, is_in_turn, answer_to, control_frames}
 use Rattle.http2_streams.specs.ControlAnswers.{IsAnswer}
 use Rattle.http2_streams.proofs.Bools.{not_false, or_parts}
 use Rattle.http2_streams.proofs.Law.{OkThen, split}
@@ -90,10 +90,10 @@ each_answer P a h =
 abbrev IsControl : StreamEvent → Type 0
 IsControl a = EachAnswer IsAnswer a
 
-update_control : (s n : ℕ) → IfFrame IsAnswer (update s n)
+update_control : (s n : ℕ) → IfFrame IsAnswer (window_update s n)
 update_control s n = split (IfFrame IsAnswer) (n == 0) None (Some (WindowUpdate s n)) (λ _. tt) (λ _. tt)
 
-event_control : (e : Event) → IsControl (brings e)
+event_control : (e : Event) → IsControl (event_only e)
 event_control e = record { acknowledgement = tt; connection_update = tt; stream_update = tt; reset = tt }
 
 error_control : (v : Standing) (s : ℕ) (code : ErrorCode) → IsControl (stream_error v s code)
@@ -105,7 +105,7 @@ AreControl r = OkThen IsControl r
 data_control : (v : Standing) (n s : ℕ) (e : Bool) (bytes : List ℕ) → AreControl (on_data v n s e bytes)
 data_control v n s e bytes =
     split AreControl (is_idle v s) _ _ (λ _. tt)
-    (λ _. split AreControl (is_receiving v s) _ _ (λ _. record { acknowledgement = tt; connection_update = update_control 0 n; stream_update = split (IfFrame IsAnswer) e None (update s n) (λ _. tt) (λ _. update_control s n); reset = tt })
+    (λ _. split AreControl (is_receiving v s) _ _ (λ _. record { acknowledgement = tt; connection_update = update_control 0 n; stream_update = split (IfFrame IsAnswer) e None (window_update s n) (λ _. tt) (λ _. update_control s n); reset = tt })
     (λ _. split AreControl (is_remembered v s) _ _ (λ _. record { acknowledgement = tt; connection_update = update_control 0 n; stream_update = tt; reset = tt })
     (λ _. record { acknowledgement = tt; connection_update = update_control 0 n; stream_update = tt; reset = tt })))
 
@@ -118,7 +118,7 @@ trailers_control : (v : Standing) (s : ℕ) (e : Bool) → IsControl (on_trailer
 trailers_control v s true = event_control _
 trailers_control v s false = error_control v s ProtocolError
 
-given_control : (v : Standing) (g : Result (Option HeaderList) ErrorCode) → AreControl (on_given v g)
+given_control : (v : Standing) (g : Result (Option HeaderList) ErrorCode) → AreControl (on_header_list v g)
 given_control v (Err code) = tt
 given_control v (Ok None) = event_control Nothing
 given_control v (Ok (Some block)) =
@@ -127,7 +127,7 @@ given_control v (Ok (Some block)) =
     (λ _. split AreControl (is_receiving v block.stream) _ _ (λ _. trailers_control v block.stream block.end_stream)
     (λ _. split AreControl (is_remembered v block.stream) _ _ (λ _. event_control Nothing) (λ _. tt))))
 
-settings_by : (fault : Option ErrorCode) → AreControl (option_map_or Err fault (Ok (record nothing { acknowledgement = Some (Settings true []) })))
+settings_by : (fault : Option ErrorCode) → AreControl (option_map_or Err fault (Ok (record no_effect { acknowledgement = Some (Settings true []) })))
 settings_by None = record { acknowledgement = (refl, refl); connection_update = tt; stream_update = tt; reset = tt }
 settings_by (Some code) = tt
 
@@ -147,11 +147,11 @@ stream_update_control v s n =
     (λ _. split AreControl (list_any (overflows s n) v.live) _ _ (λ _. error_control v s FlowControlError) (λ _. event_control Nothing))))
 
 connection_update_control : (v : Standing) (n : ℕ) → AreControl (on_connection_update v n)
-connection_update_control v n = split AreControl (n == 0) _ _ (λ _. tt) (λ _. split AreControl (fits n v.connection_window) _ _ (λ _. event_control Nothing) (λ _. tt))
+connection_update_control v n = split AreControl (n == 0) _ _ (λ _. tt) (λ _. split AreControl (may_grow n v.connection_window) _ _ (λ _. event_control Nothing) (λ _. tt))
 
 content_control : (v : Standing) (n : ℕ) (g : Frame) → IsSized g → AreControl (on_content v n g)
 content_control v n (Data s e bytes) sized = data_control v n s e bytes
-content_control v n (Headers s e end_headers fragment) sized = given_control v (given v.table end_headers (begun s e fragment))
+content_control v n (Headers s e end_headers fragment) sized = given_control v (list_of_block v.table end_headers (new_block s e fragment))
 content_control v n (Priority s p) sized = event_control Nothing
 content_control v n (RstStream s code) sized = split AreControl (is_idle v s) _ _ (λ _. tt) (λ _. event_control _)
 content_control v n (Settings ack settings) sized = settings_control v ack settings
@@ -159,7 +159,7 @@ content_control v n (PushPromise flags s payload) sized = tt
 content_control v n (Ping ack o) sized = ping_control ack o sized
 content_control v n (GoAway s code b) sized = event_control Nothing
 content_control v n (WindowUpdate s m) sized = split AreControl (s == 0) _ _ (λ _. connection_update_control v m) (λ _. stream_update_control v s m)
-content_control v n (Continuation s end_headers fragment) sized = given_control v (given_next v.table v.unfinished end_headers fragment)
+content_control v n (Continuation s end_headers fragment) sized = given_control v (list_of_continuation v.table v.unfinished end_headers fragment)
 content_control v n (Unknown k f s p) sized = event_control Nothing
 
 frame_control : (v : Standing) (n : ℕ) (r : Result Frame ErrorCode) → OkThen IsSized r → AreControl (on_frame_of v n r)
@@ -169,7 +169,7 @@ frame_control v n (Err code) sized = tt
 answer_control : (v : Standing) (f : RawFrame) → AreControl (answer_to v f)
 answer_control v f =
     split AreControl v.failed _ _ (λ _. event_control Nothing)
-    (λ _. split AreControl (in_turn v f) _ _ (λ _. frame_control v (length f.payload) (frame_of f) (frame_sized f)) (λ _. tt))
+    (λ _. split AreControl (is_in_turn v f) _ _ (λ _. frame_control v (length f.payload) (frame_of f) (frame_sized f)) (λ _. tt))
 
 pub answers_are_control : (v : Standing) (f : RawFrame) (a : StreamEvent) → answer_to v f ≡ Ok a → AllByRecursion IsAnswer (control_frames a)
 answers_are_control v f a is = each_answer IsAnswer a (subst AreControl is (answer_control v f))

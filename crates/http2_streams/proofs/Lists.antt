@@ -3,7 +3,7 @@ use Rattle.std.proofs.Common.{◌≡◌, ℕ, ◌<◌, ◌≤◌, List, [], ◌�
 use Rattle.std.specs.Prelude.{map, filter, fold, max, Bool, ◌&&◌, ◌||◌, cond, nat_lt}
 use Rattle.std.specs.List.{list_any}
 use Rattle.std.proofs.lemmas.Bool.{cases_Bool, ltb-true, ltb-false}
-use Rattle.http2_streams.specs.Diary.{rising}
+use Rattle.http2_streams.specs.History.{rising_numbers}
 
 pub max_from : (n : ℕ) (xs : List ℕ) → n ≤ fold max n xs
 max_from n [] = omega arith
@@ -13,7 +13,7 @@ abbrev pub Agree : {A : Type 0} → (ℕ → A) → (ℕ → A) → ℕ → List
 Agree f g m xs = (t : ℕ) → m < t → t ≤ fold max m xs → f t ≡ g t
 
 -- of the rising numbers, only those above the first and up to the highest matter
-pub map_rising_agree : {A : Type 0} (f g : ℕ → A) (p q : ℕ → Bool) (m : ℕ) (xs : List ℕ) → Agree f g m xs → Agree p q m xs → map f (filter p (rising m xs)) ≡ map g (filter q (rising m xs))
+pub map_rising_agree : {A : Type 0} (f g : ℕ → A) (p q : ℕ → Bool) (m : ℕ) (xs : List ℕ) → Agree f g m xs → Agree p q m xs → map f (filter p (rising_numbers m xs)) ≡ map g (filter q (rising_numbers m xs))
 map_rising_agree f g p q m [] hf hp = refl
 map_rising_agree f g p q m (x ∷ xs) hf hp = elim (cases_Bool (nat_lt m x)) [
   | inl higher ↦
@@ -34,17 +34,17 @@ map_rising_agree f g p q m (x ∷ xs) hf hp = elim (cases_Bool (nat_lt m x)) [
 ]
 
 -- one more number
-pub rising-push : (m s : ℕ) (xs : List ℕ) → rising m (xs ++ s ∷ []) ≡ rising m xs ++ cond (nat_lt (fold max m xs) s) (s ∷ []) []
-rising-push m s [] = refl
-rising-push m s (x ∷ xs) = elim (cases_Bool (nat_lt m x)) [
+pub rising_numbers-push : (m s : ℕ) (xs : List ℕ) → rising_numbers m (xs ++ s ∷ []) ≡ rising_numbers m xs ++ cond (nat_lt (fold max m xs) s) (s ∷ []) []
+rising_numbers-push m s [] = refl
+rising_numbers-push m s (x ∷ xs) = elim (cases_Bool (nat_lt m x)) [
   | inl higher ↦
       let above : m < x = ltb-true m x higher in
       let e : max m x ≡ x = omega arith in
-      rw (higher, e) (ap (λ ys. x ∷ ys) (rising-push x s xs))
+      rw (higher, e) (ap (λ ys. x ∷ ys) (rising_numbers-push x s xs))
   | inr not_above ↦
       let below = ltb-false m x not_above in
       let e : max m x ≡ m = omega arith in
-      rw (not_above, e) (rising-push m s xs)
+      rw (not_above, e) (rising_numbers-push m s xs)
 ]
 
 pub filter-map : {A B : Type 0} (p : B → Bool) (f : A → B) (xs : List A) → filter p (map f xs) ≡ map f (filter (λ x. p (f x)) xs)

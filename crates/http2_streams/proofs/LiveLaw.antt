@@ -9,8 +9,8 @@ use Rattle.std.proofs.lemmas.List.Folds.{list_any-append}
 use Rattle.std.proofs.lemmas.List.Sums.{fold-append}
 use Rattle.http2_frames.specs.declared.frame.Frame.{Frame}
 use Rattle.http2_frames.specs.declared.frame.Frame.TheVariants.{Data, Headers, Priority, RstStream, Settings, PushPromise, Ping, GoAway, WindowUpdate, Continuation, Unknown}
-use Rattle.http2_headers.specs.HeaderBlock.{HeaderBlock, begun, continued}
-use Rattle.http2_streams.specs.Diary.{Entry, Blocks, blocks_after, no_blocks, placed, stream_of, frame_in, frame_out, received, sent, has_failed, highest, live, is_live, opened, rising, resets, data_ends, block_ends, ends}
+use Rattle.http2_headers.specs.HeaderBlock.{HeaderBlock, new_block, with_continuation}
+use Rattle.http2_streams.specs.History.{Entry, Blocks, blocks_after, no_blocks, blocks_with, stream_of, frame_in, frame_out, received_frames, sent_frames, has_failed, highest_stream, live_streams, is_not_closed, opened_streams, rising_numbers, resets, data_ends, block_ends, ends}
 use Rattle.http2_streams.specs.Standing.{Standing}
 use Rattle.http2_streams.specs.StandsFor.{StandsFor}
 use Rattle.http2_streams.specs.LiveStreams.{has_stream}
@@ -25,16 +25,16 @@ Stays bs cs = (more : List HeaderBlock) × (cs ≡ bs ++ more)
 stays : (bs : List HeaderBlock) → Stays bs bs
 stays bs = ([], sym (append-nil bs))
 
-placed_stays : (bs : List HeaderBlock) (end_headers : Bool) (b : HeaderBlock) → Stays bs (placed bs end_headers b).finished
+placed_stays : (bs : List HeaderBlock) (end_headers : Bool) (b : HeaderBlock) → Stays bs (blocks_with bs end_headers b).finished
 placed_stays bs true b = (b ∷ [], refl)
 placed_stays bs false b = stays bs
 
-next_stays : (bs : Blocks) (o : Option HeaderBlock) (end_headers : Bool) (fragment : List ℕ) → Stays bs.finished (option_map_or (λ b. placed bs.finished end_headers (continued fragment b)) o bs).finished
+next_stays : (bs : Blocks) (o : Option HeaderBlock) (end_headers : Bool) (fragment : List ℕ) → Stays bs.finished (option_map_or (λ b. blocks_with bs.finished end_headers (with_continuation fragment b)) o bs).finished
 next_stays bs None end_headers fragment = stays bs.finished
-next_stays bs (Some b) end_headers fragment = placed_stays bs.finished end_headers (continued fragment b)
+next_stays bs (Some b) end_headers fragment = placed_stays bs.finished end_headers (with_continuation fragment b)
 
 block_stays : (bs : Blocks) (f : Frame) → Stays bs.finished (blocks_after bs f).finished
-block_stays bs (Headers s e h fragment) = placed_stays bs.finished h (begun s e fragment)
+block_stays bs (Headers s e h fragment) = placed_stays bs.finished h (new_block s e fragment)
 block_stays bs (Continuation s h fragment) = next_stays bs bs.unfinished h fragment
 block_stays bs (Data s e b) = stays bs.finished
 block_stays bs (Priority s p) = stays bs.finished
@@ -83,11 +83,11 @@ alive_falls rs xs ss ys s h =
     let parts : (not ((list_any (resets s) rs || list_any (resets s) xs) || (list_any (resets s) ss || list_any (resets s) ys)) && not (((list_any (data_ends s) rs || list_any (data_ends s) xs) || (list_any (block_ends s) (blocks_in rs).finished || list_any (block_ends s) b.0)) && (list_any (ends s) ss || list_any (ends s) ys))) ≡ true = rw (← r, ← q, ← c, ← g, ← e) h in
     still (list_any (resets s) rs) (list_any (resets s) xs) (list_any (resets s) ss) (list_any (resets s) ys) (list_any (data_ends s) rs) (list_any (data_ends s) xs) (list_any (block_ends s) (blocks_in rs).finished) (list_any (block_ends s) b.0) (list_any (ends s) ss) (list_any (ends s) ys) parts
 
-pub live_falls : (d es : List Entry) (s : ℕ) → is_live (d ++ es) s ≡ true → is_live d s ≡ true
+pub live_falls : (d es : List Entry) (s : ℕ) → is_not_closed (d ++ es) s ≡ true → is_not_closed d s ≡ true
 live_falls d es s h =
-    let r : received (d ++ es) ≡ received d ++ received es = filter_map-append frame_in d es in
-    let q : sent (d ++ es) ≡ sent d ++ sent es = filter_map-append frame_out d es in
-    alive_falls (received d) (received es) (sent d) (sent es) s (ap (λ (ss : List Frame). alive (received d ++ received es) ss s) (sym q) ∙ ap (λ (rs : List Frame). alive rs (sent (d ++ es)) s) (sym r) ∙ h)
+    let r : received_frames (d ++ es) ≡ received_frames d ++ received_frames es = filter_map-append frame_in d es in
+    let q : sent_frames (d ++ es) ≡ sent_frames d ++ sent_frames es = filter_map-append frame_out d es in
+    alive_falls (received_frames d) (received_frames es) (sent_frames d) (sent_frames es) s (ap (λ (ss : List Frame). alive (received_frames d ++ received_frames es) ss s) (sym q) ∙ ap (λ (rs : List Frame). alive rs (sent_frames (d ++ es)) s) (sym r) ∙ h)
 
 -- ---- the highest never falls
 
@@ -97,11 +97,11 @@ top_rises rs xs =
     let more : top (rs ++ xs) ≡ fold max (top rs) (map stream_of b.0) = ap (λ (bs : List HeaderBlock). fold max 0 (map stream_of bs)) b.1 ∙ ap (fold max 0) (map-append stream_of (blocks_in rs).finished b.0) ∙ fold-append max 0 (numbers rs) (map stream_of b.0) in
     rw more (max_from (top rs) (map stream_of b.0))
 
-pub highest_rises : (d es : List Entry) → highest d ≤ highest (d ++ es)
+pub highest_rises : (d es : List Entry) → highest_stream d ≤ highest_stream (d ++ es)
 highest_rises d es =
-    let r : received (d ++ es) ≡ received d ++ received es = filter_map-append frame_in d es in
-    let e : highest (d ++ es) ≡ top (received d ++ received es) = ap top r in
-    rw e (top_rises (received d) (received es))
+    let r : received_frames (d ++ es) ≡ received_frames d ++ received_frames es = filter_map-append frame_in d es in
+    let e : highest_stream (d ++ es) ≡ top (received_frames d ++ received_frames es) = ap top r in
+    rw e (top_rises (received_frames d) (received_frames es))
 
 -- ---- those in the list
 
@@ -123,30 +123,30 @@ kept_both p s (x ∷ xs) h = elim (cases_Bool (p x)) [
       ]
 ]
 
-rising_below : (m s : ℕ) (xs : List ℕ) → has_stream (rising m xs) s ≡ true → s ≤ fold max m xs
+rising_below : (m s : ℕ) (xs : List ℕ) → has_stream (rising_numbers m xs) s ≡ true → s ≤ fold max m xs
 rising_below m s [] h = cc
 rising_below m s (x ∷ xs) h = elim (cases_Bool (nat_lt m x)) [
   | inl higher ↦
       let above : m < x = ltb-true m x higher in
       let e : max m x ≡ x = omega arith in
-      let h' : ((x == s) || has_stream (rising x xs) s) ≡ true = rw higher at h in
-      elim (or_cases (x == s) (has_stream (rising x xs) s) h') [
+      let h' : ((x == s) || has_stream (rising_numbers x xs) s) ≡ true = rw higher at h in
+      elim (or_cases (x == s) (has_stream (rising_numbers x xs) s) h') [
         | inl same ↦ let k : x ≡ s = eqb-true x s same in rw e (omega (arith, max_from x xs, k))
         | inr later ↦ rw e (rising_below x s xs later)
       ]
   | inr not_above ↦
       let below = ltb-false m x not_above in
       let e : max m x ≡ m = omega arith in
-      let h' : has_stream (rising m xs) s ≡ true = rw not_above at h in
+      let h' : has_stream (rising_numbers m xs) s ≡ true = rw not_above at h in
       rw e (rising_below m s xs h')
 ]
 
-pub listed_is_live : (d : List Entry) (s : ℕ) → has_stream (live d) s ≡ true → (is_live d s ≡ true) × (s ≤ highest d)
+pub listed_is_live : (d : List Entry) (s : ℕ) → has_stream (live_streams d) s ≡ true → (is_not_closed d s ≡ true) × (s ≤ highest_stream d)
 listed_is_live d s h =
-    let k = kept_both (is_live d) s (opened d) h in
-    (k.0, rising_below 0 s (numbers (received d)) k.1)
+    let k = kept_both (is_not_closed d) s (opened_streams d) h in
+    (k.0, rising_below 0 s (numbers (received_frames d)) k.1)
 
-pub idle_is_live : (v : Standing) (d : List Entry) (s : ℕ) → StandsFor v d → has_failed d ≡ false → highest d < s → is_live d s ≡ true
+pub idle_is_live : (v : Standing) (d : List Entry) (s : ℕ) → StandsFor v d → has_failed d ≡ false → highest_stream d < s → is_not_closed d s ≡ true
 idle_is_live v d s h fine above =
     let u = (h.state fine).idle s above in
     let r = u.unreset in

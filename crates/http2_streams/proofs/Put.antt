@@ -10,16 +10,16 @@ use Rattle.http2_flow.specs.Credit.{Credit}
 use Rattle.http2_frames.specs.declared.frame.Frame.{Frame}
 use Rattle.http2_frames.specs.declared.frame.Frame.TheVariants.{Data, Headers, RstStream}
 use Rattle.http2_streams.specs.declared.stream.Stream.{Stream}
-use Rattle.http2_streams.specs.Diary.{rising, resets, ends, data_length, data_length_on, increment_for, is_goaway, reset_by, last}
-use Rattle.http2_streams.specs.Step.{server_ended, server_ends, mark_server, spent_at, spent, data_put, reset_put}
+use Rattle.http2_streams.specs.History.{rising_numbers, resets, ends, data_length, data_length_on, increment_for, is_goaway, stream_reset_by, last_items}
+use Rattle.http2_streams.specs.Step.{streams_after_server_end, after_server_end, with_server_end, stream_after_spending, credit_after_spending, after_data, after_reset}
 use Rattle.http2_streams.proofs.Lists.{map_rising_agree, any-push, append-nil, filter-map, filter-filter, map-map}
 use Rattle.http2_streams.proofs.Bools.{eq_sym, or_false, or_true, reset_alive, ended_alive'}
 use Rattle.http2_streams.proofs.Sides.{numbers, reset_in, ended_c, ended_s, alive, size, granted_in, spent_in, stream_by, at, streams_in, connection, std_of, top, Idle, sum-push, out-reset, kept_streams, changed_streams}
 
 -- ---- the last n of a list
 
-pub last-push : {A : Type 0} (n : ℕ) (xs : List A) (x : A) → 1 ≤ n → last n (xs ++ x ∷ []) ≡ last n (last n xs ++ x ∷ [])
-last-push n xs x some =
+pub last_items-push : {A : Type 0} (n : ℕ) (xs : List A) (x : A) → 1 ≤ n → last_items n (xs ++ x ∷ []) ≡ last_items n (last_items n xs ++ x ∷ [])
+last_items-push n xs x some =
     let k = length xs - n in
     let small : k ≤ length xs = omega arith in
     let one : length (xs ++ x ∷ []) ≡ length xs + 1 = length-append xs (x ∷ []) in
@@ -46,22 +46,22 @@ alive_put rs ss f t =
     let r = out-reset rs ss f t in
     cc
 
-streams_put : (rs ss : List Frame) (f : Frame) (m : ℕ → Stream) (k : ℕ → Bool) → ((t : ℕ) → at rs (ss ++ f ∷ []) t ≡ m t) → ((t : ℕ) → alive rs (ss ++ f ∷ []) t ≡ k t) → streams_in rs (ss ++ f ∷ []) ≡ map m (filter k (rising 0 (numbers rs)))
+streams_put : (rs ss : List Frame) (f : Frame) (m : ℕ → Stream) (k : ℕ → Bool) → ((t : ℕ) → at rs (ss ++ f ∷ []) t ≡ m t) → ((t : ℕ) → alive rs (ss ++ f ∷ []) t ≡ k t) → streams_in rs (ss ++ f ∷ []) ≡ map m (filter k (rising_numbers 0 (numbers rs)))
 streams_put rs ss f m k each lives = map_rising_agree (at rs (ss ++ f ∷ [])) m (alive rs (ss ++ f ∷ [])) k 0 (numbers rs) (λ t _ _. each t) (λ t _ _. lives t)
 
 -- what a frame that does not end the connection leaves, by what it does to the streams, the remembered ones and
 -- the connection's window
 put_by : (rs ss : List Frame) (f : Frame) (l : List Stream) (r : List ℕ) (c : Credit) → is_goaway f ≡ false
-    → streams_in rs (ss ++ f ∷ []) ≡ l → last 128 (filter_map reset_by (ss ++ f ∷ [])) ≡ r → connection rs (ss ++ f ∷ []) ≡ c
+    → streams_in rs (ss ++ f ∷ []) ≡ l → last_items 128 (filter_map stream_reset_by (ss ++ f ∷ [])) ≡ r → connection rs (ss ++ f ∷ []) ≡ c
     → std_of rs (ss ++ f ∷ []) ≡ record (std_of rs ss) { live = l; remembered = r; connection_window = c }
 put_by rs ss f l r c goes_on l-is r-is c-is =
     let g : list_any is_goaway (ss ++ f ∷ []) ≡ list_any is_goaway ss = any-push is_goaway ss f ∙ ap (λ b. list_any is_goaway ss || b) goes_on ∙ or_false (list_any is_goaway ss) in
     cc
 
-remembered_put : (ss : List Frame) (f : Frame) → reset_by f ≡ None → last 128 (filter_map reset_by (ss ++ f ∷ [])) ≡ last 128 (filter_map reset_by ss)
+remembered_put : (ss : List Frame) (f : Frame) → stream_reset_by f ≡ None → last_items 128 (filter_map stream_reset_by (ss ++ f ∷ [])) ≡ last_items 128 (filter_map stream_reset_by ss)
 remembered_put ss f none =
-    let e : filter_map reset_by (f ∷ []) ≡ [] = rw none refl in
-    ap (last 128) (filter_map-append reset_by ss (f ∷ []) ∙ ap (λ xs. filter_map reset_by ss ++ xs) e ∙ append-nil (filter_map reset_by ss))
+    let e : filter_map stream_reset_by (f ∷ []) ≡ [] = rw none refl in
+    ap (last_items 128) (filter_map-append stream_reset_by ss (f ∷ []) ∙ ap (λ xs. filter_map stream_reset_by ss ++ xs) e ∙ append-nil (filter_map stream_reset_by ss))
 
 connection_put : (rs ss : List Frame) (f : Frame) → data_length f ≡ 0 → connection rs (ss ++ f ∷ []) ≡ connection rs ss
 connection_put rs ss f none =
@@ -75,7 +75,7 @@ pub record IsQuietPut (f : Frame) : Type 0 where
   pub unended : (t : ℕ) → ends t f ≡ false
   pub unspent : (t : ℕ) → data_length_on t f ≡ 0
   pub no_data : data_length f ≡ 0
-  pub resets_none : reset_by f ≡ None
+  pub resets_none : stream_reset_by f ≡ None
 
 pub quiet_put : (rs ss : List Frame) (f : Frame) → IsQuietPut f → std_of rs (ss ++ f ∷ []) ≡ std_of rs ss
 quiet_put rs ss f q =
@@ -96,10 +96,10 @@ quiet_put rs ss f q =
 
 -- ---- RST_STREAM
 
-remembered_more : (ss : List Frame) (s code : ℕ) → last 128 (filter_map reset_by (ss ++ RstStream s code ∷ [])) ≡ last 128 (last 128 (filter_map reset_by ss) ++ s ∷ [])
-remembered_more ss s code = ap (last 128) (filter_map-append reset_by ss (RstStream s code ∷ [])) ∙ last-push 128 (filter_map reset_by ss) s (omega arith)
+remembered_more : (ss : List Frame) (s code : ℕ) → last_items 128 (filter_map stream_reset_by (ss ++ RstStream s code ∷ [])) ≡ last_items 128 (last_items 128 (filter_map stream_reset_by ss) ++ s ∷ [])
+remembered_more ss s code = ap (last_items 128) (filter_map-append stream_reset_by ss (RstStream s code ∷ [])) ∙ last_items-push 128 (filter_map stream_reset_by ss) s (omega arith)
 
-pub reset_is_put : (rs ss : List Frame) (s code : ℕ) → std_of rs (ss ++ RstStream s code ∷ []) ≡ reset_put (std_of rs ss) s
+pub reset_is_put : (rs ss : List Frame) (s code : ℕ) → std_of rs (ss ++ RstStream s code ∷ []) ≡ after_reset (std_of rs ss) s
 reset_is_put rs ss s code =
     let f = RstStream s code in
     put_by rs ss f _ _ _ refl
@@ -111,7 +111,7 @@ reset_is_put rs ss s code =
     ∙ ap (λ b. not (reset_in rs ss t || (s == t)) && not (ended_c rs t && b)) (or_false (ended_s ss t))
     ∙ ap (λ b. not (reset_in rs ss t || b) && not (ended_c rs t && ended_s ss t)) (eq_sym s t)
     ∙ reset_alive (reset_in rs ss t) (not (ended_c rs t && ended_s ss t)) (t == s))
-    ∙ sym (kept_streams rs ss (λ x. not (x.number == s)) (rising 0 (numbers rs))))
+    ∙ sym (kept_streams rs ss (λ x. not (x.number == s)) (rising_numbers 0 (numbers rs))))
     (remembered_more ss s code)
     (connection_put rs ss f refl)
 
@@ -147,14 +147,14 @@ less : (g s n : ℕ) → pos g -ℤ pos (s + n) ≡ (pos g -ℤ pos s) -ℤ pos 
 less g s n = omega (arith, ints)
 
 -- a stream where n bytes are put on s
-spent_more : (rs ss : List Frame) (s n t : ℕ) → stream_by t (ended_c rs t) (ended_s ss t) (size rs) (granted_in rs t) (spent_in ss t + cond (s == t) n 0) ≡ spent_at s n (at rs ss t)
+spent_more : (rs ss : List Frame) (s n t : ℕ) → stream_by t (ended_c rs t) (ended_s ss t) (size rs) (granted_in rs t) (spent_in ss t + cond (s == t) n 0) ≡ stream_after_spending s n (at rs ss t)
 spent_more rs ss s n t = elim (cases_Bool (t == s)) [
   | inl same ↦ rw (eq_sym s t, same) (ap (λ (z : ℤ). record { number = t; ended_by_client = ended_c rs t; ended_by_server = ended_s ss t; window = record { initial = size rs; change = z } }) (less (granted_in rs t) (spent_in ss t) n))
   | inr others ↦ rw (eq_sym s t, others) (ap (λ m. stream_by t (ended_c rs t) (ended_s ss t) (size rs) (granted_in rs t) m) (add-zero (spent_in ss t)))
 ]
 
 -- the same stream where the server ends s
-marked_more : (s t : ℕ) (c e : Bool) (i g p : ℕ) (x : Stream) → stream_by t c e i g p ≡ x → stream_by t c (e || (s == t)) i g p ≡ mark_server s x
+marked_more : (s t : ℕ) (c e : Bool) (i g p : ℕ) (x : Stream) → stream_by t c e i g p ≡ x → stream_by t c (e || (s == t)) i g p ≡ with_server_end s x
 marked_more s t c e i g p x is = rw (← is) (elim (cases_Bool (t == s)) [
   | inl same ↦ rw (eq_sym s t, same) (ap (λ b. stream_by t c b i g p) (or_true e))
   | inr others ↦ rw (eq_sym s t, others) (ap (λ b. stream_by t c b i g p) (or_false e))
@@ -171,45 +171,45 @@ lives_on rs ss t =
     ap (λ b. not b && not (ended_c rs t && (ended_s ss t || false))) (or_false (reset_in rs ss t))
     ∙ ap (λ b. not (reset_in rs ss t) && not (ended_c rs t && b)) (or_false (ended_s ss t))
 
-data_connection : (rs ss : List Frame) (s : ℕ) (e : Bool) (bytes : List ℕ) → connection rs (ss ++ Data s e bytes ∷ []) ≡ spent (length bytes) (connection rs ss)
+data_connection : (rs ss : List Frame) (s : ℕ) (e : Bool) (bytes : List ℕ) → connection rs (ss ++ Data s e bytes ∷ []) ≡ credit_after_spending (length bytes) (connection rs ss)
 data_connection rs ss s e bytes =
     let n = sum-push data_length ss (Data s e bytes) in
     let z = less (sum_by (increment_for 0) rs) (sum_by data_length ss) (length bytes) in
     cc
 
-pub data_is_put : (rs ss : List Frame) (s : ℕ) (end_stream : Bool) (bytes : List ℕ) → std_of rs (ss ++ Data s end_stream bytes ∷ []) ≡ server_ends (data_put (std_of rs ss) s (length bytes)) s end_stream
+pub data_is_put : (rs ss : List Frame) (s : ℕ) (end_stream : Bool) (bytes : List ℕ) → std_of rs (ss ++ Data s end_stream bytes ∷ []) ≡ after_server_end (after_data (std_of rs ss) s (length bytes)) s end_stream
 data_is_put rs ss s false bytes =
     let f = Data s false bytes in
     put_by rs ss f _ _ _ refl
-    (streams_put rs ss f (λ t. spent_at s (length bytes) (at rs ss t)) (alive rs ss)
+    (streams_put rs ss f (λ t. stream_after_spending s (length bytes) (at rs ss t)) (alive rs ss)
     (λ t. at_put rs ss f t ∙ ap (λ b. stream_by t (ended_c rs t) b (size rs) (granted_in rs t) (spent_in ss t + cond (s == t) (length bytes) 0)) (or_false (ended_s ss t)) ∙ spent_more rs ss s (length bytes) t)
     (λ t. alive_put rs ss f t ∙ lives_on rs ss t)
-    ∙ sym (changed_streams rs ss (spent_at s (length bytes)) (rising 0 (numbers rs))))
+    ∙ sym (changed_streams rs ss (stream_after_spending s (length bytes)) (rising_numbers 0 (numbers rs))))
     (remembered_put ss f refl)
     (data_connection rs ss s false bytes)
 data_is_put rs ss s true bytes =
     let f = Data s true bytes in
     let n = length bytes in
     put_by rs ss f _ _ _ refl
-    (streams_put rs ss f (λ t. mark_server s (spent_at s n (at rs ss t))) (λ t. alive rs ss t && not (t == s && ended_c rs t))
-    (λ t. at_put rs ss f t ∙ marked_more s t (ended_c rs t) (ended_s ss t) (size rs) (granted_in rs t) (spent_in ss t + cond (s == t) n 0) (spent_at s n (at rs ss t)) (spent_more rs ss s n t))
+    (streams_put rs ss f (λ t. with_server_end s (stream_after_spending s n (at rs ss t))) (λ t. alive rs ss t && not (t == s && ended_c rs t))
+    (λ t. at_put rs ss f t ∙ marked_more s t (ended_c rs t) (ended_s ss t) (size rs) (granted_in rs t) (spent_in ss t + cond (s == t) n 0) (stream_after_spending s n (at rs ss t)) (spent_more rs ss s n t))
     (λ t. alive_put rs ss f t ∙ lives_more rs ss s t)
-    ∙ sym (kept_by (λ t. spent_at s n (at rs ss t)) (alive rs ss) (mark_server s) (λ x. not (x.number == s && x.ended_by_client)) (rising 0 (numbers rs)))
-    ∙ ap (λ xs. server_ended s xs) (sym (changed_streams rs ss (spent_at s n) (rising 0 (numbers rs)))))
+    ∙ sym (kept_by (λ t. stream_after_spending s n (at rs ss t)) (alive rs ss) (with_server_end s) (λ x. not (x.number == s && x.ended_by_client)) (rising_numbers 0 (numbers rs)))
+    ∙ ap (λ xs. streams_after_server_end s xs) (sym (changed_streams rs ss (stream_after_spending s n) (rising_numbers 0 (numbers rs)))))
     (remembered_put ss f refl)
     (data_connection rs ss s true bytes)
 
 same_at : (rs ss : List Frame) (t : ℕ) → stream_by t (ended_c rs t) (ended_s ss t) (size rs) (granted_in rs t) (spent_in ss t + 0) ≡ at rs ss t
 same_at rs ss t = ap (λ m. stream_by t (ended_c rs t) (ended_s ss t) (size rs) (granted_in rs t) m) (add-zero (spent_in ss t))
 
-pub headers_is_put : (rs ss : List Frame) (s : ℕ) (end_stream end_headers : Bool) (fragment : List ℕ) → std_of rs (ss ++ Headers s end_stream end_headers fragment ∷ []) ≡ server_ends (std_of rs ss) s end_stream
+pub headers_is_put : (rs ss : List Frame) (s : ℕ) (end_stream end_headers : Bool) (fragment : List ℕ) → std_of rs (ss ++ Headers s end_stream end_headers fragment ∷ []) ≡ after_server_end (std_of rs ss) s end_stream
 headers_is_put rs ss s false end_headers fragment = quiet_put rs ss (Headers s false end_headers fragment) (record { goes_on = refl; unreset = λ t. refl; unended = λ t. refl; unspent = λ t. refl; no_data = refl; resets_none = refl })
 headers_is_put rs ss s true end_headers fragment =
     let f = Headers s true end_headers fragment in
     put_by rs ss f _ _ _ refl
-    (streams_put rs ss f (λ t. mark_server s (at rs ss t)) (λ t. alive rs ss t && not (t == s && ended_c rs t))
+    (streams_put rs ss f (λ t. with_server_end s (at rs ss t)) (λ t. alive rs ss t && not (t == s && ended_c rs t))
     (λ t. at_put rs ss f t ∙ marked_more s t (ended_c rs t) (ended_s ss t) (size rs) (granted_in rs t) (spent_in ss t + 0) (at rs ss t) (same_at rs ss t))
     (λ t. alive_put rs ss f t ∙ lives_more rs ss s t)
-    ∙ sym (kept_by (at rs ss) (alive rs ss) (mark_server s) (λ x. not (x.number == s && x.ended_by_client)) (rising 0 (numbers rs))))
+    ∙ sym (kept_by (at rs ss) (alive rs ss) (with_server_end s) (λ x. not (x.number == s && x.ended_by_client)) (rising_numbers 0 (numbers rs))))
     (remembered_put ss f refl)
     (connection_put rs ss f refl)

@@ -8,7 +8,7 @@ use Rattle.hpack.specs.Table.{new_table}
 use Rattle.http2_flow.specs.Credit.{Credit}
 use Rattle.http2_frames.specs.declared.frame.Frame.{Frame}
 use Rattle.http2_streams.specs.declared.stream.Stream.{Stream}
-use Rattle.http2_streams.specs.Diary.{Entry, Blocks, blocks_after, no_blocks, stream_of, rising, resets, data_ends, block_ends, ends, size_after, increment_for, data_length, data_length_on, is_goaway, reset_by, last, table_after, received, sent}
+use Rattle.http2_streams.specs.History.{Entry, Blocks, blocks_after, no_blocks, stream_of, rising_numbers, resets, data_ends, block_ends, ends, size_after, increment_for, data_length, data_length_on, is_goaway, stream_reset_by, last_items, table_after_block, received_frames, sent_frames}
 use Rattle.http2_streams.specs.Standing.{Standing, standing}
 use Rattle.http2_streams.proofs.Lists.{any-push, filter-map, filter-filter, map-map}
 use Rattle.http2_streams.proofs.Bools.{or-swap, or-assoc}
@@ -50,7 +50,7 @@ abbrev pub at : List Frame → List Frame → ℕ → Stream
 at rs ss s = stream_by s (ended_c rs s) (ended_s ss s) (size rs) (granted_in rs s) (spent_in ss s)
 
 abbrev pub streams_in : List Frame → List Frame → List Stream
-streams_in rs ss = map (at rs ss) (filter (alive rs ss) (rising 0 (numbers rs)))
+streams_in rs ss = map (at rs ss) (filter (alive rs ss) (rising_numbers 0 (numbers rs)))
 
 abbrev pub connection : List Frame → List Frame → Credit
 connection rs ss = record { initial = 65535; change = pos (sum_by (increment_for 0) rs) -ℤ pos (sum_by data_length ss) }
@@ -61,14 +61,14 @@ std_of rs ss = record {
   begun = nat_lt 0 (length rs);
   highest = top rs;
   live = streams_in rs ss;
-  remembered = last 128 (filter_map reset_by ss);
+  remembered = last_items 128 (filter_map stream_reset_by ss);
   initial_window_size = size rs;
   connection_window = connection rs ss;
   unfinished = (blocks_in rs).unfinished;
-  table = fold table_after (Some new_table) (blocks_in rs).finished;
+  table = fold table_after_block (Some new_table) (blocks_in rs).finished;
 }
 
-pub standing_is : (d : List Entry) → standing d ≡ std_of (received d) (sent d)
+pub standing_is : (d : List Entry) → standing d ≡ std_of (received_frames d) (sent_frames d)
 standing_is d = refl
 
 -- nothing has passed on stream s

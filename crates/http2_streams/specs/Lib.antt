@@ -1,4 +1,4 @@
-pub mod Diary
+pub mod History
 pub mod Standing
 pub mod Rules
 pub mod StandsFor

@@ -1,10 +1,10 @@
--- What a received frame causes, by what the diary comes to. Sections are those of RFC 9113. The
+-- What a received frame causes, by what the history comes to. Sections are those of RFC 9113. The
 -- tests stand in the order in which they are made.
 use Rattle.std.specs.Prelude.{ℕ, ◌%◌, ◌^◌, ◌==◌, nat_lt, nat_le, if◌then◌else◌, Bool, true, not, ◌&&◌, ◌||◌, List, [], ◌∷◌, ◌++◌, length, map, Option, Some, None, Result, Ok, Err, pos, ◌+ℤ◌}
 use Rattle.std.specs.List.{list_any}
 use Rattle.std.specs.Option.{option_map_or, option_to_list}
 use Rattle.std.specs.Int.Signed.{lt_z}
-use Rattle.http2_flow.specs.Credit.{Credit, left}
+use Rattle.http2_flow.specs.Credit.{Credit, window_left}
 use Rattle.http2_frames.specs.declared.codes.frame_type.TheConstants.{SETTINGS, CONTINUATION}
 use Rattle.http2_frames.specs.declared.codes.flag.TheConstants.{ACK}
 use Rattle.http2_frames.specs.declared.codes.setting.TheConstants.{ENABLE_PUSH, INITIAL_WINDOW_SIZE, MAX_FRAME_SIZE}
@@ -18,15 +18,15 @@ use Rattle.http2_frames.specs.declared.frame.Frame.{Frame}
 use Rattle.http2_frames.specs.declared.frame.Frame.TheVariants.{Data, Headers, Priority, RstStream, Settings, PushPromise, Ping, GoAway, WindowUpdate, Continuation, Unknown}
 use Rattle.http2_frames.specs.Codes.{code_number}
 use Rattle.http2_frames.specs.Frames.{has_flag, frame_of}
-use Rattle.http2_headers.specs.HeaderBlock.{HeaderBlock, begun}
+use Rattle.http2_headers.specs.HeaderBlock.{HeaderBlock, new_block}
 use Rattle.http2_headers.specs.declared.header_blocks.HeaderList.{HeaderList}
-use Rattle.http2_headers.specs.Decoding.{given, given_next}
+use Rattle.http2_headers.specs.Decoding.{list_of_block, list_of_continuation}
 use Rattle.http2_headers.specs.Request.{is_well_formed_request}
 use Rattle.http2_streams.specs.declared.stream.Stream.{Stream}
 use Rattle.http2_streams.specs.declared.event.Event.{Event}
 use Rattle.http2_streams.specs.declared.event.Event.TheVariants.{Nothing, Request, Content, Trailers, Cancel}
 use Rattle.http2_streams.specs.declared.event.StreamEvent.{StreamEvent}
-use Rattle.http2_streams.specs.Diary.{Entry, In, Out}
+use Rattle.http2_streams.specs.History.{Entry, In, Out}
 use Rattle.http2_streams.specs.Standing.{Standing, standing}
 
 -- ---- what is known of a stream number
@@ -55,8 +55,9 @@ is_idle v s = nat_lt v.highest s || (s % 2 == 0 && not (s == 0))
 -- ---- answers
 
 -- the control frames that are put for a frame, in this order, and what the frame brings
-abbrev pub answer : Option Frame → Option Frame → Option Frame → Option Frame → Event → StreamEvent
-answer acknowledgement connection_update stream_update reset event = record {
+abbrev pub stream_event : Option Frame → Option Frame → Option Frame → Option Frame → Event →
+    StreamEvent
+stream_event acknowledgement connection_update stream_update reset event = record {
   acknowledgement = acknowledgement;
   connection_update = connection_update;
   stream_update = stream_update;
@@ -64,35 +65,35 @@ answer acknowledgement connection_update stream_update reset event = record {
   event = event;
 }
 
-abbrev pub brings : Event → StreamEvent
-brings event = answer None None None None event
+abbrev pub event_only : Event → StreamEvent
+event_only event = stream_event None None None None event
 
-abbrev pub nothing : StreamEvent
-nothing = brings Nothing
+abbrev pub no_effect : StreamEvent
+no_effect = event_only Nothing
 
 -- a live stream that ends before both sides ended it
-abbrev pub cancelled : Standing → ℕ → Event
-cancelled v s = if is_live_at v s then Cancel s else Nothing
+abbrev pub cancel_event : Standing → ℕ → Event
+cancel_event v s = if is_live_at v s then Cancel s else Nothing
 
 abbrev pub reset_frame : ℕ → ErrorCode → Option Frame
 reset_frame s code = Some (RstStream s (code_number code))
 
 -- a stream error (section 5.4.2)
 abbrev pub stream_error : Standing → ℕ → ErrorCode → StreamEvent
-stream_error v s code = answer None None None (reset_frame s code) (cancelled v s)
+stream_error v s code = stream_event None None None (reset_frame s code) (cancel_event v s)
 
 -- ---- DATA (section 6.1)
 
 -- what was received of DATA, padding counted, is given back at once (section 6.9)
-abbrev pub update : ℕ → ℕ → Option Frame
-update s n = if n == 0 then None else Some (WindowUpdate s n)
+abbrev pub window_update : ℕ → ℕ → Option Frame
+window_update s n = if n == 0 then None else Some (WindowUpdate s n)
 
 abbrev pub on_data : Standing → ℕ → ℕ → Bool → List ℕ → Result StreamEvent ErrorCode
 on_data v n s end_stream content =
     if is_idle v s then Err ProtocolError
-    else if is_receiving v s then Ok (answer None (update 0 n) (if end_stream then None else update s n) None (Content s content end_stream))
-    else if is_remembered v s then Ok (answer None (update 0 n) None None Nothing)
-    else Ok (answer None (update 0 n) None (reset_frame s StreamClosed) (cancelled v s))
+    else if is_receiving v s then Ok (stream_event None (window_update 0 n) (if end_stream then None else window_update s n) None (Content s content end_stream))
+    else if is_remembered v s then Ok (stream_event None (window_update 0 n) None None Nothing)
+    else Ok (stream_event None (window_update 0 n) None (reset_frame s StreamClosed) (cancel_event v s))
 
 -- ---- HEADERS and CONTINUATION (sections 6.2 and 6.10)
 
@@ -101,11 +102,12 @@ abbrev pub on_request : Standing → HeaderList → StreamEvent
 on_request v block =
     if nat_le 100 (length v.live) then stream_error v block.stream RefusedStream
     else if not (is_well_formed_request block.fields) then stream_error v block.stream ProtocolError
-    else brings (Request block.stream block.fields block.end_stream)
+    else event_only (Request block.stream block.fields block.end_stream)
 
 -- section 8.1: trailers end the request
 abbrev pub on_trailers : Standing → ℕ → Bool → StreamEvent
-on_trailers v s end_stream = if end_stream then brings (Trailers s) else stream_error v s ProtocolError
+on_trailers v s end_stream =
+    if end_stream then event_only (Trailers s) else stream_error v s ProtocolError
 
 -- a whole block, after it was decoded
 abbrev pub on_block : Standing → HeaderList → Result StreamEvent ErrorCode
@@ -113,13 +115,14 @@ on_block v block =
     if block.stream % 2 == 0 then Err ProtocolError
     else if nat_lt v.highest block.stream then Ok (on_request v block)
     else if is_receiving v block.stream then Ok (on_trailers v block.stream block.end_stream)
-    else if is_remembered v block.stream then Ok nothing
+    else if is_remembered v block.stream then Ok no_effect
     else Err StreamClosed
 
-abbrev pub on_given : Standing → Result (Option HeaderList) ErrorCode → Result StreamEvent ErrorCode
-on_given v (Err code) = Err code
-on_given v (Ok None) = Ok nothing
-on_given v (Ok (Some block)) = on_block v block
+abbrev pub on_header_list : Standing → Result (Option HeaderList) ErrorCode →
+    Result StreamEvent ErrorCode
+on_header_list v (Err code) = Err code
+on_header_list v (Ok None) = Ok no_effect
+on_header_list v (Ok (Some block)) = on_block v block
 
 -- ---- SETTINGS (section 6.5)
 
@@ -140,80 +143,86 @@ settings_fault live (s ∷ ss) = option_map_or Some (setting_fault live s) (sett
 
 abbrev pub on_settings : Standing → Bool → List Setting → Result StreamEvent ErrorCode
 on_settings v ack settings =
-    if ack then Ok nothing
-    else option_map_or Err (settings_fault v.live settings) (Ok (answer (Some (Settings true [])) None None None Nothing))
+    if ack then Ok no_effect
+    else option_map_or Err (settings_fault v.live settings) (Ok (stream_event (Some (Settings true [])) None None None Nothing))
 
 -- ---- PING (section 6.7), RST_STREAM (section 6.4), WINDOW_UPDATE (section 6.9)
 
 abbrev pub on_ping : Bool → List ℕ → StreamEvent
-on_ping ack opaque_data = if ack then nothing else answer (Some (Ping true opaque_data)) None None None Nothing
+on_ping ack opaque_data =
+    if ack then no_effect else stream_event (Some (Ping true opaque_data)) None None None Nothing
 
 abbrev pub on_reset : Standing → ℕ → Result StreamEvent ErrorCode
-on_reset v s = if is_idle v s then Err ProtocolError else Ok (brings (cancelled v s))
+on_reset v s = if is_idle v s then Err ProtocolError else Ok (event_only (cancel_event v s))
 
 -- the window stays below 2^31 (section 6.9.1)
-abbrev pub fits : ℕ → Credit → Bool
-fits n w = lt_z (left w +ℤ pos n) (pos (2 ^ 31))
+abbrev pub may_grow : ℕ → Credit → Bool
+may_grow n w = lt_z (window_left w +ℤ pos n) (pos (2 ^ 31))
 
 abbrev pub overflows : ℕ → ℕ → Stream → Bool
-overflows s n x = x.number == s && not (fits n x.window)
+overflows s n x = x.number == s && not (may_grow n x.window)
 
 abbrev pub on_connection_update : Standing → ℕ → Result StreamEvent ErrorCode
 on_connection_update v n =
     if n == 0 then Err ProtocolError
-    else if fits n v.connection_window then Ok nothing
+    else if may_grow n v.connection_window then Ok no_effect
     else Err FlowControlError
 
 abbrev pub on_stream_update : Standing → ℕ → ℕ → Result StreamEvent ErrorCode
 on_stream_update v s n =
     if is_idle v s then Err ProtocolError
-    else if not (is_live_at v s) then Ok nothing
+    else if not (is_live_at v s) then Ok no_effect
     else if n == 0 then Ok (stream_error v s ProtocolError)
     else if list_any (overflows s n) v.live then Ok (stream_error v s FlowControlError)
-    else Ok nothing
+    else Ok no_effect
 
 -- ---- all frames
 
 -- n is the length of the frame's payload
 abbrev pub on_content : Standing → ℕ → Frame → Result StreamEvent ErrorCode
 on_content v n (Data s end_stream bytes) = on_data v n s end_stream bytes
-on_content v n (Headers s end_stream end_headers fragment) = on_given v (given v.table end_headers (begun s end_stream fragment))
-on_content v n (Priority s priority) = Ok nothing
+on_content v n (Headers s end_stream end_headers fragment) =
+    on_header_list v (list_of_block v.table end_headers (new_block s end_stream fragment))
+on_content v n (Priority s priority) = Ok no_effect
 on_content v n (RstStream s code) = on_reset v s
 on_content v n (Settings ack settings) = on_settings v ack settings
 on_content v n (PushPromise flags s payload) = Err ProtocolError
 on_content v n (Ping ack opaque_data) = Ok (on_ping ack opaque_data)
-on_content v n (GoAway last_stream code debug_data) = Ok nothing
-on_content v n (WindowUpdate s increment) = if s == 0 then on_connection_update v increment else on_stream_update v s increment
-on_content v n (Continuation s end_headers fragment) = on_given v (given_next v.table v.unfinished end_headers fragment)
-on_content v n (Unknown kind flags s payload) = Ok nothing
+on_content v n (GoAway last_stream code debug_data) = Ok no_effect
+on_content v n (WindowUpdate s increment) =
+    if s == 0 then on_connection_update v increment else on_stream_update v s increment
+on_content v n (Continuation s end_headers fragment) =
+    on_header_list v (list_of_continuation v.table v.unfinished end_headers fragment)
+on_content v n (Unknown kind flags s payload) = Ok no_effect
 
 -- section 3.4: the client's preface ends with a SETTINGS frame
 abbrev pub is_preface_frame : RawFrame → Bool
 is_preface_frame f = f.kind == SETTINGS && not (has_flag f ACK)
 
 -- section 6.10: the frames of a block follow each other with no other frame between them
-abbrev pub goes_on : RawFrame → HeaderBlock → Bool
-goes_on f b = f.kind == CONTINUATION && f.stream == b.stream
+abbrev pub continues_block : RawFrame → HeaderBlock → Bool
+continues_block f b = f.kind == CONTINUATION && f.stream == b.stream
 
-abbrev pub in_turn : Standing → RawFrame → Bool
-in_turn v f = (v.begun || is_preface_frame f) && option_map_or (goes_on f) v.unfinished true
+abbrev pub is_in_turn : Standing → RawFrame → Bool
+is_in_turn v f =
+    (v.begun || is_preface_frame f) && option_map_or (continues_block f) v.unfinished true
 
 abbrev pub on_frame_of : Standing → ℕ → Result Frame ErrorCode → Result StreamEvent ErrorCode
 on_frame_of v n (Err code) = Err code
 on_frame_of v n (Ok f) = on_content v n f
 
 -- an Err is a connection error (section 5.4.1)
-abbrev pub caused : Standing → RawFrame → Result StreamEvent ErrorCode
-caused v f = if in_turn v f then on_frame_of v (length f.payload) (frame_of f) else Err ProtocolError
+abbrev pub on_raw_frame : Standing → RawFrame → Result StreamEvent ErrorCode
+on_raw_frame v f =
+    if is_in_turn v f then on_frame_of v (length f.payload) (frame_of f) else Err ProtocolError
 
 -- after a connection error nothing is caused
 abbrev pub answer_to : Standing → RawFrame → Result StreamEvent ErrorCode
-answer_to v f = if v.failed then Ok nothing else caused v f
+answer_to v f = if v.failed then Ok no_effect else on_raw_frame v f
 
--- what a frame causes after a diary
-abbrev pub causes : List Entry → RawFrame → Result StreamEvent ErrorCode
-causes d f = answer_to (standing d) f
+-- what a frame causes after a history
+abbrev pub answer_after : List Entry → RawFrame → Result StreamEvent ErrorCode
+answer_after d f = answer_to (standing d) f
 
 -- what bytes cause that are no frame: section 3.4 for the preface, section 4.2 for the length
 abbrev pub reading_fault : FrameError → Option ErrorCode
@@ -221,19 +230,22 @@ reading_fault Preface = Some ProtocolError
 reading_fault Size = Some FrameSizeError
 reading_fault NoMemory = None
 
--- ---- what goes into the diary
+-- ---- what goes into the history
 
 abbrev pub control_frames : StreamEvent → List Frame
-control_frames a = option_to_list a.acknowledgement ++ (option_to_list a.connection_update ++ (option_to_list a.stream_update ++ option_to_list a.reset))
+control_frames a =
+    option_to_list a.acknowledgement
+    ++ (option_to_list a.connection_update
+    ++ (option_to_list a.stream_update ++ option_to_list a.reset))
 
 -- GOAWAY names the highest stream number that was opened (section 6.8)
-abbrev pub goaway : Standing → ErrorCode → Frame
-goaway v code = GoAway v.highest (code_number code) []
+abbrev pub goaway_of : Standing → ErrorCode → Frame
+goaway_of v code = GoAway v.highest (code_number code) []
 
 abbrev pub frames_put : Standing → Result StreamEvent ErrorCode → List Frame
 frames_put v (Ok a) = control_frames a
-frames_put v (Err code) = goaway v code ∷ []
+frames_put v (Err code) = goaway_of v code ∷ []
 
 -- a frame, and what is put for it
 abbrev pub entries_of : List Entry → RawFrame → List Entry
-entries_of d f = In f ∷ map Out (frames_put (standing d) (causes d f))
+entries_of d f = In f ∷ map Out (frames_put (standing d) (answer_after d f))

@@ -2,22 +2,22 @@
 use Rattle.std.specs.Prelude.{◌≡◌, ℕ, ◌==◌, Bool, true, false, ◌&&◌, pos, ◌≤ℤ◌}
 use Rattle.std.specs.List.{list_any}
 use Rattle.std.specs.Int.Signed.{lt_z}
-use Rattle.http2_flow.specs.Credit.{left}
+use Rattle.http2_flow.specs.Credit.{window_left}
 use Rattle.http2_frames.specs.declared.frame.Frame.TheVariants.{Settings, Ping, WindowUpdate}
 use Rattle.http2_streams.specs.declared.stream.Stream.{Stream}
-use Rattle.http2_streams.specs.Diary.{Entry, Unreadable, Out, Took}
+use Rattle.http2_streams.specs.History.{Entry, Unreadable, Out, Took}
 use Rattle.http2_streams.specs.Standing.{Standing}
 use Rattle.http2_streams.specs.Rules.{is_live_at}
 
 -- stream s has a window for fewer than n bytes
 abbrev pub lacks : ℕ → ℕ → Stream → Bool
-lacks s n x = x.number == s && lt_z (left x.window) (pos n)
+lacks s n x = x.number == s && lt_z (window_left x.window) (pos n)
 
 -- the stream is open or half-closed, and both windows are for n bytes or more
 pub record CanSend (v : Standing) (s n : ℕ) : Type 0 where
   pub live : is_live_at v s ≡ true
   pub stream : list_any (lacks s n) v.live ≡ false
-  pub connection : pos n ≤ℤ left v.connection_window
+  pub connection : pos n ≤ℤ window_left v.connection_window
 
 -- an entry that no notion of the streams reads
 abbrev pub IsNoMatter : Entry → Type 0

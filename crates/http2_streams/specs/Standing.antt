@@ -1,10 +1,10 @@
--- What a connection's diary comes to.
+-- What a connection's history comes to.
 use Rattle.std.specs.Prelude.{ℕ, Bool, List, map, Option}
 use Rattle.hpack.specs.Table.{Table}
 use Rattle.http2_flow.specs.Credit.{Credit}
 use Rattle.http2_headers.specs.HeaderBlock.{HeaderBlock}
 use Rattle.http2_streams.specs.declared.stream.Stream.{Stream}
-use Rattle.http2_streams.specs.Diary.{Entry, has_failed, has_begun, highest, is_ended_by_client, is_ended_by_server, window, live, remembered, initial_window_size, connection_window, unfinished, table}
+use Rattle.http2_streams.specs.History.{Entry, has_failed, has_begun, highest_stream, is_ended_by_client, is_ended_by_server, window, live_streams, remembered_streams, initial_window_size, connection_window, unfinished_block, table}
 
 pub record Standing : Type 0 where
   pub failed : Bool
@@ -31,11 +31,11 @@ abbrev pub standing : List Entry → Standing
 standing d = record {
   failed = has_failed d;
   begun = has_begun d;
-  highest = highest d;
-  live = map (stream_at d) (live d);
-  remembered = remembered d;
+  highest = highest_stream d;
+  live = map (stream_at d) (live_streams d);
+  remembered = remembered_streams d;
   initial_window_size = initial_window_size d;
   connection_window = connection_window d;
-  unfinished = unfinished d;
+  unfinished = unfinished_block d;
   table = table d;
 }

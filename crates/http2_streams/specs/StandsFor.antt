@@ -1,8 +1,8 @@
--- What is kept of a connection stands for its diary.
+-- What is kept of a connection stands for its history.
 use Rattle.std.specs.Prelude.{◌≡◌, ◌<◌, ℕ, false, List, sum_by, Result, Ok, Err}
 use Rattle.http2_headers.specs.declared.fault.H2Fault.{H2Fault}
 use Rattle.http2_headers.specs.declared.fault.H2Fault.TheVariants.{Connection, NoMemory}
-use Rattle.http2_streams.specs.Diary.{Entry, has_failed, highest, received, sent, is_reset, is_ended_by_client, is_ended_by_server, increment_for, data_length_on}
+use Rattle.http2_streams.specs.History.{Entry, has_failed, highest_stream, received_frames, sent_frames, is_reset, is_ended_by_client, is_ended_by_server, increment_for, data_length_on}
 use Rattle.http2_streams.specs.Standing.{Standing, standing}
 
 -- nothing has passed on a stream that was never opened
@@ -10,14 +10,14 @@ pub record IsUntouched (d : List Entry) (s : ℕ) : Type 0 where
   pub unreset : is_reset d s ≡ false
   pub unended_by_client : is_ended_by_client d s ≡ false
   pub unended_by_server : is_ended_by_server d s ≡ false
-  pub granted : sum_by (increment_for s) (received d) ≡ 0
-  pub spent : sum_by (data_length_on s) (sent d) ≡ 0
+  pub granted : sum_by (increment_for s) (received_frames d) ≡ 0
+  pub spent : sum_by (data_length_on s) (sent_frames d) ≡ 0
 
 pub record IsAt (v : Standing) (d : List Entry) : Type 0 where
   pub is : v ≡ standing d
-  pub idle : (s : ℕ) → highest d < s → IsUntouched d s
+  pub idle : (s : ℕ) → highest_stream d < s → IsUntouched d s
 
--- all that is kept is what the diary comes to; after a connection error only that there was one
+-- all that is kept is what the history comes to; after a connection error only that there was one
 pub record StandsFor (v : Standing) (d : List Entry) : Type 0 where
   pub fault : v.failed ≡ has_failed d
   pub state : has_failed d ≡ false → IsAt v d

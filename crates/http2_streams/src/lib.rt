@@ -13,7 +13,7 @@ pub use http2_headers::H2Fault;
 pub use laws::{
     answers_are_control_frames, closed_streams_stay_closed, events_name_opened_streams,
     live_streams_rise, other_entries_change_nothing, the_live_streams_after_a_frame,
-    windows_follow_from_the_diary,
+    windows_follow_from_the_history,
 };
 pub use stream::Stream;
 pub use streams::{MAX_STREAMS, Streams};

@@ -3,7 +3,7 @@
 ghost use Rattle.std.specs.Prelude.{◌≡◌, ◌≢◌, ◌<◌, ◌^◌, ◌≤◌, ◌==◌, ◌&&◌, not, true, false, filter, length, map, vec_capacity};
 ghost use Rattle.std.specs.List.{list_any};
 ghost use Rattle.http2_streams.specs.Rules.{number_is, receives, overflows, is_above};
-ghost use Rattle.http2_streams.specs.Step.{without, client_ended, server_ended, mark_client, mark_server, granted_at, spent_at, resized};
+ghost use Rattle.http2_streams.specs.Step.{without_stream, streams_after_client_end, streams_after_server_end, with_client_end, with_server_end, stream_after_grant, stream_after_spending, stream_after_resize};
 ghost use Rattle.http2_streams.specs.Sending.{lacks};
 
 use crate::stream::Stream;
@@ -36,7 +36,7 @@ pub(crate) fn is_above_limit(live: &[Stream], initial_size: u32) -> bool
 }
 
 pub(crate) fn remove(live: &mut Vec<Stream>, number: u32)
-    ensures list { live.new.items ≡ without number live.old.items }
+    ensures list { live.new.items ≡ without_stream number live.old.items }
     ensures few { length live.new.items ≤ length live.old.items }
     ensures room { vec_capacity live.new ≡ vec_capacity live.old }
 {
@@ -44,7 +44,7 @@ pub(crate) fn remove(live: &mut Vec<Stream>, number: u32)
 }
 
 pub(crate) fn end_by_client(live: &mut Vec<Stream>, number: u32)
-    ensures list { live.new.items ≡ client_ended number live.old.items }
+    ensures list { live.new.items ≡ streams_after_client_end number live.old.items }
     ensures few { length live.new.items ≤ length live.old.items }
     ensures room { vec_capacity live.new ≡ vec_capacity live.old }
 {
@@ -62,7 +62,7 @@ fn remove_ended_by_server(live: &mut Vec<Stream>, number: u32)
 }
 
 fn mark_client(live: &mut [Stream], number: u32)
-    ensures { live.new ≡ map (mark_client number) live.old }
+    ensures { live.new ≡ map (with_client_end number) live.old }
 {
     for stream in live.iter_mut() {
         stream.end_by_client(number);
@@ -70,7 +70,7 @@ fn mark_client(live: &mut [Stream], number: u32)
 }
 
 pub(crate) fn end_by_server(live: &mut Vec<Stream>, number: u32)
-    ensures list { live.new.items ≡ server_ended number live.old.items }
+    ensures list { live.new.items ≡ streams_after_server_end number live.old.items }
     ensures few { length live.new.items ≤ length live.old.items }
     ensures room { vec_capacity live.new ≡ vec_capacity live.old }
 {
@@ -88,7 +88,7 @@ fn remove_ended_by_client(live: &mut Vec<Stream>, number: u32)
 }
 
 fn mark_server(live: &mut [Stream], number: u32)
-    ensures { live.new ≡ map (mark_server number) live.old }
+    ensures { live.new ≡ map (with_server_end number) live.old }
 {
     for stream in live.iter_mut() {
         stream.end_by_server(number);
@@ -98,7 +98,7 @@ fn mark_server(live: &mut [Stream], number: u32)
 pub(crate) fn grant(live: &mut [Stream], number: u32, increment: u32)
     requires some { increment ≢ 0 }
     requires within { list_any (overflows number increment) live.old ≡ false }
-    ensures { live.new ≡ map (granted_at number increment) live.old }
+    ensures { live.new ≡ map (stream_after_grant number increment) live.old }
 {
     for stream in live.iter_mut() {
         stream.grant(number, increment);
@@ -113,7 +113,7 @@ pub(crate) fn lacks(live: &[Stream], number: u32, count: u32) -> bool
 
 pub(crate) fn spend(live: &mut [Stream], number: u32, count: u32)
     requires { list_any (lacks number count) live.old ≡ false }
-    ensures { live.new ≡ map (spent_at number count) live.old }
+    ensures { live.new ≡ map (stream_after_spending number count) live.old }
 {
     for stream in live.iter_mut() {
         stream.spend(number, count);
@@ -123,7 +123,7 @@ pub(crate) fn spend(live: &mut [Stream], number: u32, count: u32)
 pub(crate) fn resize(live: &mut [Stream], initial_size: u32)
     requires small { initial_size < 2 ^ 31 }
     requires within { list_any (is_above initial_size) live.old ≡ false }
-    ensures { live.new ≡ map (resized initial_size) live.old }
+    ensures { live.new ≡ map (stream_after_resize initial_size) live.old }
 {
     for stream in live.iter_mut() {
         stream.resize(initial_size);

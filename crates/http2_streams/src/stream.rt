@@ -1,10 +1,10 @@
 //! One live stream.
 
 ghost use Rattle.std.specs.Prelude.{◌≡◌, ◌≢◌, ◌<◌, ◌^◌, true, false, pos, ◌≤ℤ◌};
-ghost use Rattle.http2_flow.specs.Credit.{left};
-ghost use Rattle.http2_streams.specs.Rules.{number_is, receives, overflows, is_above, fits};
+ghost use Rattle.http2_flow.specs.Credit.{window_left};
+ghost use Rattle.http2_streams.specs.Rules.{number_is, receives, overflows, is_above, may_grow};
 ghost use Rattle.http2_streams.specs.Sending.{lacks};
-ghost use Rattle.http2_streams.specs.Step.{mark_client, mark_server, granted_at, spent_at, resized};
+ghost use Rattle.http2_streams.specs.Step.{with_client_end, with_server_end, stream_after_grant, stream_after_spending, stream_after_resize};
 
 use http2_flow::{MAX_SIZE, Window};
 
@@ -42,7 +42,7 @@ impl Stream {
     }
 
     pub(crate) fn end_by_client(&mut self, number: u32)
-        ensures { self.new ≡ mark_client number self.old }
+        ensures { self.new ≡ with_client_end number self.old }
     {
         if self.number == number {
             self.ended_by_client = true;
@@ -50,7 +50,7 @@ impl Stream {
     }
 
     pub(crate) fn end_by_server(&mut self, number: u32)
-        ensures { self.new ≡ mark_server number self.old }
+        ensures { self.new ≡ with_server_end number self.old }
     {
         if self.number == number {
             self.ended_by_server = true;
@@ -60,7 +60,7 @@ impl Stream {
     pub(crate) fn grant(&mut self, number: u32, increment: u32)
         requires some { increment ≢ 0 }
         requires within { overflows number increment self.old ≡ false }
-        ensures { self.new ≡ granted_at number increment self.old }
+        ensures { self.new ≡ stream_after_grant number increment self.old }
     {
         if self.number == number {
             let _ = self.window.grant(increment);
@@ -76,7 +76,7 @@ impl Stream {
 
     pub(crate) fn spend(&mut self, number: u32, count: u32)
         requires { lacks number count self.old ≡ false }
-        ensures { self.new ≡ spent_at number count self.old }
+        ensures { self.new ≡ stream_after_spending number count self.old }
     {
         if self.number == number {
             let _ = self.window.spend(count);
@@ -86,7 +86,7 @@ impl Stream {
     pub(crate) fn resize(&mut self, initial_size: u32)
         requires small { initial_size < 2 ^ 31 }
         requires within { is_above initial_size self.old ≡ false }
-        ensures { self.new ≡ resized initial_size self.old }
+        ensures { self.new ≡ stream_after_resize initial_size self.old }
     {
         let _ = self.window.shift(initial_size);
     }

@@ -2,16 +2,16 @@
 
 ghost use Rattle.std.specs.Prelude.{◌≡◌, ◌≢◌, ◌<◌, ◌≤◌, ◌^◌, ◌++◌, ◌∷◌, List, [], length, Bool, true, false, map, Option, Some, None, Ok, Err, IfOk, OnOk, OnErr, IsSome, IfSome, IfErr, fold, vec_capacity, ℕ, IsTrue, ◌↔◌, ◌==◌, if◌then◌else◌};
 ghost use Rattle.std.specs.List.{list_any};
-ghost use Rattle.http2_flow.specs.Credit.{left};
+ghost use Rattle.http2_flow.specs.Credit.{window_left};
 ghost use Rattle.http2_frames.specs.declared.frame.Frame.{Frame};
 ghost use Rattle.http2_frames.specs.declared.frame.Frame.TheVariants.{Data, Headers, RstStream, Settings, GoAway, WindowUpdate, Continuation};
-ghost use Rattle.http2_headers.specs.Decoding.{Gives, given, kept, given_next, kept_next};
-ghost use Rattle.http2_headers.specs.HeaderBlock.{begun};
-ghost use Rattle.http2_streams.specs.Diary.{Entry, In, Out, last, has_failed};
+ghost use Rattle.http2_headers.specs.Decoding.{Gives, list_of_block, state_after_block, list_of_continuation, state_after_continuation};
+ghost use Rattle.http2_headers.specs.HeaderBlock.{new_block};
+ghost use Rattle.http2_streams.specs.History.{Entry, In, Out, last_items, has_failed};
 ghost use Rattle.http2_streams.specs.Sending.{CanSend};
 ghost use Rattle.http2_streams.specs.StandsFor.{StandsFor, InMemory};
-ghost use Rattle.http2_streams.specs.Rules.{causes, entries_of, answer_to, nothing, brings, cancelled, reset_frame, update, stream_error, is_idle, is_remembered, is_receiving, is_live_at, in_turn, on_content, on_data, on_given, on_block, on_request, on_trailers, on_reset, on_ping, on_connection_update, on_stream_update, on_settings, answer, is_above, setting_fault, settings_fault};
-ghost use Rattle.http2_streams.specs.Step.{step_by, answered, frame_taken, block_in, block_taken, with_headers, client_ends, reset_put, server_ends, data_put, update_in, without, with_live, fresh, settings_in, resized_to, size_in};
+ghost use Rattle.http2_streams.specs.Rules.{answer_after, entries_of, answer_to, no_effect, event_only, cancel_event, reset_frame, window_update, stream_error, is_idle, is_remembered, is_receiving, is_live_at, is_in_turn, on_content, on_data, on_header_list, on_block, on_request, on_trailers, on_reset, on_ping, on_connection_update, on_stream_update, on_settings, stream_event, is_above, setting_fault, settings_fault};
+ghost use Rattle.http2_streams.specs.Step.{step_by, after_answer, after_frame_in, after_block, after_header_list, with_headers, after_client_end, after_reset, after_server_end, after_data, after_window_update, without_stream, with_live, new_stream, after_settings, after_resize, size_after_setting};
 
 use crate::event::{Event, StreamEvent};
 use crate::live;
@@ -81,7 +81,7 @@ impl Streams {
     pub fn on_frame<'a>(&mut self, frame: &'a RawFrame) -> Result<StreamEvent<'a>, H2Fault>
         requires { length frame.now.payload ≤ MAX_FRAME_SIZE }
         ensures causes { (d : List Entry) → StandsFor self.old d →
-            Gives result (causes d frame.now) }
+            Gives result (answer_after d frame.now) }
         ensures stands { InMemory result ((d : List Entry) → StandsFor self.old d →
             StandsFor self.new (d ++ entries_of d frame.now)) }
 
@@ -128,7 +128,7 @@ impl Streams {
 
     /// How many bytes may be sent on the connection. It may be below 0.
     pub fn connection_window(&self) -> i64
-        ensures { result ≡ left self.now.connection_window }
+        ensures { result ≡ window_left self.now.connection_window }
     {
         self.connection_window.left()
     }
@@ -187,7 +187,7 @@ impl Streams {
 
     fn put_data(&mut self, stream: u32, count: u32, end_stream: bool)
         requires { CanSend self.old stream count }
-        ensures { self.new ≡ server_ends (data_put self.old stream count) stream end_stream }
+        ensures { self.new ≡ after_server_end (after_data self.old stream count) stream end_stream }
     {
         live::spend(&mut self.live, stream, count);
         let _ = self.connection_window.spend(count);
@@ -195,7 +195,7 @@ impl Streams {
     }
 
     fn end_by_server(&mut self, stream: u32, end_stream: bool)
-        ensures { self.new ≡ server_ends self.old stream end_stream }
+        ensures { self.new ≡ after_server_end self.old stream end_stream }
     {
         if end_stream {
             live::end_by_server(&mut self.live, stream);
@@ -229,7 +229,7 @@ impl Streams {
     /// Whether the frame may stand here: first the preface's SETTINGS, and a header block without a
     /// gap.
     fn is_in_turn(&self, frame: &RawFrame) -> bool
-        ensures { result ≡ in_turn self.now frame.now }
+        ensures { result ≡ is_in_turn self.now frame.now }
     {
         if !self.begun && (frame.kind != frame_type::SETTINGS || frame.flags & flag::ACK != 0) {
             return false;
@@ -244,7 +244,7 @@ impl Streams {
         requires { length < 2 ^ 31 }
         ensures answer { Gives result (on_content self.old length frame.entry) }
         ensures state { IfOk result (λ a. self.new
-            ≡ answered a (frame_taken self.old frame.entry)) }
+            ≡ after_answer a (after_frame_in self.old frame.entry)) }
         ensures live { OnErr result (self.new.live ≡ self.old.live) }
         ensures highest { OnErr result (self.new.highest ≡ self.old.highest) }
     {
@@ -288,7 +288,7 @@ impl Streams {
 
     /// The event that the stream ends before its time, where it is live.
     fn cancelled<'a>(&self, stream: u32) -> Event<'a>
-        ensures { result ≡ cancelled self.now stream }
+        ensures { result ≡ cancel_event self.now stream }
     {
         if live::is_live(&self.live, stream) {
             return Event::Cancel { stream };
@@ -298,7 +298,7 @@ impl Streams {
 
     /// Ends the stream by the server's RST_STREAM, and remembers it.
     fn reset(&mut self, stream: u32)
-        ensures { self.new ≡ reset_put self.old stream }
+        ensures { self.new ≡ after_reset self.old stream }
     {
         live::remove(&mut self.live, stream);
         remember(&mut self.remembered, stream);
@@ -306,7 +306,7 @@ impl Streams {
 
     fn stream_error<'a>(&mut self, stream: u32, code: ErrorCode) -> StreamEvent<'a>
         ensures answer { result ≡ stream_error self.old stream code }
-        ensures state { self.new ≡ reset_put self.old stream }
+        ensures state { self.new ≡ after_reset self.old stream }
     {
         let event = self.cancelled(stream);
         self.reset(stream);
@@ -325,7 +325,7 @@ impl Streams {
     ) -> Result<StreamEvent<'a>, H2Fault>
         ensures answer { Gives result (on_data self.old length stream end_stream content.entry) }
         ensures state { IfOk result (λ a. self.new
-            ≡ answered a (client_ends self.old stream end_stream)) }
+            ≡ after_answer a (after_client_end self.old stream end_stream)) }
         ensures err { OnErr result (self.new ≡ self.old) }
     {
         if self.is_idle(stream) {
@@ -373,13 +373,15 @@ impl Streams {
         end_headers: bool,
         fragment: &[u8],
     ) -> Result<StreamEvent<'a>, H2Fault>
-        ensures answer { Gives result (on_given self.old
-            (given self.old.table end_headers (begun stream end_stream fragment.now))) }
+        ensures answer { Gives result (on_header_list self.old
+            (list_of_block self.old.table end_headers (new_block stream end_stream fragment.now))) }
         ensures state { IfOk result (λ a. self.new
-            ≡ answered a (block_taken
+            ≡ after_answer a (after_header_list
             (with_headers self.old
-            (kept self.old.table end_headers (begun stream end_stream fragment.now)))
-            (given self.old.table end_headers (begun stream end_stream fragment.now)))) }
+            (state_after_block self.old.table end_headers
+            (new_block stream end_stream fragment.now)))
+            (list_of_block self.old.table end_headers
+            (new_block stream end_stream fragment.now)))) }
         ensures live { OnErr result (self.new.live ≡ self.old.live) }
         ensures highest { OnErr result (self.new.highest ≡ self.old.highest) }
     {
@@ -397,13 +399,13 @@ impl Streams {
         end_headers: bool,
         fragment: &[u8],
     ) -> Result<StreamEvent<'a>, H2Fault>
-        ensures answer { Gives result (on_given self.old
-            (given_next self.old.table self.old.unfinished end_headers fragment.now)) }
+        ensures answer { Gives result (on_header_list self.old
+            (list_of_continuation self.old.table self.old.unfinished end_headers fragment.now)) }
         ensures state { IfOk result (λ a. self.new
-            ≡ answered a (block_taken
+            ≡ after_answer a (after_header_list
             (with_headers self.old
-            (kept_next self.old.table self.old.unfinished end_headers fragment.now))
-            (given_next self.old.table self.old.unfinished end_headers fragment.now))) }
+            (state_after_continuation self.old.table self.old.unfinished end_headers fragment.now))
+            (list_of_continuation self.old.table self.old.unfinished end_headers fragment.now))) }
         ensures live { OnErr result (self.new.live ≡ self.old.live) }
         ensures highest { OnErr result (self.new.highest ≡ self.old.highest) }
     {
@@ -417,7 +419,7 @@ impl Streams {
     fn on_block<'a>(&mut self, block: HeaderList) -> Result<StreamEvent<'a>, H2Fault>
         ensures answer { Gives result (on_block self.old block) }
         ensures state { IfOk result (λ a. self.new
-            ≡ answered a (block_in self.old block.stream block.end_stream)) }
+            ≡ after_answer a (after_block self.old block.stream block.end_stream)) }
         ensures live { OnErr result (self.new.live ≡ self.old.live) }
         ensures highest { OnErr result (self.new.highest ≡ self.old.highest) }
     {
@@ -440,8 +442,8 @@ impl Streams {
     fn on_request<'a>(&mut self, block: HeaderList) -> StreamEvent<'a>
         requires { self.old.highest < block.stream }
         ensures answer { result ≡ on_request self.old block }
-        ensures state { self.new ≡ answered result
-            (block_in self.old block.stream block.end_stream) }
+        ensures state { self.new ≡ after_answer result
+            (after_block self.old block.stream block.end_stream) }
     {
         let HeaderList {
             stream,
@@ -467,7 +469,7 @@ impl Streams {
     fn open(&mut self, stream: u32, end_stream: bool)
         requires { length self.old.live < 100 }
         ensures { self.new ≡ with_live self.old
-            (self.old.live ++ fresh self.old.initial_window_size stream end_stream ∷ []) }
+            (self.old.live ++ new_stream self.old.initial_window_size stream end_stream ∷ []) }
     {
         let window = Window::new(self.initial_window_size);
         self.live
@@ -483,7 +485,8 @@ impl Streams {
     fn on_trailers<'a>(&mut self, stream: u32, end_stream: bool) -> StreamEvent<'a>
         requires { is_receiving self.old stream ≡ true }
         ensures answer { result ≡ on_trailers self.old stream end_stream }
-        ensures state { self.new ≡ answered result (client_ends self.old stream end_stream) }
+        ensures state { self.new ≡ after_answer result
+            (after_client_end self.old stream end_stream) }
     {
         if !end_stream {
             return self.stream_error(stream, ErrorCode::ProtocolError);
@@ -495,7 +498,7 @@ impl Streams {
     fn on_reset<'a>(&mut self, stream: u32) -> Result<StreamEvent<'a>, H2Fault>
         ensures answer { Gives result (on_reset self.old stream) }
         ensures state { IfOk result (λ a. self.new
-            ≡ answered a (with_live self.old (without stream self.old.live))) }
+            ≡ after_answer a (with_live self.old (without_stream stream self.old.live))) }
         ensures err { OnErr result (self.new ≡ self.old) }
     {
         if self.is_idle(stream) {
@@ -513,7 +516,7 @@ impl Streams {
     ) -> Result<StreamEvent<'a>, H2Fault>
         ensures answer { Gives result (on_settings self.old ack settings.entry) }
         ensures state { IfOk result (λ a. self.new
-            ≡ answered a (if ack then self.old else settings_in self.old settings.entry)) }
+            ≡ after_answer a (if ack then self.old else after_settings self.old settings.entry)) }
         ensures err { OnErr result (self.new ≡ self.old) }
     {
         if ack {
@@ -531,7 +534,7 @@ impl Streams {
     fn resize(&mut self, initial_window_size: u32)
         requires small { initial_window_size < 2 ^ 31 }
         requires within { list_any (is_above initial_window_size) self.old.live ≡ false }
-        ensures { self.new ≡ resized_to self.old initial_window_size }
+        ensures { self.new ≡ after_resize self.old initial_window_size }
     {
         live::resize(&mut self.live, initial_window_size);
         self.initial_window_size = initial_window_size;
@@ -546,7 +549,7 @@ impl Streams {
         ensures answer { Gives result (if stream == 0 then on_connection_update self.old increment
             else on_stream_update self.old stream increment) }
         ensures state { IfOk result (λ a. self.new
-            ≡ answered a (update_in self.old stream increment)) }
+            ≡ after_answer a (after_window_update self.old stream increment)) }
         ensures err { OnErr result (self.new ≡ self.old) }
     {
         if stream == 0 {
@@ -570,7 +573,8 @@ impl Streams {
 
     fn on_connection_update<'a>(&mut self, increment: u32) -> Result<StreamEvent<'a>, H2Fault>
         ensures answer { Gives result (on_connection_update self.old increment) }
-        ensures state { IfOk result (λ a. self.new ≡ answered a (update_in self.old 0 increment)) }
+        ensures state { IfOk result (λ a. self.new
+            ≡ after_answer a (after_window_update self.old 0 increment)) }
         ensures err { OnErr result (self.new ≡ self.old) }
     {
         match self.connection_window.grant(increment) {
@@ -587,7 +591,7 @@ const PROTOCOL_ERROR: H2Fault = H2Fault::Connection(ErrorCode::ProtocolError);
 fn remember(remembered: &mut Vec<u32>, stream: u32)
     requires room { 128 ≤ vec_capacity remembered.old }
     requires few { length remembered.old.items ≤ 128 }
-    ensures list { remembered.new.items ≡ last 128 (remembered.old.items ++ stream ∷ []) }
+    ensures list { remembered.new.items ≡ last_items 128 (remembered.old.items ++ stream ∷ []) }
     ensures few { length remembered.new.items ≤ 128 }
     ensures room { 128 ≤ vec_capacity remembered.new }
 {
@@ -598,13 +602,13 @@ fn remember(remembered: &mut Vec<u32>, stream: u32)
 }
 
 fn nothing<'a>() -> StreamEvent<'a>
-    ensures { result ≡ nothing }
+    ensures { result ≡ no_effect }
 {
     brings(Event::Nothing)
 }
 
 fn brings<'a>(event: Event<'a>) -> StreamEvent<'a>
-    ensures { result ≡ brings event.entry }
+    ensures { result ≡ event_only event.entry }
 {
     StreamEvent {
         acknowledgement: None,
@@ -626,7 +630,7 @@ fn reset_frame<'a>(stream: u32, code: ErrorCode) -> Option<Frame<'a>>
 
 /// The WINDOW_UPDATE that gives back received bytes.
 fn update<'a>(stream: u32, length: u32) -> Option<Frame<'a>>
-    ensures { result ≡ update stream length }
+    ensures { result ≡ window_update stream length }
 {
     if length == 0 {
         return None;
@@ -653,7 +657,7 @@ fn on_ping<'a>(ack: bool, opaque_data: [u8; 8]) -> StreamEvent<'a>
 }
 
 fn settings_ack<'a>() -> StreamEvent<'a>
-    ensures { result ≡ answer (Some (Settings true [])) None None None Event.Nothing }
+    ensures { result ≡ stream_event (Some (Settings true [])) None None None Event.Nothing }
 {
     StreamEvent {
         acknowledgement: Some(Frame::Settings {
@@ -668,7 +672,7 @@ fn settings_ack<'a>() -> StreamEvent<'a>
 fn read_settings(live: &[Stream], mut settings: SettingsList<'_>) -> Result<Option<u32>, ErrorCode>
     ensures fault { IfErr result (λ code. settings_fault live.now settings.entry ≡ Some code) }
     ensures faultless { OnOk result (settings_fault live.now settings.entry ≡ None) }
-    ensures size { IfOk result (λ size. size ≡ fold size_in None settings.entry) }
+    ensures size { IfOk result (λ size. size ≡ fold size_after_setting None settings.entry) }
     ensures fits { IfOk result (λ size. IfSome size
         (λ n. (n < 2 ^ 31) × (list_any (is_above n) live.now ≡ false))) }
 {

@@ -2,7 +2,7 @@
 use Rattle.std.proofs.Common.{◌≡◌, ℕ, zero, suc, ◌+◌, ◌-◌, ◌<◌, Bool, true, false, List, [], ◌∷◌, ◌++◌, ◌||◌, Some, None, Result, Ok, Err, is_some, slice_get, refl, sym, ap, ◌∙◌, arith, if◌then◌else◌}
 use Rattle.std.specs.List.{list_any}
 use Rattle.digest.specs.declared.Digest.{Digest}
-use Rattle.digest.specs.Naming.{same}
+use Rattle.digest.specs.Naming.{same_digest}
 use Rattle.digest.proofs.Same.{same_equal}
 use Rattle.input_tree.specs.declared.error.TreeRefusal.{TreeRefusal}
 use Rattle.input_tree.specs.declared.error.TreeRefusal.TheVariants.{TooMany}
@@ -19,15 +19,15 @@ any_last test (k ∷ ks) d h none = go (test k) h none (any_last test ks d) wher
   go false h none later = later h none
 
 -- a digest that has no directory is added to others of the kind
-pub none_with : (look : Lookup) (ks new : List Digest) (d : Digest) → AreNone look ks → children look d ≡ None → new ≡ (if list_any (same d) ks then ks else ks ++ d ∷ []) → AreNone look new
-none_with look ks new d none this is e h = go (list_any (same d) ks) (ap (λ (xs : List Digest). list_any (same e) xs) (sym is) ∙ h) where
-  among : (b : Bool) → list_any (same e) ks ≡ b → list_any (same e) (ks ++ d ∷ []) ≡ true → children look e ≡ None
+pub none_with : (look : Lookup) (ks new : List Digest) (d : Digest) → AreNone look ks → children look d ≡ None → new ≡ (if list_any (same_digest d) ks then ks else ks ++ d ∷ []) → AreNone look new
+none_with look ks new d none this is e h = go (list_any (same_digest d) ks) (ap (λ (xs : List Digest). list_any (same_digest e) xs) (sym is) ∙ h) where
+  among : (b : Bool) → list_any (same_digest e) ks ≡ b → list_any (same_digest e) (ks ++ d ∷ []) ≡ true → children look e ≡ None
   among true there h = none e there
-  among false absent h = ap (λ (x : Digest). children look x) (same_equal e d (any_last (same e) ks d h absent)) ∙ this
+  among false absent h = ap (λ (x : Digest). children look x) (same_equal e d (any_last (same_digest e) ks d h absent)) ∙ this
 
-  go : (b : Bool) → list_any (same e) (if b then ks else ks ++ d ∷ []) ≡ true → children look e ≡ None
+  go : (b : Bool) → list_any (same_digest e) (if b then ks else ks ++ d ∷ []) ≡ true → children look e ≡ None
   go true h = none e h
-  go false h = among (list_any (same e) ks) refl h
+  go false h = among (list_any (same_digest e) ks) refl h
 
 -- ---- going along
 

@@ -4,7 +4,7 @@ use Rattle.std.specs.Prelude.{unwrap_or}
 use Rattle.std.proofs.Math.Seq.{take-length}
 use Rattle.std.proofs.lemmas.List.{length-append}
 use Rattle.message_fields.specs.Record.{Record}
-use Rattle.message_fields.specs.Writing.{text}
+use Rattle.message_fields.specs.Writing.{records_text}
 use Rattle.message_fields.specs.Parts.{repeated_octets_field}
 use Rattle.message_fields.proofs.Texts.{text_append}
 use Rattle.input_tree.specs.Pages.{page_before, page_bytes, page_from, pages_along, takes}
@@ -15,9 +15,9 @@ records_last (u ∷ us) t = ap (λ (rs : List Record). repeated_octets_field 1 (
 
 bytes_last : (page : List (List ℕ)) (t : List ℕ) → page_bytes (page ++ t ∷ []) ≡ page_bytes page + page_bytes (t ∷ [])
 bytes_last page t =
-    ap (λ (rs : List Record). length (text rs)) (records_last page t)
+    ap (λ (rs : List Record). length (records_text rs)) (records_last page t)
     ∙ ap (length {A = ℕ}) (text_append (repeated_octets_field 1 page) (repeated_octets_field 1 (t ∷ [])))
-    ∙ length-append (text (repeated_octets_field 1 page)) (text (repeated_octets_field 1 (t ∷ [])))
+    ∙ length-append (records_text (repeated_octets_field 1 page)) (records_text (repeated_octets_field 1 (t ∷ [])))
 
 pub bytes_kept : (goes_on : Bool) (page : List (List ℕ)) (t : List ℕ) → unwrap_or (if goes_on then Some (page_bytes page + page_bytes (t ∷ [])) else None) (page_bytes (t ∷ [])) ≡ page_bytes (page_from goes_on page ++ t ∷ [])
 bytes_kept true page t = sym (bytes_last page t)

@@ -2,7 +2,7 @@
 use Rattle.std.specs.Prelude.{ℕ, Bool, List, map, Option, Some, None, Result, Ok, Err, is_some, nat_le, length, ◌&&◌, option_map, if◌then◌else◌}
 use Rattle.std.specs.List.{list_all, filter_map}
 use Rattle.message_fields.specs.declared.error.MessageError.{MessageError}
-use Rattle.message_fields.specs.Fields.{decoded}
+use Rattle.message_fields.specs.Fields.{value_of_text}
 use Rattle.digest.specs.declared.Digest.{Digest}
 use Rattle.digest.specs.Text.{digest_in}
 use Rattle.reapi_messages.specs.Digests.{DigestValue}
@@ -10,15 +10,15 @@ use Rattle.tree_messages.specs.Directories.{DirectoryValue, DirectoryNodeValue, 
 use Rattle.input_tree.specs.Names.{is_name, is_target, are_rising, are_apart}
 
 -- the digest that a node writes, where it writes one
-abbrev pub digest_written : Option DigestValue → Option Digest
-digest_written None = None
-digest_written (Some v) = digest_in v.hash v.size_bytes
+abbrev pub written_digest : Option DigestValue → Option Digest
+written_digest None = None
+written_digest (Some v) = digest_in v.hash v.size_bytes
 
 abbrev pub is_file : FileNodeValue → Bool
-is_file n = is_name n.name && is_some (digest_written n.digest)
+is_file n = is_name n.name && is_some (written_digest n.digest)
 
 abbrev pub is_child : DirectoryNodeValue → Bool
-is_child n = is_name n.name && is_some (digest_written n.digest)
+is_child n = is_name n.name && is_some (written_digest n.digest)
 
 abbrev pub is_symlink : SymlinkNodeValue → Bool
 is_symlink n = is_name n.name && is_target n.target
@@ -34,27 +34,35 @@ symlink_names v = map (λ n. n.name) v.symlinks
 
 -- each node has its form
 abbrev pub has_nodes : DirectoryValue → Bool
-has_nodes v = list_all is_file v.files && (list_all is_child v.directories && list_all is_symlink v.symlinks)
+has_nodes v =
+    list_all is_file v.files && (list_all is_child v.directories && list_all is_symlink v.symlinks)
 
 -- each list is sorted by names, and no name stands twice
 abbrev pub has_order : DirectoryValue → Bool
-has_order v = are_rising (file_names v) && (are_rising (child_names v) && (are_rising (symlink_names v) && (are_apart (file_names v) (child_names v) && (are_apart (file_names v) (symlink_names v) && are_apart (child_names v) (symlink_names v)))))
+has_order v =
+    are_rising (file_names v) &&
+    (are_rising (child_names v) &&
+    (are_rising (symlink_names v) &&
+    (are_apart (file_names v) (child_names v) &&
+    (are_apart (file_names v) (symlink_names v) && are_apart (child_names v) (symlink_names v)))))
 
 abbrev pub is_directory : DirectoryValue → Bool
 is_directory v = has_nodes v && has_order v
 
 -- ---- texts of directories
 
-abbrev pub checked : Result DirectoryValue MessageError → Option DirectoryValue
-checked (Ok v) = if is_directory v then Some v else None
-checked (Err e) = None
+abbrev pub valid_directory : Result DirectoryValue MessageError → Option DirectoryValue
+valid_directory (Ok v) = if is_directory v then Some v else None
+valid_directory (Err e) = None
 
 -- the directory that a text spells, where it has at most 67,108,864 bytes
 abbrev pub directory_in : List ℕ → Option DirectoryValue
-directory_in text = if nat_le (length text) 67108864 then checked (decoded directory_of text) else None
+directory_in text =
+    if nat_le (length text) 67108864 then valid_directory (value_of_text directory_of text)
+    else None
 
 abbrev pub child_digest : DirectoryNodeValue → Option Digest
-child_digest n = digest_written n.digest
+child_digest n = written_digest n.digest
 
 -- the digests of the directories in a directory, in order
 abbrev pub child_digests : DirectoryValue → List Digest

@@ -4,7 +4,7 @@ use Rattle.std.specs.Prelude.{◌≡◌, true, ℕ, ◌+◌, zero, suc, List, []
 use Rattle.std.specs.List.{list_any}
 use Rattle.std.specs.Option.{option_map_or}
 use Rattle.digest.specs.declared.Digest.{Digest}
-use Rattle.digest.specs.Naming.{same}
+use Rattle.digest.specs.Naming.{same_digest}
 use Rattle.input_tree.specs.Directories.{children_in}
 use Rattle.input_tree.specs.declared.error.TreeRefusal.{TreeRefusal}
 use Rattle.input_tree.specs.declared.error.TreeRefusal.TheVariants.{NotFound, BadDirectory, TooMany}
@@ -23,7 +23,9 @@ children look d = children_of_text (look d)
 
 -- a directory that is not listed yet goes last
 abbrev pub with_listed : Lookup → List Digest → Digest → List Digest
-with_listed look ds d = if is_some (children look d) then (if list_any (same d) ds then ds else ds ++ d ∷ []) else ds
+with_listed look ds d =
+    if is_some (children look d) then (if list_any (same_digest d) ds then ds else ds ++ d ∷ [])
+    else ds
 
 abbrev pub with_all_listed : Lookup → List Digest → List Digest → List Digest
 with_all_listed look ds [] = ds
@@ -36,11 +38,14 @@ with_children look ds d = with_all_listed look ds (unwrap_or (children look d) [
 -- along the list from a place on, for at most so many directories
 unfoldable pub listed_along : ℕ → Lookup → List Digest → ℕ → Result (List Digest) TreeRefusal
 listed_along zero look ds place = if is_some (slice_get ds place) then Err TooMany else Ok ds
-listed_along (suc most) look ds place = option_map_or (λ d. listed_along most look (with_children look ds d) (place + 1)) (slice_get ds place) (Ok ds)
+listed_along (suc most) look ds place =
+    option_map_or (λ d. listed_along most look (with_children look ds d) (place + 1))
+    (slice_get ds place) (Ok ds)
 
 abbrev pub listed_from : ℕ → Lookup → Digest → Option (List ℕ) → Result (List Digest) TreeRefusal
 listed_from most look root None = Err NotFound
-listed_from most look root (Some text) = if is_some (children_in text) then listed_along most look (root ∷ []) 0 else Err BadDirectory
+listed_from most look root (Some text) =
+    if is_some (children_in text) then listed_along most look (root ∷ []) 0 else Err BadDirectory
 
 -- the list begins with the root; going along it, each directory that a listed one has goes last,
 -- unless it is listed
@@ -49,4 +54,4 @@ tree_list look root = listed_from 10000 look root (look root)
 
 -- none of the digests is one of a directory
 abbrev pub AreNone : Lookup → List Digest → Type 0
-AreNone look ds = (d : Digest) → list_any (same d) ds ≡ true → children look d ≡ None
+AreNone look ds = (d : Digest) → list_any (same_digest d) ds ≡ true → children look d ≡ None

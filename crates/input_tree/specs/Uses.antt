@@ -1,8 +1,8 @@
 -- Uses of an instance's texts, one after another.
 use Rattle.std.specs.Prelude.{List, [], ◌∷◌}
 use Rattle.digest.specs.declared.Digest.{Digest}
-use Rattle.instance_view.specs.Visible.{Blob, used}
+use Rattle.instance_view.specs.Visible.{Blob, visible_after_use}
 
-abbrev pub all_used : List Digest → List Blob → List Blob
-all_used [] visible = visible
-all_used (d ∷ ds) visible = all_used ds (used d visible)
+abbrev pub visible_after_uses : List Digest → List Blob → List Blob
+visible_after_uses [] visible = visible
+visible_after_uses (d ∷ ds) visible = visible_after_uses ds (visible_after_use d visible)

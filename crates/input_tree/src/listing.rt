@@ -1,7 +1,7 @@
 //! The list of a tree's directories.
 
 ghost use Rattle.std.specs.Prelude.{◌≡◌, ◌≤◌, ℕ, Ok, IfErr, OnOk};
-ghost use Rattle.blob_pool.specs.Held.{count_at};
+ghost use Rattle.blob_pool.specs.Slots.{count_at};
 ghost use Rattle.instance_view.specs.Shown.{holders};
 ghost use Rattle.input_tree.specs.Answers.{Fails, Lists};
 ghost use Rattle.input_tree.specs.Listing.{AreNone, children, listed_along, tree_list, with_listed, with_all_listed, with_children};

@@ -3,7 +3,7 @@
 ghost use Rattle.std.specs.Prelude.{◌≡◌, Bool, ℕ, List, option_map};
 ghost use Rattle.std.specs.List.{list_all};
 ghost use Rattle.reapi_messages.specs.Digests.{digest_shown};
-ghost use Rattle.input_tree.specs.Directories.{digest_written};
+ghost use Rattle.input_tree.specs.Directories.{written_digest};
 ghost use Rattle.input_tree.specs.Names as names;
 
 use digest::Digest;
@@ -67,7 +67,7 @@ fn is_target(target: &str) -> bool
 
 /// The digest that a node writes, where it has one of the right form.
 pub fn digest_written(digest: &Option<messages::Digest<'_>>) -> Option<Digest>
-    ensures { result ≡ digest_written (option_map digest_shown digest.now) }
+    ensures { result ≡ written_digest (option_map digest_shown digest.now) }
 {
     match digest {
         None => None,

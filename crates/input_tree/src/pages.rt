@@ -2,7 +2,7 @@
 
 ghost use Rattle.std.specs.Prelude.{◌≡◌, ◌+◌, ◌<◌, ◌^◌, [], map, length, ◌++◌, Some, None, IfOk, OnOk, if◌then◌else◌};
 ghost use Rattle.std.specs.Fmt as fmt;
-ghost use Rattle.message_fields.specs.Writing.{text, message_field};
+ghost use Rattle.message_fields.specs.Writing.{records_text, message_field};
 ghost use Rattle.input_tree.specs.Pages.{page_before, page_bytes, page_from, page_text, pages_along, place_asked, size_asked, takes_more};
 
 use decimals::decimal;
@@ -47,7 +47,7 @@ pub fn place_asked(page_token: &str, count: usize) -> Option<usize>
 
 /// How many bytes the record of a directory takes.
 fn record_length(alloc: Global, directory: &[u8]) -> Result<usize, AllocError>
-    ensures { IfOk result (λ count. count ≡ length (text (message_field 1 directory.now))) }
+    ensures { IfOk result (λ count. count ≡ length (records_text (message_field 1 directory.now))) }
 {
     let mut record = Writer::new(alloc);
     record.message(1, directory)?;

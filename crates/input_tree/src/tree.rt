@@ -1,13 +1,13 @@
 //! GetTree.
 
 ghost use Rattle.std.specs.Prelude.{◌≡◌, ◌<◌, ◌≤◌, ◌^◌, ℕ, length, map, IfOk, OnOk, OnErr};
-ghost use Rattle.blob_pool.specs.Held.{Slots, count_at};
-ghost use Rattle.instance_view.specs.Shown.{shown, holders};
+ghost use Rattle.blob_pool.specs.Slots.{Slots, count_at};
+ghost use Rattle.instance_view.specs.Shown.{visible_in, holders};
 ghost use Rattle.input_tree.specs.Answers.{Answers};
 ghost use Rattle.input_tree.specs.Listing.{tree_list};
 ghost use Rattle.input_tree.specs.Pages.{digests_of, texts, pages_of, get_tree_reply};
 ghost use Rattle.input_tree.specs.Texts.{texts_of};
-ghost use Rattle.input_tree.specs.Uses.{all_used};
+ghost use Rattle.input_tree.specs.Uses.{visible_after_uses};
 
 use crate::directory::text_or_none;
 use crate::error::{GetTreeError, TreeRefusal};
@@ -82,8 +82,9 @@ pub fn get_tree(
     ensures pages { Answers (λ pages. map (λ page. page.items) pages.items) result
         (get_tree_reply (texts_of pool.now view.old) root.now page_size page_token.now) }
     ensures used { (p : Slots) → OnOk result
-        (shown p view.new ≡ all_used (digests_of (tree_list (texts_of pool.now view.old) root.now))
-        (shown p view.old)) }
+        (visible_in p view.new
+        ≡ visible_after_uses (digests_of (tree_list (texts_of pool.now view.old) root.now))
+        (visible_in p view.old)) }
     ensures err { OnErr result (view.new ≡ view.old) }
     ensures holders { (k : ℕ) → holders view.new k ≡ holders view.old k }
     ensures limit { view.new.limit ≡ view.old.limit }

@@ -10,8 +10,8 @@ use Rattle.rpc.specs.declared.method.Method.TheVariants.{FindMissingBlobs, Batch
 use Rattle.rpc.specs.declared.refusal.Refusal.{Refusal}
 use Rattle.rpc.specs.declared.refusal.Refusal.TheVariants.{UnknownMethod}
 use Rattle.protobuf_wire.proofs.Tools.{bind_ok, ok_is}
-use Rattle.blob_pool.specs.Held.{Slots}
-use Rattle.instance_view.specs.Visible.{Blob, seen}
+use Rattle.blob_pool.specs.Slots.{Slots}
+use Rattle.instance_view.specs.Visible.{Blob, visible_text}
 use Rattle.bytestream.specs.declared.reading.ReadAsked.{ReadAsked}
 use Rattle.bytestream.specs.Reading.{SourceValue, read_asked, place_of, until_of, range_asked, read_answer}
 use Rattle.bytestream.specs.Writing as Writing
@@ -23,10 +23,10 @@ use Rattle.instance_core.specs.Slots.{InstanceSlots, state_in, IsKept}
 use Rattle.instance_core.specs.Methods.{is_served, reply_to, items_to}
 use Rattle.tree_calls.specs.GetTree.{get_tree_replies}
 use Rattle.tree_calls.proofs.Short.{get_tree_short, get_action_result_short, update_action_result_short}
-use Rattle.instance_core.specs.Replies.{ReplyValue, IsShortItem, IsShortReply, items_of, messages_said, messages_items, gives, ends, read_items}
+use Rattle.instance_core.specs.Replies.{ReplyValue, IsShortItem, IsShortReply, items_of, message_items, whole_reply_items, gives, ends, read_items}
 use Rattle.instance_core.specs.Changes.{Change}
 use Rattle.instance_core.specs.Writes.{first_changes, next_changes, first_outcome, next_outcome}
-use Rattle.instance_core.specs.Answer.{reply_with, goes_on, at_head, first_written, next_written, with_first, with_message, at_message, at_fault, with_request, at_end, answer}
+use Rattle.instance_core.specs.Answer.{reply_with, continuation_answer, head_answer, first_write_answer, next_write_answer, first_message_answer, answer_by_progress, message_answer, fault_answer, end_answer_by_progress, request_end_answer, answer}
 use Rattle.instance_core.specs.declared.event.Reply.{Reply}
 use Rattle.instance_core.specs.Shown.{reply_shown}
 use Rattle.instance_core.proofs.Short.{find_missing_short, batch_update_short, batch_read_short, get_capabilities_short}
@@ -71,7 +71,7 @@ range_within asked (Some text) source h =
 pub read_within : (own : List ℕ) (visible : List Blob) (request : List ℕ) (source : SourceValue) → read_answer own visible request ≡ Ok source → source.until ≤ length source.text
 read_within own visible request source h =
     let asked = bind_ok (read_asked own request) _ source h in
-    range_within asked.0 (seen asked.0.digest visible) source asked.2
+    range_within asked.0 (visible_text asked.0.digest visible) source asked.2
 
 read_short : (r : Result SourceValue Refusal) → ((source : SourceValue) → r ≡ Ok source → source.until ≤ length source.text) → AllByRecursion IsShortItem (read_items r)
 read_short (Err refusal) f = (tt, tt)
@@ -82,11 +82,11 @@ read_short (Ok source) f = (tt, go (nat_lt source.from source.until) refl) where
 
 -- ---- pages
 
-said_short : (messages : List (List ℕ)) → AllByRecursion (λ message. length message < 2 ^ 32) messages → AllByRecursion IsShortItem (messages_said messages ++ ends ∷ [])
+said_short : (messages : List (List ℕ)) → AllByRecursion (λ message. length message < 2 ^ 32) messages → AllByRecursion IsShortItem (message_items messages ++ ends ∷ [])
 said_short [] h = (tt, tt)
 said_short (m ∷ ms) h = (h.0, said_short ms h.1)
 
-messages_short : (r : Result (List (List ℕ)) Refusal) → ((messages : List (List ℕ)) → r ≡ Ok messages → AllByRecursion (λ message. length message < 2 ^ 32) messages) → AllByRecursion IsShortItem (messages_items r)
+messages_short : (r : Result (List (List ℕ)) Refusal) → ((messages : List (List ℕ)) → r ≡ Ok messages → AllByRecursion (λ message. length message < 2 ^ 32) messages) → AllByRecursion IsShortItem (whole_reply_items r)
 messages_short (Ok messages) f = (tt, said_short messages (f messages refl))
 messages_short (Err refusal) f = (tt, tt)
 
@@ -106,26 +106,26 @@ items_short Write s request w short = (tt, tt)
 
 -- ---- events
 
-head_short : (id : CallId) (method : Method) (o : Option CallValue) → AllByRecursion IsShortReply (at_head id method o).replies
+head_short : (id : CallId) (method : Method) (o : Option CallValue) → AllByRecursion IsShortReply (head_answer id method o).replies
 head_short id method (Some call) = tt
 head_short id method None = go (is_served method) where
-  go : (b : Bool) → AllByRecursion IsShortReply (cond b (goes_on id (record { method = method; progress = waits })) (record { replies = reply_with id (Err UnknownMethod); changes = [] })).replies
+  go : (b : Bool) → AllByRecursion IsShortReply (cond b (continuation_answer id (record { method = method; progress = waits })) (record { replies = reply_with id (Err UnknownMethod); changes = [] })).replies
   go true = tt
   go false = ((tt, tt), tt)
 
 first_written_short : (id : CallId) (method : Method) (changes : List Change) (r : Result WrittenValue Refusal) → ((reply : List ℕ) → r ≡ Ok (Writing.Answered reply) → length reply < 2 ^ 32)
-    → AllByRecursion IsShortReply (first_written id method changes r).replies
+    → AllByRecursion IsShortReply (first_write_answer id method changes r).replies
 first_written_short id method changes (Ok (Writing.Goes call)) f = tt
 first_written_short id method changes (Ok (Writing.Answered reply)) f = ((tt, (f reply refl, (tt, tt))), tt)
 first_written_short id method changes (Err refusal) f = ((tt, tt), tt)
 
 next_written_short : (id : CallId) (changes : List Change) (r : Result (Option (List ℕ)) Refusal) → ((reply : List ℕ) → r ≡ Ok (Some reply) → length reply < 2 ^ 32)
-    → AllByRecursion IsShortReply (next_written id changes r).replies
+    → AllByRecursion IsShortReply (next_write_answer id changes r).replies
 next_written_short id changes (Ok None) f = tt
 next_written_short id changes (Ok (Some reply)) f = ((tt, (f reply refl, (tt, tt))), tt)
 next_written_short id changes (Err refusal) f = ((tt, tt), tt)
 
-first_message_short : (s : InstanceState) (id : CallId) (method : Method) (bytes : List ℕ) → AllByRecursion IsShortReply (with_first s id method bytes).replies
+first_message_short : (s : InstanceState) (id : CallId) (method : Method) (bytes : List ℕ) → AllByRecursion IsShortReply (first_message_answer s id method bytes).replies
 first_message_short s id Write bytes =
     first_written_short id Write (first_changes s bytes) (first_outcome s bytes) (λ reply h. first_short s.name s.quota s.moment (Rattle.instance_core.specs.Writes.write_state s) bytes reply h)
 first_message_short s id FindMissingBlobs bytes = tt
@@ -140,22 +140,22 @@ first_message_short s id GetCapabilities bytes = tt
 first_message_short s id Read bytes = tt
 first_message_short s id QueryWriteStatus bytes = tt
 
-message_short : (s : InstanceState) (id : CallId) (bytes : List ℕ) (o : Option CallValue) → IfSome o (λ call. IsShortProgress call.progress) → AllByRecursion IsShortReply (at_message s id bytes o).replies
+message_short : (s : InstanceState) (id : CallId) (bytes : List ℕ) (o : Option CallValue) → IfSome o (λ call. IsShortProgress call.progress) → AllByRecursion IsShortReply (message_answer s id bytes o).replies
 message_short s id bytes None h = tt
 message_short s id bytes (Some call) h = go call.progress h where
-  go : (progress : ProgressValue) → IsShortProgress progress → AllByRecursion IsShortReply (with_message s id call.method bytes progress).replies
+  go : (progress : ProgressValue) → IsShortProgress progress → AllByRecursion IsShortReply (answer_by_progress s id call.method bytes progress).replies
   go waits h = first_message_short s id call.method bytes
   go (has first) h = ((tt, tt), tt)
   go (writes write) h = next_written_short id (next_changes s write bytes) (next_outcome s write bytes) (λ reply answered. next_short write s.quota s.moment s.uploads bytes reply h answered)
 
-fault_short : (id : CallId) (refusal : Refusal) (o : Option CallValue) → AllByRecursion IsShortReply (at_fault id refusal o).replies
+fault_short : (id : CallId) (refusal : Refusal) (o : Option CallValue) → AllByRecursion IsShortReply (fault_answer id refusal o).replies
 fault_short id refusal None = tt
 fault_short id refusal (Some call) = ((tt, tt), tt)
 
-end_short : (s : InstanceState) (id : CallId) (o : Option CallValue) → WithinLimits s → IfSome o (λ call. IsShortProgress call.progress) → AllByRecursion IsShortReply (at_end s id o).replies
+end_short : (s : InstanceState) (id : CallId) (o : Option CallValue) → WithinLimits s → IfSome o (λ call. IsShortProgress call.progress) → AllByRecursion IsShortReply (request_end_answer s id o).replies
 end_short s id None w h = tt
 end_short s id (Some call) w h = go call.progress h where
-  go : (progress : ProgressValue) → IsShortProgress progress → AllByRecursion IsShortReply (with_request s id call.method progress).replies
+  go : (progress : ProgressValue) → IsShortProgress progress → AllByRecursion IsShortReply (end_answer_by_progress s id call.method progress).replies
   go waits h = ((tt, tt), tt)
   go (has request) h = (items_short call.method s request w h, tt)
   go (writes write) h = ((tt, (unfinished_short s.quota write.key s.uploads w.quota w.uploads, (tt, tt))), tt)

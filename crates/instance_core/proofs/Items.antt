@@ -4,18 +4,18 @@ use Rattle.std.specs.Prelude.{OnOk}
 use Rattle.std.specs.declared.alloc.Global.{Global}
 use Rattle.std.specs.declared.alloc.AllocError.{AllocError}
 use Rattle.std.specs.declared.vec.Vec.{Vec}
-use Rattle.blob_pool.specs.Held.{Slots}
+use Rattle.blob_pool.specs.Slots.{Slots}
 use Rattle.instance_core.specs.declared.event.CallId.{CallId}
 use Rattle.instance_core.specs.declared.event.Reply.{Reply}
 use Rattle.instance_core.specs.declared.event.ReplyItem.{ReplyItem}
 use Rattle.instance_core.specs.Replies.{ReplyItemValue}
-use Rattle.instance_core.specs.Answer.{items_sent}
+use Rattle.instance_core.specs.Answer.{reply_of_items}
 use Rattle.instance_core.specs.Shown.{Gives, item_shown}
 use Rattle.instance_core.specs.Given.{items_holders, holders_given}
 
 pub items_given : (p : Slots) (r : Result (Vec Reply Global) AllocError) (call : CallId) (items : List ReplyItem) (shown : List ReplyItemValue)
-    → map (item_shown p) items ≡ shown → Gives p r (items_sent call (map (item_shown p) items)) → Gives p r (items_sent call shown)
-items_given p r call items shown is given = subst (λ (xs : List ReplyItemValue). Gives p r (items_sent call xs)) is given
+    → map (item_shown p) items ≡ shown → Gives p r (reply_of_items call (map (item_shown p) items)) → Gives p r (reply_of_items call shown)
+items_given p r call items shown is given = subst (λ (xs : List ReplyItemValue). Gives p r (reply_of_items call xs)) is given
 
 pub items_held : (r : Result (Vec Reply Global) AllocError) (items : List ReplyItem) (k n : ℕ) → items_holders items k ≡ n → OnOk r (holders_given r k ≡ items_holders items k) → OnOk r (holders_given r k ≡ n)
 items_held (Ok replies) items k n is held = held ∙ is

@@ -7,10 +7,10 @@ use Rattle.digest.specs.declared.Digest.{Digest}
 use Rattle.digest.specs.Text.{hash_in}
 use Rattle.resource_names.specs.declared.name.NameError.{NameError}
 use Rattle.resource_names.specs.declared.name.NameError.TheVariants.{Form, Hash, Size}
-use Rattle.resource_names.specs.Names.{◌>>=◌, WriteNameValue, or_fault, divides_write, uncompressed_upload, instance_of, uuid_of, blobs_place, digest_of_segments, upload_named, write_name}
-use Rattle.resource_names.specs.Segments.{divided, segments_of}
+use Rattle.resource_names.specs.Names.{◌>>=◌, WriteNameValue, or_fault, divides_write, upload_compression_check, instance_of, uuid_of, blobs_place, digest_of_segments, upload_named, write_name}
+use Rattle.resource_names.specs.Segments.{division_of, segments_of}
 use Rattle.resource_names.specs.Size.{is_numeral, size_in}
-use Rattle.bytestream.specs.Refusals.{named}
+use Rattle.bytestream.specs.Refusals.{name_or_refusal}
 
 -- a size that can be told (bytestream.proto, committed_size)
 abbrev pub CanBeTold : ℕ → Type 0
@@ -54,11 +54,11 @@ upload_told instance [] name h = absurd (cc)
 
 pub write_told : (name_text : List ℕ) (name : WriteNameValue) → write_name name_text ≡ Ok name → CanBeTold name.digest.size
 write_told name_text name h =
-    let d = name_ok (or_fault Form (divided divides_write (segments_of name_text))) _ name h in
-    let u = name_ok (uncompressed_upload d.0.after) _ name d.2 in
+    let d = name_ok (or_fault Form (division_of divides_write (segments_of name_text))) _ name h in
+    let u = name_ok (upload_compression_check d.0.after) _ name d.2 in
     let i = name_ok (instance_of d.0.before) _ name u.2 in
     upload_told i.0 d.0.after name i.2
 
-pub named_ok : {A : Type 0} (r : Result A NameError) (x : A) → named r ≡ Ok x → r ≡ Ok x
+pub named_ok : {A : Type 0} (r : Result A NameError) (x : A) → name_or_refusal r ≡ Ok x → r ≡ Ok x
 named_ok (Ok y) x h = cc
 named_ok (Err e) x h = absurd (cc)

@@ -9,9 +9,9 @@ use Rattle.rpc.specs.declared.method.Method.TheVariants.{FindMissingBlobs, Batch
 use Rattle.reapi_messages.specs.Results.{◌>>=◌}
 use Rattle.rpc.specs.declared.refusal.Refusal.{Refusal}
 use Rattle.digest.specs.declared.Digest.{Digest}
-use Rattle.blob_pool.specs.Held.{Slots}
+use Rattle.blob_pool.specs.Slots.{Slots}
 use Rattle.instance_view.specs.Visible.{Blob}
-use Rattle.instance_view.specs.Shown.{ViewValue, shown}
+use Rattle.instance_view.specs.Shown.{ViewValue, visible_in}
 use Rattle.cas_service.specs.declared.error.CallError.{CallError}
 use Rattle.cas_service.specs.declared.error.CallError.TheVariants.{Refused, NoMemory}
 use Rattle.cas_service.specs.Answers.{Answers, IfAnswered, IfNoMemory}
@@ -23,16 +23,16 @@ use Rattle.tree_calls.specs.Complete.{AreWithin}
 use Rattle.instance_core.specs.Calls.{CallValue, ProgressValue, has, Calls, without_call, IsShortProgress}
 use Rattle.instance_core.specs.State.{InstanceState, most_blobs}
 use Rattle.instance_core.specs.Methods.{LeavesResults, text_changes, result_changes, request_changes}
-use Rattle.instance_core.specs.Changes.{Change, Text, Ends, Keeps, change_made, changed, MadeInPart}
-use Rattle.instance_core.specs.Answer.{at_end}
+use Rattle.instance_core.specs.Changes.{Change, Text, Ends, Keeps, state_after_change, state_after_changes, MadeInPart}
+use Rattle.instance_core.specs.Answer.{request_end_answer}
 use Rattle.instance_core.specs.Shown.{Makes, with_calls}
 
 -- a call whose reply and changes come from what it asks for: refused, it changes nothing
 pub uses_answered : (r : Result (Vec ℕ Global) CallError) (asked : Result (List Digest) Refusal) (reply : List Digest → List ℕ) (limit most quota : ℕ) (p : Slots) (old new : ViewValue)
-    → limit ≡ most → Answers (λ (reply : Vec ℕ Global). reply.items) r (asked >>= λ digests. Ok (reply digests)) → OnOk r (shown p new ≡ Texts.changed limit quota (Texts.uses asked) (shown p old)) → OnErr r (new ≡ old)
-    → IfAnswered r (shown p new ≡ Texts.changed most quota (Texts.uses asked) (shown p old))
-uses_answered (Ok text) asked reply limit most quota p old new same is used err = subst (λ (n : ℕ). shown p new ≡ Texts.changed n quota (Texts.uses asked) (shown p old)) same used
-uses_answered (Err (Refused refusal)) (Err other) reply limit most quota p old new same is used err = ap (shown p) err
+    → limit ≡ most → Answers (λ (reply : Vec ℕ Global). reply.items) r (asked >>= λ digests. Ok (reply digests)) → OnOk r (visible_in p new ≡ Texts.visible_after_changes limit quota (Texts.uses asked) (visible_in p old)) → OnErr r (new ≡ old)
+    → IfAnswered r (visible_in p new ≡ Texts.visible_after_changes most quota (Texts.uses asked) (visible_in p old))
+uses_answered (Ok text) asked reply limit most quota p old new same is used err = subst (λ (n : ℕ). visible_in p new ≡ Texts.visible_after_changes n quota (Texts.uses asked) (visible_in p old)) same used
+uses_answered (Err (Refused refusal)) (Err other) reply limit most quota p old new same is used err = ap (visible_in p) err
 uses_answered (Err (Refused refusal)) (Ok digests) reply limit most quota p old new same is used err = cc
 uses_answered (Err NoMemory) asked reply limit most quota p old new same is used err = tt
 
@@ -41,13 +41,13 @@ with_texts visible s = record s { visible = visible }
 
 -- changes of the texts, and what comes after them
 pub changed_texts : (cs : List Texts.Change) (rest : List Change) (s : InstanceState)
-    → changed (map Text cs ++ rest) s ≡ changed rest (with_texts (Texts.changed most_blobs s.quota cs s.visible) s)
+    → state_after_changes (map Text cs ++ rest) s ≡ state_after_changes rest (with_texts (Texts.visible_after_changes most_blobs s.quota cs s.visible) s)
 changed_texts [] rest s = refl
-changed_texts (c ∷ cs) rest s = changed_texts cs rest (with_texts (Texts.change_made most_blobs s.quota c s.visible) s)
+changed_texts (c ∷ cs) rest s = changed_texts cs rest (with_texts (Texts.visible_after_change most_blobs s.quota c s.visible) s)
 
-made_texts : (cs : List Texts.Change) (s : InstanceState) → changed (map Text cs) s ≡ with_texts (Texts.changed most_blobs s.quota cs s.visible) s
+made_texts : (cs : List Texts.Change) (s : InstanceState) → state_after_changes (map Text cs) s ≡ with_texts (Texts.visible_after_changes most_blobs s.quota cs s.visible) s
 made_texts [] s = refl
-made_texts (c ∷ cs) s = made_texts cs (with_texts (Texts.change_made most_blobs s.quota c s.visible) s)
+made_texts (c ∷ cs) s = made_texts cs (with_texts (Texts.visible_after_change most_blobs s.quota c s.visible) s)
 
 joined_texts : (made left : List Texts.Change) (rest : List Change) → map Text (made ++ left) ++ rest ≡ map Text made ++ (map Text left ++ rest)
 joined_texts [] left rest = refl
@@ -81,23 +81,23 @@ pub becomes_same : (s : InstanceState) (visible visible' : List Blob) (uploads u
 becomes_same s visible visible' uploads uploads' calls calls' p q r = rw (p, q, r) refl
 
 -- changes, and then others
-changed_more : (a b : List Change) (s : InstanceState) → changed (a ++ b) s ≡ changed b (changed a s)
+changed_more : (a b : List Change) (s : InstanceState) → state_after_changes (a ++ b) s ≡ state_after_changes b (state_after_changes a s)
 changed_more [] b s = refl
-changed_more (c ∷ a) b s = changed_more a b (change_made c s)
+changed_more (c ∷ a) b s = changed_more a b (state_after_change c s)
 
 -- a call that is answered at its end
 pub ended_whole : (s mid : InstanceState) (calls : Calls) (id : CallId) (method : Method) (request : List ℕ) (there : Option CallValue)
-    → Some (record { method = method; progress = has request }) ≡ there → mid ≡ changed (request_changes method s request) s → mid.calls ≡ s.calls → calls ≡ without_call id s.calls
-    → with_calls calls mid ≡ changed (at_end s id there).changes s
+    → Some (record { method = method; progress = has request }) ≡ there → mid ≡ state_after_changes (request_changes method s request) s → mid.calls ≡ s.calls → calls ≡ without_call id s.calls
+    → with_calls calls mid ≡ state_after_changes (request_end_answer s id there).changes s
 ended_whole s mid calls id method request there is all kept gone =
     let changes = request_changes method s request in
     let now : calls ≡ without_call id mid.calls = gone ∙ ap (without_call id) (sym kept) in
-    let ended : with_calls (without_call id mid.calls) mid ≡ changed (Ends id ∷ []) (changed changes s) = ap (change_made (Ends id)) all in
+    let ended : with_calls (without_call id mid.calls) mid ≡ state_after_changes (Ends id ∷ []) (state_after_changes changes s) = ap (state_after_change (Ends id)) all in
     rw (← is) (ap (λ (cs : Calls). with_calls cs mid) now ∙ ended ∙ sym (changed_more changes (Ends id ∷ []) s))
 
 pub ended_in_part : (s mid : InstanceState) (id : CallId) (method : Method) (request : List ℕ) (there : Option CallValue)
     → Some (record { method = method; progress = has request }) ≡ there → MadeInPart (request_changes method s request) s mid
-    → MadeInPart (at_end s id there).changes s mid
+    → MadeInPart (request_end_answer s id there).changes s mid
 ended_in_part s mid id method request there is part = rw (← is) (record {
   made = part.made;
   left = part.left ++ Ends id ∷ [];
@@ -105,7 +105,7 @@ ended_in_part s mid id method request there is part = rw (← is) (record {
   so_far = part.so_far;
 })
 
-pub made_whole : (replies : Vec Reply Global) (changes : List Change) (old new : InstanceState) → new ≡ changed changes old → Makes (Ok replies) changes old new
+pub made_whole : (replies : Vec Reply Global) (changes : List Change) (old new : InstanceState) → new ≡ state_after_changes changes old → Makes (Ok replies) changes old new
 made_whole replies changes old new all = record { whole = all; memory = tt }
 
 pub made_in_part : (r : Result (Vec Reply Global) AllocError) (changes : List Change) (old new : InstanceState) → IsErr r → MadeInPart changes old new → Makes r changes old new
@@ -114,7 +114,7 @@ made_in_part (Err e) changes old new is part = record { whole = tt; memory = par
 
 -- an answer that changes calls alone
 pub calls_made : (r : Result (Vec Reply Global) AllocError) (changes : List Change) (s : InstanceState) (calls : Calls)
-    → ((t : InstanceState) → OnOk r (with_calls calls t ≡ changed changes (with_calls s.calls t))) → OnErr r (calls ≡ s.calls) → Makes r changes s (with_calls calls s)
+    → ((t : InstanceState) → OnOk r (with_calls calls t ≡ state_after_changes changes (with_calls s.calls t))) → OnErr r (calls ≡ s.calls) → Makes r changes s (with_calls calls s)
 calls_made (Ok replies) changes s calls all same = record { whole = all s; memory = tt }
 calls_made (Err e) changes s calls all same = record {
   whole = tt;
@@ -155,7 +155,7 @@ no_results QueryWriteStatus s message h = refl
 
 -- a method that leaves the results as they are
 pub texts_make : (r : Result (Vec Reply Global) AllocError) (method : Method) (s : InstanceState) (message : List ℕ) (new results : List Blob) → LeavesResults method
-    → OnOk r (new ≡ Texts.changed most_blobs s.quota (text_changes method s message) s.visible) → OnErr r (Texts.MadeInPart most_blobs s.quota (text_changes method s message) s.visible new) → results ≡ s.results
+    → OnOk r (new ≡ Texts.visible_after_changes most_blobs s.quota (text_changes method s message) s.visible) → OnErr r (Texts.MadeInPart most_blobs s.quota (text_changes method s message) s.visible new) → results ≡ s.results
     → Makes r (request_changes method s message) s (leaves new results s)
 texts_make r method s message new results h whole part same =
     rw (no_results method s message h) (go r whole part)
@@ -163,10 +163,10 @@ texts_make r method s message new results h whole part same =
     texts : List Texts.Change
     texts = text_changes method s message
 
-    go : (r : Result (Vec Reply Global) AllocError) → OnOk r (new ≡ Texts.changed most_blobs s.quota (text_changes method s message) s.visible) → OnErr r (Texts.MadeInPart most_blobs s.quota (text_changes method s message) s.visible new)
+    go : (r : Result (Vec Reply Global) AllocError) → OnOk r (new ≡ Texts.visible_after_changes most_blobs s.quota (text_changes method s message) s.visible) → OnErr r (Texts.MadeInPart most_blobs s.quota (text_changes method s message) s.visible new)
         → Makes r (map Text (text_changes method s message) ++ []) s (leaves new results s)
     go (Ok replies) whole part = record {
-      whole = leaves_same s new (Texts.changed most_blobs s.quota (text_changes method s message) s.visible) results s.results whole same ∙ sym (changed_texts (text_changes method s message) [] s);
+      whole = leaves_same s new (Texts.visible_after_changes most_blobs s.quota (text_changes method s message) s.visible) results s.results whole same ∙ sym (changed_texts (text_changes method s message) [] s);
       memory = tt;
     }
     go (Err e) whole part = record {
@@ -180,10 +180,10 @@ append_nil (c ∷ cs) = ap (λ (xs : List Change). c ∷ xs) (append_nil cs)
 
 -- a method that uses texts, and leaves results
 answered_makes : (r : Result (Vec Reply Global) AllocError) (s : InstanceState) (texts : List Texts.Change) (kept new results : List Blob)
-    → new ≡ Texts.changed most_blobs s.quota texts s.visible → results ≡ kept → Makes r (map Text texts ++ Keeps kept ∷ []) s (leaves new results s)
+    → new ≡ Texts.visible_after_changes most_blobs s.quota texts s.visible → results ≡ kept → Makes r (map Text texts ++ Keeps kept ∷ []) s (leaves new results s)
 answered_makes r s texts kept new results used left = go r where
-  all : leaves new results s ≡ changed (map Text texts ++ Keeps kept ∷ []) s
-  all = leaves_same s new (Texts.changed most_blobs s.quota texts s.visible) results kept used left ∙ sym (changed_texts texts (Keeps kept ∷ []) s)
+  all : leaves new results s ≡ state_after_changes (map Text texts ++ Keeps kept ∷ []) s
+  all = leaves_same s new (Texts.visible_after_changes most_blobs s.quota texts s.visible) results kept used left ∙ sym (changed_texts texts (Keeps kept ∷ []) s)
 
   go : (r : Result (Vec Reply Global) AllocError) → Makes r (map Text texts ++ Keeps kept ∷ []) s (leaves new results s)
   go (Ok replies) = record { whole = all; memory = tt }
@@ -193,7 +193,7 @@ answered_makes r s texts kept new results used left = go r where
   }
 
 pub results_make : {A : Type 0} (outcome : Result A CallError) (r : Result (Vec Reply Global) AllocError) (s : InstanceState) (texts : List Texts.Change) (kept new results : List Blob)
-    → IfAnswered outcome (new ≡ Texts.changed most_blobs s.quota texts s.visible) → IfAnswered outcome (results ≡ kept) → OnErr outcome ((results ≡ s.results) × (new ≡ s.visible)) → IfNoMemory outcome (OnOk r ⊥)
+    → IfAnswered outcome (new ≡ Texts.visible_after_changes most_blobs s.quota texts s.visible) → IfAnswered outcome (results ≡ kept) → OnErr outcome ((results ≡ s.results) × (new ≡ s.visible)) → IfNoMemory outcome (OnOk r ⊥)
     → Makes r (map Text texts ++ Keeps kept ∷ []) s (leaves new results s)
 results_make (Ok x) r s texts kept new results used left err none = answered_makes r s texts kept new results used left
 results_make (Err (Refused refusal)) r s texts kept new results used left err none = answered_makes r s texts kept new results used left
@@ -237,9 +237,9 @@ err_both (Err e) P Q p q = (p, q)
 
 -- nothing changed is nothing seen to change
 pub seen_same : {A : Type 0} (outcome : Result A CallError) (results old : List Blob) (p : Slots) (v w : ViewValue) → OnErr outcome ((results ≡ old) × (w ≡ v))
-    → OnErr outcome ((results ≡ old) × (shown p w ≡ shown p v))
+    → OnErr outcome ((results ≡ old) × (visible_in p w ≡ visible_in p v))
 seen_same (Ok x) results old p v w h = tt
-seen_same (Err e) results old p v w h = (h.0, ap (shown p) h.1)
+seen_same (Err e) results old p v w h = (h.0, ap (visible_in p) h.1)
 
 pub on_ok : (r : Result (Vec Reply Global) AllocError) (P : Type 0) → P → OnOk r P
 on_ok (Ok replies) P p = p

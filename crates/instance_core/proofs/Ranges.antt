@@ -3,10 +3,10 @@ use Rattle.std.proofs.Common.{◌≡◌, ◌≢◌, ℕ, ◌≤◌, List, [], �
 use Rattle.rpc.specs.declared.method.Method.{Method}
 use Rattle.rpc.specs.declared.method.Method.TheVariants.{FindMissingBlobs, BatchUpdateBlobs, BatchReadBlobs, GetTree, GetActionResult, UpdateActionResult, Execute, WaitExecution, GetCapabilities, Read, Write, QueryWriteStatus}
 use Rattle.rpc.specs.declared.refusal.Refusal.{Refusal}
-use Rattle.blob_pool.specs.Held.{Slots, count_at}
-use Rattle.blob_pool.specs.Moves.{Holders, Moves, nobody, HasRoom}
+use Rattle.blob_pool.specs.Slots.{Slots, count_at}
+use Rattle.blob_pool.specs.Moves.{Holders, Moves, no_holders, HasRoom}
 use Rattle.instance_view.specs.Visible.{Blob}
-use Rattle.instance_view.specs.Shown.{ViewValue, shown, holders}
+use Rattle.instance_view.specs.Shown.{ViewValue, visible_in, holders}
 use Rattle.instance_view.proofs.Held.{shown_apart, room_for_one}
 use Rattle.quota_evict.specs.Within.{Within}
 use Rattle.quota_evict.specs.Kept.{AreKept}
@@ -22,7 +22,7 @@ use Rattle.instance_core.specs.Replies.{items_of}
 use Rattle.instance_core.specs.Methods.{IsPlain, reply_to, items_to, use_asked}
 use Rattle.instance_core.specs.State.{InstanceState, most_blobs}
 
-pub read_uses : (asked : Result ReadAsked Refusal) (limit quota : ℕ) (old : List Blob) → after_asking asked old ≡ Texts.changed limit quota (use_asked asked) old
+pub read_uses : (asked : Result ReadAsked Refusal) (limit quota : ℕ) (old : List Blob) → after_asking asked old ≡ Texts.visible_after_changes limit quota (use_asked asked) old
 read_uses (Ok asked) limit quota old = refl
 read_uses (Err refusal) limit quota old = refl
 
@@ -31,13 +31,13 @@ append_nil [] = refl
 append_nil (c ∷ cs) = ap (λ (xs : List Texts.Change). c ∷ xs) (append_nil cs)
 
 -- all of the changes are a front of them, and none
-pub all_made : (limit quota : ℕ) (cs : List Texts.Change) (old new : List Blob) → new ≡ Texts.changed limit quota cs old → Texts.MadeInPart limit quota cs old new
+pub all_made : (limit quota : ℕ) (cs : List Texts.Change) (old new : List Blob) → new ≡ Texts.visible_after_changes limit quota cs old → Texts.MadeInPart limit quota cs old new
 all_made limit quota cs old new is = record { made = cs; left = []; front = append_nil cs; so_far = is }
 
 pub none_made : (limit quota : ℕ) (cs : List Texts.Change) (old new : List Blob) → new ≡ old → Texts.MadeInPart limit quota cs old new
 none_made limit quota cs old new is = record { made = []; left = cs; front = refl; so_far = is }
 
-pub answered_in_part : {A : Type 0} (r : Result A CallError) (limit quota : ℕ) (cs : List Texts.Change) (old new : List Blob) → IfAnswered r (new ≡ Texts.changed limit quota cs old) → IfAnswered r (Texts.MadeInPart limit quota cs old new)
+pub answered_in_part : {A : Type 0} (r : Result A CallError) (limit quota : ℕ) (cs : List Texts.Change) (old new : List Blob) → IfAnswered r (new ≡ Texts.visible_after_changes limit quota cs old) → IfAnswered r (Texts.MadeInPart limit quota cs old new)
 answered_in_part (Ok x) limit quota cs old new is = all_made limit quota cs old new is
 answered_in_part (Err (Refused refusal)) limit quota cs old new is = all_made limit quota cs old new is
 answered_in_part (Err NoMemory) limit quota cs old new is = tt
@@ -52,8 +52,8 @@ if_refused (Err (Refused other)) e refusal P is same h = h
 if_refused (Err NoMemory) e refusal P is same h = absurd cc
 
 -- a holder more leaves what an instance shows
-pub read_shown : (p q : Slots) (v w : ViewValue) (given : Holders) → Moves p q nobody given → ((k : ℕ) → holders w k ≡ holders v k) → ((k : ℕ) → holders v k ≤ count_at p k) → shown q w ≡ shown p w
-read_shown p q v w given m same held = shown_apart p q w.entries nobody given m (λ k. omega (arith, same k, held k))
+pub read_shown : (p q : Slots) (v w : ViewValue) (given : Holders) → Moves p q no_holders given → ((k : ℕ) → holders w k ≡ holders v k) → ((k : ℕ) → holders v k ≤ count_at p k) → visible_in q w ≡ visible_in p w
+read_shown p q v w given m same held = shown_apart p q w.entries no_holders given m (λ k. omega (arith, same k, held k))
 
 pub room_kept : (quota : ℕ) (p : Slots) (v : ViewValue) → AreKept quota p v → v.limit ≡ most_blobs → HasRoom p
 room_kept quota p v kept limit =

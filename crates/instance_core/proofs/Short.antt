@@ -5,10 +5,10 @@ use Rattle.std.specs.Int.{w64, cast_unsigned}
 use Rattle.std.specs.List.{AllByRecursion, filter, concat}
 use Rattle.std.proofs.lemmas.List.{length-append}
 use Rattle.protobuf_wire.specs.Record.{Record}
-use Rattle.protobuf_wire.specs.Writing.{text, varint, packed_text, number_field, bytes_field, message_field}
+use Rattle.protobuf_wire.specs.Writing.{records_text, varint, packed_text, number_field, bytes_field, message_field}
 use Rattle.protobuf_wire.proofs.Tools.{bind_ok, ok_is}
 use Rattle.message_fields.specs.declared.error.MessageError.{MessageError}
-use Rattle.message_fields.specs.Fields.{decoded, payloads, each_of, string, int64, repeated, embedded, parsed, whole, octets, int32}
+use Rattle.message_fields.specs.Fields.{value_of_text, payloads, each_of, string, int64, repeated_values, embedded_value, records_in, joined_value, octets, int32}
 use Rattle.message_fields.specs.Parts.{text_for, each_field, string_field, int64_field, embedded_field, repeated_field}
 use Rattle.reapi_messages.specs.Digests.{DigestValue, digest_of, digest_records}
 use Rattle.reapi_messages.specs.Statuses.{StatusValue, status_records}
@@ -16,7 +16,7 @@ use Rattle.reapi_messages.specs.Batches.{UpdateBlobRequestValue, read_blob_respo
 use Rattle.rpc.specs.declared.refusal.Refusal.TheVariants.{UnknownMethod, CompressedMessage, MessageTooLarge, MessageCutOff, NoMessage, MoreThanOneMessage, MalformedMessage, UnknownInstance, UnsupportedDigestFunction, UnsupportedCompressor, BadDigest, BatchTooLarge, DigestDoesNotMatch, QuotaExceeded, BlobNotFound, BadResourceName, NegativeLimit, OffsetOutOfRange, WrongOffset, TooManyUploads, UploadNotFound, BadPage, BadDirectory, TreeTooLarge, NoResult}
 use Rattle.rpc.specs.Status.{code_of, text_of}
 use Rattle.cas_service.specs.Statuses.{ok_status, refused_status, status_of_result}
-use Rattle.cas_service.specs.BatchUpdate.{blobs_sent, sent_size, stored_under, update_response, update_reply, batch_update_reply}
+use Rattle.cas_service.specs.BatchUpdate.{blobs_sent, sent_size, storage_digest, update_response, update_reply, batch_update_reply}
 use Rattle.reapi_messages.specs.FindMissing.{find_missing_blobs_request_of}
 use Rattle.rpc.specs.declared.refusal.Refusal.{Refusal}
 use Rattle.digest.specs.declared.Digest.{Digest}
@@ -24,14 +24,14 @@ use Rattle.digest.specs.Text.{digest_in}
 use Rattle.reapi_messages.specs.Capabilities.{sem_ver_records, cache_capabilities_records, execution_capabilities_records}
 use Rattle.protobuf_wire.proofs.Texts.{varint_is}
 use Rattle.instance_core.specs.Capabilities.{version, cache, execution, capabilities_message, capabilities_asked, get_capabilities_reply}
-use Rattle.digest.specs.Naming.{Names, same}
+use Rattle.digest.specs.Naming.{Names, same_digest}
 use Rattle.digest.proofs.Same.{same_equal}
 use Rattle.digest.proofs.Writings.{is_written}
 use Rattle.std.specs.Map.{lookup}
 use Rattle.cas_service.specs.BatchRead.{stated_size, digests_to_read, read_response, read_reply, batch_read_reply}
-use Rattle.instance_view.specs.Visible.{Blob, seen}
-use Rattle.cas_service.specs.Requests.{readable, own_instance, known_function, digest_sent, digests_sent, digest_value, well_formed, of_batch_size}
-use Rattle.cas_service.specs.FindMissing.{digests_asked, missing, is_missing, missing_reply, find_missing_reply}
+use Rattle.instance_view.specs.Visible.{Blob, visible_text}
+use Rattle.cas_service.specs.Requests.{message_or_refusal, instance_check, function_check, digest_sent, digests_sent, digest_value, form_check, batch_size_check}
+use Rattle.cas_service.specs.FindMissing.{digests_asked, missing_digests, is_missing, missing_reply, find_missing_reply}
 use Rattle.tree_calls.proofs.Sizes.{read_from, weight, sizes, payloads_weight, string_size, int64_narrow, message_written, bytes_written, number_written, both_written}
 
 -- ---- payloads that are written
@@ -40,7 +40,7 @@ abbrev pub framed : List (List ℕ) → ℕ
 framed [] = 0
 framed (t ∷ ts) = 20 + length t + framed ts
 
-pub each_written : (field : ℕ) (ts : List (List ℕ)) → field < 2 ^ 29 → framed ts < 2 ^ 64 → length (text (each_field field ts)) ≤ framed ts
+pub each_written : (field : ℕ) (ts : List (List ℕ)) → field < 2 ^ 29 → framed ts < 2 ^ 64 → length (records_text (each_field field ts)) ≤ framed ts
 each_written field [] small fits = omega arith
 each_written field (t ∷ ts) small fits =
     let both = both_written (message_field field t) (each_field field ts) in
@@ -65,7 +65,7 @@ digest_written v small fits =
     let size = number_written 2 (cast_unsigned w64 v.size_bytes) (omega arith) fits in
     omega arith
 
-pub digest_read : (t : List ℕ) (v : DigestValue) → decoded digest_of t ≡ Ok v → (length v.hash ≤ length t) × FitsSize v
+pub digest_read : (t : List ℕ) (v : DigestValue) → value_of_text digest_of t ≡ Ok v → (length v.hash ≤ length t) × FitsSize v
 unfolding digest_of
 digest_read t v h =
     let r = read_from digest_of t v h in
@@ -76,12 +76,12 @@ digest_read t v h =
     let fits = int64_narrow 2 r.records r.narrow in
     rw (← e) (omega arith, fits)
 
-pub digests_read : (ps : List (List ℕ)) (vs : List DigestValue) → each_of (decoded digest_of) ps ≡ Ok vs → (digest_sizes vs ≤ sizes ps) × AllByRecursion FitsSize vs
+pub digests_read : (ps : List (List ℕ)) (vs : List DigestValue) → each_of (value_of_text digest_of) ps ≡ Ok vs → (digest_sizes vs ≤ sizes ps) × AllByRecursion FitsSize vs
 unfolding each_of
 digests_read [] vs h = let e : [] ≡ vs = ok_is [] vs h in rw (← e) (omega arith, tt)
 digests_read (p ∷ ps) vs h =
-    let first = bind_ok (decoded digest_of p) _ vs h in
-    let rest = bind_ok (each_of (decoded digest_of) ps) _ vs first.2 in
+    let first = bind_ok (value_of_text digest_of p) _ vs h in
+    let rest = bind_ok (each_of (value_of_text digest_of) ps) _ vs first.2 in
     let ih = digests_read ps rest.0 rest.1 in
     let e = ok_is (first.0 ∷ rest.0) vs rest.2 in
     let one = digest_read p first.0 first.1 in
@@ -89,7 +89,7 @@ digests_read (p ∷ ps) vs h =
     let b = one.0 in
     rw (← e) (omega arith, (one.1, ih.1))
 
-well_formed_is : (o : Option Digest) (d : Digest) → well_formed o ≡ Ok d → o ≡ Some d
+well_formed_is : (o : Option Digest) (d : Digest) → form_check o ≡ Ok d → o ≡ Some d
 well_formed_is None d h = absurd (cc)
 well_formed_is (Some e) d h = cc
 
@@ -116,7 +116,7 @@ all_as_sent (v ∷ vs) ds h =
     let more = all_as_sent vs rest.0 rest.1 in
     rw (← e, one, more) refl
 
-readable_ok : {V : Type 0} (r : Result V MessageError) (v : V) → readable r ≡ Ok v → r ≡ Ok v
+readable_ok : {V : Type 0} (r : Result V MessageError) (v : V) → message_or_refusal r ≡ Ok v → r ≡ Ok v
 readable_ok (Ok x) v h = cc
 readable_ok (Err e) v h = absurd (cc)
 
@@ -124,7 +124,7 @@ readable_ok (Err e) v h = absurd (cc)
 abbrev pub AreSent : List ℕ → List Digest → Type 0
 AreSent message ds = (digest_sizes (map digest_value ds) ≤ length message) × AllByRecursion FitsSize (map digest_value ds)
 
-pub sent_from : (message : List ℕ) (rs : List Record) (field : ℕ) (vs : List DigestValue) (ds : List Digest) → weight rs ≤ length message → repeated digest_of field rs ≡ Ok vs → digests_sent vs ≡ Ok ds → AreSent message ds
+pub sent_from : (message : List ℕ) (rs : List Record) (field : ℕ) (vs : List DigestValue) (ds : List Digest) → weight rs ≤ length message → repeated_values digest_of field rs ≡ Ok vs → digests_sent vs ≡ Ok ds → AreSent message ds
 sent_from message rs field vs ds light h g =
     let read = digests_read (payloads field rs) vs h in
     let a = read.0 in
@@ -134,13 +134,13 @@ sent_from message rs field vs ds light h g =
 pub asked_sent : (own message : List ℕ) (ds : List Digest) → digests_asked own message ≡ Ok ds → AreSent message ds
 unfolding digests_asked find_missing_blobs_request_of
 asked_sent own message ds h =
-    let q = bind_ok (readable (decoded find_missing_blobs_request_of message)) _ ds h in
-    let r = read_from find_missing_blobs_request_of message q.0 (readable_ok (decoded find_missing_blobs_request_of message) q.0 q.1) in
+    let q = bind_ok (message_or_refusal (value_of_text find_missing_blobs_request_of message)) _ ds h in
+    let r = read_from find_missing_blobs_request_of message q.0 (readable_ok (value_of_text find_missing_blobs_request_of message) q.0 q.1) in
     let name = bind_ok (string 1 r.records) _ q.0 r.means in
-    let digests = bind_ok (repeated digest_of 2 r.records) _ q.0 name.2 in
+    let digests = bind_ok (repeated_values digest_of 2 r.records) _ q.0 name.2 in
     let e = ok_is (record { instance_name = name.0; blob_digests = digests.0; digest_function = Rattle.message_fields.specs.Fields.int32 3 r.records }) q.0 digests.2 in
-    let i = bind_ok (own_instance own q.0.instance_name) _ ds q.2 in
-    let f = bind_ok (known_function q.0.digest_function) _ ds i.2 in
+    let i = bind_ok (instance_check own q.0.instance_name) _ ds q.2 in
+    let f = bind_ok (function_check q.0.digest_function) _ ds i.2 in
     let same : q.0.blob_digests ≡ digests.0 = cc in
     sent_from message r.records 2 digests.0 ds r.light digests.1 (rw (← same) f.2)
 
@@ -165,7 +165,7 @@ digests_framed (v ∷ vs) h small =
     let rest = digests_framed vs h.1 (omega arith) in
     omega arith
 
-pub digest_list_written : (vs : List DigestValue) → AllByRecursion FitsSize vs → digest_sizes vs < 2 ^ 40 → length (text (repeated_field digest_records 2 vs)) ≤ 30 * digest_sizes vs
+pub digest_list_written : (vs : List DigestValue) → AllByRecursion FitsSize vs → digest_sizes vs < 2 ^ 40 → length (records_text (repeated_field digest_records 2 vs)) ≤ 30 * digest_sizes vs
 digest_list_written vs h small =
     let f = digests_framed vs h small in
     let w = each_written 2 (map (text_for digest_records) vs) (omega arith) (omega arith) in
@@ -175,10 +175,10 @@ pub find_missing_short : (own : List ℕ) (visible : List Blob) (message reply :
 find_missing_short own visible message reply short h =
     let b = bind_ok (digests_asked own message) _ reply h in
     let sent = asked_sent own message b.0 b.1 in
-    let e = ok_is (missing_reply (missing visible b.0)) reply b.2 in
+    let e = ok_is (missing_reply (missing_digests visible b.0)) reply b.2 in
     let a = sent.0 in
     let f = filter_sizes (is_missing visible) b.0 in
-    let w = digest_list_written (map digest_value (missing visible b.0)) (filter_fits (is_missing visible) b.0 sent.1) (omega arith) in
+    let w = digest_list_written (map digest_value (missing_digests visible b.0)) (filter_fits (is_missing visible) b.0 sent.1) (omega arith) in
     rw (← e) (omega arith)
 
 -- ---- statuses
@@ -243,7 +243,7 @@ plain_status_written n m fits small =
     let first = both_written (number_field 1 n) (string_field 2 m) in
     let code = number_written 1 n (omega arith) fits in
     let words = bytes_written 2 m (omega arith) (omega arith) in
-    let whole : length (text_for status_records (record { code = pos n; message = m; details = [] })) ≡ length (text ((number_field 1 n ++ string_field 2 m) ++ [])) = refl in
+    let whole : length (text_for status_records (record { code = pos n; message = m; details = [] })) ≡ length (records_text ((number_field 1 n ++ string_field 2 m) ++ [])) = refl in
     omega arith
 
 refused_written : (r : Refusal) → length (text_for status_records (refused_status r)) ≤ 80
@@ -266,7 +266,7 @@ FitsSet : Option DigestValue → Type 0
 FitsSet None = Unit {0}
 FitsSet (Some v) = FitsSize v
 
-digest_set_written : (o : Option DigestValue) → hash_size o < 2 ^ 40 → FitsSet o → length (text (embedded_field digest_records 1 o)) ≤ 60 + hash_size o
+digest_set_written : (o : Option DigestValue) → hash_size o < 2 ^ 40 → FitsSet o → length (records_text (embedded_field digest_records 1 o)) ≤ 60 + hash_size o
 unfolding hash_size FitsSet
 digest_set_written None small fits = omega arith
 digest_set_written (Some v) small fits =
@@ -278,24 +278,24 @@ concat_size : (ps : List (List ℕ)) → length (concat ps) ≤ sizes ps
 concat_size [] = omega arith
 concat_size (p ∷ ps) = let ih = concat_size ps in let e = length-append p (concat ps) in omega arith
 
-whole_read : (ps : List (List ℕ)) (o : Option DigestValue) → whole digest_of ps ≡ Ok o → (hash_size o ≤ sizes ps) × FitsSet o
+whole_read : (ps : List (List ℕ)) (o : Option DigestValue) → joined_value digest_of ps ≡ Ok o → (hash_size o ≤ sizes ps) × FitsSet o
 unfolding hash_size FitsSet
 whole_read [] o h = let e : None ≡ o = ok_is None o h in rw (← e) (omega arith, tt)
 whole_read (p ∷ ps) o h =
-    let b = bind_ok (decoded digest_of (concat (p ∷ ps))) _ o h in
+    let b = bind_ok (value_of_text digest_of (concat (p ∷ ps))) _ o h in
     let e = ok_is (Some b.0) o b.2 in
     let d = digest_read (concat (p ∷ ps)) b.0 b.1 in
     let a = d.0 in
     let joined = concat_size (p ∷ ps) in
     rw (← e) (omega arith, d.1)
 
-update_request_read : (t : List ℕ) (r : UpdateBlobRequestValue) → decoded update_blob_request_of t ≡ Ok r → (hash_size r.digest ≤ length t) × FitsSet r.digest
+update_request_read : (t : List ℕ) (r : UpdateBlobRequestValue) → value_of_text update_blob_request_of t ≡ Ok r → (hash_size r.digest ≤ length t) × FitsSet r.digest
 unfolding update_blob_request_of
 update_request_read t r h =
     let f = read_from update_blob_request_of t r h in
-    let b = bind_ok (embedded digest_of 1 f.records) _ r f.means in
+    let b = bind_ok (embedded_value digest_of 1 f.records) _ r f.means in
     let e = ok_is (record { digest = b.0; content = octets 2 f.records; compressor = int32 3 f.records }) r b.2 in
-    let w = bind_ok (each_of parsed (payloads 1 f.records)) _ b.0 b.1 in
+    let w = bind_ok (each_of records_in (payloads 1 f.records)) _ b.0 b.1 in
     let d = whole_read (payloads 1 f.records) b.0 w.2 in
     let a = d.0 in
     let light = f.light in
@@ -309,12 +309,12 @@ update_sizes (r ∷ rs) = 2 + hash_size r.digest + update_sizes rs
 FitSets : List UpdateBlobRequestValue → Type 0
 FitSets rs = AllByRecursion (λ (r : UpdateBlobRequestValue). FitsSet r.digest) rs
 
-updates_read : (ps : List (List ℕ)) (rs : List UpdateBlobRequestValue) → each_of (decoded update_blob_request_of) ps ≡ Ok rs → (update_sizes rs ≤ sizes ps) × FitSets rs
+updates_read : (ps : List (List ℕ)) (rs : List UpdateBlobRequestValue) → each_of (value_of_text update_blob_request_of) ps ≡ Ok rs → (update_sizes rs ≤ sizes ps) × FitSets rs
 unfolding each_of update_sizes FitSets
 updates_read [] rs h = let e : [] ≡ rs = ok_is [] rs h in rw (← e) (omega arith, tt)
 updates_read (p ∷ ps) rs h =
-    let first = bind_ok (decoded update_blob_request_of p) _ rs h in
-    let rest = bind_ok (each_of (decoded update_blob_request_of) ps) _ rs first.2 in
+    let first = bind_ok (value_of_text update_blob_request_of p) _ rs h in
+    let rest = bind_ok (each_of (value_of_text update_blob_request_of) ps) _ rs first.2 in
     let ih = updates_read ps rest.0 rest.1 in
     let e = ok_is (first.0 ∷ rest.0) rs rest.2 in
     let one = update_request_read p first.0 first.1 in
@@ -324,10 +324,10 @@ updates_read (p ∷ ps) rs h =
 
 update_response_written : (quota : ℕ) (r : UpdateBlobRequestValue) → hash_size r.digest < 2 ^ 40 → FitsSet r.digest → length (text_for update_blob_response_records (update_response quota r)) ≤ 160 + hash_size r.digest
 update_response_written quota r small fits =
-    let status = text_for status_records (status_of_result (stored_under quota r)) in
+    let status = text_for status_records (status_of_result (storage_digest quota r)) in
     let both = both_written (embedded_field digest_records 1 r.digest) (message_field 2 status) in
     let digest = digest_set_written r.digest small fits in
-    let said = verdict_written (stored_under quota r) in
+    let said = verdict_written (storage_digest quota r) in
     let around = message_written 2 status (omega arith) (omega arith) in
     omega arith
 
@@ -342,14 +342,14 @@ updates_framed quota (r ∷ rs) h small =
 blobs_size : (own message : List ℕ) (rs : List UpdateBlobRequestValue) → blobs_sent own message ≡ Ok rs → (update_sizes rs ≤ length message) × FitSets rs
 unfolding blobs_sent batch_update_blobs_request_of
 blobs_size own message rs h =
-    let q = bind_ok (readable (decoded batch_update_blobs_request_of message)) _ rs h in
-    let r = read_from batch_update_blobs_request_of message q.0 (readable_ok (decoded batch_update_blobs_request_of message) q.0 q.1) in
+    let q = bind_ok (message_or_refusal (value_of_text batch_update_blobs_request_of message)) _ rs h in
+    let r = read_from batch_update_blobs_request_of message q.0 (readable_ok (value_of_text batch_update_blobs_request_of message) q.0 q.1) in
     let name = bind_ok (string 1 r.records) _ q.0 r.means in
-    let sent = bind_ok (repeated update_blob_request_of 2 r.records) _ q.0 name.2 in
+    let sent = bind_ok (repeated_values update_blob_request_of 2 r.records) _ q.0 name.2 in
     let e = ok_is (record { instance_name = name.0; requests = sent.0; digest_function = int32 5 r.records }) q.0 sent.2 in
-    let i = bind_ok (own_instance own q.0.instance_name) _ rs q.2 in
-    let f = bind_ok (known_function q.0.digest_function) _ rs i.2 in
-    let b = bind_ok (of_batch_size (sent_size q.0.requests)) _ rs f.2 in
+    let i = bind_ok (instance_check own q.0.instance_name) _ rs q.2 in
+    let f = bind_ok (function_check q.0.digest_function) _ rs i.2 in
+    let b = bind_ok (batch_size_check (sent_size q.0.requests)) _ rs f.2 in
     let last = ok_is q.0.requests rs b.2 in
     let same : sent.0 ≡ rs = cc in
     let read = updates_read (payloads 2 r.records) sent.0 sent.1 in
@@ -370,7 +370,7 @@ batch_update_short own quota message reply short h =
 
 -- ---- BatchReadBlobs
 
-batch_size : (n : ℕ) (u : Unit) → of_batch_size n ≡ Ok u → n ≤ 4000000
+batch_size : (n : ℕ) (u : Unit) → batch_size_check n ≡ Ok u → n ≤ 4000000
 batch_size n u h = go (nat_le n 4000000) refl h where
   go : (b : Bool) → nat_le n 4000000 ≡ b → cond b (Ok tt) (Err BatchTooLarge) ≡ Ok u → n ≤ 4000000
   go true is h = leb-true n 4000000 is
@@ -379,15 +379,15 @@ batch_size n u h = go (nat_le n 4000000) refl h where
 read_asked : (own message : List ℕ) (ds : List Digest) → digests_to_read own message ≡ Ok ds → AreSent message ds × (stated_size ds ≤ 4000000)
 unfolding digests_to_read batch_read_blobs_request_of
 read_asked own message ds h =
-    let q = bind_ok (readable (decoded batch_read_blobs_request_of message)) _ ds h in
-    let r = read_from batch_read_blobs_request_of message q.0 (readable_ok (decoded batch_read_blobs_request_of message) q.0 q.1) in
+    let q = bind_ok (message_or_refusal (value_of_text batch_read_blobs_request_of message)) _ ds h in
+    let r = read_from batch_read_blobs_request_of message q.0 (readable_ok (value_of_text batch_read_blobs_request_of message) q.0 q.1) in
     let name = bind_ok (string 1 r.records) _ q.0 r.means in
-    let digests = bind_ok (repeated digest_of 2 r.records) _ q.0 name.2 in
+    let digests = bind_ok (repeated_values digest_of 2 r.records) _ q.0 name.2 in
     let e = ok_is (record { instance_name = name.0; digests = digests.0; digest_function = int32 4 r.records }) q.0 digests.2 in
-    let i = bind_ok (own_instance own q.0.instance_name) _ ds q.2 in
-    let f = bind_ok (known_function q.0.digest_function) _ ds i.2 in
+    let i = bind_ok (instance_check own q.0.instance_name) _ ds q.2 in
+    let f = bind_ok (function_check q.0.digest_function) _ ds i.2 in
     let g = bind_ok (digests_sent q.0.digests) _ ds f.2 in
-    let b = bind_ok (of_batch_size (stated_size g.0)) _ ds g.2 in
+    let b = bind_ok (batch_size_check (stated_size g.0)) _ ds g.2 in
     let last = ok_is g.0 ds b.2 in
     let same : q.0.digests ≡ digests.0 = cc in
     let most = batch_size (stated_size g.0) b.0 b.1 in
@@ -396,10 +396,10 @@ read_asked own message ds h =
 some_is : (a b : List ℕ) → Some a ≡ Some b → a ≡ b
 some_is a b h = cc
 
-found_size : (d : Digest) (bs : List Blob) (text : List ℕ) → AllByRecursion (λ (b : Blob). Names b.0 b.1) bs → lookup (same d) bs ≡ Some text → length text ≤ d.size
+found_size : (d : Digest) (bs : List Blob) (text : List ℕ) → AllByRecursion (λ (b : Blob). Names b.0 b.1) bs → lookup (same_digest d) bs ≡ Some text → length text ≤ d.size
 found_size d [] text h is = absurd (cc)
-found_size d (b ∷ bs) text h is = go (same d b.0) refl is (λ later. found_size d bs text h.1 later) where
-  go : (c : Bool) → same d b.0 ≡ c → cond c (Some b.1) (lookup (same d) bs) ≡ Some text → (lookup (same d) bs ≡ Some text → length text ≤ d.size) → length text ≤ d.size
+found_size d (b ∷ bs) text h is = go (same_digest d b.0) refl is (λ later. found_size d bs text h.1 later) where
+  go : (c : Bool) → same_digest d b.0 ≡ c → cond c (Some b.1) (lookup (same_digest d) bs) ≡ Some text → (lookup (same_digest d) bs ≡ Some text → length text ≤ d.size) → length text ≤ d.size
   go true one is ih =
       let e : d ≡ b.0 = same_equal d b.0 one in
       let t : b.1 ≡ text = some_is b.1 text is in
@@ -407,18 +407,18 @@ found_size d (b ∷ bs) text h is = go (same d b.0) refl is (λ later. found_siz
       rw (e, ← t) (omega (arith, n))
   go false one is ih = ih is
 
-seen_size : (d : Digest) (visible : List Blob) → AllByRecursion (λ (b : Blob). Names b.0 b.1) visible → length (read_response d (seen d visible)).content ≤ d.size
-seen_size d visible h = go (same d (Rattle.digest.specs.Naming.digest_of [])) refl where
+seen_size : (d : Digest) (visible : List Blob) → AllByRecursion (λ (b : Blob). Names b.0 b.1) visible → length (read_response d (visible_text d visible)).content ≤ d.size
+seen_size d visible h = go (same_digest d (Rattle.digest.specs.Naming.digest_of [])) refl where
   at : (o : Option (List ℕ)) → ((text : List ℕ) → o ≡ Some text → length text ≤ d.size) → length (read_response d o).content ≤ d.size
   at None f = omega arith
-  at (Some text) f = f text refl
+  at (Some records_text) f = f records_text refl
 
-  go : (c : Bool) → same d (Rattle.digest.specs.Naming.digest_of []) ≡ c → length (read_response d (cond c (Some []) (lookup (same d) visible))).content ≤ d.size
+  go : (c : Bool) → same_digest d (Rattle.digest.specs.Naming.digest_of []) ≡ c → length (read_response d (cond c (Some []) (lookup (same_digest d) visible))).content ≤ d.size
   go true is = omega arith
-  go false is = at (lookup (same d) visible) (λ text found. found_size d visible text h found)
+  go false is = at (lookup (same_digest d) visible) (λ text found. found_size d visible text h found)
 
 part_written : (v : DigestValue) (content : List ℕ) (status : StatusValue) → length v.hash < 2 ^ 40 → FitsSize v → length content < 2 ^ 40 → length (text_for status_records status) ≤ 80
-    → length (text ((embedded_field digest_records 1 (Some v) ++ bytes_field 2 content) ++ embedded_field status_records 3 (Some status))) ≤ 180 + length v.hash + length content
+    → length (records_text ((embedded_field digest_records 1 (Some v) ++ bytes_field 2 content) ++ embedded_field status_records 3 (Some status))) ≤ 180 + length v.hash + length content
 part_written v content status small fits few said =
     let all = both_written (embedded_field digest_records 1 (Some v) ++ bytes_field 2 content) (message_field 3 (text_for status_records status)) in
     let front = both_written (message_field 1 (text_for digest_records v)) (bytes_field 2 content) in
@@ -434,11 +434,11 @@ read_response_written d None small fits few = part_written (digest_value d) [] (
 read_response_written d (Some content) small fits few = part_written (digest_value d) content ok_status small fits few ok_written
 
 reads_framed : (visible : List Blob) (ds : List Digest) → AllByRecursion (λ (b : Blob). Names b.0 b.1) visible → AllByRecursion FitsSize (map digest_value ds) → digest_sizes (map digest_value ds) < 2 ^ 32 → stated_size ds < 2 ^ 32
-    → framed (map (text_for read_blob_response_records) (map (λ d. read_response d (seen d visible)) ds)) ≤ 100 * digest_sizes (map digest_value ds) + stated_size ds
+    → framed (map (text_for read_blob_response_records) (map (λ d. read_response d (visible_text d visible)) ds)) ≤ 100 * digest_sizes (map digest_value ds) + stated_size ds
 reads_framed visible [] h fits small few = omega arith
 reads_framed visible (d ∷ ds) h fits small few =
     let size = seen_size d visible h in
-    let first = read_response_written d (seen d visible) (omega arith) fits.0 (omega arith) in
+    let first = read_response_written d (visible_text d visible) (omega arith) fits.0 (omega arith) in
     let rest = reads_framed visible ds h fits.1 (omega arith) (omega arith) in
     omega arith
 
@@ -450,7 +450,7 @@ batch_read_short own visible message reply named short h =
     let sent = asked.0.0 in
     let stated = asked.1 in
     let f = reads_framed visible b.0 named asked.0.1 (omega arith) (omega arith) in
-    let w = each_written 1 (map (text_for read_blob_response_records) (map (λ d. read_response d (seen d visible)) b.0)) (omega arith) (omega arith) in
+    let w = each_written 1 (map (text_for read_blob_response_records) (map (λ d. read_response d (visible_text d visible)) b.0)) (omega arith) (omega arith) in
     rw (← e) (omega arith)
 
 -- ---- GetCapabilities
@@ -463,7 +463,7 @@ version_written =
     let both = both_written (number_field 1 2) (number_field 2 0) in
     let major = number_written 1 2 (omega arith) (omega arith) in
     let minor = number_written 2 0 (omega arith) (omega arith) in
-    let whole : length (text_for sem_ver_records version) ≡ length (text (number_field 1 2 ++ number_field 2 0)) = refl in
+    let whole : length (text_for sem_ver_records version) ≡ length (records_text (number_field 1 2 ++ number_field 2 0)) = refl in
     omega arith
 
 execution_written : (slots : ℕ) → length (text_for execution_capabilities_records (execution slots)) ≤ 40
@@ -473,19 +473,19 @@ execution_written slots = go (nat_lt 0 slots) where
       let both = both_written (number_field 1 1) (number_field 2 1) in
       let f = number_written 1 1 (omega arith) (omega arith) in
       let e = number_written 2 1 (omega arith) (omega arith) in
-      let whole : length (text_for execution_capabilities_records (record { digest_function = pos 1; exec_enabled = true })) ≡ length (text (number_field 1 1 ++ number_field 2 1)) = refl in
+      let whole : length (text_for execution_capabilities_records (record { digest_function = pos 1; exec_enabled = true })) ≡ length (records_text (number_field 1 1 ++ number_field 2 1)) = refl in
       omega arith
   go false =
       let both = both_written (number_field 1 1) (number_field 2 0) in
       let f = number_written 1 1 (omega arith) (omega arith) in
       let e = number_written 2 0 (omega arith) (omega arith) in
-      let whole : length (text_for execution_capabilities_records (record { digest_function = pos 1; exec_enabled = false })) ≡ length (text (number_field 1 1 ++ number_field 2 0)) = refl in
+      let whole : length (text_for execution_capabilities_records (record { digest_function = pos 1; exec_enabled = false })) ≡ length (records_text (number_field 1 1 ++ number_field 2 0)) = refl in
       omega arith
 
 cache_written : length (text_for cache_capabilities_records cache) ≤ 110
 cache_written =
     let functions = bytes_field 1 (packed_text (1 ∷ [])) in
-    let enabled = text (number_field 1 1) in
+    let enabled = records_text (number_field 1 1) in
     let all = both_written ((functions ++ message_field 2 enabled) ++ number_field 4 4000000) (number_field 5 1) in
     let three = both_written (functions ++ message_field 2 enabled) (number_field 4 4000000) in
     let two = both_written functions (message_field 2 enabled) in
@@ -495,7 +495,7 @@ cache_written =
     let second = message_written 2 enabled (omega arith) (omega arith) in
     let third = number_written 4 4000000 (omega arith) (omega arith) in
     let fourth = number_written 5 1 (omega arith) (omega arith) in
-    let whole : length (text_for cache_capabilities_records cache) ≡ length (text (((functions ++ message_field 2 enabled) ++ number_field 4 4000000) ++ number_field 5 1)) = refl in
+    let whole : length (text_for cache_capabilities_records cache) ≡ length (records_text (((functions ++ message_field 2 enabled) ++ number_field 4 4000000) ++ number_field 5 1)) = refl in
     omega arith
 
 capabilities_written : (slots : ℕ) → length (capabilities_message slots) ≤ 400
@@ -513,7 +513,7 @@ capabilities_written slots =
     let second = message_written 2 b (omega arith) (omega arith) in
     let third = message_written 4 v (omega arith) (omega arith) in
     let fourth = message_written 5 v (omega arith) (omega arith) in
-    let whole : length (capabilities_message slots) ≡ length (text (((message_field 1 a ++ message_field 2 b) ++ message_field 4 v) ++ message_field 5 v)) = refl in
+    let whole : length (capabilities_message slots) ≡ length (records_text (((message_field 1 a ++ message_field 2 b) ++ message_field 4 v) ++ message_field 5 v)) = refl in
     omega arith
 
 pub get_capabilities_short : (own : List ℕ) (slots : ℕ) (message reply : List ℕ) → get_capabilities_reply own slots message ≡ Ok reply → length reply < 2 ^ 32

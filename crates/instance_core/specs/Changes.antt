@@ -3,7 +3,7 @@ use Rattle.std.specs.Prelude.{◌≡◌, List, [], ◌∷◌, ◌++◌}
 use Rattle.cas_service.specs.Changes as Texts
 use Rattle.instance_core.specs.declared.event.CallId.{CallId}
 use Rattle.instance_view.specs.Visible.{Blob}
-use Rattle.uploads.specs.Uploads.{unexpired}
+use Rattle.uploads.specs.Uploads.{uploads_at}
 use Rattle.bytestream.specs.Writing.{WriteState}
 use Rattle.instance_core.specs.Calls.{CallValue, with_call, without_call}
 use Rattle.instance_core.specs.State.{InstanceState, most_blobs}
@@ -22,21 +22,22 @@ pub data Change : Type 0 where
   -- uploads that were not written to for long are forgotten
   Expires : Change
 
-abbrev pub change_made : Change → InstanceState → InstanceState
-change_made (Text c) s = record s { visible = Texts.change_made most_blobs s.quota c s.visible }
-change_made (Goes id call) s = record s { calls = with_call id call s.calls }
-change_made (Ends id) s = record s { calls = without_call id s.calls }
-change_made (Wrote w) s = record s { visible = w.visible; uploads = w.uploads }
-change_made (Keeps results) s = record s { results = results }
-change_made Expires s = record s { uploads = unexpired s.moment s.uploads }
+abbrev pub state_after_change : Change → InstanceState → InstanceState
+state_after_change (Text c) s =
+    record s { visible = Texts.visible_after_change most_blobs s.quota c s.visible }
+state_after_change (Goes id call) s = record s { calls = with_call id call s.calls }
+state_after_change (Ends id) s = record s { calls = without_call id s.calls }
+state_after_change (Wrote w) s = record s { visible = w.visible; uploads = w.uploads }
+state_after_change (Keeps results) s = record s { results = results }
+state_after_change Expires s = record s { uploads = uploads_at s.moment s.uploads }
 
-abbrev pub changed : List Change → InstanceState → InstanceState
-changed [] s = s
-changed (c ∷ cs) s = changed cs (change_made c s)
+abbrev pub state_after_changes : List Change → InstanceState → InstanceState
+state_after_changes [] s = s
+state_after_changes (c ∷ cs) s = state_after_changes cs (state_after_change c s)
 
 -- a front of the changes was made
 pub record MadeInPart (changes : List Change) (old new : InstanceState) : Type 0 where
   pub made : List Change
   pub left : List Change
   pub front : changes ≡ made ++ left
-  pub so_far : new ≡ changed made old
+  pub so_far : new ≡ state_after_changes made old

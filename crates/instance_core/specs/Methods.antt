@@ -16,7 +16,7 @@ use Rattle.bytestream.specs.Querying.{query_reply}
 use Rattle.tree_calls.specs.GetTree.{get_tree_replies, get_tree_changes}
 use Rattle.tree_calls.specs.Results.{get_action_result_reply, get_action_result_changes, after_get, update_action_result_reply, after_update}
 use Rattle.instance_core.specs.Changes.{Change, Text, Keeps}
-use Rattle.instance_core.specs.Replies.{ReplyItemValue, items_of, messages_items, read_items}
+use Rattle.instance_core.specs.Replies.{ReplyItemValue, items_of, whole_reply_items, read_items}
 use Rattle.instance_core.specs.State.{InstanceState, most_blobs}
 use Rattle.instance_core.specs.Capabilities.{get_capabilities_reply}
 
@@ -55,7 +55,7 @@ reply_to _ s message = Err UnknownMethod
 -- what is sent: a Read sends a range of a blob, GetTree pages, each other method a message
 abbrev pub items_to : Method → InstanceState → List ℕ → List ReplyItemValue
 items_to Read s message = read_items (read_answer s.name s.visible message)
-items_to GetTree s message = messages_items (get_tree_replies s.name s.visible message)
+items_to GetTree s message = whole_reply_items (get_tree_replies s.name s.visible message)
 items_to method s message = items_of (reply_to method s message)
 
 -- a Read uses the blob that it asks for
@@ -69,14 +69,15 @@ text_changes FindMissingBlobs s message = find_missing_changes s.name message
 text_changes BatchUpdateBlobs s message = batch_update_changes s.name s.quota message
 text_changes BatchReadBlobs s message = batch_read_changes s.name message
 text_changes GetTree s message = get_tree_changes s.name s.visible message
-text_changes GetActionResult s message = get_action_result_changes s.name s.visible s.results message
+text_changes GetActionResult s message =
+    get_action_result_changes s.name s.visible s.results message
 text_changes Read s message = use_asked (read_asked s.name message)
 text_changes _ s message = []
 
 -- the texts that are seen once a message was carried out, or a part of it for want of memory
 abbrev pub ShowsAfter : Method → List ℕ → InstanceState → List Blob → Type 0
 ShowsAfter method message s visible =
-    visible ≡ Texts.changed most_blobs s.quota (text_changes method s message) s.visible
+    visible ≡ Texts.visible_after_changes most_blobs s.quota (text_changes method s message) s.visible
 
 abbrev pub ShowsInPart : Method → List ℕ → InstanceState → List Blob → Type 0
 ShowsInPart method message s visible =
@@ -90,4 +91,5 @@ result_changes _ s message = []
 
 -- all that a request does but end its call
 abbrev pub request_changes : Method → InstanceState → List ℕ → List Change
-request_changes method s message = map Text (text_changes method s message) ++ result_changes method s message
+request_changes method s message =
+    map Text (text_changes method s message) ++ result_changes method s message

@@ -42,13 +42,13 @@ items_of (Ok message) = begins ∷ says message ∷ ends ∷ []
 items_of (Err refusal) = refuses refusal ∷ []
 
 -- each message, in order
-abbrev pub messages_said : List (List ℕ) → List ReplyItemValue
-messages_said messages = map says messages
+abbrev pub message_items : List (List ℕ) → List ReplyItemValue
+message_items messages = map says messages
 
 -- a whole reply of messages, or a refusal
-abbrev pub messages_items : Result (List (List ℕ)) Refusal → List ReplyItemValue
-messages_items (Ok messages) = begins ∷ messages_said messages ++ ends ∷ []
-messages_items (Err refusal) = refuses refusal ∷ []
+abbrev pub whole_reply_items : Result (List (List ℕ)) Refusal → List ReplyItemValue
+whole_reply_items (Ok messages) = begins ∷ message_items messages ++ ends ∷ []
+whole_reply_items (Err refusal) = refuses refusal ∷ []
 
 -- the messages of a range; there is none where it has no bytes
 abbrev pub range_items : SourceValue → List ReplyItemValue

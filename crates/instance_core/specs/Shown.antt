@@ -16,12 +16,12 @@ use Rattle.instance_core.specs.declared.calls.Progress.TheVariants as Part
 use Rattle.instance_core.specs.Calls.{Calls, ProgressValue, waits, has, writes, CallEventValue, head, message, fault, end, cancel, tick}
 use Rattle.instance_core.specs.Replies.{ReplyItemValue, begins, says, gives, ends, refuses, ReplyValue, IsShortReply}
 use Rattle.instance_core.specs.Answer.{Answer}
-use Rattle.instance_core.specs.Changes.{Change, changed, MadeInPart}
+use Rattle.instance_core.specs.Changes.{Change, state_after_changes, MadeInPart}
 use Rattle.instance_core.specs.State.{InstanceState}
 use Rattle.instance_core.specs.Slots.{InstanceSlots, state_in}
 use Rattle.instance_core.specs.declared.contents.Settings.{Settings}
 use Rattle.instance_core.specs.declared.contents.Contents.{Contents}
-use Rattle.blob_pool.specs.Held.{Slots, text_at}
+use Rattle.blob_pool.specs.Slots.{Slots, text_at}
 use Rattle.bytestream.specs.Reading.{SourceValue}
 use Rattle.bytestream.specs.Shown.{open_write_shown}
 
@@ -40,7 +40,12 @@ progress_shown (Part.Writes write) = writes (open_write_shown write)
 
 -- the range that is found in a pool
 abbrev pub range_shown : Slots → GivenRange → SourceValue
-range_shown p range = record { digest = range.digest; text = text_at p range.text; from = range.from; until = range.until }
+range_shown p range = record {
+  digest = range.digest;
+  text = text_at p range.text;
+  from = range.from;
+  until = range.until;
+}
 
 abbrev pub item_shown : Slots → ReplyItem → ReplyItemValue
 item_shown p Item.Begins = begins
@@ -62,14 +67,17 @@ Gives p result rs = IfOk result (λ replies. map (reply_shown p) replies.items �
 
 -- each reply that is given is short
 abbrev pub GivesShort : Slots → Result (Vec Reply Global) AllocError → Type 0
-GivesShort p result = IfOk result (λ replies. AllByRecursion IsShortReply (map (reply_shown p) replies.items))
+GivesShort p result =
+    IfOk result (λ replies. AllByRecursion IsShortReply (map (reply_shown p) replies.items))
 
 abbrev pub with_calls : Calls → InstanceState → InstanceState
 with_calls calls s = record s { calls = calls }
 
 -- the answer's changes are made, where it changes calls alone
 abbrev pub ChangesCalls : Result (Vec Reply Global) AllocError → Answer → Calls → Calls → Type 0
-ChangesCalls result a old new = (s : InstanceState) → OnOk result (with_calls new s ≡ changed a.changes (with_calls old s))
+ChangesCalls result a old new =
+    (s : InstanceState) →
+    OnOk result (with_calls new s ≡ state_after_changes a.changes (with_calls old s))
 
 -- what an instance is configured as, and what it keeps
 abbrev pub slots_of : Settings → ℕ → Contents → Calls → InstanceSlots
@@ -82,5 +90,5 @@ state_of settings moment p contents calls = state_in p (slots_of settings moment
 
 -- the changes are made, and for want of memory a front of them
 pub record Makes (result : Result (Vec Reply Global) AllocError) (changes : List Change) (old new : InstanceState) : Type 0 where
-  pub whole : OnOk result (new ≡ changed changes old)
+  pub whole : OnOk result (new ≡ state_after_changes changes old)
   pub memory : OnErr result (MadeInPart changes old new)

@@ -1,10 +1,10 @@
 -- What an instance keeps of its own: of each text its digest, and the slot where a pool that it
 -- shares with other instances has the text; of each result its bytes.
 use Rattle.std.specs.Prelude.{ℕ, List}
-use Rattle.blob_pool.specs.Held.{Slots}
+use Rattle.blob_pool.specs.Slots.{Slots}
 use Rattle.blob_pool.specs.Moves.{Holders, AreHeld}
 use Rattle.instance_view.specs.Visible.{Blob}
-use Rattle.instance_view.specs.Shown.{ViewValue, shown, holders}
+use Rattle.instance_view.specs.Shown.{ViewValue, visible_in, holders}
 use Rattle.uploads.specs.Uploads.{UploadList}
 use Rattle.instance_core.specs.Calls.{Calls}
 use Rattle.instance_core.specs.State.{InstanceState, WithinLimits}
@@ -21,7 +21,16 @@ pub record InstanceSlots : Type 0 where
 
 -- the instance, with the texts that its entries find in a pool
 abbrev pub state_in : Slots → InstanceSlots → InstanceState
-state_in p i = record { name = i.name; quota = i.quota; slots = i.slots; moment = i.moment; visible = shown p i.view; uploads = i.uploads; results = i.results; calls = i.calls }
+state_in p i = record {
+  name = i.name;
+  quota = i.quota;
+  slots = i.slots;
+  moment = i.moment;
+  visible = visible_in p i.view;
+  uploads = i.uploads;
+  results = i.results;
+  calls = i.calls;
+}
 
 -- how often the instance holds each slot of the pool
 abbrev pub holders_of : InstanceSlots → Holders

@@ -21,8 +21,17 @@ pub record InstanceState : Type 0 where
   pub calls : Calls
 
 -- at first there are no texts, no uploads, no results and no calls
-abbrev pub opened : List ℕ → ℕ → ℕ → InstanceState
-opened name quota slots = record { name = name; quota = quota; slots = slots; moment = 0; visible = []; uploads = []; results = []; calls = [] }
+abbrev pub new_instance : List ℕ → ℕ → ℕ → InstanceState
+new_instance name quota slots = record {
+  name = name;
+  quota = quota;
+  slots = slots;
+  moment = 0;
+  visible = [];
+  uploads = [];
+  results = [];
+  calls = [];
+}
 
 abbrev pub at_moment : ℕ → InstanceState → InstanceState
 at_moment moment s = record s { moment = moment }

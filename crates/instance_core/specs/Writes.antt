@@ -3,7 +3,7 @@ use Rattle.std.specs.Prelude.{ℕ, Bool, true, false, List, [], ◌∷◌, Optio
 use Rattle.rpc.specs.declared.refusal.Refusal.{Refusal}
 use Rattle.uploads.specs.declared.error.UploadError.{UploadError}
 use Rattle.uploads.specs.Writing.{after_piece}
-use Rattle.bytestream.specs.Writing.{OpenWriteValue, PartValue, WrittenValue, WriteState, FirstAsked, state_of, first_asked, next_asked, piece_taken, first_answer, next_answer, after_first, after_next}
+use Rattle.bytestream.specs.Writing.{OpenWriteValue, PartValue, WrittenValue, WriteState, FirstAsked, state_of, first_asked, next_asked, part_outcome, first_answer, next_answer, after_first, after_next}
 use Rattle.instance_core.specs.Changes.{Change, Wrote}
 use Rattle.instance_core.specs.State.{InstanceState, most_blobs}
 
@@ -14,11 +14,13 @@ write_state s = state_of s.visible s.uploads
 -- ---- a piece that was taken, before its upload ends
 
 abbrev pub with_piece : ℕ → PartValue → Result Unit UploadError → WriteState → WriteState
-with_piece moment part (Ok u) w = record w { uploads = after_piece moment part.key part.piece (Ok u) w.uploads }
+with_piece moment part (Ok u) w =
+    record w { uploads = after_piece moment part.key part.piece (Ok u) w.uploads }
 with_piece moment part (Err e) w = w
 
 abbrev pub with_part : Bool → InstanceState → Result PartValue Refusal → WriteState
-with_part first s (Ok part) = with_piece s.moment part (piece_taken first s.quota part s.uploads) (write_state s)
+with_part first s (Ok part) =
+    with_piece s.moment part (part_outcome first s.quota part s.uploads) (write_state s)
 with_part first s (Err refusal) = write_state s
 
 abbrev pub part_of : Result FirstAsked Refusal → Result PartValue Refusal

@@ -1,16 +1,16 @@
 //! What an instance answers to each event of a call.
 
 ghost use Rattle.std.specs.Prelude.{◌≡◌, ◌≤◌, ◌+◌, ◌^◌, ℕ, OnErr};
-ghost use Rattle.blob_pool.specs.Held.{Slots};
+ghost use Rattle.blob_pool.specs.Slots.{Slots};
 ghost use Rattle.blob_pool.specs.Moves.{Moves};
-ghost use Rattle.instance_view.specs.Shown.{shown, holders};
+ghost use Rattle.instance_view.specs.Shown.{visible_in, holders};
 ghost use Rattle.quota_evict.specs.Kept.{AreKept};
 ghost use Rattle.quota_evict.specs.Within.{Within};
 ghost use Rattle.uploads.specs.Uploads.{WithinLimits};
 ghost use Rattle.tree_calls.specs.Complete.{AreWithin};
 ghost use Rattle.instance_core.specs.Calls.{call_at, IsShortRequest, AreInCourse};
 ghost use Rattle.instance_core.specs.State.{most_blobs};
-ghost use Rattle.instance_core.specs.Answer.{at_head, at_message, at_fault, at_end};
+ghost use Rattle.instance_core.specs.Answer.{head_answer, message_answer, fault_answer, request_end_answer};
 ghost use Rattle.instance_core.specs.Shown.{Gives, ChangesCalls, Makes, state_of};
 ghost use Rattle.instance_core.specs.Given.{holders_given};
 
@@ -33,9 +33,9 @@ pub fn on_head(
     method: Method,
 ) -> Result<Vec<Reply>, AllocError>
     ensures replies { (p : Slots) →
-        Gives p result (at_head id method (call_at id calls.old)).replies }
+        Gives p result (head_answer id method (call_at id calls.old)).replies }
     ensures given { (k : ℕ) → holders_given result k ≡ 0 }
-    ensures changed { ChangesCalls result (at_head id method (call_at id calls.old))
+    ensures changed { ChangesCalls result (head_answer id method (call_at id calls.old))
         calls.old calls.new }
     ensures err { OnErr result (calls.new ≡ calls.old) }
     ensures calls { AreInCourse calls.new }
@@ -68,16 +68,16 @@ pub fn on_message(
     requires kept { AreKept settings.now.quota pool.old contents.old.view }
     requires uploads { WithinLimits settings.now.quota contents.old.uploads }
     ensures replies { let old = state_of settings.now moment pool.old contents.old calls.old in
-        let answer = at_message old id message.items (call_at id calls.old) in
+        let answer = message_answer old id message.items (call_at id calls.old) in
         (p : Slots) → Gives p result answer.replies }
     ensures given { (k : ℕ) → holders_given result k ≡ 0 }
     ensures changed { let old = state_of settings.now moment pool.old contents.old calls.old in
         let new = state_of settings.now moment pool.new contents.new calls.new in
-        Makes result (at_message old id message.items (call_at id calls.old)).changes old new }
+        Makes result (message_answer old id message.items (call_at id calls.old)).changes old new }
     ensures moves { Moves pool.old pool.new (holders contents.old.view)
         (holders contents.new.view) }
     ensures limit { contents.new.view.limit ≡ most_blobs }
-    ensures within { Within most_blobs settings.now.quota (shown pool.new contents.new.view) }
+    ensures within { Within most_blobs settings.now.quota (visible_in pool.new contents.new.view) }
     ensures uploads { WithinLimits settings.now.quota contents.new.uploads }
     ensures results { contents.new.results ≡ contents.old.results }
     ensures calls { AreInCourse calls.new }
@@ -123,9 +123,9 @@ pub fn on_fault(
     refusal: Refusal,
 ) -> Result<Vec<Reply>, AllocError>
     ensures replies { (p : Slots) →
-        Gives p result (at_fault id refusal (call_at id calls.old)).replies }
+        Gives p result (fault_answer id refusal (call_at id calls.old)).replies }
     ensures given { (k : ℕ) → holders_given result k ≡ 0 }
-    ensures changed { ChangesCalls result (at_fault id refusal (call_at id calls.old))
+    ensures changed { ChangesCalls result (fault_answer id refusal (call_at id calls.old))
         calls.old calls.new }
     ensures err { OnErr result (calls.new ≡ calls.old) }
     ensures calls { AreInCourse calls.new }
@@ -152,15 +152,15 @@ pub fn on_end(
     requires results { AreWithin contents.old.results }
     ensures replies { (moment : ℕ) →
         let old = state_of settings.now moment pool.old contents.old calls.old in
-        Gives pool.new result (at_end old id (call_at id calls.old)).replies }
+        Gives pool.new result (request_end_answer old id (call_at id calls.old)).replies }
     ensures changed { (moment : ℕ) →
         let old = state_of settings.now moment pool.old contents.old calls.old in
         let new = state_of settings.now moment pool.new contents.new calls.new in
-        Makes result (at_end old id (call_at id calls.old)).changes old new }
+        Makes result (request_end_answer old id (call_at id calls.old)).changes old new }
     ensures moves { Moves pool.old pool.new (holders contents.old.view)
         (λ k. holders contents.new.view k + holders_given result k) }
     ensures limit { contents.new.view.limit ≡ most_blobs }
-    ensures within { Within most_blobs settings.now.quota (shown pool.new contents.new.view) }
+    ensures within { Within most_blobs settings.now.quota (visible_in pool.new contents.new.view) }
     ensures uploads { WithinLimits settings.now.quota contents.new.uploads }
     ensures results { AreWithin contents.new.results }
     ensures calls { AreInCourse calls.new }

@@ -1,11 +1,11 @@
 ghost use Rattle.std.specs.Prelude.{◌≡◌, ◌≤◌, ◌+◌, ◌^◌, ℕ, [], OnOk, OnErr, IfOk};
-ghost use Rattle.blob_pool.specs.Held.{Slots};
+ghost use Rattle.blob_pool.specs.Slots.{Slots};
 ghost use Rattle.blob_pool.specs.Moves.{Moves};
 ghost use Rattle.instance_core.specs.Calls.{IsShortEvent, cancel, tick};
-ghost use Rattle.instance_core.specs.State.{WithinLimits, opened, at_moment};
+ghost use Rattle.instance_core.specs.State.{WithinLimits, new_instance, at_moment};
 ghost use Rattle.instance_core.specs.Slots.{state_in, holders_of, IsKept};
 ghost use Rattle.instance_core.specs.Changes.{MadeInPart};
-ghost use Rattle.instance_core.specs.Answer.{answer, after};
+ghost use Rattle.instance_core.specs.Answer.{answer, state_after};
 ghost use Rattle.instance_core.specs.Shown.{Gives, GivesShort, event_shown};
 ghost use Rattle.instance_core.specs.Given.{holders_given};
 
@@ -50,11 +50,12 @@ impl Model for Instance {
 }
 
 impl Instance {
-    /// An instance of at most 2^40 bytes that has no texts, no uploads, no results and no calls yet.
+    /// An instance of at most 2^40 bytes that has no texts, no uploads, no results and no calls
+    /// yet.
     pub fn new(alloc: Global, name: &str, quota: u64, slots: u32) -> Result<Instance, AllocError>
         requires { quota ≤ 2 ^ 40 }
         ensures opened { (p : Slots) →
-            IfOk result (λ instance. state_in p instance ≡ opened name.now quota slots) }
+            IfOk result (λ instance. state_in p instance ≡ new_instance name.now quota slots) }
         ensures within { (p : Slots) →
             IfOk result (λ instance. WithinLimits (state_in p instance)) }
         ensures holders { (k : ℕ) → IfOk result (λ instance. holders_of instance k ≡ 0) }
@@ -108,7 +109,7 @@ impl Instance {
         ensures replies { let old = state_in pool.old self.old in
             Gives pool.new result (answer old (event_shown event)).replies }
         ensures changed { let old = state_in pool.old self.old in
-            OnOk result (state_in pool.new self.new ≡ after old (event_shown event)) }
+            OnOk result (state_in pool.new self.new ≡ state_after old (event_shown event)) }
         ensures memory { let old = state_in pool.old self.old in
             let changes = (answer old (event_shown event)).changes in
             OnErr result (MadeInPart changes old (state_in pool.new self.new)) }
@@ -155,7 +156,8 @@ impl Instance {
     /// This brings no reply, takes no memory, and is the same over every pool.
     pub fn tick(&mut self)
         ensures replies { (p : Slots) → (answer (state_in p self.old) tick).replies ≡ [] }
-        ensures changed { (p : Slots) → state_in p self.new ≡ after (state_in p self.old) tick }
+        ensures changed { (p : Slots) → state_in p self.new
+            ≡ state_after (state_in p self.old) tick }
         ensures holders { (k : ℕ) → holders_of self.new k ≡ holders_of self.old k }
         ensures kept { (p : Slots) → IsKept p self.old → IsKept p self.new }
         ensures config { (self.new.name ≡ self.old.name) × (self.new.quota ≡ self.old.quota)
@@ -169,7 +171,7 @@ impl Instance {
     pub fn cancel(&mut self, call: CallId)
         ensures replies { (p : Slots) → (answer (state_in p self.old) (cancel call)).replies ≡ [] }
         ensures changed { (p : Slots) →
-            state_in p self.new ≡ after (state_in p self.old) (cancel call) }
+            state_in p self.new ≡ state_after (state_in p self.old) (cancel call) }
         ensures holders { (k : ℕ) → holders_of self.new k ≡ holders_of self.old k }
         ensures kept { (p : Slots) → IsKept p self.old → IsKept p self.new }
         ensures config { (self.new.name ≡ self.old.name) × (self.new.quota ≡ self.old.quota)

@@ -1,7 +1,7 @@
 //! One instance of the server: from what happens to calls to their replies.
 //!
-//! An instance has its own name, quota, texts and results. A reply, and what an event does to the instance,
-//! are functions of the instance's own state and the event alone.
+//! An instance has its own name, quota, texts and results. A reply, and what an event does to the
+//! instance, are functions of the instance's own state and the event alone.
 #![tactic(auto)]
 
 mod answers;

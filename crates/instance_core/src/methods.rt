@@ -1,9 +1,9 @@
 //! What each method but `Write` answers to the one message of its request.
 
 ghost use Rattle.std.specs.Prelude.{◌≡◌, ◌≤◌, ◌+◌, ◌^◌, ℕ, OnOk, OnErr};
-ghost use Rattle.blob_pool.specs.Held.{Slots};
+ghost use Rattle.blob_pool.specs.Slots.{Slots};
 ghost use Rattle.blob_pool.specs.Moves.{Moves};
-ghost use Rattle.instance_view.specs.Shown.{shown, holders};
+ghost use Rattle.instance_view.specs.Shown.{visible_in, holders};
 ghost use Rattle.quota_evict.specs.Kept.{AreKept};
 ghost use Rattle.quota_evict.specs.Within.{Within};
 ghost use Rattle.cas_service.specs.Answers.{Answers, IfAnswered};
@@ -11,7 +11,7 @@ ghost use Rattle.instance_core.specs.Calls.{Calls};
 ghost use Rattle.instance_core.specs.State.{most_blobs};
 ghost use Rattle.tree_calls.specs.Complete.{AreWithin};
 ghost use Rattle.instance_core.specs.Methods.{IsPlain, LeavesResults, is_served, reply_to, items_to, request_changes, ShowsAfter, ShowsInPart};
-ghost use Rattle.instance_core.specs.Answer.{reply_with, items_sent};
+ghost use Rattle.instance_core.specs.Answer.{reply_with, reply_of_items};
 ghost use Rattle.instance_core.specs.Shown.{Gives, Makes, state_of};
 ghost use Rattle.instance_core.specs.Given.{holders_given};
 
@@ -65,10 +65,11 @@ fn reply_to(
         Answers (λ reply. reply.items) result (reply_to method old message.now) }
     ensures changed { (moment : ℕ) (calls : Calls) →
         let old = state_of settings.now moment pool.old contents.old calls in
-        IfAnswered result (ShowsAfter method message.now old (shown pool.new contents.new.view)) }
+        IfAnswered result (ShowsAfter method message.now old
+        (visible_in pool.new contents.new.view)) }
     ensures memory { (moment : ℕ) (calls : Calls) →
         let old = state_of settings.now moment pool.old contents.old calls in
-        OnErr result (ShowsInPart method message.now old (shown pool.new contents.new.view)) }
+        OnErr result (ShowsInPart method message.now old (visible_in pool.new contents.new.view)) }
     ensures moves { Moves pool.old pool.new (holders contents.old.view)
         (holders contents.new.view) }
     ensures limit { contents.new.view.limit ≡ most_blobs }
@@ -125,10 +126,10 @@ fn answer_by_message(
     ensures given { (k : ℕ) → holders_given result k ≡ 0 }
     ensures changed { (moment : ℕ) (calls : Calls) →
         let old = state_of settings.now moment pool.old contents.old calls in
-        OnOk result (ShowsAfter method message.now old (shown pool.new contents.new.view)) }
+        OnOk result (ShowsAfter method message.now old (visible_in pool.new contents.new.view)) }
     ensures memory { (moment : ℕ) (calls : Calls) →
         let old = state_of settings.now moment pool.old contents.old calls in
-        OnErr result (ShowsInPart method message.now old (shown pool.new contents.new.view)) }
+        OnErr result (ShowsInPart method message.now old (visible_in pool.new contents.new.view)) }
     ensures moves { Moves pool.old pool.new (holders contents.old.view)
         (holders contents.new.view) }
     ensures limit { contents.new.view.limit ≡ most_blobs }
@@ -157,17 +158,17 @@ fn answer_from_texts(
     requires apart { LeavesResults method }
     ensures replies { (moment : ℕ) (calls : Calls) →
         let old = state_of settings.now moment pool.old contents.old calls in
-        Gives pool.new result (items_sent call (items_to method old message.now)) }
+        Gives pool.new result (reply_of_items call (items_to method old message.now)) }
     ensures changed { (moment : ℕ) (calls : Calls) →
         let old = state_of settings.now moment pool.old contents.old calls in
-        OnOk result (ShowsAfter method message.now old (shown pool.new contents.new.view)) }
+        OnOk result (ShowsAfter method message.now old (visible_in pool.new contents.new.view)) }
     ensures memory { (moment : ℕ) (calls : Calls) →
         let old = state_of settings.now moment pool.old contents.old calls in
-        OnErr result (ShowsInPart method message.now old (shown pool.new contents.new.view)) }
+        OnErr result (ShowsInPart method message.now old (visible_in pool.new contents.new.view)) }
     ensures moves { Moves pool.old pool.new (holders contents.old.view)
         (λ k. holders contents.new.view k + holders_given result k) }
     ensures limit { contents.new.view.limit ≡ most_blobs }
-    ensures within { Within most_blobs settings.now.quota (shown pool.new contents.new.view) }
+    ensures within { Within most_blobs settings.now.quota (visible_in pool.new contents.new.view) }
     ensures uploads { contents.new.uploads ≡ contents.old.uploads }
     ensures results { contents.new.results ≡ contents.old.results }
 {
@@ -213,7 +214,7 @@ pub fn answer_request(
     requires results { AreWithin contents.old.results }
     ensures replies { (moment : ℕ) (calls : Calls) →
         let old = state_of settings.now moment pool.old contents.old calls in
-        Gives pool.new result (items_sent call (items_to method old message.now)) }
+        Gives pool.new result (reply_of_items call (items_to method old message.now)) }
     ensures changed { (moment : ℕ) (calls : Calls) →
         let old = state_of settings.now moment pool.old contents.old calls in
         let new = state_of settings.now moment pool.new contents.new calls in
@@ -221,7 +222,7 @@ pub fn answer_request(
     ensures moves { Moves pool.old pool.new (holders contents.old.view)
         (λ k. holders contents.new.view k + holders_given result k) }
     ensures limit { contents.new.view.limit ≡ most_blobs }
-    ensures within { Within most_blobs settings.now.quota (shown pool.new contents.new.view) }
+    ensures within { Within most_blobs settings.now.quota (visible_in pool.new contents.new.view) }
     ensures uploads { contents.new.uploads ≡ contents.old.uploads }
     ensures results { AreWithin contents.new.results }
 {

@@ -1,16 +1,16 @@
 //! What a `Read` is answered: a range of a blob, whose text is held until the range was sent.
 
 ghost use Rattle.std.specs.Prelude.{◌≡◌, ◌≤◌, ℕ, length, Ok, OnOk, OnErr};
-ghost use Rattle.blob_pool.specs.Held.{Slots, count_at};
-ghost use Rattle.blob_pool.specs.Moves.{Moves, HasRoom, nobody};
-ghost use Rattle.instance_view.specs.Shown.{shown, holders, holders_seen, text_seen};
+ghost use Rattle.blob_pool.specs.Slots.{Slots, count_at};
+ghost use Rattle.blob_pool.specs.Moves.{Moves, HasRoom, no_holders};
+ghost use Rattle.instance_view.specs.Shown.{visible_in, holders, holders_seen, text_seen};
 ghost use Rattle.quota_evict.specs.Within.{Within};
-ghost use Rattle.cas_service.specs.Changes.{MadeInPart, changed};
+ghost use Rattle.cas_service.specs.Changes.{MadeInPart, visible_after_changes};
 ghost use Rattle.bytestream.specs.Reading.{read_asked, read_answer};
 ghost use Rattle.bytestream.specs.Shown.{source_shown};
 ghost use Rattle.instance_core.specs.Replies.{read_items};
 ghost use Rattle.instance_core.specs.Methods.{use_asked};
-ghost use Rattle.instance_core.specs.Answer.{items_sent};
+ghost use Rattle.instance_core.specs.Answer.{reply_of_items};
 ghost use Rattle.instance_core.specs.Shown.{Gives};
 ghost use Rattle.instance_core.specs.Given.{holders_given};
 
@@ -32,7 +32,7 @@ fn give(
     requires held { (k : ℕ) → holders_seen source.now.text k ≤ count_at pool.old k }
     requires within { source.now.until ≤ length (text_seen pool.old source.now.text) }
     ensures replies { let answer = Ok (source_shown pool.old source.now) in
-        Gives pool.new result (items_sent call (read_items answer)) }
+        Gives pool.new result (reply_of_items call (read_items answer)) }
     ensures moves { Moves pool.old pool.new (holders_seen source.now.text) (holders_given result) }
 {
     let Seen::Text(text) = source.text else {
@@ -69,17 +69,19 @@ pub fn answer_read(
 ) -> Result<Vec<Reply>, AllocError>
     requires held { (k : ℕ) → holders view.old k ≤ count_at pool.old k }
     requires room { HasRoom pool.old }
-    ensures replies { let answer = read_answer own.now (shown pool.old view.old) message.now in
-        Gives pool.new result (items_sent call (read_items answer)) }
+    ensures replies { let answer = read_answer own.now (visible_in pool.old view.old) message.now in
+        Gives pool.new result (reply_of_items call (read_items answer)) }
     ensures changed { (p : Slots) (limit quota : ℕ) →
         let changes = use_asked (read_asked own.now message.now) in
-        OnOk result (shown p view.new ≡ changed limit quota changes (shown p view.old)) }
+        OnOk result (visible_in p view.new
+        ≡ visible_after_changes limit quota changes (visible_in p view.old)) }
     ensures memory { (p : Slots) (limit quota : ℕ) →
         let changes = use_asked (read_asked own.now message.now) in
-        OnErr result (MadeInPart limit quota changes (shown p view.old) (shown p view.new)) }
+        OnErr result (MadeInPart limit quota changes (visible_in p view.old)
+        (visible_in p view.new)) }
     ensures within { (p : Slots) (limit quota : ℕ) →
-        Within limit quota (shown p view.old) → Within limit quota (shown p view.new) }
-    ensures moves { Moves pool.old pool.new nobody (holders_given result) }
+        Within limit quota (visible_in p view.old) → Within limit quota (visible_in p view.new) }
+    ensures moves { Moves pool.old pool.new no_holders (holders_given result) }
     ensures holders { (k : ℕ) → holders view.new k ≡ holders view.old k }
     ensures limit { view.new.limit ≡ view.old.limit }
 {

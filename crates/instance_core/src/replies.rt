@@ -2,12 +2,12 @@
 
 ghost use Rattle.std.specs.Prelude.{◌≡◌, ℕ, List, [], ◌∷◌, map, Result, Ok, IfOk, OnOk, OnErr};
 ghost use Rattle.rpc.specs.declared.refusal.Refusal.{Refusal};
-ghost use Rattle.blob_pool.specs.Held.{Slots};
+ghost use Rattle.blob_pool.specs.Slots.{Slots};
 ghost use Rattle.blob_pool.specs.Moves.{one_at};
 ghost use Rattle.cas_service.specs.declared.error.CallError.TheVariants.{Refused, NoMemory};
 ghost use Rattle.cas_service.specs.Answers.{Answers, IfNoMemory};
-ghost use Rattle.instance_core.specs.Replies.{begins, gives, ends, items_of, messages_items};
-ghost use Rattle.instance_core.specs.Answer.{items_sent, reply_with};
+ghost use Rattle.instance_core.specs.Replies.{begins, gives, ends, items_of, whole_reply_items};
+ghost use Rattle.instance_core.specs.Answer.{reply_of_items, reply_with};
 ghost use Rattle.instance_core.specs.Shown.{Gives, item_shown, outcome_shown, range_shown};
 ghost use Rattle.instance_core.specs.Given.{items_holders, holders_given};
 
@@ -48,7 +48,7 @@ fn items_of(alloc: Global, outcome: Result<Vec<u8>, Refusal>) -> Result<Vec<Repl
 /// What is sent in answer to a call: messages, in order, with status OK.
 fn items_of_messages(alloc: Global, messages: Vec<Vec<u8>>) -> Result<Vec<ReplyItem>, AllocError>
     ensures items { (p : Slots) → IfOk result (λ items. map (item_shown p) items.items
-        ≡ messages_items (Ok (map (λ message. message.items) messages.items))) }
+        ≡ whole_reply_items (Ok (map (λ message. message.items) messages.items))) }
     ensures given { (k : ℕ) → IfOk result (λ items. items_holders items.items k ≡ 0) }
 {
     let mut items = Vec::new(alloc);
@@ -63,7 +63,7 @@ fn items_of_messages(alloc: Global, messages: Vec<Vec<u8>>) -> Result<Vec<ReplyI
 /// These items, sent in answer to a call.
 fn reply_of(alloc: Global, call: CallId, items: Vec<ReplyItem>) -> Result<Vec<Reply>, AllocError>
     ensures replies { (p : Slots) →
-        Gives p result (items_sent call (map (item_shown p) items.items)) }
+        Gives p result (reply_of_items call (map (item_shown p) items.items)) }
     ensures given { (k : ℕ) → OnOk result (holders_given result k ≡ items_holders items.items k) }
 {
     let mut replies = Vec::new(alloc);
@@ -86,7 +86,7 @@ pub fn reply_with(
 
 /// A whole reply without a message.
 pub fn empty_reply(alloc: Global, call: CallId) -> Result<Vec<Reply>, AllocError>
-    ensures replies { (p : Slots) → Gives p result (items_sent call (begins ∷ ends ∷ [])) }
+    ensures replies { (p : Slots) → Gives p result (reply_of_items call (begins ∷ ends ∷ [])) }
     ensures given { (k : ℕ) → holders_given result k ≡ 0 }
 {
     let mut items = Vec::new(alloc);
@@ -98,7 +98,7 @@ pub fn empty_reply(alloc: Global, call: CallId) -> Result<Vec<Reply>, AllocError
 /// A whole reply of one range.
 pub fn range_reply(alloc: Global, call: CallId, range: GivenRange) -> Result<Vec<Reply>, AllocError>
     ensures replies { (p : Slots) →
-        Gives p result (items_sent call (begins ∷ gives (range_shown p range) ∷ ends ∷ [])) }
+        Gives p result (reply_of_items call (begins ∷ gives (range_shown p range) ∷ ends ∷ [])) }
     ensures given { (k : ℕ) → OnOk result (holders_given result k ≡ one_at range.text k) }
 {
     let mut items = Vec::new(alloc);
@@ -115,7 +115,8 @@ pub fn messages_reply(
     messages: Vec<Vec<u8>>,
 ) -> Result<Vec<Reply>, AllocError>
     ensures replies { (p : Slots) → Gives p result
-        (items_sent call (messages_items (Ok (map (λ message. message.items) messages.items)))) }
+        (reply_of_items call
+        (whole_reply_items (Ok (map (λ message. message.items) messages.items)))) }
     ensures given { (k : ℕ) → holders_given result k ≡ 0 }
 {
     let items = items_of_messages(alloc, messages)?;

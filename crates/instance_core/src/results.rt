@@ -1,7 +1,7 @@
 //! What `GetActionResult` and `UpdateActionResult` are answered, from the results of actions.
 
 ghost use Rattle.std.specs.Prelude.{◌≡◌, ℕ};
-ghost use Rattle.blob_pool.specs.Held.{Slots};
+ghost use Rattle.blob_pool.specs.Slots.{Slots};
 ghost use Rattle.rpc.specs.declared.method.Method.TheVariants.{GetActionResult, UpdateActionResult};
 ghost use Rattle.instance_view.specs.Shown.{holders};
 ghost use Rattle.quota_evict.specs.Kept.{AreKept};
@@ -9,7 +9,7 @@ ghost use Rattle.tree_calls.specs.Complete.{AreWithin};
 ghost use Rattle.instance_core.specs.Calls.{Calls};
 ghost use Rattle.instance_core.specs.State.{most_blobs};
 ghost use Rattle.instance_core.specs.Methods.{items_to, request_changes};
-ghost use Rattle.instance_core.specs.Answer.{items_sent};
+ghost use Rattle.instance_core.specs.Answer.{reply_of_items};
 ghost use Rattle.instance_core.specs.Shown.{Gives, Makes, state_of};
 ghost use Rattle.instance_core.specs.Given.{holders_given};
 
@@ -35,7 +35,8 @@ pub fn answer_get(
     requires results { AreWithin contents.old.results }
     ensures replies { (moment : ℕ) (calls : Calls) →
         let old = state_of settings.now moment pool.now contents.old calls in
-        (p : Slots) → Gives p result (items_sent call (items_to GetActionResult old message.now)) }
+        (p : Slots) → Gives p result
+        (reply_of_items call (items_to GetActionResult old message.now)) }
     ensures given { (k : ℕ) → holders_given result k ≡ 0 }
     ensures changed { (moment : ℕ) (calls : Calls) →
         let old = state_of settings.now moment pool.now contents.old calls in
@@ -58,8 +59,8 @@ pub fn answer_get(
     settle(alloc, call, outcome)
 }
 
-/// Answers an `UpdateActionResult`. The result that is sent is stored. For want of memory it may have
-/// been stored too.
+/// Answers an `UpdateActionResult`. The result that is sent is stored. For want of memory it may
+/// have been stored too.
 pub fn answer_update(
     alloc: Global,
     settings: &Settings,
@@ -71,7 +72,7 @@ pub fn answer_update(
     ensures replies { (moment : ℕ) (pool : Slots) (calls : Calls) →
         let old = state_of settings.now moment pool contents.old calls in
         (p : Slots) →
-        Gives p result (items_sent call (items_to UpdateActionResult old message.now)) }
+        Gives p result (reply_of_items call (items_to UpdateActionResult old message.now)) }
     ensures given { (k : ℕ) → holders_given result k ≡ 0 }
     ensures changed { (moment : ℕ) (pool : Slots) (calls : Calls) →
         let old = state_of settings.now moment pool contents.old calls in

@@ -1,13 +1,13 @@
 //! What a `GetTree` is answered: the pages of a tree's list.
 
 ghost use Rattle.std.specs.Prelude.{◌≡◌, ◌≤◌, ℕ, OnOk, OnErr};
-ghost use Rattle.blob_pool.specs.Held.{Slots, count_at};
-ghost use Rattle.instance_view.specs.Shown.{shown, holders};
+ghost use Rattle.blob_pool.specs.Slots.{Slots, count_at};
+ghost use Rattle.instance_view.specs.Shown.{visible_in, holders};
 ghost use Rattle.quota_evict.specs.Kept.{AreKept};
-ghost use Rattle.cas_service.specs.Changes.{MadeInPart, changed};
+ghost use Rattle.cas_service.specs.Changes.{MadeInPart, visible_after_changes};
 ghost use Rattle.tree_calls.specs.GetTree.{get_tree_replies, get_tree_changes};
-ghost use Rattle.instance_core.specs.Replies.{messages_items};
-ghost use Rattle.instance_core.specs.Answer.{items_sent};
+ghost use Rattle.instance_core.specs.Replies.{whole_reply_items};
+ghost use Rattle.instance_core.specs.Answer.{reply_of_items};
 ghost use Rattle.instance_core.specs.Shown.{Gives};
 ghost use Rattle.instance_core.specs.Given.{holders_given};
 
@@ -18,8 +18,8 @@ use instance_view::View;
 use std::alloc::{AllocError, Global};
 use tree_calls::get_tree;
 
-/// Answers a `GetTree` of the instance `own`: a message for each page, or a refusal. The directories
-/// of the list are used. For want of memory they may have been used too.
+/// Answers a `GetTree` of the instance `own`: a message for each page, or a refusal. The
+/// directories of the list are used. For want of memory they may have been used too.
 pub fn answer_tree(
     alloc: Global,
     own: &str,
@@ -29,16 +29,18 @@ pub fn answer_tree(
     message: &[u8],
 ) -> Result<Vec<Reply>, AllocError>
     requires held { (k : ℕ) → holders view.old k ≤ count_at pool.now k }
-    ensures replies { let answer = get_tree_replies own.now (shown pool.now view.old) message.now in
-        (p : Slots) → Gives p result (items_sent call (messages_items answer)) }
+    ensures replies { let answer = get_tree_replies own.now
+        (visible_in pool.now view.old) message.now in
+        (p : Slots) → Gives p result (reply_of_items call (whole_reply_items answer)) }
     ensures given { (k : ℕ) → holders_given result k ≡ 0 }
     ensures changed { (p : Slots) (quota : ℕ) →
-        let changes = get_tree_changes own.now (shown pool.now view.old) message.now in
-        OnOk result (shown p view.new ≡ changed view.old.limit quota changes (shown p view.old)) }
+        let changes = get_tree_changes own.now (visible_in pool.now view.old) message.now in
+        OnOk result (visible_in p view.new
+        ≡ visible_after_changes view.old.limit quota changes (visible_in p view.old)) }
     ensures memory { (p : Slots) (quota : ℕ) →
-        let changes = get_tree_changes own.now (shown pool.now view.old) message.now in
+        let changes = get_tree_changes own.now (visible_in pool.now view.old) message.now in
         OnErr result
-        (MadeInPart view.old.limit quota changes (shown p view.old) (shown p view.new)) }
+        (MadeInPart view.old.limit quota changes (visible_in p view.old) (visible_in p view.new)) }
     ensures holders { (k : ℕ) → holders view.new k ≡ holders view.old k }
     ensures kept { (p : Slots) (quota : ℕ) → AreKept quota p view.old → AreKept quota p view.new }
     ensures limit { view.new.limit ≡ view.old.limit }

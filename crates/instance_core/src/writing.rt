@@ -1,11 +1,11 @@
 //! What the messages of a `Write` are answered.
 
 ghost use Rattle.std.specs.Prelude.{◌≡◌, ◌≤◌, ◌<◌, ◌^◌, ℕ, List, [], Option, option_map, Result, OnOk, OnErr};
-ghost use Rattle.blob_pool.specs.Held.{Slots};
+ghost use Rattle.blob_pool.specs.Slots.{Slots};
 ghost use Rattle.blob_pool.specs.Moves.{Moves};
 ghost use Rattle.rpc.specs.declared.method.Method.TheVariants.{Write};
 ghost use Rattle.rpc.specs.declared.refusal.Refusal.{Refusal};
-ghost use Rattle.instance_view.specs.Shown.{shown, holders};
+ghost use Rattle.instance_view.specs.Shown.{visible_in, holders};
 ghost use Rattle.quota_evict.specs.Kept.{AreKept};
 ghost use Rattle.quota_evict.specs.Within.{Within};
 ghost use Rattle.uploads.specs.Uploads.{WithinLimits};
@@ -14,7 +14,7 @@ ghost use Rattle.bytestream.specs.Writing.{WrittenValue};
 ghost use Rattle.bytestream.specs.Shown.{open_write_shown, written_shown, IfGoes};
 ghost use Rattle.instance_core.specs.Calls.{without_call, AreInCourse};
 ghost use Rattle.instance_core.specs.State.{most_blobs};
-ghost use Rattle.instance_core.specs.Answer.{ended, first_written, next_written, with_first};
+ghost use Rattle.instance_core.specs.Answer.{final_answer, first_write_answer, next_write_answer, first_message_answer};
 ghost use Rattle.instance_core.specs.Shown.{Gives, ChangesCalls, Makes, state_of, outcome_shown};
 ghost use Rattle.instance_core.specs.Given.{holders_given};
 
@@ -36,9 +36,11 @@ pub fn finish(
     outcome: Result<Vec<u8>, Refusal>,
 ) -> Result<Vec<Reply>, AllocError>
     requires calls { AreInCourse calls.old }
-    ensures replies { (p : Slots) → Gives p result (ended id (outcome_shown outcome)).replies }
+    ensures replies { (p : Slots) → Gives p result
+        (final_answer id (outcome_shown outcome)).replies }
     ensures given { (k : ℕ) → holders_given result k ≡ 0 }
-    ensures changed { ChangesCalls result (ended id (outcome_shown outcome)) calls.old calls.new }
+    ensures changed { ChangesCalls result
+        (final_answer id (outcome_shown outcome)) calls.old calls.new }
     ensures err { OnErr result (calls.new ≡ calls.old) }
     ensures calls { AreInCourse calls.new }
 {
@@ -58,10 +60,10 @@ fn settle_first(
     requires calls { AreInCourse calls.old }
     requires named { IfGoes written (λ write. (open_write_shown write).key.digest.size < 2 ^ 63) }
     ensures replies { (answer : Result WrittenValue Refusal) → Answers written_shown written answer
-        → (p : Slots) → Gives p result (first_written id Write [] answer).replies }
+        → (p : Slots) → Gives p result (first_write_answer id Write [] answer).replies }
     ensures given { (k : ℕ) → holders_given result k ≡ 0 }
     ensures changed { (answer : Result WrittenValue Refusal) → Answers written_shown written answer
-        → ChangesCalls result (first_written id Write [] answer) calls.old calls.new }
+        → ChangesCalls result (first_write_answer id Write [] answer) calls.old calls.new }
     ensures memory { IfNoMemory written (OnOk result ⊥) }
     ensures err { OnErr result (calls.new ≡ calls.old) }
     ensures calls { AreInCourse calls.new }
@@ -90,11 +92,11 @@ pub fn settle_next(
     requires calls { AreInCourse calls.old }
     ensures replies { (answer : Result (Option (List ℕ)) Refusal)
         → Answers (option_map (λ reply. reply.items)) outcome answer
-        → (p : Slots) → Gives p result (next_written id [] answer).replies }
+        → (p : Slots) → Gives p result (next_write_answer id [] answer).replies }
     ensures given { (k : ℕ) → holders_given result k ≡ 0 }
     ensures changed { (answer : Result (Option (List ℕ)) Refusal)
         → Answers (option_map (λ reply. reply.items)) outcome answer
-        → ChangesCalls result (next_written id [] answer) calls.old calls.new }
+        → ChangesCalls result (next_write_answer id [] answer) calls.old calls.new }
     ensures memory { IfNoMemory outcome (OnOk result ⊥) }
     ensures err { OnErr result (calls.new ≡ calls.old) }
     ensures calls { AreInCourse calls.new }
@@ -126,15 +128,15 @@ pub fn on_first_part(
     requires uploads { WithinLimits settings.now.quota contents.old.uploads }
     requires calls { AreInCourse calls.old }
     ensures replies { let old = state_of settings.now moment pool.old contents.old calls.old in
-        (p : Slots) → Gives p result (with_first old id Write message.now).replies }
+        (p : Slots) → Gives p result (first_message_answer old id Write message.now).replies }
     ensures given { (k : ℕ) → holders_given result k ≡ 0 }
     ensures changed { let old = state_of settings.now moment pool.old contents.old calls.old in
         let new = state_of settings.now moment pool.new contents.new calls.new in
-        Makes result (with_first old id Write message.now).changes old new }
+        Makes result (first_message_answer old id Write message.now).changes old new }
     ensures moves { Moves pool.old pool.new (holders contents.old.view)
         (holders contents.new.view) }
     ensures limit { contents.new.view.limit ≡ most_blobs }
-    ensures within { Within most_blobs settings.now.quota (shown pool.new contents.new.view) }
+    ensures within { Within most_blobs settings.now.quota (visible_in pool.new contents.new.view) }
     ensures uploads { WithinLimits settings.now.quota contents.new.uploads }
     ensures results { contents.new.results ≡ contents.old.results }
     ensures calls { AreInCourse calls.new }

@@ -2,11 +2,11 @@ ghost use Rattle.std.specs.Prelude.{◌≡◌, ◌+◌, ◌-◌, ◌<◌, ◌≤
 ghost use Rattle.std.specs.Option.{option_copied};
 ghost use Rattle.std.specs.Map.{lookup};
 ghost use Rattle.digest.specs.declared.Digest.{Digest};
-ghost use Rattle.digest.specs.Naming.{same};
-ghost use Rattle.blob_pool.specs.Held.{Slots, count_at};
-ghost use Rattle.blob_pool.specs.Moves.{Moves, AreHeld, one_at, nobody};
-ghost use Rattle.instance_view.specs.Visible.{seen, used, without_oldest};
-ghost use Rattle.instance_view.specs.Shown.{Entry, ViewValue, blobs_in, entry_holders, shown, holders, sizes, text_seen, holders_seen, size_of};
+ghost use Rattle.digest.specs.Naming.{same_digest};
+ghost use Rattle.blob_pool.specs.Slots.{Slots, count_at};
+ghost use Rattle.blob_pool.specs.Moves.{Moves, AreHeld, one_at, no_holders};
+ghost use Rattle.instance_view.specs.Visible.{visible_text, visible_after_use, without_oldest};
+ghost use Rattle.instance_view.specs.Shown.{ViewEntry, ViewValue, blobs_in, entry_holders, visible_in, holders, sizes, text_seen, holders_seen, size_of};
 
 use blob_pool::{Draft, Kept, Pool, keep, release_kept};
 use digest::Digest;
@@ -32,9 +32,9 @@ pub enum Seen {
 /// Makes the pair of the digest the most recently used, and says whether there is one.
 fn promote(cache: &mut Cache, digest: &Digest) -> bool
     ensures found { (p : Slots) → result
-        ≡ is_some (lookup (same digest.now) (blobs_in p cache.old.entries)) }
+        ≡ is_some (lookup (same_digest digest.now) (blobs_in p cache.old.entries)) }
     ensures used { (p : Slots) → blobs_in p cache.new.entries
-        ≡ used digest.now (blobs_in p cache.old.entries) }
+        ≡ visible_after_use digest.now (blobs_in p cache.old.entries) }
     ensures unfound { result ≡ false → cache.new.entries ≡ cache.old.entries }
     ensures holders { (k : ℕ) → entry_holders cache.new.entries k
         ≡ entry_holders cache.old.entries k }
@@ -46,7 +46,7 @@ fn promote(cache: &mut Cache, digest: &Digest) -> bool
 
 /// Adds a pair that is not there.
 fn put(cache: &mut Cache, digest: Digest, kept: Kept) -> Result<(), AllocError>
-    requires absent { lookup (same digest) cache.old.entries ≡ None }
+    requires absent { lookup (same_digest digest) cache.old.entries ≡ None }
     requires room { length cache.old.entries < cache.old.cap }
     ensures ok { OnOk result (cache.new.entries ≡ (digest, kept) ∷ cache.old.entries) }
     ensures cap { cache.new.cap ≡ cache.old.cap }
@@ -58,8 +58,8 @@ fn put(cache: &mut Cache, digest: Digest, kept: Kept) -> Result<(), AllocError>
 
 /// Sets the slot of the pair that was added last.
 fn set(cache: &mut Cache, digest: Digest, kept: Kept)
-    requires { (k : ℕ) × (v : List Entry) × (cache.old.entries ≡ (digest, k) ∷ v) }
-    ensures entries { (k : ℕ) (v : List Entry) → cache.old.entries ≡ (digest, k) ∷ v →
+    requires { (k : ℕ) × (v : List ViewEntry) × (cache.old.entries ≡ (digest, k) ∷ v) }
+    ensures entries { (k : ℕ) (v : List ViewEntry) → cache.old.entries ≡ (digest, k) ∷ v →
         cache.new.entries ≡ (digest, kept) ∷ v }
     ensures cap { cache.new.cap ≡ cache.old.cap }
 {
@@ -69,7 +69,7 @@ fn set(cache: &mut Cache, digest: Digest, kept: Kept)
 
 /// Takes out the most recently used pair.
 fn pop_newest(cache: &mut Cache)
-    ensures entries { (e : Entry) (v : List Entry) → cache.old.entries ≡ e ∷ v →
+    ensures entries { (e : ViewEntry) (v : List ViewEntry) → cache.old.entries ≡ e ∷ v →
         cache.new.entries ≡ v }
     ensures cap { cache.new.cap ≡ cache.old.cap }
 {
@@ -150,7 +150,7 @@ impl View {
     /// The text of the digest. This is no use of it.
     pub fn get(&self, digest: &Digest) -> Option<Seen>
         ensures text { (p : Slots) → option_map (text_seen p) result
-            ≡ seen digest.now (shown p self.now) }
+            ≡ visible_text digest.now (visible_in p self.now) }
         ensures held { IfSome result (λ s. (k : ℕ) → holders_seen s k ≤ holders self.now k) }
     {
         if digest.is_empty() {
@@ -161,7 +161,7 @@ impl View {
 
     /// Whether there is a text of the digest. This is no use of it.
     pub fn contains(&self, digest: &Digest) -> bool
-        ensures { (p : Slots) → result ≡ is_some (seen digest.now (shown p self.now)) }
+        ensures { (p : Slots) → result ≡ is_some (visible_text digest.now (visible_in p self.now)) }
     {
         self.get(digest).is_some()
     }
@@ -169,8 +169,10 @@ impl View {
     /// Makes the text of the digest the most recently used, and says whether there is one. It takes
     /// no memory.
     pub fn touch(&mut self, digest: &Digest) -> bool
-        ensures seen { (p : Slots) → result ≡ is_some (seen digest.now (shown p self.old)) }
-        ensures used { (p : Slots) → shown p self.new ≡ used digest.now (shown p self.old) }
+        ensures seen { (p : Slots) → result
+            ≡ is_some (visible_text digest.now (visible_in p self.old)) }
+        ensures used { (p : Slots) → visible_in p self.new
+            ≡ visible_after_use digest.now (visible_in p self.old) }
         ensures holders { (k : ℕ) → holders self.new k ≡ holders self.old k }
         ensures limit { self.new.limit ≡ self.old.limit }
         ensures unseen { result ≡ false → self.new ≡ self.old }
@@ -181,12 +183,12 @@ impl View {
     /// Adds a text that is not there, as the most recently used. The draft is given back for want
     /// of memory only.
     pub fn add(&mut self, pool: &mut Pool, digest: &Digest, draft: Draft) -> Result<(), Draft>
-        requires absent { (p : Slots) → seen digest.now (shown p self.old) ≡ None }
+        requires absent { (p : Slots) → visible_text digest.now (visible_in p self.old) ≡ None }
         requires held { AreHeld pool.old (holders self.old) }
         requires room { length self.old.entries ≤ self.old.limit }
         requires fits { sizes self.old.entries + digest.now.size < 2 ^ 64 }
-        ensures shown { OnOk result (shown pool.new self.new
-            ≡ (digest.now, draft.text) ∷ shown pool.old self.old) }
+        ensures shown { OnOk result (visible_in pool.new self.new
+            ≡ (digest.now, draft.text) ∷ visible_in pool.old self.old) }
         ensures length { OnOk result (length self.new.entries ≡ length self.old.entries + 1) }
         ensures limit { self.new.limit ≡ self.old.limit }
         ensures moves { Moves pool.old pool.new (holders self.old) (holders self.new) }
@@ -212,7 +214,8 @@ impl View {
     /// Takes out the least recently used text. It takes no memory.
     pub fn drop_oldest(&mut self, pool: &mut Pool)
         requires { AreHeld pool.old (holders self.old) }
-        ensures shown { shown pool.new self.new ≡ without_oldest (shown pool.old self.old) }
+        ensures shown { visible_in pool.new self.new
+            ≡ without_oldest (visible_in pool.old self.old) }
         ensures limit { self.new.limit ≡ self.old.limit }
         ensures moves { Moves pool.old pool.new (holders self.old) (holders self.new) }
     {
@@ -226,7 +229,7 @@ impl View {
 /// The entry of the digest.
 fn find(cache: &Cache, digest: &Digest) -> Option<Seen>
     ensures text { (p : Slots) → option_map (text_seen p) result
-        ≡ lookup (same digest.now) (blobs_in p cache.now.entries) }
+        ≡ lookup (same_digest digest.now) (blobs_in p cache.now.entries) }
     ensures held { IfSome result (λ s. (k : ℕ) →
         holders_seen s k ≤ entry_holders cache.now.entries k) }
 {

@@ -7,9 +7,9 @@ use Rattle.std.proofs.lemmas.List.{length-append}
 use Rattle.std.proofs.lemmas.List.Concat.{flat_map-cons}
 use Rattle.protobuf_wire.specs.Record.{Value, Number, Eight, Payload, Four, Record}
 use Rattle.protobuf_wire.specs.Spelling.{wire_type}
-use Rattle.protobuf_wire.specs.Writing.{varint, content_text, record_text, text, number_field, bytes_field, message_field, FitsContent, IsWritable}
+use Rattle.protobuf_wire.specs.Writing.{varint, content_text, record_text, records_text, number_field, bytes_field, message_field, FitsContent, IsWritable}
 use Rattle.protobuf_wire.proofs.Texts.{reads_spelled, text_spells}
-use Rattle.message_fields.specs.Fields.{parsed}
+use Rattle.message_fields.specs.Fields.{records_in}
 use Rattle.message_fields.specs.Parts.{text_for, each_field, embedded_field, repeated_field, int64_field, int32_field, flag_field, sent_field}
 use Rattle.message_fields.proofs.Texts.{text_append}
 use Rattle.message_fields.proofs.ReadAgain.{int32_below}
@@ -32,24 +32,24 @@ content_shorter (Eight b) h short = h
 content_shorter (Payload b) h short = let e = length-append (varint (length b)) b in omega arith
 content_shorter (Four b) h short = h
 
-pub all_writable : (rs : List Record) → AllByRecursion IsNumbered rs → length (text rs) < 2 ^ 64 → AllByRecursion IsWritable rs
+pub all_writable : (rs : List Record) → AllByRecursion IsNumbered rs → length (records_text rs) < 2 ^ 64 → AllByRecursion IsWritable rs
 all_writable [] h short = tt
 all_writable (r ∷ rs) h short =
     let whole = ap (length {A = ℕ}) (flat_map-cons record_text r rs) in
-    let parts = length-append (record_text r) (text rs) in
+    let parts = length-append (record_text r) (records_text rs) in
     let tagged = length-append (varint (8 * r.number + wire_type r.value)) (content_text r.value) in
     (record { positive = h.0.positive; small = h.0.small; value = content_shorter r.value h.0.content (omega arith) }, all_writable rs h.1 (omega arith))
 
 -- what is written is read again as the same records
-pub parsed_again : (rs : List Record) → AllByRecursion IsNumbered rs → length (text rs) < 2 ^ 64 → parsed (text rs) ≡ Ok rs
-unfolding parsed
-parsed_again rs h short = rw (reads_spelled (text rs) rs (text_spells rs (all_writable rs h short))) refl
+pub parsed_again : (rs : List Record) → AllByRecursion IsNumbered rs → length (records_text rs) < 2 ^ 64 → records_in (records_text rs) ≡ Ok rs
+unfolding records_in
+parsed_again rs h short = rw (reads_spelled (records_text rs) rs (text_spells rs (all_writable rs h short))) refl
 
-pub first_shorter : (a b : List Record) → length (text (a ++ b)) < 2 ^ 64 → length (text a) < 2 ^ 64
-first_shorter a b short = let e = ap (length {A = ℕ}) (text_append a b) in let parts = length-append (text a) (text b) in omega arith
+pub first_shorter : (a b : List Record) → length (records_text (a ++ b)) < 2 ^ 64 → length (records_text a) < 2 ^ 64
+first_shorter a b short = let e = ap (length {A = ℕ}) (text_append a b) in let parts = length-append (records_text a) (records_text b) in omega arith
 
-pub second_shorter : (a b : List Record) → length (text (a ++ b)) < 2 ^ 64 → length (text b) < 2 ^ 64
-second_shorter a b short = let e = ap (length {A = ℕ}) (text_append a b) in let parts = length-append (text a) (text b) in omega arith
+pub second_shorter : (a b : List Record) → length (records_text (a ++ b)) < 2 ^ 64 → length (records_text b) < 2 ^ 64
+second_shorter a b short = let e = ap (length {A = ℕ}) (text_append a b) in let parts = length-append (records_text a) (records_text b) in omega arith
 
 -- ---- what each kind of field is written as
 
@@ -97,15 +97,15 @@ module _ (field : ℕ) (positive : 0 < field) (small : field < 2 ^ 29) where
 
 -- ---- embedded texts are no longer than the text that they stand in
 
-pub payload_shorter : (field : ℕ) (t : List ℕ) → length (text (message_field field t)) < 2 ^ 64 → length t < 2 ^ 64
+pub payload_shorter : (field : ℕ) (t : List ℕ) → length (records_text (message_field field t)) < 2 ^ 64 → length t < 2 ^ 64
 payload_shorter field t short =
     let whole = ap (length {A = ℕ}) (flat_map-cons record_text (record { number = field; value = Payload t }) []) in
-    let nothing = length-append (record_text (record { number = field; value = Payload t })) (text []) in
+    let nothing = length-append (record_text (record { number = field; value = Payload t })) (records_text []) in
     let tagged = length-append (varint (8 * field + 2)) (varint (length t) ++ t) in
     let inside = length-append (varint (length t)) t in
     omega arith
 
-pub payloads_shorter : {V : Type 0} (records_for : V → List Record) (field : ℕ) (vs : List V) → length (text (repeated_field records_for field vs)) < 2 ^ 64 → AllByRecursion (λ v. length (text_for records_for v) < 2 ^ 64) vs
+pub payloads_shorter : {V : Type 0} (records_for : V → List Record) (field : ℕ) (vs : List V) → length (records_text (repeated_field records_for field vs)) < 2 ^ 64 → AllByRecursion (λ v. length (text_for records_for v) < 2 ^ 64) vs
 payloads_shorter records_for field [] short = tt
 payloads_shorter records_for field (v ∷ vs) short =
     let t : List ℕ = text_for records_for v in

@@ -8,7 +8,7 @@ use Rattle.protobuf_wire.specs.Results.{◌>>=◌}
 use Rattle.protobuf_wire.specs.Record.{Number, Record}
 use Rattle.protobuf_wire.specs.Writing.{number_field, bytes_field, message_field}
 use Rattle.message_fields.specs.declared.error.MessageError.{MessageError}
-use Rattle.message_fields.specs.Fields.{number_in, payload_in, numbers, payloads, each_of, record_numbers, joined, repeated_numbers}
+use Rattle.message_fields.specs.Fields.{number_in, payload_in, numbers, payloads, each_of, record_numbers, concatenation, repeated_numbers}
 use Rattle.message_fields.specs.Parts.{each_field, embedded_field, sent_field}
 use Rattle.message_fields.specs.Again.{Lacks, HasField}
 
@@ -48,10 +48,10 @@ abbrev Read : Type 0
 Read = Result (List (List ℕ)) MessageError
 
 abbrev all_of : Read → Result (List ℕ) MessageError
-all_of r = r >>= λ nss. Ok (joined nss)
+all_of r = r >>= λ nss. Ok (concatenation nss)
 
 skips : (rest : Read) → all_of (rest >>= λ nss. Ok ([] ∷ nss)) ≡ all_of rest
-unfolding joined
+unfolding concatenation
 skips (Ok nss) = refl
 skips (Err e) = refl
 
@@ -68,12 +68,12 @@ abbrev and_then : List ℕ → Result (List ℕ) MessageError → Result (List �
 and_then ns rest = rest >>= λ ms. Ok (ns ++ ms)
 
 takes_first : (ns : List ℕ) (rest : Read) → all_of (rest >>= λ nss. Ok (ns ∷ nss)) ≡ and_then ns (all_of rest)
-unfolding joined
+unfolding concatenation
 takes_first ns (Ok nss) = refl
 takes_first ns (Err e) = refl
 
 drop_back : (field : ℕ) (part back : List Record) → Lacks field back → repeated_numbers field (part ++ back) ≡ repeated_numbers field part
-unfolding each_of joined
+unfolding each_of concatenation
 drop_back field [] [] h = refl
 drop_back field [] (r ∷ rs) h = rw (other_record field r h.0) (skips (each_of (record_numbers field) rs) ∙ drop_back field [] rs h.1)
 drop_back field (r ∷ part) back h = go (record_numbers field r) (drop_back field part back h) where

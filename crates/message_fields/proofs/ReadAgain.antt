@@ -15,8 +15,8 @@ use Rattle.protobuf_wire.specs.Writing.{packed_text, number_field, bytes_field, 
 use Rattle.protobuf_wire.proofs.Tools.{bind_ok}
 use Rattle.protobuf_wire.proofs.Texts.{numbers_spelled, packed_spells}
 use Rattle.message_fields.specs.declared.error.MessageError.{MessageError}
-use Rattle.message_fields.specs.Answers.{lifted}
-use Rattle.message_fields.specs.Fields.{parsed, decoded, numbers, payloads, last_or, each_of, int64, int32, int32_of, flag, octets, utf8, string, repeated_string, repeated_numbers, repeated_enum, joined, embedded, repeated, repeated_octets, sent}
+use Rattle.message_fields.specs.Answers.{of_wire}
+use Rattle.message_fields.specs.Fields.{records_in, value_of_text, numbers, payloads, last_or, each_of, int64, int32, int32_of, flag, octets, utf8, string, repeated_string, repeated_numbers, repeated_enum, concatenation, embedded_value, repeated_values, repeated_octets, sent_bytes}
 use Rattle.message_fields.specs.Parts.{text_for, int64_field, int32_field, flag_field, string_field, repeated_enum_field, each_field, repeated_string_field, embedded_field, repeated_field, repeated_octets_field, sent_field}
 use Rattle.message_fields.specs.Again.{HasField, IsReadAgain}
 use Rattle.message_fields.proofs.Places.{numbers_in_part, payloads_in_part, repeated_numbers_in_part}
@@ -106,10 +106,10 @@ repeated_octets_again field ts rs h = payloads_in_part field (each_field field t
 -- ---- repeated enums
 
 packed_alone : (field : ℕ) (ns : List ℕ) → numbers_of (packed_text ns) ≡ Ok ns → repeated_numbers field (packed_field field ns) ≡ Ok ns
-unfolding each_of joined items_in
+unfolding each_of concatenation items_in
 packed_alone field ns payload = go (eqb (length (packed_text ns)) 0) refl where
   go : (b : Bool) → eqb (length (packed_text ns)) 0 ≡ b → repeated_numbers field (cond b [] (message_field field (packed_text ns))) ≡ Ok ns
-  go true h = ap (λ (t : List ℕ). lifted (numbers_of t)) (sym (nil_from_length (packed_text ns) (eqb-true _ _ h))) ∙ ap (λ r. lifted r) payload
+  go true h = ap (λ (t : List ℕ). of_wire (numbers_of t)) (sym (nil_from_length (packed_text ns) (eqb-true _ _ h))) ∙ ap (λ r. of_wire r) payload
   go false h = rw (same field, payload, append-nil ns) refl
 
 pub int32_below : (z : ℤ) → FitsSigned w32 z → cast_unsigned w64 z < 2 ^ 64
@@ -134,10 +134,10 @@ repeated_enum_again field zs rs fit h =
 -- ---- embedded messages
 
 module _ {V : Type 0} (value_of : List Record → Result V MessageError) (records_for : V → List Record) where
-  well_formed : (v : V) → IsReadAgain value_of records_for v → (rs : List Record) × (parsed (text_for records_for v) ≡ Ok rs)
-  well_formed v again = let found = bind_ok (parsed (text_for records_for v)) value_of v again in (found.0, found.1)
+  well_formed : (v : V) → IsReadAgain value_of records_for v → (rs : List Record) × (records_in (text_for records_for v) ≡ Ok rs)
+  well_formed v again = let found = bind_ok (records_in (text_for records_for v)) value_of v again in (found.0, found.1)
 
-  pub embedded_again : (field : ℕ) (v : V) (rs : List Record) → IsReadAgain value_of records_for v → HasField field (embedded_field records_for field (Some v)) rs → embedded value_of field rs ≡ Ok (Some v)
+  pub embedded_again : (field : ℕ) (v : V) (rs : List Record) → IsReadAgain value_of records_for v → HasField field (embedded_field records_for field (Some v)) rs → embedded_value value_of field rs ≡ Ok (Some v)
   unfolding each_of
   embedded_again field v rs again h =
       let t : List ℕ = text_for records_for v in
@@ -145,19 +145,19 @@ module _ {V : Type 0} (value_of : List Record → Result V MessageError) (record
       let formed = well_formed v again in
       rw (payload, formed.1, append-nil t, again) refl
 
-  pub absent_again : (field : ℕ) (rs : List Record) → HasField field (embedded_field records_for field None) rs → embedded value_of field rs ≡ Ok None
+  pub absent_again : (field : ℕ) (rs : List Record) → HasField field (embedded_field records_for field None) rs → embedded_value value_of field rs ≡ Ok None
   unfolding each_of payloads
   absent_again field rs h = rw (payloads_in_part field [] rs h) refl
 
-  values_again : (vs : List V) → AllByRecursion (IsReadAgain value_of records_for) vs → each_of (decoded value_of) (map (text_for records_for) vs) ≡ Ok vs
+  values_again : (vs : List V) → AllByRecursion (IsReadAgain value_of records_for) vs → each_of (value_of_text value_of) (map (text_for records_for) vs) ≡ Ok vs
   unfolding each_of
   values_again [] h = refl
   values_again (v ∷ vs) h = rw (h.0, values_again vs h.1) refl
 
-  pub repeated_again : (field : ℕ) (vs : List V) (rs : List Record) → AllByRecursion (IsReadAgain value_of records_for) vs → HasField field (repeated_field records_for field vs) rs → repeated value_of field rs ≡ Ok vs
+  pub repeated_again : (field : ℕ) (vs : List V) (rs : List Record) → AllByRecursion (IsReadAgain value_of records_for) vs → HasField field (repeated_field records_for field vs) rs → repeated_values value_of field rs ≡ Ok vs
   repeated_again field vs rs again h =
       let ts : List (List ℕ) = map (text_for records_for) vs in
-      ap (each_of (decoded value_of)) (payloads_in_part field (each_field field ts) rs h ∙ each_alone field ts) ∙ values_again vs again
+      ap (each_of (value_of_text value_of)) (payloads_in_part field (each_field field ts) rs h ∙ each_alone field ts) ∙ values_again vs again
 
 -- ---- messages as they were sent
 
@@ -166,11 +166,11 @@ value_there (Ok x) h = (x, refl)
 value_there (Err e) h = absurd cc
 
 module _ {V : Type 0} (value_of : List Record → Result V MessageError) where
-  pub sent_again : (field : ℕ) (o : Option (List ℕ)) (rs : List Record) → IfSome o (λ t. IsOk (decoded value_of t)) → HasField field (sent_field field o) rs → sent value_of field rs ≡ Ok o
+  pub sent_again : (field : ℕ) (o : Option (List ℕ)) (rs : List Record) → IfSome o (λ t. IsOk (value_of_text value_of t)) → HasField field (sent_field field o) rs → sent_bytes value_of field rs ≡ Ok o
   unfolding each_of payloads
   sent_again field None rs fit h = rw (payloads_in_part field [] rs h) refl
   sent_again field (Some t) rs fit h =
-      let meant = value_there (decoded value_of t) fit in
-      let formed = bind_ok (parsed t) value_of meant.0 meant.1 in
+      let meant = value_there (value_of_text value_of t) fit in
+      let formed = bind_ok (records_in t) value_of meant.0 meant.1 in
       let payload : payloads field rs ≡ t ∷ [] = payloads_in_part field (message_field field t) rs h ∙ payload_alone field t in
       rw (payload, formed.1, append-nil t, meant.1) refl

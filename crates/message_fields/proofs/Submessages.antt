@@ -8,17 +8,17 @@ use Rattle.protobuf_wire.specs.Record.{Record}
 use Rattle.protobuf_wire.specs.Reading.{records_of}
 use Rattle.protobuf_wire.proofs.Texts.{reads_spelled, spells_read, spells_joined}
 use Rattle.message_fields.specs.declared.error.MessageError.{MessageError}
-use Rattle.message_fields.specs.Answers.{lifted}
-use Rattle.message_fields.specs.Fields.{parsed, decoded, each_of, whole, payloads, embedded}
-use Rattle.message_fields.specs.Joining.{joined_records, optional, embedded_joined}
+use Rattle.message_fields.specs.Answers.{of_wire}
+use Rattle.message_fields.specs.Fields.{records_in, value_of_text, each_of, joined_value, payloads, embedded_value}
+use Rattle.message_fields.specs.Joining.{joined_records, optional_value, embedded_value_by_records}
 
-lifted_ok : (r : Result (List Record) WireError) (rs : List Record) → lifted r ≡ Ok rs → r ≡ Ok rs
+lifted_ok : (r : Result (List Record) WireError) (rs : List Record) → of_wire r ≡ Ok rs → r ≡ Ok rs
 lifted_ok (Ok x) rs e = cc
 lifted_ok (Err w) rs e = absurd cc
 
 -- two texts that are well formed are so one after the other
-pub parsed_append : (t u : List ℕ) (rs ss : List Record) → parsed t ≡ Ok rs → parsed u ≡ Ok ss → parsed (t ++ u) ≡ Ok (rs ++ ss)
-unfolding parsed
+pub parsed_append : (t u : List ℕ) (rs ss : List Record) → records_in t ≡ Ok rs → records_in u ≡ Ok ss → records_in (t ++ u) ≡ Ok (rs ++ ss)
+unfolding records_in
 parsed_append t u rs ss h g = rw (reads_spelled (t ++ u) (rs ++ ss) (spells_joined t rs u ss (spells_read t rs (lifted_ok (records_of t) rs h)) (spells_read u ss (lifted_ok (records_of u) ss g)))) refl
 
 -- whether all were answered, whatever the answers are
@@ -28,24 +28,24 @@ passes_next x (Err e) then = refl
 
 module _ {V : Type 0} (value_of : List Record → Result V MessageError) where
   abbrev some_of : List ℕ → Result (Option V) MessageError
-  some_of t = decoded value_of t >>= λ v. Ok (Some v)
+  some_of t = value_of_text value_of t >>= λ v. Ok (Some v)
 
-  with_more : (t : List ℕ) (rs : List Record) (ps : List (List ℕ)) → parsed t ≡ Ok rs → (each_of parsed ps >>= λ _. some_of (t ++ concat ps)) ≡ (joined_records (Some rs) ps >>= optional value_of)
+  with_more : (t : List ℕ) (rs : List Record) (ps : List (List ℕ)) → records_in t ≡ Ok rs → (each_of records_in ps >>= λ _. some_of (t ++ concat ps)) ≡ (joined_records (Some rs) ps >>= optional_value value_of)
   unfolding each_of joined_records
   with_more t rs [] h = ap some_of (append-nil t) ∙ ap (λ (r : Result (List Record) MessageError). (r >>= value_of) >>= λ v. Ok (Some v)) h
-  with_more t rs (p ∷ ps) h = go (parsed p) refl (λ u all k. with_more u all ps k) where
-    go : (r : Result (List Record) MessageError) → parsed p ≡ r → ((u : List ℕ) (all : List Record) → parsed u ≡ Ok all → (each_of parsed ps >>= λ _. some_of (u ++ concat ps)) ≡ (joined_records (Some all) ps >>= optional value_of))
-        → ((r >>= λ y. each_of parsed ps >>= λ ys. Ok (y ∷ ys)) >>= λ _. some_of (t ++ concat (p ∷ ps))) ≡ (((r >>= λ more. Ok (rs ++ more)) >>= λ all. joined_records (Some all) ps) >>= optional value_of)
+  with_more t rs (p ∷ ps) h = go (records_in p) refl (λ u all k. with_more u all ps k) where
+    go : (r : Result (List Record) MessageError) → records_in p ≡ r → ((u : List ℕ) (all : List Record) → records_in u ≡ Ok all → (each_of records_in ps >>= λ _. some_of (u ++ concat ps)) ≡ (joined_records (Some all) ps >>= optional_value value_of))
+        → ((r >>= λ y. each_of records_in ps >>= λ ys. Ok (y ∷ ys)) >>= λ _. some_of (t ++ concat (p ∷ ps))) ≡ (((r >>= λ more. Ok (rs ++ more)) >>= λ all. joined_records (Some all) ps) >>= optional_value value_of)
     go (Err d) q ih = refl
-    go (Ok more) q ih = passes_next more (each_of parsed ps) (some_of (t ++ concat (p ∷ ps))) ∙ ap (λ (u : List ℕ). each_of parsed ps >>= λ _. some_of u) (sym (append_assoc t p (concat ps))) ∙ ih (t ++ p) (rs ++ more) (parsed_append t p rs more h q)
+    go (Ok more) q ih = passes_next more (each_of records_in ps) (some_of (t ++ concat (p ∷ ps))) ∙ ap (λ (u : List ℕ). each_of records_in ps >>= λ _. some_of u) (sym (append_assoc t p (concat ps))) ∙ ih (t ++ p) (rs ++ more) (parsed_append t p rs more h q)
 
-  from_none : (ps : List (List ℕ)) → (each_of parsed ps >>= λ _. whole value_of ps) ≡ (joined_records None ps >>= optional value_of)
+  from_none : (ps : List (List ℕ)) → (each_of records_in ps >>= λ _. joined_value value_of ps) ≡ (joined_records None ps >>= optional_value value_of)
   unfolding each_of joined_records
   from_none [] = refl
-  from_none (p ∷ ps) = go (parsed p) refl where
-    go : (r : Result (List Record) MessageError) → parsed p ≡ r → ((r >>= λ y. each_of parsed ps >>= λ ys. Ok (y ∷ ys)) >>= λ _. some_of (concat (p ∷ ps))) ≡ (((r >>= λ more. Ok ([] ++ more)) >>= λ all. joined_records (Some all) ps) >>= optional value_of)
+  from_none (p ∷ ps) = go (records_in p) refl where
+    go : (r : Result (List Record) MessageError) → records_in p ≡ r → ((r >>= λ y. each_of records_in ps >>= λ ys. Ok (y ∷ ys)) >>= λ _. some_of (concat (p ∷ ps))) ≡ (((r >>= λ more. Ok ([] ++ more)) >>= λ all. joined_records (Some all) ps) >>= optional_value value_of)
     go (Err d) q = refl
-    go (Ok rs) q = passes_next rs (each_of parsed ps) (some_of (concat (p ∷ ps))) ∙ with_more p rs ps q
+    go (Ok rs) q = passes_next rs (each_of records_in ps) (some_of (concat (p ∷ ps))) ∙ with_more p rs ps q
 
-  pub embedded_is_joined : (field : ℕ) (rs : List Record) → embedded value_of field rs ≡ embedded_joined value_of field rs
+  pub embedded_is_joined : (field : ℕ) (rs : List Record) → embedded_value value_of field rs ≡ embedded_value_by_records value_of field rs
   embedded_is_joined field rs = from_none (payloads field rs)

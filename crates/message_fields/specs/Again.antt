@@ -3,7 +3,7 @@ use Rattle.std.specs.Prelude.{◌≡◌, ◌≢◌, ◌<◌, ◌^◌, ℕ, List,
 use Rattle.std.specs.List.{AllByRecursion}
 use Rattle.protobuf_wire.specs.Record.{Record}
 use Rattle.message_fields.specs.declared.error.MessageError.{MessageError}
-use Rattle.message_fields.specs.Fields.{decoded}
+use Rattle.message_fields.specs.Fields.{value_of_text}
 use Rattle.message_fields.specs.Parts.{text_for}
 
 -- none of the records is one of this field
@@ -19,9 +19,12 @@ pub record HasField (field : ℕ) (part rs : List Record) : Type 0 where
   pub behind : Lacks field back
 
 -- the text of a value means that value
-abbrev pub IsReadAgain : {V : Type 0} → (List Record → Result V MessageError) → (V → List Record) → V → Type 0
-IsReadAgain value_of records_for v = decoded value_of (text_for records_for v) ≡ Ok v
+abbrev pub IsReadAgain : {V : Type 0} → (List Record → Result V MessageError) → (V → List Record) →
+    V → Type 0
+IsReadAgain value_of records_for v = value_of_text value_of (text_for records_for v) ≡ Ok v
 
 -- each value that fits its types, and whose text can lie in memory, is read again
-abbrev pub AreReadAgain : {V : Type 0} → (List Record → Result V MessageError) → (V → List Record) → (V → Type 0) → Type 0
-AreReadAgain {V} value_of records_for Fits = (v : V) → Fits v → length (text_for records_for v) < 2 ^ 64 → IsReadAgain value_of records_for v
+abbrev pub AreReadAgain : {V : Type 0} → (List Record → Result V MessageError) → (V → List Record) →
+    (V → Type 0) → Type 0
+AreReadAgain {V} value_of records_for Fits =
+    (v : V) → Fits v → length (text_for records_for v) < 2 ^ 64 → IsReadAgain value_of records_for v

@@ -14,6 +14,6 @@ abbrev pub Means : {X Y : Type 0} → (X → Y) → Result X MessageError → Re
 Means view (Ok x) meaning = meaning ≡ Ok (view x)
 Means view (Err e) meaning = Fails e meaning
 
-abbrev pub lifted : {A : Type 0} → Result A WireError → Result A MessageError
-lifted (Ok x) = Ok x
-lifted (Err fault) = Err (Wire fault)
+abbrev pub of_wire : {A : Type 0} → Result A WireError → Result A MessageError
+of_wire (Ok x) = Ok x
+of_wire (Err fault) = Err (Wire fault)

@@ -8,15 +8,16 @@ use Rattle.protobuf_wire.specs.Record.{Value, Number, Eight, Payload, Four, Reco
 use Rattle.protobuf_wire.specs.Reading.{records_of, numbers_of}
 use Rattle.message_fields.specs.declared.error.MessageError.{MessageError}
 use Rattle.message_fields.specs.declared.error.MessageError.TheVariants.{NotUtf8}
-use Rattle.message_fields.specs.Answers.{lifted}
+use Rattle.message_fields.specs.Answers.{of_wire}
 
 -- the records that a text spells
-unfoldable pub parsed : List ℕ → Result (List Record) MessageError
-parsed text = lifted (records_of text)
+unfoldable pub records_in : List ℕ → Result (List Record) MessageError
+records_in text = of_wire (records_of text)
 
 -- what a text means, where value_of says what records mean
-abbrev pub decoded : {V : Type 0} → (List Record → Result V MessageError) → List ℕ → Result V MessageError
-decoded value_of text = parsed text >>= value_of
+abbrev pub value_of_text : {V : Type 0} → (List Record → Result V MessageError) → List ℕ →
+    Result V MessageError
+value_of_text value_of text = records_in text >>= value_of
 
 -- ---- the contents of a field; one with another wire type is skipped, as an unknown field is
 
@@ -53,7 +54,8 @@ last_or default [] = default
 last_or default (x ∷ xs) = last_or x xs
 
 -- what a step gives for each, in order, or the first fault
-unfoldable pub each_of : {A B : Type 0} → (A → Result B MessageError) → List A → Result (List B) MessageError
+unfoldable pub each_of : {A B : Type 0} → (A → Result B MessageError) → List A →
+    Result (List B) MessageError
 each_of step [] = Ok []
 each_of step (x ∷ xs) = step x >>= λ y. each_of step xs >>= λ ys. Ok (y ∷ ys)
 
@@ -77,18 +79,18 @@ flag field rs = nat_lt 0 (last_or 0 (numbers field rs))
 abbrev pub value_numbers : Value → Result (List ℕ) MessageError
 value_numbers (Number n) = Ok (n ∷ [])
 value_numbers (Eight b) = Ok []
-value_numbers (Payload b) = lifted (numbers_of b)
+value_numbers (Payload b) = of_wire (numbers_of b)
 value_numbers (Four b) = Ok []
 
 abbrev pub record_numbers : ℕ → Record → Result (List ℕ) MessageError
 record_numbers field r = if r.number == field then value_numbers r.value else Ok []
 
-unfoldable pub joined : {A : Type 0} → List (List A) → List A
-joined [] = []
-joined (xs ∷ xss) = xs ++ joined xss
+unfoldable pub concatenation : {A : Type 0} → List (List A) → List A
+concatenation [] = []
+concatenation (xs ∷ xss) = xs ++ concatenation xss
 
 abbrev pub repeated_numbers : ℕ → List Record → Result (List ℕ) MessageError
-repeated_numbers field rs = each_of (record_numbers field) rs >>= λ nss. Ok (joined nss)
+repeated_numbers field rs = each_of (record_numbers field) rs >>= λ nss. Ok (concatenation nss)
 
 abbrev pub repeated_enum : ℕ → List Record → Result (List ℤ) MessageError
 repeated_enum field rs = repeated_numbers field rs >>= λ ns. Ok (map int32_of ns)
@@ -120,22 +122,27 @@ joined_payloads [] = None
 joined_payloads (b ∷ bs) = Some (concat (b ∷ bs))
 
 -- the meaning of all payloads joined, where there are any
-abbrev pub whole : {V : Type 0} → (List Record → Result V MessageError) → List (List ℕ) → Result (Option V) MessageError
-whole value_of [] = Ok None
-whole value_of (b ∷ bs) = decoded value_of (concat (b ∷ bs)) >>= λ v. Ok (Some v)
+abbrev pub joined_value : {V : Type 0} → (List Record → Result V MessageError) → List (List ℕ) →
+    Result (Option V) MessageError
+joined_value value_of [] = Ok None
+joined_value value_of (b ∷ bs) = value_of_text value_of (concat (b ∷ bs)) >>= λ v. Ok (Some v)
 
 -- each payload is well formed by itself (Encoding, "Last One Wins": records of one embedded message
 -- are merged)
-abbrev pub embedded : {V : Type 0} → (List Record → Result V MessageError) → ℕ → List Record → Result (Option V) MessageError
-embedded value_of field rs = each_of parsed (payloads field rs) >>= λ _. whole value_of (payloads field rs)
+abbrev pub embedded_value : {V : Type 0} → (List Record → Result V MessageError) → ℕ → List Record →
+    Result (Option V) MessageError
+embedded_value value_of field rs =
+    each_of records_in (payloads field rs) >>= λ _. joined_value value_of (payloads field rs)
 
-abbrev pub repeated : {V : Type 0} → (List Record → Result V MessageError) → ℕ → List Record → Result (List V) MessageError
-repeated value_of field rs = each_of (decoded value_of) (payloads field rs)
+abbrev pub repeated_values : {V : Type 0} → (List Record → Result V MessageError) → ℕ →
+    List Record → Result (List V) MessageError
+repeated_values value_of field rs = each_of (value_of_text value_of) (payloads field rs)
 
 -- the bytes of an embedded message as they were sent
-abbrev pub as_sent : ℕ → List Record → Option (List ℕ)
-as_sent field rs = joined_payloads (payloads field rs)
+abbrev pub bytes_as_sent : ℕ → List Record → Option (List ℕ)
+bytes_as_sent field rs = joined_payloads (payloads field rs)
 
 -- the bytes as they were sent, where they mean a message
-abbrev pub sent : {V : Type 0} → (List Record → Result V MessageError) → ℕ → List Record → Result (Option (List ℕ)) MessageError
-sent value_of field rs = embedded value_of field rs >>= λ _. Ok (as_sent field rs)
+abbrev pub sent_bytes : {V : Type 0} → (List Record → Result V MessageError) → ℕ → List Record →
+    Result (Option (List ℕ)) MessageError
+sent_bytes value_of field rs = embedded_value value_of field rs >>= λ _. Ok (bytes_as_sent field rs)

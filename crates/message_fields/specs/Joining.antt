@@ -4,23 +4,27 @@ use Rattle.std.specs.List.{concat}
 use Rattle.protobuf_wire.specs.Results.{◌>>=◌}
 use Rattle.protobuf_wire.specs.Record.{Record}
 use Rattle.message_fields.specs.declared.error.MessageError.{MessageError}
-use Rattle.message_fields.specs.Fields.{parsed, payloads, int32_of, joined_payloads}
+use Rattle.message_fields.specs.Fields.{records_in, payloads, int32_of, joined_payloads}
 
 -- the records so far, and those of one more payload
 abbrev pub with_records : Option (List Record) → List ℕ → Result (List Record) MessageError
-with_records so_far payload = parsed payload >>= λ rs. Ok (unwrap_or so_far [] ++ rs)
+with_records so_far payload = records_in payload >>= λ rs. Ok (unwrap_or so_far [] ++ rs)
 
-unfoldable pub joined_records : Option (List Record) → List (List ℕ) → Result (Option (List Record)) MessageError
+unfoldable pub joined_records : Option (List Record) → List (List ℕ) →
+    Result (Option (List Record)) MessageError
 joined_records so_far [] = Ok so_far
 joined_records so_far (b ∷ bs) = with_records so_far b >>= λ rs. joined_records (Some rs) bs
 
-abbrev pub optional : {V : Type 0} → (List Record → Result V MessageError) → Option (List Record) → Result (Option V) MessageError
-optional value_of None = Ok None
-optional value_of (Some rs) = value_of rs >>= λ v. Ok (Some v)
+abbrev pub optional_value : {V : Type 0} → (List Record → Result V MessageError) →
+    Option (List Record) → Result (Option V) MessageError
+optional_value value_of None = Ok None
+optional_value value_of (Some rs) = value_of rs >>= λ v. Ok (Some v)
 
 -- an embedded message by way of its payloads' records joined
-abbrev pub embedded_joined : {V : Type 0} → (List Record → Result V MessageError) → ℕ → List Record → Result (Option V) MessageError
-embedded_joined value_of field rs = joined_records None (payloads field rs) >>= optional value_of
+abbrev pub embedded_value_by_records : {V : Type 0} → (List Record → Result V MessageError) → ℕ →
+    List Record → Result (Option V) MessageError
+embedded_value_by_records value_of field rs =
+    joined_records None (payloads field rs) >>= optional_value value_of
 
 -- the bytes so far, and those of more payloads
 abbrev pub payloads_after : Option (List ℕ) → List (List ℕ) → Option (List ℕ)

@@ -5,10 +5,10 @@
 ghost use Rattle.std.specs.Prelude.{◌≡◌, ◌≢◌, ℕ, List, [], Result, Ok, Err, Option, None, Some, map, option_map, length, ◌++◌, ◌∷◌, IfOk};
 ghost use Rattle.std.specs.Option.{option_copied};
 ghost use Rattle.protobuf_wire.specs.Reading.{numbers_of};
-ghost use Rattle.protobuf_wire.specs.Shown.{view};
+ghost use Rattle.protobuf_wire.specs.Shown.{record_shown};
 ghost use Rattle.message_fields.specs.declared.error.MessageError.TheVariants.{NoMemory};
-ghost use Rattle.message_fields.specs.Answers.{Means, lifted};
-ghost use Rattle.message_fields.specs.Fields.{parsed, number_in, payload_in, numbers, payloads, last_or, utf8, repeated_string, repeated_octets, string, octets, int64, int32, int32_of, flag, repeated_enum, record_numbers, as_sent};
+ghost use Rattle.message_fields.specs.Answers.{Means, of_wire};
+ghost use Rattle.message_fields.specs.Fields.{records_in, number_in, payload_in, numbers, payloads, last_or, utf8, repeated_string, repeated_octets, string, octets, int64, int32, int32_of, flag, repeated_enum, record_numbers, bytes_as_sent};
 ghost use Rattle.message_fields.specs.Joining.{with_records, joined_records, with_numbers, payloads_after};
 
 use crate::error::MessageError;
@@ -16,9 +16,9 @@ use protobuf_wire::{Content, Field, PackedReader, Reader};
 use std::alloc::{AllocError, Global};
 
 /// The records that a text spells.
-#[tactic(auto, unfolding(crate::specs::Fields::parsed))]
+#[tactic(auto, unfolding(crate::specs::Fields::records_in))]
 pub fn fields_of<'a>(alloc: Global, text: &'a [u8]) -> Result<Vec<Field<'a>>, MessageError>
-    ensures { Means (λ v. map view v.items) result (parsed text.now) }
+    ensures { Means (λ v. map record_shown v.items) result (records_in text.now) }
 {
     let mut fields = Vec::new(alloc);
     let mut reader = Reader::new(text);
@@ -29,7 +29,7 @@ pub fn fields_of<'a>(alloc: Global, text: &'a [u8]) -> Result<Vec<Field<'a>>, Me
 }
 
 fn number_of(entry: &Field<'_>, field: u32) -> Option<u64>
-    ensures { result ≡ number_in field (view entry.now) }
+    ensures { result ≡ number_in field (record_shown entry.now) }
 {
     match entry.content {
         Content::Varint(number) if entry.number == field => Some(number),
@@ -39,7 +39,7 @@ fn number_of(entry: &Field<'_>, field: u32) -> Option<u64>
 
 /// The payload of a record, where it is one of this field.
 pub fn payload_of<'a>(entry: &Field<'a>, field: u32) -> Option<&'a [u8]>
-    ensures { option_copied result ≡ payload_in field (view entry.now) }
+    ensures { option_copied result ≡ payload_in field (record_shown entry.now) }
 {
     match entry.content {
         Content::Bytes(payload) if entry.number == field => Some(payload),
@@ -49,7 +49,7 @@ pub fn payload_of<'a>(entry: &Field<'a>, field: u32) -> Option<&'a [u8]>
 
 #[tactic(auto, unfolding(crate::specs::Fields::numbers, crate::specs::Fields::last_or))]
 fn number(records: &[Field<'_>], field: u32) -> u64
-    ensures { result ≡ last_or 0 (numbers field (map view records.now)) }
+    ensures { result ≡ last_or 0 (numbers field (map record_shown records.now)) }
 {
     let mut last = 0;
     let mut left = records;
@@ -64,7 +64,7 @@ fn number(records: &[Field<'_>], field: u32) -> u64
 
 /// An `int64`: all 64 bits of the last number, or 0.
 pub fn int64(records: &[Field<'_>], field: u32) -> i64
-    ensures { result ≡ int64 field (map view records.now) }
+    ensures { result ≡ int64 field (map record_shown records.now) }
 {
     number(records, field).cast_signed()
 }
@@ -77,14 +77,14 @@ fn low_half(number: u64) -> i32
 
 /// An `int32` or an enum: the low 32 bits of the last number, with a sign, or 0.
 pub fn int32(records: &[Field<'_>], field: u32) -> i32
-    ensures { result ≡ int32 field (map view records.now) }
+    ensures { result ≡ int32 field (map record_shown records.now) }
 {
     low_half(number(records, field))
 }
 
 /// A `bool`: whether the last number is not 0.
 pub fn flag(records: &[Field<'_>], field: u32) -> bool
-    ensures { result ≡ flag field (map view records.now) }
+    ensures { result ≡ flag field (map record_shown records.now) }
 {
     number(records, field) > 0
 }
@@ -92,7 +92,7 @@ pub fn flag(records: &[Field<'_>], field: u32) -> bool
 /// A `bytes`: the last payload, or an empty one.
 #[tactic(auto, unfolding(crate::specs::Fields::payloads, crate::specs::Fields::last_or))]
 pub fn octets<'a>(records: &[Field<'a>], field: u32) -> &'a [u8]
-    ensures { result.now ≡ octets field (map view records.now) }
+    ensures { result.now ≡ octets field (map record_shown records.now) }
 {
     let mut last: &[u8] = &[];
     let mut left = records;
@@ -118,7 +118,7 @@ fn text_of<'a>(payload: &'a [u8]) -> Result<&'a str, MessageError>
 /// A `string`: the last payload, or an empty one. Each of them is UTF-8.
 #[tactic(auto, unfolding(crate::specs::Fields::payloads, crate::specs::Fields::last_or, crate::specs::Fields::each_of), using(crate::proofs::Lists::last_after_next))]
 pub fn string<'a>(records: &[Field<'a>], field: u32) -> Result<&'a str, MessageError>
-    ensures meaning { Means (λ s. s.now) result (string field (map view records.now)) }
+    ensures meaning { Means (λ s. s.now) result (string field (map record_shown records.now)) }
     ensures takes_no_memory { result ≢ Err NoMemory }
 {
     let mut last = "";
@@ -140,7 +140,7 @@ pub fn repeated_string<'a>(
     field: u32,
 ) -> Result<Vec<&'a str>, MessageError>
     ensures { Means (λ v. map (λ s. s.now) v.items) result
-        (repeated_string field (map view records.now)) }
+        (repeated_string field (map record_shown records.now)) }
 {
     let mut texts = Vec::new(alloc);
     let mut left = records;
@@ -161,7 +161,7 @@ pub fn repeated_octets<'a>(
     field: u32,
 ) -> Result<Vec<&'a [u8]>, AllocError>
     ensures { IfOk result (λ v. map (λ b. b.now) v.items
-        ≡ repeated_octets field (map view records.now)) }
+        ≡ repeated_octets field (map record_shown records.now)) }
 {
     let mut all = Vec::new(alloc);
     let mut left = records;
@@ -177,7 +177,7 @@ pub fn repeated_octets<'a>(
 /// Adds the numbers of a packed field's payload, each as an enum.
 fn add_packed(values: &mut Vec<i32>, payload: &[u8]) -> Result<(), MessageError>
     ensures { Means (λ _. values.new.items) result
-        (with_numbers values.old.items (lifted (numbers_of payload.now))) }
+        (with_numbers values.old.items (of_wire (numbers_of payload.now))) }
 {
     let mut numbers = PackedReader::new(payload);
     while let Some(number) = numbers.next()? {
@@ -189,7 +189,7 @@ fn add_packed(values: &mut Vec<i32>, payload: &[u8]) -> Result<(), MessageError>
 /// Adds the numbers of one record, which holds one by itself or several packed.
 fn add_numbers(values: &mut Vec<i32>, entry: &Field<'_>, field: u32) -> Result<(), MessageError>
     ensures { Means (λ _. values.new.items) result
-        (with_numbers values.old.items (record_numbers field (view entry.now))) }
+        (with_numbers values.old.items (record_numbers field (record_shown entry.now))) }
 {
     if entry.number != field {
         return Ok(());
@@ -205,13 +205,13 @@ fn add_numbers(values: &mut Vec<i32>, entry: &Field<'_>, field: u32) -> Result<(
 }
 
 /// A repeated enum: the numbers of all records in order, whether packed or one by one.
-#[tactic(auto, unfolding(crate::specs::Fields::each_of, crate::specs::Fields::joined))]
+#[tactic(auto, unfolding(crate::specs::Fields::each_of, crate::specs::Fields::concatenation))]
 pub fn repeated_enum(
     alloc: Global,
     records: &[Field<'_>],
     field: u32,
 ) -> Result<Vec<i32>, MessageError>
-    ensures { Means (λ v. v.items) result (repeated_enum field (map view records.now)) }
+    ensures { Means (λ v. v.items) result (repeated_enum field (map record_shown records.now)) }
 {
     let mut values = Vec::new(alloc);
     let mut left = records;
@@ -227,8 +227,8 @@ fn with_payload<'a>(
     joined: Option<Vec<Field<'a>>>,
     payload: &'a [u8],
 ) -> Result<Vec<Field<'a>>, MessageError>
-    ensures { Means (λ v. map view v.items) result
-        (with_records (option_map (λ v. map view v.items) joined.entry) payload.now) }
+    ensures { Means (λ v. map record_shown v.items) result
+        (with_records (option_map (λ v. map record_shown v.items) joined.entry) payload.now) }
 {
     let mut more = fields_of(alloc, payload)?;
     match joined {
@@ -247,8 +247,8 @@ pub fn joined<'a>(
     records: &[Field<'a>],
     field: u32,
 ) -> Result<Option<Vec<Field<'a>>>, MessageError>
-    ensures { Means (option_map (λ v. map view v.items)) result
-        (joined_records None (payloads field (map view records.now))) }
+    ensures { Means (option_map (λ v. map record_shown v.items)) result
+        (joined_records None (payloads field (map record_shown records.now))) }
 {
     let mut joined = None;
     let mut left = records;
@@ -280,7 +280,7 @@ pub fn as_sent(
     field: u32,
 ) -> Result<Option<Vec<u8>>, AllocError>
     ensures { IfOk result (λ sent. option_map (λ v. v.items) sent
-        ≡ as_sent field (map view records.now)) }
+        ≡ bytes_as_sent field (map record_shown records.now)) }
 {
     let mut joined = None;
     let mut left = records;

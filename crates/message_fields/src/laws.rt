@@ -6,7 +6,7 @@ ghost use Rattle.std.specs.List.{AllByRecursion, concat};
 ghost use Rattle.std.specs.Str.{is_utf8};
 ghost use Rattle.protobuf_wire.specs.Record.{Record};
 ghost use Rattle.protobuf_wire.specs.Writing.{bytes_field};
-ghost use Rattle.message_fields.specs.Fields.{decoded, int64, int32, flag, octets, string, repeated_string, repeated_octets, repeated_enum, embedded, repeated, sent};
+ghost use Rattle.message_fields.specs.Fields.{value_of_text, int64, int32, flag, octets, string, repeated_string, repeated_octets, repeated_enum, embedded_value, repeated_values, sent_bytes};
 ghost use Rattle.message_fields.specs.Parts.{int64_field, int32_field, flag_field, string_field, repeated_string_field, repeated_octets_field, repeated_enum_field, embedded_field, repeated_field, sent_field};
 ghost use Rattle.message_fields.specs.Again.{HasField, IsReadAgain};
 
@@ -39,15 +39,15 @@ pub fn a_message_field_is_read_again<'a, M: Message<'a>>()
     ensures set { (field : ℕ) (v : M.Value) (rs : List Record) →
         IsReadAgain M.value_of M.records_for v →
         HasField field (embedded_field M.records_for field (Some v)) rs →
-        embedded M.value_of field rs ≡ Ok (Some v) }
+        embedded_value M.value_of field rs ≡ Ok (Some v) }
     ensures absent { (field : ℕ) (rs : List Record) →
         HasField field (embedded_field M.records_for field None) rs →
-        embedded M.value_of field rs ≡ Ok None }
+        embedded_value M.value_of field rs ≡ Ok None }
     ensures repeated { (field : ℕ) (vs : List M.Value) (rs : List Record) →
         AllByRecursion (IsReadAgain M.value_of M.records_for) vs →
         HasField field (repeated_field M.records_for field vs) rs →
-        repeated M.value_of field rs ≡ Ok vs }
+        repeated_values M.value_of field rs ≡ Ok vs }
     ensures sent { (field : ℕ) (o : Option (List ℕ)) (rs : List Record) →
-        IfSome o (λ t. IsOk (decoded M.value_of t)) → HasField field (sent_field field o) rs →
-        sent M.value_of field rs ≡ Ok o }
+        IfSome o (λ t. IsOk (value_of_text M.value_of t)) → HasField field (sent_field field o) rs →
+        sent_bytes M.value_of field rs ≡ Ok o }
 {}

@@ -1,14 +1,14 @@
 //! A message as a function of its records.
 
 ghost use Rattle.std.specs.Prelude.{◌≡◌, ◌<◌, ◌^◌, ℕ, List, [], Result, Ok, Err, Option, None, Some, map, option_map, length, ◌++◌, OnOk, OnErr};
-ghost use Rattle.protobuf_wire.specs.Writing.{text, message_field};
+ghost use Rattle.protobuf_wire.specs.Writing.{records_text, message_field};
 ghost use Rattle.protobuf_wire.specs.Record.{Record};
-ghost use Rattle.protobuf_wire.specs.Shown.{view};
+ghost use Rattle.protobuf_wire.specs.Shown.{record_shown};
 ghost use Rattle.message_fields.specs.declared.error.MessageError.{MessageError};
 ghost use Rattle.message_fields.specs.Answers.{Means};
-ghost use Rattle.message_fields.specs.Fields.{parsed, decoded, embedded, repeated, payloads, sent};
+ghost use Rattle.message_fields.specs.Fields.{records_in, value_of_text, embedded_value, repeated_values, payloads, sent_bytes};
 ghost use Rattle.message_fields.specs.Parts.{text_for, embedded_field, repeated_field};
-ghost use Rattle.message_fields.specs.Joining.{embedded_joined};
+ghost use Rattle.message_fields.specs.Joining.{embedded_value_by_records};
 
 use crate::error::MessageError;
 use crate::fields::{as_sent, fields_of, joined, payload_of};
@@ -30,11 +30,12 @@ pub trait Message<'a>: Sized + Drop {
 
     /// The message that records mean.
     fn of_fields(alloc: Global, fields: &[Field<'a>]) -> Result<Self, MessageError>
-        ensures { Means shown result (value_of (map view fields.now)) };
+        ensures { Means shown result (value_of (map record_shown fields.now)) };
 
     /// Adds the message's records, by rising field numbers.
     fn write(&self, writer: &mut Writer) -> Result<(), AllocError>
-        ensures { OnOk result (writer.new ≡ writer.old ++ text (records_for (shown self.now))) };
+        ensures { OnOk result (writer.new ≡ writer.old
+            ++ records_text (records_for (shown self.now))) };
 
     /// Adds the canonical text of the message. A refused vector is as before.
     final fn encode_into(&self, out: &mut Vec<u8>) -> Result<(), AllocError>
@@ -53,7 +54,7 @@ pub trait Message<'a>: Sized + Drop {
     /// fault of the records is answered and not a string that is not UTF-8. Memory is taken for
     /// the list of records and for repeated fields; strings and bytes lie in `text`.
     final fn decode(alloc: Global, text: &'a [u8]) -> Result<Self, MessageError>
-        ensures { Means shown result (decoded value_of text.now) }
+        ensures { Means shown result (value_of_text value_of text.now) }
     {
         let fields = fields_of(alloc, text)?;
         Self::of_fields(alloc, &fields)
@@ -66,7 +67,7 @@ fn one_of_joined<'a, M: Message<'a>>(
     field: u32,
 ) -> Result<Option<M>, MessageError>
     ensures { Means (option_map M.shown) result
-        (embedded_joined M.value_of field (map view records.now)) }
+        (embedded_value_by_records M.value_of field (map record_shown records.now)) }
 {
     match joined(alloc, records, field)? {
         None => Ok(None),
@@ -81,7 +82,8 @@ pub fn embedded<'a, M: Message<'a>>(
     records: &[Field<'a>],
     field: u32,
 ) -> Result<Option<M>, MessageError>
-    ensures { Means (option_map M.shown) result (embedded M.value_of field (map view records.now)) }
+    ensures { Means (option_map M.shown) result
+        (embedded_value M.value_of field (map record_shown records.now)) }
 {
     one_of_joined(alloc, records, field)
 }
@@ -94,7 +96,7 @@ pub fn sent<'a, M: Message<'a>>(
     field: u32,
 ) -> Result<Option<Vec<u8>>, MessageError>
     ensures { Means (option_map (λ v. v.items)) result
-        (sent M.value_of field (map view records.now)) }
+        (sent_bytes M.value_of field (map record_shown records.now)) }
 {
     let _message: Option<M> = embedded(alloc, records, field)?;
     Ok(as_sent(alloc, records, field)?)
@@ -108,7 +110,7 @@ pub fn repeated<'a, M: Message<'a>>(
     field: u32,
 ) -> Result<Vec<M>, MessageError>
     ensures { Means (λ v. map M.shown v.items) result
-        (repeated M.value_of field (map view records.now)) }
+        (repeated_values M.value_of field (map record_shown records.now)) }
 {
     let mut messages = Vec::new(alloc);
     let mut left = records;
@@ -129,7 +131,7 @@ fn put_message<'a, M: Message<'a>>(
     requires positive { 0 < field }
     requires small { field < 2 ^ 29 }
     ensures { OnOk result (writer.new ≡ writer.old
-        ++ text (message_field field (text_for M.records_for (M.shown message.now)))) }
+        ++ records_text (message_field field (text_for M.records_for (M.shown message.now)))) }
 {
     let mut inner = writer.empty();
     message.write(&mut inner)?;
@@ -145,7 +147,7 @@ pub fn put_embedded<'a, M: Message<'a>>(
     requires positive { 0 < field }
     requires small { field < 2 ^ 29 }
     ensures { OnOk result (writer.new ≡ writer.old
-        ++ text (embedded_field M.records_for field (option_map M.shown message.now))) }
+        ++ records_text (embedded_field M.records_for field (option_map M.shown message.now))) }
 {
     match message {
         None => Ok(()),
@@ -162,7 +164,7 @@ pub fn put_repeated<'a, M: Message<'a>>(
     requires positive { 0 < field }
     requires small { field < 2 ^ 29 }
     ensures { OnOk result (writer.new ≡ writer.old
-        ++ text (repeated_field M.records_for field (map M.shown messages.now))) }
+        ++ records_text (repeated_field M.records_for field (map M.shown messages.now))) }
 {
     for message in messages {
         put_message(writer, field, message)?;

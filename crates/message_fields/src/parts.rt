@@ -1,7 +1,7 @@
 //! Writing a field: a call for each kind of field. A default is left out.
 
 ghost use Rattle.std.specs.Prelude.{◌≡◌, ◌<◌, ◌^◌, ℕ, List, map, option_map, ◌++◌, OnOk};
-ghost use Rattle.protobuf_wire.specs.Writing.{text, bytes_field};
+ghost use Rattle.protobuf_wire.specs.Writing.{records_text, bytes_field};
 ghost use Rattle.message_fields.specs.Parts.{int64_field, int32_field, flag_field, string_field, repeated_enum_field, repeated_octets_field, repeated_string_field, sent_field};
 
 use protobuf_wire::Writer;
@@ -11,7 +11,7 @@ use std::alloc::AllocError;
 pub fn put_int64(writer: &mut Writer, field: u32, value: i64) -> Result<(), AllocError>
     requires positive { 0 < field }
     requires small { field < 2 ^ 29 }
-    ensures { OnOk result (writer.new ≡ writer.old ++ text (int64_field field value)) }
+    ensures { OnOk result (writer.new ≡ writer.old ++ records_text (int64_field field value)) }
 {
     writer.varint(field, value.cast_unsigned())
 }
@@ -20,7 +20,7 @@ pub fn put_int64(writer: &mut Writer, field: u32, value: i64) -> Result<(), Allo
 pub fn put_int32(writer: &mut Writer, field: u32, value: i32) -> Result<(), AllocError>
     requires positive { 0 < field }
     requires small { field < 2 ^ 29 }
-    ensures { OnOk result (writer.new ≡ writer.old ++ text (int32_field field value)) }
+    ensures { OnOk result (writer.new ≡ writer.old ++ records_text (int32_field field value)) }
 {
     writer.varint(field, i64::from(value).cast_unsigned())
 }
@@ -29,7 +29,7 @@ pub fn put_int32(writer: &mut Writer, field: u32, value: i32) -> Result<(), Allo
 pub fn put_flag(writer: &mut Writer, field: u32, value: bool) -> Result<(), AllocError>
     requires positive { 0 < field }
     requires small { field < 2 ^ 29 }
-    ensures { OnOk result (writer.new ≡ writer.old ++ text (flag_field field value)) }
+    ensures { OnOk result (writer.new ≡ writer.old ++ records_text (flag_field field value)) }
 {
     writer.varint(field, u64::from(value))
 }
@@ -38,7 +38,7 @@ pub fn put_flag(writer: &mut Writer, field: u32, value: bool) -> Result<(), Allo
 pub fn put_octets(writer: &mut Writer, field: u32, value: &[u8]) -> Result<(), AllocError>
     requires positive { 0 < field }
     requires small { field < 2 ^ 29 }
-    ensures { OnOk result (writer.new ≡ writer.old ++ text (bytes_field field value.now)) }
+    ensures { OnOk result (writer.new ≡ writer.old ++ records_text (bytes_field field value.now)) }
 {
     writer.bytes(field, value)
 }
@@ -47,7 +47,7 @@ pub fn put_octets(writer: &mut Writer, field: u32, value: &[u8]) -> Result<(), A
 pub fn put_string(writer: &mut Writer, field: u32, value: &str) -> Result<(), AllocError>
     requires positive { 0 < field }
     requires small { field < 2 ^ 29 }
-    ensures { OnOk result (writer.new ≡ writer.old ++ text (string_field field value.now)) }
+    ensures { OnOk result (writer.new ≡ writer.old ++ records_text (string_field field value.now)) }
 {
     writer.bytes(field, value.as_bytes())
 }
@@ -61,7 +61,7 @@ pub fn put_repeated_string(
     requires positive { 0 < field }
     requires small { field < 2 ^ 29 }
     ensures { OnOk result (writer.new ≡ writer.old
-        ++ text (repeated_string_field field (map (λ s. s.now) values.now))) }
+        ++ records_text (repeated_string_field field (map (λ s. s.now) values.now))) }
 {
     for value in values {
         writer.message(field, value.as_bytes())?;
@@ -78,7 +78,7 @@ pub fn put_repeated_octets(
     requires positive { 0 < field }
     requires small { field < 2 ^ 29 }
     ensures { OnOk result (writer.new ≡ writer.old
-        ++ text (repeated_octets_field field (map (λ b. b.now) values.now))) }
+        ++ records_text (repeated_octets_field field (map (λ b. b.now) values.now))) }
 {
     for value in values {
         writer.message(field, value)?;
@@ -95,7 +95,7 @@ pub fn put_sent(
     requires positive { 0 < field }
     requires small { field < 2 ^ 29 }
     ensures { OnOk result (writer.new ≡ writer.old
-        ++ text (sent_field field (option_map (λ v. v.items) message.now))) }
+        ++ records_text (sent_field field (option_map (λ v. v.items) message.now))) }
 {
     match message {
         None => Ok(()),
@@ -107,7 +107,8 @@ pub fn put_sent(
 pub fn put_repeated_enum(writer: &mut Writer, field: u32, values: &[i32]) -> Result<(), AllocError>
     requires positive { 0 < field }
     requires small { field < 2 ^ 29 }
-    ensures { OnOk result (writer.new ≡ writer.old ++ text (repeated_enum_field field values.now)) }
+    ensures { OnOk result (writer.new ≡ writer.old
+        ++ records_text (repeated_enum_field field values.now)) }
 {
     let mut packed = writer.empty();
     for value in values {

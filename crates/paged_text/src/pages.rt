@@ -1,7 +1,7 @@
 //! Pages of any size.
 
 ghost use Rattle.std.specs.Prelude.{◌≡◌, ◌+◌, ◌<◌, ◌≤◌, ◌↔◌, ◌++◌, [], length, map, IsTrue, IfOk, OnOk, OnErr};
-ghost use Rattle.paged_text.specs.Pages.{joined, ArePages, part_of, page_at, bytes_of};
+ghost use Rattle.paged_text.specs.Pages.{text_of_pages, ArePages, part_of, page_at, page_content};
 
 use std::alloc::{AllocError, Global};
 use std::mem;
@@ -15,9 +15,11 @@ fn cut(
 ) -> Result<Vec<u8>, AllocError>
     requires size { 0 < size }
     requires empty { pages.old.items ≡ [] }
-    ensures joined { IfOk result (λ rest. joined (map bytes_of pages.new.items) rest.items
+    ensures joined { IfOk result (λ rest. text_of_pages
+        (map page_content pages.new.items) rest.items
         ≡ bytes.now) }
-    ensures pages { IfOk result (λ rest. ArePages size (map bytes_of pages.new.items) rest.items) }
+    ensures pages { IfOk result (λ rest. ArePages size
+        (map page_content pages.new.items) rest.items) }
 {
     let mut left = bytes;
     'pages: while left.len() >= size {
@@ -37,12 +39,12 @@ pub fn fill(
     size: usize,
     bytes: &[u8],
 ) -> Result<(), AllocError>
-    requires { ArePages size (map bytes_of full.old.items) last.old.items }
-    ensures ok { OnOk result (joined (map bytes_of full.new.items) last.new.items
-        ≡ joined (map bytes_of full.old.items) last.old.items ++ bytes.now) }
-    ensures err { OnErr result (joined (map bytes_of full.new.items) last.new.items
-        ≡ joined (map bytes_of full.old.items) last.old.items) }
-    ensures pages { ArePages size (map bytes_of full.new.items) last.new.items }
+    requires { ArePages size (map page_content full.old.items) last.old.items }
+    ensures ok { OnOk result (text_of_pages (map page_content full.new.items) last.new.items
+        ≡ text_of_pages (map page_content full.old.items) last.old.items ++ bytes.now) }
+    ensures err { OnErr result (text_of_pages (map page_content full.new.items) last.new.items
+        ≡ text_of_pages (map page_content full.old.items) last.old.items) }
+    ensures pages { ArePages size (map page_content full.new.items) last.new.items }
 {
     let room = size - last.len();
     if bytes.len() < room {
@@ -61,7 +63,7 @@ pub fn fill(
 
 /// The page of this number, or the rest behind all pages.
 fn page_at<'a>(full: &'a [Vec<u8>], last: &'a [u8], number: usize) -> &'a [u8]
-    ensures { result.now ≡ page_at (map bytes_of full.now) last.now number }
+    ensures { result.now ≡ page_at (map page_content full.now) last.now number }
 {
     if number < full.len() {
         full[number].as_slice()
@@ -80,8 +82,9 @@ pub fn part_of<'a>(
     from: usize,
     most: usize,
 ) -> &'a [u8]
-    requires { ArePages size (map bytes_of full.now) last.now }
-    ensures { result.now ≡ part_of size (joined (map bytes_of full.now) last.now) from most }
+    requires { ArePages size (map page_content full.now) last.now }
+    ensures { result.now ≡ part_of size
+        (text_of_pages (map page_content full.now) last.now) from most }
 {
     let bytes = page_at(full, last, from / size);
     let start = from % size;
@@ -98,7 +101,7 @@ pub fn part_of<'a>(
 
 /// Whether two lists of pages have the same bytes.
 fn same_pages(pages: &[Vec<u8>], others: &[Vec<u8>]) -> bool
-    ensures { IsTrue result ↔ (map bytes_of pages.now ≡ map bytes_of others.now) }
+    ensures { IsTrue result ↔ (map page_content pages.now ≡ map page_content others.now) }
 {
     let mut left = pages;
     let mut left_others = others;
@@ -123,10 +126,10 @@ pub fn are_same(
     other_last: &[u8],
     size: usize,
 ) -> bool
-    requires pages { ArePages size (map bytes_of full.now) last.now }
-    requires other_pages { ArePages size (map bytes_of other_full.now) other_last.now }
-    ensures { IsTrue result ↔ (joined (map bytes_of full.now) last.now
-        ≡ joined (map bytes_of other_full.now) other_last.now) }
+    requires pages { ArePages size (map page_content full.now) last.now }
+    requires other_pages { ArePages size (map page_content other_full.now) other_last.now }
+    ensures { IsTrue result ↔ (text_of_pages (map page_content full.now) last.now
+        ≡ text_of_pages (map page_content other_full.now) other_last.now) }
 {
     last == other_last && same_pages(full, other_full)
 }
@@ -138,9 +141,9 @@ pub fn append_all(
     len: usize,
     into: &mut Vec<u8>,
 ) -> Result<(), AllocError>
-    requires { len ≡ length (joined (map bytes_of full.now) last.now) }
+    requires { len ≡ length (text_of_pages (map page_content full.now) last.now) }
     ensures ok { OnOk result (into.new.items
-        ≡ into.old.items ++ joined (map bytes_of full.now) last.now) }
+        ≡ into.old.items ++ text_of_pages (map page_content full.now) last.now) }
     ensures err { OnErr result (into.new.items ≡ into.old.items) }
 {
     into.reserve(len)?;

@@ -1,9 +1,9 @@
 -- What an instance's doings leave of another's.
 use Rattle.std.proofs.Common.{◌≡◌, ℕ, ◌+◌, ◌≤◌, List, [], length, refl, sym, subst, arith}
-use Rattle.blob_pool.specs.Held.{Slots, count_at}
+use Rattle.blob_pool.specs.Slots.{Slots, count_at}
 use Rattle.blob_pool.specs.Moves.{Moves}
 use Rattle.instance_view.specs.Visible.{Blob}
-use Rattle.instance_view.specs.Shown.{ViewValue, shown, holders}
+use Rattle.instance_view.specs.Shown.{ViewValue, visible_in, holders}
 use Rattle.instance_view.proofs.Held.{shown_apart, holders-few}
 use Rattle.quota_evict.specs.Within.{Within}
 use Rattle.quota_evict.specs.Kept.{AreKept}
@@ -32,7 +32,7 @@ pub beside_after : (quota : ℕ) (p q : Slots) (v w x : ViewValue) → AreBeside
 beside_after quota p q v w x b limit kept m =
     let exact : (k : ℕ) → count_at q k ≡ holders x k + holders w k = λ k. omega (arith, m.counts k, b.exact k) in
     let few : length x.entries ≤ 65536 = omega (arith, entries_fit quota q x kept, limit, b.first_limit) in
-    let same : shown q w ≡ shown p w = shown_apart p q w.entries (holders v) (holders x) m (λ k. omega (arith, b.exact k)) in
+    let same : visible_in q w ≡ visible_in p w = shown_apart p q w.entries (holders v) (holders x) m (λ k. omega (arith, b.exact k)) in
     record {
       exact = exact;
       first = kept;

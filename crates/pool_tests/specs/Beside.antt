@@ -1,6 +1,6 @@
 -- Two instances over one pool.
 use Rattle.std.specs.Prelude.{◌≡◌, ℕ, ◌+◌, ◌≤◌}
-use Rattle.blob_pool.specs.Held.{Slots, count_at}
+use Rattle.blob_pool.specs.Slots.{Slots, count_at}
 use Rattle.instance_view.specs.Shown.{ViewValue, holders}
 use Rattle.quota_evict.specs.Kept.{AreKept}
 

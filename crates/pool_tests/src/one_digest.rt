@@ -1,6 +1,6 @@
 ghost use Rattle.std.specs.Prelude.{◌≡◌, ◌<◌, ◌≤◌, ◌^◌, length, IfOk};
-ghost use Rattle.blob_pool.specs.Held.{count_at};
-ghost use Rattle.blob_pool.specs.Moves.{Moves, HasRoom, nobody, one_at};
+ghost use Rattle.blob_pool.specs.Slots.{count_at};
+ghost use Rattle.blob_pool.specs.Moves.{Moves, HasRoom, no_holders, one_at};
 
 use crate::texts::is_read;
 use blob_pool::{Draft, Kept, Pool, keep};
@@ -16,7 +16,7 @@ fn hold_beside(
 ) -> Result<(bool, Kept), AllocError>
     requires room { HasRoom pool.old }
     requires most { length text.now ≤ 2 ^ 48 }
-    ensures { IfOk result (λ held. Moves pool.old pool.new nobody (one_at held.1)) }
+    ensures { IfOk result (λ held. Moves pool.old pool.new no_holders (one_at held.1)) }
 {
     let mut draft = Draft::new(alloc);
     draft.push(text)?;
@@ -35,7 +35,7 @@ fn is_given_back(
     text: &[u8],
 ) -> Result<bool, AllocError>
     requires { 0 < count_at pool.old kept }
-    ensures { Moves pool.old pool.new (one_at kept) nobody }
+    ensures { Moves pool.old pool.new (one_at kept) no_holders }
 {
     let hold = pool.back(kept);
     let is_read = is_read(alloc, pool, &hold, text);

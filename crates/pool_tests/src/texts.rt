@@ -1,5 +1,5 @@
 ghost use Rattle.std.specs.Prelude.{◌≡◌, ◌<◌, ◌+◌, ◌≤◌, ◌^◌, length, true};
-ghost use Rattle.blob_pool.specs.Held.{count_at};
+ghost use Rattle.blob_pool.specs.Slots.{count_at};
 
 use blob_pool::{Draft, Hold, Pool};
 use digest::Digest;

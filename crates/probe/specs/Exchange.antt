@@ -16,12 +16,14 @@ IsSent all rest before after = (sent : List ℕ) × (all ≡ sent ++ rest) × Ap
 
 -- the bytes that were taken were added
 abbrev pub IsReceived : List ℕ → List ℕ → Option (List ℕ) → Option (List ℕ) → Type 0
-IsReceived old new before after = (bytes : List ℕ) × (new ≡ old ++ bytes) × Consumes before after bytes
+IsReceived old new before after =
+    (bytes : List ℕ) × (new ≡ old ++ bytes) × Consumes before after bytes
 
 -- What a status says of what was put to the peer, of what the peer had to give, and of the output,
 -- each before and after. All bytes were sent, as many as were wanted came, and they are shown; or
 -- fewer came, and nothing is shown.
-abbrev pub IsOutcome : Request → Status → (put put_after had had_after out out_after : Option (List ℕ)) → Type 0
+abbrev pub IsOutcome : Request → Status →
+    (put put_after had had_after out out_after : Option (List ℕ)) → Type 0
 IsOutcome request Done put put_after had had_after out out_after =
     Appends put put_after request.bytes.now
     × ((bytes : List ℕ) × (length bytes ≡ request.want) × Consumes had had_after bytes × Appends out out_after (hex_line bytes))

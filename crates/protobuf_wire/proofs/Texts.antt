@@ -8,7 +8,7 @@ use Rattle.std.proofs.lemmas.List.Concat.{flat_map-cons}
 use Rattle.protobuf_wire.specs.Record.{Value, Number, Eight, Payload, Four, Record}
 use Rattle.protobuf_wire.specs.Reading.{record_at, number_at, records_of, numbers_of}
 use Rattle.protobuf_wire.specs.Spelling.{AreGroups, IsVarint, IsContent, IsRecord, Spells, SpellsNumbers, wire_type}
-use Rattle.protobuf_wire.specs.Writing.{varint, content_text, record_text, text, packed_text, FitsContent, IsWritable}
+use Rattle.protobuf_wire.specs.Writing.{varint, content_text, record_text, records_text, packed_text, FitsContent, IsWritable}
 use Rattle.protobuf_wire.proofs.Items.{Reads, spelled_reads, read_spells, sequence_joined}
 use Rattle.protobuf_wire.proofs.Varints.{more_groups}
 use Rattle.protobuf_wire.proofs.Writings.{varint_small, varint_large}
@@ -93,9 +93,9 @@ record_is r h = record {
   filled = content_is r.value h.value;
 }
 
-pub text_spells : (rs : List Record) → AllByRecursion IsWritable rs → Spells (text rs) rs
+pub text_spells : (rs : List Record) → AllByRecursion IsWritable rs → Spells (records_text rs) rs
 text_spells [] h = refl
-text_spells (r ∷ rs) h = (record_text r, text rs, flat_map-cons record_text r rs, record_is r h.0, text_spells rs h.1)
+text_spells (r ∷ rs) h = (record_text r, records_text rs, flat_map-cons record_text r rs, record_is r h.0, text_spells rs h.1)
 
 -- ---- faults
 

@@ -8,7 +8,9 @@ use Rattle.protobuf_wire.specs.Spelling.{IsVarint, Sequence}
 -- a number that ends before its last byte, or that has so many bytes and goes on
 abbrev pub FaultsWithin : ℕ → List ℕ → WireError → Type 0
 FaultsWithin most bytes Truncated = (length bytes < most) × AllByRecursion (λ b. 128 ≤ b) bytes
-FaultsWithin most bytes Overlong = (front : List ℕ) × (rest : List ℕ) × (bytes ≡ front ++ rest) × (length front ≡ most) × AllByRecursion (λ b. 128 ≤ b) front
+FaultsWithin most bytes Overlong =
+    (front : List ℕ) × (rest : List ℕ) × (bytes ≡ front ++ rest) × (length front ≡ most)
+    × AllByRecursion (λ b. 128 ≤ b) front
 FaultsWithin most bytes BadWireType = ⊥
 FaultsWithin most bytes BadField = ⊥
 

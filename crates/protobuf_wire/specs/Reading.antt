@@ -16,7 +16,8 @@ varint_at left (b ∷ bs) =
     else (varint_at (left - 1) bs >>= λ high. Ok ((128 * high.0 + (b - 128)) % 2 ^ 64, high.1)))
 
 abbrev pub bytes_at : ℕ → List ℕ → Result (List ℕ × List ℕ) WireError
-bytes_at count bytes = if nat_lt (length bytes) count then Err Truncated else Ok (take count bytes, drop count bytes)
+bytes_at count bytes =
+    if nat_lt (length bytes) count then Err Truncated else Ok (take count bytes, drop count bytes)
 
 unfoldable pub content_at : ℕ → List ℕ → Result (Value × List ℕ) WireError
 content_at wire_type bytes =
@@ -38,13 +39,16 @@ number_at bytes = varint_at 10 bytes
 -- ---- a whole text
 
 -- one item after another to the end, of which there are at most so many
-unfoldable pub items_in : {A : Type 0} → (List ℕ → Result (A × List ℕ) WireError) → ℕ → List ℕ → Result (List A) WireError
+unfoldable pub items_in : {A : Type 0} → (List ℕ → Result (A × List ℕ) WireError) → ℕ → List ℕ →
+    Result (List A) WireError
 items_in item_at more [] = Ok []
 items_in item_at zero (b ∷ bs) = Ok []
-items_in item_at (suc more) (b ∷ bs) = item_at (b ∷ bs) >>= λ x. items_in item_at more x.1 >>= λ xs. Ok (x.0 ∷ xs)
+items_in item_at (suc more) (b ∷ bs) =
+    item_at (b ∷ bs) >>= λ x. items_in item_at more x.1 >>= λ xs. Ok (x.0 ∷ xs)
 
 -- each item takes a byte at least
-abbrev pub items_of : {A : Type 0} → (List ℕ → Result (A × List ℕ) WireError) → List ℕ → Result (List A) WireError
+abbrev pub items_of : {A : Type 0} → (List ℕ → Result (A × List ℕ) WireError) → List ℕ →
+    Result (List A) WireError
 items_of item_at text = items_in item_at (length text) text
 
 -- the records of a message
@@ -58,27 +62,31 @@ numbers_of payload = items_of number_at payload
 -- ---- one step of a reader, which stands for the text that is left, or for its refusal
 
 -- its answer, and what it stands for then
-abbrev pub answer_of : {A : Type 0} → Result (A × List ℕ) WireError → Result (Option A) WireError × Result (List ℕ) WireError
+abbrev pub answer_of : {A : Type 0} → Result (A × List ℕ) WireError →
+    Result (Option A) WireError × Result (List ℕ) WireError
 answer_of (Ok x) = (Ok (Some x.0), Ok x.1)
 answer_of (Err e) = (Err e, Err e)
 
-abbrev pub step : {A : Type 0} → (List ℕ → Result (A × List ℕ) WireError) → Result (List ℕ) WireError → Result (Option A) WireError × Result (List ℕ) WireError
+abbrev pub step : {A : Type 0} → (List ℕ → Result (A × List ℕ) WireError) →
+    Result (List ℕ) WireError → Result (Option A) WireError × Result (List ℕ) WireError
 step item_at (Err e) = (Err e, Err e)
 step item_at (Ok []) = (Ok None, Ok [])
 step item_at (Ok (b ∷ bs)) = answer_of (item_at (b ∷ bs))
 
 -- the items that are still to come
-abbrev pub items_left : {A : Type 0} → (List ℕ → Result (A × List ℕ) WireError) → Result (List ℕ) WireError → Result (List A) WireError
+abbrev pub items_left : {A : Type 0} → (List ℕ → Result (A × List ℕ) WireError) →
+    Result (List ℕ) WireError → Result (List A) WireError
 items_left item_at (Ok text) = items_of item_at text
 items_left item_at (Err e) = Err e
 
 -- an answer, and what comes after it
-abbrev pub reads_then : {A : Type 0} → Result (Option A) WireError → Result (List A) WireError → Result (List A) WireError
+abbrev pub reads_then : {A : Type 0} → Result (Option A) WireError → Result (List A) WireError →
+    Result (List A) WireError
 reads_then (Ok (Some x)) rest = rest >>= λ xs. Ok (x ∷ xs)
 reads_then (Ok None) rest = Ok []
 reads_then (Err e) rest = Err e
 
 -- how many bytes are left
-abbrev pub bytes_left : Result (List ℕ) WireError → ℕ
-bytes_left (Ok text) = length text
-bytes_left (Err e) = 0
+abbrev pub count_left : Result (List ℕ) WireError → ℕ
+count_left (Ok text) = length text
+count_left (Err e) = 0

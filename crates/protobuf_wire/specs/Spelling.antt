@@ -8,7 +8,8 @@ use Rattle.protobuf_wire.specs.Record.{Value, Number, Eight, Payload, Four, Reco
 abbrev pub AreGroups : List ℕ → ℕ → Type 0
 AreGroups [] n = ⊥
 AreGroups (b ∷ []) n = (b < 128) × (n ≡ b)
-AreGroups (b ∷ c ∷ bs) n = (128 ≤ b) × (high : ℕ) × (n ≡ 128 * high + (b - 128)) × AreGroups (c ∷ bs) high
+AreGroups (b ∷ c ∷ bs) n =
+    (128 ≤ b) × (high : ℕ) × (n ≡ 128 * high + (b - 128)) × AreGroups (c ∷ bs) high
 
 -- at most ten groups; bits past the 64th are dropped
 pub record IsVarint (bytes : List ℕ) (n : ℕ) : Type 0 where
@@ -46,7 +47,9 @@ pub record IsRecord (bytes : List ℕ) (r : Record) : Type 0 where
 -- one item after another, and nothing else
 abbrev pub Sequence : {A : Type 0} → (List ℕ → A → Type 0) → List ℕ → List A → Type 0
 Sequence IsItem text [] = text ≡ []
-Sequence IsItem text (x ∷ xs) = (front : List ℕ) × (rest : List ℕ) × (text ≡ front ++ rest) × IsItem front x × Sequence IsItem rest xs
+Sequence IsItem text (x ∷ xs) =
+    (front : List ℕ) × (rest : List ℕ) × (text ≡ front ++ rest) × IsItem front x
+    × Sequence IsItem rest xs
 
 -- a message
 abbrev pub Spells : List ℕ → List Record → Type 0

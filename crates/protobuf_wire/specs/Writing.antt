@@ -22,8 +22,8 @@ abbrev pub record_text : Record → List ℕ
 record_text r = varint (8 * r.number + wire_type r.value) ++ content_text r.value
 
 -- a message
-abbrev pub text : List Record → List ℕ
-text rs = flat_map record_text rs
+abbrev pub records_text : List Record → List ℕ
+records_text rs = flat_map record_text rs
 
 -- the payload of a packed field
 abbrev pub packed_text : List ℕ → List ℕ

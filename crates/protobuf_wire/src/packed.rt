@@ -3,7 +3,7 @@
 ghost use Rattle.std.specs.Prelude.{◌≡◌, ℕ, List, Result, Ok, Err, ◌<◌, IfOk, IsSome};
 ghost use Rattle.protobuf_wire.specs.declared.field.WireError.{WireError};
 ghost use Rattle.protobuf_wire.specs.Results.{Gives};
-ghost use Rattle.protobuf_wire.specs.Reading.{number_at, step, items_left, reads_then, bytes_left};
+ghost use Rattle.protobuf_wire.specs.Reading.{number_at, step, items_left, reads_then, count_left};
 ghost use Rattle.protobuf_wire.specs.Shown.{state_of};
 
 use crate::field::WireError;
@@ -75,7 +75,7 @@ impl<'a> PackedReader<'a> {
         ensures reads { items_left number_at self.old
             ≡ reads_then result (items_left number_at self.new) }
         ensures shorter { IfOk result (λ number. IsSome number →
-            bytes_left self.new < bytes_left self.old) }
+            count_left self.new < count_left self.old) }
         ensures answer { result ≡ (step number_at self.old).0 }
         ensures after { self.new ≡ (step number_at self.old).1 }
     {

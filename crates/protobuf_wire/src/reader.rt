@@ -3,8 +3,8 @@
 ghost use Rattle.std.specs.Prelude.{◌≡◌, ℕ, List, Result, Ok, Err, ◌<◌, IfOk, IsSome};
 ghost use Rattle.protobuf_wire.specs.declared.field.WireError.{WireError};
 ghost use Rattle.protobuf_wire.specs.Results.{Gives};
-ghost use Rattle.protobuf_wire.specs.Reading.{varint_at, bytes_at, content_at, record_at, step, items_left, reads_then, bytes_left};
-ghost use Rattle.protobuf_wire.specs.Shown.{content_view, view, shown, state_of};
+ghost use Rattle.protobuf_wire.specs.Reading.{varint_at, bytes_at, content_at, record_at, step, items_left, reads_then, count_left};
+ghost use Rattle.protobuf_wire.specs.Shown.{content_shown, record_shown, answer_shown, state_of};
 
 use crate::field::{Content, Field, WireError};
 use std::marker::Model;
@@ -42,7 +42,7 @@ fn split(count: u64, bytes: &[u8]) -> Result<(&[u8], &[u8]), WireError>
 /// The content of this wire type at the front, and what follows it.
 #[tactic(auto, unfolding(crate::specs::Reading::content_at))]
 fn content(wire_type: u64, bytes: &[u8]) -> Result<(Content<'_>, &[u8]), WireError>
-    ensures { Gives (λ x. (content_view x.0, x.1.now)) result (content_at wire_type bytes.now) }
+    ensures { Gives (λ x. (content_shown x.0, x.1.now)) result (content_at wire_type bytes.now) }
 {
     match wire_type {
         0 => {
@@ -68,7 +68,7 @@ fn content(wire_type: u64, bytes: &[u8]) -> Result<(Content<'_>, &[u8]), WireErr
 /// The record at the front, and what follows it.
 #[tactic(auto, unfolding(crate::specs::Reading::record_at))]
 fn record(bytes: &[u8]) -> Result<(Field<'_>, &[u8]), WireError>
-    ensures { Gives (λ x. (view x.0, x.1.now)) result (record_at bytes.now) }
+    ensures { Gives (λ x. (record_shown x.0, x.1.now)) result (record_at bytes.now) }
 {
     let (tag, rest) = varint(10, bytes)?;
     let wire_type = tag % 8;
@@ -116,7 +116,7 @@ impl<'a> Reader<'a> {
     }
 
     fn advance(&mut self) -> Result<Option<Field<'a>>, WireError>
-        ensures answer { shown result ≡ (step record_at self.old).0 }
+        ensures answer { answer_shown result ≡ (step record_at self.old).0 }
         ensures after { self.new ≡ (step record_at self.old).1 }
     {
         if let Some(fault) = self.fault {
@@ -144,10 +144,10 @@ impl<'a> Reader<'a> {
     pub fn next(&mut self) -> Result<Option<Field<'a>>, WireError>
         // The records are those that the text spells, and the end means all of them.
         ensures reads { items_left record_at self.old
-            ≡ reads_then (shown result) (items_left record_at self.new) }
+            ≡ reads_then (answer_shown result) (items_left record_at self.new) }
         ensures shorter { IfOk result (λ field. IsSome field →
-            bytes_left self.new < bytes_left self.old) }
-        ensures answer { shown result ≡ (step record_at self.old).0 }
+            count_left self.new < count_left self.old) }
+        ensures answer { answer_shown result ≡ (step record_at self.old).0 }
         ensures after { self.new ≡ (step record_at self.old).1 }
     {
         self.advance()

@@ -1,7 +1,7 @@
 //! Writing: shortest varints, and no record for a default.
 
 ghost use Rattle.std.specs.Prelude.{◌≡◌, ◌+◌, ◌*◌, ◌^◌, ◌<◌, ◌++◌, ℕ, List, [], take, OnOk, OnErr};
-ghost use Rattle.protobuf_wire.specs.Writing.{varint, text, number_field, bytes_field, message_field, BeginsWith};
+ghost use Rattle.protobuf_wire.specs.Writing.{varint, records_text, number_field, bytes_field, message_field, BeginsWith};
 
 use std::alloc::{AllocError, Global};
 use std::marker::Model;
@@ -27,7 +27,7 @@ fn push_varint(out: &mut Vec<u8>, value: u64) -> Result<(), AllocError>
 fn push_payload(out: &mut Vec<u8>, number: u32, payload: &[u8]) -> Result<(), AllocError>
     requires { number < 2 ^ 29 }
     ensures ok { OnOk result (out.new.items ≡ out.old.items
-        ++ text (message_field number payload.now)) }
+        ++ records_text (message_field number payload.now)) }
     ensures err { OnErr result (BeginsWith out.new.items out.old.items) }
 {
     push_varint(out, u64::from(number) * 8 + 2)?;
@@ -40,7 +40,8 @@ fn push_payload(out: &mut Vec<u8>, number: u32, payload: &[u8]) -> Result<(), Al
 #[tactic(auto, using(crate::proofs::Fronts::begins_itself, crate::proofs::Fronts::begins_more, crate::proofs::Fronts::begins_behind))]
 fn push_number(out: &mut Vec<u8>, number: u32, value: u64) -> Result<(), AllocError>
     requires { number < 2 ^ 29 }
-    ensures ok { OnOk result (out.new.items ≡ out.old.items ++ text (number_field number value)) }
+    ensures ok { OnOk result (out.new.items ≡ out.old.items
+        ++ records_text (number_field number value)) }
     ensures err { OnErr result (BeginsWith out.new.items out.old.items) }
 {
     if value != 0 {
@@ -76,7 +77,7 @@ fn add_varint(out: &mut Vec<u8>, value: u64) -> Result<(), AllocError>
 fn add_payload(out: &mut Vec<u8>, number: u32, payload: &[u8]) -> Result<(), AllocError>
     requires { number < 2 ^ 29 }
     ensures ok { OnOk result (out.new.items ≡ out.old.items
-        ++ text (message_field number payload.now)) }
+        ++ records_text (message_field number payload.now)) }
     ensures err { OnErr result (out.new.items ≡ out.old.items) }
 {
     let length = out.len();
@@ -87,7 +88,8 @@ fn add_payload(out: &mut Vec<u8>, number: u32, payload: &[u8]) -> Result<(), All
 #[tactic(auto, using(crate::proofs::Fronts::begins_back))]
 fn add_number(out: &mut Vec<u8>, number: u32, value: u64) -> Result<(), AllocError>
     requires { number < 2 ^ 29 }
-    ensures ok { OnOk result (out.new.items ≡ out.old.items ++ text (number_field number value)) }
+    ensures ok { OnOk result (out.new.items ≡ out.old.items
+        ++ records_text (number_field number value)) }
     ensures err { OnErr result (out.new.items ≡ out.old.items) }
 {
     let length = out.len();
@@ -130,7 +132,7 @@ impl Writer {
     pub fn varint(&mut self, field: u32, value: u64) -> Result<(), AllocError>
         requires positive { 0 < field }
         requires small { field < 2 ^ 29 }
-        ensures ok { OnOk result (self.new ≡ self.old ++ text (number_field field value)) }
+        ensures ok { OnOk result (self.new ≡ self.old ++ records_text (number_field field value)) }
         ensures err { OnErr result (self.new ≡ self.old) }
     {
         add_number(&mut self.out, field, value)
@@ -140,7 +142,8 @@ impl Writer {
     pub fn bytes(&mut self, field: u32, payload: &[u8]) -> Result<(), AllocError>
         requires positive { 0 < field }
         requires small { field < 2 ^ 29 }
-        ensures ok { OnOk result (self.new ≡ self.old ++ text (bytes_field field payload.now)) }
+        ensures ok { OnOk result (self.new ≡ self.old
+            ++ records_text (bytes_field field payload.now)) }
         ensures err { OnErr result (self.new ≡ self.old) }
     {
         if !payload.is_empty() {
@@ -153,7 +156,8 @@ impl Writer {
     pub fn message(&mut self, field: u32, payload: &[u8]) -> Result<(), AllocError>
         requires positive { 0 < field }
         requires small { field < 2 ^ 29 }
-        ensures ok { OnOk result (self.new ≡ self.old ++ text (message_field field payload.now)) }
+        ensures ok { OnOk result (self.new ≡ self.old
+            ++ records_text (message_field field payload.now)) }
         ensures err { OnErr result (self.new ≡ self.old) }
     {
         add_payload(&mut self.out, field, payload)

@@ -1,4 +1,4 @@
-ghost use Rattle.grpc_sending.specs.Kept.{Look, Fit};
+ghost use Rattle.grpc_sending.specs.StoredSending.{Look, Fit};
 
 use crate::one_byte::OneByte;
 use conn_core::*;

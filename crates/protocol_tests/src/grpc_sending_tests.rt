@@ -1,5 +1,5 @@
 ghost use Rattle.std.specs.Prelude.{◌<◌, ◌^◌, length};
-ghost use Rattle.grpc_sending.specs.Kept.{Look, Fit};
+ghost use Rattle.grpc_sending.specs.StoredSending.{Look, Fit};
 
 use crate::one_byte::OneByte;
 use grpc_calls::{ResponseBlock, Status};

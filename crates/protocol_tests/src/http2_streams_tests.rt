@@ -104,6 +104,6 @@ fn sending(rt: HostRuntime) -> Result<(), Fail> {
     assert!(rt; passed?);
     live_streams_rise();
     other_entries_change_nothing();
-    windows_follow_from_the_diary();
+    windows_follow_from_the_history();
     Ok(())
 }

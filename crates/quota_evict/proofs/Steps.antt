@@ -4,12 +4,12 @@ use Rattle.std.specs.Prelude.{is_some, Option, None}
 use Rattle.std.specs.List.{AllByRecursion}
 use Rattle.digest.specs.declared.Digest.{Digest}
 use Rattle.digest.specs.Naming.{Names}
-use Rattle.blob_pool.specs.Held.{Slots, count_at}
+use Rattle.blob_pool.specs.Slots.{Slots, count_at}
 use Rattle.blob_pool.specs.Moves.{Moves}
 use Rattle.blob_pool.proofs.Moves.{held_after}
-use Rattle.instance_view.specs.Visible.{Blob, seen, used, total, added, without_oldest}
-use Rattle.instance_view.specs.Shown.{Entry, ViewValue, blobs_in, shown, holders, sizes}
-use Rattle.quota_evict.specs.Admission.{longest_front, admitted}
+use Rattle.instance_view.specs.Visible.{Blob, visible_text, visible_after_use, total_length, visible_after_insertion, without_oldest}
+use Rattle.instance_view.specs.Shown.{ViewEntry, ViewValue, blobs_in, visible_in, holders, sizes}
+use Rattle.quota_evict.specs.Admission.{longest_front, visible_after_admission}
 use Rattle.quota_evict.specs.Within.{Within}
 use Rattle.quota_evict.specs.Kept.{AreKept}
 use Rattle.quota_evict.proofs.Limits.{take-all, nothing_within, admitted_new, admitted_within, used_within}
@@ -18,25 +18,25 @@ abbrev IsNamed : Blob → Type 0
 IsNamed b = Names b.0 b.1
 
 -- the sizes of named texts
-pub sizes_named : (p : Slots) (v : ViewValue) → AllByRecursion IsNamed (shown p v) → sizes v.entries ≡ total (shown p v)
+pub sizes_named : (p : Slots) (v : ViewValue) → AllByRecursion IsNamed (visible_in p v) → sizes v.entries ≡ total_length (visible_in p v)
 sizes_named p v h = all p v.entries h where
-  all : (p : Slots) (es : List Entry) → AllByRecursion IsNamed (blobs_in p es) → sizes es ≡ total (blobs_in p es)
+  all : (p : Slots) (es : List ViewEntry) → AllByRecursion IsNamed (blobs_in p es) → sizes es ≡ total_length (blobs_in p es)
   all p [] h = refl
   all p (e ∷ es) h =
       let first = h.0.size in
       let ih = all p es h.1 in
       omega (arith, first, ih)
 
-pub length-shown : (p : Slots) (v : ViewValue) → length (shown p v) ≡ length v.entries
-length-shown p v = all p v.entries where
-  all : (p : Slots) (es : List Entry) → length (blobs_in p es) ≡ length es
+pub length-visible_in : (p : Slots) (v : ViewValue) → length (visible_in p v) ≡ length v.entries
+length-visible_in p v = all p v.entries where
+  all : (p : Slots) (es : List ViewEntry) → length (blobs_in p es) ≡ length es
   all p [] = refl
   all p (e ∷ es) = let ih = all p es in omega (arith, ih)
 
 pub dropped_named : (bs cs : List Blob) → cs ≡ without_oldest bs → AllByRecursion IsNamed bs → AllByRecursion IsNamed cs
 dropped_named bs cs is h = subst (λ (xs : List Blob). AllByRecursion IsNamed xs) (sym is) (take-all IsNamed (length bs - 1) bs h)
 
-pub shorter : (bs cs : List Blob) → cs ≡ without_oldest bs → 0 < total bs → length cs < length bs
+pub shorter : (bs cs : List Blob) → cs ≡ without_oldest bs → 0 < total_length bs → length cs < length bs
 shorter [] cs is some = absurd (omega arith)
 shorter (b ∷ bs) cs is some = rw is (less (length bs) (b ∷ bs) (omega arith)) where
   less : (n : ℕ) (xs : List Blob) → length xs ≡ n + 1 → length (take (length xs - 1) xs) < length xs
@@ -76,9 +76,9 @@ sizes_fit quota n p v kept small fits =
 
 -- there is room for another entry
 pub entries_fit : (quota : ℕ) (p : Slots) (v : ViewValue) → AreKept quota p v → length v.entries ≤ v.limit
-entries_fit quota p v kept = let same = length-shown p v in omega (arith, same, kept.within.entries)
+entries_fit quota p v kept = let same = length-visible_in p v in omega (arith, same, kept.within.entries)
 
-none_seen : (d : Digest) (bs : List Blob) → seen d bs ≡ None → is_some (seen d bs) ≡ false
+none_seen : (d : Digest) (bs : List Blob) → visible_text d bs ≡ None → is_some (visible_text d bs) ≡ false
 none_seen d bs h = ap (λ (o : Option (List ℕ)). is_some o) h
 
 -- an instance without entries, over a pool without texts
@@ -92,23 +92,23 @@ kept_none quota p v empty none =
     }
 
 -- what was added, cut to the limit and then to the quota, is an admission
-pub new_text : (quota : ℕ) (d : Digest) (text : List ℕ) (p : Slots) (v : ViewValue) (between new : List Blob) → seen d (shown p v) ≡ None → length text ≤ quota
-    → (limit : ℕ) → limit ≡ v.limit → between ≡ added limit d text (shown p v) → new ≡ longest_front quota between → new ≡ admitted v.limit quota d text (shown p v)
+pub new_text : (quota : ℕ) (d : Digest) (text : List ℕ) (p : Slots) (v : ViewValue) (between new : List Blob) → visible_text d (visible_in p v) ≡ None → length text ≤ quota
+    → (limit : ℕ) → limit ≡ v.limit → between ≡ visible_after_insertion limit d text (visible_in p v) → new ≡ longest_front quota between → new ≡ visible_after_admission v.limit quota d text (visible_in p v)
 new_text quota d text p v between new absent fits limit same put kept =
-    let cut : between ≡ added v.limit d text (shown p v) = put ∙ ap (λ (n : ℕ). added n d text (shown p v)) same in
-    admitted_new v.limit quota d text (shown p v) between new (none_seen d (shown p v) absent) fits cut kept
+    let cut : between ≡ visible_after_insertion v.limit d text (visible_in p v) = put ∙ ap (λ (n : ℕ). visible_after_insertion n d text (visible_in p v)) same in
+    admitted_new v.limit quota d text (visible_in p v) between new (none_seen d (visible_in p v) absent) fits cut kept
 
 pub kept_admitted : (quota : ℕ) (d : Digest) (text : List ℕ) (p q : Slots) (v w : ViewValue) → AreKept quota p v → 0 < v.limit → Names d text → w.limit ≡ v.limit
-    → shown q w ≡ admitted v.limit quota d text (shown p v) → Moves p q (holders v) (holders w) → AreKept quota q w
+    → visible_in q w ≡ visible_after_admission v.limit quota d text (visible_in p v) → Moves p q (holders v) (holders w) → AreKept quota q w
 kept_admitted quota d text p q v w kept some names same is m = record {
   held = held_after p q (holders v) (holders w) m kept.held;
-  within = subst (λ (n : ℕ). Within n quota (shown q w)) (sym same) (subst (Within v.limit quota) (sym is) (admitted_within v.limit quota d text (shown p v) some names kept.within));
+  within = subst (λ (n : ℕ). Within n quota (visible_in q w)) (sym same) (subst (Within v.limit quota) (sym is) (admitted_within v.limit quota d text (visible_in p v) some names kept.within));
 }
 
-pub kept_used : (quota : ℕ) (d : Digest) (p : Slots) (v w : ViewValue) → AreKept quota p v → w.limit ≡ v.limit → shown p w ≡ used d (shown p v) → ((k : ℕ) → holders w k ≡ holders v k) → AreKept quota p w
+pub kept_used : (quota : ℕ) (d : Digest) (p : Slots) (v w : ViewValue) → AreKept quota p v → w.limit ≡ v.limit → visible_in p w ≡ visible_after_use d (visible_in p v) → ((k : ℕ) → holders w k ≡ holders v k) → AreKept quota p w
 kept_used quota d p v w kept limit is same = record {
   held = record { counted = λ k. omega (arith, same k, kept.held.counted k); others = λ k. omega (arith, same k, kept.held.others k) };
-  within = subst (λ (n : ℕ). Within n quota (shown p w)) (sym limit) (subst (Within v.limit quota) (sym is) (used_within v.limit quota d (shown p v) kept.within));
+  within = subst (λ (n : ℕ). Within n quota (visible_in p w)) (sym limit) (subst (Within v.limit quota) (sym is) (used_within v.limit quota d (visible_in p v) kept.within));
 }
 
 pub kept_same : (quota : ℕ) (p q : Slots) (v w : ViewValue) → AreKept quota p v → w ≡ v → q ≡ p → AreKept quota q w

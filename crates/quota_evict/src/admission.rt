@@ -3,11 +3,11 @@ ghost use Rattle.std.specs.Result.{IsErrOf};
 ghost use Rattle.std.specs.List.{AllByRecursion};
 ghost use Rattle.digest.specs.declared.Digest.{Digest};
 ghost use Rattle.digest.specs.Naming.{Names};
-ghost use Rattle.blob_pool.specs.Held.{Slots};
+ghost use Rattle.blob_pool.specs.Slots.{Slots};
 ghost use Rattle.blob_pool.specs.Moves.{Moves, AreHeld};
-ghost use Rattle.instance_view.specs.Visible.{Blob, seen, total, added};
-ghost use Rattle.instance_view.specs.Shown.{shown, holders};
-ghost use Rattle.quota_evict.specs.Admission.{admitted, longest_front};
+ghost use Rattle.instance_view.specs.Visible.{Blob, visible_text, total_length, visible_after_insertion};
+ghost use Rattle.instance_view.specs.Shown.{visible_in, holders};
+ghost use Rattle.quota_evict.specs.Admission.{visible_after_admission, longest_front};
 ghost use Rattle.quota_evict.specs.Within.{Within};
 ghost use Rattle.quota_evict.specs.Kept.{AreKept};
 ghost use Rattle.quota_evict.specs.declared.admission.AdmitError.TheVariants.{TooLarge, NoMemory};
@@ -37,8 +37,9 @@ impl From<AllocError> for AdmitError {
 /// Drops the texts that were used least recently until the rest is within the quota.
 fn evict(view: &mut View, pool: &mut Pool, quota: u64)
     requires held { AreHeld pool.old (holders view.old) }
-    requires named { AllByRecursion (λ (b : Blob). Names b.0 b.1) (shown pool.old view.old) }
-    ensures shown { shown pool.new view.new ≡ longest_front quota (shown pool.old view.old) }
+    requires named { AllByRecursion (λ (b : Blob). Names b.0 b.1) (visible_in pool.old view.old) }
+    ensures shown { visible_in pool.new view.new
+        ≡ longest_front quota (visible_in pool.old view.old) }
     ensures moves { Moves pool.old pool.new (holders view.old) (holders view.new) }
     ensures limit { view.new.limit ≡ view.old.limit }
 {
@@ -53,8 +54,8 @@ fn trim(view: &mut View, pool: &mut Pool, limit: usize)
     requires some { 0 < limit }
     requires length { length view.old.entries ≤ limit + 1 }
     ensures shown { (d : Digest) (text : List ℕ) (visible : List Blob) →
-        shown pool.old view.old ≡ (d, text) ∷ visible →
-        shown pool.new view.new ≡ added limit d text visible }
+        visible_in pool.old view.old ≡ (d, text) ∷ visible →
+        visible_in pool.new view.new ≡ visible_after_insertion limit d text visible }
     ensures moves { Moves pool.old pool.new (holders view.old) (holders view.new) }
     ensures limit { view.new.limit ≡ view.old.limit }
 {
@@ -74,10 +75,11 @@ fn store(
     requires quota { quota ≤ 2 ^ 40 }
     requires kept { AreKept quota pool.old view.old }
     requires named { Names digest.now draft.text }
-    requires absent { (p : Slots) → seen digest.now (shown p view.old) ≡ None }
+    requires absent { (p : Slots) → visible_text digest.now (visible_in p view.old) ≡ None }
     requires fits { length draft.text ≤ quota }
-    ensures ok { OnOk result (shown pool.new view.new
-        ≡ admitted view.old.limit quota digest.now draft.text (shown pool.old view.old)) }
+    ensures ok { OnOk result (visible_in pool.new view.new
+        ≡ visible_after_admission view.old.limit quota digest.now draft.text
+        (visible_in pool.old view.old)) }
     ensures err { OnErr result ((view.new ≡ view.old) × (pool.new ≡ pool.old)) }
     ensures back { IfErr result (λ given. given.text ≡ draft.text) }
     ensures moves { Moves pool.old pool.new (holders view.old) (holders view.new) }
@@ -103,11 +105,13 @@ pub fn admit_draft(
     requires quota { quota ≤ 2 ^ 40 }
     requires kept { AreKept quota pool.old view.old }
     requires named { Names digest.now draft.text }
-    ensures ok { OnOk result (shown pool.new view.new
-        ≡ admitted view.old.limit quota digest.now draft.text (shown pool.old view.old)) }
+    ensures ok { OnOk result (visible_in pool.new view.new
+        ≡ visible_after_admission view.old.limit quota digest.now draft.text
+        (visible_in pool.old view.old)) }
     ensures too_large { IfErr result
         (λ e. (e.0 ≡ TooLarge)
-        ↔ ((seen digest.now (shown pool.old view.old) ≡ None) × (quota < length draft.text))) }
+        ↔ ((visible_text digest.now (visible_in pool.old view.old) ≡ None)
+        × (quota < length draft.text))) }
     ensures err { OnErr result ((view.new ≡ view.old) × (pool.new ≡ pool.old)) }
     ensures back { IfErr result (λ e. e.1.text ≡ draft.text) }
     ensures moves { Moves pool.old pool.new (holders view.old) (holders view.new) }
@@ -139,10 +143,12 @@ pub fn admit(
     requires quota { quota ≤ 2 ^ 40 }
     requires kept { AreKept quota pool.old view.old }
     requires named { Names digest.now bytes.now }
-    ensures ok { OnOk result (shown pool.new view.new
-        ≡ admitted view.old.limit quota digest.now bytes.now (shown pool.old view.old)) }
+    ensures ok { OnOk result (visible_in pool.new view.new
+        ≡ visible_after_admission view.old.limit quota digest.now bytes.now
+        (visible_in pool.old view.old)) }
     ensures too_large { IsErrOf result TooLarge
-        ↔ ((seen digest.now (shown pool.old view.old) ≡ None) × (quota < length bytes.now)) }
+        ↔ ((visible_text digest.now (visible_in pool.old view.old) ≡ None)
+        × (quota < length bytes.now)) }
     ensures err { OnErr result ((view.new ≡ view.old) × (pool.new ≡ pool.old)) }
     ensures moves { Moves pool.old pool.new (holders view.old) (holders view.new) }
     ensures kept { AreKept quota pool.new view.new }

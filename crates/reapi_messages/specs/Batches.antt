@@ -6,7 +6,7 @@ use Rattle.std.specs.List.{AllByRecursion}
 use Rattle.message_fields.specs.declared.error.MessageError.{MessageError}
 use Rattle.message_fields.specs.Results.{◌>>=◌}
 use Rattle.message_fields.specs.Record.{Record}
-use Rattle.message_fields.specs.Fields.{string, octets, int32, embedded, repeated}
+use Rattle.message_fields.specs.Fields.{string, octets, int32, embedded_value, repeated_values}
 use Rattle.message_fields.specs.Parts.{string_field, int32_field, embedded_field, repeated_field}
 use Rattle.message_fields.specs.Writing.{bytes_field}
 use Rattle.reapi_messages.specs.declared.batches.UpdateBlobRequest.{UpdateBlobRequest}
@@ -28,15 +28,21 @@ pub record UpdateBlobRequestValue : Type 0 where
   pub compressor : ℤ
 
 abbrev pub update_blob_request_shown : UpdateBlobRequest → UpdateBlobRequestValue
-update_blob_request_shown m = record { digest = option_map digest_shown m.digest; content = m.content.now; compressor = m.compressor }
+update_blob_request_shown m = record {
+  digest = option_map digest_shown m.digest;
+  content = m.content.now;
+  compressor = m.compressor;
+}
 
 unfoldable pub update_blob_request_of : List Record → Result UpdateBlobRequestValue MessageError
 update_blob_request_of rs = do
-  digest ← embedded digest_of 1 rs
+  digest ← embedded_value digest_of 1 rs
   Ok (record { digest = digest; content = octets 2 rs; compressor = int32 3 rs })
 
 abbrev pub update_blob_request_records : UpdateBlobRequestValue → List Record
-update_blob_request_records v = embedded_field digest_records 1 v.digest ++ bytes_field 2 v.content ++ int32_field 3 v.compressor
+update_blob_request_records v =
+    embedded_field digest_records 1 v.digest ++ bytes_field 2 v.content
+    ++ int32_field 3 v.compressor
 
 -- instance_name 1, requests 2 repeated, digest_function 5
 pub record BatchUpdateBlobsRequestValue : Type 0 where
@@ -51,14 +57,17 @@ batch_update_blobs_request_shown m = record {
   digest_function = m.digest_function;
 }
 
-unfoldable pub batch_update_blobs_request_of : List Record → Result BatchUpdateBlobsRequestValue MessageError
+unfoldable pub batch_update_blobs_request_of : List Record →
+    Result BatchUpdateBlobsRequestValue MessageError
 batch_update_blobs_request_of rs = do
   instance_name ← string 1 rs
-  requests ← repeated update_blob_request_of 2 rs
+  requests ← repeated_values update_blob_request_of 2 rs
   Ok (record { instance_name = instance_name; requests = requests; digest_function = int32 5 rs })
 
 abbrev pub batch_update_blobs_request_records : BatchUpdateBlobsRequestValue → List Record
-batch_update_blobs_request_records v = string_field 1 v.instance_name ++ repeated_field update_blob_request_records 2 v.requests ++ int32_field 5 v.digest_function
+batch_update_blobs_request_records v =
+    string_field 1 v.instance_name ++ repeated_field update_blob_request_records 2 v.requests
+    ++ int32_field 5 v.digest_function
 
 -- ---- BatchUpdateBlobsResponse
 
@@ -68,27 +77,32 @@ pub record UpdateBlobResponseValue : Type 0 where
   pub status : Option StatusValue
 
 abbrev pub update_blob_response_shown : UpdateBlobResponse → UpdateBlobResponseValue
-update_blob_response_shown m = record { digest = option_map digest_shown m.digest; status = option_map status_shown m.status }
+update_blob_response_shown m =
+    record { digest = option_map digest_shown m.digest; status = option_map status_shown m.status }
 
 unfoldable pub update_blob_response_of : List Record → Result UpdateBlobResponseValue MessageError
 update_blob_response_of rs = do
-  digest ← embedded digest_of 1 rs
-  status ← embedded status_of 2 rs
+  digest ← embedded_value digest_of 1 rs
+  status ← embedded_value status_of 2 rs
   Ok (record { digest = digest; status = status })
 
 abbrev pub update_blob_response_records : UpdateBlobResponseValue → List Record
-update_blob_response_records v = embedded_field digest_records 1 v.digest ++ embedded_field status_records 2 v.status
+update_blob_response_records v =
+    embedded_field digest_records 1 v.digest ++ embedded_field status_records 2 v.status
 
 -- responses 1 repeated
 pub record BatchUpdateBlobsResponseValue : Type 0 where
   pub responses : List UpdateBlobResponseValue
 
-abbrev pub batch_update_blobs_response_shown : BatchUpdateBlobsResponse → BatchUpdateBlobsResponseValue
-batch_update_blobs_response_shown m = record { responses = map update_blob_response_shown m.responses.items }
+abbrev pub batch_update_blobs_response_shown : BatchUpdateBlobsResponse →
+    BatchUpdateBlobsResponseValue
+batch_update_blobs_response_shown m =
+    record { responses = map update_blob_response_shown m.responses.items }
 
-unfoldable pub batch_update_blobs_response_of : List Record → Result BatchUpdateBlobsResponseValue MessageError
+unfoldable pub batch_update_blobs_response_of : List Record →
+    Result BatchUpdateBlobsResponseValue MessageError
 batch_update_blobs_response_of rs = do
-  responses ← repeated update_blob_response_of 1 rs
+  responses ← repeated_values update_blob_response_of 1 rs
   Ok (record { responses = responses })
 
 abbrev pub batch_update_blobs_response_records : BatchUpdateBlobsResponseValue → List Record
@@ -109,14 +123,17 @@ batch_read_blobs_request_shown m = record {
   digest_function = m.digest_function;
 }
 
-unfoldable pub batch_read_blobs_request_of : List Record → Result BatchReadBlobsRequestValue MessageError
+unfoldable pub batch_read_blobs_request_of : List Record →
+    Result BatchReadBlobsRequestValue MessageError
 batch_read_blobs_request_of rs = do
   instance_name ← string 1 rs
-  digests ← repeated digest_of 2 rs
+  digests ← repeated_values digest_of 2 rs
   Ok (record { instance_name = instance_name; digests = digests; digest_function = int32 4 rs })
 
 abbrev pub batch_read_blobs_request_records : BatchReadBlobsRequestValue → List Record
-batch_read_blobs_request_records v = string_field 1 v.instance_name ++ repeated_field digest_records 2 v.digests ++ int32_field 4 v.digest_function
+batch_read_blobs_request_records v =
+    string_field 1 v.instance_name ++ repeated_field digest_records 2 v.digests
+    ++ int32_field 4 v.digest_function
 
 -- ---- BatchReadBlobsResponse
 
@@ -127,27 +144,35 @@ pub record ReadBlobResponseValue : Type 0 where
   pub status : Option StatusValue
 
 abbrev pub read_blob_response_shown : ReadBlobResponse → ReadBlobResponseValue
-read_blob_response_shown m = record { digest = option_map digest_shown m.digest; content = m.content.now; status = option_map status_shown m.status }
+read_blob_response_shown m = record {
+  digest = option_map digest_shown m.digest;
+  content = m.content.now;
+  status = option_map status_shown m.status;
+}
 
 unfoldable pub read_blob_response_of : List Record → Result ReadBlobResponseValue MessageError
 read_blob_response_of rs = do
-  digest ← embedded digest_of 1 rs
-  status ← embedded status_of 3 rs
+  digest ← embedded_value digest_of 1 rs
+  status ← embedded_value status_of 3 rs
   Ok (record { digest = digest; content = octets 2 rs; status = status })
 
 abbrev pub read_blob_response_records : ReadBlobResponseValue → List Record
-read_blob_response_records v = embedded_field digest_records 1 v.digest ++ bytes_field 2 v.content ++ embedded_field status_records 3 v.status
+read_blob_response_records v =
+    embedded_field digest_records 1 v.digest ++ bytes_field 2 v.content
+    ++ embedded_field status_records 3 v.status
 
 -- responses 1 repeated
 pub record BatchReadBlobsResponseValue : Type 0 where
   pub responses : List ReadBlobResponseValue
 
 abbrev pub batch_read_blobs_response_shown : BatchReadBlobsResponse → BatchReadBlobsResponseValue
-batch_read_blobs_response_shown m = record { responses = map read_blob_response_shown m.responses.items }
+batch_read_blobs_response_shown m =
+    record { responses = map read_blob_response_shown m.responses.items }
 
-unfoldable pub batch_read_blobs_response_of : List Record → Result BatchReadBlobsResponseValue MessageError
+unfoldable pub batch_read_blobs_response_of : List Record →
+    Result BatchReadBlobsResponseValue MessageError
 batch_read_blobs_response_of rs = do
-  responses ← repeated read_blob_response_of 1 rs
+  responses ← repeated_values read_blob_response_of 1 rs
   Ok (record { responses = responses })
 
 abbrev pub batch_read_blobs_response_records : BatchReadBlobsResponseValue → List Record

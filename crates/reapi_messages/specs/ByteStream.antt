@@ -34,7 +34,8 @@ read_request_of rs = do
   Ok (record { resource_name = resource_name; read_offset = int64 2 rs; read_limit = int64 3 rs })
 
 abbrev pub read_request_records : ReadRequestValue → List Record
-read_request_records v = string_field 1 v.resource_name ++ int64_field 2 v.read_offset ++ int64_field 3 v.read_limit
+read_request_records v =
+    string_field 1 v.resource_name ++ int64_field 2 v.read_offset ++ int64_field 3 v.read_limit
 
 -- data 10
 pub record ReadResponseValue : Type 0 where
@@ -70,7 +71,9 @@ write_request_of rs = do
   Ok (record { resource_name = resource_name; write_offset = int64 2 rs; finish_write = flag 3 rs; content = octets 10 rs })
 
 abbrev pub write_request_records : WriteRequestValue → List Record
-write_request_records v = string_field 1 v.resource_name ++ int64_field 2 v.write_offset ++ flag_field 3 v.finish_write ++ bytes_field 10 v.content
+write_request_records v =
+    string_field 1 v.resource_name ++ int64_field 2 v.write_offset ++ flag_field 3 v.finish_write
+    ++ bytes_field 10 v.content
 
 -- committed_size 1
 pub record WriteResponseValue : Type 0 where
@@ -92,7 +95,8 @@ pub record QueryWriteStatusRequestValue : Type 0 where
 abbrev pub query_write_status_request_shown : QueryWriteStatusRequest → QueryWriteStatusRequestValue
 query_write_status_request_shown m = record { resource_name = m.resource_name.now }
 
-unfoldable pub query_write_status_request_of : List Record → Result QueryWriteStatusRequestValue MessageError
+unfoldable pub query_write_status_request_of : List Record →
+    Result QueryWriteStatusRequestValue MessageError
 query_write_status_request_of rs = do
   resource_name ← string 1 rs
   Ok (record { resource_name = resource_name })
@@ -105,11 +109,15 @@ pub record QueryWriteStatusResponseValue : Type 0 where
   pub committed_size : ℤ
   pub complete : Bool
 
-abbrev pub query_write_status_response_shown : QueryWriteStatusResponse → QueryWriteStatusResponseValue
-query_write_status_response_shown m = record { committed_size = m.committed_size; complete = m.complete }
+abbrev pub query_write_status_response_shown : QueryWriteStatusResponse →
+    QueryWriteStatusResponseValue
+query_write_status_response_shown m =
+    record { committed_size = m.committed_size; complete = m.complete }
 
-unfoldable pub query_write_status_response_of : List Record → Result QueryWriteStatusResponseValue MessageError
-query_write_status_response_of rs = Ok (record { committed_size = int64 1 rs; complete = flag 2 rs })
+unfoldable pub query_write_status_response_of : List Record →
+    Result QueryWriteStatusResponseValue MessageError
+query_write_status_response_of rs =
+    Ok (record { committed_size = int64 1 rs; complete = flag 2 rs })
 
 abbrev pub query_write_status_response_records : QueryWriteStatusResponseValue → List Record
 query_write_status_response_records v = int64_field 1 v.committed_size ++ flag_field 2 v.complete

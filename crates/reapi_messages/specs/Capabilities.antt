@@ -6,7 +6,7 @@ use Rattle.std.specs.List.{AllByRecursion}
 use Rattle.message_fields.specs.declared.error.MessageError.{MessageError}
 use Rattle.message_fields.specs.Results.{◌>>=◌}
 use Rattle.message_fields.specs.Record.{Record}
-use Rattle.message_fields.specs.Fields.{embedded, flag, int32, int64, repeated_enum, string}
+use Rattle.message_fields.specs.Fields.{embedded_value, flag, int32, int64, repeated_enum, string}
 use Rattle.message_fields.specs.Parts.{embedded_field, flag_field, int32_field, int64_field, repeated_enum_field, string_field}
 use Rattle.reapi_messages.specs.declared.capabilities.GetCapabilitiesRequest.{GetCapabilitiesRequest}
 use Rattle.reapi_messages.specs.declared.capabilities.SemVer.{SemVer}
@@ -22,7 +22,8 @@ pub record GetCapabilitiesRequestValue : Type 0 where
 abbrev pub get_capabilities_request_shown : GetCapabilitiesRequest → GetCapabilitiesRequestValue
 get_capabilities_request_shown m = record { instance_name = m.instance_name.now }
 
-unfoldable pub get_capabilities_request_of : List Record → Result GetCapabilitiesRequestValue MessageError
+unfoldable pub get_capabilities_request_of : List Record →
+    Result GetCapabilitiesRequestValue MessageError
 get_capabilities_request_of rs = do
   instance_name ← string 1 rs
   Ok (record { instance_name = instance_name })
@@ -48,13 +49,16 @@ sem_ver_records v = int32_field 1 v.major ++ int32_field 2 v.minor
 pub record ActionCacheUpdateCapabilitiesValue : Type 0 where
   pub update_enabled : Bool
 
-abbrev pub action_cache_update_capabilities_shown : ActionCacheUpdateCapabilities → ActionCacheUpdateCapabilitiesValue
+abbrev pub action_cache_update_capabilities_shown : ActionCacheUpdateCapabilities →
+    ActionCacheUpdateCapabilitiesValue
 action_cache_update_capabilities_shown m = record { update_enabled = m.update_enabled }
 
-unfoldable pub action_cache_update_capabilities_of : List Record → Result ActionCacheUpdateCapabilitiesValue MessageError
+unfoldable pub action_cache_update_capabilities_of : List Record →
+    Result ActionCacheUpdateCapabilitiesValue MessageError
 action_cache_update_capabilities_of rs = Ok (record { update_enabled = flag 1 rs })
 
-abbrev pub action_cache_update_capabilities_records : ActionCacheUpdateCapabilitiesValue → List Record
+abbrev pub action_cache_update_capabilities_records : ActionCacheUpdateCapabilitiesValue →
+    List Record
 action_cache_update_capabilities_records v = flag_field 1 v.update_enabled
 
 -- digest_functions 1 repeated, action_cache_update_capabilities 2, max_batch_total_size_bytes 4,
@@ -68,7 +72,8 @@ pub record CacheCapabilitiesValue : Type 0 where
 abbrev pub cache_capabilities_shown : CacheCapabilities → CacheCapabilitiesValue
 cache_capabilities_shown m = record {
   digest_functions = m.digest_functions.items;
-  action_cache_update_capabilities = option_map action_cache_update_capabilities_shown m.action_cache_update_capabilities;
+  action_cache_update_capabilities = option_map action_cache_update_capabilities_shown
+      m.action_cache_update_capabilities;
   max_batch_total_size_bytes = m.max_batch_total_size_bytes;
   symlink_absolute_path_strategy = m.symlink_absolute_path_strategy;
 }
@@ -76,11 +81,14 @@ cache_capabilities_shown m = record {
 unfoldable pub cache_capabilities_of : List Record → Result CacheCapabilitiesValue MessageError
 cache_capabilities_of rs = do
   digest_functions ← repeated_enum 1 rs
-  action_cache_update_capabilities ← embedded action_cache_update_capabilities_of 2 rs
+  action_cache_update_capabilities ← embedded_value action_cache_update_capabilities_of 2 rs
   Ok (record { digest_functions = digest_functions; action_cache_update_capabilities = action_cache_update_capabilities; max_batch_total_size_bytes = int64 4 rs; symlink_absolute_path_strategy = int32 5 rs })
 
 abbrev pub cache_capabilities_records : CacheCapabilitiesValue → List Record
-cache_capabilities_records v = repeated_enum_field 1 v.digest_functions ++ embedded_field action_cache_update_capabilities_records 2 v.action_cache_update_capabilities ++ int64_field 4 v.max_batch_total_size_bytes ++ int32_field 5 v.symlink_absolute_path_strategy
+cache_capabilities_records v =
+    repeated_enum_field 1 v.digest_functions
+    ++ embedded_field action_cache_update_capabilities_records 2 v.action_cache_update_capabilities
+    ++ int64_field 4 v.max_batch_total_size_bytes ++ int32_field 5 v.symlink_absolute_path_strategy
 
 -- digest_function 1, exec_enabled 2
 pub record ExecutionCapabilitiesValue : Type 0 where
@@ -88,10 +96,13 @@ pub record ExecutionCapabilitiesValue : Type 0 where
   pub exec_enabled : Bool
 
 abbrev pub execution_capabilities_shown : ExecutionCapabilities → ExecutionCapabilitiesValue
-execution_capabilities_shown m = record { digest_function = m.digest_function; exec_enabled = m.exec_enabled }
+execution_capabilities_shown m =
+    record { digest_function = m.digest_function; exec_enabled = m.exec_enabled }
 
-unfoldable pub execution_capabilities_of : List Record → Result ExecutionCapabilitiesValue MessageError
-execution_capabilities_of rs = Ok (record { digest_function = int32 1 rs; exec_enabled = flag 2 rs })
+unfoldable pub execution_capabilities_of : List Record →
+    Result ExecutionCapabilitiesValue MessageError
+execution_capabilities_of rs =
+    Ok (record { digest_function = int32 1 rs; exec_enabled = flag 2 rs })
 
 abbrev pub execution_capabilities_records : ExecutionCapabilitiesValue → List Record
 execution_capabilities_records v = int32_field 1 v.digest_function ++ flag_field 2 v.exec_enabled
@@ -113,14 +124,18 @@ server_capabilities_shown m = record {
 
 unfoldable pub server_capabilities_of : List Record → Result ServerCapabilitiesValue MessageError
 server_capabilities_of rs = do
-  cache_capabilities ← embedded cache_capabilities_of 1 rs
-  execution_capabilities ← embedded execution_capabilities_of 2 rs
-  low_api_version ← embedded sem_ver_of 4 rs
-  high_api_version ← embedded sem_ver_of 5 rs
+  cache_capabilities ← embedded_value cache_capabilities_of 1 rs
+  execution_capabilities ← embedded_value execution_capabilities_of 2 rs
+  low_api_version ← embedded_value sem_ver_of 4 rs
+  high_api_version ← embedded_value sem_ver_of 5 rs
   Ok (record { cache_capabilities = cache_capabilities; execution_capabilities = execution_capabilities; low_api_version = low_api_version; high_api_version = high_api_version })
 
 abbrev pub server_capabilities_records : ServerCapabilitiesValue → List Record
-server_capabilities_records v = embedded_field cache_capabilities_records 1 v.cache_capabilities ++ embedded_field execution_capabilities_records 2 v.execution_capabilities ++ embedded_field sem_ver_records 4 v.low_api_version ++ embedded_field sem_ver_records 5 v.high_api_version
+server_capabilities_records v =
+    embedded_field cache_capabilities_records 1 v.cache_capabilities
+    ++ embedded_field execution_capabilities_records 2 v.execution_capabilities
+    ++ embedded_field sem_ver_records 4 v.low_api_version
+    ++ embedded_field sem_ver_records 5 v.high_api_version
 
 -- ---- what fits the types of the fields
 
@@ -136,7 +151,8 @@ FitsActionCacheUpdateCapabilities v = ⊤
 
 pub record FitsCacheCapabilities (v : CacheCapabilitiesValue) : Type 0 where
   pub digest_functions : AllByRecursion (FitsSigned w32) v.digest_functions
-  pub action_cache_update_capabilities : IfSome v.action_cache_update_capabilities FitsActionCacheUpdateCapabilities
+  pub action_cache_update_capabilities : IfSome v.action_cache_update_capabilities
+      FitsActionCacheUpdateCapabilities
   pub max_batch_total_size_bytes : FitsSigned w64 v.max_batch_total_size_bytes
   pub symlink_absolute_path_strategy : FitsSigned w32 v.symlink_absolute_path_strategy
 

@@ -6,7 +6,7 @@ use Rattle.std.specs.List.{AllByRecursion}
 use Rattle.message_fields.specs.declared.error.MessageError.{MessageError}
 use Rattle.message_fields.specs.Results.{◌>>=◌}
 use Rattle.message_fields.specs.Record.{Record}
-use Rattle.message_fields.specs.Fields.{string, int32, repeated}
+use Rattle.message_fields.specs.Fields.{string, int32, repeated_values}
 use Rattle.message_fields.specs.Parts.{string_field, int32_field, repeated_field}
 use Rattle.reapi_messages.specs.declared.find_missing.FindMissingBlobsRequest.{FindMissingBlobsRequest}
 use Rattle.reapi_messages.specs.declared.find_missing.FindMissingBlobsResponse.{FindMissingBlobsResponse}
@@ -25,25 +25,31 @@ find_missing_blobs_request_shown m = record {
   digest_function = m.digest_function;
 }
 
-unfoldable pub find_missing_blobs_request_of : List Record → Result FindMissingBlobsRequestValue MessageError
+unfoldable pub find_missing_blobs_request_of : List Record →
+    Result FindMissingBlobsRequestValue MessageError
 find_missing_blobs_request_of rs = do
   instance_name ← string 1 rs
-  blob_digests ← repeated digest_of 2 rs
+  blob_digests ← repeated_values digest_of 2 rs
   Ok (record { instance_name = instance_name; blob_digests = blob_digests; digest_function = int32 3 rs })
 
 abbrev pub find_missing_blobs_request_records : FindMissingBlobsRequestValue → List Record
-find_missing_blobs_request_records v = string_field 1 v.instance_name ++ repeated_field digest_records 2 v.blob_digests ++ int32_field 3 v.digest_function
+find_missing_blobs_request_records v =
+    string_field 1 v.instance_name ++ repeated_field digest_records 2 v.blob_digests
+    ++ int32_field 3 v.digest_function
 
 -- missing_blob_digests 2 repeated
 pub record FindMissingBlobsResponseValue : Type 0 where
   pub missing_blob_digests : List DigestValue
 
-abbrev pub find_missing_blobs_response_shown : FindMissingBlobsResponse → FindMissingBlobsResponseValue
-find_missing_blobs_response_shown m = record { missing_blob_digests = map digest_shown m.missing_blob_digests.items }
+abbrev pub find_missing_blobs_response_shown : FindMissingBlobsResponse →
+    FindMissingBlobsResponseValue
+find_missing_blobs_response_shown m =
+    record { missing_blob_digests = map digest_shown m.missing_blob_digests.items }
 
-unfoldable pub find_missing_blobs_response_of : List Record → Result FindMissingBlobsResponseValue MessageError
+unfoldable pub find_missing_blobs_response_of : List Record →
+    Result FindMissingBlobsResponseValue MessageError
 find_missing_blobs_response_of rs = do
-  missing_blob_digests ← repeated digest_of 2 rs
+  missing_blob_digests ← repeated_values digest_of 2 rs
   Ok (record { missing_blob_digests = missing_blob_digests })
 
 abbrev pub find_missing_blobs_response_records : FindMissingBlobsResponseValue → List Record

@@ -6,7 +6,7 @@ use Rattle.std.specs.List.{AllByRecursion}
 use Rattle.message_fields.specs.declared.error.MessageError.{MessageError}
 use Rattle.message_fields.specs.Results.{◌>>=◌}
 use Rattle.message_fields.specs.Record.{Record}
-use Rattle.message_fields.specs.Fields.{string, octets, int32, repeated}
+use Rattle.message_fields.specs.Fields.{string, octets, int32, repeated_values}
 use Rattle.message_fields.specs.Parts.{string_field, int32_field, repeated_field}
 use Rattle.message_fields.specs.Writing.{bytes_field}
 use Rattle.reapi_messages.specs.declared.status.Any.{Any}
@@ -35,16 +35,18 @@ pub record StatusValue : Type 0 where
   pub details : List AnyValue
 
 abbrev pub status_shown : Status → StatusValue
-status_shown m = record { code = m.code; message = m.message.now; details = map any_shown m.details.items }
+status_shown m =
+    record { code = m.code; message = m.message.now; details = map any_shown m.details.items }
 
 unfoldable pub status_of : List Record → Result StatusValue MessageError
 status_of rs = do
   message ← string 2 rs
-  details ← repeated any_of 3 rs
+  details ← repeated_values any_of 3 rs
   Ok (record { code = int32 1 rs; message = message; details = details })
 
 abbrev pub status_records : StatusValue → List Record
-status_records v = int32_field 1 v.code ++ string_field 2 v.message ++ repeated_field any_records 3 v.details
+status_records v =
+    int32_field 1 v.code ++ string_field 2 v.message ++ repeated_field any_records 3 v.details
 
 -- ---- what fits the types of the fields
 

@@ -1,9 +1,10 @@
 -- What outputs print.
 use Rattle.std.specs.Prelude.{ℕ, ◌+◌, List, [], ◌∷◌, ◌++◌, map}
-use Rattle.run_record.specs.Outputs.{OutputValue}
+use Rattle.run_record.specs.Outputs.{InstanceOutputValue}
 use Rattle.replay.specs.Printed.{output_lines}
 
 -- what outputs of instances print, of which the first has this number
-abbrev pub outputs_lines : ℕ → List OutputValue → List ℕ
+abbrev pub outputs_lines : ℕ → List InstanceOutputValue → List ℕ
 outputs_lines instance [] = []
-outputs_lines instance (output ∷ outputs) = output_lines instance output ++ outputs_lines (instance + 1) outputs
+outputs_lines instance (output ∷ outputs) =
+    output_lines instance output ++ outputs_lines (instance + 1) outputs

@@ -3,8 +3,8 @@
 use Rattle.std.specs.Prelude.{ℕ, ◌+◌, List, [], ◌∷◌, ◌++◌, Result, Ok, Err}
 use Rattle.served_instance.specs.declared.refusal.EventRefusal.{EventRefusal}
 use Rattle.served_instance.specs.Codes.{code_of}
-use Rattle.run_record.specs.Outputs.{OutputValue}
-use Rattle.server_core.specs.Lone.{lone, strays}
+use Rattle.run_record.specs.Outputs.{InstanceOutputValue}
+use Rattle.server_core.specs.LoneOutput.{lone_output, strays}
 use Rattle.server_events.specs.Configs.{ConfigValue}
 use Rattle.server_events.specs.Events.{EventValue, own_events}
 use Rattle.script.specs.ResultLines.{sent_line, refusal_line, stray_line}
@@ -18,11 +18,13 @@ sent_lines instance (sent ∷ rest) = sent_line instance sent.0 sent.1 ++ sent_l
 -- the events that an instance refused, in order
 abbrev pub refusal_lines : ℕ → List (ℕ × EventRefusal) → List ℕ
 refusal_lines instance [] = []
-refusal_lines instance (refused ∷ rest) = refusal_line instance refused.0 (code_of refused.1) ++ refusal_lines instance rest
+refusal_lines instance (refused ∷ rest) =
+    refusal_line instance refused.0 (code_of refused.1) ++ refusal_lines instance rest
 
 -- what came of an instance's events
-abbrev pub output_lines : ℕ → OutputValue → List ℕ
-output_lines instance output = sent_lines instance output.sent ++ refusal_lines instance output.refusals
+abbrev pub output_lines : ℕ → InstanceOutputValue → List ℕ
+output_lines instance output =
+    sent_lines instance output.sent ++ refusal_lines instance output.refusals
 
 -- the events of no instance, in order
 abbrev pub stray_lines : List ℕ → List ℕ
@@ -34,16 +36,17 @@ stray_lines (place ∷ rest) = stray_line place ++ stray_lines rest
 abbrev pub lone_lines : ℕ → List ConfigValue → List EventValue → List ℕ
 lone_lines instance [] events = []
 lone_lines instance (config ∷ configs) events =
-    output_lines instance (lone config (own_events instance events)) ++ lone_lines (instance + 1) configs events
+    output_lines instance (lone_output config (own_events instance events)) ++ lone_lines (instance + 1) configs events
 
 -- what a script prints
-abbrev pub printed : ReplayScriptValue → List ℕ
-printed script = lone_lines 0 script.configs script.events ++ stray_lines (strays script.configs script.events)
+abbrev pub printed_text : ReplayScriptValue → List ℕ
+printed_text script =
+    lone_lines 0 script.configs script.events ++ stray_lines (strays script.configs script.events)
 
-abbrev pub printed_of : Result ReplayScriptValue ℕ → Result (List ℕ) ℕ
-printed_of (Ok script) = Ok (printed script)
-printed_of (Err number) = Err number
+abbrev pub printed_text_of : Result ReplayScriptValue ℕ → Result (List ℕ) ℕ
+printed_text_of (Ok script) = Ok (printed_text script)
+printed_text_of (Err number) = Err number
 
 -- what the script of a text prints, or the number of its first bad line
-abbrev pub printed_by : List ℕ → Result (List ℕ) ℕ
-printed_by text = printed_of (replay_script_of text)
+abbrev pub text_printed_by : List ℕ → Result (List ℕ) ℕ
+text_printed_by text = printed_text_of (replay_script_of text)

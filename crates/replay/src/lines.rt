@@ -1,6 +1,6 @@
 //! The lines of a run.
 ghost use Rattle.std.specs.Prelude.{◌≡◌, ◌≤◌, ◌<◌, ◌^◌, ◌++◌, length, vec_len, map, OnOk, IfOk};
-ghost use Rattle.run_record.specs.Shown.{sent_shown, refused_shown, output_shown};
+ghost use Rattle.run_record.specs.Shown.{sent_shown, refused_shown, instance_output_shown};
 ghost use Rattle.replay.specs.Printed.{sent_lines, refusal_lines, output_lines, stray_lines};
 ghost use Rattle.replay.specs.Outputs.{outputs_lines};
 
@@ -43,7 +43,7 @@ fn write_output(
     output: &InstanceOutput,
 ) -> Result<(), AllocError>
     ensures { OnOk result (text.new.items ≡ text.old.items
-        ++ output_lines instance (output_shown output.now)) }
+        ++ output_lines instance (instance_output_shown output.now)) }
 {
     write_all_sent(text, instance, &output.sent)?;
     write_all_refused(text, instance, &output.refusals)
@@ -52,7 +52,7 @@ fn write_output(
 fn write_outputs(text: &mut Vec<u8>, outputs: &[InstanceOutput]) -> Result<(), AllocError>
     requires { length outputs.now < 2 ^ 32 }
     ensures { OnOk result (text.new.items ≡ text.old.items
-        ++ outputs_lines 0 (map output_shown outputs.now)) }
+        ++ outputs_lines 0 (map instance_output_shown outputs.now)) }
 {
     let mut instance = 0;
     let mut left = outputs;
@@ -79,7 +79,7 @@ fn write_strays(text: &mut Vec<u8>, strays: &[u64]) -> Result<(), AllocError>
 pub fn lines(alloc: Global, outputs: &Outputs) -> Result<Vec<u8>, AllocError>
     requires { vec_len outputs.now.instances < 2 ^ 32 }
     ensures { IfOk result (λ text. text.items
-        ≡ outputs_lines 0 (map output_shown outputs.now.instances.items)
+        ≡ outputs_lines 0 (map instance_output_shown outputs.now.instances.items)
         ++ stray_lines outputs.now.strays.items) }
 {
     let mut text = Vec::new(alloc);

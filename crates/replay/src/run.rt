@@ -3,7 +3,7 @@ ghost use Rattle.std.specs.Prelude.{◌≡◌, ◌≢◌, Ok, None, map, IfOk, I
 ghost use Rattle.std.specs.Io.KnownBytes.{Appends};
 ghost use Rattle.program_status.specs.Status.{fault_line};
 ghost use Rattle.program_status.specs.declared.Status.TheVariants.{Failed};
-ghost use Rattle.replay.specs.Printed.{printed, printed_by};
+ghost use Rattle.replay.specs.Printed.{printed_text, text_printed_by};
 ghost use Rattle.replay.specs.Outcome.{IsOutcome};
 ghost use Rattle.script.specs.Faults.{IsFaultOf};
 ghost use Rattle.script.specs.ReplayShown.{replay_script_value};
@@ -22,7 +22,7 @@ use std::io::{Read, Write};
 /// Runs a script, and gives what it prints.
 fn carry_out(alloc: Global, script: ReplayScript) -> Result<Vec<u8>, AllocError>
     requires { config_fault (map config_value script.configs.items) ≡ None }
-    ensures { IfOk result (λ text. text.items ≡ printed (replay_script_value script)) }
+    ensures { IfOk result (λ text. text.items ≡ printed_text (replay_script_value script)) }
 {
     let configs = Configs::new(script.configs).unwrap();
     let outputs = run(alloc, &configs, &script.events)?;
@@ -31,8 +31,8 @@ fn carry_out(alloc: Global, script: ReplayScript) -> Result<Vec<u8>, AllocError>
 
 /// What the script of a text prints.
 fn replayed(alloc: Global, text: &[u8]) -> Result<Vec<u8>, ScriptFault>
-    ensures printed { IfOk result (λ lines. printed_by text.now ≡ Ok lines.items) }
-    ensures fault { IfErr result (IsFaultOf (printed_by text.now)) }
+    ensures printed { IfOk result (λ lines. text_printed_by text.now ≡ Ok lines.items) }
+    ensures fault { IfErr result (IsFaultOf (text_printed_by text.now)) }
 {
     let script = parse(alloc, text)?;
     match carry_out(alloc, script) {
@@ -43,7 +43,7 @@ fn replayed(alloc: Global, text: &[u8]) -> Result<Vec<u8>, ScriptFault>
 
 fn perform<I: Read, O: Write>(alloc: Global, input: &mut I, output: &mut O) -> Status
     ensures { IfSome (I.remaining input.old)
-        (λ text. IsOutcome (printed_by text) result (O.contents output.old)
+        (λ text. IsOutcome (text_printed_by text) result (O.contents output.old)
         (O.contents output.new)) }
 {
     let text = match read_all(alloc, input) {
@@ -71,7 +71,7 @@ pub fn replay<I: Read, O: Write, E: Write>(
     errors: &mut E,
 ) -> Status
     ensures outcome { IfSome (I.remaining input.old)
-        (λ text. IsOutcome (printed_by text) result (O.contents output.old)
+        (λ text. IsOutcome (text_printed_by text) result (O.contents output.old)
         (O.contents output.new)) }
     // Where the line could not be written, the status is `Failed`.
     ensures told { result ≢ Failed →

@@ -13,7 +13,7 @@ use Rattle.hex.specs.declared.error.FromHexError.{FromHexError}
 use Rattle.hex.specs.Hex.{IsBytes, encode_lower, decode_sized}
 use Rattle.hex.proofs.HexLemmas.{decode_sized-ok, decode_sized-twice, decode_of-ok}
 use Rattle.digest.specs.declared.Digest.{Digest}
-use Rattle.digest.specs.Text.{IsWritten, hash_text, hash_in, is_lower_digit, decoded, with_hash}
+use Rattle.digest.specs.Text.{IsWritten, hash_text, hash_in, is_lower_hex_digit, bytes_decoded, with_hash}
 use Rattle.digest.proofs.Writings.{is_written, is_read}
 use Rattle.resource_names.specs.declared.name.NameError.TheVariants.{Hash, Size}
 use Rattle.resource_names.specs.Names.{◌>>=◌, or_fault, digest_of_segments}
@@ -30,19 +30,19 @@ record IsHashText (text bytes : List ℕ) : Type 0 where
   bytes_are : IsBytes bytes
   clean : HasNoSlash text
 
-lower_clean : (text : List ℕ) → list_all is_lower_digit text ≡ true → HasNoSlash text
+lower_clean : (text : List ℕ) → list_all is_lower_hex_digit text ≡ true → HasNoSlash text
 lower_clean [] h = tt
 lower_clean (byte ∷ text) h =
-    let parts = and_parts (is_lower_digit byte) (list_all is_lower_digit text) h in
+    let parts = and_parts (is_lower_hex_digit byte) (list_all is_lower_hex_digit text) h in
     let digit = parts.0 in
     (grind (arith, nat_tests), lower_clean text parts.1)
 
 hash_found : (text bytes : List ℕ) → hash_in text ≡ Some bytes → IsHashText text bytes
-hash_found text bytes h = go (list_all is_lower_digit text) (decode_sized text 32) refl refl h where
+hash_found text bytes h = go (list_all is_lower_hex_digit text) (decode_sized text 32) refl refl h where
   written : IsWritten (record { hash = bytes; size = 0 }) text (pos 0)
   written = is_written text (pos 0) (Some (record { hash = bytes; size = 0 })) (sym (ap (with_hash 0) h))
 
-  go : (t : Bool) (r : Result (List ℕ) FromHexError) → list_all is_lower_digit text ≡ t → decode_sized text 32 ≡ r → cond t (decoded r) None ≡ Some bytes → IsHashText text bytes
+  go : (t : Bool) (r : Result (List ℕ) FromHexError) → list_all is_lower_hex_digit text ≡ t → decode_sized text 32 ≡ r → cond t (bytes_decoded r) None ≡ Some bytes → IsHashText text bytes
   go true (Ok bs) lower is e =
       let same : bs ≡ bytes = cc in
       let sized : decode_sized text 32 ≡ Ok bytes = is ∙ ap (λ (x : List ℕ). Ok x) same in

@@ -3,7 +3,7 @@ use Rattle.std.proofs.Common.{◌≡◌, ℕ, ◌<◌, Bool, true, false, cond, 
 use Rattle.std.proofs.lemmas.List.{append-nil}
 use Rattle.std.proofs.lemmas.List.Splits.{slice_split-cons_yes, slice_split-cons_no, length-slice_split, join_with_byte-slice_split}
 use Rattle.std.specs.List.{AllByRecursion, join_with_byte, onto_first}
-use Rattle.resource_names.specs.Segments.{segments_of, joined, Divided, divided_after}
+use Rattle.resource_names.specs.Segments.{segments_of, joined_segments, DivisionValue, division_after}
 use Rattle.resource_names.specs.Written.{NoneDivides, HasNoSlash, instance_text}
 use Rattle.resource_names.proofs.SegmentLemmas.{is_slash}
 
@@ -46,39 +46,39 @@ segments-clean (byte ∷ text) = go (is_slash byte) refl (segments-clean text) w
   go false e later = subst (AllByRecursion HasNoSlash) (sym (slice_split-cons_no is_slash byte text e)) (clean-onto byte (segments_of text) e later)
 
 -- segments that are joined are found again
-pub segments-joined : (first : List ℕ) (more : List (List ℕ)) → AllByRecursion HasNoSlash (first ∷ more) → segments_of (join_with_byte 47 (first ∷ more)) ≡ first ∷ more
-segments-joined first [] clean = segments-word first clean.0
-segments-joined first (next ∷ more) clean =
+pub segments-joined_segments : (first : List ℕ) (more : List (List ℕ)) → AllByRecursion HasNoSlash (first ∷ more) → segments_of (join_with_byte 47 (first ∷ more)) ≡ first ∷ more
+segments-joined_segments first [] clean = segments-word first clean.0
+segments-joined_segments first (next ∷ more) clean =
     segments-append first (join_with_byte 47 (next ∷ more))
     ∙ ap (λ segments. segments ++ segments_of (join_with_byte 47 (next ∷ more))) (segments-word first clean.0)
-    ∙ ap (λ segments. first ∷ segments) (segments-joined next more clean.1)
+    ∙ ap (λ segments. first ∷ segments) (segments-joined_segments next more clean.1)
 
 pub clean-front : (front rest : List (List ℕ)) → AllByRecursion HasNoSlash (front ++ rest) → AllByRecursion HasNoSlash front × AllByRecursion HasNoSlash rest
 clean-front [] rest h = (tt, h)
 clean-front (segment ∷ front) rest h = let later = clean-front front rest h.1 in ((h.0, later.0), later.1)
 
 -- where a test first passes
-pub record DividesAt (divides : List ℕ → Bool) (before segments : List (List ℕ)) (d : Divided) : Type 0 where
+pub record DividesAt (divides : List ℕ → Bool) (before segments : List (List ℕ)) (d : DivisionValue) : Type 0 where
   pub passed : List (List ℕ)
   pub segments_are : segments ≡ passed ++ d.segment ∷ d.after
   pub none : NoneDivides divides passed
-  pub before_is : d.before ≡ joined (before ++ passed)
+  pub before_is : d.before ≡ joined_segments (before ++ passed)
   pub test : divides d.segment ≡ true
 
-pub divided-found : (divides : List ℕ → Bool) (before segments : List (List ℕ)) (d : Divided) → divided_after before divides segments ≡ Some d → DividesAt divides before segments d
+pub divided-found : (divides : List ℕ → Bool) (before segments : List (List ℕ)) (d : DivisionValue) → division_after before divides segments ≡ Some d → DividesAt divides before segments d
 divided-found divides before [] d e = cc
 divided-found divides before (segment ∷ segments) d e = go (divides segment) refl e (λ h. divided-found divides (before ++ segment ∷ []) segments d h) where
   go : (b : Bool) → divides segment ≡ b
-      → cond b (Some (record { before = joined before; segment = segment; after = segments })) (divided_after (before ++ segment ∷ []) divides segments) ≡ Some d
-      → (divided_after (before ++ segment ∷ []) divides segments ≡ Some d → DividesAt divides (before ++ segment ∷ []) segments d)
+      → cond b (Some (record { before = joined_segments before; segment = segment; after = segments })) (division_after (before ++ segment ∷ []) divides segments) ≡ Some d
+      → (division_after (before ++ segment ∷ []) divides segments ≡ Some d → DividesAt divides (before ++ segment ∷ []) segments d)
       → DividesAt divides before (segment ∷ segments) d
   go true t h later =
-      let same : record { before = joined before; segment = segment; after = segments } ≡ d = cc in
+      let same : record { before = joined_segments before; segment = segment; after = segments } ≡ d = cc in
       record {
         passed = [];
         segments_are = rw (← same) refl;
         none = tt;
-        before_is = rw (← same) (ap joined (sym (append-nil before)));
+        before_is = rw (← same) (ap joined_segments (sym (append-nil before)));
         test = rw (← same) t;
       }
   go false t h later =
@@ -87,17 +87,17 @@ divided-found divides before (segment ∷ segments) d e = go (divides segment) r
         passed = segment ∷ r.passed;
         segments_are = ap (λ rest. segment ∷ rest) r.segments_are;
         none = (t, r.none);
-        before_is = r.before_is ∙ ap joined (append_assoc before (segment ∷ []) r.passed);
+        before_is = r.before_is ∙ ap joined_segments (append_assoc before (segment ∷ []) r.passed);
         test = r.test;
       }
 
 pub divided-at : (divides : List ℕ → Bool) (before passed : List (List ℕ)) (segment : List ℕ) (after : List (List ℕ)) → NoneDivides divides passed → divides segment ≡ true
-    → divided_after before divides (passed ++ segment ∷ after) ≡ Some (record { before = joined (before ++ passed); segment = segment; after = after })
+    → division_after before divides (passed ++ segment ∷ after) ≡ Some (record { before = joined_segments (before ++ passed); segment = segment; after = after })
 divided-at divides before [] segment after none test =
-    rw test (ap (λ front. Some (record { before = joined front; segment = segment; after = after })) (sym (append-nil before)))
+    rw test (ap (λ front. Some (record { before = joined_segments front; segment = segment; after = after })) (sym (append-nil before)))
 divided-at divides before (first ∷ passed) segment after none test =
     let later = divided-at divides (before ++ first ∷ []) passed segment after none.1 test in
-    rw (none.0) (later ∙ ap (λ front. Some (record { before = joined front; segment = segment; after = after })) (append_assoc before (first ∷ []) passed))
+    rw (none.0) (later ∙ ap (λ front. Some (record { before = joined_segments front; segment = segment; after = after })) (append_assoc before (first ∷ []) passed))
 
 -- the segments of an instance's name, none where it is empty
 abbrev pub instance_segments : List ℕ → List (List ℕ)
@@ -117,10 +117,10 @@ abbrev pub instance_before : List ℕ → Option (List ℕ)
 instance_before [] = None
 instance_before (byte ∷ name) = Some (byte ∷ name)
 
-joined-some : (segments : List (List ℕ)) → 0 < length segments → joined segments ≡ Some (join_with_byte 47 segments)
-joined-some [] h = absurd (omega arith)
-joined-some (segment ∷ segments) h = refl
+joined_segments-some : (segments : List (List ℕ)) → 0 < length segments → joined_segments segments ≡ Some (join_with_byte 47 segments)
+joined_segments-some [] h = absurd (omega arith)
+joined_segments-some (segment ∷ segments) h = refl
 
-pub joined-instance : (name : List ℕ) → joined (instance_segments name) ≡ instance_before name
-joined-instance [] = refl
-joined-instance (byte ∷ name) = joined-some (segments_of (byte ∷ name)) (some-segments (byte ∷ name)) ∙ ap Some (join_with_byte-slice_split 47 (byte ∷ name))
+pub joined_segments-instance : (name : List ℕ) → joined_segments (instance_segments name) ≡ instance_before name
+joined_segments-instance [] = refl
+joined_segments-instance (byte ∷ name) = joined_segments-some (segments_of (byte ∷ name)) (some-segments (byte ∷ name)) ∙ ap Some (join_with_byte-slice_split 47 (byte ∷ name))

@@ -8,10 +8,10 @@ use Rattle.std.proofs.lemmas.Slice.Eq.{bytes_eq-Decides}
 use Rattle.resource_names.specs.declared.name.NameError.{NameError}
 use Rattle.resource_names.specs.declared.name.NameError.TheVariants.{Form}
 use Rattle.resource_names.specs.Names.{◌>>=◌, or_fault, instance_of, is_blobs}
-use Rattle.resource_names.specs.Segments.{segments_of, joined}
+use Rattle.resource_names.specs.Segments.{segments_of, joined_segments}
 use Rattle.resource_names.specs.Written.{NoneDivides, HasNoSlash, instance_text}
 use Rattle.resource_names.proofs.SegmentLemmas.{join-append}
-use Rattle.resource_names.proofs.Divisions.{segments-joined, instance_before}
+use Rattle.resource_names.proofs.Divisions.{segments-joined_segments, instance_before}
 
 -- what a step gave, where all succeed
 pub record Gave {A B : Type 0} (r : Result A NameError) (f : A → Result B NameError) (b : B) : Type 0 where
@@ -47,7 +47,7 @@ same_segments passed s t after others e f = rw (e, f) refl
 
 -- a text is its instance with a slash, and its other segments
 pub text_divided : (text name : List ℕ) (passed : List (List ℕ)) (segment next : List ℕ) (after : List (List ℕ)) → segments_of text ≡ passed ++ segment ∷ next ∷ after
-    → instance_before name ≡ joined passed → text ≡ instance_text name ++ (segment ++ 47 ∷ join_with_byte 47 (next ∷ after))
+    → instance_before name ≡ joined_segments passed → text ≡ instance_text name ++ (segment ++ 47 ∷ join_with_byte 47 (next ∷ after))
 text_divided text [] [] segment next after h i = sym (join_with_byte-slice_split 47 text) ∙ ap (join_with_byte 47) h
 text_divided text (byte ∷ name) [] segment next after h i = cc
 text_divided text [] (first ∷ passed) segment next after h i = cc
@@ -61,9 +61,9 @@ text_divided text (byte ∷ name) (first ∷ passed) segment next after h i =
 
 -- the segments of an instance are those that were passed
 pub none_found : (divides : List ℕ → Bool) (name : List ℕ) (passed : List (List ℕ)) → divides [] ≡ false → AllByRecursion HasNoSlash passed → NoneDivides divides passed
-    → instance_before name ≡ joined passed → NoneDivides divides (segments_of name)
+    → instance_before name ≡ joined_segments passed → NoneDivides divides (segments_of name)
 none_found divides [] passed empty clean none i = (empty, tt)
 none_found divides (byte ∷ name) [] empty clean none i = cc
 none_found divides (byte ∷ name) (first ∷ passed) empty clean none i =
     let same : join_with_byte 47 (first ∷ passed) ≡ byte ∷ name = cc in
-    subst (λ (n : List ℕ). NoneDivides divides (segments_of n)) same (subst (NoneDivides divides) (sym (segments-joined first passed clean)) none)
+    subst (λ (n : List ℕ). NoneDivides divides (segments_of n)) same (subst (NoneDivides divides) (sym (segments-joined_segments first passed clean)) none)

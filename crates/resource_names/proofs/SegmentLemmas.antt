@@ -3,7 +3,7 @@ use Rattle.std.proofs.Common.{◌≡◌, ℕ, ◌+◌, ◌-◌, ◌<◌, ◌≤�
 use Rattle.std.proofs.lemmas.List.Splits.{slice_split_first, slice_split_none, length-slice_split, join_with_byte-slice_split}
 use Rattle.std.proofs.lemmas.List.Sums.{fails_before_first}
 use Rattle.std.specs.List.{position_or_len, before_first, after_first, join_with_byte, count_by}
-use Rattle.resource_names.specs.Segments.{segments_of, joined}
+use Rattle.resource_names.specs.Segments.{segments_of, joined_segments}
 
 abbrev pub is_slash : ℕ → Bool
 is_slash byte = byte == 47
@@ -49,10 +49,10 @@ rest-short text rest (first ∷ firsts) h =
     omega arith
 
 -- where nothing stands before what is left, no segment was passed
-pub joined-none : (text rest : List ℕ) (passed : List (List ℕ)) → segments_of text ≡ passed ++ segments_of rest
-    → length text - length rest ≡ 0 → joined passed ≡ None
-joined-none text rest [] h same = refl
-joined-none text rest (first ∷ firsts) h same =
+pub joined_segments-none : (text rest : List ℕ) (passed : List (List ℕ)) → segments_of text ≡ passed ++ segments_of rest
+    → length text - length rest ≡ 0 → joined_segments passed ≡ None
+joined_segments-none text rest [] h same = refl
+joined_segments-none text rest (first ∷ firsts) h same =
     let e = ap length (rest-after text rest first firsts h) in
     let n = length-append (join_with_byte 47 (first ∷ firsts)) (47 ∷ rest) in
     absurd (omega arith)
@@ -66,10 +66,10 @@ get-front [] rest byte = refl
 get-front (first ∷ front) rest byte = get-front front rest byte
 
 -- otherwise the segments passed, joined, are what stands before the last slash before it
-pub joined-some : (text rest : List ℕ) (passed : List (List ℕ)) (start : ℕ) → segments_of text ≡ passed ++ segments_of rest
-    → start ≡ length text - length rest → (start ≡ 0 → ⊥) → joined passed ≡ Some (take (start - 1) text)
-joined-some text rest [] start h is some = let e = ap length (rest-alone text rest h) in absurd (some (omega arith))
-joined-some text rest (first ∷ firsts) start h is some =
+pub joined_segments-some : (text rest : List ℕ) (passed : List (List ℕ)) (start : ℕ) → segments_of text ≡ passed ++ segments_of rest
+    → start ≡ length text - length rest → (start ≡ 0 → ⊥) → joined_segments passed ≡ Some (take (start - 1) text)
+joined_segments-some text rest [] start h is some = let e = ap length (rest-alone text rest h) in absurd (some (omega arith))
+joined_segments-some text rest (first ∷ firsts) start h is some =
     let front = join_with_byte 47 (first ∷ firsts) in
     let whole : text ≡ front ++ 47 ∷ rest = rest-after text rest first firsts h in
     let e = ap length whole in

@@ -8,10 +8,10 @@ use Rattle.std.proofs.lemmas.Bool.Decides.{nat_tests}
 use Rattle.std.proofs.lemmas.Slice.Eq.{bytes_eq-Decides}
 use Rattle.digest.specs.Text.{hash_text}
 use Rattle.resource_names.specs.declared.name.NameError.TheVariants.{Form}
-use Rattle.resource_names.specs.Names.{WriteNameValue, or_fault, is_blobs, divides_write, uncompressed_upload, instance_of, uuid_of, blobs_place, digest_of_segments, upload_named, write_name}
-use Rattle.resource_names.specs.Segments.{segments_of, joined, divided}
+use Rattle.resource_names.specs.Names.{WriteNameValue, or_fault, is_blobs, divides_write, upload_compression_check, instance_of, uuid_of, blobs_place, digest_of_segments, upload_named, write_name}
+use Rattle.resource_names.specs.Segments.{segments_of, joined_segments, division_of}
 use Rattle.resource_names.specs.Written.{WritesWrite, HasNoSlash, AreFurther, digest_text, instance_text}
-use Rattle.resource_names.proofs.Divisions.{segments-word, segments-append, segments-clean, clean-front, divided-found, divided-at, instance_segments, segments-instance, none-instance, instance_before, joined-instance}
+use Rattle.resource_names.proofs.Divisions.{segments-word, segments-append, segments-clean, clean-front, divided-found, divided-at, instance_segments, segments-instance, none-instance, instance_before, joined_segments-instance}
 use Rattle.resource_names.proofs.Digests.{IsDigestText, same_digest, digest_found, digest_read, written_digest}
 use Rattle.resource_names.proofs.Names.{gave, was_some, is_blobs-found, instance_found, instance_read, same_segments, text_divided, none_found}
 
@@ -85,13 +85,13 @@ uploads_segment segment h = (bytes_eq-Decides segment (codes "uploads")).0 h
 
 pub write_found : (text : List ℕ) (name : WriteNameValue) → write_name text ≡ Ok name → WritesWrite text name
 write_found text name h =
-    let d = gave (or_fault Form (divided divides_write (segments_of text))) _ name h in
-    let u = gave (uncompressed_upload d.value.after) _ name d.rest in
+    let d = gave (or_fault Form (division_of divides_write (segments_of text))) _ name h in
+    let u = gave (upload_compression_check d.value.after) _ name d.rest in
     let i = gave (instance_of d.value.before) _ name u.rest in
     let up = upload_found i.value d.value.after name i.rest in
     let at = divided-found divides_write [] (segments_of text) d.value (was_some Form _ d.value d.is) in
     let uploads = uploads_segment d.value.segment at.test in
-    let before : instance_before name.instance ≡ joined at.passed = ap instance_before up.instance_is ∙ sym (instance_found d.value.before i.value i.is) ∙ at.before_is in
+    let before : instance_before name.instance ≡ joined_segments at.passed = ap instance_before up.instance_is ∙ sym (instance_found d.value.before i.value i.is) ∙ at.before_is in
     let after = codes "blobs" ∷ up.hash ∷ up.size ∷ up.more in
     let are : segments_of text ≡ at.passed ++ codes "uploads" ∷ name.uuid ∷ after = at.segments_are ∙ same_segments at.passed _ _ _ _ uploads up.are in
     let clean = clean-front at.passed (codes "uploads" ∷ name.uuid ∷ after) (subst (AllByRecursion HasNoSlash) are (segments-clean text)) in
@@ -153,4 +153,4 @@ write_only text name w =
     ap segments_of whole ∙ segments-instance name.instance (codes "uploads" ++ 47 ∷ rest)
     ∙ ap (λ (found : List (List ℕ)). instance_segments name.instance ++ found) uploads in
     let at = divided-at divides_write [] (instance_segments name.instance) (codes "uploads") after (none-instance divides_write name.instance w.apart) refl in
-    rw (segments, at, joined-instance name.instance, instance_read name.instance, uuid_read name.uuid w.uuid_some w.uuid_most, digest_read name.digest w.nameable) refl
+    rw (segments, at, joined_segments-instance name.instance, instance_read name.instance, uuid_read name.uuid w.uuid_some w.uuid_most, digest_read name.digest w.nameable) refl

@@ -6,7 +6,7 @@ use Rattle.digest.specs.declared.Digest.{Digest}
 use Rattle.digest.specs.Text.{hash_in}
 use Rattle.resource_names.specs.declared.name.NameError.{NameError}
 use Rattle.resource_names.specs.declared.name.NameError.TheVariants.{Form, Hash, Size, Compressed}
-use Rattle.resource_names.specs.Segments.{divided, segments_of}
+use Rattle.resource_names.specs.Segments.{division_of, segments_of}
 use Rattle.resource_names.specs.Size.{size_in}
 
 -- what a Read names; the instance is empty where the name has none
@@ -22,7 +22,8 @@ pub record WriteNameValue : Type 0 where
 
 -- a step, and then one that takes what it gave
 infixl 10 ◌>>=◌
-abbrev pub ◌>>=◌ : {A B : Type 0} → Result A NameError → (A → Result B NameError) → Result B NameError
+abbrev pub ◌>>=◌ : {A B : Type 0} → Result A NameError → (A → Result B NameError) →
+    Result B NameError
 (Ok x) >>= f = f x
 (Err e) >>= f = Err e
 
@@ -45,8 +46,8 @@ abbrev pub divides_write : List ℕ → Bool
 divides_write segment = bytes_eq segment (codes "uploads")
 
 -- a segment in the place of `blobs`
-abbrev pub uncompressed : List ℕ → Result Unit NameError
-uncompressed segment = if is_compressed segment then Err Compressed else Ok tt
+abbrev pub compression_check : List ℕ → Result Unit NameError
+compression_check segment = if is_compressed segment then Err Compressed else Ok tt
 
 -- the instance's name: with its slash it has a byte at least
 abbrev pub instance_of : Option (List ℕ) → Result (List ℕ) NameError
@@ -72,9 +73,9 @@ abbrev pub blobs_place : List ℕ → Result Unit NameError
 blobs_place segment = if is_blobs segment then Ok tt else Err Form
 
 -- `compressed-blobs` in the place of `blobs`, after the uuid
-abbrev pub uncompressed_upload : List (List ℕ) → Result Unit NameError
-uncompressed_upload (uuid ∷ place ∷ segments) = uncompressed place
-uncompressed_upload segments = Ok tt
+abbrev pub upload_compression_check : List (List ℕ) → Result Unit NameError
+upload_compression_check (uuid ∷ place ∷ segments) = compression_check place
+upload_compression_check segments = Ok tt
 
 -- what stands after `uploads`; what follows the size says nothing
 abbrev pub upload_named : List ℕ → List (List ℕ) → Result WriteNameValue NameError
@@ -88,8 +89,8 @@ upload_named instance segments = Err Form
 -- `{instance}/blobs/{hash}/{size}`
 abbrev pub read_name : List ℕ → Result ReadNameValue NameError
 read_name text = do
-  d ← or_fault Form (divided divides_read (segments_of text))
-  _ ← uncompressed d.segment
+  d ← or_fault Form (division_of divides_read (segments_of text))
+  _ ← compression_check d.segment
   i ← instance_of d.before
   digest ← digest_alone d.after
   Ok (record { instance = i; digest = digest })
@@ -97,8 +98,8 @@ read_name text = do
 -- `{instance}/uploads/{uuid}/blobs/{hash}/{size}`, and perhaps further segments
 abbrev pub write_name : List ℕ → Result WriteNameValue NameError
 write_name text = do
-  d ← or_fault Form (divided divides_write (segments_of text))
-  _ ← uncompressed_upload d.after
+  d ← or_fault Form (division_of divides_write (segments_of text))
+  _ ← upload_compression_check d.after
   i ← instance_of d.before
   upload_named i d.after
 

@@ -13,26 +13,26 @@ segments_left None = []
 segments_left (Some rest) = segments_of rest.now
 
 -- segments with a slash between each two, and none where there is no segment
-abbrev pub joined : List (List ℕ) → Option (List ℕ)
-joined [] = None
-joined (segment ∷ segments) = Some (join_with_byte 47 (segment ∷ segments))
+abbrev pub joined_segments : List (List ℕ) → Option (List ℕ)
+joined_segments [] = None
+joined_segments (segment ∷ segments) = Some (join_with_byte 47 (segment ∷ segments))
 
 -- a text around the segment that it is divided at: what stands before the slash before it, where
 -- there is one, that segment, and those after it
-pub record Divided : Type 0 where
+pub record DivisionValue : Type 0 where
   pub before : Option (List ℕ)
   pub segment : List ℕ
   pub after : List (List ℕ)
 
 -- the first segment that passes a test, where these were passed before it
-abbrev pub divided_after : List (List ℕ) → (List ℕ → Bool) → List (List ℕ) → Option Divided
-divided_after passed divides [] = None
-divided_after passed divides (segment ∷ segments) =
-    if divides segment then Some (record { before = joined passed; segment = segment; after = segments })
-    else divided_after (passed ++ segment ∷ []) divides segments
+abbrev pub division_after : List (List ℕ) → (List ℕ → Bool) → List (List ℕ) → Option DivisionValue
+division_after passed divides [] = None
+division_after passed divides (segment ∷ segments) =
+    if divides segment then Some (record { before = joined_segments passed; segment = segment; after = segments })
+    else division_after (passed ++ segment ∷ []) divides segments
 
-abbrev pub divided : (List ℕ → Bool) → List (List ℕ) → Option Divided
-divided divides segments = divided_after [] divides segments
+abbrev pub division_of : (List ℕ → Bool) → List (List ℕ) → Option DivisionValue
+division_of divides segments = division_after [] divides segments
 
 -- a text ends with these bytes, which begin a segment
 pub record IsRest (text rest : List ℕ) : Type 0 where

@@ -1,7 +1,7 @@
 ghost use Rattle.std.specs.Prelude.{◌≡◌, ◌<◌, ◌≤◌, ◌^◌, ◌∷◌, [], length, IfOk, OnErr, IfErr};
 ghost use Rattle.std.specs.Option.{option_copied};
 ghost use Rattle.resource_names.specs.Names as names;
-ghost use Rattle.resource_names.specs.Names.{Gives, read_name, write_name, digest_of_segments, instance_of, uncompressed, uncompressed_upload, upload_named};
+ghost use Rattle.resource_names.specs.Names.{Gives, read_name, write_name, digest_of_segments, instance_of, compression_check, upload_compression_check, upload_named};
 ghost use Rattle.resource_names.specs.Segments.{segments_left};
 ghost use Rattle.resource_names.specs.Shown.{read_name_shown, write_name_shown};
 ghost use Rattle.resource_names.specs.declared.name.NameError.TheVariants.{Form};
@@ -29,7 +29,7 @@ fn next_segment(left: Option<&str>) -> Result<(&str, Option<&str>), NameError>
 
 /// Compressed bytes are not served.
 fn check_uncompressed(segment: &str) -> Result<(), NameError>
-    ensures { result ≡ uncompressed segment.now }
+    ensures { result ≡ compression_check segment.now }
 {
     if segment == "compressed-blobs" {
         return Err(NameError::Compressed);
@@ -88,7 +88,7 @@ pub fn parse_read(text: &str) -> Result<ReadName<'_>, NameError>
 
 /// Compressed bytes are not served, whatever else a name says.
 fn check_uncompressed_upload(left: Option<&str>) -> Result<(), NameError>
-    ensures { result ≡ uncompressed_upload (segments_left left.entry) }
+    ensures { result ≡ upload_compression_check (segments_left left.entry) }
 {
     let Ok((_uuid, left)) = next_segment(left) else {
         return Ok(());

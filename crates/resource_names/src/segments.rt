@@ -1,6 +1,6 @@
 ghost use Rattle.std.specs.Prelude.{◌≡◌, ◌∷◌, ◌++◌, ℕ, List};
 ghost use Rattle.std.specs.Option.{option_map, option_copied};
-ghost use Rattle.resource_names.specs.Segments.{segments_of, segments_left, divided, joined, IsRest};
+ghost use Rattle.resource_names.specs.Segments.{segments_of, segments_left, division_of, joined_segments, IsRest};
 ghost use Rattle.resource_names.specs.Shown.{division_shown, divides};
 
 /// Which segment a name is divided at.
@@ -45,7 +45,8 @@ pub(crate) fn first_segment(text: &str) -> (&str, Option<&str>)
 
 /// Divides a text at the first segment that may divide it.
 pub(crate) fn divide(text: &str, divider: Divider) -> Option<Division<'_>>
-    ensures { option_map division_shown result ≡ divided (divides divider) (segments_of text.now) }
+    ensures { option_map division_shown result
+        ≡ division_of (divides divider) (segments_of text.now) }
 {
     let mut left = Some(text);
     'segments: while let Some(rest) = left {
@@ -68,7 +69,7 @@ pub(crate) fn divide(text: &str, divider: Divider) -> Option<Division<'_>>
 fn before_rest<'a>(text: &'a str, rest: &str) -> Option<&'a str>
     requires { IsRest text.now rest.now }
     ensures { (passed : List (List ℕ)) → segments_of text.now ≡ passed ++ segments_of rest.now
-        → option_copied result ≡ joined passed }
+        → option_copied result ≡ joined_segments passed }
 {
     let start = text.len() - rest.len();
     if start == 0 {

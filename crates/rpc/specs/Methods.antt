@@ -6,9 +6,12 @@ use Rattle.rpc.specs.declared.method.Method.{Method}
 use Rattle.rpc.specs.declared.method.Method.TheVariants.{FindMissingBlobs, BatchUpdateBlobs, BatchReadBlobs, GetTree, GetActionResult, UpdateActionResult, Execute, WaitExecution, GetCapabilities, Read, Write, QueryWriteStatus}
 
 abbrev pub path_of : Method → List ℕ
-path_of FindMissingBlobs = codes "/build.bazel.remote.execution.v2.ContentAddressableStorage/FindMissingBlobs"
-path_of BatchUpdateBlobs = codes "/build.bazel.remote.execution.v2.ContentAddressableStorage/BatchUpdateBlobs"
-path_of BatchReadBlobs = codes "/build.bazel.remote.execution.v2.ContentAddressableStorage/BatchReadBlobs"
+path_of FindMissingBlobs =
+    codes "/build.bazel.remote.execution.v2.ContentAddressableStorage/FindMissingBlobs"
+path_of BatchUpdateBlobs =
+    codes "/build.bazel.remote.execution.v2.ContentAddressableStorage/BatchUpdateBlobs"
+path_of BatchReadBlobs =
+    codes "/build.bazel.remote.execution.v2.ContentAddressableStorage/BatchReadBlobs"
 path_of GetTree = codes "/build.bazel.remote.execution.v2.ContentAddressableStorage/GetTree"
 path_of GetActionResult = codes "/build.bazel.remote.execution.v2.ActionCache/GetActionResult"
 path_of UpdateActionResult = codes "/build.bazel.remote.execution.v2.ActionCache/UpdateActionResult"
@@ -21,7 +24,10 @@ path_of QueryWriteStatus = codes "/google.bytestream.ByteStream/QueryWriteStatus
 
 -- all of them
 abbrev pub methods : List Method
-methods = FindMissingBlobs ∷ BatchUpdateBlobs ∷ BatchReadBlobs ∷ GetTree ∷ GetActionResult ∷ UpdateActionResult ∷ Execute ∷ WaitExecution ∷ GetCapabilities ∷ Read ∷ Write ∷ QueryWriteStatus ∷ []
+methods =
+    FindMissingBlobs ∷ BatchUpdateBlobs ∷ BatchReadBlobs ∷ GetTree ∷ GetActionResult
+    ∷ UpdateActionResult ∷ Execute ∷ WaitExecution ∷ GetCapabilities ∷ Read ∷ Write
+    ∷ QueryWriteStatus ∷ []
 
 -- the first of these that has the path
 abbrev pub method_in : List Method → List ℕ → Option Method

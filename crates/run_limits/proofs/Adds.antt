@@ -5,15 +5,15 @@ use Rattle.std.specs.List.{AllByRecursion}
 use Rattle.std.specs.Map.{lookup_entry, remove_entry}
 use Rattle.std.proofs.lemmas.List.Elements.{All-contains_itself, recursion_from_All}
 use Rattle.digest.specs.declared.Digest.{Digest}
-use Rattle.digest.specs.Naming.{Names, same}
-use Rattle.instance_view.specs.Visible.{Blob, seen, used, fronted}
-use Rattle.quota_evict.specs.Admission.{longest_front, admitted}
+use Rattle.digest.specs.Naming.{Names, same_digest}
+use Rattle.instance_view.specs.Visible.{Blob, visible_text, visible_after_use, with_match_first}
+use Rattle.quota_evict.specs.Admission.{longest_front, visible_after_admission}
 use Rattle.quota_evict.proofs.Limits.{take-all}
 use Rattle.rpc.specs.declared.refusal.Refusal.{Refusal}
 use Rattle.uploads.specs.declared.error.UploadError.{UploadError}
 use Rattle.uploads.specs.Uploads.{KeyValue, text_so_far}
 use Rattle.uploads.specs.Writing.{finish_answer, after_piece}
-use Rattle.bytestream.specs.Writing.{OpenWriteValue, PartValue, WriteState, FirstAsked, first_asked, next_asked, piece_taken, finished, after_end, after_taking, after_part, after_first_asked, after_first, after_next_asked, after_next}
+use Rattle.bytestream.specs.Writing.{OpenWriteValue, PartValue, WriteState, FirstAsked, first_asked, next_asked, part_outcome, after_last_part, after_end, after_taking, after_part, after_first_asked, after_first, after_next_asked, after_next}
 use Rattle.instance_core.specs.State.{InstanceState}
 use Rattle.instance_core.specs.Writes.{write_state, with_piece, with_part}
 use Rattle.run_limits.specs.Named.{IsOldOrNamed}
@@ -38,11 +38,11 @@ found_has P t (x ∷ xs) b h is = go (t x.0) is (λ later. found_has P t xs b h.
   go true is ih = let equal : x ≡ b = cc in subst P equal h.0
   go false is ih = ih is
 
-used_all : (P : Blob → Type 0) (d : Digest) (bs : List Blob) → AllByRecursion P bs → AllByRecursion P (used d bs)
-used_all P d bs h = go (lookup_entry (same d) bs) refl where
-  go : (o : Option Blob) → lookup_entry (same d) bs ≡ o → AllByRecursion P (fronted (same d) bs)
+used_all : (P : Blob → Type 0) (d : Digest) (bs : List Blob) → AllByRecursion P bs → AllByRecursion P (visible_after_use d bs)
+used_all P d bs h = go (lookup_entry (same_digest d) bs) refl where
+  go : (o : Option Blob) → lookup_entry (same_digest d) bs ≡ o → AllByRecursion P (with_match_first (same_digest d) bs)
   go None is = rw is h
-  go (Some b) is = rw is (found_has P (same d) bs b h is, removed_all P (same d) bs h)
+  go (Some b) is = rw is (found_has P (same_digest d) bs b h is, removed_all P (same_digest d) bs h)
 
 front_all : (P : Blob → Type 0) (room : ℕ) (bs : List Blob) → AllByRecursion P bs → AllByRecursion P (longest_front room bs)
 front_all P room [] h = h
@@ -51,9 +51,9 @@ front_all P room (b ∷ bs) h = go (nat_le (length b.1) room) (front_all P (room
   go true ih = (h.0, ih)
   go false ih = tt
 
-admitted_all : (P : Blob → Type 0) (limit quota : ℕ) (d : Digest) (text : List ℕ) (bs : List Blob) → P (d, text) → AllByRecursion P bs → AllByRecursion P (admitted limit quota d text bs)
-admitted_all P limit quota d text bs new h = go (is_some (seen d bs)) (nat_lt quota (length text)) where
-  go : (s t : Bool) → AllByRecursion P (cond s (used d bs) (cond t bs ((d, text) ∷ take (limit - 1) (longest_front (quota - length text) bs))))
+admitted_all : (P : Blob → Type 0) (limit quota : ℕ) (d : Digest) (text : List ℕ) (bs : List Blob) → P (d, text) → AllByRecursion P bs → AllByRecursion P (visible_after_admission limit quota d text bs)
+admitted_all P limit quota d text bs new h = go (is_some (visible_text d bs)) (nat_lt quota (length text)) where
+  go : (s t : Bool) → AllByRecursion P (cond s (visible_after_use d bs) (cond t bs ((d, text) ∷ take (limit - 1) (longest_front (quota - length text) bs))))
   go true t = used_all P d bs h
   go false true = h
   go false false = (new, take-all P (limit - 1) (longest_front (quota - length text) bs) (front_all P (quota - length text) bs h))
@@ -63,13 +63,13 @@ admitted_all P limit quota d text bs new h = go (is_some (seen d bs)) (nat_lt qu
 abbrev HoldsNamed : (Blob → Type 0) → Type 0
 HoldsNamed P = (b : Blob) → IsNamed b → P b
 
-finished_all : (P : Blob → Type 0) (limit quota : ℕ) (key : KeyValue) (w : WriteState) (r : Result Unit UploadError) → HoldsNamed P → r ≡ finish_answer key w.uploads → AllByRecursion P w.visible → AllByRecursion P (finished limit quota key r w).visible
+finished_all : (P : Blob → Type 0) (limit quota : ℕ) (key : KeyValue) (w : WriteState) (r : Result Unit UploadError) → HoldsNamed P → r ≡ finish_answer key w.uploads → AllByRecursion P w.visible → AllByRecursion P (after_last_part limit quota key r w).visible
 finished_all P limit quota key w (Ok u) named is h = admitted_all P limit quota key.digest (text_so_far key w.uploads) w.visible (named (key.digest, text_so_far key w.uploads) (finish_names key w.uploads u is)) h
 finished_all P limit quota key w (Err e) named is h = h
 
 end_all : (P : Blob → Type 0) (limit quota : ℕ) (part : PartValue) (w : WriteState) → HoldsNamed P → AllByRecursion P w.visible → AllByRecursion P (after_end limit quota part w).visible
 end_all P limit quota part w named h = go part.is_last where
-  go : (last : Bool) → AllByRecursion P (cond last (finished limit quota part.key (finish_answer part.key w.uploads) w) w).visible
+  go : (last : Bool) → AllByRecursion P (cond last (after_last_part limit quota part.key (finish_answer part.key w.uploads) w) w).visible
   go true = finished_all P limit quota part.key w (finish_answer part.key w.uploads) named refl h
   go false = h
 
@@ -81,18 +81,18 @@ part_all P limit quota moment part w (Err e) named h = h
 
 first_all : (P : Blob → Type 0) (own : List ℕ) (limit quota moment : ℕ) (message : List ℕ) (w : WriteState) → HoldsNamed P → AllByRecursion P w.visible → AllByRecursion P (after_first own limit quota moment message w).visible
 first_all P own limit quota moment message w named h = go (first_asked own message) where
-  asked_all : (asked : FirstAsked) (b : Bool) → AllByRecursion P (cond b (record w { visible = used asked.part.key.digest w.visible }) (after_part true limit quota moment asked.part w)).visible
+  asked_all : (asked : FirstAsked) (b : Bool) → AllByRecursion P (cond b (record w { visible = visible_after_use asked.part.key.digest w.visible }) (after_part true limit quota moment asked.part w)).visible
   asked_all asked true = used_all P asked.part.key.digest w.visible h
-  asked_all asked false = part_all P limit quota moment asked.part w (piece_taken true quota asked.part w.uploads) named h
+  asked_all asked false = part_all P limit quota moment asked.part w (part_outcome true quota asked.part w.uploads) named h
 
   go : (r : Result FirstAsked Refusal) → AllByRecursion P (after_first_asked limit quota moment r w).visible
-  go (Ok asked) = asked_all asked (is_some (seen asked.part.key.digest w.visible))
+  go (Ok asked) = asked_all asked (is_some (visible_text asked.part.key.digest w.visible))
   go (Err refusal) = h
 
 next_all : (P : Blob → Type 0) (call : OpenWriteValue) (limit quota moment : ℕ) (message : List ℕ) (w : WriteState) → HoldsNamed P → AllByRecursion P w.visible → AllByRecursion P (after_next call limit quota moment message w).visible
 next_all P call limit quota moment message w named h = go (next_asked call message) where
   go : (r : Result PartValue Refusal) → AllByRecursion P (after_next_asked limit quota moment r w).visible
-  go (Ok part) = part_all P limit quota moment part w (piece_taken false quota part w.uploads) named h
+  go (Ok part) = part_all P limit quota moment part w (part_outcome false quota part w.uploads) named h
   go (Err refusal) = h
 
 -- ---- old texts, and named ones
@@ -108,7 +108,7 @@ next_adds call limit quota moment message w = next_all (IsOldOrNamed w.visible) 
 
 -- a piece changes no text
 pub piece_adds : (first : Bool) (s : InstanceState) (asked : Result PartValue Refusal) → AllByRecursion (IsOldOrNamed s.visible) (with_part first s asked).visible
-piece_adds first s (Ok part) = go (piece_taken first s.quota part s.uploads) where
+piece_adds first s (Ok part) = go (part_outcome first s.quota part s.uploads) where
   go : (r : Result Unit UploadError) → AllByRecursion (IsOldOrNamed s.visible) (with_piece s.moment part r (write_state s)).visible
   go (Ok u) = old_ones s.visible
   go (Err e) = old_ones s.visible

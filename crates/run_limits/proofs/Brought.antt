@@ -3,7 +3,7 @@ use Rattle.std.proofs.Common.{◌≡◌, ℕ, zero, suc, ◌+◌, ◌≤◌, Boo
 use Rattle.std.specs.List.{AllByRecursion}
 use Rattle.std.specs.Prelude.{filter}
 use Rattle.std.proofs.lemmas.List.{length-take}
-use Rattle.http2_streams.specs.Diary.{Entry, has_failed, live}
+use Rattle.http2_streams.specs.History.{Entry, has_failed, live_streams}
 use Rattle.grpc_messages.specs.declared.error.MessagesError.{MessagesError}
 use Rattle.grpc_messages.specs.Wire.{size_of}
 use Rattle.grpc_messages.specs.Reading.{whole_at, message_at, split_by, split_in}
@@ -20,7 +20,7 @@ use Rattle.conn_core.specs.Past.{Past, with_frame, with_fault}
 use Rattle.conn_core.specs.Received.{outcome}
 use Rattle.conn_core.specs.declared.event.CallEvent.{CallEvent}
 use Rattle.conn_core.specs.declared.event.CallEvent.TheVariants as Seen
-use Rattle.conn_core.specs.Calls.{message_limit, messages_of, at_end, behind_messages, behind_front, by_end, more_text, on_request, call_events_of, is_call, text, cancels}
+use Rattle.conn_core.specs.Calls.{message_limit, messages_of, events_at_end, events_behind_messages, events_behind_front, events_by_end, events_of_content, events_of_request, call_events_of, is_call, stream_text, cancels}
 use Rattle.instance_core.specs.Calls.{IsShortRequest, IsShortEvent}
 use Rattle.served_instance.specs.Calls.{call_event_on}
 use Rattle.run_limits.proofs.Texts.{all_append}
@@ -64,32 +64,32 @@ all_messages : (s : ℕ) (ms : List (List ℕ)) → AreShort message_limit ms �
 all_messages s [] short = tt
 all_messages s (m ∷ ms) short = (short.0, all_messages s ms short.1)
 
-end_short : (s : ℕ) (rest : List ℕ) → AllByRecursion IsShortCall (at_end s rest)
+end_short : (s : ℕ) (rest : List ℕ) → AllByRecursion IsShortCall (events_at_end s rest)
 end_short s [] = (tt, tt)
 end_short s (b ∷ bs) = (tt, tt)
 
-behind_short : (s : ℕ) (end_stream : Bool) (end : Result (List ℕ) MessagesError) → AllByRecursion IsShortCall (behind_messages s end_stream end)
+behind_short : (s : ℕ) (end_stream : Bool) (end : Result (List ℕ) MessagesError) → AllByRecursion IsShortCall (events_behind_messages s end_stream end)
 behind_short s true (Ok rest) = end_short s rest
 behind_short s false (Ok rest) = tt
 behind_short s end_stream (Err e) = (tt, tt)
 
-front_short : (s : ℕ) (end_stream : Bool) (count : ℕ) (bytes : List ℕ) → AllByRecursion IsShortCall (behind_front s end_stream count (messages_of bytes))
+front_short : (s : ℕ) (end_stream : Bool) (count : ℕ) (bytes : List ℕ) → AllByRecursion IsShortCall (events_behind_front s end_stream count (messages_of bytes))
 front_short s end_stream count bytes =
     let ms : List (List ℕ) = drop count (messages_of bytes).messages in
-    all_append IsShortCall (map (Seen.Message s) ms) (behind_messages s end_stream (messages_of bytes).end)
+    all_append IsShortCall (map (Seen.Message s) ms) (events_behind_messages s end_stream (messages_of bytes).end)
     (all_messages s ms (all_drop (λ (m : List ℕ). length m ≤ message_limit) count (messages_of bytes).messages (split_short message_limit (suc (length bytes)) bytes)))
     (behind_short s end_stream (messages_of bytes).end)
 
-by_end_short : (end : Result (List ℕ) MessagesError) (events : List CallEvent) → AllByRecursion IsShortCall events → AllByRecursion IsShortCall (by_end end events)
+by_end_short : (end : Result (List ℕ) MessagesError) (events : List CallEvent) → AllByRecursion IsShortCall events → AllByRecursion IsShortCall (events_by_end end events)
 by_end_short (Ok rest) events short = short
 by_end_short (Err e) events short = tt
 
-text_short : (s : ℕ) (before content : List ℕ) (end_stream : Bool) → AllByRecursion IsShortCall (more_text s before content end_stream)
+text_short : (s : ℕ) (before content : List ℕ) (end_stream : Bool) → AllByRecursion IsShortCall (events_of_content s before content end_stream)
 text_short s before content end_stream =
-    by_end_short (messages_of before).end (behind_front s end_stream (length (messages_of before).messages) (messages_of (before ++ content)))
+    by_end_short (messages_of before).end (events_behind_front s end_stream (length (messages_of before).messages) (messages_of (before ++ content)))
     (front_short s end_stream (length (messages_of before).messages) (before ++ content))
 
-request_short : (s : ℕ) (end_stream : Bool) (r : Result Method HeadFault) → AllByRecursion IsShortCall (on_request s end_stream r)
+request_short : (s : ℕ) (end_stream : Bool) (r : Result Method HeadFault) → AllByRecursion IsShortCall (events_of_request s end_stream r)
 request_short s end_stream (Ok method) = (tt, text_short s [] [] end_stream)
 request_short s end_stream (Err fault) = tt
 
@@ -100,8 +100,8 @@ either_short false these those a b = b
 event_short : (d : List Entry) (e : Event) → AllByRecursion IsShortCall (call_events_of d e)
 event_short d Nothing = tt
 event_short d (Request s fields end_stream) = request_short s end_stream (head_of fields)
-event_short d (Content s content end_stream) = either_short (is_call d s) (more_text s (text d s) content end_stream) [] (text_short s (text d s) content end_stream) tt
-event_short d (Trailers s) = either_short (is_call d s) (more_text s (text d s) [] true) [] (text_short s (text d s) [] true) tt
+event_short d (Content s content end_stream) = either_short (is_call d s) (events_of_content s (stream_text d s) content end_stream) [] (text_short s (stream_text d s) content end_stream) tt
+event_short d (Trailers s) = either_short (is_call d s) (events_of_content s (stream_text d s) [] true) [] (text_short s (stream_text d s) [] true) tt
 event_short d (Cancel s) = either_short (is_call d s) (Seen.Cancel s ∷ []) [] (tt, tt) tt
 
 all_cancels : (ss : List ℕ) → AllByRecursion IsShortCall (map Seen.Cancel ss)
@@ -109,7 +109,7 @@ all_cancels [] = tt
 all_cancels (s ∷ ss) = (tt, all_cancels ss)
 
 pub cancels_short : (d : List Entry) → AllByRecursion IsShortCall (cancels d)
-cancels_short d = either_short (has_failed d) [] (map Seen.Cancel (filter (is_call d) (live d))) tt (all_cancels (filter (is_call d) (live d)))
+cancels_short d = either_short (has_failed d) [] (map Seen.Cancel (filter (is_call d) (live_streams d))) tt (all_cancels (filter (is_call d) (live_streams d)))
 
 -- ---- what is due on a connection
 
@@ -118,8 +118,8 @@ DueShort p = AllByRecursion IsShortCall p.due
 
 pub frame_short : (f : RawFrame) (p : Past) → DueShort p → DueShort (with_frame p f)
 frame_short f p short =
-    all_append IsShortCall p.due (cond (outcome p.diary f).fails (cancels p.diary) (call_events_of p.diary (outcome p.diary f).event)) short
-    (either_short (outcome p.diary f).fails (cancels p.diary) (call_events_of p.diary (outcome p.diary f).event) (cancels_short p.diary) (event_short p.diary (outcome p.diary f).event))
+    all_append IsShortCall p.due (cond (outcome p.history f).fails (cancels p.history) (call_events_of p.history (outcome p.history f).event)) short
+    (either_short (outcome p.history f).fails (cancels p.history) (call_events_of p.history (outcome p.history f).event) (cancels_short p.history) (event_short p.history (outcome p.history f).event))
 
 pub fault_short : (e : FrameError) (code : ErrorCode) (p : Past) → DueShort p → DueShort (with_fault p e code)
-fault_short e code p short = all_append IsShortCall p.due (cancels p.diary) short (cancels_short p.diary)
+fault_short e code p short = all_append IsShortCall p.due (cancels p.history) short (cancels_short p.history)

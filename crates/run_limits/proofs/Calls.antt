@@ -20,10 +20,10 @@ use Rattle.tree_calls.specs.Complete.{AreWithin}
 use Rattle.tree_calls.specs.Results.{after_get, after_update}
 use Rattle.tree_calls.proofs.Short.{get_stays_within, update_stays_within}
 use Rattle.instance_core.specs.Methods.{is_served, text_changes, result_changes, request_changes}
-use Rattle.instance_core.specs.Changes.{Change, Text, Goes, Ends, Wrote, Keeps, Expires, change_made, changed}
+use Rattle.instance_core.specs.Changes.{Change, Text, Goes, Ends, Wrote, Keeps, Expires, state_after_change, state_after_changes}
 use Rattle.instance_core.specs.Writes.{write_state, part_of, first_changes, next_changes, first_outcome, next_outcome}
 use Rattle.instance_core.proofs.Entries.{with_short, without_short}
-use Rattle.instance_core.specs.Answer.{answer, after, at_head, first_written, next_written, with_first, with_message, at_message, at_fault, with_request, at_end}
+use Rattle.instance_core.specs.Answer.{answer, state_after, head_answer, first_write_answer, next_write_answer, first_message_answer, answer_by_progress, message_answer, fault_answer, end_answer_by_progress, request_end_answer}
 use Rattle.run_limits.specs.Named.{StoresNamedText, StoresNamed}
 use Rattle.run_limits.proofs.Texts.{all_append, changes_named, change_within}
 use Rattle.run_limits.proofs.Writes.{IsWithin, piece_within, first_within, next_within, goes_below}
@@ -89,7 +89,7 @@ KeepsLimits quota (Wrote w) = IsWithin quota w
 KeepsLimits quota (Keeps results) = AreWithin results
 KeepsLimits quota Expires = Unit {0}
 
-change_keeps : (c : Change) (s : InstanceState) → KeepsLimits s.quota c → WithinLimits s → WithinLimits (change_made c s)
+change_keeps : (c : Change) (s : InstanceState) → KeepsLimits s.quota c → WithinLimits s → WithinLimits (state_after_change c s)
 change_keeps (Text c) s good w = record { quota = w.quota; texts = change_within most_blobs s.quota c s.visible (omega arith) good w.texts; uploads = w.uploads; results = w.results; calls = w.calls; messages = w.messages }
 change_keeps (Goes id call) s good w = record { quota = w.quota; texts = w.texts; uploads = w.uploads; results = w.results; calls = with_once id call s.calls w.calls; messages = with_short id call s.calls good w.messages }
 change_keeps (Ends id) s good w = record { quota = w.quota; texts = w.texts; uploads = w.uploads; results = w.results; calls = without_once id s.calls w.calls; messages = without_short id s.calls w.messages }
@@ -97,7 +97,7 @@ change_keeps (Wrote left) s good w = record { quota = w.quota; texts = good.text
 change_keeps (Keeps results) s good w = record { quota = w.quota; texts = w.texts; uploads = w.uploads; results = good; calls = w.calls; messages = w.messages }
 change_keeps Expires s good w = record { quota = w.quota; texts = w.texts; uploads = within_unexpired s.quota s.moment s.uploads w.uploads; results = w.results; calls = w.calls; messages = w.messages }
 
-same_quota : (c : Change) (s : InstanceState) → s.quota ≡ (change_made c s).quota
+same_quota : (c : Change) (s : InstanceState) → s.quota ≡ (state_after_change c s).quota
 same_quota (Text c) s = refl
 same_quota (Goes id call) s = refl
 same_quota (Ends id) s = refl
@@ -105,10 +105,10 @@ same_quota (Wrote left) s = refl
 same_quota (Keeps results) s = refl
 same_quota Expires s = refl
 
-changes_keep : (cs : List Change) (s : InstanceState) → AllByRecursion (KeepsLimits s.quota) cs → WithinLimits s → WithinLimits (changed cs s)
+changes_keep : (cs : List Change) (s : InstanceState) → AllByRecursion (KeepsLimits s.quota) cs → WithinLimits s → WithinLimits (state_after_changes cs s)
 changes_keep [] s good w = w
 changes_keep (c ∷ cs) s good w =
-    changes_keep cs (change_made c s) (subst (λ (quota : ℕ). AllByRecursion (KeepsLimits quota) cs) (same_quota c s) good.1) (change_keeps c s good.0 w)
+    changes_keep cs (state_after_change c s) (subst (λ (quota : ℕ). AllByRecursion (KeepsLimits quota) cs) (same_quota c s) good.1) (change_keeps c s good.0 w)
 
 -- ---- answers, whatever is to hold of their changes
 
@@ -143,10 +143,10 @@ texts_hold : (s : InstanceState) (P : Change → Type 0) → Allows s P → (cs 
 texts_hold s P a [] named = tt
 texts_hold s P a (c ∷ cs) named = (a.texts c named.0, texts_hold s P a cs named.1)
 
-head_holds : (s : InstanceState) (P : Change → Type 0) → Allows s P → (id : CallId) (method : Method) (o : Option CallValue) → AllAre P (at_head id method o).changes
+head_holds : (s : InstanceState) (P : Change → Type 0) → Allows s P → (id : CallId) (method : Method) (o : Option CallValue) → AllAre P (head_answer id method o).changes
 head_holds s P a id method (Some call) = tt
 head_holds s P a id method None = go (is_served method) refl where
-  go : (b : Bool) → is_served method ≡ b → AllAre P (at_head id method None).changes
+  go : (b : Bool) → is_served method ≡ b → AllAre P (head_answer id method None).changes
   go true is = rw is (a.begun id method, tt)
   go false is = rw is tt
 
@@ -154,29 +154,29 @@ head_holds s P a id method None = go (is_served method) refl where
 ends_hold : (s : InstanceState) (P : Change → Type 0) → Allows s P → (id : CallId) (cs : List Change) → AllAre P cs → AllAre P (cs ++ Ends id ∷ [])
 ends_hold s P a id cs all = all_append P cs (Ends id ∷ []) all (a.ended id, tt)
 
-first_holds : (s : InstanceState) (P : Change → Type 0) → Allows s P → (id : CallId) (method : Method) (bytes : List ℕ) (r : Result WrittenValue Refusal) → first_outcome s bytes ≡ r → AllAre P (first_written id method (first_changes s bytes) r).changes
+first_holds : (s : InstanceState) (P : Change → Type 0) → Allows s P → (id : CallId) (method : Method) (bytes : List ℕ) (r : Result WrittenValue Refusal) → first_outcome s bytes ≡ r → AllAre P (first_write_answer id method (first_changes s bytes) r).changes
 first_holds s P a id method bytes (Ok (Writing.Goes write)) is =
     all_append P (first_changes s bytes) (Goes id (record { method = method; progress = writes write }) ∷ []) (a.first bytes)
     (a.written id method write (goes_below s bytes write is), tt)
 first_holds s P a id method bytes (Ok (Writing.Answered reply)) is = ends_hold s P a id (first_changes s bytes) (a.first bytes)
 first_holds s P a id method bytes (Err refusal) is = ends_hold s P a id (first_changes s bytes) (a.first bytes)
 
-next_holds : (s : InstanceState) (P : Change → Type 0) → Allows s P → (id : CallId) (write : OpenWriteValue) (bytes : List ℕ) (r : Result (Option (List ℕ)) Refusal) → AllAre P (next_written id (next_changes s write bytes) r).changes
+next_holds : (s : InstanceState) (P : Change → Type 0) → Allows s P → (id : CallId) (write : OpenWriteValue) (bytes : List ℕ) (r : Result (Option (List ℕ)) Refusal) → AllAre P (next_write_answer id (next_changes s write bytes) r).changes
 next_holds s P a id write bytes (Ok None) = a.next write bytes
 next_holds s P a id write bytes (Ok (Some reply)) = ends_hold s P a id (next_changes s write bytes) (a.next write bytes)
 next_holds s P a id write bytes (Err refusal) = ends_hold s P a id (next_changes s write bytes) (a.next write bytes)
 
 -- a message
-with_first_holds : (s : InstanceState) (P : Change → Type 0) → Allows s P → (id : CallId) (method : Method) (bytes : List ℕ) → KeepsMessage P id bytes → AllAre P (with_first s id method bytes).changes
+with_first_holds : (s : InstanceState) (P : Change → Type 0) → Allows s P → (id : CallId) (method : Method) (bytes : List ℕ) → KeepsMessage P id bytes → AllAre P (first_message_answer s id method bytes).changes
 with_first_holds s P a id Called.Write bytes keeps = first_holds s P a id Called.Write bytes (first_outcome s bytes) refl
 with_first_holds s P a id method bytes keeps = (keeps method, tt)
 
-with_holds : (s : InstanceState) (P : Change → Type 0) → Allows s P → (id : CallId) (method : Method) (bytes : List ℕ) (p : ProgressValue) → KeepsMessage P id bytes → AllAre P (with_message s id method bytes p).changes
+with_holds : (s : InstanceState) (P : Change → Type 0) → Allows s P → (id : CallId) (method : Method) (bytes : List ℕ) (p : ProgressValue) → KeepsMessage P id bytes → AllAre P (answer_by_progress s id method bytes p).changes
 with_holds s P a id method bytes waits keeps = with_first_holds s P a id method bytes keeps
 with_holds s P a id method bytes (has first) keeps = (a.ended id, tt)
 with_holds s P a id method bytes (writes write) keeps = next_holds s P a id write bytes (next_outcome s write bytes)
 
-message_holds : (s : InstanceState) (P : Change → Type 0) → Allows s P → (id : CallId) (bytes : List ℕ) (o : Option CallValue) → KeepsMessage P id bytes → AllAre P (at_message s id bytes o).changes
+message_holds : (s : InstanceState) (P : Change → Type 0) → Allows s P → (id : CallId) (bytes : List ℕ) (o : Option CallValue) → KeepsMessage P id bytes → AllAre P (message_answer s id bytes o).changes
 message_holds s P a id bytes None keeps = tt
 message_holds s P a id bytes (Some call) keeps = with_holds s P a id call.method bytes call.progress keeps
 
@@ -191,16 +191,16 @@ changes_hold s P a method request =
     all_append P (map Text (text_changes method s request)) (result_changes method s request)
     (texts_hold s P a (text_changes method s request) (changes_named method s request)) (results_hold s P a method request)
 
-request_holds : (s : InstanceState) (P : Change → Type 0) → Allows s P → (id : CallId) (method : Method) (p : ProgressValue) → AllAre P (with_request s id method p).changes
+request_holds : (s : InstanceState) (P : Change → Type 0) → Allows s P → (id : CallId) (method : Method) (p : ProgressValue) → AllAre P (end_answer_by_progress s id method p).changes
 request_holds s P a id method waits = (a.ended id, tt)
 request_holds s P a id method (has request) = ends_hold s P a id (request_changes method s request) (changes_hold s P a method request)
 request_holds s P a id method (writes write) = (a.ended id, tt)
 
-end_holds : (s : InstanceState) (P : Change → Type 0) → Allows s P → (id : CallId) (o : Option CallValue) → AllAre P (at_end s id o).changes
+end_holds : (s : InstanceState) (P : Change → Type 0) → Allows s P → (id : CallId) (o : Option CallValue) → AllAre P (request_end_answer s id o).changes
 end_holds s P a id None = tt
 end_holds s P a id (Some call) = request_holds s P a id call.method call.progress
 
-fault_holds : (s : InstanceState) (P : Change → Type 0) → Allows s P → (id : CallId) (refusal : Refusal) (o : Option CallValue) → AllAre P (at_fault id refusal o).changes
+fault_holds : (s : InstanceState) (P : Change → Type 0) → Allows s P → (id : CallId) (refusal : Refusal) (o : Option CallValue) → AllAre P (fault_answer id refusal o).changes
 fault_holds s P a id refusal None = tt
 fault_holds s P a id refusal (Some call) = (a.ended id, tt)
 
@@ -237,7 +237,7 @@ message_short quota (end id) short = tt
 message_short quota (cancel id) short = tt
 message_short quota tick short = tt
 
-pub after_keeps : (s : InstanceState) (event : CallEventValue) → IsShortEvent event → WithinLimits s → WithinLimits (after s event)
+pub after_keeps : (s : InstanceState) (event : CallEventValue) → IsShortEvent event → WithinLimits s → WithinLimits (state_after s event)
 after_keeps s event short w = changes_keep (answer s event).changes s (answer_holds s (KeepsLimits s.quota) (limits_allow s w) event (message_short s.quota event short)) w
 
 -- ---- what is stored

@@ -7,9 +7,9 @@ use Rattle.digest.specs.declared.Digest.{Digest}
 use Rattle.digest.specs.Text.{hash_in}
 use Rattle.resource_names.specs.declared.name.NameError.{NameError}
 use Rattle.resource_names.specs.declared.name.NameError.TheVariants.{Form, Hash, Size}
-use Rattle.resource_names.specs.Segments.{Divided, divided, segments_of}
+use Rattle.resource_names.specs.Segments.{DivisionValue, division_of, segments_of}
 use Rattle.resource_names.specs.Size.{is_numeral, size_in}
-use Rattle.resource_names.specs.Names.{WriteNameValue, ◌>>=◌, or_fault, uuid_of, blobs_place, digest_of_segments, divides_write, uncompressed_upload, instance_of, upload_named, write_name}
+use Rattle.resource_names.specs.Names.{WriteNameValue, ◌>>=◌, or_fault, uuid_of, blobs_place, digest_of_segments, divides_write, upload_compression_check, instance_of, upload_named, write_name}
 
 size_below : (text : List ℕ) (n : ℕ) → size_in text ≡ Some n → n < 2 ^ 63
 size_below text n is = go (is_numeral text) (nat_lt (digits_value 10 text) (2 ^ 63)) refl is where
@@ -51,12 +51,12 @@ upload_below instance (uuid ∷ []) name is = absurd (cc)
 upload_below instance [] name is = absurd (cc)
 
 pub name_below : (text : List ℕ) (name : WriteNameValue) → write_name text ≡ Ok name → name.digest.size < 2 ^ 63
-name_below text name is = go (divided divides_write (segments_of text)) is where
-  after : (d : Divided) (a : Result Unit NameError) (b : Result (List ℕ) NameError) → (a >>= λ _. b >>= λ i. upload_named i d.after) ≡ Ok name → IsBelow name
+name_below text name is = go (division_of divides_write (segments_of text)) is where
+  after : (d : DivisionValue) (a : Result Unit NameError) (b : Result (List ℕ) NameError) → (a >>= λ _. b >>= λ i. upload_named i d.after) ≡ Ok name → IsBelow name
   after d (Ok _) (Ok i) is = upload_below i d.after name is
   after d (Ok _) (Err e) is = absurd (cc)
   after d (Err e) b is = absurd (cc)
 
-  go : (o : Option Divided) → (or_fault Form o >>= λ d. uncompressed_upload d.after >>= λ _. instance_of d.before >>= λ i. upload_named i d.after) ≡ Ok name → IsBelow name
-  go (Some d) is = after d (uncompressed_upload d.after) (instance_of d.before) is
+  go : (o : Option DivisionValue) → (or_fault Form o >>= λ d. upload_compression_check d.after >>= λ _. instance_of d.before >>= λ i. upload_named i d.after) ≡ Ok name → IsBelow name
+  go (Some d) is = after d (upload_compression_check d.after) (instance_of d.before) is
   go None is = absurd (cc)

@@ -14,49 +14,49 @@ use Rattle.instance_core.specs.Methods.{is_served}
 use Rattle.instance_core.specs.Changes.{Change}
 use Rattle.instance_core.specs.Replies.{ReplyValue}
 use Rattle.instance_core.specs.Writes.{first_changes, next_changes, first_outcome, next_outcome}
-use Rattle.instance_core.specs.Answer.{at_head, first_written, next_written, with_first, with_message, at_message, at_fault, with_request, at_end, answer}
+use Rattle.instance_core.specs.Answer.{head_answer, first_write_answer, next_write_answer, first_message_answer, answer_by_progress, message_answer, fault_answer, end_answer_by_progress, request_end_answer, answer}
 
 abbrev pub AreTo : CallId → List ReplyValue → Type 0
 AreTo id rs = AllByRecursion (λ (r : ReplyValue). r.call ≡ id) rs
 
-head_to : (id : CallId) (method : Method) (o : Option CallValue) → AreTo id (at_head id method o).replies
+head_to : (id : CallId) (method : Method) (o : Option CallValue) → AreTo id (head_answer id method o).replies
 head_to id method (Some call) = tt
 head_to id method None = go (is_served method) refl where
-  go : (b : Bool) → is_served method ≡ b → AreTo id (at_head id method None).replies
+  go : (b : Bool) → is_served method ≡ b → AreTo id (head_answer id method None).replies
   go true is = rw is tt
   go false is = rw is (refl, tt)
 
-first_to : (id : CallId) (method : Method) (changes : List Change) (r : Result WrittenValue Refusal) → AreTo id (first_written id method changes r).replies
+first_to : (id : CallId) (method : Method) (changes : List Change) (r : Result WrittenValue Refusal) → AreTo id (first_write_answer id method changes r).replies
 first_to id method changes (Ok (Writing.Goes write)) = tt
 first_to id method changes (Ok (Writing.Answered reply)) = (refl, tt)
 first_to id method changes (Err refusal) = (refl, tt)
 
-next_to : (id : CallId) (changes : List Change) (r : Result (Option (List ℕ)) Refusal) → AreTo id (next_written id changes r).replies
+next_to : (id : CallId) (changes : List Change) (r : Result (Option (List ℕ)) Refusal) → AreTo id (next_write_answer id changes r).replies
 next_to id changes (Ok None) = tt
 next_to id changes (Ok (Some reply)) = (refl, tt)
 next_to id changes (Err refusal) = (refl, tt)
 
-with_first_to : (s : InstanceState) (id : CallId) (method : Method) (bytes : List ℕ) → AreTo id (with_first s id method bytes).replies
+with_first_to : (s : InstanceState) (id : CallId) (method : Method) (bytes : List ℕ) → AreTo id (first_message_answer s id method bytes).replies
 with_first_to s id Write bytes = first_to id Write (first_changes s bytes) (first_outcome s bytes)
 with_first_to s id method bytes = tt
 
-with_to : (s : InstanceState) (id : CallId) (method : Method) (bytes : List ℕ) (p : ProgressValue) → AreTo id (with_message s id method bytes p).replies
+with_to : (s : InstanceState) (id : CallId) (method : Method) (bytes : List ℕ) (p : ProgressValue) → AreTo id (answer_by_progress s id method bytes p).replies
 with_to s id method bytes waits = with_first_to s id method bytes
 with_to s id method bytes (has first) = (refl, tt)
 with_to s id method bytes (writes write) = next_to id (next_changes s write bytes) (next_outcome s write bytes)
 
-message_to : (s : InstanceState) (id : CallId) (bytes : List ℕ) (o : Option CallValue) → AreTo id (at_message s id bytes o).replies
+message_to : (s : InstanceState) (id : CallId) (bytes : List ℕ) (o : Option CallValue) → AreTo id (message_answer s id bytes o).replies
 message_to s id bytes None = tt
 message_to s id bytes (Some call) = with_to s id call.method bytes call.progress
 
-fault_to : (id : CallId) (refusal : Refusal) (o : Option CallValue) → AreTo id (at_fault id refusal o).replies
+fault_to : (id : CallId) (refusal : Refusal) (o : Option CallValue) → AreTo id (fault_answer id refusal o).replies
 fault_to id refusal None = tt
 fault_to id refusal (Some call) = (refl, tt)
 
-end_to : (s : InstanceState) (id : CallId) (o : Option CallValue) → AreTo id (at_end s id o).replies
+end_to : (s : InstanceState) (id : CallId) (o : Option CallValue) → AreTo id (request_end_answer s id o).replies
 end_to s id None = tt
 end_to s id (Some call) = go call.progress where
-  go : (p : ProgressValue) → AreTo id (with_request s id call.method p).replies
+  go : (p : ProgressValue) → AreTo id (end_answer_by_progress s id call.method p).replies
   go waits = (refl, tt)
   go (has request) = (refl, tt)
   go (writes write) = (refl, tt)

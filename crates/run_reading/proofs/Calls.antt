@@ -4,10 +4,10 @@ use Rattle.std.specs.Prelude.{Bool, true, false, cond, ◌==◌, map, fold, Opti
 use Rattle.std.specs.List.{AllByRecursion}
 use Rattle.std.specs.Option.{option_map_or}
 use Rattle.std.proofs.lemmas.Grind.{flat_map-append}
-use Rattle.http2_streams.specs.Diary.{Entry}
-use Rattle.grpc_sending.specs.Owed.{Owed, Item, item_on, owed_on}
-use Rattle.grpc_sending.specs.StandsFor.{owed_more}
-use Rattle.grpc_sending.proofs.Diaries.{append-nil}
+use Rattle.http2_streams.specs.History.{Entry}
+use Rattle.grpc_sending.specs.Owed.{OwedItem, Item, item_on, items_owed_on}
+use Rattle.grpc_sending.specs.StandsFor.{owed_with_item}
+use Rattle.grpc_sending.proofs.Histories.{append-nil}
 use Rattle.conn_core.specs.declared.event.CallEvent.{CallEvent}
 use Rattle.conn_core.specs.declared.event.CallEvent.TheVariants as Seen
 use Rattle.conn_core.specs.Past.{Past, with_item}
@@ -15,27 +15,27 @@ use Rattle.instance_core.specs.declared.event.CallId.{CallId}
 use Rattle.instance_core.specs.Calls.{CallEventValue}
 use Rattle.instance_core.specs.State.{InstanceState}
 use Rattle.instance_core.specs.Replies.{ReplyValue}
-use Rattle.instance_core.specs.Answer.{answer, after}
+use Rattle.instance_core.specs.Answer.{answer, state_after}
 use Rattle.served_instance.specs.Connections.{open_at, at_open}
 use Rattle.served_instance.specs.Calls.{call_id, call_event_on, items_of, with_items}
-use Rattle.served_instance.specs.Lone.{Lone, replied, happened, all_happened, due_at, none_due, due_happened}
+use Rattle.served_instance.specs.Lone.{Lone, after_replies, after_call_event, after_call_events, due_at, without_due, after_due_on}
 use Rattle.client_reading.specs.Answerable.{IsAnswerableStream, IsAnswerable}
-use Rattle.run_reading.specs.Happenings.{place_of, calls_happen, due_happens}
-use Rattle.run_reading.specs.Replies.{Given, reply_given, state_after, given_from}
+use Rattle.run_reading.specs.Happenings.{place_of, call_happenings, due_happenings}
+use Rattle.run_reading.specs.Replies.{GivenItems, items_of_reply, state_after_happening, given_items_from}
 use Rattle.run_reading.proofs.Answers.{AreTo, head_replies, message_replies, fault_replies, end_replies}
 use Rattle.run_reading.proofs.Owes.{Gift, give, OwedFrom, AreBelow, Gives, step_owed, quiet_owed, place_below, same_length, given_below, same_place, open_step}
 use Rattle.client_reading.proofs.Choices.{all_append}
 
 -- ---- the items of one reply
 
-pub more_owed : (d : List Entry) (os : List Owed) (s t : ℕ) (item : Item) → IsAnswerableStream d s → owed_on t (owed_more d os s item) ≡ owed_on t os ++ cond (s == t) (item ∷ []) []
+pub more_owed : (d : List Entry) (os : List OwedItem) (s t : ℕ) (item : Item) → IsAnswerableStream d s → items_owed_on t (owed_with_item d os s item) ≡ items_owed_on t os ++ cond (s == t) (item ∷ []) []
 more_owed d os s t item h =
-    let more : owed_more d os s item ≡ os ++ record { stream = s; item = item } ∷ [] = rw (h.0, h.1) refl in
-    ap (owed_on t) more ∙ flat_map-append (item_on t) os (record { stream = s; item = item } ∷ []) ∙ ap (λ is. owed_on t os ++ is) (append-nil (cond (s == t) (item ∷ []) []))
+    let more : owed_with_item d os s item ≡ os ++ record { stream = s; item = item } ∷ [] = rw (h.0, h.1) refl in
+    ap (items_owed_on t) more ∙ flat_map-append (item_on t) os (record { stream = s; item = item } ∷ []) ∙ ap (λ is. items_owed_on t os ++ is) (append-nil (cond (s == t) (item ∷ []) []))
 
-pub items_diary : (s : ℕ) (items : List Item) (p : Past) → (with_items s items p).diary ≡ p.diary
-items_diary s [] p = refl
-items_diary s (item ∷ items) p = items_diary s items (with_item p s item)
+pub items_history : (s : ℕ) (items : List Item) (p : Past) → (with_items s items p).history ≡ p.history
+items_history s [] p = refl
+items_history s (item ∷ items) p = items_history s items (with_item p s item)
 
 pub items_due : (s : ℕ) (items : List Item) (p : Past) → (with_items s items p).due ≡ p.due
 items_due s [] p = refl
@@ -52,32 +52,32 @@ cond_more : (b : Bool) (os items : List Item) (item : Item) → (os ++ cond b (i
 cond_more true os items item = append_assoc os (item ∷ []) items
 cond_more false os items item = append-nil (os ++ [])
 
-items_owed : (s t : ℕ) (items : List Item) (p : Past) → IsAnswerableStream p.diary s → owed_on t (with_items s items p).owed ≡ owed_on t p.owed ++ cond (s == t) items []
-items_owed s t [] p h = sym (append-nil (owed_on t p.owed)) ∙ ap (λ is. owed_on t p.owed ++ is) (sym (cond_none (s == t)))
+items_owed : (s t : ℕ) (items : List Item) (p : Past) → IsAnswerableStream p.history s → items_owed_on t (with_items s items p).owed ≡ items_owed_on t p.owed ++ cond (s == t) items []
+items_owed s t [] p h = sym (append-nil (items_owed_on t p.owed)) ∙ ap (λ is. items_owed_on t p.owed ++ is) (sym (cond_none (s == t)))
 items_owed s t (item ∷ items) p h =
-    items_owed s t items (with_item p s item) h ∙ ap (λ is. is ++ cond (s == t) items []) (more_owed p.diary p.owed s t item h)
-    ∙ cond_more (s == t) (owed_on t p.owed) items item
+    items_owed s t items (with_item p s item) h ∙ ap (λ is. is ++ cond (s == t) items []) (more_owed p.history p.owed s t item h)
+    ∙ cond_more (s == t) (items_owed_on t p.owed) items item
 
-gives_items : (s : ℕ) (items : List Item) (p : Past) → IsAnswerableStream p.diary s → Gives (with_items s items) p ((s, items) ∷ [])
-gives_items s items p h t = items_owed s t items p h ∙ ap (λ is. owed_on t p.owed ++ is) (sym (append-nil (cond (s == t) items [])))
+gives_items : (s : ℕ) (items : List Item) (p : Past) → IsAnswerableStream p.history s → Gives (with_items s items) p ((s, items) ∷ [])
+gives_items s items p h t = items_owed s t items p h ∙ ap (λ is. items_owed_on t p.owed ++ is) (sym (append-nil (cond (s == t) items [])))
 
 -- ---- what all connections are owed
 
-pub record Owes (gs : List Given) (l : Lone) : Type 0 where
+pub record Owes (gs : List GivenItems) (l : Lone) : Type 0 where
   pub owed : OwedFrom 0 gs l.connections
   pub below : AreBelow (length l.connections) gs
 
-pub owes_step : (c : ℕ) (step : Past → Past) (gs : List Given) (xs : List Gift) (l : Lone) (p : Past) → open_at c l.connections ≡ Some p → Gives step p xs → Owes gs l → Owes (gs ++ map (give (place_of c l.connections)) xs) (record l { connections = at_open c step l.connections })
+pub owes_step : (c : ℕ) (step : Past → Past) (gs : List GivenItems) (xs : List Gift) (l : Lone) (p : Past) → open_at c l.connections ≡ Some p → Gives step p xs → Owes gs l → Owes (gs ++ map (give (place_of c l.connections)) xs) (record l { connections = at_open c step l.connections })
 owes_step c step gs xs l p is gives h =
     let n : ℕ = place_of c l.connections in
     let low = place_below c l.connections p is in
-    let below : AreBelow (length l.connections) (gs ++ map (give n) xs) = all_append (λ (g : Given). g.place < length l.connections) gs (map (give n) xs) h.below (given_below n (length l.connections) xs low) in
+    let below : AreBelow (length l.connections) (gs ++ map (give n) xs) = all_append (λ (g : GivenItems). g.place < length l.connections) gs (map (give n) xs) h.below (given_below n (length l.connections) xs low) in
     record {
       owed = step_owed c n 0 step gs xs l.connections p is gives (omega arith) h.owed;
       below = subst (λ (m : ℕ). AreBelow m (gs ++ map (give n) xs)) (sym (same_length c step l.connections)) below;
     }
 
-pub owes_quiet : (c : ℕ) (step : Past → Past) (gs : List Given) (l : Lone) → ((p : Past) → (step p).owed ≡ p.owed) → Owes gs l → Owes gs (record l { connections = at_open c step l.connections })
+pub owes_quiet : (c : ℕ) (step : Past → Past) (gs : List GivenItems) (l : Lone) → ((p : Past) → (step p).owed ≡ p.owed) → Owes gs l → Owes gs (record l { connections = at_open c step l.connections })
 owes_quiet c step gs l none h = record {
   owed = quiet_owed c 0 step gs l.connections none h.owed;
   below = subst (λ (m : ℕ). AreBelow m gs) (sym (same_length c step l.connections)) h.below;
@@ -86,87 +86,87 @@ owes_quiet c step gs l none h = record {
 -- ---- replies
 
 -- the connection of number c is open still, at its place, and what passed on it is what passed before
-record HasReplied (c n : ℕ) (d : List Entry) (gs : List Given) (m : Lone) : Type 0 where
+record HasReplied (c n : ℕ) (d : List Entry) (gs : List GivenItems) (m : Lone) : Type 0 where
   past : Past
   stays : open_at c m.connections ≡ Some past
-  diary : past.diary ≡ d
+  history : past.history ≡ d
   place : place_of c m.connections ≡ n
   owes : Owes gs m
 
-replied_owes : (c s : ℕ) (rs : List ReplyValue) (l : Lone) (p : Past) (gs : List Given) → open_at c l.connections ≡ Some p → IsAnswerableStream p.diary s → AreTo (call_id c s) rs → Owes gs l → HasReplied c (place_of c l.connections) p.diary (gs ++ map (reply_given (place_of c l.connections)) rs) (replied rs l)
-replied_owes c s [] l p gs is live' to h = record { past = p; stays = is; diary = refl; place = refl; owes = subst (λ (xs : List Given). Owes xs l) (sym (append-nil gs)) h }
+replied_owes : (c s : ℕ) (rs : List ReplyValue) (l : Lone) (p : Past) (gs : List GivenItems) → open_at c l.connections ≡ Some p → IsAnswerableStream p.history s → AreTo (call_id c s) rs → Owes gs l → HasReplied c (place_of c l.connections) p.history (gs ++ map (items_of_reply (place_of c l.connections)) rs) (after_replies rs l)
+replied_owes c s [] l p gs is live' to h = record { past = p; stays = is; history = refl; place = refl; owes = subst (λ (xs : List GivenItems). Owes xs l) (sym (append-nil gs)) h }
 replied_owes c s (r ∷ rs) l p gs is live' to h =
     let items : List Item = items_of r.items in
     let n : ℕ = place_of c l.connections in
     let m : Lone = record l { connections = at_open c (with_items s items) l.connections } in
     let q : Past = with_items s items p in
-    let same : q.diary ≡ p.diary = items_diary s items p in
+    let same : q.history ≡ p.history = items_history s items p in
     let first : Owes (gs ++ give n (s, items) ∷ []) m = owes_step c (with_items s items) gs ((s, items) ∷ []) l p is (gives_items s items p live') h in
     let later = replied_owes c s rs m q (gs ++ give n (s, items) ∷ []) (open_step c (with_items s items) l.connections p is) (subst (λ (d : List Entry). IsAnswerableStream d s) (sym same) live') to.1 first in
     let place : place_of c m.connections ≡ n = same_place c c (with_items s items) l.connections in
-    let given : (gs ++ give n (s, items) ∷ []) ++ map (reply_given (place_of c m.connections)) rs ≡ gs ++ map (reply_given n) (r ∷ rs) =
-    ap (λ (k : ℕ). (gs ++ give n (s, items) ∷ []) ++ map (reply_given k) rs) place ∙ append_assoc gs (give n (s, items) ∷ []) (map (reply_given n) rs)
-    ∙ ap (λ (id : CallId). gs ++ give n (id.stream, items) ∷ map (reply_given n) rs) (sym to.0) in
-    let P : CallId → Type 0 = λ id. HasReplied c n p.diary (gs ++ map (reply_given n) (r ∷ rs)) (replied rs (record l { connections = at_open id.connection (with_items id.stream items) l.connections })) in
-    subst P (sym to.0) (record { past = later.past; stays = later.stays; diary = later.diary ∙ same; place = later.place ∙ place; owes = subst (λ (xs : List Given). Owes xs (replied rs m)) given later.owes })
+    let given : (gs ++ give n (s, items) ∷ []) ++ map (items_of_reply (place_of c m.connections)) rs ≡ gs ++ map (items_of_reply n) (r ∷ rs) =
+    ap (λ (k : ℕ). (gs ++ give n (s, items) ∷ []) ++ map (items_of_reply k) rs) place ∙ append_assoc gs (give n (s, items) ∷ []) (map (items_of_reply n) rs)
+    ∙ ap (λ (id : CallId). gs ++ give n (id.stream, items) ∷ map (items_of_reply n) rs) (sym to.0) in
+    let P : CallId → Type 0 = λ id. HasReplied c n p.history (gs ++ map (items_of_reply n) (r ∷ rs)) (after_replies rs (record l { connections = at_open id.connection (with_items id.stream items) l.connections })) in
+    subst P (sym to.0) (record { past = later.past; stays = later.stays; history = later.history ∙ same; place = later.place ∙ place; owes = subst (λ (xs : List GivenItems). Owes xs (after_replies rs m)) given later.owes })
 
 -- ---- an event of a call
 
-pub replied_state : (rs : List ReplyValue) (l : Lone) → (replied rs l).state ≡ l.state
+pub replied_state : (rs : List ReplyValue) (l : Lone) → (after_replies rs l).state ≡ l.state
 replied_state [] l = refl
 replied_state (r ∷ rs) l = replied_state rs (record l { connections = at_open r.call.connection (with_items r.call.stream (items_of r.items)) l.connections })
 
-pub happened_state : (event : CallEventValue) (l : Lone) → (happened event l).state ≡ after l.state event
-happened_state event l = replied_state (answer l.state event).replies (record l { state = after l.state event })
+pub happened_state : (event : CallEventValue) (l : Lone) → (after_call_event event l).state ≡ state_after l.state event
+happened_state event l = replied_state (answer l.state event).replies (record l { state = state_after l.state event })
 
-abbrev Replies : ℕ → CallEvent → Lone → List Given → Type 0
-Replies c e l gs = (p : Past) → open_at c l.connections ≡ Some p → IsAnswerable p.diary e → Owes gs l
-    → HasReplied c (place_of c l.connections) p.diary (gs ++ map (reply_given (place_of c l.connections)) (answer l.state (call_event_on c e)).replies) (happened (call_event_on c e) l)
+abbrev Replies : ℕ → CallEvent → Lone → List GivenItems → Type 0
+Replies c e l gs = (p : Past) → open_at c l.connections ≡ Some p → IsAnswerable p.history e → Owes gs l
+    → HasReplied c (place_of c l.connections) p.history (gs ++ map (items_of_reply (place_of c l.connections)) (answer l.state (call_event_on c e)).replies) (after_call_event (call_event_on c e) l)
 
-with_state : (l : Lone) (event : CallEventValue) (gs : List Given) → Owes gs l → Owes gs (record l { state = after l.state event })
+with_state : (l : Lone) (event : CallEventValue) (gs : List GivenItems) → Owes gs l → Owes gs (record l { state = state_after l.state event })
 with_state l event gs h = record { owed = h.owed; below = h.below }
 
-event_owes : (c : ℕ) (e : CallEvent) (l : Lone) (gs : List Given) → Replies c e l gs
-event_owes c (Seen.Head s method) l gs p is a h = replied_owes c s (answer l.state (call_event_on c (Seen.Head s method))).replies (record l { state = after l.state (call_event_on c (Seen.Head s method)) }) p gs is a (head_replies l.state (call_id c s) method) (with_state l (call_event_on c (Seen.Head s method)) gs h)
-event_owes c (Seen.Message s bytes) l gs p is a h = replied_owes c s (answer l.state (call_event_on c (Seen.Message s bytes))).replies (record l { state = after l.state (call_event_on c (Seen.Message s bytes)) }) p gs is a (message_replies l.state (call_id c s) bytes) (with_state l (call_event_on c (Seen.Message s bytes)) gs h)
-event_owes c (Seen.Fault s refusal) l gs p is a h = replied_owes c s (answer l.state (call_event_on c (Seen.Fault s refusal))).replies (record l { state = after l.state (call_event_on c (Seen.Fault s refusal)) }) p gs is a (fault_replies l.state (call_id c s) refusal) (with_state l (call_event_on c (Seen.Fault s refusal)) gs h)
-event_owes c (Seen.End s) l gs p is a h = replied_owes c s (answer l.state (call_event_on c (Seen.End s))).replies (record l { state = after l.state (call_event_on c (Seen.End s)) }) p gs is a (end_replies l.state (call_id c s)) (with_state l (call_event_on c (Seen.End s)) gs h)
-event_owes c (Seen.Cancel s) l gs p is a h = record { past = p; stays = is; diary = refl; place = refl; owes = subst (λ (xs : List Given). Owes xs (happened (call_event_on c (Seen.Cancel s)) l)) (sym (append-nil gs)) (with_state l (call_event_on c (Seen.Cancel s)) gs h) }
+event_owes : (c : ℕ) (e : CallEvent) (l : Lone) (gs : List GivenItems) → Replies c e l gs
+event_owes c (Seen.Head s method) l gs p is a h = replied_owes c s (answer l.state (call_event_on c (Seen.Head s method))).replies (record l { state = state_after l.state (call_event_on c (Seen.Head s method)) }) p gs is a (head_replies l.state (call_id c s) method) (with_state l (call_event_on c (Seen.Head s method)) gs h)
+event_owes c (Seen.Message s bytes) l gs p is a h = replied_owes c s (answer l.state (call_event_on c (Seen.Message s bytes))).replies (record l { state = state_after l.state (call_event_on c (Seen.Message s bytes)) }) p gs is a (message_replies l.state (call_id c s) bytes) (with_state l (call_event_on c (Seen.Message s bytes)) gs h)
+event_owes c (Seen.Fault s refusal) l gs p is a h = replied_owes c s (answer l.state (call_event_on c (Seen.Fault s refusal))).replies (record l { state = state_after l.state (call_event_on c (Seen.Fault s refusal)) }) p gs is a (fault_replies l.state (call_id c s) refusal) (with_state l (call_event_on c (Seen.Fault s refusal)) gs h)
+event_owes c (Seen.End s) l gs p is a h = replied_owes c s (answer l.state (call_event_on c (Seen.End s))).replies (record l { state = state_after l.state (call_event_on c (Seen.End s)) }) p gs is a (end_replies l.state (call_id c s)) (with_state l (call_event_on c (Seen.End s)) gs h)
+event_owes c (Seen.Cancel s) l gs p is a h = record { past = p; stays = is; history = refl; place = refl; owes = subst (λ (xs : List GivenItems). Owes xs (after_call_event (call_event_on c (Seen.Cancel s)) l)) (sym (append-nil gs)) (with_state l (call_event_on c (Seen.Cancel s)) gs h) }
 
 -- ---- events of calls, one after another
 
-pub calls_state : (n c : ℕ) (es : List CallEvent) (l : Lone) → (all_happened c es l).state ≡ fold state_after l.state (calls_happen n c es)
+pub calls_state : (n c : ℕ) (es : List CallEvent) (l : Lone) → (after_call_events c es l).state ≡ fold state_after_happening l.state (call_happenings n c es)
 calls_state n c [] l = refl
-calls_state n c (e ∷ es) l = calls_state n c es (happened (call_event_on c e) l) ∙ ap (λ (s : InstanceState). fold state_after s (calls_happen n c es)) (happened_state (call_event_on c e) l)
+calls_state n c (e ∷ es) l = calls_state n c es (after_call_event (call_event_on c e) l) ∙ ap (λ (s : InstanceState). fold state_after_happening s (call_happenings n c es)) (happened_state (call_event_on c e) l)
 
-abbrev given_calls : InstanceState → ℕ → ℕ → List CallEvent → List Given
-given_calls s n c es = given_from s (calls_happen n c es)
+abbrev given_calls : InstanceState → ℕ → ℕ → List CallEvent → List GivenItems
+given_calls s n c es = given_items_from s (call_happenings n c es)
 
-pub calls_owe : (c : ℕ) (es : List CallEvent) (l : Lone) (p : Past) (gs : List Given) → open_at c l.connections ≡ Some p → AllByRecursion (IsAnswerable p.diary) es → Owes gs l → Owes (gs ++ given_from l.state (calls_happen (place_of c l.connections) c es)) (all_happened c es l)
-calls_owe c [] l p gs is all h = subst (λ (xs : List Given). Owes xs l) (sym (append-nil gs)) h
+pub calls_owe : (c : ℕ) (es : List CallEvent) (l : Lone) (p : Past) (gs : List GivenItems) → open_at c l.connections ≡ Some p → AllByRecursion (IsAnswerable p.history) es → Owes gs l → Owes (gs ++ given_items_from l.state (call_happenings (place_of c l.connections) c es)) (after_call_events c es l)
+calls_owe c [] l p gs is all h = subst (λ (xs : List GivenItems). Owes xs l) (sym (append-nil gs)) h
 calls_owe c (e ∷ es) l p gs is all h =
     let n : ℕ = place_of c l.connections in
     let event : CallEventValue = call_event_on c e in
-    let m : Lone = happened event l in
-    let here : List Given = map (reply_given n) (answer l.state event).replies in
+    let m : Lone = after_call_event event l in
+    let here : List GivenItems = map (items_of_reply n) (answer l.state event).replies in
     let first = event_owes c e l gs p is all.0 h in
-    let later = calls_owe c es m first.past (gs ++ here) first.stays (subst (λ (d : List Entry). AllByRecursion (IsAnswerable d) es) (sym first.diary) all.1) first.owes in
-    let given : (gs ++ here) ++ given_calls m.state (place_of c m.connections) c es ≡ gs ++ (here ++ given_calls (after l.state event) n c es) =
-    ap (λ (k : ℕ). (gs ++ here) ++ given_calls m.state k c es) first.place ∙ ap (λ (s : InstanceState). (gs ++ here) ++ given_calls s n c es) (happened_state event l) ∙ append_assoc gs here (given_calls (after l.state event) n c es) in
-    subst (λ (xs : List Given). Owes xs (all_happened c es m)) given later
+    let later = calls_owe c es m first.past (gs ++ here) first.stays (subst (λ (d : List Entry). AllByRecursion (IsAnswerable d) es) (sym first.history) all.1) first.owes in
+    let given : (gs ++ here) ++ given_calls m.state (place_of c m.connections) c es ≡ gs ++ (here ++ given_calls (state_after l.state event) n c es) =
+    ap (λ (k : ℕ). (gs ++ here) ++ given_calls m.state k c es) first.place ∙ ap (λ (s : InstanceState). (gs ++ here) ++ given_calls s n c es) (happened_state event l) ∙ append_assoc gs here (given_calls (state_after l.state event) n c es) in
+    subst (λ (xs : List GivenItems). Owes xs (after_call_events c es m)) given later
 
 -- ---- what is due
 
 pub due_is : (c : ℕ) (l : Lone) (p : Past) → open_at c l.connections ≡ Some p → due_at c l ≡ p.due
 due_is c l p is = ap (λ (o : Option Past). option_map_or (λ (q : Past). q.due) o []) is
 
-pub due_owes : (c : ℕ) (l : Lone) (p : Past) (gs : List Given) → open_at c l.connections ≡ Some p → AllByRecursion (IsAnswerable p.diary) p.due → Owes gs l → Owes (gs ++ given_from l.state (due_happens c l)) (due_happened c l)
+pub due_owes : (c : ℕ) (l : Lone) (p : Past) (gs : List GivenItems) → open_at c l.connections ≡ Some p → AllByRecursion (IsAnswerable p.history) p.due → Owes gs l → Owes (gs ++ given_items_from l.state (due_happenings c l)) (after_due_on c l)
 due_owes c l p gs is all h =
-    let m : Lone = record l { connections = at_open c none_due l.connections } in
-    let owes : Owes gs m = owes_quiet c none_due gs l (λ q. refl) h in
-    let all' : AllByRecursion (IsAnswerable p.diary) (due_at c l) = subst (λ (es : List CallEvent). AllByRecursion (IsAnswerable p.diary) es) (sym (due_is c l p is)) all in
-    let later = calls_owe c (due_at c l) m (none_due p) gs (open_step c none_due l.connections p is) all' owes in
-    subst (λ (k : ℕ). Owes (gs ++ given_calls l.state k c (due_at c l)) (due_happened c l)) (same_place c c none_due l.connections) later
+    let m : Lone = record l { connections = at_open c without_due l.connections } in
+    let owes : Owes gs m = owes_quiet c without_due gs l (λ q. refl) h in
+    let all' : AllByRecursion (IsAnswerable p.history) (due_at c l) = subst (λ (es : List CallEvent). AllByRecursion (IsAnswerable p.history) es) (sym (due_is c l p is)) all in
+    let later = calls_owe c (due_at c l) m (without_due p) gs (open_step c without_due l.connections p is) all' owes in
+    subst (λ (k : ℕ). Owes (gs ++ given_calls l.state k c (due_at c l)) (after_due_on c l)) (same_place c c without_due l.connections) later
 
 -- ---- calls that are given up
 
@@ -174,9 +174,9 @@ abbrev pub IsCancel : CallEvent → Type 0
 IsCancel (Seen.Cancel s) = Unit {0}
 IsCancel _ = ⊥
 
-pub cancels_owe : (c n : ℕ) (es : List CallEvent) (l : Lone) (gs : List Given) → AllByRecursion IsCancel es → Owes gs l → Owes (gs ++ given_from l.state (calls_happen n c es)) (all_happened c es l)
-cancels_owe c n [] l gs all h = subst (λ (xs : List Given). Owes xs l) (sym (append-nil gs)) h
-cancels_owe c n (Seen.Cancel s ∷ es) l gs all h = cancels_owe c n es (record l { state = after l.state (call_event_on c (Seen.Cancel s)) }) gs all.1 (with_state l (call_event_on c (Seen.Cancel s)) gs h)
+pub cancels_owe : (c n : ℕ) (es : List CallEvent) (l : Lone) (gs : List GivenItems) → AllByRecursion IsCancel es → Owes gs l → Owes (gs ++ given_items_from l.state (call_happenings n c es)) (after_call_events c es l)
+cancels_owe c n [] l gs all h = subst (λ (xs : List GivenItems). Owes xs l) (sym (append-nil gs)) h
+cancels_owe c n (Seen.Cancel s ∷ es) l gs all h = cancels_owe c n es (record l { state = state_after l.state (call_event_on c (Seen.Cancel s)) }) gs all.1 (with_state l (call_event_on c (Seen.Cancel s)) gs h)
 cancels_owe c n (Seen.Head s m ∷ es) l gs all h = absurd all.0
 cancels_owe c n (Seen.Message s b ∷ es) l gs all h = absurd all.0
 cancels_owe c n (Seen.Fault s r ∷ es) l gs all h = absurd all.0

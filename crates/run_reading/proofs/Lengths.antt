@@ -4,12 +4,12 @@ use Rattle.std.specs.Prelude.{Bool, true, false, cond, ◌/◌, ◌%◌, ◌==�
 use Rattle.std.specs.List.{AllByRecursion}
 use Rattle.std.proofs.lemmas.Bool.{cases_Bool}
 use Rattle.std.proofs.lemmas.Bool.Decides.{nat_tests}
-use Rattle.grpc_sending.specs.Owed.{Owed, Item, Headed, Message, Range, item_on, owed_on}
+use Rattle.grpc_sending.specs.Owed.{OwedItem, Item, Headed, Message, Range, item_on, items_owed_on}
 use Rattle.grpc_sending.specs.Pieces.{most_read, length_text, read_message}
 use Rattle.conn_core.proofs.Numbers.{same_number}
 use Rattle.instance_core.specs.Calls.{tick}
 use Rattle.instance_core.specs.Replies.{ReplyItemValue, begins, says, gives, ends, refuses, ReplyValue, IsShortItem as IsShortReplyItem, IsShortReply}
-use Rattle.instance_core.specs.Answer.{answer, after}
+use Rattle.instance_core.specs.Answer.{answer, state_after}
 use Rattle.instance_core.specs.State.{InstanceState, WithinLimits, at_moment}
 use Rattle.instance_core.proofs.Events.{replies_short}
 use Rattle.served_instance.specs.Calls.{item_of, items_of}
@@ -17,7 +17,7 @@ use Rattle.client_reading.specs.Responses.{WholeMessage, IsWithin, messages_cut,
 use Rattle.client_reading.proofs.Choices.{choose, all_append}
 use Rattle.run_limits.proofs.Calls.{after_keeps}
 use Rattle.run_reading.specs.Happenings.{Happening, MomentCame, TimePassed, RequestAnswered, CallEventCame}
-use Rattle.run_reading.specs.Replies.{Given, reply_given, given_from, items_given, items_on, longest_message}
+use Rattle.run_reading.specs.Replies.{GivenItems, items_of_reply, given_items_from, items_given, items_on, longest_message}
 use Rattle.run_reading.proofs.Named.{IsShortItem, IsShortHappening, moment_within}
 
 at_most : (n m : ℕ) → n < 2 ^ 32 → 2 ^ 32 ≡ suc m → n ≤ m
@@ -60,10 +60,10 @@ item_within (Headed block) h = (tt, tt)
 item_within (Message bytes) h = (at_most (length bytes) longest_message h refl, tt)
 item_within (Range digest text from count) h = absurd h
 
-abbrev pub IsGivenWithin : Given → Type 0
+abbrev pub IsGivenWithin : GivenItems → Type 0
 IsGivenWithin g = AllByRecursion (IsItemWithin longest_message) g.items
 
-abbrev pub AreWithin : List Given → Type 0
+abbrev pub AreWithin : List GivenItems → Type 0
 AreWithin gs = AllByRecursion IsGivenWithin gs
 
 -- ---- what is given
@@ -79,20 +79,20 @@ reply_items_within : (items : List ReplyItemValue) → AllByRecursion IsShortRep
 reply_items_within [] h = tt
 reply_items_within (item ∷ items) h = (reply_item_within item h.0, reply_items_within items h.1)
 
-replies_within : (place : ℕ) (rs : List ReplyValue) → AllByRecursion IsShortReply rs → AreWithin (map (reply_given place) rs)
+replies_within : (place : ℕ) (rs : List ReplyValue) → AllByRecursion IsShortReply rs → AreWithin (map (items_of_reply place) rs)
 replies_within place [] h = tt
 replies_within place (r ∷ rs) h = (reply_items_within r.items h.0, replies_within place rs h.1)
 
-pub given_within : (s : InstanceState) (hs : List Happening) → AllByRecursion IsShortHappening hs → WithinLimits s → AreWithin (given_from s hs)
+pub given_within : (s : InstanceState) (hs : List Happening) → AllByRecursion IsShortHappening hs → WithinLimits s → AreWithin (given_items_from s hs)
 given_within s [] short w = tt
 given_within s (MomentCame moment ∷ hs) short w = given_within (at_moment moment s) hs short.1 (moment_within moment s w)
-given_within s (TimePassed ∷ hs) short w = given_within (after s tick) hs short.1 (after_keeps s tick tt w)
+given_within s (TimePassed ∷ hs) short w = given_within (state_after s tick) hs short.1 (after_keeps s tick tt w)
 given_within s (RequestAnswered place stream item ∷ hs) short w = ((item_within item short.0, tt), given_within s hs short.1 w)
 given_within s (CallEventCame place event ∷ hs) short w =
-    all_append IsGivenWithin (map (reply_given place) (answer s event).replies) (given_from (after s event) hs)
-    (replies_within place (answer s event).replies (replies_short s event w)) (given_within (after s event) hs short.1 (after_keeps s event short.0 w))
+    all_append IsGivenWithin (map (items_of_reply place) (answer s event).replies) (given_items_from (state_after s event) hs)
+    (replies_within place (answer s event).replies (replies_short s event w)) (given_within (state_after s event) hs short.1 (after_keeps s event short.0 w))
 
-pub items_within : (place s : ℕ) (gs : List Given) → AreWithin gs → AllByRecursion (IsItemWithin longest_message) (items_on place s gs)
+pub items_within : (place s : ℕ) (gs : List GivenItems) → AreWithin gs → AllByRecursion (IsItemWithin longest_message) (items_on place s gs)
 items_within place s [] h = tt
 items_within place s (g ∷ gs) h =
     all_append (IsItemWithin longest_message) (items_given place s g) (items_on place s gs)
@@ -104,9 +104,9 @@ later_ones : (P : Item → Type 0) (xs ys : List Item) → AllByRecursion P (xs 
 later_ones P [] ys h = h
 later_ones P (x ∷ xs) ys h = later_ones P xs ys h.1
 
-first_one : (P : Item → Type 0) (o : Owed) (os : List Owed) → AllByRecursion P (owed_on o.stream (o ∷ os)) → P o.item
-first_one P o os h = let here = same_number o.stream in let h' : AllByRecursion P (o.item ∷ owed_on o.stream os) = rw here at h in h'.0
+first_one : (P : Item → Type 0) (o : OwedItem) (os : List OwedItem) → AllByRecursion P (items_owed_on o.stream (o ∷ os)) → P o.item
+first_one P o os h = let here = same_number o.stream in let h' : AllByRecursion P (o.item ∷ items_owed_on o.stream os) = rw here at h in h'.0
 
-pub all_takable : (os : List Owed) → ((s : ℕ) → AllByRecursion (IsItemWithin longest_message) (owed_on s os)) → IsTakable longest_message os
+pub all_takable : (os : List OwedItem) → ((s : ℕ) → AllByRecursion (IsItemWithin longest_message) (items_owed_on s os)) → IsTakable longest_message os
 all_takable [] h = tt
-all_takable (o ∷ os) h = (first_one (IsItemWithin longest_message) o os (h o.stream), all_takable os (λ s. later_ones (IsItemWithin longest_message) (item_on s o) (owed_on s os) (h s)))
+all_takable (o ∷ os) h = (first_one (IsItemWithin longest_message) o os (h o.stream), all_takable os (λ s. later_ones (IsItemWithin longest_message) (item_on s o) (items_owed_on s os) (h s)))

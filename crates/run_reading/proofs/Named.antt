@@ -6,7 +6,7 @@ use Rattle.std.proofs.lemmas.Bool.Decides.{nat_tests}
 use Rattle.std.proofs.lemmas.List.{length-drop, take_all}
 use Rattle.digest.specs.declared.Digest.{Digest}
 use Rattle.digest.specs.Naming.{Names}
-use Rattle.instance_view.specs.Visible.{seen}
+use Rattle.instance_view.specs.Visible.{visible_text}
 use Rattle.quota_evict.proofs.Seen.{seen_named}
 use Rattle.reapi_messages.specs.Results.{◌>>=◌}
 use Rattle.reapi_messages.specs.Statuses.{StatusValue}
@@ -29,17 +29,17 @@ use Rattle.tree_calls.specs.Results.{get_action_result_reply}
 use Rattle.tree_calls.specs.Pages.{IsNamedPage}
 use Rattle.tree_calls.proofs.Named.{pages_named, result_complete}
 use Rattle.input_tree.specs.Listing.{tree_list}
-use Rattle.instance_core.specs.Replies.{ReplyItemValue, begins, says, gives, ends, refuses, ReplyValue, items_of, messages_said, messages_items, range_items, read_items}
+use Rattle.instance_core.specs.Replies.{ReplyItemValue, begins, says, gives, ends, refuses, ReplyValue, items_of, message_items, whole_reply_items, range_items, read_items}
 use Rattle.instance_core.specs.Changes.{Change}
 use Rattle.instance_core.specs.Methods.{is_served, reply_to, items_to}
 use Rattle.instance_core.specs.Writes.{first_changes, next_changes, first_outcome, next_outcome}
-use Rattle.instance_core.specs.Answer.{answer, after, at_head, first_written, next_written, with_first, with_message, at_message, at_fault, with_request, at_end}
+use Rattle.instance_core.specs.Answer.{answer, state_after, head_answer, first_write_answer, next_write_answer, first_message_answer, answer_by_progress, message_answer, fault_answer, end_answer_by_progress, request_end_answer}
 use Rattle.instance_core.specs.Calls.{ProgressValue, waits, has, writes, CallValue, CallEventValue, head, message, fault, end, cancel, tick, call_at, IsShortEvent}
 use Rattle.instance_core.specs.State.{InstanceState, WithinLimits, most_blobs, at_moment}
 use Rattle.served_instance.specs.Calls.{item_of, items_of as items_owed}
 use Rattle.client_reading.proofs.Choices.{all_append}
 use Rattle.run_limits.proofs.Calls.{after_keeps}
-use Rattle.run_reading.specs.Replies.{reply_given, given_from}
+use Rattle.run_reading.specs.Replies.{items_of_reply, given_items_from}
 use Rattle.run_reading.specs.Happenings.{Happening, MomentCame, TimePassed, RequestAnswered, CallEventCame}
 use Rattle.run_reading.specs.Named.{Answering, answerings, Request, whole_request, request_at, bytes_from, IsNamedRange, AreNamed, IsNamedBatch, IsNamedTreePage, IsNamedItem, ServesNamed, IsNamedGift, GivesNamed}
 
@@ -51,7 +51,7 @@ AreNamedReplies s request replies = AllByRecursion (λ (r : ReplyValue). AreName
 
 -- ---- one batch
 
-response_named : (s : InstanceState) (d : Digest) (o : Option (List ℕ)) → WithinLimits s → seen d s.visible ≡ o → (read_response d o).status ≡ Some ok_status → Names d (read_response d o).content
+response_named : (s : InstanceState) (d : Digest) (o : Option (List ℕ)) → WithinLimits s → visible_text d s.visible ≡ o → (read_response d o).status ≡ Some ok_status → Names d (read_response d o).content
 response_named s d (Some text) w is ok = seen_named most_blobs s.quota s.visible d text w.texts is
 response_named s d None w is ok =
     let same : refused_status BlobNotFound ≡ ok_status = cc in
@@ -62,16 +62,16 @@ digest_beside : (d : Digest) (o : Option (List ℕ)) → (read_response d o).dig
 digest_beside d (Some text) = refl
 digest_beside d None = refl
 
-responses_named : (s : InstanceState) (ds : List Digest) → WithinLimits s → AreNamed ds (map (λ d. read_response d (seen d s.visible)) ds)
+responses_named : (s : InstanceState) (ds : List Digest) → WithinLimits s → AreNamed ds (map (λ d. read_response d (visible_text d s.visible)) ds)
 responses_named s [] w = tt
-responses_named s (d ∷ ds) w = (digest_beside d (seen d s.visible), response_named s d (seen d s.visible) w refl, responses_named s ds w)
+responses_named s (d ∷ ds) w = (digest_beside d (visible_text d s.visible), response_named s d (visible_text d s.visible) w refl, responses_named s ds w)
 
 batch_named : (s : InstanceState) (request : List ℕ) → WithinLimits s → AreNamedItems s (Some (record { method = BatchReadBlobs; message = request })) (items_of (reply_to BatchReadBlobs s request))
 batch_named s request w = go (digests_to_read s.name request) refl where
   go : (r : Result (List Digest) Refusal) → digests_to_read s.name request ≡ r
       → AreNamedItems s (Some (record { method = BatchReadBlobs; message = request })) (items_of (r >>= λ digests. Ok (read_reply s.visible digests)))
   go (Ok ds) is =
-      let batch : IsNamedBatch s request (read_reply s.visible ds) = record { asked = ds; asks = is; responses = map (λ d. read_response d (seen d s.visible)) ds; text = refl; named = responses_named s ds w } in
+      let batch : IsNamedBatch s request (read_reply s.visible ds) = record { asked = ds; asks = is; responses = map (λ d. read_response d (visible_text d s.visible)) ds; text = refl; named = responses_named s ds w } in
       (tt, (record { batch = λ same. batch; tree = λ same. cc; result = λ same. cc }, (tt, tt)))
   go (Err refusal) is = (tt, tt)
 
@@ -118,7 +118,7 @@ range_named s request given named = (tt, go (nat_lt given.from given.until)) whe
 
 read_named : (s : InstanceState) (request : List ℕ) → WithinLimits s → AreNamedItems s (reading request) (read_items (read_answer s.name s.visible request))
 read_named s request w = asks (read_asked s.name request) refl where
-  placed : (asked : ReadAsked) (text : List ℕ) (r : Result ℕ Refusal) → read_asked s.name request ≡ Ok asked → seen asked.digest s.visible ≡ Some text → place_of asked.offset (length text) ≡ r
+  placed : (asked : ReadAsked) (text : List ℕ) (r : Result ℕ Refusal) → read_asked s.name request ≡ Ok asked → visible_text asked.digest s.visible ≡ Some text → place_of asked.offset (length text) ≡ r
       → AreNamedItems s (reading request) (read_items (r >>= λ from. Ok (record { digest = asked.digest; text = text; from = from; until = until_of asked.limit from (length text) })))
   placed asked text (Ok from) asks own at =
       let place = place_is asked.offset (length text) from at in
@@ -133,12 +133,12 @@ read_named s request w = asks (read_asked s.name request) refl where
       })
   placed asked text (Err refusal) asks own at = (tt, tt)
 
-  found : (asked : ReadAsked) (o : Option (List ℕ)) → read_asked s.name request ≡ Ok asked → seen asked.digest s.visible ≡ o → AreNamedItems s (reading request) (read_items (range_asked asked o))
+  found : (asked : ReadAsked) (o : Option (List ℕ)) → read_asked s.name request ≡ Ok asked → visible_text asked.digest s.visible ≡ o → AreNamedItems s (reading request) (read_items (range_asked asked o))
   found asked None asks own = (tt, tt)
   found asked (Some text) asks own = placed asked text (place_of asked.offset (length text)) asks own refl
 
-  asks : (r : Result ReadAsked Refusal) → read_asked s.name request ≡ r → AreNamedItems s (reading request) (read_items (r >>= λ asked. range_asked asked (seen asked.digest s.visible)))
-  asks (Ok asked) is = found asked (seen asked.digest s.visible) is refl
+  asks : (r : Result ReadAsked Refusal) → read_asked s.name request ≡ r → AreNamedItems s (reading request) (read_items (r >>= λ asked. range_asked asked (visible_text asked.digest s.visible)))
+  asks (Ok asked) is = found asked (visible_text asked.digest s.visible) is refl
   asks (Err refusal) is = (tt, tt)
 
 -- ---- a whole request
@@ -159,15 +159,15 @@ abbrev walking : List ℕ → Option Request
 walking request = Some (record { method = GetTree; message = request })
 
 pages_said : (s : InstanceState) (request : List ℕ) (asked : TreeAskedValue) (listed : List Digest) → tree_asked s.name request ≡ Ok asked → tree_list (texts_seen s.visible) asked.root ≡ Ok listed
-    → (pages : List (List ℕ)) → AllByRecursion (IsNamedPage listed) pages → AreNamedItems s (walking request) (messages_said pages ++ ends ∷ [])
+    → (pages : List (List ℕ)) → AllByRecursion (IsNamedPage listed) pages → AreNamedItems s (walking request) (message_items pages ++ ends ∷ [])
 pages_said s request asked listed asks lists [] named = (tt, tt)
 pages_said s request asked listed asks lists (page ∷ pages) named =
     let one : IsNamedTreePage s request page = record { asked = asked; asks = asks; listed = listed; lists = lists; page = named.0 } in
     (record { batch = λ same. cc; tree = λ same. one; result = λ same. cc }, pages_said s request asked listed asks lists pages named.1)
 
-tree_named : (s : InstanceState) (request : List ℕ) → WithinLimits s → AreNamedItems s (walking request) (messages_items (get_tree_replies s.name s.visible request))
+tree_named : (s : InstanceState) (request : List ℕ) → WithinLimits s → AreNamedItems s (walking request) (whole_reply_items (get_tree_replies s.name s.visible request))
 tree_named s request w = go (get_tree_replies s.name s.visible request) refl where
-  go : (r : Result (List (List ℕ)) Refusal) → get_tree_replies s.name s.visible request ≡ r → AreNamedItems s (walking request) (messages_items r)
+  go : (r : Result (List (List ℕ)) Refusal) → get_tree_replies s.name s.visible request ≡ r → AreNamedItems s (walking request) (whole_reply_items r)
   go (Ok pages) is =
       let named = pages_named s.name s.visible request pages w.texts.named is in
       (tt, pages_said s request named.asked named.listed named.is_asked named.is_listed pages named.pages)
@@ -193,46 +193,46 @@ plain_named : (s : InstanceState) (r : Result (List ℕ) Refusal) → AreNamedIt
 plain_named s (Ok reply) = (tt, (tt, (tt, tt)))
 plain_named s (Err refusal) = (tt, tt)
 
-first_named : (s : InstanceState) (id : CallId) (method : Method) (changes : List Change) (r : Result WrittenValue Refusal) → AreNamedReplies s None (first_written id method changes r).replies
+first_named : (s : InstanceState) (id : CallId) (method : Method) (changes : List Change) (r : Result WrittenValue Refusal) → AreNamedReplies s None (first_write_answer id method changes r).replies
 first_named s id method changes (Ok (Writing.Goes write)) = tt
 first_named s id method changes (Ok (Writing.Answered reply)) = (plain_named s (Ok reply), tt)
 first_named s id method changes (Err refusal) = (plain_named s (Err refusal), tt)
 
-next_named : (s : InstanceState) (id : CallId) (changes : List Change) (r : Result (Option (List ℕ)) Refusal) → AreNamedReplies s None (next_written id changes r).replies
+next_named : (s : InstanceState) (id : CallId) (changes : List Change) (r : Result (Option (List ℕ)) Refusal) → AreNamedReplies s None (next_write_answer id changes r).replies
 next_named s id changes (Ok None) = tt
 next_named s id changes (Ok (Some reply)) = (plain_named s (Ok reply), tt)
 next_named s id changes (Err refusal) = (plain_named s (Err refusal), tt)
 
-with_first_named : (s : InstanceState) (id : CallId) (method : Method) (bytes : List ℕ) → AreNamedReplies s None (with_first s id method bytes).replies
+with_first_named : (s : InstanceState) (id : CallId) (method : Method) (bytes : List ℕ) → AreNamedReplies s None (first_message_answer s id method bytes).replies
 with_first_named s id Write bytes = first_named s id Write (first_changes s bytes) (first_outcome s bytes)
 with_first_named s id method bytes = tt
 
-with_named : (s : InstanceState) (id : CallId) (method : Method) (bytes : List ℕ) (p : ProgressValue) → AreNamedReplies s None (with_message s id method bytes p).replies
+with_named : (s : InstanceState) (id : CallId) (method : Method) (bytes : List ℕ) (p : ProgressValue) → AreNamedReplies s None (answer_by_progress s id method bytes p).replies
 with_named s id method bytes waits = with_first_named s id method bytes
 with_named s id method bytes (has first) = ((tt, tt), tt)
 with_named s id method bytes (writes write) = next_named s id (next_changes s write bytes) (next_outcome s write bytes)
 
-message_named : (s : InstanceState) (id : CallId) (bytes : List ℕ) (o : Option CallValue) → AreNamedReplies s None (at_message s id bytes o).replies
+message_named : (s : InstanceState) (id : CallId) (bytes : List ℕ) (o : Option CallValue) → AreNamedReplies s None (message_answer s id bytes o).replies
 message_named s id bytes None = tt
 message_named s id bytes (Some call) = with_named s id call.method bytes call.progress
 
-head_named : (s : InstanceState) (id : CallId) (method : Method) (o : Option CallValue) → AreNamedReplies s None (at_head id method o).replies
+head_named : (s : InstanceState) (id : CallId) (method : Method) (o : Option CallValue) → AreNamedReplies s None (head_answer id method o).replies
 head_named s id method (Some call) = tt
 head_named s id method None = go (is_served method) refl where
-  go : (b : Bool) → is_served method ≡ b → AreNamedReplies s None (at_head id method None).replies
+  go : (b : Bool) → is_served method ≡ b → AreNamedReplies s None (head_answer id method None).replies
   go true is = rw is tt
   go false is = rw is ((tt, tt), tt)
 
-fault_named : (s : InstanceState) (id : CallId) (refusal : Refusal) (o : Option CallValue) → AreNamedReplies s None (at_fault id refusal o).replies
+fault_named : (s : InstanceState) (id : CallId) (refusal : Refusal) (o : Option CallValue) → AreNamedReplies s None (fault_answer id refusal o).replies
 fault_named s id refusal None = tt
 fault_named s id refusal (Some call) = ((tt, tt), tt)
 
-request_named : (s : InstanceState) (id : CallId) (method : Method) (p : ProgressValue) → WithinLimits s → AreNamedReplies s (whole_request method p) (with_request s id method p).replies
+request_named : (s : InstanceState) (id : CallId) (method : Method) (p : ProgressValue) → WithinLimits s → AreNamedReplies s (whole_request method p) (end_answer_by_progress s id method p).replies
 request_named s id method waits w = ((tt, tt), tt)
 request_named s id method (has request) w = (method_named s method request w, tt)
 request_named s id method (writes write) w = ((tt, (tt, (tt, tt))), tt)
 
-end_named : (s : InstanceState) (id : CallId) (o : Option CallValue) → WithinLimits s → call_at id s.calls ≡ o → AreNamedReplies s (request_at s (end id)) (at_end s id o).replies
+end_named : (s : InstanceState) (id : CallId) (o : Option CallValue) → WithinLimits s → call_at id s.calls ≡ o → AreNamedReplies s (request_at s (end id)) (request_end_answer s id o).replies
 end_named s id None w is = tt
 end_named s id (Some call) w is = rw is (request_named s id call.method call.progress w)
 
@@ -265,9 +265,9 @@ moment_within moment s w = record { quota = w.quota; texts = w.texts; uploads = 
 pub each_answer : (P : Answering → Type 0) (s : InstanceState) (hs : List Happening) → ((t : InstanceState) (event : CallEventValue) → WithinLimits t → P (record { state = t; event = event })) → AllByRecursion IsShortHappening hs → WithinLimits s → AllByRecursion P (answerings s hs)
 each_answer P s [] good short w = tt
 each_answer P s (MomentCame moment ∷ hs) good short w = each_answer P (at_moment moment s) hs good short.1 (moment_within moment s w)
-each_answer P s (TimePassed ∷ hs) good short w = each_answer P (after s tick) hs good short.1 (after_keeps s tick tt w)
+each_answer P s (TimePassed ∷ hs) good short w = each_answer P (state_after s tick) hs good short.1 (after_keeps s tick tt w)
 each_answer P s (RequestAnswered place stream item ∷ hs) good short w = each_answer P s hs good short.1 w
-each_answer P s (CallEventCame place event ∷ hs) good short w = (good s event w, each_answer P (after s event) hs good short.1 (after_keeps s event short.0 w))
+each_answer P s (CallEventCame place event ∷ hs) good short w = (good s event w, each_answer P (state_after s event) hs good short.1 (after_keeps s event short.0 w))
 
 pub all_named : (s : InstanceState) (hs : List Happening) → AllByRecursion IsShortHappening hs → WithinLimits s → AllByRecursion ServesNamed (answerings s hs)
 all_named s hs short w = each_answer ServesNamed s hs serves_named short w
@@ -286,7 +286,7 @@ items_gifts : (s : InstanceState) (request : Option Request) (items : List Reply
 items_gifts s request [] h = tt
 items_gifts s request (item ∷ items) h = (item_gift s request item h.0, items_gifts s request items h.1)
 
-replies_gifts : (s : InstanceState) (request : Option Request) (place : ℕ) (replies : List ReplyValue) → AreNamedReplies s request replies → AllByRecursion GivesNamed (map (reply_given place) replies)
+replies_gifts : (s : InstanceState) (request : Option Request) (place : ℕ) (replies : List ReplyValue) → AreNamedReplies s request replies → AllByRecursion GivesNamed (map (items_of_reply place) replies)
 replies_gifts s request place [] h = tt
 replies_gifts s request place (r ∷ rs) h = (items_gifts s request r.items h.0, replies_gifts s request place rs h.1)
 
@@ -295,11 +295,11 @@ request_gift (Headed block) h = tt
 request_gift (Message bytes) h = tt
 request_gift (Range digest text from count) h = absurd h
 
-pub all_gifts : (s : InstanceState) (hs : List Happening) → AllByRecursion IsShortHappening hs → WithinLimits s → AllByRecursion GivesNamed (given_from s hs)
+pub all_gifts : (s : InstanceState) (hs : List Happening) → AllByRecursion IsShortHappening hs → WithinLimits s → AllByRecursion GivesNamed (given_items_from s hs)
 all_gifts s [] short w = tt
 all_gifts s (MomentCame moment ∷ hs) short w = all_gifts (at_moment moment s) hs short.1 (moment_within moment s w)
-all_gifts s (TimePassed ∷ hs) short w = all_gifts (after s tick) hs short.1 (after_keeps s tick tt w)
+all_gifts s (TimePassed ∷ hs) short w = all_gifts (state_after s tick) hs short.1 (after_keeps s tick tt w)
 all_gifts s (RequestAnswered place stream item ∷ hs) short w = ((request_gift item short.0, tt), all_gifts s hs short.1 w)
 all_gifts s (CallEventCame place event ∷ hs) short w =
-    all_append GivesNamed (map (reply_given place) (answer s event).replies) (given_from (after s event) hs)
-    (replies_gifts s (request_at s event) place (answer s event).replies (serves_named s event w)) (all_gifts (after s event) hs short.1 (after_keeps s event short.0 w))
+    all_append GivesNamed (map (items_of_reply place) (answer s event).replies) (given_items_from (state_after s event) hs)
+    (replies_gifts s (request_at s event) place (answer s event).replies (serves_named s event w)) (all_gifts (state_after s event) hs short.1 (after_keeps s event short.0 w))

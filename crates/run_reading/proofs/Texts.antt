@@ -11,42 +11,42 @@ use Rattle.http2_frames.specs.declared.error.FrameError.{FrameError}
 use Rattle.http2_frames.specs.declared.frame.RawFrame.{RawFrame}
 use Rattle.http2_frames.specs.Reading.{split}
 use Rattle.http2_frames.proofs.MoreBytes.{more_frames}
-use Rattle.http2_streams.specs.Diary.{Entry, Unreadable, Out, has_failed, highest}
+use Rattle.http2_streams.specs.History.{Entry, Unreadable, Out, has_failed, highest_stream}
 use Rattle.http2_streams.specs.Rules.{reading_fault}
-use Rattle.grpc_sending.specs.Owed.{Owed, Item}
-use Rattle.grpc_sending.specs.Pump.{pumped}
-use Rattle.grpc_sending.proofs.Diaries.{append-nil}
+use Rattle.grpc_sending.specs.Owed.{OwedItem, Item}
+use Rattle.grpc_sending.specs.Pump.{history_after_pump}
+use Rattle.grpc_sending.proofs.Histories.{append-nil}
 use Rattle.http2_frames.specs.declared.frame.Frame.{Frame}
 use Rattle.conn_core.specs.declared.event.CallEvent.{CallEvent}
 use Rattle.conn_core.specs.Calls.{cancels}
-use Rattle.conn_core.specs.Past.{Past, opening, with_item, with_frame, with_fault, with_taken, with_pumped}
-use Rattle.conn_core.specs.Received.{raw_received, raw_in, outcome, fault_frames}
+use Rattle.conn_core.specs.Past.{Past, opening, with_item, with_frame, with_fault, with_taken, with_pumped, with_bytes}
+use Rattle.conn_core.specs.Received.{received_raw_frames, raw_in, outcome, fault_frames}
 use Rattle.conn_core.proofs.Answered.{raw_after}
 use Rattle.conn_core.proofs.Events.{raw_out, raw_took}
 use Rattle.instance_core.specs.Replies.{ReplyValue}
-use Rattle.instance_core.specs.Answer.{answer, after}
+use Rattle.instance_core.specs.Answer.{answer, state_after}
 use Rattle.server_events.specs.Events.{EventValue, WhatValue, opened, received, took, closed, tick, ended}
 use Rattle.served_instance.specs.declared.refusal.EventRefusal.{EventRefusal}
-use Rattle.served_instance.specs.Connections.{LoneConnection, is_at, open_at, at_open, closed_at, at_all_open}
+use Rattle.served_instance.specs.Connections.{LoneConnection, is_open_at, open_at, at_open, with_closed, at_all_open}
 use Rattle.served_instance.specs.Calls.{call_event_on, items_of, with_items}
-use Rattle.served_instance.specs.Lone.{Lone, replied, happened, all_happened, due_at, none_due, due_happened, frame_read, is_over, frames_read, fault_met, end_read, unread_frames, all_read, with_bytes, bytes_came, acted, came_at}
-use Rattle.served_instance.specs.Refusals.{refusal_of, stepped}
+use Rattle.served_instance.specs.Lone.{Lone, after_replies, after_call_event, after_call_events, due_at, without_due, after_due_on, after_frame_on, is_over, after_frames_on, after_fault_on, after_end_on, unread_frames, after_reading_on, after_bytes_on, effect_of, lone_at_moment}
+use Rattle.served_instance.specs.Refusals.{refusal_of, after_event_unless}
 use Rattle.run_record.specs.Runs.{Run, run_step}
 use Rattle.client_reading.proofs.Choices.{choose, all_append}
 use Rattle.client_reading.proofs.Nexts.{pump_keeps}
 use Rattle.run_reading.specs.Replies.{ReadsText}
 use Rattle.run_reading.proofs.Owes.{open_step, none_open, open_has}
 
--- ---- what is read of a past: its text and its diary
+-- ---- what is read of a past: its text and its history
 
 abbrev Key : Type 0
 Key = List ℕ × List Entry
 
 abbrev key : Past → Key
-key p = (p.text, p.diary)
+key p = (p.text, p.history)
 
 abbrev ReadsKey : Key → Type 0
-ReadsKey k = (later : List RawFrame) × ((split CLIENT_PREFACE.now k.0).frames ≡ raw_received k.1 ++ later)
+ReadsKey k = (later : List RawFrame) × ((split CLIENT_PREFACE.now k.0).frames ≡ received_raw_frames k.1 ++ later)
 
 abbrev AllRead : List LoneConnection → Type 0
 AllRead ks = AllByRecursion (λ (k : LoneConnection). ReadsText k.past) ks
@@ -63,32 +63,32 @@ items_text s r p = with_all (items_of r.items) p where
 
 quiet_read : (c : ℕ) (step : Past → Past) (ks : List LoneConnection) → KeepsKey step → AllRead ks → AllRead (at_open c step ks)
 quiet_read c step [] keeps h = tt
-quiet_read c step (k ∷ ks) keeps h = choose AllRead (is_at c k) (record k { past = step k.past } ∷ ks) (k ∷ at_open c step ks) (λ _. (subst ReadsKey (sym (keeps k.past)) h.0, h.1)) (λ _. (h.0, quiet_read c step ks keeps h.1))
+quiet_read c step (k ∷ ks) keeps h = choose AllRead (is_open_at c k) (record k { past = step k.past } ∷ ks) (k ∷ at_open c step ks) (λ _. (subst ReadsKey (sym (keeps k.past)) h.0, h.1)) (λ _. (h.0, quiet_read c step ks keeps h.1))
 
 -- a step of the open connection that makes a past of which this is so
 step_read : (c : ℕ) (step : Past → Past) (ks : List LoneConnection) → ((p : Past) → open_at c ks ≡ Some p → ReadsText p → ReadsText (step p)) → AllRead ks → AllRead (at_open c step ks)
 step_read c step [] makes h = tt
-step_read c step (k ∷ ks) makes h = elim (cases_Bool (is_at c k)) [
+step_read c step (k ∷ ks) makes h = elim (cases_Bool (is_open_at c k)) [
   | inl here ↦ rw here (makes k.past (rw here refl) h.0, h.1)
   | inr other ↦ rw other (h.0, step_read c step ks (λ p is. makes p (rw other is)) h.1)
 ]
 
-closed_read : (c : ℕ) (ks : List LoneConnection) → AllRead ks → AllRead (closed_at c ks)
+closed_read : (c : ℕ) (ks : List LoneConnection) → AllRead ks → AllRead (with_closed c ks)
 closed_read c [] h = tt
-closed_read c (k ∷ ks) h = choose AllRead (is_at c k) (record k { is_open = false } ∷ ks) (k ∷ closed_at c ks) (λ _. h) (λ _. (h.0, closed_read c ks h.1))
+closed_read c (k ∷ ks) h = choose AllRead (is_open_at c k) (record k { is_open = false } ∷ ks) (k ∷ with_closed c ks) (λ _. h) (λ _. (h.0, closed_read c ks h.1))
 
 -- ---- calls
 
-replied_read : (rs : List ReplyValue) (l : Lone) → AllRead l.connections → AllRead (replied rs l).connections
+replied_read : (rs : List ReplyValue) (l : Lone) → AllRead l.connections → AllRead (after_replies rs l).connections
 replied_read [] l h = h
 replied_read (r ∷ rs) l h = replied_read rs (record l { connections = at_open r.call.connection (with_items r.call.stream (items_of r.items)) l.connections }) (quiet_read r.call.connection (with_items r.call.stream (items_of r.items)) l.connections (items_text r.call.stream r) h)
 
-calls_read : (c : ℕ) (es : List CallEvent) (l : Lone) → AllRead l.connections → AllRead (all_happened c es l).connections
+calls_read : (c : ℕ) (es : List CallEvent) (l : Lone) → AllRead l.connections → AllRead (after_call_events c es l).connections
 calls_read c [] l h = h
-calls_read c (e ∷ es) l h = calls_read c es (happened (call_event_on c e) l) (replied_read (answer l.state (call_event_on c e)).replies (record l { state = after l.state (call_event_on c e) }) h)
+calls_read c (e ∷ es) l h = calls_read c es (after_call_event (call_event_on c e) l) (replied_read (answer l.state (call_event_on c e)).replies (record l { state = state_after l.state (call_event_on c e) }) h)
 
-due_read : (c : ℕ) (l : Lone) → AllRead l.connections → AllRead (due_happened c l).connections
-due_read c l h = calls_read c (due_at c l) (record l { connections = at_open c none_due l.connections }) (quiet_read c none_due l.connections (λ p. refl) h)
+due_read : (c : ℕ) (l : Lone) → AllRead l.connections → AllRead (after_due_on c l).connections
+due_read c l h = calls_read c (due_at c l) (record l { connections = at_open c without_due l.connections }) (quiet_read c without_due l.connections (λ p. refl) h)
 
 -- ---- the open connection
 
@@ -97,9 +97,9 @@ open_key c ks = option_map key (open_at c ks)
 
 same_key : (c d : ℕ) (step : Past → Past) (ks : List LoneConnection) → KeepsKey step → open_key c (at_open d step ks) ≡ open_key c ks
 same_key c d step [] keeps = refl
-same_key c d step (k ∷ ks) keeps = elim (cases_Bool (is_at d k)) [
-  | inl here ↦ rw here (head_key (is_at c k))
-  | inr other ↦ rw other (tail_key (is_at c k) (same_key c d step ks keeps))
+same_key c d step (k ∷ ks) keeps = elim (cases_Bool (is_open_at d k)) [
+  | inl here ↦ rw here (head_key (is_open_at c k))
+  | inr other ↦ rw other (tail_key (is_open_at c k) (same_key c d step ks keeps))
 ] where
   head_key : (b : Bool) → option_map key (cond b (Some (step k.past)) (open_at c ks)) ≡ option_map key (cond b (Some k.past) (open_at c ks))
   head_key true = ap Some (keeps k.past)
@@ -109,25 +109,25 @@ same_key c d step (k ∷ ks) keeps = elim (cases_Bool (is_at d k)) [
   tail_key true ih = refl
   tail_key false ih = ih
 
-replied_key : (c : ℕ) (rs : List ReplyValue) (l : Lone) → open_key c (replied rs l).connections ≡ open_key c l.connections
+replied_key : (c : ℕ) (rs : List ReplyValue) (l : Lone) → open_key c (after_replies rs l).connections ≡ open_key c l.connections
 replied_key c [] l = refl
 replied_key c (r ∷ rs) l =
     replied_key c rs (record l { connections = at_open r.call.connection (with_items r.call.stream (items_of r.items)) l.connections })
     ∙ same_key c r.call.connection (with_items r.call.stream (items_of r.items)) l.connections (items_text r.call.stream r)
 
-calls_key : (c : ℕ) (es : List CallEvent) (l : Lone) → open_key c (all_happened c es l).connections ≡ open_key c l.connections
+calls_key : (c : ℕ) (es : List CallEvent) (l : Lone) → open_key c (after_call_events c es l).connections ≡ open_key c l.connections
 calls_key c [] l = refl
 calls_key c (e ∷ es) l =
-    calls_key c es (happened (call_event_on c e) l)
-    ∙ replied_key c (answer l.state (call_event_on c e)).replies (record l { state = after l.state (call_event_on c e) })
+    calls_key c es (after_call_event (call_event_on c e) l)
+    ∙ replied_key c (answer l.state (call_event_on c e)).replies (record l { state = state_after l.state (call_event_on c e) })
 
-due_key : (c : ℕ) (l : Lone) → open_key c (due_happened c l).connections ≡ open_key c l.connections
-due_key c l = calls_key c (due_at c l) (record l { connections = at_open c none_due l.connections }) ∙ same_key c c none_due l.connections (λ p. refl)
+due_key : (c : ℕ) (l : Lone) → open_key c (after_due_on c l).connections ≡ open_key c l.connections
+due_key c l = calls_key c (due_at c l) (record l { connections = at_open c without_due l.connections }) ∙ same_key c c without_due l.connections (λ p. refl)
 
 -- these frames are still to be read on the open connection
 abbrev LeftAt : List RawFrame → Option Key → Type 0
 LeftAt fs None = Unit {0}
-LeftAt fs (Some k) = (split CLIENT_PREFACE.now k.0).frames ≡ raw_received k.1 ++ fs
+LeftAt fs (Some k) = (split CLIENT_PREFACE.now k.0).frames ≡ received_raw_frames k.1 ++ fs
 
 abbrev Left : ℕ → List RawFrame → Lone → Type 0
 Left c fs l = LeftAt fs (open_key c l.connections)
@@ -135,9 +135,9 @@ Left c fs l = LeftAt fs (open_key c l.connections)
 -- ---- frames
 
 frame_left : (f : RawFrame) (fs : List RawFrame) (p : Past) → LeftAt (f ∷ fs) (Some (key p)) → LeftAt fs (Some (key (with_frame p f)))
-frame_left f fs p h = h ∙ sym (append_assoc (raw_received p.diary) (f ∷ []) fs) ∙ ap (λ (rs : List RawFrame). rs ++ fs) (sym (raw_after p.diary f (outcome p.diary f).put))
+frame_left f fs p h = h ∙ sym (append_assoc (received_raw_frames p.history) (f ∷ []) fs) ∙ ap (λ (rs : List RawFrame). rs ++ fs) (sym (raw_after p.history f (outcome p.history f).put))
 
-left_after : (c : ℕ) (f : RawFrame) (fs : List RawFrame) (l : Lone) → Left c (f ∷ fs) l → Left c fs (frame_read c f l)
+left_after : (c : ℕ) (f : RawFrame) (fs : List RawFrame) (l : Lone) → Left c (f ∷ fs) l → Left c fs (after_frame_on c f l)
 left_after c f fs l h = subst (LeftAt fs) (sym (due_key c m)) (found (open_at c l.connections) refl) where
   m : Lone
   m = record l { connections = at_open c (λ p. with_frame p f) l.connections }
@@ -148,37 +148,37 @@ left_after c f fs l h = subst (LeftAt fs) (sym (due_key c m)) (found (open_at c 
       let left : LeftAt (f ∷ fs) (Some (key p)) = subst (λ (o : Option Past). LeftAt (f ∷ fs) (option_map key o)) is h in
       subst (λ (o : Option Past). LeftAt fs (option_map key o)) (sym (open_step c (λ p. with_frame p f) l.connections p is)) (frame_left f fs p left)
 
-frame_reads : (c : ℕ) (f : RawFrame) (fs : List RawFrame) (l : Lone) → Left c (f ∷ fs) l → AllRead l.connections → AllRead (frame_read c f l).connections
+frame_reads : (c : ℕ) (f : RawFrame) (fs : List RawFrame) (l : Lone) → Left c (f ∷ fs) l → AllRead l.connections → AllRead (after_frame_on c f l).connections
 frame_reads c f fs l left h =
     due_read c (record l { connections = at_open c (λ p. with_frame p f) l.connections })
     (step_read c (λ p. with_frame p f) l.connections (λ p is _. (fs, frame_left f fs p (subst (λ (o : Option Past). LeftAt (f ∷ fs) (option_map key o)) is left))) h)
 
-frames_read_on : (c : ℕ) (fs : List RawFrame) (l : Lone) → Left c fs l → AllRead l.connections → AllRead (frames_read c fs l).connections
+frames_read_on : (c : ℕ) (fs : List RawFrame) (l : Lone) → Left c fs l → AllRead l.connections → AllRead (after_frames_on c fs l).connections
 frames_read_on c [] l left h = h
 frames_read_on c (f ∷ fs) l left h = elim (cases_Bool (is_over c l)) [
   | inl over ↦ rw over h
-  | inr fine ↦ rw fine (frames_read_on c fs (frame_read c f l) (left_after c f fs l left) (frame_reads c f fs l left h))
+  | inr fine ↦ rw fine (frames_read_on c fs (after_frame_on c f l) (left_after c f fs l left) (frame_reads c f fs l left h))
 ]
 
 -- ---- bytes that are no frame
 
-same_frames : (d e : List Entry) (text : List ℕ) → raw_received e ≡ raw_received d → ReadsKey (text, d) → ReadsKey (text, e)
+same_frames : (d e : List Entry) (text : List ℕ) → received_raw_frames e ≡ received_raw_frames d → ReadsKey (text, d) → ReadsKey (text, e)
 same_frames d e text same h = (h.0, h.1 ∙ ap (λ (rs : List RawFrame). rs ++ h.0) (sym same))
 
-raw_fault : (d : List Entry) (e : FrameError) (fs : List Frame) → raw_received (d ++ Unreadable e ∷ map Out fs) ≡ raw_received d
+raw_fault : (d : List Entry) (e : FrameError) (fs : List Frame) → received_raw_frames (d ++ Unreadable e ∷ map Out fs) ≡ received_raw_frames d
 raw_fault d e fs =
-    ap raw_received (sym (append_assoc d (Unreadable e ∷ []) (map Out fs))) ∙ raw_out (d ++ Unreadable e ∷ []) fs
-    ∙ (filter_map-append raw_in d (Unreadable e ∷ []) ∙ append-nil (raw_received d))
+    ap received_raw_frames (sym (append_assoc d (Unreadable e ∷ []) (map Out fs))) ∙ raw_out (d ++ Unreadable e ∷ []) fs
+    ∙ (filter_map-append raw_in d (Unreadable e ∷ []) ∙ append-nil (received_raw_frames d))
 
-fault_reads : (c : ℕ) (e : FrameError) (l : Lone) (o : Option ErrorCode) → AllRead l.connections → AllRead (fault_met c e l o).connections
+fault_reads : (c : ℕ) (e : FrameError) (l : Lone) (o : Option ErrorCode) → AllRead l.connections → AllRead (after_fault_on c e l o).connections
 fault_reads c e l None h = h
 fault_reads c e l (Some code) h =
     due_read c (record l { connections = at_open c (λ p. with_fault p e code) l.connections })
-    (step_read c (λ p. with_fault p e code) l.connections (λ p is reads. same_frames p.diary (with_fault p e code).diary p.text (raw_fault p.diary e (fault_frames (has_failed p.diary) (highest p.diary) code)) reads) h)
+    (step_read c (λ p. with_fault p e code) l.connections (λ p is reads. same_frames p.history (with_fault p e code).history p.text (raw_fault p.history e (fault_frames (has_failed p.history) (highest_stream p.history) code)) reads) h)
 
-end_reads : (c : ℕ) (r : Result (List ℕ) FrameError) (l : Lone) → AllRead l.connections → AllRead (end_read c r l).connections
+end_reads : (c : ℕ) (r : Result (List ℕ) FrameError) (l : Lone) → AllRead l.connections → AllRead (after_end_on c r l).connections
 end_reads c (Ok rest) l h = h
-end_reads c (Err e) l h = choose (λ (m : Lone). AllRead m.connections) (is_over c l) l (fault_met c e l (reading_fault e)) (λ _. h) (λ _. fault_reads c e l (reading_fault e) h)
+end_reads c (Err e) l h = choose (λ (m : Lone). AllRead m.connections) (is_over c l) l (after_fault_on c e l (reading_fault e)) (λ _. h) (λ _. fault_reads c e l (reading_fault e) h)
 
 drop_front : {A : Type 0} (xs ys : List A) → drop (length xs) (xs ++ ys) ≡ ys
 drop_front [] ys = refl
@@ -186,24 +186,24 @@ drop_front (x ∷ xs) ys = drop_front xs ys
 
 all_left : (p : Past) → ReadsText p → LeftAt (unread_frames p) (Some (key p))
 all_left p h =
-    let rest : unread_frames p ≡ h.0 = ap (drop (length (raw_received p.diary))) h.1 ∙ drop_front (raw_received p.diary) h.0 in
-    h.1 ∙ ap (λ (fs : List RawFrame). raw_received p.diary ++ fs) (sym rest)
+    let rest : unread_frames p ≡ h.0 = ap (drop (length (received_raw_frames p.history))) h.1 ∙ drop_front (received_raw_frames p.history) h.0 in
+    h.1 ∙ ap (λ (fs : List RawFrame). received_raw_frames p.history ++ fs) (sym rest)
 
 open_reads : (c : ℕ) (ks : List LoneConnection) (p : Past) → open_at c ks ≡ Some p → AllRead ks → ReadsText p
 open_reads c ks p is h = open_has ReadsText c ks p is h
 
-all_reads : (c : ℕ) (l : Lone) (o : Option Past) → open_at c l.connections ≡ o → AllRead l.connections → AllRead (all_read c l o).connections
+all_reads : (c : ℕ) (l : Lone) (o : Option Past) → open_at c l.connections ≡ o → AllRead l.connections → AllRead (after_reading_on c l o).connections
 all_reads c l None is h = h
 all_reads c l (Some p) is h =
     let left : Left c (unread_frames p) l = subst (λ (o : Option Past). LeftAt (unread_frames p) (option_map key o)) (sym is) (all_left p (open_reads c l.connections p is h)) in
-    end_reads c (split CLIENT_PREFACE.now p.text).end (frames_read c (unread_frames p) l) (frames_read_on c (unread_frames p) l left h)
+    end_reads c (split CLIENT_PREFACE.now p.text).end (after_frames_on c (unread_frames p) l) (frames_read_on c (unread_frames p) l left h)
 
 more_read : (bytes : List ℕ) (p : Past) → ReadsText p → ReadsText (with_bytes bytes p)
 more_read bytes p h =
     let more = more_frames CLIENT_PREFACE.now p.text bytes in
-    (h.0 ++ more.0, more.1 ∙ ap (λ (fs : List RawFrame). fs ++ more.0) h.1 ∙ append_assoc (raw_received p.diary) h.0 more.0)
+    (h.0 ++ more.0, more.1 ∙ ap (λ (fs : List RawFrame). fs ++ more.0) h.1 ∙ append_assoc (received_raw_frames p.history) h.0 more.0)
 
-came_reads : (c : ℕ) (bytes : List ℕ) (l : Lone) → AllRead l.connections → AllRead (bytes_came c bytes l).connections
+came_reads : (c : ℕ) (bytes : List ℕ) (l : Lone) → AllRead l.connections → AllRead (after_bytes_on c bytes l).connections
 came_reads c bytes l h =
     let m : Lone = record l { connections = at_open c (with_bytes bytes) l.connections } in
     all_reads c m (open_at c m.connections) refl (step_read c (with_bytes bytes) l.connections (λ p is reads. more_read bytes p reads) h)
@@ -213,23 +213,23 @@ came_reads c bytes l h =
 first_read : ReadsText opening
 first_read = ((split CLIENT_PREFACE.now []).frames, refl)
 
-acted_reads : (w : WhatValue) (l : Lone) → AllRead l.connections → AllRead (acted w l).connections
+acted_reads : (w : WhatValue) (l : Lone) → AllRead l.connections → AllRead (effect_of w l).connections
 acted_reads (opened c) l h = all_append (λ (k : LoneConnection). ReadsText k.past) l.connections (record { number = c; past = opening; is_open = true } ∷ []) h (first_read, tt)
 acted_reads (received c bytes) l h = came_reads c bytes l h
-acted_reads (took c n) l h = step_read c (λ p. with_taken p n) l.connections (λ p is reads. same_frames p.diary (with_taken p n).diary p.text (raw_took p.diary n) reads) h
-acted_reads (closed c) l h = calls_read c (option_map_or (λ (p : Past). cancels p.diary) (open_at c l.connections) []) (record l { connections = closed_at c l.connections }) (closed_read c l.connections h)
+acted_reads (took c n) l h = step_read c (λ p. with_taken p n) l.connections (λ p is reads. same_frames p.history (with_taken p n).history p.text (raw_took p.history n) reads) h
+acted_reads (closed c) l h = calls_read c (option_map_or (λ (p : Past). cancels p.history) (open_at c l.connections) []) (record l { connections = with_closed c l.connections }) (closed_read c l.connections h)
 acted_reads tick l h = h
 acted_reads (ended job outcome) l h = h
 
-pumped_raw : (d : List Entry) (os : List Owed) → raw_received (pumped d os) ≡ raw_received d
-pumped_raw d os = pump_keeps (λ (e : List Entry). raw_received e ≡ raw_received d) os (λ e fs next same. raw_out e fs ∙ same) d refl
+pumped_raw : (d : List Entry) (os : List OwedItem) → received_raw_frames (history_after_pump d os) ≡ received_raw_frames d
+pumped_raw d os = pump_keeps (λ (e : List Entry). received_raw_frames e ≡ received_raw_frames d) os (λ e fs next same. raw_out e fs ∙ same) d refl
 
 pumped_reads : (ks : List LoneConnection) → AllRead ks → AllRead (at_all_open with_pumped ks)
 pumped_reads [] h = tt
-pumped_reads (k ∷ ks) h = (choose (λ (j : LoneConnection). ReadsText j.past) k.is_open (record k { past = with_pumped k.past }) k (λ _. same_frames k.past.diary (with_pumped k.past).diary k.past.text (pumped_raw k.past.diary k.past.owed) h.0) (λ _. h.0), pumped_reads ks h.1)
+pumped_reads (k ∷ ks) h = (choose (λ (j : LoneConnection). ReadsText j.past) k.is_open (record k { past = with_pumped k.past }) k (λ _. same_frames k.past.history (with_pumped k.past).history k.past.text (pumped_raw k.past.history k.past.owed) h.0) (λ _. h.0), pumped_reads ks h.1)
 
-step_reads : (e : EventValue) (l : Lone) (o : Option EventRefusal) → AllRead l.connections → AllRead (stepped e l o).connections
-step_reads e l None h = pumped_reads (acted e.what (came_at e.moment l)).connections (acted_reads e.what (came_at e.moment l) h)
+step_reads : (e : EventValue) (l : Lone) (o : Option EventRefusal) → AllRead l.connections → AllRead (after_event_unless e l o).connections
+step_reads e l None h = pumped_reads (effect_of e.what (lone_at_moment e.moment l)).connections (acted_reads e.what (lone_at_moment e.moment l) h)
 step_reads e l (Some refusal) h = h
 
 pub run_reads : (r : Run) (es : List EventValue) → AllRead r.lone.connections → AllByRecursion (λ (k : LoneConnection). ReadsText k.past) (fold run_step r es).lone.connections

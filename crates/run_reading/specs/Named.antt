@@ -5,7 +5,7 @@ use Rattle.std.specs.List.{AllByRecursion}
 use Rattle.std.specs.Option.{option_map_or}
 use Rattle.digest.specs.declared.Digest.{Digest}
 use Rattle.digest.specs.Naming.{Names}
-use Rattle.instance_view.specs.Visible.{seen}
+use Rattle.instance_view.specs.Visible.{visible_text}
 use Rattle.reapi_messages.specs.Batches.{ReadBlobResponseValue, batch_read_blobs_response_records}
 use Rattle.reapi_messages.specs.Parts.{text_for}
 use Rattle.cas_service.specs.BatchRead.{digests_to_read}
@@ -23,11 +23,11 @@ use Rattle.input_tree.specs.Listing.{tree_list}
 use Rattle.rpc.specs.declared.method.Method.TheVariants.{BatchReadBlobs, GetTree, GetActionResult, Read}
 use Rattle.instance_core.specs.Calls.{ProgressValue, waits, has, writes, CallEventValue, end, tick, call_at}
 use Rattle.instance_core.specs.Replies.{ReplyItemValue, begins, says, gives, ends, refuses, ReplyValue}
-use Rattle.instance_core.specs.Answer.{answer, after}
+use Rattle.instance_core.specs.Answer.{answer, state_after}
 use Rattle.instance_core.specs.State.{InstanceState, at_moment}
 use Rattle.server_events.specs.Configs.{ConfigValue}
 use Rattle.server_events.specs.Events.{EventValue}
-use Rattle.run_reading.specs.Replies.{Given, opened_by, run_happenings}
+use Rattle.run_reading.specs.Replies.{GivenItems, new_instance_of, run_happenings}
 use Rattle.run_reading.specs.Happenings.{Happening, MomentCame, TimePassed, RequestAnswered, CallEventCame}
 
 -- ---- the answers of a run
@@ -40,9 +40,10 @@ pub record Answering : Type 0 where
 abbrev pub answerings : InstanceState → List Happening → List Answering
 answerings s [] = []
 answerings s (MomentCame moment ∷ hs) = answerings (at_moment moment s) hs
-answerings s (TimePassed ∷ hs) = answerings (after s tick) hs
+answerings s (TimePassed ∷ hs) = answerings (state_after s tick) hs
 answerings s (RequestAnswered place stream item ∷ hs) = answerings s hs
-answerings s (CallEventCame place event ∷ hs) = record { state = s; event = event } ∷ answerings (after s event) hs
+answerings s (CallEventCame place event ∷ hs) =
+    record { state = s; event = event } ∷ answerings (state_after s event) hs
 
 -- what is given to streams for it (`given_at` of Replies.antt)
 abbrev pub replies_of : Answering → List ReplyValue
@@ -62,7 +63,8 @@ whole_request method (writes write) = None
 
 -- the request of a call that this event ends
 abbrev pub request_at : InstanceState → CallEventValue → Option Request
-request_at s (end id) = option_map_or (λ call. whole_request call.method call.progress) (call_at id s.calls) None
+request_at s (end id) =
+    option_map_or (λ call. whole_request call.method call.progress) (call_at id s.calls) None
 request_at s _ = None
 
 -- ---- Read (bytestream.proto)
@@ -77,10 +79,11 @@ pub record IsNamedRange (s : InstanceState) (message : List ℕ) (given : Source
   pub asked : ReadAsked
   pub asks : read_asked s.name message ≡ Ok asked
   pub same_digest : given.digest ≡ asked.digest
-  pub own : seen asked.digest s.visible ≡ Some given.text
+  pub own : visible_text asked.digest s.visible ≡ Some given.text
   pub named : Names asked.digest given.text
   pub offset : asked.offset ≡ pos given.from
-  pub bytes : take (given.until - given.from) (drop given.from given.text) ≡ bytes_from given.from asked.limit given.text
+  pub bytes : take (given.until - given.from) (drop given.from given.text)
+      ≡ bytes_from given.from asked.limit given.text
 
 -- ---- BatchReadBlobs (remote_execution.proto)
 
@@ -88,7 +91,9 @@ pub record IsNamedRange (s : InstanceState) (message : List ℕ) (given : Source
 -- digest says
 abbrev pub AreNamed : List Digest → List ReadBlobResponseValue → Type 0
 AreNamed [] [] = Unit {0}
-AreNamed (d ∷ ds) (r ∷ rs) = (r.digest ≡ Some (digest_value d)) × (r.status ≡ Some ok_status → Names d r.content) × AreNamed ds rs
+AreNamed (d ∷ ds) (r ∷ rs) =
+    (r.digest ≡ Some (digest_value d)) × (r.status ≡ Some ok_status → Names d r.content)
+    × AreNamed ds rs
 AreNamed ds rs = ⊥
 
 -- the bytes are a BatchReadBlobsResponse of such responses
@@ -101,8 +106,8 @@ pub record IsNamedBatch (s : InstanceState) (message bytes : List ℕ) : Type 0 
 
 -- ---- GetTree (remote_execution.proto)
 
--- the bytes are a page of the tree of the root that was asked for, whose directories are what digests
--- of the tree's list name
+-- the bytes are a page of the tree of the root that was asked for, whose directories are what
+-- digests of the tree's list name
 pub record IsNamedTreePage (s : InstanceState) (message bytes : List ℕ) : Type 0 where
   pub asked : TreeAskedValue
   pub asks : tree_asked s.name message ≡ Ok asked
@@ -117,7 +122,8 @@ pub record IsNamedTreePage (s : InstanceState) (message bytes : List ℕ) : Type
 pub record IsNamedMessage (s : InstanceState) (request : Request) (bytes : List ℕ) : Type 0 where
   pub batch : request.method ≡ BatchReadBlobs → IsNamedBatch s request.message bytes
   pub tree : request.method ≡ GetTree → IsNamedTreePage s request.message bytes
-  pub result : request.method ≡ GetActionResult → IsCompleteReply s.name s.visible s.results request.message bytes
+  pub result : request.method ≡ GetActionResult →
+      IsCompleteReply s.name s.visible s.results request.message bytes
 
 -- a range is given to a Read alone, and is named by the digest that it asks for
 abbrev pub IsNamedItem : InstanceState → Option Request → ReplyItemValue → Type 0
@@ -130,11 +136,13 @@ IsNamedItem s request ends = Unit {0}
 IsNamedItem s request (refuses refusal) = Unit {0}
 
 abbrev pub ServesNamed : Answering → Type 0
-ServesNamed a = AllByRecursion (λ r. AllByRecursion (IsNamedItem a.state (request_at a.state a.event)) r.items) (replies_of a)
+ServesNamed a =
+    AllByRecursion (λ r. AllByRecursion (IsNamedItem a.state (request_at a.state a.event)) r.items)
+    (replies_of a)
 
 -- of all answers that the instance gives in a run
 abbrev pub run_answerings : ConfigValue → List EventValue → List Answering
-run_answerings config events = answerings (opened_by config) (run_happenings config events)
+run_answerings config events = answerings (new_instance_of config) (run_happenings config events)
 
 -- ---- and in what streams are given
 
@@ -144,5 +152,5 @@ IsNamedGift (Range digest text from count) = Names digest text
 IsNamedGift (Headed block) = Unit {0}
 IsNamedGift (Message bytes) = Unit {0}
 
-abbrev pub GivesNamed : Given → Type 0
+abbrev pub GivesNamed : GivenItems → Type 0
 GivesNamed g = AllByRecursion IsNamedGift g.items

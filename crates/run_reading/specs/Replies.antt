@@ -7,18 +7,18 @@ use Rattle.std.specs.List.{flat_map}
 use Rattle.http2_frames.specs.declared.reader.TheConstants.{CLIENT_PREFACE}
 use Rattle.http2_frames.specs.declared.frame.RawFrame.{RawFrame}
 use Rattle.http2_frames.specs.Reading.{split}
-use Rattle.grpc_sending.specs.Owed.{Item, owed_on}
+use Rattle.grpc_sending.specs.Owed.{Item, items_owed_on}
 use Rattle.conn_core.specs.Past.{Past}
-use Rattle.conn_core.specs.Received.{raw_received}
+use Rattle.conn_core.specs.Received.{received_raw_frames}
 use Rattle.instance_core.specs.Calls.{tick}
 use Rattle.instance_core.specs.Replies.{ReplyValue}
-use Rattle.instance_core.specs.Answer.{answer, after}
-use Rattle.instance_core.specs.State.{InstanceState, opened, at_moment}
+use Rattle.instance_core.specs.Answer.{answer, state_after}
+use Rattle.instance_core.specs.State.{InstanceState, new_instance, at_moment}
 use Rattle.server_events.specs.Configs.{ConfigValue}
 use Rattle.server_events.specs.Events.{EventValue}
 use Rattle.served_instance.specs.Connections.{LoneConnection}
 use Rattle.served_instance.specs.Calls.{items_of}
-use Rattle.served_instance.specs.Lone.{start}
+use Rattle.served_instance.specs.Lone.{new_lone}
 use Rattle.run_record.specs.Runs.{run_of}
 use Rattle.client_reading.specs.Changes.{IsPast}
 use Rattle.client_reading.specs.Responses.{stream_parts, response_of, IsBeginning}
@@ -26,52 +26,56 @@ use Rattle.client_reading.specs.Reads.{Reads}
 use Rattle.run_reading.specs.Happenings.{Happening, MomentCame, TimePassed, RequestAnswered, CallEventCame, happenings}
 
 -- items that a stream of the connection at this place is given
-pub record Given : Type 0 where
+pub record GivenItems : Type 0 where
   pub place : ℕ
   pub stream : ℕ
   pub items : List Item
 
-abbrev pub reply_given : ℕ → ReplyValue → Given
-reply_given place reply = record { place = place; stream = reply.call.stream; items = items_of reply.items }
+abbrev pub items_of_reply : ℕ → ReplyValue → GivenItems
+items_of_reply place reply =
+    record { place = place; stream = reply.call.stream; items = items_of reply.items }
 
-abbrev pub given_at : InstanceState → Happening → List Given
-given_at s (MomentCame moment) = []
-given_at s TimePassed = []
-given_at s (RequestAnswered place stream item) = record { place = place; stream = stream; items = item ∷ [] } ∷ []
-given_at s (CallEventCame place event) = map (reply_given place) (answer s event).replies
+abbrev pub given_items_at : InstanceState → Happening → List GivenItems
+given_items_at s (MomentCame moment) = []
+given_items_at s TimePassed = []
+given_items_at s (RequestAnswered place stream item) =
+    record { place = place; stream = stream; items = item ∷ [] } ∷ []
+given_items_at s (CallEventCame place event) = map (items_of_reply place) (answer s event).replies
 
-abbrev pub state_after : InstanceState → Happening → InstanceState
-state_after s (MomentCame moment) = at_moment moment s
-state_after s TimePassed = after s tick
-state_after s (RequestAnswered place stream item) = s
-state_after s (CallEventCame place event) = after s event
+abbrev pub state_after_happening : InstanceState → Happening → InstanceState
+state_after_happening s (MomentCame moment) = at_moment moment s
+state_after_happening s TimePassed = state_after s tick
+state_after_happening s (RequestAnswered place stream item) = s
+state_after_happening s (CallEventCame place event) = state_after s event
 
 -- each reply is that of the state that the earlier events of calls have made
-abbrev pub given_from : InstanceState → List Happening → List Given
-given_from s [] = []
-given_from s (h ∷ hs) = given_at s h ++ given_from (state_after s h) hs
+abbrev pub given_items_from : InstanceState → List Happening → List GivenItems
+given_items_from s [] = []
+given_items_from s (h ∷ hs) = given_items_at s h ++ given_items_from (state_after_happening s h) hs
 
 -- what a stream is given, in order
-abbrev pub items_given : ℕ → ℕ → Given → List Item
+abbrev pub items_given : ℕ → ℕ → GivenItems → List Item
 items_given place stream g = if g.place == place && g.stream == stream then g.items else []
 
-abbrev pub items_on : ℕ → ℕ → List Given → List Item
+abbrev pub items_on : ℕ → ℕ → List GivenItems → List Item
 items_on place stream gs = flat_map (items_given place stream) gs
 
 -- ---- runs
 
-abbrev pub opened_by : ConfigValue → InstanceState
-opened_by config = opened config.name config.quota config.slots
+abbrev pub new_instance_of : ConfigValue → InstanceState
+new_instance_of config = new_instance config.name config.quota config.slots
 
 abbrev pub run_happenings : ConfigValue → List EventValue → List Happening
-run_happenings config events = happenings (start config.name config.quota config.slots) events
+run_happenings config events = happenings (new_lone config.name config.quota config.slots) events
 
-abbrev pub run_given : ConfigValue → List EventValue → List Given
-run_given config events = given_from (opened_by config) (run_happenings config events)
+abbrev pub run_given_items : ConfigValue → List EventValue → List GivenItems
+run_given_items config events =
+    given_items_from (new_instance_of config) (run_happenings config events)
 
 -- what their answers make of the instance
 abbrev pub run_state : ConfigValue → List EventValue → InstanceState
-run_state config events = fold state_after (opened_by config) (run_happenings config events)
+run_state config events =
+    fold state_after_happening (new_instance_of config) (run_happenings config events)
 
 -- the connections of the run, in order of opening
 abbrev pub run_connections : ConfigValue → List EventValue → List LoneConnection
@@ -85,17 +89,21 @@ longest_message = 4294967295
 -- the frames that were received are those of the bytes that came, in order; some may be left behind
 -- an error
 abbrev pub ReadsText : Past → Type 0
-ReadsText p = (later : List RawFrame) × ((split CLIENT_PREFACE.now p.text).frames ≡ raw_received p.diary ++ later)
+ReadsText p =
+    (later : List RawFrame)
+    × ((split CLIENT_PREFACE.now p.text).frames ≡ received_raw_frames p.history ++ later)
 
 -- on each stream of the connection at this place the client reads a beginning of what was given
-pub record IsRead (place : ℕ) (gs : List Given) (k : LoneConnection) : Type 0 where
+pub record IsRead (place : ℕ) (gs : List GivenItems) (k : LoneConnection) : Type 0 where
   pub made : IsPast k.past
   pub text : ReadsText k.past
   pub reads : Reads k.past
-  pub owed : (s : ℕ) → owed_on s k.past.owed ≡ items_on place s gs
-  pub responses : (s : ℕ) → IsBeginning longest_message (stream_parts k.past.diary s) (response_of (items_on place s gs))
+  pub owed : (s : ℕ) → items_owed_on s k.past.owed ≡ items_on place s gs
+  pub responses : (s : ℕ) →
+      IsBeginning longest_message (stream_parts k.past.history s)
+      (response_of (items_on place s gs))
 
 -- of the connections from this place on
-abbrev pub AreRead : ℕ → List Given → List LoneConnection → Type 0
+abbrev pub AreRead : ℕ → List GivenItems → List LoneConnection → Type 0
 AreRead place gs [] = Unit {0}
 AreRead place gs (k ∷ ks) = IsRead place gs k × AreRead (suc place) gs ks

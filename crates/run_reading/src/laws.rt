@@ -4,10 +4,10 @@ ghost use Rattle.std.specs.Prelude.{◌≡◌, ◌≤◌, ◌^◌, List, map};
 ghost use Rattle.std.specs.List.{AllByRecursion};
 ghost use Rattle.server_events.specs.Configs.{ConfigValue};
 ghost use Rattle.server_events.specs.Events.{EventValue};
-ghost use Rattle.served_instance.specs.Lone.{sent_on};
+ghost use Rattle.served_instance.specs.Lone.{sent_bytes_on};
 ghost use Rattle.run_record.specs.Runs.{run_of};
-ghost use Rattle.server_core.specs.Lone.{lone};
-ghost use Rattle.run_reading.specs.Replies.{run_connections, run_given, run_state, AreRead};
+ghost use Rattle.server_core.specs.LoneOutput.{lone_output};
+ghost use Rattle.run_reading.specs.Replies.{run_connections, run_given_items, run_state, AreRead};
 ghost use Rattle.run_reading.specs.Named.{run_answerings, ServesNamed, GivesNamed};
 
 /// On each connection of a run the client reads what the streams were given: frames as they were
@@ -15,9 +15,9 @@ ghost use Rattle.run_reading.specs.Named.{run_answerings, ServesNamed, GivesName
 /// and on each stream a beginning of the answers to its request, of which none is dropped.
 pub fn replies_are_read()
     ensures sent { (config : ConfigValue) (events : List EventValue)
-        → (lone config events).sent ≡ map sent_on (run_connections config events) }
+        → (lone_output config events).sent ≡ map sent_bytes_on (run_connections config events) }
     ensures read { (config : ConfigValue) (events : List EventValue) → config.quota ≤ 2 ^ 40
-        → AreRead 0 (run_given config events) (run_connections config events) }
+        → AreRead 0 (run_given_items config events) (run_connections config events) }
 {}
 
 /// The replies of a run are those that the instance gives to the events of its calls, one after
@@ -40,5 +40,5 @@ pub fn blobs_served_are_named()
     ensures answers { (config : ConfigValue) (events : List EventValue) → config.quota ≤ 2 ^ 40
         → AllByRecursion ServesNamed (run_answerings config events) }
     ensures streams { (config : ConfigValue) (events : List EventValue) → config.quota ≤ 2 ^ 40
-        → AllByRecursion GivesNamed (run_given config events) }
+        → AllByRecursion GivesNamed (run_given_items config events) }
 {}

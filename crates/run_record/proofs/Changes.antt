@@ -5,15 +5,15 @@ use Rattle.std.specs.Option.{is_some}
 use Rattle.std.proofs.lemmas.Bool.{cases_Bool, true≢false, eqb-true}
 use Rattle.std.proofs.lemmas.List.{length-drop}
 use Rattle.std.proofs.lemmas.List.Sums.{sum_by-append}
-use Rattle.http2_streams.specs.Diary.{Entry, Took}
-use Rattle.grpc_sending.specs.Bytes.{bytes_put, taken, taken_by, untaken}
+use Rattle.http2_streams.specs.History.{Entry, Took}
+use Rattle.grpc_sending.specs.Bytes.{bytes_put, count_taken, count_taken_by, untaken_count}
 use Rattle.conn_core.specs.Past.{opening, with_taken}
 use Rattle.server_events.specs.Events.{WhatValue, opened, received, took, closed, tick, ended}
-use Rattle.served_instance.specs.Connections.{LoneConnection, is_at, open_at, at_open, closed_at}
-use Rattle.served_instance.specs.Lone.{sent_on}
+use Rattle.served_instance.specs.Connections.{LoneConnection, is_open_at, open_at, at_open, with_closed}
+use Rattle.served_instance.specs.Lone.{sent_bytes_on}
 use Rattle.run_record.specs.declared.record.OpenRecord.{OpenRecord}
 use Rattle.run_record.specs.StandsFor.{open_record, open_from, AreApart}
-use Rattle.run_record.specs.Notes.{taken_on, open_after, sent_after}
+use Rattle.run_record.specs.Notes.{record_after_taking, open_records_after, sent_bytes_after}
 use Rattle.run_record.proofs.Growth.{HasGrown, AreGrown, at_is_open, connections_after}
 
 -- ---- tests
@@ -43,26 +43,26 @@ second_false true b h k = k
 second_false false b h k = absurd (true≢false (sym h))
 
 pub record NoneAt (c : ℕ) (k : LoneConnection) (ks : List LoneConnection) : Type 0 where
-  pub here : is_at c k ≡ false
+  pub here : is_open_at c k ≡ false
   pub later : open_at c ks ≡ None
 
 some_none : {A : Type 0} (x : A) → Some x ≡ None → ⊥
 some_none x h = true≢false (ap is_some h)
 
-none_if : (c : ℕ) (k : LoneConnection) (ks : List LoneConnection) (b : Bool) → is_at c k ≡ b → cond b (Some k.past) (open_at c ks) ≡ None → NoneAt c k ks
+none_if : (c : ℕ) (k : LoneConnection) (ks : List LoneConnection) (b : Bool) → is_open_at c k ≡ b → cond b (Some k.past) (open_at c ks) ≡ None → NoneAt c k ks
 none_if c k ks true at h = absurd (some_none k.past h)
 none_if c k ks false off h = record { here = off; later = h }
 
 pub none_at : (c : ℕ) (k : LoneConnection) (ks : List LoneConnection) → open_at c (k ∷ ks) ≡ None → NoneAt c k ks
-none_at c k ks h = none_if c k ks (is_at c k) refl h
+none_at c k ks h = none_if c k ks (is_open_at c k) refl h
 
-other_number : (c : ℕ) (k : LoneConnection) → k.is_open ≡ true → is_at c k ≡ false → (k.number == c) ≡ false
+other_number : (c : ℕ) (k : LoneConnection) → k.is_open ≡ true → is_open_at c k ≡ false → (k.number == c) ≡ false
 other_number c k is off = second_false k.is_open (k.number == c) is off
 
 -- ---- what is noted of open connections, before what an event put is gathered
 
 abbrev pub known_value : ℕ → ℕ × List ℕ → LoneConnection → OpenRecord
-known_value place s k = record { number = k.number; place = place; untaken = length s.1 - taken k.past.diary }
+known_value place s k = record { number = k.number; place = place; untaken = length s.1 - count_taken k.past.history }
 
 abbrev pub known_from : ℕ → List (ℕ × List ℕ) → List LoneConnection → List OpenRecord
 known_from place [] ks = []
@@ -72,15 +72,15 @@ known_from place (s ∷ ss) (k ∷ ks) = cond k.is_open (known_value place s k �
 abbrev Values : Type 0
 Values = List OpenRecord
 
-value_same : (p : ℕ) (k : LoneConnection) → known_value p (sent_on k) k ≡ open_record p k
+value_same : (p : ℕ) (k : LoneConnection) → known_value p (sent_bytes_on k) k ≡ open_record p k
 value_same p k =
     let f : ℕ → OpenRecord = λ n. record { number = k.number; place = p; untaken = n } in
-    ap f (sym (length-drop (taken k.past.diary) (bytes_put k.past.diary)))
+    ap f (sym (length-drop (count_taken k.past.history) (bytes_put k.past.history)))
 
 cons_both : (o q : OpenRecord) (os qs : Values) → o ≡ q → os ≡ qs → o ∷ os ≡ q ∷ qs
 cons_both o q os qs h k = cc
 
-known_same : (p : ℕ) (ks : List LoneConnection) → known_from p (map sent_on ks) ks ≡ open_from p ks
+known_same : (p : ℕ) (ks : List LoneConnection) → known_from p (map sent_bytes_on ks) ks ≡ open_from p ks
 known_same p [] = refl
 known_same p (k ∷ ks) =
     let later = known_same (p + 1) ks in
@@ -92,13 +92,13 @@ new_at c = record { number = c; past = opening; is_open = true }
 abbrev new_value : ℕ → ℕ → OpenRecord
 new_value c p = record { number = c; place = p; untaken = 0 }
 
-known_opened : (c p : ℕ) (ks : List LoneConnection) → known_from p (map sent_on ks ++ (c, []) ∷ []) (ks ++ new_at c ∷ []) ≡ open_from p ks ++ new_value c (p + length ks) ∷ []
+known_opened : (c p : ℕ) (ks : List LoneConnection) → known_from p (map sent_bytes_on ks ++ (c, []) ∷ []) (ks ++ new_at c ∷ []) ≡ open_from p ks ++ new_value c (p + length ks) ∷ []
 known_opened c p [] =
     let e : p ≡ p + 0 = omega arith in
     ap (λ (n : ℕ). new_value c n ∷ []) e
 known_opened c p (k ∷ ks) =
     let e : p + 1 + length ks ≡ p + length (k ∷ ks) = omega arith in
-    let later : known_from (p + 1) (map sent_on ks ++ (c, []) ∷ []) (ks ++ new_at c ∷ []) ≡ open_from (p + 1) ks ++ new_value c (p + length (k ∷ ks)) ∷ [] =
+    let later : known_from (p + 1) (map sent_bytes_on ks ++ (c, []) ∷ []) (ks ++ new_at c ∷ []) ≡ open_from (p + 1) ks ++ new_value c (p + length (k ∷ ks)) ∷ [] =
     known_opened c (p + 1) ks ∙ ap (λ (n : ℕ). open_from (p + 1) ks ++ new_value c n ∷ []) e in
     let more : Values → Values = λ os. os ++ new_value c (p + length (k ∷ ks)) ∷ [] in
     elim (cases_Bool k.is_open) [
@@ -106,50 +106,50 @@ known_opened c p (k ∷ ks) =
       | inr is ↦ pick_false k.is_open _ _ is ∙ later ∙ sym (ap more (pick_false k.is_open (open_record p k ∷ open_from (p + 1) ks) (open_from (p + 1) ks) is))
     ]
 
-none_taken : (c n p : ℕ) (ks : List LoneConnection) → open_at c ks ≡ None → map (taken_on c n) (open_from p ks) ≡ open_from p ks
+none_taken : (c n p : ℕ) (ks : List LoneConnection) → open_at c ks ≡ None → map (record_after_taking c n) (open_from p ks) ≡ open_from p ks
 none_taken c n p [] h = refl
 none_taken c n p (k ∷ ks) h =
     let none = none_at c k ks h in
     let later = none_taken c n (p + 1) ks none.later in
     let here : Values = open_record p k ∷ open_from (p + 1) ks in
-    let more : Values → Values = λ os. map (taken_on c n) os in
+    let more : Values → Values = λ os. map (record_after_taking c n) os in
     elim (cases_Bool k.is_open) [
       | inl is ↦ ap more (pick_true k.is_open here (open_from (p + 1) ks) is) ∙ cons_both _ _ _ _ (pick_false (k.number == c) _ _ (other_number c k is none.here)) later ∙ sym (pick_true k.is_open here (open_from (p + 1) ks) is)
       | inr is ↦ ap more (pick_false k.is_open here (open_from (p + 1) ks) is) ∙ later ∙ sym (pick_false k.is_open here (open_from (p + 1) ks) is)
     ]
 
-pub took_more : (d : List Entry) (n : ℕ) → taken (d ++ Took n ∷ []) ≡ taken d + n
-took_more d n = sum_by-append taken_by d (Took n ∷ []) ∙ (let e : sum_by taken_by (Took n ∷ []) ≡ n = omega arith in omega (arith, e))
+pub took_more : (d : List Entry) (n : ℕ) → count_taken (d ++ Took n ∷ []) ≡ count_taken d + n
+took_more d n = sum_by-append count_taken_by d (Took n ∷ []) ∙ (let e : sum_by count_taken_by (Took n ∷ []) ≡ n = omega arith in omega (arith, e))
 
 abbrev after_taken : ℕ → LoneConnection → LoneConnection
 after_taken n k = record k { past = with_taken k.past n }
 
-taken_value : (c n p : ℕ) (k : LoneConnection) → (k.number == c) ≡ true → known_value p (sent_on k) (after_taken n k) ≡ taken_on c n (open_record p k)
+taken_value : (c n p : ℕ) (k : LoneConnection) → (k.number == c) ≡ true → known_value p (sent_bytes_on k) (after_taken n k) ≡ record_after_taking c n (open_record p k)
 taken_value c n p k same =
     let f : ℕ → OpenRecord = λ m. record { number = k.number; place = p; untaken = m } in
-    let e : length (bytes_put k.past.diary) - taken (k.past.diary ++ Took n ∷ []) ≡ untaken k.past.diary - n = omega (arith, took_more k.past.diary n, length-drop (taken k.past.diary) (bytes_put k.past.diary)) in
+    let e : length (bytes_put k.past.history) - count_taken (k.past.history ++ Took n ∷ []) ≡ untaken_count k.past.history - n = omega (arith, took_more k.past.history n, length-drop (count_taken k.past.history) (bytes_put k.past.history)) in
     ap f e ∙ sym (pick_true (k.number == c) _ _ same)
 
-known_took : (c n p : ℕ) (ks : List LoneConnection) → AreApart ks → known_from p (map sent_on ks) (at_open c (λ q. with_taken q n) ks) ≡ map (taken_on c n) (open_from p ks)
+known_took : (c n p : ℕ) (ks : List LoneConnection) → AreApart ks → known_from p (map sent_bytes_on ks) (at_open c (λ q. with_taken q n) ks) ≡ map (record_after_taking c n) (open_from p ks)
 known_took c n p [] apart = refl
 known_took c n p (k ∷ ks) apart =
     let rest : Values = open_from (p + 1) ks in
     let here : Values = open_record p k ∷ rest in
-    let more : Values → Values = λ os. map (taken_on c n) os in
-    let known : List LoneConnection → Values = λ ms. known_from p (sent_on k ∷ map sent_on ks) ms in
+    let more : Values → Values = λ os. map (record_after_taking c n) os in
+    let known : List LoneConnection → Values = λ ms. known_from p (sent_bytes_on k ∷ map sent_bytes_on ks) ms in
     let yes = after_taken n k ∷ ks in
     let no = k ∷ at_open c (λ q. with_taken q n) ks in
-    elim (cases_Bool (is_at c k)) [
+    elim (cases_Bool (is_open_at c k)) [
       | inl at ↦
           let is = at_is_open c k at in
           let same : (k.number == c) ≡ true = second_true k.is_open (k.number == c) at in
           let none : open_at c ks ≡ None = subst (λ (m : ℕ). open_at m ks ≡ None) (eqb-true k.number c same) (apart.0 is) in
-          ap known (pick_true (is_at c k) yes no at) ∙ pick_true k.is_open _ _ is
+          ap known (pick_true (is_open_at c k) yes no at) ∙ pick_true k.is_open _ _ is
           ∙ cons_both _ _ _ _ (taken_value c n p k same) (known_same (p + 1) ks ∙ sym (none_taken c n (p + 1) ks none))
           ∙ sym (ap more (pick_true k.is_open here rest is))
       | inr off ↦
           let later = known_took c n (p + 1) ks apart.1 in
-          ap known (pick_false (is_at c k) yes no off) ∙ elim (cases_Bool k.is_open) [
+          ap known (pick_false (is_open_at c k) yes no off) ∙ elim (cases_Bool k.is_open) [
             | inl is ↦ pick_true k.is_open _ _ is ∙ cons_both _ _ _ _ (value_same p k ∙ sym (pick_false (k.number == c) _ _ (other_number c k is off))) later ∙ sym (ap more (pick_true k.is_open here rest is))
             | inr is ↦ pick_false k.is_open _ _ is ∙ later ∙ sym (ap more (pick_false k.is_open here rest is))
           ]
@@ -171,33 +171,33 @@ none_gone c p (k ∷ ks) h =
       | inr is ↦ ap more (pick_false k.is_open here rest is) ∙ later ∙ sym (pick_false k.is_open here rest is)
     ]
 
-known_closed : (c p : ℕ) (ks : List LoneConnection) → AreApart ks → known_from p (map sent_on ks) (closed_at c ks) ≡ filter (others c) (open_from p ks)
+known_closed : (c p : ℕ) (ks : List LoneConnection) → AreApart ks → known_from p (map sent_bytes_on ks) (with_closed c ks) ≡ filter (others c) (open_from p ks)
 known_closed c p [] apart = refl
 known_closed c p (k ∷ ks) apart =
     let rest : Values = open_from (p + 1) ks in
     let here : Values = open_record p k ∷ rest in
     let more : Values → Values = λ os. filter (others c) os in
-    let known : List LoneConnection → Values = λ ms. known_from p (sent_on k ∷ map sent_on ks) ms in
+    let known : List LoneConnection → Values = λ ms. known_from p (sent_bytes_on k ∷ map sent_bytes_on ks) ms in
     let yes = record k { is_open = false } ∷ ks in
-    let no = k ∷ closed_at c ks in
-    elim (cases_Bool (is_at c k)) [
+    let no = k ∷ with_closed c ks in
+    elim (cases_Bool (is_open_at c k)) [
       | inl at ↦
           let is = at_is_open c k at in
           let same : (k.number == c) ≡ true = second_true k.is_open (k.number == c) at in
           let none : open_at c ks ≡ None = subst (λ (m : ℕ). open_at m ks ≡ None) (eqb-true k.number c same) (apart.0 is) in
-          ap known (pick_true (is_at c k) yes no at)
+          ap known (pick_true (is_open_at c k) yes no at)
           ∙ known_same (p + 1) ks ∙ sym (none_gone c (p + 1) ks none)
           ∙ sym (ap more (pick_true k.is_open here rest is) ∙ pick_false (others c (open_record p k)) _ _ (ap not same))
       | inr off ↦
           let later = known_closed c (p + 1) ks apart.1 in
-          ap known (pick_false (is_at c k) yes no off) ∙ elim (cases_Bool k.is_open) [
+          ap known (pick_false (is_open_at c k) yes no off) ∙ elim (cases_Bool k.is_open) [
             | inl is ↦ pick_true k.is_open _ _ is ∙ cons_both _ _ _ _ (value_same p k) later ∙ sym (ap more (pick_true k.is_open here rest is) ∙ pick_true (others c (open_record p k)) _ _ (ap not (other_number c k is off)))
             | inr is ↦ pick_false k.is_open _ _ is ∙ later ∙ sym (ap more (pick_false k.is_open here rest is))
           ]
     ]
 
 -- what is noted of open connections follows an event
-pub known_after : (what : WhatValue) (ks : List LoneConnection) → AreApart ks → open_after what (length ks) (open_from 0 ks) ≡ known_from 0 (sent_after what (map sent_on ks)) (connections_after what ks)
+pub known_after : (what : WhatValue) (ks : List LoneConnection) → AreApart ks → open_records_after what (length ks) (open_from 0 ks) ≡ known_from 0 (sent_bytes_after what (map sent_bytes_on ks)) (connections_after what ks)
 known_after (opened c) ks apart =
     let e : 0 + length ks ≡ length ks = omega arith in
     sym (known_opened c 0 ks ∙ ap (λ (n : ℕ). open_from 0 ks ++ new_value c n ∷ []) e)
@@ -207,8 +207,8 @@ known_after (closed c) ks apart = sym (known_closed c 0 ks apart)
 known_after tick ks apart = sym (known_same 0 ks)
 known_after (ended job outcome) ks apart = sym (known_same 0 ks)
 
-pub taken_grown : (k m : LoneConnection) → HasGrown k m → taken m.past.diary ≡ taken k.past.diary
-taken_grown k m g = ap taken g.past.diary ∙ sum_by-append taken_by k.past.diary g.past.more ∙ omega (arith, g.past.quiet)
+pub taken_grown : (k m : LoneConnection) → HasGrown k m → count_taken m.past.history ≡ count_taken k.past.history
+taken_grown k m g = ap count_taken g.past.history ∙ sum_by-append count_taken_by k.past.history g.past.more ∙ omega (arith, g.past.quiet)
 
 value_grown : (p : ℕ) (s : ℕ × List ℕ) (k m : LoneConnection) → HasGrown k m → known_value p s m ≡ known_value p s k
 value_grown p s k m g =

@@ -1,4 +1,4 @@
--- What an event makes of connections beside what it says of its own: their diaries grow, and no more is taken.
+-- What an event makes of connections beside what it says of its own: their histories grow, and no more is taken.
 use Rattle.std.proofs.Common.{◌≡◌, ℕ, List, [], ◌∷◌, ◌++◌, refl, ap, ◌∙◌, sym, append_assoc, arith, inl, inr}
 use Rattle.std.specs.Prelude.{Bool, true, false, cond, map, Option, Some, None, Result, Ok, Err}
 use Rattle.std.proofs.lemmas.Bool.{cases_Bool, true≢false}
@@ -9,57 +9,57 @@ use Rattle.http2_frames.specs.declared.frame.Frame.{Frame}
 use Rattle.http2_frames.specs.declared.frame.RawFrame.{RawFrame}
 use Rattle.http2_frames.specs.declared.reader.TheConstants.{CLIENT_PREFACE}
 use Rattle.http2_frames.specs.Reading.{split}
-use Rattle.http2_streams.specs.Diary.{Entry, Out, has_failed}
+use Rattle.http2_streams.specs.History.{Entry, Out, has_failed}
 use Rattle.http2_streams.specs.Rules.{reading_fault}
-use Rattle.grpc_sending.specs.Bytes.{taken, taken_by}
+use Rattle.grpc_sending.specs.Bytes.{count_taken, count_taken_by}
 use Rattle.grpc_sending.specs.Owed.{Item}
-use Rattle.grpc_sending.proofs.Diaries.{append-nil}
+use Rattle.grpc_sending.proofs.Histories.{append-nil}
 use Rattle.conn_core.specs.declared.event.CallEvent.{CallEvent}
-use Rattle.conn_core.specs.Received.{outcome, entries, fault_frames, fault_entries}
-use Rattle.http2_streams.specs.Diary.{highest}
+use Rattle.conn_core.specs.Received.{outcome, frame_entries, fault_frames, fault_entries}
+use Rattle.http2_streams.specs.History.{highest_stream}
 use Rattle.conn_core.specs.Calls.{cancels}
-use Rattle.conn_core.specs.Past.{Past, opening, with_frame, with_fault, with_item, with_taken, with_pumped}
+use Rattle.conn_core.specs.Past.{Past, opening, with_frame, with_fault, with_item, with_taken, with_pumped, with_bytes}
 use Rattle.conn_core.proofs.Pumps.{pumped_is}
 use Rattle.instance_core.specs.Calls.{CallEventValue}
-use Rattle.instance_core.specs.Answer.{answer, after}
+use Rattle.instance_core.specs.Answer.{answer, state_after}
 use Rattle.instance_core.specs.Replies.{ReplyValue}
 use Rattle.server_events.specs.Events.{EventValue, WhatValue, opened, received, took, closed, tick, ended}
 use Rattle.std.specs.Option.{option_map_or}
-use Rattle.served_instance.specs.Connections.{LoneConnection, is_at, open_at, at_open, closed_at, at_all_open}
+use Rattle.served_instance.specs.Connections.{LoneConnection, is_open_at, open_at, at_open, with_closed, at_all_open}
 use Rattle.served_instance.specs.Calls.{call_event_on, items_of, with_items}
-use Rattle.served_instance.specs.Lone.{Lone, replied, happened, all_happened, due_at, none_due, due_happened, frame_read, is_over, frames_read, fault_met, end_read, unread_frames, all_read, with_bytes, bytes_came, was_opened, acted, pumped_all, came_at, accepted}
+use Rattle.served_instance.specs.Lone.{Lone, after_replies, after_call_event, after_call_events, due_at, without_due, after_due_on, after_frame_on, is_over, after_frames_on, after_fault_on, after_end_on, unread_frames, after_reading_on, after_bytes_on, after_opening, effect_of, after_pump, lone_at_moment, after_event}
 
 -- ---- one connection
 
 pub record Grows (p q : Past) : Type 0 where
   pub more : List Entry
-  pub diary : q.diary ≡ p.diary ++ more
-  pub quiet : taken more ≡ 0
+  pub history : q.history ≡ p.history ++ more
+  pub quiet : count_taken more ≡ 0
 
-grows_same : (p q : Past) → q.diary ≡ p.diary → Grows p q
-grows_same p q same = record { more = []; diary = same ∙ sym (append-nil p.diary); quiet = refl }
+grows_same : (p q : Past) → q.history ≡ p.history → Grows p q
+grows_same p q same = record { more = []; history = same ∙ sym (append-nil p.history); quiet = refl }
 
 grows_trans : (p q r : Past) → Grows p q → Grows q r → Grows p r
 grows_trans p q r a b = record {
   more = a.more ++ b.more;
-  diary = b.diary ∙ ap (λ (d : List Entry). d ++ b.more) a.diary ∙ append_assoc p.diary a.more b.more;
-  quiet = sum_by-append taken_by a.more b.more ∙ omega (arith, a.quiet, b.quiet);
+  history = b.history ∙ ap (λ (d : List Entry). d ++ b.more) a.history ∙ append_assoc p.history a.more b.more;
+  quiet = sum_by-append count_taken_by a.more b.more ∙ omega (arith, a.quiet, b.quiet);
 }
 
-out_quiet : (fs : List Frame) → taken (map Out fs) ≡ 0
+out_quiet : (fs : List Frame) → count_taken (map Out fs) ≡ 0
 out_quiet [] = refl
 out_quiet (f ∷ fs) = out_quiet fs
 
 frame_grows : (f : RawFrame) (p : Past) → Grows p (with_frame p f)
-frame_grows f p = record { more = entries p.diary f; diary = refl; quiet = out_quiet (outcome p.diary f).put }
+frame_grows f p = record { more = frame_entries p.history f; history = refl; quiet = out_quiet (outcome p.history f).put }
 
 fault_grows : (e : FrameError) (code : ErrorCode) (p : Past) → Grows p (with_fault p e code)
-fault_grows e code p = record { more = fault_entries p.diary e code; diary = refl; quiet = out_quiet (fault_frames (has_failed p.diary) (highest p.diary) code) }
+fault_grows e code p = record { more = fault_entries p.history e code; history = refl; quiet = out_quiet (fault_frames (has_failed p.history) (highest_stream p.history) code) }
 
 pump_grows : (p : Past) → Grows p (with_pumped p)
 pump_grows p =
-    let f = pumped_is p.diary p.owed in
-    record { more = map Out f.0; diary = f.1; quiet = out_quiet f.0 }
+    let f = pumped_is p.history p.owed in
+    record { more = map Out f.0; history = f.1; quiet = out_quiet f.0 }
 
 items_grow : (s : ℕ) (items : List Item) (p : Past) → Grows p (with_items s items p)
 items_grow s [] p = grows_same p p refl
@@ -105,15 +105,15 @@ all_trans (k ∷ ks) (l ∷ ls) (m ∷ ms) a b = (grown_trans k l m a.0 b.0, all
 stepped_grown : (step : Past → Past) → ((p : Past) → Grows p (step p)) → (k : LoneConnection) → k.is_open ≡ true → HasGrown k (record k { past = step k.past })
 stepped_grown step grows k at = record { number = refl; is_open = refl; past = grows k.past; closed = λ is. absurd (true≢false (sym at ∙ is)) }
 
-pub at_is_open : (c : ℕ) (k : LoneConnection) → is_at c k ≡ true → k.is_open ≡ true
+pub at_is_open : (c : ℕ) (k : LoneConnection) → is_open_at c k ≡ true → k.is_open ≡ true
 at_is_open c k at = elim (cases_Bool k.is_open) [
   | inl is ↦ is
-  | inr is ↦ let f : is_at c k ≡ false = rw is refl in absurd (true≢false (sym at ∙ f))
+  | inr is ↦ let f : is_open_at c k ≡ false = rw is refl in absurd (true≢false (sym at ∙ f))
 ]
 
 at_open_grows : (c : ℕ) (step : Past → Past) → ((p : Past) → Grows p (step p)) → (ks : List LoneConnection) → AreGrown ks (at_open c step ks)
 at_open_grows c step grows [] = tt
-at_open_grows c step grows (k ∷ ks) = elim (cases_Bool (is_at c k)) [
+at_open_grows c step grows (k ∷ ks) = elim (cases_Bool (is_open_at c k)) [
   | inl at ↦ rw at (stepped_grown step grows k (at_is_open c k at), all_same ks)
   | inr off ↦ rw off (same_grown k, at_open_grows c step grows ks)
 ]
@@ -140,62 +140,62 @@ more_trans l m n a b = all_trans l.connections m.connections n.connections a b
 abbrev with_reply : ReplyValue → Lone → Lone
 with_reply reply l = record l { connections = at_open reply.call.connection (with_items reply.call.stream (items_of reply.items)) l.connections }
 
-replied_more : (replies : List ReplyValue) (l : Lone) → HasMore l (replied replies l)
+replied_more : (replies : List ReplyValue) (l : Lone) → HasMore l (after_replies replies l)
 replied_more [] l = more_same l
 replied_more (reply ∷ replies) l =
-    more_trans l (with_reply reply l) (replied replies (with_reply reply l))
+    more_trans l (with_reply reply l) (after_replies replies (with_reply reply l))
     (at_open_grows reply.call.connection (with_items reply.call.stream (items_of reply.items)) (items_grow reply.call.stream (items_of reply.items)) l.connections)
     (replied_more replies (with_reply reply l))
 
-happened_more : (event : CallEventValue) (l : Lone) → HasMore l (happened event l)
-happened_more event l = replied_more (answer l.state event).replies (record l { state = after l.state event })
+happened_more : (event : CallEventValue) (l : Lone) → HasMore l (after_call_event event l)
+happened_more event l = replied_more (answer l.state event).replies (record l { state = state_after l.state event })
 
-all_happened_more : (c : ℕ) (events : List CallEvent) (l : Lone) → HasMore l (all_happened c events l)
+all_happened_more : (c : ℕ) (events : List CallEvent) (l : Lone) → HasMore l (after_call_events c events l)
 all_happened_more c [] l = more_same l
 all_happened_more c (event ∷ events) l =
-    let m : Lone = happened (call_event_on c event) l in
-    more_trans l m (all_happened c events m) (happened_more (call_event_on c event) l) (all_happened_more c events m)
+    let m : Lone = after_call_event (call_event_on c event) l in
+    more_trans l m (after_call_events c events m) (happened_more (call_event_on c event) l) (all_happened_more c events m)
 
-due_more : (c : ℕ) (l : Lone) → HasMore l (due_happened c l)
+due_more : (c : ℕ) (l : Lone) → HasMore l (after_due_on c l)
 due_more c l =
-    let m : Lone = record l { connections = at_open c none_due l.connections } in
-    more_trans l m (due_happened c l) (at_open_grows c none_due (λ p. grows_same p (none_due p) refl) l.connections) (all_happened_more c (due_at c l) m)
+    let m : Lone = record l { connections = at_open c without_due l.connections } in
+    more_trans l m (after_due_on c l) (at_open_grows c without_due (λ p. grows_same p (without_due p) refl) l.connections) (all_happened_more c (due_at c l) m)
 
-frame_more : (c : ℕ) (f : RawFrame) (l : Lone) → HasMore l (frame_read c f l)
+frame_more : (c : ℕ) (f : RawFrame) (l : Lone) → HasMore l (after_frame_on c f l)
 frame_more c f l =
     let m : Lone = record l { connections = at_open c (λ p. with_frame p f) l.connections } in
-    more_trans l m (due_happened c m) (at_open_grows c (λ p. with_frame p f) (frame_grows f) l.connections) (due_more c m)
+    more_trans l m (after_due_on c m) (at_open_grows c (λ p. with_frame p f) (frame_grows f) l.connections) (due_more c m)
 
-frames_more : (c : ℕ) (fs : List RawFrame) (l : Lone) → HasMore l (frames_read c fs l)
+frames_more : (c : ℕ) (fs : List RawFrame) (l : Lone) → HasMore l (after_frames_on c fs l)
 frames_more c [] l = more_same l
 frames_more c (f ∷ fs) l = elim (cases_Bool (is_over c l)) [
   | inl over ↦ rw over (more_same l)
-  | inr goes_on ↦ rw goes_on (more_trans l (frame_read c f l) (frames_read c fs (frame_read c f l)) (frame_more c f l) (frames_more c fs (frame_read c f l)))
+  | inr goes_on ↦ rw goes_on (more_trans l (after_frame_on c f l) (after_frames_on c fs (after_frame_on c f l)) (frame_more c f l) (frames_more c fs (after_frame_on c f l)))
 ]
 
-fault_more : (c : ℕ) (e : FrameError) (l : Lone) (code : Option ErrorCode) → HasMore l (fault_met c e l code)
+fault_more : (c : ℕ) (e : FrameError) (l : Lone) (code : Option ErrorCode) → HasMore l (after_fault_on c e l code)
 fault_more c e l None = more_same l
 fault_more c e l (Some code) =
     let m : Lone = record l { connections = at_open c (λ p. with_fault p e code) l.connections } in
-    more_trans l m (due_happened c m) (at_open_grows c (λ p. with_fault p e code) (fault_grows e code) l.connections) (due_more c m)
+    more_trans l m (after_due_on c m) (at_open_grows c (λ p. with_fault p e code) (fault_grows e code) l.connections) (due_more c m)
 
-end_more : (c : ℕ) (end : Result (List ℕ) FrameError) (l : Lone) → HasMore l (end_read c end l)
+end_more : (c : ℕ) (end : Result (List ℕ) FrameError) (l : Lone) → HasMore l (after_end_on c end l)
 end_more c (Ok rest) l = more_same l
 end_more c (Err e) l = elim (cases_Bool (is_over c l)) [
   | inl over ↦ rw over (more_same l)
   | inr goes_on ↦ rw goes_on (fault_more c e l (reading_fault e))
 ]
 
-read_more : (c : ℕ) (l : Lone) (p : Option Past) → HasMore l (all_read c l p)
+read_more : (c : ℕ) (l : Lone) (p : Option Past) → HasMore l (after_reading_on c l p)
 read_more c l None = more_same l
 read_more c l (Some p) =
-    let m : Lone = frames_read c (unread_frames p) l in
-    more_trans l m (all_read c l (Some p)) (frames_more c (unread_frames p) l) (end_more c (split CLIENT_PREFACE.now p.text).end m)
+    let m : Lone = after_frames_on c (unread_frames p) l in
+    more_trans l m (after_reading_on c l (Some p)) (frames_more c (unread_frames p) l) (end_more c (split CLIENT_PREFACE.now p.text).end m)
 
-bytes_more : (c : ℕ) (bytes : List ℕ) (l : Lone) → HasMore l (bytes_came c bytes l)
+bytes_more : (c : ℕ) (bytes : List ℕ) (l : Lone) → HasMore l (after_bytes_on c bytes l)
 bytes_more c bytes l =
     let m : Lone = record l { connections = at_open c (with_bytes bytes) l.connections } in
-    more_trans l m (bytes_came c bytes l) (at_open_grows c (with_bytes bytes) (λ p. grows_same p (with_bytes bytes p) refl) l.connections) (read_more c m (open_at c m.connections))
+    more_trans l m (after_bytes_on c bytes l) (at_open_grows c (with_bytes bytes) (λ p. grows_same p (with_bytes bytes p) refl) l.connections) (read_more c m (open_at c m.connections))
 
 -- ---- an event
 
@@ -203,18 +203,18 @@ bytes_more c bytes l =
 abbrev pub connections_after : WhatValue → List LoneConnection → List LoneConnection
 connections_after (opened c) ks = ks ++ record { number = c; past = opening; is_open = true } ∷ []
 connections_after (took c n) ks = at_open c (λ p. with_taken p n) ks
-connections_after (closed c) ks = closed_at c ks
+connections_after (closed c) ks = with_closed c ks
 connections_after _ ks = ks
 
-acted_more : (what : WhatValue) (l : Lone) → AreGrown (connections_after what l.connections) (acted what l).connections
-acted_more (opened c) l = all_same (was_opened c l).connections
+acted_more : (what : WhatValue) (l : Lone) → AreGrown (connections_after what l.connections) (effect_of what l).connections
+acted_more (opened c) l = all_same (after_opening c l).connections
 acted_more (received c bytes) l = bytes_more c bytes l
 acted_more (took c n) l = all_same (at_open c (λ p. with_taken p n) l.connections)
-acted_more (closed c) l = all_happened_more c (option_map_or (λ p. cancels p.diary) (open_at c l.connections) []) (record l { connections = closed_at c l.connections })
+acted_more (closed c) l = all_happened_more c (option_map_or (λ p. cancels p.history) (open_at c l.connections) []) (record l { connections = with_closed c l.connections })
 acted_more tick l = more_same l
 acted_more (ended job outcome) l = more_same l
 
-pub accepted_more : (e : EventValue) (l : Lone) → AreGrown (connections_after e.what l.connections) (accepted e l).connections
+pub accepted_more : (e : EventValue) (l : Lone) → AreGrown (connections_after e.what l.connections) (after_event e l).connections
 accepted_more e l =
-    let m : Lone = acted e.what (came_at e.moment l) in
-    all_trans (connections_after e.what l.connections) m.connections (pumped_all m).connections (acted_more e.what (came_at e.moment l)) (all_open_grow with_pumped pump_grows m.connections)
+    let m : Lone = effect_of e.what (lone_at_moment e.moment l) in
+    all_trans (connections_after e.what l.connections) m.connections (after_pump m).connections (acted_more e.what (lone_at_moment e.moment l)) (all_open_grow with_pumped pump_grows m.connections)

@@ -3,19 +3,19 @@ use Rattle.std.proofs.Common.{◌≡◌, ℕ, suc, ◌+◌, List, [], ◌∷◌,
 use Rattle.std.specs.Prelude.{Bool, true, false, cond, map, Option, Some, None, nat_lt}
 use Rattle.std.specs.Option.{option_map_or, is_some}
 use Rattle.std.proofs.lemmas.Bool.{true≢false, ltb-false}
-use Rattle.grpc_sending.specs.Bytes.{untaken}
-use Rattle.grpc_sending.proofs.Diaries.{append-nil}
+use Rattle.grpc_sending.specs.Bytes.{untaken_count}
+use Rattle.grpc_sending.proofs.Histories.{append-nil}
 use Rattle.conn_core.specs.Past.{Past}
 use Rattle.server_events.specs.Events.{EventValue, WhatValue, opened, received, took, closed, tick, ended}
 use Rattle.served_instance.specs.declared.refusal.EventRefusal.{EventRefusal}
 use Rattle.served_instance.specs.declared.refusal.EventRefusal.TheVariants.{NoSuchConnection, ConnectionExists, TimeWentBack, TookTooMuch}
 use Rattle.served_instance.specs.Connections.{LoneConnection, open_at}
-use Rattle.served_instance.specs.Lone.{Lone, sent_on, accepted}
-use Rattle.served_instance.specs.Refusals.{refusal_of, refusal_of_what, stepped, lone_step}
-use Rattle.run_record.specs.Runs.{Run, refused_at, run_step}
+use Rattle.served_instance.specs.Lone.{Lone, sent_bytes_on, after_event}
+use Rattle.served_instance.specs.Refusals.{refusal_of, refusal_of_what, after_event_unless, lone_step}
+use Rattle.run_record.specs.Runs.{Run, refusals_at, run_step}
 use Rattle.run_record.specs.declared.record.OpenRecord.{OpenRecord}
 use Rattle.run_record.specs.StandsFor.{RecordValue, StandsFor, AreApart}
-use Rattle.run_record.specs.Notes.{open_after, sent_after, gathered, counted_on}
+use Rattle.run_record.specs.Notes.{open_records_after, sent_bytes_after, sent_bytes_with_all, record_after_noting}
 use Rattle.run_record.proofs.Growth.{AreGrown, connections_after, accepted_more}
 use Rattle.run_record.proofs.Changes.{known_from, known_after, known_grown}
 use Rattle.run_record.proofs.Fronts.{AreFronts, May, all_within, fronts_after, fronts_grown, fronts_taken, apart_after, apart_grown, all_gathered, all_counted}
@@ -41,8 +41,8 @@ may_what : (what : WhatValue) (l : Lone) → refusal_of_what what l ≡ None →
 may_what (opened c) l h = none_of (open_at c l.connections) (passes (is_some (open_at c l.connections)) ConnectionExists _ h).off
 may_what (received c bytes) l h = tt
 may_what (took c n) l h = λ p is.
-    let answer : Option Past → Option EventRefusal = λ o. option_map_or (λ (q : Past). cond (nat_lt (untaken q.diary) n) (Some TookTooMuch) None) o (Some NoSuchConnection) in
-    ltb-false (untaken p.diary) n (passes (nat_lt (untaken p.diary) n) TookTooMuch None (sym (ap answer is) ∙ h)).off
+    let answer : Option Past → Option EventRefusal = λ o. option_map_or (λ (q : Past). cond (nat_lt (untaken_count q.history) n) (Some TookTooMuch) None) o (Some NoSuchConnection) in
+    ltb-false (untaken_count p.history) n (passes (nat_lt (untaken_count p.history) n) TookTooMuch None (sym (ap answer is) ∙ h)).off
 may_what (closed c) l h = tt
 may_what tick l h = tt
 may_what (ended job outcome) l h = tt
@@ -52,30 +52,30 @@ may e l h = may_what e.what l (passes (nat_lt e.moment l.state.moment) TimeWentB
 
 -- ---- an event that is taken
 
-length_sent : (ks : List LoneConnection) → length (map sent_on ks) ≡ length ks
+length_sent : (ks : List LoneConnection) → length (map sent_bytes_on ks) ≡ length ks
 length_sent [] = refl
 length_sent (k ∷ ks) = ap suc (length_sent ks)
 
-pub noted : (v : RecordValue) (r : Run) (e : EventValue) (ss : List (ℕ × List ℕ)) (os : List OpenRecord) → StandsFor v r → refusal_of e r.lone ≡ None → ss ≡ gathered (lone_step e r.lone) (open_after e.what (length v.sent) v.live) (sent_after e.what v.sent) → os ≡ map (counted_on (lone_step e r.lone)) (open_after e.what (length v.sent) v.live) → StandsFor (record { count = v.count + 1; refusals = v.refusals; sent = ss; live = os }) (run_step r e)
+pub noted : (v : RecordValue) (r : Run) (e : EventValue) (ss : List (ℕ × List ℕ)) (os : List OpenRecord) → StandsFor v r → refusal_of e r.lone ≡ None → ss ≡ sent_bytes_with_all (lone_step e r.lone) (open_records_after e.what (length v.sent) v.live) (sent_bytes_after e.what v.sent) → os ≡ map (record_after_noting (lone_step e r.lone)) (open_records_after e.what (length v.sent) v.live) → StandsFor (record { count = v.count + 1; refusals = v.refusals; sent = ss; live = os }) (run_step r e)
 noted v r e ss os st none ss_is os_is =
     let ks = r.lone.connections in
     let m : Lone = lone_step e r.lone in
-    let s1 = sent_after e.what (map sent_on ks) in
+    let s1 = sent_bytes_after e.what (map sent_bytes_on ks) in
     let k1 = connections_after e.what ks in
-    let step : m ≡ accepted e r.lone = ap (stepped e r.lone) none in
+    let step : m ≡ after_event e r.lone = ap (after_event_unless e r.lone) none in
     let grown : AreGrown k1 m.connections = subst (λ (n : Lone). AreGrown k1 n.connections) (sym step) (accepted_more e r.lone) in
     let can : May e.what ks = may e r.lone none in
     let fronts : AreFronts s1 m.connections = fronts_grown s1 k1 m.connections (fronts_after e.what ks (all_within ks st.taken) can) grown in
     let apart : AreApart m.connections = apart_grown k1 m.connections grown (apart_after e.what ks can st.apart) in
-    let sent : sent_after e.what v.sent ≡ s1 = ap (sent_after e.what) st.sent in
+    let sent : sent_bytes_after e.what v.sent ≡ s1 = ap (sent_bytes_after e.what) st.sent in
     let size : length v.sent ≡ length ks = ap length st.sent ∙ length_sent ks in
-    let known : open_after e.what (length v.sent) v.live ≡ known_from 0 s1 m.connections =
-    ap (λ (n : ℕ). open_after e.what n v.live) size ∙ ap (open_after e.what (length ks)) st.live ∙ known_after e.what ks st.apart ∙ known_grown 0 s1 k1 m.connections grown in
+    let known : open_records_after e.what (length v.sent) v.live ≡ known_from 0 s1 m.connections =
+    ap (λ (n : ℕ). open_records_after e.what n v.live) size ∙ ap (open_records_after e.what (length ks)) st.live ∙ known_after e.what ks st.apart ∙ known_grown 0 s1 k1 m.connections grown in
     record {
       count = ap (λ n. n + 1) st.count;
-      refusals = st.refusals ∙ sym (append-nil r.refusals) ∙ ap (λ (o : Option EventRefusal). r.refusals ++ refused_at (r.count + 1) o) (sym none);
-      sent = ss_is ∙ ap (λ (qs : List OpenRecord). gathered m qs (sent_after e.what v.sent)) known ∙ ap (gathered m (known_from 0 s1 m.connections)) sent ∙ all_gathered m 0 [] s1 m.connections refl fronts apart (λ c p h. h);
-      live = os_is ∙ ap (map (counted_on m)) known ∙ all_counted m 0 s1 m.connections fronts apart (λ c p h. h);
+      refusals = st.refusals ∙ sym (append-nil r.refusals) ∙ ap (λ (o : Option EventRefusal). r.refusals ++ refusals_at (r.count + 1) o) (sym none);
+      sent = ss_is ∙ ap (λ (qs : List OpenRecord). sent_bytes_with_all m qs (sent_bytes_after e.what v.sent)) known ∙ ap (sent_bytes_with_all m (known_from 0 s1 m.connections)) sent ∙ all_gathered m 0 [] s1 m.connections refl fronts apart (λ c p h. h);
+      live = os_is ∙ ap (map (record_after_noting m)) known ∙ all_counted m 0 s1 m.connections fronts apart (λ c p h. h);
       taken = fronts_taken s1 m.connections fronts;
       apart = apart;
     }

@@ -5,9 +5,9 @@ use Rattle.std.specs.Prelude.{ℕ, ◌+◌, List, [], ◌∷◌, ◌++◌, fold,
 use Rattle.server_events.specs.Configs.{ConfigValue}
 use Rattle.server_events.specs.Events.{EventValue}
 use Rattle.served_instance.specs.declared.refusal.EventRefusal.{EventRefusal}
-use Rattle.served_instance.specs.Lone.{Lone, start, all_sent}
+use Rattle.served_instance.specs.Lone.{Lone, new_lone, all_sent_bytes}
 use Rattle.served_instance.specs.Refusals.{refusal_of, lone_step}
-use Rattle.run_record.specs.Outputs.{OutputValue}
+use Rattle.run_record.specs.Outputs.{InstanceOutputValue}
 
 pub record Run : Type 0 where
   pub lone : Lone
@@ -16,22 +16,23 @@ pub record Run : Type 0 where
   -- the places of those that were refused, from 1, and why
   pub refusals : List (ℕ × EventRefusal)
 
-abbrev pub begun : ConfigValue → Run
-begun config = record { lone = start config.name config.quota config.slots; count = 0; refusals = [] }
+abbrev pub new_run : ConfigValue → Run
+new_run config =
+    record { lone = new_lone config.name config.quota config.slots; count = 0; refusals = [] }
 
-abbrev pub refused_at : ℕ → Option EventRefusal → List (ℕ × EventRefusal)
-refused_at place None = []
-refused_at place (Some refusal) = (place, refusal) ∷ []
+abbrev pub refusals_at : ℕ → Option EventRefusal → List (ℕ × EventRefusal)
+refusals_at place None = []
+refusals_at place (Some refusal) = (place, refusal) ∷ []
 
 abbrev pub run_step : Run → EventValue → Run
 run_step r e = record {
   lone = lone_step e r.lone;
   count = r.count + 1;
-  refusals = r.refusals ++ refused_at (r.count + 1) (refusal_of e r.lone);
+  refusals = r.refusals ++ refusals_at (r.count + 1) (refusal_of e r.lone);
 }
 
 abbrev pub run_of : ConfigValue → List EventValue → Run
-run_of config events = fold run_step (begun config) events
+run_of config events = fold run_step (new_run config) events
 
-abbrev pub output_of : Run → OutputValue
-output_of r = record { sent = all_sent r.lone; refusals = r.refusals }
+abbrev pub output_of_run : Run → InstanceOutputValue
+output_of_run r = record { sent = all_sent_bytes r.lone; refusals = r.refusals }

@@ -6,9 +6,9 @@ ghost use Rattle.server_events.specs.Shown.{event_value, what_value};
 ghost use Rattle.served_instance.specs.Lone.{Lone};
 ghost use Rattle.served_instance.specs.Refusals.{refusal_of, lone_step, IsOutcome};
 ghost use Rattle.served_instance.specs.Slots.{HasConnections};
-ghost use Rattle.run_record.specs.Runs.{Run, begun, run_step, output_of};
-ghost use Rattle.run_record.specs.Shown.{sent_shown, output_shown};
-ghost use Rattle.run_record.specs.Notes.{taken_on, open_after, sent_after, more_at, gathered_on, gathered, counted_on};
+ghost use Rattle.run_record.specs.Runs.{Run, new_run, run_step, output_of_run};
+ghost use Rattle.run_record.specs.Shown.{sent_shown, instance_output_shown};
+ghost use Rattle.run_record.specs.Notes.{record_after_taking, open_records_after, sent_bytes_after, with_more_at, sent_bytes_with, sent_bytes_with_all, record_after_noting};
 ghost use Rattle.run_record.specs.StandsFor.{StandsFor};
 
 use crate::outputs::{InstanceOutput, RefusedEvent, SentBytes};
@@ -56,7 +56,7 @@ impl Model for InstanceRecord {
 impl InstanceRecord {
     /// Nothing was noted yet.
     pub fn new(alloc: Global) -> InstanceRecord
-        ensures { (config : ConfigValue) → StandsFor result (begun config) }
+        ensures { (config : ConfigValue) → StandsFor result (new_run config) }
     {
         InstanceRecord {
             count: 0,
@@ -102,7 +102,7 @@ impl InstanceRecord {
 
     /// What was noted.
     pub fn output(self) -> InstanceOutput
-        ensures { (r : Run) → StandsFor self r → output_shown result ≡ output_of r }
+        ensures { (r : Run) → StandsFor self r → instance_output_shown result ≡ output_of_run r }
     {
         InstanceOutput {
             sent: self.sent,
@@ -118,8 +118,8 @@ fn follow(
     what: &What,
 ) -> Result<(), AllocError>
     ensures sent { OnOk result (map sent_shown sent.new.items
-        ≡ sent_after (what_value what.now) (map sent_shown sent.old.items)) }
-    ensures live { OnOk result (live.new.items ≡ open_after (what_value what.now)
+        ≡ sent_bytes_after (what_value what.now) (map sent_shown sent.old.items)) }
+    ensures live { OnOk result (live.new.items ≡ open_records_after (what_value what.now)
         (length (map sent_shown sent.old.items)) live.old.items) }
 {
     match what {
@@ -151,7 +151,7 @@ fn follow(
 
 /// So many more bytes were taken on the connection of this number.
 fn take(live: &mut [OpenRecord], number: u32, count: usize)
-    ensures { live.new ≡ map (taken_on number count) live.old }
+    ensures { live.new ≡ map (record_after_taking number count) live.old }
 {
     for connection in live.iter_mut() {
         take_from(connection, number, count);
@@ -160,7 +160,7 @@ fn take(live: &mut [OpenRecord], number: u32, count: usize)
 
 /// So many more bytes were taken, if the connection has this number.
 fn take_from(connection: &mut OpenRecord, number: u32, count: usize)
-    ensures { connection.new ≡ taken_on number count connection.old }
+    ensures { connection.new ≡ record_after_taking number count connection.old }
 {
     if connection.number == number {
         connection.untaken = connection.untaken.saturating_sub(count);
@@ -181,7 +181,8 @@ fn gather(
     instance: &ServedInstance,
 ) -> Result<(), AllocError>
     ensures { OnOk result ((l : Lone) → HasConnections instance.now l
-        → map sent_shown sent.new.items ≡ gathered l live.now (map sent_shown sent.old.items)) }
+        → map sent_shown sent.new.items
+        ≡ sent_bytes_with_all l live.now (map sent_shown sent.old.items)) }
 {
     for connection in live {
         gather_from(sent, connection, instance)?;
@@ -197,7 +198,7 @@ fn gather_from(
     instance: &ServedInstance,
 ) -> Result<(), AllocError>
     ensures { OnOk result ((l : Lone) → HasConnections instance.now l
-        → map sent_shown sent.new.items ≡ gathered_on l (map sent_shown sent.old.items)
+        → map sent_shown sent.new.items ≡ sent_bytes_with l (map sent_shown sent.old.items)
         connection.now) }
 {
     match instance.pending(connection.number) {
@@ -214,7 +215,7 @@ fn gather_from(
 /// place in `sent`.
 fn append(sent: &mut Vec<SentBytes>, place: usize, more: &[u8]) -> Result<(), AllocError>
     ensures { OnOk result (map sent_shown sent.new.items
-        ≡ more_at place more.now (map sent_shown sent.old.items)) }
+        ≡ with_more_at place more.now (map sent_shown sent.old.items)) }
 {
     if place < sent.len() {
         sent[place].bytes.extend_from_slice(more)?;
@@ -224,7 +225,8 @@ fn append(sent: &mut Vec<SentBytes>, place: usize, more: &[u8]) -> Result<(), Al
 
 /// Counts on each open connection the bytes that were not taken.
 fn count_untaken(live: &mut [OpenRecord], instance: &ServedInstance)
-    ensures { (l : Lone) → HasConnections instance.now l → live.new ≡ map (counted_on l) live.old }
+    ensures { (l : Lone) → HasConnections instance.now l →
+        live.new ≡ map (record_after_noting l) live.old }
 {
     for connection in live.iter_mut() {
         count_on(connection, instance);
@@ -234,7 +236,7 @@ fn count_untaken(live: &mut [OpenRecord], instance: &ServedInstance)
 /// Counts the bytes of an open connection that were not taken.
 fn count_on(connection: &mut OpenRecord, instance: &ServedInstance)
     ensures { (l : Lone) → HasConnections instance.now l
-        → connection.new ≡ counted_on l connection.old }
+        → connection.new ≡ record_after_noting l connection.old }
 {
     connection.untaken = instance
         .pending(connection.number)

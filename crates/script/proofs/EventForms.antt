@@ -11,7 +11,7 @@ use Rattle.script.specs.Arguments.{exit_code_of, number_of, only_number_of}
 use Rattle.script.specs.ReplayEvents.{exit_of, fail_of, outputs_of, received_of, tick_of, took_of, what_of}
 use Rattle.script.specs.ReplayLines.{IsNumber, Tells}
 use Rattle.script.proofs.FileForms.{AreFiles-from_Some, Some-from_AreFiles}
-use Rattle.script.proofs.NumberForms.{IsExitCode-from_Some, IsNumber-below, Some-from_IsExitCode, below-IsNumber}
+use Rattle.script.proofs.NumberForms.{IsExitCode-from_Some, IsNumber-decimal_below, Some-from_IsExitCode, decimal_below-IsNumber}
 use Rattle.script.proofs.Somes.{mapped, chained}
 
 -- ---- from what is read to its form
@@ -19,7 +19,7 @@ use Rattle.script.proofs.Somes.{mapped, chained}
 only_number : (arguments : List (List ℕ)) (number : ℕ) → only_number_of arguments ≡ Some number
     → (word : List ℕ) × (arguments ≡ word ∷ []) × IsNumber (2 ^ 32) word number
 only_number [] number h = cc
-only_number (word ∷ []) number h = (word, refl, IsNumber-below (2 ^ 32) word number h)
+only_number (word ∷ []) number h = (word, refl, IsNumber-decimal_below (2 ^ 32) word number h)
 only_number (word ∷ other ∷ more) number h = cc
 
 open_form : (kind : List ℕ) (arguments : List (List ℕ)) (what : WhatValue) → kind ≡ codes "open" → option_map opened (only_number_of arguments) ≡ Some what → Tells kind arguments what
@@ -39,7 +39,7 @@ bytes_form kind (word ∷ digits ∷ []) what k h =
     let number = chained (λ n. option_map (received n) (bytes_of_hex digits)) (number_of word) what h in
     let read = mapped (received number.0) (bytes_of_hex digits) what number.2 in
     rw (← read.2)
-    (k, (word, ap (λ d. word ∷ d ∷ []) (hex_word-bytes_of_hex digits read.0 read.1), IsNumber-below (2 ^ 32) word number.0 number.1, IsBytes-bytes_of_hex digits read.0 read.1))
+    (k, (word, ap (λ d. word ∷ d ∷ []) (hex_word-bytes_of_hex digits read.0 read.1), IsNumber-decimal_below (2 ^ 32) word number.0 number.1, IsBytes-bytes_of_hex digits read.0 read.1))
 bytes_form kind (a ∷ b ∷ c ∷ more) what k h = cc
 
 took_form : (kind : List ℕ) (arguments : List (List ℕ)) (what : WhatValue) → kind ≡ codes "took" → took_of arguments ≡ Some what → Tells kind arguments what
@@ -48,7 +48,7 @@ took_form kind (a ∷ []) what k h = cc
 took_form kind (word ∷ digits ∷ []) what k h =
     let number = chained (λ n. option_map (took n) (number_of digits)) (number_of word) what h in
     let read = mapped (took number.0) (number_of digits) what number.2 in
-    rw (← read.2) (k, (word, digits, refl, IsNumber-below (2 ^ 32) word number.0 number.1, IsNumber-below (2 ^ 32) digits read.0 read.1))
+    rw (← read.2) (k, (word, digits, refl, IsNumber-decimal_below (2 ^ 32) word number.0 number.1, IsNumber-decimal_below (2 ^ 32) digits read.0 read.1))
 took_form kind (a ∷ b ∷ c ∷ more) what k h = cc
 
 tick_form : (kind : List ℕ) (arguments : List (List ℕ)) (what : WhatValue) → kind ≡ codes "tick" → tick_of arguments ≡ Some what → Tells kind arguments what
@@ -116,15 +116,15 @@ Tells-from_Some kind arguments what h =
 
 pub Some-from_Tells : (kind : List ℕ) (arguments : List (List ℕ)) (what : WhatValue) → Tells kind arguments what → what_of kind arguments ≡ Some what
 Some-from_Tells kind arguments (opened connection) h =
-    rw (h.0, h.1.1) (ap (option_map opened) (below-IsNumber (2 ^ 32) h.1.0 connection h.1.2))
+    rw (h.0, h.1.1) (ap (option_map opened) (decimal_below-IsNumber (2 ^ 32) h.1.0 connection h.1.2))
 Some-from_Tells kind arguments (received connection bytes) h =
-    rw (h.0, h.1.1) (ap (option_and_then (λ n. option_map (received n) (bytes_of_hex (hex_word bytes)))) (below-IsNumber (2 ^ 32) h.1.0 connection h.1.2)
+    rw (h.0, h.1.1) (ap (option_and_then (λ n. option_map (received n) (bytes_of_hex (hex_word bytes)))) (decimal_below-IsNumber (2 ^ 32) h.1.0 connection h.1.2)
     ∙ ap (option_map (received connection)) (bytes_of_hex-hex_word bytes h.1.3))
 Some-from_Tells kind arguments (took connection count) h =
-    rw (h.0, h.1.2) (ap (option_and_then (λ n. option_map (took n) (number_of h.1.1))) (below-IsNumber (2 ^ 32) h.1.0 connection h.1.3)
-    ∙ ap (option_map (took connection)) (below-IsNumber (2 ^ 32) h.1.1 count h.1.4))
+    rw (h.0, h.1.2) (ap (option_and_then (λ n. option_map (took n) (number_of h.1.1))) (decimal_below-IsNumber (2 ^ 32) h.1.0 connection h.1.3)
+    ∙ ap (option_map (took connection)) (decimal_below-IsNumber (2 ^ 32) h.1.1 count h.1.4))
 Some-from_Tells kind arguments (closed connection) h =
-    rw (h.0, h.1.1) (ap (option_map closed) (below-IsNumber (2 ^ 32) h.1.0 connection h.1.2))
+    rw (h.0, h.1.1) (ap (option_map closed) (decimal_below-IsNumber (2 ^ 32) h.1.0 connection h.1.2))
 Some-from_Tells kind arguments tick h = rw (h.0, h.1) refl
 Some-from_Tells kind arguments (ended job failed) h = rw (h.0, h.1.1) (ap (option_map (λ n. ended n failed)) h.1.2)
 Some-from_Tells kind arguments (ended job (exited code stdout stderr outputs)) h =

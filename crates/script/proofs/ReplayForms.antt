@@ -18,7 +18,7 @@ use Rattle.script.specs.ReplayLines.{IsEventLine, IsGoodReplayLine, IsReplayInst
 use Rattle.script.specs.ReplayScript.{ReplayScriptValue, after_replay_line, after_replay_words, config, config_if_good, config_of, may_follow, with_config, with_event}
 use Rattle.script.proofs.ConfigLemmas.{none_is}
 use Rattle.script.proofs.EventForms.{Some-from_Tells, Tells-from_Some}
-use Rattle.script.proofs.NumberForms.{IsNumber-below, below-IsNumber}
+use Rattle.script.proofs.NumberForms.{IsNumber-decimal_below, decimal_below-IsNumber}
 use Rattle.script.proofs.LineLemmas.{nothing_left}
 use Rattle.script.proofs.Somes.{mapped, chained, chosen, if_some}
 
@@ -45,7 +45,7 @@ instance_form before after kind (name ∷ quota ∷ slots ∷ []) made k first h
       count = counted.0;
       form = ap (λ w. w ∷ name ∷ quota ∷ slots ∷ []) k;
       bytes_number = read.1;
-      count_number = (IsNumber-below (2 ^ 32) slots counted.0 counted.1).decimal;
+      count_number = (IsNumber-decimal_below (2 ^ 32) slots counted.0 counted.1).decimal;
       first = first;
       room = grind (arith, nat_tests);
       good = good.0;
@@ -73,7 +73,7 @@ event_form before after kind (moment ∷ instance ∷ arguments) h =
       what = what.0;
       form = refl;
       moment_number = at.1;
-      instance_number = IsNumber-below (2 ^ 32) instance number.0 number.1;
+      instance_number = IsNumber-decimal_below (2 ^ 32) instance number.0 number.1;
       tells = Tells-from_Some kind arguments what.0 what.1;
       adds = sym added.2 ∙ ap (with_event before) (sym what.2);
     }
@@ -100,7 +100,7 @@ Some-from_instance before after words h =
     let made = config h.name h.bytes h.count in
     let few = h.good.slots in
     let small : h.count < 2 ^ 32 = omega (arith, few) in
-    let counted : number_of h.slots ≡ Some h.count = below-IsNumber (2 ^ 32) h.slots h.count (record { decimal = h.count_number; small = small }) in
+    let counted : number_of h.slots ≡ Some h.count = decimal_below-IsNumber (2 ^ 32) h.slots h.count (record { decimal = h.count_number; small = small }) in
     let own = None-from_good before.configs made h.good h.new_name in
     let free = h.room in
     let room : nat_lt (length before.configs) instance_limit ≡ true = grind (arith, nat_tests) in
@@ -127,7 +127,7 @@ Some-from_event : (before after : ReplayScriptValue) (words : List (List ℕ)) �
 Some-from_event before after words h =
     let read : event_of h.kind (h.moment ∷ h.instance ∷ h.arguments) ≡ Some (event_at h.at h.number h.what) =
     ap (option_and_then (λ at. option_and_then (λ number. option_map (event_at at number) (what_of h.kind h.arguments)) (number_of h.instance))) h.moment_number
-    ∙ ap (option_and_then (λ number. option_map (event_at h.at number) (what_of h.kind h.arguments))) (below-IsNumber (2 ^ 32) h.instance h.number h.instance_number)
+    ∙ ap (option_and_then (λ number. option_map (event_at h.at number) (what_of h.kind h.arguments))) (decimal_below-IsNumber (2 ^ 32) h.instance h.number h.instance_number)
     ∙ ap (option_map (event_at h.at h.number)) (Some-from_Tells h.kind h.arguments h.what h.tells) in
     ap (after_replay_words before) h.form
     ∙ ap (λ b. cond b (cond (length before.events == 0) (option_map (with_config before) (config_of before.configs (h.moment ∷ h.instance ∷ h.arguments))) None) (option_map (with_event before) (event_of h.kind (h.moment ∷ h.instance ∷ h.arguments)))) (other_kind h.kind h.arguments h.what h.tells)

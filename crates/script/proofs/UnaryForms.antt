@@ -10,7 +10,7 @@ use Rattle.std.specs.List.{All, position_or_len}
 use Rattle.std.specs.Str.{bytes_eq}
 use Rattle.script.specs.Hexadecimal.{bytes_of_hex, hex_word}
 use Rattle.decimals.specs.Number.{decimal_of, is_decimal_digit}
-use Rattle.script.specs.Parts.{spaced, words_of}
+use Rattle.script.specs.Parts.{spaced_line, words_of}
 use Rattle.script.proofs.HexadecimalLemmas.{IsBytes-bytes_of_hex, Lacks_space-hex_word, bytes_of_hex-hex_word, hex_word-bytes_of_hex}
 use Rattle.decimals.proofs.NumberLemmas.{digits-decimal_of}
 use Rattle.script.proofs.SplitLemmas.{Lacks, Lacks-passing, parts_of-join}
@@ -48,7 +48,7 @@ method_named-is word method h =
     go false f false u false r h = cc
 
 instance_form : (before after : UnaryScriptValue) (line : List ℕ) (arguments : List (List ℕ)) (instance : InstanceValue)
-    → line ≡ spaced (codes "instance" ∷ arguments) → before.commands ≡ [] → instance_of before.instances arguments ≡ Some instance
+    → line ≡ spaced_line (codes "instance" ∷ arguments) → before.commands ≡ [] → instance_of before.instances arguments ≡ Some instance
     → with_instance before instance ≡ after → IsUnaryInstanceLine before line after
 instance_form before after line [] instance form first h adds = cc
 instance_form before after line (a ∷ []) instance form first h adds = cc
@@ -69,7 +69,7 @@ instance_form before after line (name ∷ digits ∷ []) instance form first h a
 instance_form before after line (a ∷ b ∷ c ∷ more) instance form first h adds = cc
 
 put_form : (before after : UnaryScriptValue) (line : List ℕ) (arguments : List (List ℕ))
-    → line ≡ spaced (codes "put" ∷ arguments) → option_map (with_command before) (put_of before.instances arguments) ≡ Some after
+    → line ≡ spaced_line (codes "put" ∷ arguments) → option_map (with_command before) (put_of before.instances arguments) ≡ Some after
     → IsPutLine before line after
 put_form before after line [] form h = cc
 put_form before after line (a ∷ []) form h = cc
@@ -81,7 +81,7 @@ put_form before after line (name ∷ word ∷ []) form h =
       name = name;
       place = placed.0;
       content = read.0;
-      form = form ∙ ap (λ w. spaced (codes "put" ∷ name ∷ w ∷ [])) (hex_word-bytes_of_hex word read.0 read.1);
+      form = form ∙ ap (λ w. spaced_line (codes "put" ∷ name ∷ w ∷ [])) (hex_word-bytes_of_hex word read.0 read.1);
       bytes = IsBytes-bytes_of_hex word read.0 read.1;
       known = placed.1;
       adds = sym added.2 ∙ ap (with_command before) (sym read.2);
@@ -89,7 +89,7 @@ put_form before after line (name ∷ word ∷ []) form h =
 put_form before after line (a ∷ b ∷ c ∷ more) form h = cc
 
 call_form : (before after : UnaryScriptValue) (line : List ℕ) (arguments : List (List ℕ))
-    → line ≡ spaced (codes "call" ∷ arguments) → option_map (with_command before) (call_of before.instances arguments) ≡ Some after
+    → line ≡ spaced_line (codes "call" ∷ arguments) → option_map (with_command before) (call_of before.instances arguments) ≡ Some after
     → IsCallLine before line after
 call_form before after line [] form h = cc
 call_form before after line (a ∷ []) form h = cc
@@ -105,8 +105,8 @@ call_form before after line (name ∷ method ∷ word ∷ []) form h =
       method = named.0;
       message = read.0;
       form = form
-          ∙ ap (λ m. spaced (codes "call" ∷ name ∷ m ∷ word ∷ [])) (method_named-is method named.0 named.1)
-          ∙ ap (λ w. spaced (codes "call" ∷ name ∷ method_name named.0 ∷ w ∷ [])) (hex_word-bytes_of_hex word read.0 read.1);
+          ∙ ap (λ m. spaced_line (codes "call" ∷ name ∷ m ∷ word ∷ [])) (method_named-is method named.0 named.1)
+          ∙ ap (λ w. spaced_line (codes "call" ∷ name ∷ method_name named.0 ∷ w ∷ [])) (hex_word-bytes_of_hex word read.0 read.1);
       bytes = IsBytes-bytes_of_hex word read.0 read.1;
       known = placed.1;
       adds = sym added.2 ∙ ap (with_command before) (sym read.2);
@@ -114,12 +114,12 @@ call_form before after line (name ∷ method ∷ word ∷ []) form h =
 call_form before after line (a ∷ b ∷ c ∷ d ∷ more) form h = cc
 
 words_form : (before after : UnaryScriptValue) (line : List ℕ) (kind : List ℕ) (arguments : List (List ℕ))
-    → line ≡ spaced (kind ∷ arguments) → after_unary_words before (kind ∷ arguments) ≡ Some after → IsGoodUnaryLine before line after
+    → line ≡ spaced_line (kind ∷ arguments) → after_unary_words before (kind ∷ arguments) ≡ Some after → IsGoodUnaryLine before line after
 words_form before after line kind arguments form h =
     go (bytes_eq kind (codes "instance")) refl (bytes_eq kind (codes "put")) refl (bytes_eq kind (codes "call")) refl h
   where
-    spelled : (word : List ℕ) → bytes_eq kind word ≡ true → line ≡ spaced (word ∷ arguments)
-    spelled word e = form ∙ ap (λ w. spaced (w ∷ arguments)) ((bytes_eq-Decides kind word).0 e)
+    spelled : (word : List ℕ) → bytes_eq kind word ≡ true → line ≡ spaced_line (word ∷ arguments)
+    spelled word e = form ∙ ap (λ w. spaced_line (w ∷ arguments)) ((bytes_eq-Decides kind word).0 e)
 
     go : (configures : Bool) → bytes_eq kind (codes "instance") ≡ configures
         → (puts : Bool) → bytes_eq kind (codes "put") ≡ puts
@@ -136,7 +136,7 @@ words_form before after line kind arguments form h =
     go false i false p true c h = inr (inr (inr (call_form before after line arguments (spelled (codes "call") c) h)))
     go false i false p false c h = cc
 
-split_form : (before after : UnaryScriptValue) (line : List ℕ) (words : List (List ℕ)) → line ≡ spaced words → after_unary_words before words ≡ Some after
+split_form : (before after : UnaryScriptValue) (line : List ℕ) (words : List (List ℕ)) → line ≡ spaced_line words → after_unary_words before words ≡ Some after
     → IsGoodUnaryLine before line after
 split_form before after line [] form h = cc
 split_form before after line (kind ∷ arguments) form h = words_form before after line kind arguments form h

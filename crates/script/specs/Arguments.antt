@@ -5,21 +5,21 @@ use Rattle.decimals.specs.Number.{decimal_of}
 -- ---- numbers
 
 -- the number below a limit that a word writes in decimal
-abbrev pub below : ℕ → List ℕ → Option ℕ
-below limit word =
+abbrev pub decimal_below : ℕ → List ℕ → Option ℕ
+decimal_below limit word =
     option_and_then (λ number. if nat_lt number limit then Some number else None) (decimal_of word)
 
 -- the number below 2^32 that a word writes in decimal
 abbrev pub number_of : List ℕ → Option ℕ
-number_of word = below (2 ^ 32) word
+number_of word = decimal_below (2 ^ 32) word
 
 -- the number from -2^31 to 2^31 - 1 that a word writes in decimal, perhaps with a minus (byte 45)
 -- before it
 abbrev pub exit_code_of : List ℕ → Option ℤ
 exit_code_of [] = None
 exit_code_of (byte ∷ word) =
-    if byte == 45 then option_map (λ number. neg_ℤ (pos number)) (below (2 ^ 31 + 1) word)
-    else option_map pos (below (2 ^ 31) (byte ∷ word))
+    if byte == 45 then option_map (λ number. neg_ℤ (pos number)) (decimal_below (2 ^ 31 + 1) word)
+    else option_map pos (decimal_below (2 ^ 31) (byte ∷ word))
 
 -- ---- so many words
 

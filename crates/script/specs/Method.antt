@@ -11,9 +11,9 @@ method_name FindMissingBlobs = codes "FindMissingBlobs"
 method_name BatchUpdateBlobs = codes "BatchUpdateBlobs"
 method_name BatchReadBlobs = codes "BatchReadBlobs"
 
-abbrev pub methods : List Method
-methods = FindMissingBlobs ∷ BatchUpdateBlobs ∷ BatchReadBlobs ∷ []
+abbrev pub script_methods : List Method
+script_methods = FindMissingBlobs ∷ BatchUpdateBlobs ∷ BatchReadBlobs ∷ []
 
 -- the method of that name, or none
 abbrev pub method_named : List ℕ → Option Method
-method_named name = find (λ method. bytes_eq name (method_name method)) methods
+method_named name = find (λ method. bytes_eq name (method_name method)) script_methods

@@ -17,8 +17,8 @@ abbrev pub words_of : List ℕ → List (List ℕ)
 words_of line = parts_of 32 line
 
 -- a line of these words, with one space between each two
-abbrev pub spaced : List (List ℕ) → List ℕ
-spaced words = join_with_byte 32 words
+abbrev pub spaced_line : List (List ℕ) → List ℕ
+spaced_line words = join_with_byte 32 words
 
 -- the parts of what is left of a text, and none once its last part was given
 abbrev pub parts_left : ℕ → Option (Bor (List ℕ)) → List (List ℕ)

@@ -4,7 +4,7 @@ use Rattle.std.specs.Char.{is_ascii}
 use Rattle.std.specs.List.{All, AllPass}
 use Rattle.script.specs.Hexadecimal.{IsBytes, hex_word}
 use Rattle.decimals.specs.Number.{decimal_of}
-use Rattle.script.specs.Parts.{spaced}
+use Rattle.script.specs.Parts.{spaced_line}
 use Rattle.server_events.specs.Configs.{instance_limit}
 use Rattle.server_events.specs.Events.{OutputValue, WhatValue, opened, received, took, closed, tick, ended, failed, exited}
 use Rattle.server_events.specs.Faults.{IsConfig}
@@ -15,7 +15,7 @@ use Rattle.script.specs.ReplayScript.{ReplayScriptValue, config, with_config, wi
 
 -- a line is these words, with one space (byte 32) between each two and none in a word
 pub record IsSpelled (line : List ℕ) (words : List (List ℕ)) : Type 0 where
-  pub form : line ≡ spaced words
+  pub form : line ≡ spaced_line words
   pub apart : All (λ word. All (λ byte. byte ≢ 32) word) words
 
 -- a word is a decimal number below a limit

@@ -3,7 +3,7 @@ use Rattle.std.specs.Prelude.{◌≡◌, ◌≢◌, ℕ, ◌<◌, ◌≤◌, ◌
 use Rattle.std.specs.List.{All, AllPairs}
 use Rattle.script.specs.Hexadecimal.{IsBytes, hex_word}
 use Rattle.decimals.specs.Number.{decimal_of}
-use Rattle.script.specs.Parts.{spaced}
+use Rattle.script.specs.Parts.{spaced_line}
 use Rattle.server_events.specs.Instance.{IsInstanceName, quota_limit}
 use Rattle.script.specs.declared.unary.method.Method.{Method}
 use Rattle.script.specs.Method.{method_name}
@@ -17,7 +17,7 @@ pub record IsUnaryInstanceLine (before : UnaryScriptValue) (line : List ℕ)
   pub name : List ℕ
   pub digits : List ℕ
   pub quota : ℕ
-  pub form : line ≡ spaced (codes "instance" ∷ name ∷ digits ∷ [])
+  pub form : line ≡ spaced_line (codes "instance" ∷ name ∷ digits ∷ [])
   pub number : decimal_of digits ≡ Some quota
   pub first : before.commands ≡ []
   pub good_name : IsInstanceName name
@@ -31,7 +31,7 @@ pub record IsPutLine (before : UnaryScriptValue) (line : List ℕ)
   pub name : List ℕ
   pub place : ℕ
   pub content : List ℕ
-  pub form : line ≡ spaced (codes "put" ∷ name ∷ hex_word content ∷ [])
+  pub form : line ≡ spaced_line (codes "put" ∷ name ∷ hex_word content ∷ [])
   pub bytes : IsBytes content
   pub known : place_of before.instances name ≡ Some place
   pub adds : after ≡ with_command before (put place content)
@@ -44,7 +44,7 @@ pub record IsCallLine (before : UnaryScriptValue) (line : List ℕ)
   pub place : ℕ
   pub method : Method
   pub message : List ℕ
-  pub form : line ≡ spaced (codes "call" ∷ name ∷ method_name method ∷ hex_word message ∷ [])
+  pub form : line ≡ spaced_line (codes "call" ∷ name ∷ method_name method ∷ hex_word message ∷ [])
   pub bytes : IsBytes message
   pub known : place_of before.instances name ≡ Some place
   pub adds : after ≡ with_command before (call place method message)

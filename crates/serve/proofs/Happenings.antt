@@ -11,19 +11,19 @@ use Rattle.server_events.specs.Events.{EventValue, tick}
 use Rattle.run_record.specs.Runs.{Run, run_of, run_step}
 use Rattle.served_instance.specs.Lone.{Lone}
 use Rattle.served_instance.specs.Refusals.{lone_step}
-use Rattle.serve.specs.Happened.{SocketEvent, PortEvent, clock, port, what_of, moment_after, moment_of, told_of, events_from, events_of, lone_of}
+use Rattle.serve.specs.SocketEvents.{SocketEvent, PortEvent, clock, port, what_of, moment_after, moment_of, events_for, events_from, events_of, lone_of}
 use Rattle.serve.specs.Served.{IsFaithful, IsServed}
 
 pub moment_more : (h : List SocketEvent) (s : SocketEvent) → moment_of (h ++ s ∷ []) ≡ moment_after (moment_of h) s
 moment_more h s = fold_push moment_after 0 h s
 
-events_more : (i m : ℕ) (h : List SocketEvent) (s : SocketEvent) → events_from i m (h ++ s ∷ []) ≡ events_from i m h ++ told_of i (fold moment_after m h) s
-events_more i m [] s = append-nil (told_of i m s)
+events_more : (i m : ℕ) (h : List SocketEvent) (s : SocketEvent) → events_from i m (h ++ s ∷ []) ≡ events_from i m h ++ events_for i (fold moment_after m h) s
+events_more i m [] s = append-nil (events_for i m s)
 events_more i m (x ∷ h) s =
-    ap (λ es. told_of i m x ++ es) (events_more i (moment_after m x) h s)
-    ∙ sym (append_assoc (told_of i m x) (events_from i (moment_after m x) h) (told_of i (fold moment_after (moment_after m x) h) s))
+    ap (λ es. events_for i m x ++ es) (events_more i (moment_after m x) h s)
+    ∙ sym (append_assoc (events_for i m x) (events_from i (moment_after m x) h) (events_for i (fold moment_after (moment_after m x) h) s))
 
-run_more : (config : ConfigValue) (i : ℕ) (h : List SocketEvent) (s : SocketEvent) → run_of config (events_of i (h ++ s ∷ [])) ≡ run_of config (events_of i h ++ told_of i (moment_of h) s)
+run_more : (config : ConfigValue) (i : ℕ) (h : List SocketEvent) (s : SocketEvent) → run_of config (events_of i (h ++ s ∷ [])) ≡ run_of config (events_of i h ++ events_for i (moment_of h) s)
 run_more config i h s = ap (run_of config) (events_more i 0 h s)
 
 fold_if : (r : Run) (es : List EventValue) (e : EventValue) (b : Bool) → (fold run_step r (es ++ cond b (e ∷ []) [])).lone ≡ cond b (lone_step e (fold run_step r es).lone) (fold run_step r es).lone

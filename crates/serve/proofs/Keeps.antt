@@ -6,7 +6,7 @@ use Rattle.std.specs.Io.{StartsWith}
 use Rattle.std.proofs.lemmas.Bool.{cases_eq, eq-eqb, ne_eqb, true≢false}
 use Rattle.std.proofs.lemmas.List.{length-take-le}
 use Rattle.std.proofs.lemmas.Option.{none-some, same_Some}
-use Rattle.grpc_sending.specs.Bytes.{pending}
+use Rattle.grpc_sending.specs.Bytes.{pending_bytes}
 use Rattle.conn_core.specs.Past.{Past}
 use Rattle.server_events.specs.Configs.{ConfigValue}
 use Rattle.server_events.specs.Events.{EventValue, took}
@@ -14,9 +14,9 @@ use Rattle.served_instance.specs.Connections.{open_at}
 use Rattle.served_instance.specs.Lone.{Lone}
 use Rattle.served_instance.specs.Refusals.{refusal_of, lone_step}
 use Rattle.served_instance.specs.StandsFor.{ServedState}
-use Rattle.server_core.specs.Lone.{config_at}
+use Rattle.server_core.specs.LoneOutput.{config_at}
 use Rattle.server_core.specs.StandsFor.{StandsAt, instance_at}
-use Rattle.serve.specs.Happened.{SocketEvent, PortEvent, port, what_of, moment_of, lone_of, Adds}
+use Rattle.serve.specs.SocketEvents.{SocketEvent, PortEvent, port, what_of, moment_of, lone_of, Adds}
 use Rattle.serve.specs.Served.{AreNextOn, IsFaithful, IsServed, Stands, IsAt, IsServing, IsAfter, WasServed, Takes}
 use Rattle.serve.proofs.Moments.{step_within, took_taken}
 use Rattle.serve.proofs.Happenings.{moment_more, port_more, served_more}
@@ -94,24 +94,24 @@ at_exit Q (Err e) is configs known vs m was = was
 
 -- ---- what is written, and the number of a connection that is accepted
 
-next_by : (n : ℕ) (bytes : List ℕ) (o : Option Past) → n ≤ length bytes → Some bytes ≡ option_map (λ (p : Past). pending p.diary) o → IsSomeAnd o (λ p. StartsWith (pending p.diary) (take n bytes))
+next_by : (n : ℕ) (bytes : List ℕ) (o : Option Past) → n ≤ length bytes → Some bytes ≡ option_map (λ (p : Past). pending_bytes p.history) o → IsSomeAnd o (λ p. StartsWith (pending_bytes p.history) (take n bytes))
 next_by n bytes None le is = absurd (none-some bytes (sym is))
 next_by n bytes (Some p) le is =
-    let same : bytes ≡ pending p.diary = same_Some bytes (pending p.diary) is in
-    ap (λ (k : ℕ). take k (pending p.diary)) (length-take-le n bytes le) ∙ ap (take n) (sym same)
+    let same : bytes ≡ pending_bytes p.history = same_Some bytes (pending_bytes p.history) is in
+    ap (λ (k : ℕ). take k (pending_bytes p.history)) (length-take-le n bytes le) ∙ ap (take n) (sym same)
 
-none_by : (o : Option Past) → None ≡ option_map (λ (p : Past). pending p.diary) o → o ≡ None
+none_by : (o : Option Past) → None ≡ option_map (λ (p : Past). pending_bytes p.history) o → o ≡ None
 none_by None is = refl
-none_by (Some p) is = absurd (none-some (pending p.diary) is)
+none_by (Some p) is = absurd (none-some (pending_bytes p.history) is)
 
 -- what the server says of a connection's pending bytes
 abbrev pub Pends : ℕ → ℕ → List ServedState → Option (List ℕ) → Type 0
-Pends i c vs answer = (l : Lone) → StandsAt i vs l → answer ≡ option_map (λ (p : Past). pending p.diary) (open_at c l.connections)
+Pends i c vs answer = (l : Lone) → StandsAt i vs l → answer ≡ option_map (λ (p : Past). pending_bytes p.history) (open_at c l.connections)
 
 pub next_written : (configs : List ConfigValue) (known : Option (List SocketEvent)) (vs : List ServedState) (m i c n : ℕ) (bytes : List ℕ) → n ≤ length bytes → Pends i c vs (Some bytes) → Premise configs known vs m (port i (PortEvent.written c (take n bytes)))
 next_written configs known vs m i c n bytes le pends = λ h is at config here.
     let l : Lone = lone_of config i h in
-    let waits : Some bytes ≡ option_map (λ (p : Past). pending p.diary) (open_at c l.connections) = pends l (at.stands i config here) in
+    let waits : Some bytes ≡ option_map (λ (p : Past). pending_bytes p.history) (open_at c l.connections) = pends l (at.stands i config here) in
     let counted : refusal_of (record { moment = moment_of h; instance = i; what = took c (length (take n bytes)) }) l ≡ None =
     ap (λ (k : ℕ). refusal_of (record { moment = moment_of h; instance = i; what = took c k }) l) (length-take-le n bytes le)
     ∙ took_taken (moment_of h) i c n bytes l (at.times i config) le waits in

@@ -8,9 +8,9 @@ use Rattle.server_events.specs.Configs.{ConfigValue}
 use Rattle.server_events.specs.Events.{EventValue, tick}
 use Rattle.served_instance.specs.Lone.{Lone}
 use Rattle.served_instance.specs.StandsFor.{ServedState}
-use Rattle.server_core.specs.Lone.{config_at}
+use Rattle.server_core.specs.LoneOutput.{config_at}
 use Rattle.server_core.specs.StandsFor.{StandsAt}
-use Rattle.serve.specs.Happened.{SocketEvent, clock, moment_of, lone_of, Adds}
+use Rattle.serve.specs.SocketEvents.{SocketEvent, clock, moment_of, lone_of, Adds}
 use Rattle.serve.specs.Served.{IsServed, IsAt, IsServing, WasServed, Takes}
 use Rattle.served_instance.specs.Refusals.{lone_step}
 use Rattle.serve.proofs.Moments.{step_within}

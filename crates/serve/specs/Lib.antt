@@ -1,2 +1,2 @@
-pub mod Happened
+pub mod SocketEvents
 pub mod Served

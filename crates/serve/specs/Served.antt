@@ -2,41 +2,51 @@
 use Rattle.std.specs.Prelude.{◌≡◌, ◌≢◌, ◌≤◌, ℕ, List, [], length, take, Option, Some, None, Result, Ok, Err, IsSomeAnd, IfSome, false}
 use Rattle.std.specs.List.{slice_get}
 use Rattle.std.specs.Io.{StartsWith}
-use Rattle.grpc_sending.specs.Bytes.{pending}
+use Rattle.grpc_sending.specs.Bytes.{pending_bytes}
 use Rattle.server_events.specs.Configs.{ConfigValue}
 use Rattle.server_events.specs.Events.{EventValue, took}
 use Rattle.served_instance.specs.Connections.{open_at}
 use Rattle.served_instance.specs.Lone.{Lone}
 use Rattle.served_instance.specs.Refusals.{refusal_of, lone_step}
 use Rattle.served_instance.specs.StandsFor.{ServedState}
-use Rattle.server_core.specs.Lone.{config_at}
+use Rattle.server_core.specs.LoneOutput.{config_at}
 use Rattle.server_core.specs.StandsFor.{StandsAt, instance_at}
-use Rattle.serve.specs.Happened.{SocketEvent, PortEvent, clock, port, accepted, read, written, shut, moment_of, lone_of}
+use Rattle.serve.specs.SocketEvents.{SocketEvent, PortEvent, clock, port, accepted, read, written, shut, moment_of, lone_of}
 
 -- the connection is open, and these are the first of the bytes that wait on it
 abbrev pub AreNextOn : ℕ → Lone → List ℕ → Type 0
-AreNextOn c l bytes = IsSomeAnd (open_at c l.connections) (λ p. StartsWith (pending p.diary) bytes)
+AreNextOn c l bytes =
+    IsSomeAnd (open_at c l.connections) (λ p. StartsWith (pending_bytes p.history) bytes)
 
 -- these are the next bytes of a connection, and the instance counts them as taken
 abbrev pub IsWritten : ℕ → ℕ → ℕ → List ℕ → Lone → Type 0
-IsWritten m i c bytes l = AreNextOn c l bytes × (refusal_of (record { moment = m; instance = i; what = took c (length bytes) }) l ≡ None)
+IsWritten m i c bytes l =
+    AreNextOn c l bytes ×
+    (refusal_of (record { moment = m; instance = i; what = took c (length bytes) }) l ≡ None)
 
 -- a connection is accepted under a number that no open one has, and what is written to one is what
 -- its instance alone has waiting on it by then, and counts as taken
 abbrev pub IsFaithful : List ConfigValue → List SocketEvent → SocketEvent → Type 0
-IsFaithful configs before (port i (written c bytes)) = (config : ConfigValue) → config_at i configs ≡ Some config → IsWritten (moment_of before) i c bytes (lone_of config i before)
-IsFaithful configs before (port i (accepted c)) = (config : ConfigValue) → config_at i configs ≡ Some config → open_at c (lone_of config i before).connections ≡ None
+IsFaithful configs before (port i (written c bytes)) =
+    (config : ConfigValue) → config_at i configs ≡ Some config →
+    IsWritten (moment_of before) i c bytes (lone_of config i before)
+IsFaithful configs before (port i (accepted c)) =
+    (config : ConfigValue) → config_at i configs ≡ Some config →
+    open_at c (lone_of config i before).connections ≡ None
 IsFaithful configs before s = Unit {0}
 
 -- each of all that happened is so, by what was before it
 abbrev pub IsServed : List ConfigValue → List SocketEvent → Type 0
-IsServed configs h = (k : ℕ) (s : SocketEvent) → slice_get h k ≡ Some s → IsFaithful configs (take k h) s
+IsServed configs h =
+    (k : ℕ) (s : SocketEvent) → slice_get h k ≡ Some s → IsFaithful configs (take k h) s
 
 -- ---- while it serves
 
 -- each instance of the server stands for what it comes to by itself
 abbrev pub Stands : List ConfigValue → List SocketEvent → List ServedState → Type 0
-Stands configs h vs = (i : ℕ) (config : ConfigValue) → config_at i configs ≡ Some config → StandsAt i vs (lone_of config i h)
+Stands configs h vs =
+    (i : ℕ) (config : ConfigValue) → config_at i configs ≡ Some config →
+    StandsAt i vs (lone_of config i h)
 
 pub record IsAt (configs : List ConfigValue) (h : List SocketEvent) (vs : List ServedState) (m : ℕ) : Type 0 where
   pub stands : Stands configs h vs
@@ -53,7 +63,8 @@ abbrev pub WasServed : List ConfigValue → Option (List SocketEvent) → Type 0
 WasServed configs happened = IfSome happened (IsServed configs)
 
 -- it goes on, or memory ran out
-abbrev pub IsAfter : {A E : Type 0} → Result A E → List ConfigValue → Option (List SocketEvent) → List ServedState → ℕ → Type 0
+abbrev pub IsAfter : {A E : Type 0} → Result A E → List ConfigValue → Option (List SocketEvent) →
+    List ServedState → ℕ → Type 0
 IsAfter (Ok x) configs happened vs m = IsServing configs happened vs m
 IsAfter (Err e) configs happened vs m = WasServed configs happened
 

@@ -19,7 +19,7 @@ pub struct Socket {
 /// No call waits but `rest`: where one cannot be carried out now, it answers an error for which
 /// [`is_not_ready`] holds.
 pub trait Sockets {
-    ghost use Rattle.serve.specs.Happened.{SocketEvent, clock, accepted_by, read_by, written_by, shut_by, moment_of, Adds};
+    ghost use Rattle.serve.specs.SocketEvents.{SocketEvent, clock, accept_events, read_events, write_events, shutdown_events, moment_of, Adds};
 
     // All that happened at the sockets, in order, where it is known.
     ghost happened: { Self → Option (List SocketEvent) } = { λ _. None };
@@ -31,23 +31,23 @@ pub trait Sockets {
 
     /// Gives the next connection that waits at the instance's port this number.
     fn accept(&mut self, socket: Socket) -> io::Result<()>
-        ensures adds { Adds (happened self.old) (happened self.new) (accepted_by socket result) };
+        ensures adds { Adds (happened self.old) (happened self.new) (accept_events socket result) };
 
     /// Takes bytes that came, and says how many. With none the client sends no more.
     fn read(&mut self, socket: Socket, room: &mut [u8]) -> io::Result<usize>
         ensures bound { ReadsAtMost result room.new }
         ensures adds { Adds (happened self.old) (happened self.new)
-            (read_by socket result room.new) };
+            (read_events socket result room.new) };
 
     /// Sends the first of these bytes, and says how many.
     fn write(&mut self, socket: Socket, bytes: &[u8]) -> io::Result<usize>
         ensures bound { WritesAtMost result bytes.now }
         ensures adds { Adds (happened self.old) (happened self.new)
-            (written_by socket result bytes.now) };
+            (write_events socket result bytes.now) };
 
     /// Closes a connection: no more is sent on it. A fault is passed over.
     fn close(&mut self, socket: Socket)
-        ensures adds { Adds (happened self.old) (happened self.new) (shut_by socket) };
+        ensures adds { Adds (happened self.old) (happened self.new) (shutdown_events socket) };
 
     /// How many calls failed, other than because nothing was ready.
     fn faults(&self) -> u64;

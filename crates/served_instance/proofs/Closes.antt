@@ -2,8 +2,8 @@
 use Rattle.std.proofs.Common.{◌≡◌, refl, sym, ap, ◌∙◌, subst, zero, suc, arith, get_or, take, drop, ◌≤◌, ◌+◌, length, add-one}
 use Rattle.std.proofs.Math.ListN.{drop_of_length-le}
 use Rattle.std.proofs.lemmas.List.{take_all}
-use Rattle.grpc_sending.proofs.Diaries.{append-nil}
-use Rattle.grpc_sending.specs.Kept.{Look}
+use Rattle.grpc_sending.proofs.Histories.{append-nil}
+use Rattle.grpc_sending.specs.StoredSending.{Look}
 use Rattle.std.specs.Prelude.{ℕ, ◌==◌, if◌then◌else◌, Bool, true, false, List, [], ◌∷◌, ◌++◌, map, Option, Some, None, position, nat_lt, Result, Ok, Err, OnOk}
 use Rattle.std.specs.Option.{option_map_or}
 use Rattle.std.proofs.lemmas.List.Elements.{filter-append}
@@ -15,16 +15,16 @@ use Rattle.conn_core.specs.StandsFor.{Present, StandsFor as IsConnection, live_c
 use Rattle.instance_core.specs.declared.event.CallId.{CallId}
 use Rattle.instance_core.specs.Calls.{cancel, tick as time_passes}
 use Rattle.instance_core.specs.State.{InstanceState}
-use Rattle.instance_core.specs.Answer.{after}
+use Rattle.instance_core.specs.Answer.{state_after}
 use Rattle.served_instance.specs.declared.open_connection.OpenConnection.{OpenConnection}
-use Rattle.served_instance.specs.Connections.{LoneConnection, is_open, open_ones, open_at, closed_at}
+use Rattle.served_instance.specs.Connections.{LoneConnection, is_open, open_ones, open_at, with_closed}
 use Rattle.served_instance.specs.Calls.{call_event_on}
-use Rattle.served_instance.specs.Lone.{Lone, happened, all_happened, was_opened, was_closed}
+use Rattle.served_instance.specs.Lone.{Lone, after_call_event, after_call_events, after_opening, after_closing}
 use Rattle.served_instance.specs.Present.{is_numbered, CanTake, unless_more}
 use Rattle.std.proofs.lemmas.Bool.{cond-false, cond-true, ltb-false}
 use Rattle.served_instance.specs.declared.refusal.EventRefusal.TheVariants.{NoSuchConnection, TookTooMuch}
-use Rattle.served_instance.specs.StandsFor.{Served, AreServed}
-use Rattle.served_instance.specs.Shown.{served}
+use Rattle.served_instance.specs.StandsFor.{ServedConnection, AreServed}
+use Rattle.served_instance.specs.Shown.{connection_shown}
 use Rattle.served_instance.specs.Acts.{Acts, ActsBy, LeadsOn, StandsBy, cancels_of}
 use Rattle.served_instance.proofs.Opens.{first_past, without_at, open_at_is, closed_at_is}
 use Rattle.served_instance.proofs.Places.{IsPlace, is_place, place_some, place_none}
@@ -34,23 +34,23 @@ use Rattle.conn_core.proofs.Left.{left_calls, left_cancels}
 
 -- ---- one comes
 
-served_push : (texts : Look) (vs : List Served) (ls : List LoneConnection) (v : Served) (l : LoneConnection) → AreServed texts vs ls → v.number ≡ l.number → IsConnection texts v.connection l.past → AreServed texts (vs ++ v ∷ []) (ls ++ l ∷ [])
+served_push : (texts : Look) (vs : List ServedConnection) (ls : List LoneConnection) (v : ServedConnection) (l : LoneConnection) → AreServed texts vs ls → v.number ≡ l.number → IsConnection texts v.connection l.past → AreServed texts (vs ++ v ∷ []) (ls ++ l ∷ [])
 served_push texts [] [] v l s e h = (e, h, tt)
 served_push texts [] (k ∷ ls) v l s e h = absurd s
 served_push texts (x ∷ vs) [] v l s e h = absurd s
 served_push texts (x ∷ vs) (k ∷ ls) v l s e h = (s.0, s.1, served_push texts vs ls v l s.2 e h)
 
-map_push : (os : List OpenConnection) (o : OpenConnection) → map served (os ++ o ∷ []) ≡ map served os ++ served o ∷ []
+map_push : (os : List OpenConnection) (o : OpenConnection) → map connection_shown (os ++ o ∷ []) ≡ map connection_shown os ++ connection_shown o ∷ []
 map_push [] o = refl
-map_push (x ∷ os) o = ap (λ (vs : List Served). served x ∷ vs) (map_push os o)
+map_push (x ∷ os) o = ap (λ (vs : List ServedConnection). connection_shown x ∷ vs) (map_push os o)
 
-pub opens : (c : ℕ) (v : Present) (s : InstanceState) (os : List OpenConnection) → ((texts : Look) → IsConnection texts v opening) → Acts s os s (os ++ record { number = c; connection = v } ∷ []) (was_opened c)
+pub opens : (c : ℕ) (v : Present) (s : InstanceState) (os : List OpenConnection) → ((texts : Look) → IsConnection texts v opening) → Acts s os s (os ++ record { number = c; connection = v } ∷ []) (after_opening c)
 opens c v s os h = λ texts l st.
     let o : OpenConnection = record { number = c; connection = v } in
     let k : LoneConnection = record { number = c; past = opening; is_open = true } in
-    let pushed = served_push texts (map served os) (open_ones l.connections) (served o) k st.connections refl (h texts) in
-    let P : List Served → Type 0 = λ vs. AreServed texts vs (open_ones l.connections ++ k ∷ []) in
-    let Q : List LoneConnection → Type 0 = λ ls. AreServed texts (map served (os ++ o ∷ [])) ls in
+    let pushed = served_push texts (map connection_shown os) (open_ones l.connections) (connection_shown o) k st.connections refl (h texts) in
+    let P : List ServedConnection → Type 0 = λ vs. AreServed texts vs (open_ones l.connections ++ k ∷ []) in
+    let Q : List LoneConnection → Type 0 = λ ls. AreServed texts (map connection_shown (os ++ o ∷ [])) ls in
     record {
       state = st.state;
       connections = subst Q (sym (filter-append is_open l.connections (k ∷ []))) (subst P (sym (map_push os o)) pushed);
@@ -58,29 +58,29 @@ opens c v s os h = λ texts l st.
 
 -- ---- one goes
 
-removed_serves : (texts : Look) (c : ℕ) (os : List OpenConnection) (ls : List LoneConnection) (k : ℕ) → IsPlace c os k → AreServed texts (map served os) ls → AreServed texts (map served (take k os ++ drop (suc k) os)) (without_at c ls)
+removed_serves : (texts : Look) (c : ℕ) (os : List OpenConnection) (ls : List LoneConnection) (k : ℕ) → IsPlace c os k → AreServed texts (map connection_shown os) ls → AreServed texts (map connection_shown (take k os ++ drop (suc k) os)) (without_at c ls)
 removed_serves texts c [] ls k h s = absurd h
 removed_serves texts c (o ∷ os) [] k h s = absurd s
 removed_serves texts c (o ∷ os) (l ∷ ls) zero h s =
     let here : (l.number == c) ≡ true = ap (λ (n : ℕ). n == c) (sym s.0) ∙ h in
-    subst (λ (xs : List LoneConnection). AreServed texts (map served os) xs) (sym (cond-true (l.number == c) ls (l ∷ without_at c ls) here)) s.2
+    subst (λ (xs : List LoneConnection). AreServed texts (map connection_shown os) xs) (sym (cond-true (l.number == c) ls (l ∷ without_at c ls) here)) s.2
 removed_serves texts c (o ∷ os) (l ∷ ls) (suc k) h s =
     let there : (l.number == c) ≡ false = ap (λ (n : ℕ). n == c) (sym s.0) ∙ h.0 in
-    subst (λ (xs : List LoneConnection). AreServed texts (map served (o ∷ (take k os ++ drop (suc k) os))) xs) (sym (cond-false (l.number == c) ls (l ∷ without_at c ls) there)) (s.0, s.1, removed_serves texts c os ls k h.1 s.2)
+    subst (λ (xs : List LoneConnection). AreServed texts (map connection_shown (o ∷ (take k os ++ drop (suc k) os))) xs) (sym (cond-false (l.number == c) ls (l ∷ without_at c ls) there)) (s.0, s.1, removed_serves texts c os ls k h.1 s.2)
 
-pub closes : (c : ℕ) (s t : InstanceState) (os ns : List OpenConnection) (k : ℕ) (d : OpenConnection) → position (is_numbered c) os ≡ Some k → Acts s (take k os ++ drop (suc k) os) t ns (all_happened c (cancels_of (get_or os k d).connection)) → Acts s os t ns (was_closed c)
+pub closes : (c : ℕ) (s t : InstanceState) (os ns : List OpenConnection) (k : ℕ) (d : OpenConnection) → position (is_numbered c) os ≡ Some k → Acts s (take k os ++ drop (suc k) os) t ns (after_call_events c (cancels_of (get_or os k d).connection)) → Acts s os t ns (after_closing c)
 closes c s t os ns k d h act = λ texts l st.
     let v = (get_or os k d).connection in
     let past = open_past texts c os l.connections v (sym (place_some c os k d h)) st.connections in
-    let left : Lone = record l { connections = closed_at c l.connections } in
+    let left : Lone = record l { connections = with_closed c l.connections } in
     let gone : StandsBy texts s (take k os ++ drop (suc k) os) left = record {
       state = st.state;
-      connections = subst (λ (xs : List LoneConnection). AreServed texts (map served (take k os ++ drop (suc k) os)) xs) (sym (closed_at_is c l.connections)) (removed_serves texts c os (open_ones l.connections) k (is_place c os k h) st.connections);
+      connections = subst (λ (xs : List LoneConnection). AreServed texts (map connection_shown (take k os ++ drop (suc k) os)) xs) (sym (closed_at_is c l.connections)) (removed_serves texts c os (open_ones l.connections) k (is_place c os k h) st.connections);
     } in
-    let same : cancels_of v ≡ option_map_or (λ (p : Past). cancels p.diary) (open_at c l.connections) [] =
-    ap (map Cancel) (left_calls texts v past.0 past.2) ∙ sym (left_cancels past.0.diary)
-    ∙ sym (ap (λ (o : Option Past). option_map_or (λ (p : Past). cancels p.diary) o []) past.1) in
-    subst (λ (es : List CallEvent). StandsBy texts t ns (all_happened c es left)) same (act texts left gone)
+    let same : cancels_of v ≡ option_map_or (λ (p : Past). cancels p.history) (open_at c l.connections) [] =
+    ap (map Cancel) (left_calls texts v past.0 past.2) ∙ sym (left_cancels past.0.history)
+    ∙ sym (ap (λ (o : Option Past). option_map_or (λ (p : Past). cancels p.history) o []) past.1) in
+    subst (λ (es : List CallEvent). StandsBy texts t ns (after_call_events c es left)) same (act texts left gone)
 
 without_by : (c : ℕ) (l : LoneConnection) (ls : List LoneConnection) (n : Bool) → (if n then Some l.past else first_past c ls) ≡ None → (first_past c ls ≡ None → without_at c ls ≡ ls) → (if n then ls else l ∷ without_at c ls) ≡ l ∷ ls
 without_by c l ls true h r = cc
@@ -90,30 +90,30 @@ without_none : (c : ℕ) (ls : List LoneConnection) → first_past c ls ≡ None
 without_none c [] h = refl
 without_none c (l ∷ ls) h = without_by c l ls (l.number == c) h (without_none c ls)
 
-pub closes_none : (c : ℕ) (s : InstanceState) (os : List OpenConnection) → position (is_numbered c) os ≡ None → Acts s os s os (was_closed c)
+pub closes_none : (c : ℕ) (s : InstanceState) (os : List OpenConnection) → position (is_numbered c) os ≡ None → Acts s os s os (after_closing c)
 closes_none c s os h = λ texts l st.
     let none = no_past texts c os l.connections (sym (place_none c os h)) st.connections in
-    let left : Lone = record l { connections = closed_at c l.connections } in
-    let same : open_ones (closed_at c l.connections) ≡ open_ones l.connections = closed_at_is c l.connections ∙ without_none c (open_ones l.connections) (sym (open_at_is c l.connections) ∙ none) in
+    let left : Lone = record l { connections = with_closed c l.connections } in
+    let same : open_ones (with_closed c l.connections) ≡ open_ones l.connections = closed_at_is c l.connections ∙ without_none c (open_ones l.connections) (sym (open_at_is c l.connections) ∙ none) in
     let gone : StandsBy texts s os left = record {
       state = st.state;
-      connections = subst (λ (xs : List LoneConnection). AreServed texts (map served os) xs) (sym same) st.connections;
+      connections = subst (λ (xs : List LoneConnection). AreServed texts (map connection_shown os) xs) (sym same) st.connections;
     } in
-    subst (λ (o : Option Past). StandsBy texts s os (all_happened c (option_map_or (λ (p : Past). cancels p.diary) o []) left)) (sym none) gone
+    subst (λ (o : Option Past). StandsBy texts s os (after_call_events c (option_map_or (λ (p : Past). cancels p.history) o []) left)) (sym none) gone
 
 -- ---- its calls
 
 -- a call is given up, which owes nothing to any connection
-pub cancel_acts : (s t : InstanceState) (id : CallId) (os : List OpenConnection) → t ≡ after s (cancel id) → Acts s os t os (happened (cancel id))
+pub cancel_acts : (s t : InstanceState) (id : CallId) (os : List OpenConnection) → t ≡ state_after s (cancel id) → Acts s os t os (after_call_event (cancel id))
 cancel_acts s t id os e = λ texts l st. record {
-  state = e ∙ ap (λ (x : InstanceState). after x (cancel id)) st.state;
+  state = e ∙ ap (λ (x : InstanceState). state_after x (cancel id)) st.state;
   connections = st.connections;
 }
 
 -- time passes, which owes nothing either
-pub tick_acts : (s t : InstanceState) (os : List OpenConnection) → t ≡ after s time_passes → Acts s os t os (happened time_passes)
+pub tick_acts : (s t : InstanceState) (os : List OpenConnection) → t ≡ state_after s time_passes → Acts s os t os (after_call_event time_passes)
 tick_acts s t os e = λ texts l st. record {
-  state = e ∙ ap (λ (x : InstanceState). after x time_passes) st.state;
+  state = e ∙ ap (λ (x : InstanceState). state_after x time_passes) st.state;
   connections = st.connections;
 }
 
@@ -121,21 +121,21 @@ first_of : (xs ys : List ℕ) (x : ℕ) → x ∷ [] ≡ take 1 xs → ys ≡ dr
 first_of [] ys x h e = cc
 first_of (y ∷ xs) ys x h e = cc
 
-pub cancel_leads : (c stream : ℕ) (s0 s t : InstanceState) (os0 os ns : List OpenConnection) (v w : Present) (before : Lone → Lone) → LeadsOn s0 os0 s os before (all_happened c (cancels_of v)) →
-    stream ∷ [] ≡ take 1 (live_calls v) → live_calls w ≡ drop 1 (live_calls v) → Acts s os t ns (happened (call_event_on c (Cancel stream))) → LeadsOn s0 os0 t ns before (all_happened c (cancels_of w))
+pub cancel_leads : (c stream : ℕ) (s0 s t : InstanceState) (os0 os ns : List OpenConnection) (v w : Present) (before : Lone → Lone) → LeadsOn s0 os0 s os before (after_call_events c (cancels_of v)) →
+    stream ∷ [] ≡ take 1 (live_calls v) → live_calls w ≡ drop 1 (live_calls v) → Acts s os t ns (after_call_event (call_event_on c (Cancel stream))) → LeadsOn s0 os0 t ns before (after_call_events c (cancels_of w))
 cancel_leads c stream s0 s t os0 os ns v w before h first rest act = λ texts l st.
     let a = h texts l st in
     let calls = first_of (live_calls v) (live_calls w) stream first rest in
-    (happened (call_event_on c (Cancel stream)) a.0, act texts a.0 a.1, sym (ap (λ (xs : List ℕ). all_happened c (map Cancel xs) a.0) calls) ∙ a.2)
+    (after_call_event (call_event_on c (Cancel stream)) a.0, act texts a.0 a.1, sym (ap (λ (xs : List ℕ). after_call_events c (map Cancel xs) a.0) calls) ∙ a.2)
 
 none_of : (xs : List ℕ) → [] ≡ take 1 xs → xs ≡ []
 none_of [] h = refl
 none_of (x ∷ xs) h = cc
 
-pub cancel_done : (c : ℕ) (s0 s : InstanceState) (os0 os : List OpenConnection) (v : Present) (before : Lone → Lone) → LeadsOn s0 os0 s os before (all_happened c (cancels_of v)) → [] ≡ take 1 (live_calls v) → Acts s0 os0 s os before
+pub cancel_done : (c : ℕ) (s0 s : InstanceState) (os0 os : List OpenConnection) (v : Present) (before : Lone → Lone) → LeadsOn s0 os0 s os before (after_call_events c (cancels_of v)) → [] ≡ take 1 (live_calls v) → Acts s0 os0 s os before
 cancel_done c s0 s os0 os v before h none =
-    leads_acts s0 s s os0 os os before (all_happened c (cancels_of v)) h
-    (λ texts l st. subst (λ (xs : List ℕ). StandsBy texts s os (all_happened c (map Cancel xs) l)) (sym (none_of (live_calls v) none)) st)
+    leads_acts s0 s s os0 os os before (after_call_events c (cancels_of v)) h
+    (λ texts l st. subst (λ (xs : List ℕ). StandsBy texts s os (after_call_events c (map Cancel xs) l)) (sym (none_of (live_calls v) none)) st)
 
 -- ---- what an event asks for
 
@@ -162,12 +162,12 @@ acts_between (Ok x) texts others s t os xs ns zs f g a b e h =
 acts_between (Err x) texts others s t os xs ns zs f g a b e h = tt
 
 pub closes_by : (c : ℕ) (s t : InstanceState) (os xs : List OpenConnection) (k : ℕ) (o : OpenConnection) → position (is_numbered c) os ≡ Some k → o ≡ get_or os k o → xs ≡ take k os ++ drop (k + 1) os →
-    Acts s xs t xs (all_happened c (cancels_of o.connection)) → Acts s os t xs (was_closed c)
+    Acts s xs t xs (after_call_events c (cancels_of o.connection)) → Acts s os t xs (after_closing c)
 closes_by c s t os xs k o h here e act =
     let left : xs ≡ take k os ++ drop (suc k) os = e ∙ ap (λ (n : ℕ). take k os ++ drop n os) (add-one k) in
-    let given : Acts s (take k os ++ drop (suc k) os) t xs (all_happened c (cancels_of (get_or os k o).connection)) =
-    subst (λ (y : OpenConnection). Acts s (take k os ++ drop (suc k) os) t xs (all_happened c (cancels_of y.connection))) here
-    (subst (λ (ys : List OpenConnection). Acts s ys t xs (all_happened c (cancels_of o.connection))) left act) in
+    let given : Acts s (take k os ++ drop (suc k) os) t xs (after_call_events c (cancels_of (get_or os k o).connection)) =
+    subst (λ (y : OpenConnection). Acts s (take k os ++ drop (suc k) os) t xs (after_call_events c (cancels_of y.connection))) here
+    (subst (λ (ys : List OpenConnection). Acts s ys t xs (after_call_events c (cancels_of o.connection))) left act) in
     closes c s t os xs k o h given
 
 pub at_state : {T E : Type 0} (r : Result T E) (texts : Look) (s : InstanceState) (os ns : List OpenConnection) (f : Lone → Lone) → OnOk r ((t : InstanceState) → Acts t os t ns f) → OnOk r (ActsBy texts s os texts s ns f)

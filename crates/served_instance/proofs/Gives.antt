@@ -2,7 +2,7 @@
 use Rattle.std.proofs.Common.{◌≡◌, refl, sym, ap, ◌∙◌, subst, arith, ◌<◌, ◌≤◌, ◌-◌, get_or, take, drop}
 use Rattle.std.specs.Prelude.{ℕ, List, [], ◌∷◌, length, map, Result, Ok, Err, OnOk}
 use Rattle.std.proofs.lemmas.List.{take_all}
-use Rattle.grpc_sending.specs.Kept.{Look}
+use Rattle.grpc_sending.specs.StoredSending.{Look}
 use Rattle.conn_core.specs.Past.{Past, with_item}
 use Rattle.conn_core.specs.StandsFor.{Present, Becomes, OwesRange}
 use Rattle.instance_core.specs.declared.event.GivenRange.{GivenRange}
@@ -13,9 +13,9 @@ use Rattle.served_instance.specs.declared.open_connection.OpenConnection.{OpenCo
 use Rattle.served_instance.specs.Connections.{open_ones, at_open}
 use Rattle.served_instance.specs.Calls.{item_of}
 use Rattle.served_instance.specs.Given.{item_by, reply_by, with_owed}
-use Rattle.served_instance.specs.Lone.{Lone, replied}
+use Rattle.served_instance.specs.Lone.{Lone, after_replies}
 use Rattle.served_instance.specs.StandsFor.{AreServed}
-use Rattle.served_instance.specs.Shown.{served}
+use Rattle.served_instance.specs.Shown.{connection_shown}
 use Rattle.served_instance.specs.Acts.{Changed, SendsMore, Owes, Keeps, without_sending}
 use Rattle.served_instance.proofs.Changes.{changed_serves, changed_keeps}
 
@@ -58,7 +58,7 @@ owes_range (Err e) s range v w h rest = tt
 
 -- these replies are given
 abbrev pub AreGiven : List Reply → List OpenConnection → List OpenConnection → Type 0
-AreGiven rs os ns = (texts : Look) (l : Lone) → AreServed texts (map served os) (open_ones l.connections) → AreServed texts (map served ns) (open_ones (replied (map (reply_by texts) rs) l).connections)
+AreGiven rs os ns = (texts : Look) (l : Lone) → AreServed texts (map connection_shown os) (open_ones l.connections) → AreServed texts (map connection_shown ns) (open_ones (after_replies (map (reply_by texts) rs) l).connections)
 
 -- a reply, and then those behind it
 pub give_more : (rs : List Reply) (d : Reply) (os ns xs : List OpenConnection) → 1 ≤ length rs → Changed (get_or rs 0 d).call.connection os ns (Owes (with_owed (get_or rs 0 d).call.stream (get_or rs 0 d).items.items)) →

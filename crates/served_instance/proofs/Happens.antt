@@ -3,13 +3,13 @@ use Rattle.std.proofs.Common.{◌≡◌, refl, sym, ap, ◌∙◌, subst, ◌+�
 use Rattle.std.specs.Prelude.{ℕ, List, [], ◌∷◌, length, map, Result, Ok, Err, OnOk}
 use Rattle.std.specs.List.{AllByRecursion}
 use Rattle.std.proofs.lemmas.List.{length-map}
-use Rattle.blob_pool.specs.Held.{Slots, text_at, count_at}
+use Rattle.blob_pool.specs.Slots.{Slots, text_at, count_at}
 use Rattle.blob_pool.specs.Moves.{Holders, Moves}
-use Rattle.grpc_sending.specs.Kept.{Look, AgreeOn}
+use Rattle.grpc_sending.specs.StoredSending.{Look, AgreeOn}
 use Rattle.instance_core.specs.declared.event.Reply.{Reply}
 use Rattle.instance_core.specs.declared.event.ReplyItem.{ReplyItem}
 use Rattle.instance_core.specs.declared.event.ReplyItem.TheVariants.{Begins, Says, Gives, Ends, Refuses}
-use Rattle.instance_core.specs.Answer.{answer, after}
+use Rattle.instance_core.specs.Answer.{answer, state_after}
 use Rattle.instance_core.specs.Calls.{CallEventValue}
 use Rattle.instance_core.specs.Given.{replies_holders}
 use Rattle.instance_core.specs.Replies.{ReplyItemValue, ReplyValue, IsShortItem, IsShortReply}
@@ -21,11 +21,11 @@ use Rattle.instance_view.proofs.Held.{shown_same}
 use Rattle.served_instance.specs.declared.open_connection.OpenConnection.{OpenConnection}
 use Rattle.served_instance.specs.Connections.{LoneConnection, open_ones}
 use Rattle.served_instance.specs.Given.{item_by, reply_by, CanBeOwed, ReplyCanBeOwed, ItemsEndWithin, RepliesEndWithin, TakeRanges}
-use Rattle.served_instance.specs.Lone.{Lone, replied, happened}
+use Rattle.served_instance.specs.Lone.{Lone, after_replies, after_call_event}
 use Rattle.served_instance.specs.Ranges.{served_with, sources_at, range_holders}
-use Rattle.served_instance.specs.Shown.{served}
+use Rattle.served_instance.specs.Shown.{connection_shown}
 use Rattle.served_instance.specs.Slots.{holders_of, IsKept}
-use Rattle.served_instance.specs.StandsFor.{Served, AreServed}
+use Rattle.served_instance.specs.StandsFor.{ServedConnection, AreServed}
 use Rattle.served_instance.specs.Acts.{ActsIn, StandsBy, slots_of}
 use Rattle.served_instance.proofs.Commutes.{given, replied_is}
 use Rattle.served_instance.proofs.Frames.{happened_is}
@@ -79,26 +79,26 @@ replies_end q (r ∷ rs) h = (items_end q r.items.items h.0, replies_end q rs h.
 -- ---- what is held
 
 -- the instance did something in a pool, and gives what is held so often; connections took that, or it was released
-pub record IsAnswered (given : Holders) (IsGood : Look → Type 0) (p q r : Slots) (i j : InstanceSlots) (vs ws : List Served) : Type 0 where
+pub record IsAnswered (given : Holders) (IsGood : Look → Type 0) (p q r : Slots) (i j : InstanceSlots) (vs ws : List ServedConnection) : Type 0 where
   pub kept : IsKept p (slots_at i vs)
   pub moves : Moves p q (holders_of_instance i) (λ k. holders_of_instance j k + given k)
   pub takes : TakeRanges given IsGood q vs r ws
   pub within : WithinLimits (state_in q j)
   pub good : IsGood (text_at q)
 
-pub given_counted : (given : Holders) (p q : Slots) (i j : InstanceSlots) (vs : List Served) → IsKept p (slots_at i vs) → Moves p q (holders_of_instance i) (λ k. holders_of_instance j k + given k) →
+pub given_counted : (given : Holders) (p q : Slots) (i j : InstanceSlots) (vs : List ServedConnection) → IsKept p (slots_at i vs) → Moves p q (holders_of_instance i) (λ k. holders_of_instance j k + given k) →
     (k : ℕ) → holders_of_instance j k + range_holders vs k + given k ≤ count_at q k
 given_counted given p q i j vs kept m k = omega (arith, m.counts k, kept.counted k)
 
-asked_finds : (given : Holders) (p q : Slots) (i j : InstanceSlots) (vs : List Served) → IsKept p (slots_at i vs) → Moves p q (holders_of_instance i) (λ k. holders_of_instance j k + given k) → AgreeOn (sources_at vs) (text_at p) (text_at q)
+asked_finds : (given : Holders) (p q : Slots) (i j : InstanceSlots) (vs : List ServedConnection) → IsKept p (slots_at i vs) → Moves p q (holders_of_instance i) (λ k. holders_of_instance j k + given k) → AgreeOn (sources_at vs) (text_at p) (text_at q)
 asked_finds given p q i j vs kept m k some = sym (m.texts k (omega (arith, some, kept.counted k)))
 
-taken_finds : (given : Holders) (IsGood : Look → Type 0) (p q r : Slots) (i j : InstanceSlots) (vs ws : List Served) → IsAnswered given IsGood p q r i j vs ws → AgreeOn (sources_at ws) (text_at q) (text_at r)
+taken_finds : (given : Holders) (IsGood : Look → Type 0) (p q r : Slots) (i j : InstanceSlots) (vs ws : List ServedConnection) → IsAnswered given IsGood p q r i j vs ws → AgreeOn (sources_at ws) (text_at q) (text_at r)
 taken_finds given IsGood p q r i j vs ws a k some =
     let held = given_counted given p q i j vs a.kept a.moves k in
     sym (a.takes.moves.texts k (omega (arith, some, held, a.takes.sources k)))
 
-pub answered_moves : (given : Holders) (IsGood : Look → Type 0) (p q r : Slots) (i j : InstanceSlots) (vs ws : List Served) → IsAnswered given IsGood p q r i j vs ws → Moves p r (holders_of (slots_at i vs)) (holders_of (slots_at j ws))
+pub answered_moves : (given : Holders) (IsGood : Look → Type 0) (p q r : Slots) (i j : InstanceSlots) (vs ws : List ServedConnection) → IsAnswered given IsGood p q r i j vs ws → Moves p r (holders_of (slots_at i vs)) (holders_of (slots_at j ws))
 answered_moves given IsGood p q r i j vs ws a = record {
   counts = λ k. omega (arith, a.moves.counts k, a.takes.moves.counts k, a.takes.sources k);
   texts = λ k few.
@@ -109,13 +109,13 @@ answered_moves given IsGood p q r i j vs ws a = record {
 abbrev with_visible : InstanceSlots → List Blob → InstanceState
 with_visible i bs = record { name = i.name; quota = i.quota; slots = i.slots; moment = i.moment; visible = bs; uploads = i.uploads; results = i.results; calls = i.calls }
 
-answered_state : (given : Holders) (IsGood : Look → Type 0) (p q r : Slots) (i j : InstanceSlots) (vs ws : List Served) → IsAnswered given IsGood p q r i j vs ws → state_in r j ≡ state_in q j
+answered_state : (given : Holders) (IsGood : Look → Type 0) (p q r : Slots) (i j : InstanceSlots) (vs ws : List ServedConnection) → IsAnswered given IsGood p q r i j vs ws → state_in r j ≡ state_in q j
 answered_state given IsGood p q r i j vs ws a =
     ap (with_visible j) (shown_same q r j.view.entries (λ k some.
     let held = given_counted given p q i j vs a.kept a.moves k in
     a.takes.moves.texts k (omega (arith, some, held, a.takes.sources k))))
 
-pub answered_kept : (given : Holders) (IsGood : Look → Type 0) (p q r : Slots) (i j : InstanceSlots) (vs ws : List Served) → IsAnswered given IsGood p q r i j vs ws → length ws ≤ 64 → IsKept r (slots_at j ws)
+pub answered_kept : (given : Holders) (IsGood : Look → Type 0) (p q r : Slots) (i j : InstanceSlots) (vs ws : List ServedConnection) → IsAnswered given IsGood p q r i j vs ws → length ws ≤ 64 → IsKept r (slots_at j ws)
 answered_kept given IsGood p q r i j vs ws a short =
     let find = taken_finds given IsGood p q r i j vs ws a in
     record {
@@ -132,8 +132,8 @@ answered_kept given IsGood p q r i j vs ws a short =
 
 -- what a call event answered was given to its connections
 pub answers_given : (p q r : Slots) (i j : InstanceSlots) (os ns : List OpenConnection) (rs ys : List Reply) → rs ≡ ys → IsKept p (slots_of i os) →
-    Moves p q (holders_of_instance i) (λ k. holders_of_instance j k + replies_holders ys k) → TakeRanges (replies_holders rs) (RepliesEndWithin rs) q (map served os) r (map served ns) → WithinLimits (state_in q j) →
-    AllByRecursion IsShortReply (map (reply_shown q) ys) → IsAnswered (replies_holders rs) (RepliesEndWithin rs) p q r i j (map served os) (map served ns)
+    Moves p q (holders_of_instance i) (λ k. holders_of_instance j k + replies_holders ys k) → TakeRanges (replies_holders rs) (RepliesEndWithin rs) q (map connection_shown os) r (map connection_shown ns) → WithinLimits (state_in q j) →
+    AllByRecursion IsShortReply (map (reply_shown q) ys) → IsAnswered (replies_holders rs) (RepliesEndWithin rs) p q r i j (map connection_shown os) (map connection_shown ns)
 answers_given p q r i j os ns rs ys is kept moves takes within short = record {
   kept = kept;
   moves = subst (λ (xs : List Reply). Moves p q (holders_of_instance i) (λ k. holders_of_instance j k + replies_holders xs k)) (sym is) moves;
@@ -144,14 +144,14 @@ answers_given p q r i j os ns rs ys is kept moves takes within short = record {
 
 -- ---- what it stands for
 
-replied_at : (rs : List ReplyValue) (l : Lone) → (replied rs l).connections ≡ given rs l.connections
+replied_at : (rs : List ReplyValue) (l : Lone) → (after_replies rs l).connections ≡ given rs l.connections
 replied_at rs l = ap (λ (k : Lone). k.connections) (replied_is rs l)
 
-pub happens : {T E : Type 0} (result : Result T E) (p q r : Slots) (i j : InstanceSlots) (os ns : List OpenConnection) (what : CallEventValue) (rs : List Reply) → IsAnswered (replies_holders rs) (RepliesEndWithin rs) p q r i j (map served os) (map served ns) →
-    map (reply_shown q) rs ≡ (answer (state_in p i) what).replies → state_in q j ≡ after (state_in p i) what → OnOk result (AreGiven rs os ns) → OnOk result (ActsIn p i os r j ns (happened what))
+pub happens : {T E : Type 0} (result : Result T E) (p q r : Slots) (i j : InstanceSlots) (os ns : List OpenConnection) (what : CallEventValue) (rs : List Reply) → IsAnswered (replies_holders rs) (RepliesEndWithin rs) p q r i j (map connection_shown os) (map connection_shown ns) →
+    map (reply_shown q) rs ≡ (answer (state_in p i) what).replies → state_in q j ≡ state_after (state_in p i) what → OnOk result (AreGiven rs os ns) → OnOk result (ActsIn p i os r j ns (after_call_event what))
 happens (Ok x) p q r i j os ns what rs a e f h = λ l st.
-    let vs = map served os in
-    let ws = map served ns in
+    let vs = map connection_shown os in
+    let ws = map connection_shown ns in
     let held = replies_holders rs in
     let asked : AreServed (text_at q) vs (open_ones l.connections) =
     served_agreed (text_at p) (text_at q) vs (open_ones l.connections) (asked_finds held p q i j vs a.kept a.moves) st.connections in
@@ -159,9 +159,9 @@ happens (Ok x) p q r i j os ns what rs a e f h = λ l st.
     ap (λ (ys : List ReplyValue). given ys l.connections) (replies_same q rs ∙ (e ∙ ap (λ (y : InstanceState). (answer y what).replies) st.state)) in
     let taken : AreServed (text_at q) ws (open_ones (given (answer l.state what).replies l.connections)) =
     subst (λ (ks : List LoneConnection). AreServed (text_at q) ws (open_ones ks)) (replied_at (map (reply_by (text_at q)) rs) l ∙ same) (h (text_at q) l asked) in
-    let k : Lone = record l { state = after l.state what; connections = given (answer l.state what).replies l.connections } in
+    let k : Lone = record l { state = state_after l.state what; connections = given (answer l.state what).replies l.connections } in
     let now : StandsBy (text_at r) (state_in r j) ns k = record {
-      state = answered_state held (RepliesEndWithin rs) p q r i j vs ws a ∙ (f ∙ ap (λ (y : InstanceState). after y what) st.state);
+      state = answered_state held (RepliesEndWithin rs) p q r i j vs ws a ∙ (f ∙ ap (λ (y : InstanceState). state_after y what) st.state);
       connections = served_agreed (text_at q) (text_at r) ws (open_ones k.connections) (taken_finds held (RepliesEndWithin rs) p q r i j vs ws a) taken;
     } in
     subst (λ (x : Lone). StandsBy (text_at r) (state_in r j) ns x) (sym (happened_is what l)) now

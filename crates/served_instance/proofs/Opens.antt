@@ -2,7 +2,7 @@
 use Rattle.std.proofs.Common.{◌≡◌, refl, ap}
 use Rattle.std.specs.Prelude.{ℕ, ◌==◌, if◌then◌else◌, Bool, true, false, List, [], ◌∷◌, map, Option, Some, None}
 use Rattle.conn_core.specs.Past.{Past}
-use Rattle.served_instance.specs.Connections.{LoneConnection, open_ones, open_at, at_open, closed_at, at_all_open}
+use Rattle.served_instance.specs.Connections.{LoneConnection, open_ones, open_at, at_open, with_closed, at_all_open}
 
 abbrev pub first_past : ℕ → List LoneConnection → Option Past
 first_past c [] = None
@@ -50,17 +50,17 @@ at_open_is c step (k ∷ ks) = changed_more c step k.number k.past k.is_open ks 
 
 -- ---- the end of one
 
-closed_by : (c n : ℕ) (p : Past) (m : Bool) (ks : List LoneConnection) → open_ones (closed_at c ks) ≡ without_at c (open_ones ks) →
-    open_ones (if m then one n p false ∷ ks else one n p true ∷ closed_at c ks) ≡ (if m then open_ones ks else one n p true ∷ without_at c (open_ones ks))
+closed_by : (c n : ℕ) (p : Past) (m : Bool) (ks : List LoneConnection) → open_ones (with_closed c ks) ≡ without_at c (open_ones ks) →
+    open_ones (if m then one n p false ∷ ks else one n p true ∷ with_closed c ks) ≡ (if m then open_ones ks else one n p true ∷ without_at c (open_ones ks))
 closed_by c n p true ks h = refl
 closed_by c n p false ks h = ap (λ (r : List LoneConnection). one n p true ∷ r) h
 
-closed_more : (c n : ℕ) (p : Past) (b : Bool) (ks : List LoneConnection) → open_ones (closed_at c ks) ≡ without_at c (open_ones ks) →
-    open_ones (closed_at c (one n p b ∷ ks)) ≡ without_at c (open_ones (one n p b ∷ ks))
+closed_more : (c n : ℕ) (p : Past) (b : Bool) (ks : List LoneConnection) → open_ones (with_closed c ks) ≡ without_at c (open_ones ks) →
+    open_ones (with_closed c (one n p b ∷ ks)) ≡ without_at c (open_ones (one n p b ∷ ks))
 closed_more c n p true ks h = closed_by c n p (n == c) ks h
 closed_more c n p false ks h = h
 
-pub closed_at_is : (c : ℕ) (ks : List LoneConnection) → open_ones (closed_at c ks) ≡ without_at c (open_ones ks)
+pub closed_at_is : (c : ℕ) (ks : List LoneConnection) → open_ones (with_closed c ks) ≡ without_at c (open_ones ks)
 closed_at_is c [] = refl
 closed_at_is c (k ∷ ks) = closed_more c k.number k.past k.is_open ks (closed_at_is c ks)
 

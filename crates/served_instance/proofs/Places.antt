@@ -7,7 +7,7 @@ use Rattle.conn_core.specs.StandsFor.{Present}
 use Rattle.served_instance.specs.declared.open_connection.OpenConnection.{OpenConnection}
 use Rattle.served_instance.specs.Present.{is_numbered}
 use Rattle.served_instance.specs.StandsFor.{connection_at}
-use Rattle.served_instance.specs.Shown.{served}
+use Rattle.served_instance.specs.Shown.{connection_shown}
 
 -- the place of the first of this number
 abbrev pub place_of : ℕ → List OpenConnection → Option ℕ
@@ -61,12 +61,12 @@ later_by : (b : Bool) (v : Present) (r s : Option Present) → b ≡ false → s
 later_by true v r s e h = cc
 later_by false v r s e h = h
 
-connection_of : (c : ℕ) (os : List OpenConnection) (k : ℕ) (d : OpenConnection) → IsPlace c os k → Some (get_or os k d).connection ≡ connection_at c (map served os)
+connection_of : (c : ℕ) (os : List OpenConnection) (k : ℕ) (d : OpenConnection) → IsPlace c os k → Some (get_or os k d).connection ≡ connection_at c (map connection_shown os)
 connection_of c [] k d h = absurd h
-connection_of c (o ∷ os) zero d h = at_by (o.number == c) o.connection (connection_at c (map served os)) h
-connection_of c (o ∷ os) (suc k) d h = later_by (o.number == c) o.connection (connection_at c (map served os)) (Some (get_or os k d).connection) h.0 (connection_of c os k d h.1)
+connection_of c (o ∷ os) zero d h = at_by (o.number == c) o.connection (connection_at c (map connection_shown os)) h
+connection_of c (o ∷ os) (suc k) d h = later_by (o.number == c) o.connection (connection_at c (map connection_shown os)) (Some (get_or os k d).connection) h.0 (connection_of c os k d h.1)
 
-pub place_some : (c : ℕ) (os : List OpenConnection) (k : ℕ) (d : OpenConnection) → position (is_numbered c) os ≡ Some k → Some (get_or os k d).connection ≡ connection_at c (map served os)
+pub place_some : (c : ℕ) (os : List OpenConnection) (k : ℕ) (d : OpenConnection) → position (is_numbered c) os ≡ Some k → Some (get_or os k d).connection ≡ connection_at c (map connection_shown os)
 place_some c os k d h = connection_of c os k d (is_place c os k h)
 
 none_by : (b : Bool) (r : Option ℕ) (v : Present) (s : Option Present) → (r ≡ None → None ≡ s) → (if b then Some 0 else option_map suc r) ≡ None → None ≡ (if b then Some v else s)
@@ -74,9 +74,9 @@ none_by true r v s h f = cc
 none_by false None v s h f = h refl
 none_by false (Some j) v s h f = cc
 
-none_at : (c : ℕ) (os : List OpenConnection) → place_of c os ≡ None → None ≡ connection_at c (map served os)
+none_at : (c : ℕ) (os : List OpenConnection) → place_of c os ≡ None → None ≡ connection_at c (map connection_shown os)
 none_at c [] h = refl
-none_at c (o ∷ os) h = none_by (o.number == c) (place_of c os) o.connection (connection_at c (map served os)) (λ e. none_at c os e) h
+none_at c (o ∷ os) h = none_by (o.number == c) (place_of c os) o.connection (connection_at c (map connection_shown os)) (λ e. none_at c os e) h
 
-pub place_none : (c : ℕ) (os : List OpenConnection) → position (is_numbered c) os ≡ None → None ≡ connection_at c (map served os)
+pub place_none : (c : ℕ) (os : List OpenConnection) → position (is_numbered c) os ≡ None → None ≡ connection_at c (map connection_shown os)
 place_none c os h = none_at c os (sym (place_is c os) ∙ h)

@@ -1,44 +1,44 @@
 -- The pump of an instance: all is put that can be, and sources that are spent are released.
 use Rattle.std.proofs.Common.{◌≡◌, ◌≤◌, ◌∙◌, ℕ, List, length, map, refl, sym, subst, arith}
 use Rattle.std.proofs.lemmas.List.{length-map}
-use Rattle.blob_pool.specs.Held.{Slots, text_at, count_at}
+use Rattle.blob_pool.specs.Slots.{Slots, text_at, count_at}
 use Rattle.conn_core.specs.Past.{with_pumped}
 use Rattle.instance_core.specs.Slots.{InstanceSlots}
 use Rattle.served_instance.specs.declared.open_connection.OpenConnection.{OpenConnection}
 use Rattle.served_instance.specs.Connections.{LoneConnection, open_ones, at_all_open}
-use Rattle.served_instance.specs.Lone.{Lone, pumped_all}
-use Rattle.served_instance.specs.Slots.{served_in, IsKept}
+use Rattle.served_instance.specs.Lone.{Lone, after_pump}
+use Rattle.served_instance.specs.Slots.{served_state_in, IsKept}
 use Rattle.served_instance.specs.StandsFor.{StandsFor, AreServed}
 use Rattle.served_instance.specs.Ranges.{Releases, range_holders}
-use Rattle.served_instance.specs.Shown.{served}
+use Rattle.served_instance.specs.Shown.{connection_shown}
 use Rattle.served_instance.specs.Acts.{slots_of}
 use Rattle.served_instance.proofs.Kept.{few_connections, instance_after, release_finds, release_keeps, same_state}
 use Rattle.served_instance.proofs.Stands.{stands_by, stands_for}
 
-pub counted_ranges : (p : Slots) (i : InstanceSlots) (os : List OpenConnection) → IsKept p (slots_of i os) → (k : ℕ) → range_holders (map served os) k ≤ count_at p k
+pub counted_ranges : (p : Slots) (i : InstanceSlots) (os : List OpenConnection) → IsKept p (slots_of i os) → (k : ℕ) → range_holders (map connection_shown os) k ≤ count_at p k
 counted_ranges p i os kept k = omega (arith, kept.counted k)
 
 -- what the instance is afterwards
 pub record IsPumped (p q : Slots) (i : InstanceSlots) (os ns : List OpenConnection) : Type 0 where
-  pub stands : (l : Lone) → StandsFor (served_in p (slots_of i os)) l → StandsFor (served_in q (slots_of i ns)) (pumped_all l)
+  pub stands : (l : Lone) → StandsFor (served_state_in p (slots_of i os)) l → StandsFor (served_state_in q (slots_of i ns)) (after_pump l)
   pub kept : IsKept q (slots_of i ns)
 
 -- the connections put all that can be put, and released what no range is left of
 pub record PumpsAll (p q : Slots) (os ns : List OpenConnection) : Type 0 where
-  pub stands : (ks : List LoneConnection) → AreServed (text_at p) (map served os) (open_ones ks) → AreServed (text_at p) (map served ns) (open_ones (at_all_open with_pumped ks))
-  pub releases : Releases p (map served os) q (map served ns)
+  pub stands : (ks : List LoneConnection) → AreServed (text_at p) (map connection_shown os) (open_ones ks) → AreServed (text_at p) (map connection_shown ns) (open_ones (at_all_open with_pumped ks))
+  pub releases : Releases p (map connection_shown os) q (map connection_shown ns)
   pub count : length ns ≡ length os
 
 is_pumped : (p q : Slots) (i : InstanceSlots) (os ns : List OpenConnection) → IsKept p (slots_of i os) → PumpsAll p q os ns → IsPumped p q i os ns
 is_pumped p q i os ns kept pumped = record {
   stands = λ l st.
       let before = stands_by p i os l st in
-      stands_for p q i ns (pumped_all l) (release_finds p q i (map served os) (map served ns) kept pumped.releases) (record {
-        state = same_state p q i (map served os) (map served ns) kept pumped.releases ∙ before.state;
+      stands_for p q i ns (after_pump l) (release_finds p q i (map connection_shown os) (map connection_shown ns) kept pumped.releases) (record {
+        state = same_state p q i (map connection_shown os) (map connection_shown ns) kept pumped.releases ∙ before.state;
         connections = pumped.stands l.connections before.connections;
       });
-  kept = release_keeps p q i i (map served os) (map served ns) kept pumped.releases (λ k. refl) (instance_after p q i (map served os) (map served ns) kept pumped.releases)
-      (omega (arith, pumped.count, few_connections p (slots_of i os) kept, length-map os served, length-map ns served));
+  kept = release_keeps p q i i (map connection_shown os) (map connection_shown ns) kept pumped.releases (λ k. refl) (instance_after p q i (map connection_shown os) (map connection_shown ns) kept pumped.releases)
+      (omega (arith, pumped.count, few_connections p (slots_of i os) kept, length-map os connection_shown, length-map ns connection_shown));
 }
 
 -- through a slice: os were seen as xs, which became ns, and are zs now

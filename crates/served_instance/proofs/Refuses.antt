@@ -2,10 +2,10 @@
 use Rattle.std.proofs.Common.{◌≡◌, refl, sym, ap, ◌∙◌, subst}
 use Rattle.std.specs.Prelude.{ℕ, nat_le, nat_lt, if◌then◌else◌, Bool, true, false, List, length, Option, Some, None, Err}
 use Rattle.std.specs.Option.{is_some, option_map, option_map_or}
-use Rattle.http2_streams.specs.Diary.{has_failed}
-use Rattle.grpc_sending.specs.Bytes.{pending, untaken}
-use Rattle.grpc_sending.specs.Kept.{Look}
-use Rattle.blob_pool.specs.Held.{Slots, text_at}
+use Rattle.http2_streams.specs.History.{has_failed}
+use Rattle.grpc_sending.specs.Bytes.{pending_bytes, untaken_count}
+use Rattle.grpc_sending.specs.StoredSending.{Look}
+use Rattle.blob_pool.specs.Slots.{Slots, text_at}
 use Rattle.conn_core.specs.Past.{Past}
 use Rattle.conn_core.specs.StandsFor.{Present}
 use Rattle.server_events.specs.Events.{EventValue, WhatValue, opened, received, took, closed, tick, ended}
@@ -13,11 +13,11 @@ use Rattle.served_instance.specs.declared.refusal.EventRefusal.{EventRefusal}
 use Rattle.served_instance.specs.declared.refusal.EventRefusal.TheVariants.{NoSuchInstance, TimeWentBack, ConnectionExists, TooManyConnections, NoSuchConnection, NoSuchJob, TookTooMuch, NoMemory}
 use Rattle.served_instance.specs.Connections.{open_ones, open_at}
 use Rattle.instance_core.specs.State.{InstanceState, at_moment}
-use Rattle.served_instance.specs.Lone.{Lone, came_at, accepted}
-use Rattle.served_instance.specs.Refusals.{connection_limit, refusal_of, refusal_of_what, stepped, lone_step, IsOutcome}
-use Rattle.served_instance.specs.StandsFor.{Served, ServedState, StandsFor, AreSettled, connection_at}
+use Rattle.served_instance.specs.Lone.{Lone, lone_at_moment, after_event}
+use Rattle.served_instance.specs.Refusals.{connection_limit, refusal_of, refusal_of_what, after_event_unless, lone_step, IsOutcome}
+use Rattle.served_instance.specs.StandsFor.{ServedConnection, ServedState, StandsFor, AreSettled, connection_at}
 use Rattle.served_instance.specs.declared.open_connection.OpenConnection.{OpenConnection}
-use Rattle.served_instance.specs.Slots.{ServedSlots, served_in}
+use Rattle.served_instance.specs.Slots.{ServedSlots, served_state_in}
 use Rattle.served_instance.specs.Acts.{StandsBy}
 use Rattle.served_instance.proofs.Ranges.{plain_served}
 use Rattle.served_instance.specs.Present.{refusal_by, refusal_by_what, unless_more}
@@ -36,7 +36,7 @@ same_unless texts None (Some p) r s = absurd s
 same_unless texts (Some v) None r s = absurd s
 
 abbrev unless_untaken : ℕ → Past → Option EventRefusal
-unless_untaken n p = if nat_lt (untaken p.diary) n then Some TookTooMuch else None
+unless_untaken n p = if nat_lt (untaken_count p.history) n then Some TookTooMuch else None
 
 same_take : (texts : Look) (n : ℕ) (a : Option Present) (b : Option Past) (r : Option EventRefusal) → SameAt texts a b → option_map_or (unless_more n) a r ≡ option_map_or (unless_untaken n) b r
 same_take texts n None None r s = refl
@@ -44,13 +44,13 @@ same_take texts n (Some v) (Some p) r s = ap (λ (bytes : List ℕ). if nat_lt (
 same_take texts n None (Some p) r s = absurd s
 same_take texts n (Some v) None r s = absurd s
 
-pub same_pending : (texts : Look) (a : Option Present) (b : Option Past) → SameAt texts a b → option_map (λ (v : Present). v.sending.pending) a ≡ option_map (λ (p : Past). pending p.diary) b
+pub same_pending : (texts : Look) (a : Option Present) (b : Option Past) → SameAt texts a b → option_map (λ (v : Present). v.sending.pending) a ≡ option_map (λ (p : Past). pending_bytes p.history) b
 same_pending texts None None s = refl
 same_pending texts (Some v) (Some p) s = ap Some s.sending.pending
 same_pending texts None (Some p) s = absurd s
 same_pending texts (Some v) None s = absurd s
 
-pub same_ended : (texts : Look) (a : Option Present) (b : Option Past) → SameAt texts a b → option_map (λ (v : Present). v.ended) a ≡ option_map (λ (p : Past). has_failed p.diary) b
+pub same_ended : (texts : Look) (a : Option Present) (b : Option Past) → SameAt texts a b → option_map (λ (v : Present). v.ended) a ≡ option_map (λ (p : Past). has_failed p.history) b
 same_ended texts None None s = refl
 same_ended texts (Some v) (Some p) s = ap Some s.ended
 same_ended texts None (Some p) s = absurd s
@@ -59,7 +59,7 @@ same_ended texts (Some v) None s = absurd s
 abbrev to_open : Bool → ℕ → Option EventRefusal
 to_open there n = if there then Some ConnectionExists else if nat_le connection_limit n then Some TooManyConnections else None
 
-same_by_what : (texts : Look) (w : WhatValue) (vs : List Served) (l : Lone) → ((c : ℕ) → SameAt texts (connection_at c vs) (open_at c l.connections)) → length vs ≡ length (open_ones l.connections) → refusal_by_what w vs ≡ refusal_of_what w l
+same_by_what : (texts : Look) (w : WhatValue) (vs : List ServedConnection) (l : Lone) → ((c : ℕ) → SameAt texts (connection_at c vs) (open_at c l.connections)) → length vs ≡ length (open_ones l.connections) → refusal_by_what w vs ≡ refusal_of_what w l
 same_by_what texts (opened c) vs l s n =
     ap (λ (b : Bool). to_open b (length vs)) (same_presence texts _ _ (s c)) ∙ ap (λ (m : ℕ). to_open (is_some (open_at c l.connections)) m) n
 same_by_what texts (received c bytes) vs l s n = same_unless texts _ _ (Some NoSuchConnection) (s c)
@@ -68,7 +68,7 @@ same_by_what texts (closed c) vs l s n = same_unless texts _ _ (Some NoSuchConne
 same_by_what texts tick vs l s n = refl
 same_by_what texts (ended job outcome) vs l s n = refl
 
-pub same_refusal : (p : Slots) (e : EventValue) (v : ServedSlots) (l : Lone) → StandsFor (served_in p v) l → refusal_by e v ≡ refusal_of e l
+pub same_refusal : (p : Slots) (e : EventValue) (v : ServedSlots) (l : Lone) → StandsFor (served_state_in p v) l → refusal_by e v ≡ refusal_of e l
 same_refusal p e v l s =
     let texts = text_at p in
     let vs = v.connections in
@@ -92,7 +92,7 @@ reason_at : (v : Option Present) (f : Present → Option EventRefusal) → ((x :
 reason_at None f h = tt
 reason_at (Some x) f h = h x
 
-reason_by_what : (w : WhatValue) (vs : List Served) → IsReason (refusal_by_what w vs)
+reason_by_what : (w : WhatValue) (vs : List ServedConnection) → IsReason (refusal_by_what w vs)
 reason_by_what (opened c) vs = reason_if (is_some (connection_at c vs)) ConnectionExists _ tt (reason_if (nat_le connection_limit (length vs)) TooManyConnections None tt tt)
 reason_by_what (received c bytes) vs = reason_at (connection_at c vs) (λ x. None) (λ x. tt)
 reason_by_what (took c n) vs = reason_at (connection_at c vs) (unless_more n) (λ x. reason_if (nat_lt (length x.sending.pending) n) TookTooMuch None tt tt)
@@ -113,32 +113,32 @@ outcome_of A TimeWentBack reason h e = e
 outcome_of A TookTooMuch reason h e = e
 outcome_of A NoMemory reason h e = absurd h
 
-pub no_reason : (p : Slots) (e : EventValue) (v : ServedSlots) (l : Lone) → None ≡ refusal_by e v → StandsFor (served_in p v) l → refusal_of e l ≡ None
+pub no_reason : (p : Slots) (e : EventValue) (v : ServedSlots) (l : Lone) → None ≡ refusal_by e v → StandsFor (served_state_in p v) l → refusal_of e l ≡ None
 no_reason p e v l h s = sym (same_refusal p e v l s) ∙ sym h
 
-reason : (p : Slots) (e : EventValue) (v : ServedSlots) (l : Lone) (r : EventRefusal) → Some r ≡ refusal_by e v → StandsFor (served_in p v) l → refusal_of e l ≡ Some r
+reason : (p : Slots) (e : EventValue) (v : ServedSlots) (l : Lone) (r : EventRefusal) → Some r ≡ refusal_by e v → StandsFor (served_state_in p v) l → refusal_of e l ≡ Some r
 reason p e v l r h s = sym (same_refusal p e v l s) ∙ sym h
 
-pub refused_outcome : (p : Slots) (A : Type 0) (e : EventValue) (v : ServedSlots) (l : Lone) (r : EventRefusal) → Some r ≡ refusal_by e v → StandsFor (served_in p v) l → IsOutcome {A = A} (Err r) (refusal_of e l)
+pub refused_outcome : (p : Slots) (A : Type 0) (e : EventValue) (v : ServedSlots) (l : Lone) (r : EventRefusal) → Some r ≡ refusal_by e v → StandsFor (served_state_in p v) l → IsOutcome {A = A} (Err r) (refusal_of e l)
 refused_outcome p A e v l r h s = outcome_of A r (refusal_of e l) (subst IsReason (sym h) (is_reason e v)) (reason p e v l r h s)
 
-pub kept_at_refusal : (p : Slots) (e : EventValue) (v : ServedSlots) (l : Lone) (r : EventRefusal) → Some r ≡ refusal_by e v → StandsFor (served_in p v) l → StandsFor (served_in p v) (lone_step e l)
+pub kept_at_refusal : (p : Slots) (e : EventValue) (v : ServedSlots) (l : Lone) (r : EventRefusal) → Some r ≡ refusal_by e v → StandsFor (served_state_in p v) l → StandsFor (served_state_in p v) (lone_step e l)
 kept_at_refusal p e v l r h s =
-    let P : Option EventRefusal → Type 0 = λ o. StandsFor (served_in p v) (stepped e l o) in
+    let P : Option EventRefusal → Type 0 = λ o. StandsFor (served_state_in p v) (after_event_unless e l o) in
     subst P (sym (reason p e v l r h s)) s
 
-pub stands_accepted : (p : Slots) (e : EventValue) (v : ServedSlots) (w : ServedState) (l : Lone) → None ≡ refusal_by e v → StandsFor (served_in p v) l → StandsFor w (accepted e l) → StandsFor w (lone_step e l)
+pub stands_accepted : (p : Slots) (e : EventValue) (v : ServedSlots) (w : ServedState) (l : Lone) → None ≡ refusal_by e v → StandsFor (served_state_in p v) l → StandsFor w (after_event e l) → StandsFor w (lone_step e l)
 stands_accepted p e v w l h s a =
-    let P : Option EventRefusal → Type 0 = λ o. StandsFor w (stepped e l o) in
+    let P : Option EventRefusal → Type 0 = λ o. StandsFor w (after_event_unless e l o) in
     subst P (sym (no_reason p e v l h s)) a
 
-pub settled_accepted : (p : Slots) (e : EventValue) (v : ServedSlots) (l : Lone) → None ≡ refusal_by e v → StandsFor (served_in p v) l → AreSettled (accepted e l) → AreSettled (lone_step e l)
+pub settled_accepted : (p : Slots) (e : EventValue) (v : ServedSlots) (l : Lone) → None ≡ refusal_by e v → StandsFor (served_state_in p v) l → AreSettled (after_event e l) → AreSettled (lone_step e l)
 settled_accepted p e v l h s a =
-    let P : Option EventRefusal → Type 0 = λ o. AreSettled (stepped e l o) in
+    let P : Option EventRefusal → Type 0 = λ o. AreSettled (after_event_unless e l o) in
     subst P (sym (no_reason p e v l h s)) a
 
 -- an event comes
-pub came_stands : (texts : Look) (m : ℕ) (s t : InstanceState) (os : List OpenConnection) (l : Lone) → t ≡ at_moment m s → StandsBy texts s os l → StandsBy texts t os (came_at m l)
+pub came_stands : (texts : Look) (m : ℕ) (s t : InstanceState) (os : List OpenConnection) (l : Lone) → t ≡ at_moment m s → StandsBy texts s os l → StandsBy texts t os (lone_at_moment m l)
 came_stands texts m s t os l e st = record { state = e ∙ ap (at_moment m) st.state; connections = st.connections }
 
 pub not_elsewhere : (e : EventValue) (v : ServedSlots) (r : EventRefusal) → Some r ≡ refusal_by e v → r ≡ NoSuchInstance → ⊥

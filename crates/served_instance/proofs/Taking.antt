@@ -5,43 +5,43 @@ use Rattle.std.proofs.lemmas.List.{take_all}
 use Rattle.std.specs.Prelude.{ℕ, false, List, [], ◌∷◌, map, length, position, Some, Result, Ok, Err, OnOk}
 use Rattle.std.specs.Result.{is_err}
 use Rattle.std.specs.List.{AllByRecursion}
-use Rattle.blob_pool.specs.Held.{Slots, count_at}
-use Rattle.blob_pool.specs.Moves.{Holders, Moves, nobody, one_at}
+use Rattle.blob_pool.specs.Slots.{Slots, count_at}
+use Rattle.blob_pool.specs.Moves.{Holders, Moves, no_holders, one_at}
 use Rattle.blob_pool.proofs.Moves.{moves_none}
 use Rattle.grpc_sending.specs.Sources.{count_of}
-use Rattle.grpc_sending.specs.Kept.{Look, HasFew, HoldsMore, KeepsFitWith, sources_of}
+use Rattle.grpc_sending.specs.StoredSending.{Look, HasFew, HoldsMore, KeepsFitWith, sources_of}
 use Rattle.conn_core.specs.StandsFor.{Present}
 use Rattle.instance_core.specs.declared.event.Reply.{Reply}
 use Rattle.instance_core.specs.declared.event.ReplyItem.{ReplyItem}
 use Rattle.instance_core.specs.Given.{item_holders, items_holders, replies_holders}
 use Rattle.served_instance.specs.declared.open_connection.OpenConnection.{OpenConnection}
-use Rattle.served_instance.specs.StandsFor.{Served}
+use Rattle.served_instance.specs.StandsFor.{ServedConnection}
 use Rattle.served_instance.specs.Ranges.{KeepsRanges, sources_at}
 use Rattle.served_instance.specs.Given.{CanBeOwed, ReplyCanBeOwed, EndsWithin, ItemsEndWithin, ReplyEndsWithin, RepliesEndWithin, TakesRanges, TakeRanges}
-use Rattle.served_instance.specs.Shown.{served}
+use Rattle.served_instance.specs.Shown.{connection_shown}
 use Rattle.served_instance.specs.Present.{is_numbered}
 use Rattle.served_instance.proofs.Places.{IsPlace, is_place}
 use Rattle.grpc_sending.proofs.Agreeing.{count_append}
 
 -- ---- some are released, and then others
 
-pub moves_both : (p q r : Slots) (a b : Holders) → Moves p q a nobody → Moves q r b nobody → Moves p r (λ k. a k + b k) nobody
+pub moves_both : (p q r : Slots) (a b : Holders) → Moves p q a no_holders → Moves q r b no_holders → Moves p r (λ k. a k + b k) no_holders
 moves_both p q r a b m n = record {
   counts = λ k. omega (arith, m.counts k, n.counts k);
   texts = λ k few. n.texts k (omega (arith, few, m.counts k)) ∙ m.texts k (omega (arith, few));
 }
 
-pub items_released : (p q r : Slots) (items : List ReplyItem) (d : ReplyItem) → 1 ≤ length items → Moves p q (item_holders (get_or items 0 d)) nobody → Moves q r (items_holders (take (length items - 1) (drop 1 items))) nobody → Moves p r (items_holders items) nobody
+pub items_released : (p q r : Slots) (items : List ReplyItem) (d : ReplyItem) → 1 ≤ length items → Moves p q (item_holders (get_or items 0 d)) no_holders → Moves q r (items_holders (take (length items - 1) (drop 1 items))) no_holders → Moves p r (items_holders items) no_holders
 items_released p q r [] d some m n = absurd (omega arith)
 items_released p q r (item ∷ items) d some m n =
     let all : take (length (item ∷ items) - 1) items ≡ items = take_all (length (item ∷ items) - 1) items (omega arith) in
-    moves_both p q r (item_holders item) (items_holders items) m (subst (λ (xs : List ReplyItem). Moves q r (items_holders xs) nobody) all n)
+    moves_both p q r (item_holders item) (items_holders items) m (subst (λ (xs : List ReplyItem). Moves q r (items_holders xs) no_holders) all n)
 
-pub replies_released : (p q r : Slots) (rs : List Reply) (d : Reply) → 1 ≤ length rs → Moves p q (items_holders (get_or rs 0 d).items.items) nobody → Moves q r (replies_holders (take (length rs - 1) (drop 1 rs))) nobody → Moves p r (replies_holders rs) nobody
+pub replies_released : (p q r : Slots) (rs : List Reply) (d : Reply) → 1 ≤ length rs → Moves p q (items_holders (get_or rs 0 d).items.items) no_holders → Moves q r (replies_holders (take (length rs - 1) (drop 1 rs))) no_holders → Moves p r (replies_holders rs) no_holders
 replies_released p q r [] d some m n = absurd (omega arith)
 replies_released p q r (x ∷ rs) d some m n =
     let all : take (length (x ∷ rs) - 1) rs ≡ rs = take_all (length (x ∷ rs) - 1) rs (omega arith) in
-    moves_both p q r (items_holders x.items.items) (replies_holders rs) m (subst (λ (xs : List Reply). Moves q r (replies_holders xs) nobody) all n)
+    moves_both p q r (items_holders x.items.items) (replies_holders rs) m (subst (λ (xs : List Reply). Moves q r (replies_holders xs) no_holders) all n)
 
 -- what is left is held
 pub items_left : (p q : Slots) (items : List ReplyItem) (d : ReplyItem) → 1 ≤ length items → ((k : ℕ) → items_holders items k ≤ count_at p k) → ((k : ℕ) → count_at p k ≤ count_at q k + item_holders (get_or items 0 d) k) →
@@ -76,16 +76,16 @@ rest_replies_owed (x ∷ rs) h =
 
 pub takes_none : (given : Holders) (IsGood : Look → Type 0) (p : Slots) (v w : Present) → ((k : ℕ) → given k ≡ 0) → KeepsRanges v w → TakesRanges given IsGood p v p w
 takes_none given IsGood p v w none keeps = record {
-  gone = nobody;
+  gone = no_holders;
   fewer = λ k. omega arith;
   sources = λ k. omega (arith, keeps.sources k, none k);
   few = λ f k. omega (arith, keeps.sources k, f k);
   fit = λ texts good h. keeps.fit texts h;
-  moves = moves_none p nobody nobody (λ k. refl);
+  moves = moves_none p no_holders no_holders (λ k. refl);
 }
 
 -- none is taken
-pub takes_released : (given : Holders) (IsGood : Look → Type 0) (p q : Slots) (v w : Present) → w ≡ v → Moves p q given nobody → TakesRanges given IsGood p v q w
+pub takes_released : (given : Holders) (IsGood : Look → Type 0) (p q : Slots) (v w : Present) → w ≡ v → Moves p q given no_holders → TakesRanges given IsGood p v q w
 takes_released given IsGood p q v w same m = subst (λ (x : Present). TakesRanges given IsGood p v q x) (sym same) (record {
   gone = given;
   fewer = λ k. omega arith;
@@ -97,14 +97,14 @@ takes_released given IsGood p q v w same m = subst (λ (x : Present). TakesRange
 
 pub takes_range : (n until : ℕ) (p : Slots) (v w : Present) → HoldsMore n v.sending w.sending → HasFew w.sending → KeepsFitWith n until v.sending w.sending → TakesRanges (one_at n) (λ texts. until ≤ length (texts n)) p v p w
 takes_range n until p v w more few fit = record {
-  gone = nobody;
+  gone = no_holders;
   fewer = λ k. omega arith;
   sources = λ k.
       let e : count_of k (n ∷ sources_of v.sending) ≡ one_at n k + count_of k (sources_of v.sending) = refl in
       omega (arith, more k, e);
   few = λ f. few;
   fit = fit;
-  moves = moves_none p nobody nobody (λ k. refl);
+  moves = moves_none p no_holders no_holders (λ k. refl);
 }
 
 takes_both : (g h : Holders) (IsGood IsFine : Look → Type 0) (p q r : Slots) (u v w : Present) → TakesRanges g IsGood p u q v → TakesRanges h IsFine q v r w → TakesRanges (λ k. g k + h k) (λ texts. IsGood texts × IsFine texts) p u r w
@@ -132,17 +132,17 @@ takes_end (item ∷ items) p v none = absurd (omega arith)
 
 -- ---- all connections
 
-pub take_none : (given : Holders) (IsGood : Look → Type 0) (p : Slots) (vs : List Served) → ((k : ℕ) → given k ≡ 0) → TakeRanges given IsGood p vs p vs
+pub take_none : (given : Holders) (IsGood : Look → Type 0) (p : Slots) (vs : List ServedConnection) → ((k : ℕ) → given k ≡ 0) → TakeRanges given IsGood p vs p vs
 take_none given IsGood p vs none = record {
-  gone = nobody;
+  gone = no_holders;
   fewer = λ k. omega arith;
   sources = λ k. omega (arith, none k);
   few = λ f. f;
   fit = λ texts good h. h;
-  moves = moves_none p nobody nobody (λ k. refl);
+  moves = moves_none p no_holders no_holders (λ k. refl);
 }
 
-pub take_released : (given : Holders) (IsGood : Look → Type 0) (p q : Slots) (vs : List Served) → Moves p q given nobody → TakeRanges given IsGood p vs q vs
+pub take_released : (given : Holders) (IsGood : Look → Type 0) (p q : Slots) (vs : List ServedConnection) → Moves p q given no_holders → TakeRanges given IsGood p vs q vs
 take_released given IsGood p q vs m = record {
   gone = given;
   fewer = λ k. omega arith;
@@ -152,7 +152,7 @@ take_released given IsGood p q vs m = record {
   moves = m;
 }
 
-take_both : (g h : Holders) (IsGood IsFine : Look → Type 0) (p q r : Slots) (us vs ws : List Served) → TakeRanges g IsGood p us q vs → TakeRanges h IsFine q vs r ws → TakeRanges (λ k. g k + h k) (λ texts. IsGood texts × IsFine texts) p us r ws
+take_both : (g h : Holders) (IsGood IsFine : Look → Type 0) (p q r : Slots) (us vs ws : List ServedConnection) → TakeRanges g IsGood p us q vs → TakeRanges h IsFine q vs r ws → TakeRanges (λ k. g k + h k) (λ texts. IsGood texts × IsFine texts) p us r ws
 take_both g h IsGood IsFine p q r us vs ws a b = record {
   gone = λ k. a.gone k + b.gone k;
   fewer = λ k. omega (arith, a.fewer k, b.fewer k);
@@ -162,7 +162,7 @@ take_both g h IsGood IsFine p q r us vs ws a b = record {
   moves = moves_both p q r a.gone b.gone a.moves b.moves;
 }
 
-pub take_more : (rs : List Reply) (d : Reply) (p q r : Slots) (us vs ws : List Served) → 1 ≤ length rs → TakeRanges (items_holders (get_or rs 0 d).items.items) (ReplyEndsWithin (get_or rs 0 d)) p us q vs →
+pub take_more : (rs : List Reply) (d : Reply) (p q r : Slots) (us vs ws : List ServedConnection) → 1 ≤ length rs → TakeRanges (items_holders (get_or rs 0 d).items.items) (ReplyEndsWithin (get_or rs 0 d)) p us q vs →
     TakeRanges (replies_holders (take (length rs - 1) (drop 1 rs))) (RepliesEndWithin (take (length rs - 1) (drop 1 rs))) q vs r ws → TakeRanges (replies_holders rs) (RepliesEndWithin rs) p us r ws
 take_more [] d p q r us vs ws some a b = absurd (omega arith)
 take_more (x ∷ rs) d p q r us vs ws some a b =
@@ -170,13 +170,13 @@ take_more (x ∷ rs) d p q r us vs ws some a b =
     take_both (items_holders x.items.items) (replies_holders rs) (ReplyEndsWithin x) (RepliesEndWithin rs) p q r us vs ws a
     (subst (λ (xs : List Reply). TakeRanges (replies_holders xs) (RepliesEndWithin xs) q vs r ws) all b)
 
-pub take_end : (rs : List Reply) (p : Slots) (vs : List Served) → length rs < 1 → TakeRanges (replies_holders rs) (RepliesEndWithin rs) p vs p vs
+pub take_end : (rs : List Reply) (p : Slots) (vs : List ServedConnection) → length rs < 1 → TakeRanges (replies_holders rs) (RepliesEndWithin rs) p vs p vs
 take_end [] p vs none = take_none (replies_holders []) (RepliesEndWithin []) p vs (λ k. refl)
 take_end (x ∷ rs) p vs none = absurd (omega arith)
 
 -- ---- one connection among others
 
-take_first : (given : Holders) (IsGood : Look → Type 0) (p q : Slots) (v w : Served) (vs : List Served) → TakesRanges given IsGood p v.connection q w.connection → TakeRanges given IsGood p (v ∷ vs) q (w ∷ vs)
+take_first : (given : Holders) (IsGood : Look → Type 0) (p q : Slots) (v w : ServedConnection) (vs : List ServedConnection) → TakesRanges given IsGood p v.connection q w.connection → TakeRanges given IsGood p (v ∷ vs) q (w ∷ vs)
 take_first given IsGood p q v w vs t = record {
   gone = t.gone;
   fewer = t.fewer;
@@ -186,7 +186,7 @@ take_first given IsGood p q v w vs t = record {
   moves = t.moves;
 }
 
-take_behind : (given : Holders) (IsGood : Look → Type 0) (p q : Slots) (v : Served) (vs ws : List Served) → TakeRanges given IsGood p vs q ws → TakeRanges given IsGood p (v ∷ vs) q (v ∷ ws)
+take_behind : (given : Holders) (IsGood : Look → Type 0) (p q : Slots) (v : ServedConnection) (vs ws : List ServedConnection) → TakeRanges given IsGood p vs q ws → TakeRanges given IsGood p (v ∷ vs) q (v ∷ ws)
 take_behind given IsGood p q v vs ws t = record {
   gone = t.gone;
   fewer = t.fewer;
@@ -197,14 +197,14 @@ take_behind given IsGood p q v vs ws t = record {
 }
 
 take_place : (given : Holders) (IsGood : Look → Type 0) (p q : Slots) (c : ℕ) (os : List OpenConnection) (i : ℕ) (d : OpenConnection) (w : Present) → IsPlace c os i → TakesRanges given IsGood p (get_or os i d).connection q w →
-    TakeRanges given IsGood p (map served os) q (map served (set os i (record { number = (get_or os i d).number; connection = w })))
+    TakeRanges given IsGood p (map connection_shown os) q (map connection_shown (set os i (record { number = (get_or os i d).number; connection = w })))
 take_place given IsGood p q c [] i d w at t = absurd at
-take_place given IsGood p q c (o ∷ os) zero d w at t = take_first given IsGood p q (served o) (served (record { number = o.number; connection = w })) (map served os) t
-take_place given IsGood p q c (o ∷ os) (suc i) d w at t = take_behind given IsGood p q (served o) (map served os) _ (take_place given IsGood p q c os i d w at.1 t)
+take_place given IsGood p q c (o ∷ os) zero d w at t = take_first given IsGood p q (connection_shown o) (connection_shown (record { number = o.number; connection = w })) (map connection_shown os) t
+take_place given IsGood p q c (o ∷ os) (suc i) d w at t = take_behind given IsGood p q (connection_shown o) (map connection_shown os) _ (take_place given IsGood p q c os i d w at.1 t)
 
 -- the connection of number c takes them
 pub take_at : (given : Holders) (IsGood : Look → Type 0) (p q : Slots) (c : ℕ) (os : List OpenConnection) (i : ℕ) (d : OpenConnection) (w : Present) → position (is_numbered c) os ≡ Some i → TakesRanges given IsGood p (get_or os i d).connection q w →
-    TakeRanges given IsGood p (map served os) q (map served (set os i (record { number = (get_or os i d).number; connection = w })))
+    TakeRanges given IsGood p (map connection_shown os) q (map connection_shown (set os i (record { number = (get_or os i d).number; connection = w })))
 take_at given IsGood p q c os i d w at t = take_place given IsGood p q c os i d w (is_place c os i at) t
 
 -- ---- by a result

@@ -4,37 +4,40 @@ use Rattle.std.specs.Option.{option_map_or}
 use Rattle.conn_core.specs.declared.event.CallEvent.{CallEvent}
 use Rattle.conn_core.specs.declared.event.CallEvent.TheVariants.{Cancel}
 use Rattle.conn_core.specs.Past.{Past}
-use Rattle.conn_core.specs.StandsFor.{Present, StandsFor as IsConnection, Becomes, Pops as PopsOne, ReadsFrame as ReadsOneFrame, unread, live_calls}
-use Rattle.grpc_sending.specs.Kept.{Look, AgreeOn, new_kept}
+use Rattle.conn_core.specs.StandsFor.{Present, StandsFor as IsConnection, Becomes, Pops as PopsOne, ReadsFrame as ReadsOneFrame, unread_length, live_calls}
+use Rattle.grpc_sending.specs.StoredSending.{Look, AgreeOn, new_stored_sending}
 use Rattle.instance_core.specs.State.{InstanceState}
 use Rattle.served_instance.specs.declared.open_connection.OpenConnection.{OpenConnection}
 use Rattle.served_instance.specs.Connections.{open_at, open_ones}
-use Rattle.served_instance.specs.Lone.{Lone, all_read}
+use Rattle.served_instance.specs.Lone.{Lone, after_reading_on}
 use Rattle.served_instance.specs.StandsFor.{AreServed, connection_at}
 use Rattle.served_instance.specs.Ranges.{KeepRanges, sources_at}
 use Rattle.served_instance.specs.Slots.{ServedSlots}
 use Rattle.instance_core.specs.Slots.{InstanceSlots, state_in}
-use Rattle.blob_pool.specs.Held.{Slots, text_at}
-use Rattle.served_instance.specs.Shown.{served}
+use Rattle.blob_pool.specs.Slots.{Slots, text_at}
+use Rattle.served_instance.specs.Shown.{connection_shown}
 
 -- ---- one connection
 
 -- the connection of number c
-abbrev pub kept_at : ℕ → List OpenConnection → Option Present
-kept_at c os = connection_at c (map served os)
+abbrev pub present_at : ℕ → List OpenConnection → Option Present
+present_at c os = connection_at c (map connection_shown os)
 
 -- it has become w
-abbrev pub replaced : ℕ → Present → List OpenConnection → List OpenConnection
-replaced c w [] = []
-replaced c w (o ∷ os) = if o.number == c then record o { connection = w } ∷ os else o ∷ replaced c w os
+abbrev pub with_present : ℕ → Present → List OpenConnection → List OpenConnection
+with_present c w [] = []
+with_present c w (o ∷ os) =
+    if o.number == c then record o { connection = w } ∷ os else o ∷ with_present c w os
 
-abbrev pub ChangedFrom : Option Present → ℕ → List OpenConnection → List OpenConnection → (Present → Present → Type 0) → Type 0
+abbrev pub ChangedFrom : Option Present → ℕ → List OpenConnection → List OpenConnection →
+    (Present → Present → Type 0) → Type 0
 ChangedFrom None c os ns R = ns ≡ os
-ChangedFrom (Some v) c os ns R = (w : Present) × (ns ≡ replaced c w os) × R v w
+ChangedFrom (Some v) c os ns R = (w : Present) × (ns ≡ with_present c w os) × R v w
 
 -- what became of the connection of number c, if there is one; the others stayed as they were
-abbrev pub Changed : ℕ → List OpenConnection → List OpenConnection → (Present → Present → Type 0) → Type 0
-Changed c os ns R = ChangedFrom (kept_at c os) c os ns R
+abbrev pub Changed : ℕ → List OpenConnection → List OpenConnection → (Present → Present → Type 0) →
+    Type 0
+Changed c os ns R = ChangedFrom (present_at c os) c os ns R
 
 -- this step
 abbrev pub Takes : (Past → Past) → Present → Present → Type 0
@@ -46,7 +49,8 @@ SendsMore v w = w ≡ record v { sending = w.sending }
 
 -- this step, which reads the texts of sources
 pub record Owes (step : Look → Past → Past) (v w : Present) : Type 0 where
-  pub taken : (texts : Look) (p : Past) → IsConnection texts v p → IsConnection texts w (step texts p)
+  pub taken : (texts : Look) (p : Past) → IsConnection texts v p →
+      IsConnection texts w (step texts p)
   pub rest : SendsMore v w
 
 pub record Pops (given : Option CallEvent) (v w : Present) : Type 0 where
@@ -56,69 +60,80 @@ pub record Pops (given : Option CallEvent) (v w : Present) : Type 0 where
 
 pub record ReadsFrame (more : Bool) (v w : Present) : Type 0 where
   pub frame : ReadsOneFrame v more w
-  pub fewer : IsTrue more → unread w < unread v
+  pub fewer : IsTrue more → unread_length w < unread_length v
 
 -- ---- measures
 
 abbrev pub due_count : ℕ → List OpenConnection → ℕ
-due_count c os = option_map_or (λ v. length v.due) (kept_at c os) 0
+due_count c os = option_map_or (λ v. length v.due) (present_at c os) 0
 
 abbrev pub unread_at : ℕ → List OpenConnection → ℕ
-unread_at c os = option_map_or unread (kept_at c os) 0
+unread_at c os = option_map_or unread_length (present_at c os) 0
 
 -- ---- an instance and its connections
 
 -- they stand for this, with these texts of the sources of ranges
 pub record StandsBy (texts : Look) (s : InstanceState) (os : List OpenConnection) (l : Lone) : Type 0 where
   pub state : s ≡ l.state
-  pub connections : AreServed texts (map served os) (open_ones l.connections)
+  pub connections : AreServed texts (map connection_shown os) (open_ones l.connections)
 
 -- they take this step, by these texts before and by others afterwards
-abbrev pub ActsBy : Look → InstanceState → List OpenConnection → Look → InstanceState → List OpenConnection → (Lone → Lone) → Type 0
-ActsBy texts s os others t ns step = (l : Lone) → StandsBy texts s os l → StandsBy others t ns (step l)
+abbrev pub ActsBy : Look → InstanceState → List OpenConnection → Look → InstanceState →
+    List OpenConnection → (Lone → Lone) → Type 0
+ActsBy texts s os others t ns step =
+    (l : Lone) → StandsBy texts s os l → StandsBy others t ns (step l)
 
 -- .. whatever the texts are
-abbrev pub Acts : InstanceState → List OpenConnection → InstanceState → List OpenConnection → (Lone → Lone) → Type 0
+abbrev pub Acts : InstanceState → List OpenConnection → InstanceState → List OpenConnection →
+    (Lone → Lone) → Type 0
 Acts s os t ns step = (texts : Look) → ActsBy texts s os texts t ns step
 
 -- .. by those of a pool
-abbrev pub ActsIn : Slots → InstanceSlots → List OpenConnection → Slots → InstanceSlots → List OpenConnection → (Lone → Lone) → Type 0
+abbrev pub ActsIn : Slots → InstanceSlots → List OpenConnection → Slots → InstanceSlots →
+    List OpenConnection → (Lone → Lone) → Type 0
 ActsIn p i os q j ns step = ActsBy (text_at p) (state_in p i) os (text_at q) (state_in q j) ns step
 
 abbrev pub without_sending : Present → Present
-without_sending v = record v { sending = new_kept }
+without_sending v = record v { sending = new_stored_sending }
 
 -- an instance with its connections, as the code keeps it
 abbrev pub slots_of : InstanceSlots → List OpenConnection → ServedSlots
-slots_of i os = record { instance = i; connections = map served os }
+slots_of i os = record { instance = i; connections = map connection_shown os }
 
 -- each range finds the text in the one pool that it found in the other
 abbrev pub FindAlike : Slots → Slots → List OpenConnection → Type 0
-FindAlike p q os = AgreeOn (sources_at (map served os)) (text_at p) (text_at q)
+FindAlike p q os = AgreeOn (sources_at (map connection_shown os)) (text_at p) (text_at q)
 
 -- the same sources of ranges are held
 abbrev pub HoldAlike : List OpenConnection → List OpenConnection → Type 0
-HoldAlike os ns = KeepRanges (map served os) (map served ns)
+HoldAlike os ns = KeepRanges (map connection_shown os) (map connection_shown ns)
 
 -- nothing else than what is to be sent has changed
 abbrev pub Keeps : List OpenConnection → List OpenConnection → Type 0
-Keeps os ns = (c : ℕ) → option_map without_sending (kept_at c ns) ≡ option_map without_sending (kept_at c os)
+Keeps os ns =
+    (c : ℕ) → option_map without_sending (present_at c ns)
+    ≡ option_map without_sending (present_at c os)
 
 -- they are at a state from which this leads to the same
-abbrev pub LeadsBy : Look → InstanceState → List OpenConnection → Look → InstanceState → List OpenConnection → (Lone → Lone) → (Lone → Lone) → Type 0
-LeadsBy texts s os others t ns before after = (l : Lone) → StandsBy texts s os l → (k : Lone) × StandsBy others t ns k × (after k ≡ before l)
+abbrev pub LeadsBy : Look → InstanceState → List OpenConnection → Look → InstanceState →
+    List OpenConnection → (Lone → Lone) → (Lone → Lone) → Type 0
+LeadsBy texts s os others t ns before after =
+    (l : Lone) → StandsBy texts s os l → (k : Lone) × StandsBy others t ns k × (after k ≡ before l)
 
 -- .. whatever the texts are
-abbrev pub LeadsOn : InstanceState → List OpenConnection → InstanceState → List OpenConnection → (Lone → Lone) → (Lone → Lone) → Type 0
+abbrev pub LeadsOn : InstanceState → List OpenConnection → InstanceState → List OpenConnection →
+    (Lone → Lone) → (Lone → Lone) → Type 0
 LeadsOn s os t ns before after = (texts : Look) → LeadsBy texts s os texts t ns before after
 
 -- .. by those of a pool
-abbrev pub LeadsIn : Slots → InstanceSlots → List OpenConnection → Slots → InstanceSlots → List OpenConnection → (Lone → Lone) → (Lone → Lone) → Type 0
-LeadsIn p i os q j ns before after = LeadsBy (text_at p) (state_in p i) os (text_at q) (state_in q j) ns before after
+abbrev pub LeadsIn : Slots → InstanceSlots → List OpenConnection → Slots → InstanceSlots →
+    List OpenConnection → (Lone → Lone) → (Lone → Lone) → Type 0
+LeadsIn p i os q j ns before after =
+    LeadsBy (text_at p) (state_in p i) os (text_at q) (state_in q j) ns before after
 
 -- all that was received on connection c and not read yet is read
-abbrev pub rest_read : ℕ → Lone → Lone
-rest_read c l = all_read c l (open_at c l.connections)
+abbrev pub after_rest_on : ℕ → Lone → Lone
+after_rest_on c l = after_reading_on c l (open_at c l.connections)
 
 abbrev pub cancels_of : Present → List CallEvent
 cancels_of v = map Cancel (live_calls v)

@@ -16,23 +16,25 @@ is_open k = k.is_open
 abbrev pub open_ones : List LoneConnection → List LoneConnection
 open_ones ks = filter is_open ks
 
-abbrev pub is_at : ℕ → LoneConnection → Bool
-is_at c k = k.is_open && k.number == c
+abbrev pub is_open_at : ℕ → LoneConnection → Bool
+is_open_at c k = k.is_open && k.number == c
 
 -- what passed on the open connection of this number
 abbrev pub open_at : ℕ → List LoneConnection → Option Past
 open_at c [] = None
-open_at c (k ∷ ks) = if is_at c k then Some k.past else open_at c ks
+open_at c (k ∷ ks) = if is_open_at c k then Some k.past else open_at c ks
 
 -- a step of the open connection of this number
 abbrev pub at_open : ℕ → (Past → Past) → List LoneConnection → List LoneConnection
 at_open c step [] = []
-at_open c step (k ∷ ks) = if is_at c k then record k { past = step k.past } ∷ ks else k ∷ at_open c step ks
+at_open c step (k ∷ ks) =
+    if is_open_at c k then record k { past = step k.past } ∷ ks else k ∷ at_open c step ks
 
 -- the open connection of this number is closed
-abbrev pub closed_at : ℕ → List LoneConnection → List LoneConnection
-closed_at c [] = []
-closed_at c (k ∷ ks) = if is_at c k then record k { is_open = false } ∷ ks else k ∷ closed_at c ks
+abbrev pub with_closed : ℕ → List LoneConnection → List LoneConnection
+with_closed c [] = []
+with_closed c (k ∷ ks) =
+    if is_open_at c k then record k { is_open = false } ∷ ks else k ∷ with_closed c ks
 
 -- a step of each open connection
 abbrev pub step_if_open : (Past → Past) → LoneConnection → LoneConnection

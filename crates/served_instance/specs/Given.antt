@@ -2,9 +2,9 @@
 -- that they hold.
 use Rattle.std.specs.Prelude.{◌≡◌, ◌+◌, ◌≤◌, ◌<◌, ◌^◌, ℕ, List, length, map}
 use Rattle.std.specs.List.{AllByRecursion}
-use Rattle.blob_pool.specs.Held.{Slots}
-use Rattle.blob_pool.specs.Moves.{Holders, Moves, nobody}
-use Rattle.grpc_sending.specs.Kept.{Look, Fit, HasFew, sources_of}
+use Rattle.blob_pool.specs.Slots.{Slots}
+use Rattle.blob_pool.specs.Moves.{Holders, Moves, no_holders}
+use Rattle.grpc_sending.specs.StoredSending.{Look, Fit, HasFew, sources_of}
 use Rattle.grpc_sending.specs.Sources.{count_of}
 use Rattle.conn_core.specs.Past.{Past}
 use Rattle.conn_core.specs.StandsFor.{Present}
@@ -13,7 +13,7 @@ use Rattle.instance_core.specs.declared.event.ReplyItem.{ReplyItem}
 use Rattle.instance_core.specs.declared.event.ReplyItem.TheVariants.{Begins, Says, Gives, Ends, Refuses}
 use Rattle.instance_core.specs.Replies.{ReplyItemValue, begins, says, gives, ends, refuses, ReplyValue}
 use Rattle.served_instance.specs.Calls.{items_of, with_items}
-use Rattle.served_instance.specs.StandsFor.{Served}
+use Rattle.served_instance.specs.StandsFor.{ServedConnection}
 use Rattle.served_instance.specs.Ranges.{range_holders, AreFit, HaveFew}
 
 -- ---- with the texts of a look-up
@@ -61,16 +61,17 @@ RepliesEndWithin replies texts = AllByRecursion (λ reply. ReplyEndsWithin reply
 pub record TakesRanges (given : Holders) (IsGood : Look → Type 0) (p : Slots) (v : Present) (q : Slots) (w : Present) : Type 0 where
   pub gone : Holders
   pub fewer : (k : ℕ) → gone k ≤ given k
-  pub sources : (k : ℕ) → count_of k (sources_of w.sending) + gone k ≡ count_of k (sources_of v.sending) + given k
+  pub sources : (k : ℕ) →
+      count_of k (sources_of w.sending) + gone k ≡ count_of k (sources_of v.sending) + given k
   pub few : HasFew v.sending → HasFew w.sending
   pub fit : (texts : Look) → IsGood texts → Fit texts v.sending.queues → Fit texts w.sending.queues
-  pub moves : Moves p q gone nobody
+  pub moves : Moves p q gone no_holders
 
 -- .. the connections together
-pub record TakeRanges (given : Holders) (IsGood : Look → Type 0) (p : Slots) (vs : List Served) (q : Slots) (ws : List Served) : Type 0 where
+pub record TakeRanges (given : Holders) (IsGood : Look → Type 0) (p : Slots) (vs : List ServedConnection) (q : Slots) (ws : List ServedConnection) : Type 0 where
   pub gone : Holders
   pub fewer : (k : ℕ) → gone k ≤ given k
   pub sources : (k : ℕ) → range_holders ws k + gone k ≡ range_holders vs k + given k
   pub few : HaveFew vs → HaveFew ws
   pub fit : (texts : Look) → IsGood texts → AreFit texts vs → AreFit texts ws
-  pub moves : Moves p q gone nobody
+  pub moves : Moves p q gone no_holders

@@ -7,16 +7,16 @@ use Rattle.served_instance.specs.declared.open_connection.OpenConnection.{OpenCo
 use Rattle.served_instance.specs.declared.refusal.EventRefusal.{EventRefusal}
 use Rattle.served_instance.specs.declared.refusal.EventRefusal.TheVariants.{TimeWentBack, ConnectionExists, TooManyConnections, NoSuchConnection, TookTooMuch, NoSuchJob}
 use Rattle.served_instance.specs.Refusals.{connection_limit}
-use Rattle.served_instance.specs.StandsFor.{Served, connection_at}
+use Rattle.served_instance.specs.StandsFor.{ServedConnection, connection_at}
 use Rattle.served_instance.specs.Slots.{ServedSlots}
 
 abbrev pub is_numbered : ℕ → OpenConnection → Bool
 is_numbered c kept = kept.number == c
 
-abbrev pub unless_kept : ℕ → List Served → Option EventRefusal
-unless_kept c vs = option_map_or (λ v. None) (connection_at c vs) (Some NoSuchConnection)
+abbrev pub unless_present : ℕ → List ServedConnection → Option EventRefusal
+unless_present c vs = option_map_or (λ v. None) (connection_at c vs) (Some NoSuchConnection)
 
-abbrev pub refusal_to_open : ℕ → List Served → Option EventRefusal
+abbrev pub refusal_to_open : ℕ → List ServedConnection → Option EventRefusal
 refusal_to_open c vs =
     if is_some (connection_at c vs) then Some ConnectionExists
     else if nat_le connection_limit (length vs) then Some TooManyConnections
@@ -25,19 +25,21 @@ refusal_to_open c vs =
 abbrev pub unless_more : ℕ → Present → Option EventRefusal
 unless_more n v = if nat_lt (length v.sending.pending) n then Some TookTooMuch else None
 
-abbrev pub refusal_to_take : ℕ → ℕ → List Served → Option EventRefusal
+abbrev pub refusal_to_take : ℕ → ℕ → List ServedConnection → Option EventRefusal
 refusal_to_take c n vs = option_map_or (unless_more n) (connection_at c vs) (Some NoSuchConnection)
 
-abbrev pub refusal_by_what : WhatValue → List Served → Option EventRefusal
+abbrev pub refusal_by_what : WhatValue → List ServedConnection → Option EventRefusal
 refusal_by_what (opened c) vs = refusal_to_open c vs
-refusal_by_what (received c bytes) vs = unless_kept c vs
+refusal_by_what (received c bytes) vs = unless_present c vs
 refusal_by_what (took c n) vs = refusal_to_take c n vs
-refusal_by_what (closed c) vs = unless_kept c vs
+refusal_by_what (closed c) vs = unless_present c vs
 refusal_by_what tick vs = None
 refusal_by_what (ended job outcome) vs = Some NoSuchJob
 
 abbrev pub refusal_by : EventValue → ServedSlots → Option EventRefusal
-refusal_by e v = if nat_lt e.moment v.instance.moment then Some TimeWentBack else refusal_by_what e.what v.connections
+refusal_by e v =
+    if nat_lt e.moment v.instance.moment then Some TimeWentBack
+    else refusal_by_what e.what v.connections
 
 -- no more than waits
 abbrev pub CanTake : ℕ → Option Present → Type 0

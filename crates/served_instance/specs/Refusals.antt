@@ -1,12 +1,12 @@
 -- Which events an instance refuses, and why: the first of these reasons, in their order.
 use Rattle.std.specs.Prelude.{◌≡◌, ℕ, nat_le, nat_lt, if◌then◌else◌, length, Option, Some, None, Result, Ok, Err}
 use Rattle.std.specs.Option.{is_some, option_map_or}
-use Rattle.grpc_sending.specs.Bytes.{untaken}
+use Rattle.grpc_sending.specs.Bytes.{untaken_count}
 use Rattle.server_events.specs.Events.{EventValue, WhatValue, opened, received, took, closed, tick, ended}
 use Rattle.served_instance.specs.declared.refusal.EventRefusal.{EventRefusal}
 use Rattle.served_instance.specs.declared.refusal.EventRefusal.TheVariants.{TimeWentBack, ConnectionExists, TooManyConnections, NoSuchConnection, TookTooMuch, NoSuchJob, NoMemory}
 use Rattle.served_instance.specs.Connections.{open_ones, open_at}
-use Rattle.served_instance.specs.Lone.{Lone, accepted}
+use Rattle.served_instance.specs.Lone.{Lone, after_event}
 
 -- the most connections that an instance has open at a time
 abbrev pub connection_limit : ℕ
@@ -22,7 +22,9 @@ refusal_of_what (opened c) l =
     else None
 refusal_of_what (received c bytes) l = unless_open c l
 -- more than was put and not taken yet
-refusal_of_what (took c n) l = option_map_or (λ p. if nat_lt (untaken p.diary) n then Some TookTooMuch else None) (open_at c l.connections) (Some NoSuchConnection)
+refusal_of_what (took c n) l =
+    option_map_or (λ p. if nat_lt (untaken_count p.history) n then Some TookTooMuch else None)
+    (open_at c l.connections) (Some NoSuchConnection)
 refusal_of_what (closed c) l = unless_open c l
 refusal_of_what tick l = None
 -- no action runs
@@ -30,15 +32,16 @@ refusal_of_what (ended job outcome) l = Some NoSuchJob
 
 -- time does not go back
 abbrev pub refusal_of : EventValue → Lone → Option EventRefusal
-refusal_of e l = if nat_lt e.moment l.state.moment then Some TimeWentBack else refusal_of_what e.what l
+refusal_of e l =
+    if nat_lt e.moment l.state.moment then Some TimeWentBack else refusal_of_what e.what l
 
 -- a refused event changes nothing
-abbrev pub stepped : EventValue → Lone → Option EventRefusal → Lone
-stepped e l None = accepted e l
-stepped e l (Some refusal) = l
+abbrev pub after_event_unless : EventValue → Lone → Option EventRefusal → Lone
+after_event_unless e l None = after_event e l
+after_event_unless e l (Some refusal) = l
 
 abbrev pub lone_step : EventValue → Lone → Lone
-lone_step e l = stepped e l (refusal_of e l)
+lone_step e l = after_event_unless e l (refusal_of e l)
 
 -- an event is refused for its reason, where there is one; and for want of memory only where there
 -- is none

@@ -1,22 +1,22 @@
 -- What an instance with its connections keeps of its own, and what that is in a pool of texts.
 use Rattle.std.specs.Prelude.{ℕ, ◌+◌, ◌≤◌, ◌<◌, ◌^◌, List, map}
-use Rattle.blob_pool.specs.Held.{Slots, text_at, count_at}
+use Rattle.blob_pool.specs.Slots.{Slots, text_at, count_at}
 use Rattle.blob_pool.specs.Moves.{Holders}
 use Rattle.instance_core.specs.Slots.{InstanceSlots, state_in, holders_of as holders_of_instance}
 use Rattle.served_instance.specs.Connections.{open_ones}
 use Rattle.served_instance.specs.Lone.{Lone}
-use Rattle.served_instance.specs.StandsFor.{Served, ServedState, AreServed, IsWithin}
+use Rattle.served_instance.specs.StandsFor.{ServedConnection, ServedState, AreServed, IsWithin}
 use Rattle.served_instance.specs.Ranges.{served_with, sources_at, range_holders, AreFit, HaveFew}
 
 -- the instance, whose texts stand in slots, and its open connections, whose ranges are of texts in
 -- slots
 pub record ServedSlots : Type 0 where
   pub instance : InstanceSlots
-  pub connections : List Served
+  pub connections : List ServedConnection
 
 -- with the texts that a pool has in the slots
-abbrev pub served_in : Slots → ServedSlots → ServedState
-served_in p v = record {
+abbrev pub served_state_in : Slots → ServedSlots → ServedState
+served_state_in p v = record {
   state = state_in p v.instance;
   connections = map (served_with (text_at p)) v.connections;
   ranges = map (text_at p) (sources_at v.connections);
@@ -32,7 +32,7 @@ pub record IsKept (p : Slots) (v : ServedSlots) : Type 0 where
   pub counted : (k : ℕ) → holders_of v k ≤ count_at p k
   -- but for it there are fewer than 2^125 holders of any slot
   pub others : (k : ℕ) → count_at p k < holders_of v k + 2 ^ 125
-  pub within : IsWithin (served_in p v)
+  pub within : IsWithin (served_state_in p v)
   pub fit : AreFit (text_at p) v.connections
   pub few : HaveFew v.connections
 

@@ -2,7 +2,7 @@
 use Rattle.std.specs.Prelude.{◌≡◌, ◌≤◌, ◌==◌, ℕ, if◌then◌else◌, List, [], ◌∷◌, length, Option, Some, None}
 use Rattle.std.specs.List.{AllByRecursion}
 use Rattle.grpc_sending.specs.Settled.{IsSettled}
-use Rattle.grpc_sending.specs.Kept.{Look}
+use Rattle.grpc_sending.specs.StoredSending.{Look}
 use Rattle.conn_core.specs.StandsFor.{Present, StandsFor as IsConnection}
 use Rattle.instance_core.specs.State.{InstanceState, WithinLimits}
 use Rattle.served_instance.specs.Connections.{LoneConnection, open_ones}
@@ -10,7 +10,7 @@ use Rattle.served_instance.specs.Lone.{Lone}
 use Rattle.served_instance.specs.Refusals.{connection_limit}
 
 -- an open connection and its number
-pub record Served : Type 0 where
+pub record ServedConnection : Type 0 where
   pub number : ℕ
   pub connection : Present
 
@@ -18,15 +18,16 @@ pub record ServedState : Type 0 where
   pub state : InstanceState
   -- the open connections, in order of opening; of each range the messages stand there that are to
   -- be put
-  pub connections : List Served
+  pub connections : List ServedConnection
   -- the text of each range, as often as it is held: until the range is wholly put, or its stream is
   -- over
   pub ranges : List (List ℕ)
 
 -- with these texts of the sources of their ranges
-abbrev pub AreServed : Look → List Served → List LoneConnection → Type 0
+abbrev pub AreServed : Look → List ServedConnection → List LoneConnection → Type 0
 AreServed texts [] [] = Unit {0}
-AreServed texts (v ∷ vs) (k ∷ ks) = (v.number ≡ k.number) × IsConnection texts v.connection k.past × AreServed texts vs ks
+AreServed texts (v ∷ vs) (k ∷ ks) =
+    (v.number ≡ k.number) × IsConnection texts v.connection k.past × AreServed texts vs ks
 AreServed texts vs ks = ⊥
 
 -- where no range is left no text is looked up
@@ -44,11 +45,11 @@ pub record IsWithin (v : ServedState) : Type 0 where
 
 -- nothing more can be put on an open connection
 abbrev pub IsSettledConnection : LoneConnection → Type 0
-IsSettledConnection k = IsSettled k.past.diary k.past.owed
+IsSettledConnection k = IsSettled k.past.history k.past.owed
 
 abbrev pub AreSettled : Lone → Type 0
 AreSettled l = AllByRecursion IsSettledConnection (open_ones l.connections)
 
-abbrev pub connection_at : ℕ → List Served → Option Present
+abbrev pub connection_at : ℕ → List ServedConnection → Option Present
 connection_at c [] = None
 connection_at c (v ∷ vs) = if v.number == c then Some v.connection else connection_at c vs

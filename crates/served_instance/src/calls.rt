@@ -5,13 +5,13 @@ ghost use Rattle.instance_core.specs.Calls.{IsShortEvent};
 ghost use Rattle.instance_core.specs.Shown.{event_shown};
 ghost use Rattle.instance_core.specs.Slots.{state_in, holders_of as holders_of_instance, IsKept as IsInstanceKept};
 ghost use Rattle.served_instance.specs.Slots.{holders_of, IsKept};
-ghost use Rattle.blob_pool.specs.Held.{Slots, count_at};
+ghost use Rattle.blob_pool.specs.Slots.{Slots, count_at};
 ghost use Rattle.blob_pool.specs.Moves.{Moves};
 ghost use Rattle.served_instance.specs.declared.open_connection.OpenConnection.{OpenConnection};
-ghost use Rattle.served_instance.specs.Acts.{Acts, ActsIn, LeadsIn, Keeps, kept_at, slots_of, unread_at, rest_read, cancels_of};
+ghost use Rattle.served_instance.specs.Acts.{Acts, ActsIn, LeadsIn, Keeps, present_at, slots_of, unread_at, after_rest_on, cancels_of};
 ghost use Rattle.served_instance.specs.Ranges.{Releases, range_holders};
-ghost use Rattle.served_instance.specs.Shown.{served};
-ghost use Rattle.served_instance.specs.Lone.{Lone, happened, all_happened, due_happened, bytes_came, was_closed};
+ghost use Rattle.served_instance.specs.Shown.{connection_shown};
+ghost use Rattle.served_instance.specs.Lone.{Lone, after_call_event, after_call_events, after_due_on, after_bytes_on, after_closing};
 
 use crate::open_connection::{OpenConnection, feed, find, pop_event, read_frame};
 use crate::release::release_spent;
@@ -32,7 +32,7 @@ fn happen(
     requires short { IsShortEvent (event_shown event) }
     requires kept { IsKept pool.old (slots_of instance.old connections.old) }
     ensures happened { OnOk result (ActsIn pool.old instance.old connections.old
-        pool.new instance.new connections.new (happened (event_shown event))) }
+        pool.new instance.new connections.new (after_call_event (event_shown event))) }
     ensures rest { OnOk result (Keeps connections.old connections.new) }
     ensures moves { Moves pool.old pool.new (holders_of (slots_of instance.old connections.old))
         (holders_of (slots_of instance.new connections.new)) }
@@ -52,7 +52,7 @@ fn give_due(
 ) -> Result<(), AllocError>
     requires kept { IsKept pool.old (slots_of instance.old connections.old) }
     ensures due { OnOk result (ActsIn pool.old instance.old connections.old
-        pool.new instance.new connections.new (due_happened number)) }
+        pool.new instance.new connections.new (after_due_on number)) }
     ensures unread { OnOk result (unread_at number connections.new
         ≡ unread_at number connections.old) }
     ensures moves { Moves pool.old pool.new (holders_of (slots_of instance.old connections.old))
@@ -77,9 +77,9 @@ fn read_next(
 ) -> Result<bool, AllocError>
     requires kept { IsKept pool.old (slots_of instance.old connections.old) }
     ensures reads { OnOk result (LeadsIn pool.old instance.old connections.old
-        pool.new instance.new connections.new (rest_read number) (rest_read number)) }
+        pool.new instance.new connections.new (after_rest_on number) (after_rest_on number)) }
     ensures ends { IfOk result (λ more. more ≡ false → ActsIn pool.old instance.old connections.old
-        pool.new instance.new connections.new (rest_read number)) }
+        pool.new instance.new connections.new (after_rest_on number)) }
     ensures fewer { IfOk result (λ more. IsTrue more
         → unread_at number connections.new < unread_at number connections.old) }
     ensures moves { Moves pool.old pool.new (holders_of (slots_of instance.old connections.old))
@@ -106,7 +106,7 @@ pub(crate) fn receive(
 ) -> Result<(), AllocError>
     requires kept { IsKept pool.old (slots_of instance.old connections.old) }
     ensures came { OnOk result (ActsIn pool.old instance.old connections.old
-        pool.new instance.new connections.new (bytes_came number bytes.now)) }
+        pool.new instance.new connections.new (after_bytes_on number bytes.now)) }
     ensures moves { Moves pool.old pool.new (holders_of (slots_of instance.old connections.old))
         (holders_of (slots_of instance.new connections.new)) }
     ensures kept { IsKept pool.new (slots_of instance.new connections.new) }
@@ -124,12 +124,13 @@ pub(crate) fn close(
     connections: &mut Vec<OpenConnection>,
     number: u32,
 )
-    requires { (k : ℕ) → range_holders (map served connections.old.items) k ≤ count_at pool.old k }
+    requires { (k : ℕ) → range_holders (map connection_shown connections.old.items) k
+        ≤ count_at pool.old k }
     ensures closed { (p : Slots) → Acts (state_in p instance.old) connections.old.items
-        (state_in p instance.new) connections.new.items (was_closed number) }
+        (state_in p instance.new) connections.new.items (after_closing number) }
     ensures fewer { length connections.new.items ≤ length connections.old.items }
-    ensures releases { Releases pool.old (map served connections.old.items)
-        pool.new (map served connections.new.items) }
+    ensures releases { Releases pool.old (map connection_shown connections.old.items)
+        pool.new (map connection_shown connections.new.items) }
     ensures holders { (k : ℕ) → holders_of_instance instance.new k
         ≡ holders_of_instance instance.old k }
     ensures kept { (p : Slots) → IsInstanceKept p instance.old → IsInstanceKept p instance.new }
@@ -149,7 +150,7 @@ pub(crate) fn close(
 fn give_up(instance: &mut Instance, number: u32, mut closed: Connection)
     ensures cancelled { (p : Slots) (others : List OpenConnection)
         → Acts (state_in p instance.old) others (state_in p instance.new) others
-        (all_happened number (cancels_of closed)) }
+        (after_call_events number (cancels_of closed)) }
     ensures holders { (k : ℕ) → holders_of_instance instance.new k
         ≡ holders_of_instance instance.old k }
     ensures kept { (p : Slots) → IsInstanceKept p instance.old → IsInstanceKept p instance.new }

@@ -2,22 +2,22 @@
 
 ghost use Rattle.std.specs.Prelude.{◌≡◌, ◌≢◌, ◌≤◌, ◌<◌, ◌^◌, ℕ, List, [], None, length, map, Option, option_map, string_bytes, IfSome, IfOk, OnOk, OnErr, IfErr};
 ghost use Rattle.server_events.specs.Shown.{event_value, what_value};
-ghost use Rattle.grpc_sending.specs.Bytes.{most_untaken, pending};
-ghost use Rattle.http2_streams.specs.Diary.{has_failed};
+ghost use Rattle.grpc_sending.specs.Bytes.{most_untaken, pending_bytes};
+ghost use Rattle.http2_streams.specs.History.{has_failed};
 ghost use Rattle.conn_core.specs.Past.{Past, with_pumped};
 ghost use Rattle.served_instance.specs.Connections.{LoneConnection, open_at, open_ones, at_all_open};
-ghost use Rattle.served_instance.specs.Lone.{Lone, start, acted, was_opened, pumped_all};
+ghost use Rattle.served_instance.specs.Lone.{Lone, new_lone, effect_of, after_opening, after_pump};
 ghost use Rattle.served_instance.specs.Refusals.{NeedsNoMemory, refusal_of, lone_step, IsOutcome};
 ghost use Rattle.served_instance.specs.StandsFor.{StandsFor, IsWithin, AreServed, AreSettled};
-ghost use Rattle.served_instance.specs.Present.{refusal_by, refusal_by_what, refusal_to_open, unless_kept, refusal_to_take};
-ghost use Rattle.served_instance.specs.Shown.{served};
+ghost use Rattle.served_instance.specs.Present.{refusal_by, refusal_by_what, refusal_to_open, unless_present, refusal_to_take};
+ghost use Rattle.served_instance.specs.Shown.{connection_shown};
 ghost use Rattle.served_instance.specs.Acts.{Acts, ActsIn, HoldAlike, slots_of};
-ghost use Rattle.served_instance.specs.Ranges.{AreFit, Releases, range_holders, spent_at};
+ghost use Rattle.served_instance.specs.Ranges.{AreFit, Releases, range_holders, spent_sources};
 ghost use Rattle.instance_core.specs.State.{InstanceState};
 ghost use Rattle.instance_core.specs.Slots.{state_in};
-ghost use Rattle.served_instance.specs.Slots.{served_in, holders_of, IsKept, HasConnections};
-ghost use Rattle.blob_pool.specs.Held.{Slots, text_at, count_at};
-ghost use Rattle.blob_pool.specs.Moves.{Moves, nobody};
+ghost use Rattle.served_instance.specs.Slots.{served_state_in, holders_of, IsKept, HasConnections};
+ghost use Rattle.blob_pool.specs.Slots.{Slots, text_at, count_at};
+ghost use Rattle.blob_pool.specs.Moves.{Moves, no_holders};
 
 use crate::calls::{close, receive};
 use crate::open_connection::{OpenConnection, connection_at, take};
@@ -45,12 +45,12 @@ pub struct ServedInstance {
 impl Model for ServedInstance {
     ghost use Rattle.std.specs.Prelude.{◌≤◌, map, length};
     ghost use Rattle.served_instance.specs.Slots.{ServedSlots};
-    ghost use Rattle.served_instance.specs.Shown.{served};
+    ghost use Rattle.served_instance.specs.Shown.{connection_shown};
 
     ghost Value = { ServedSlots };
 
     ghost view = { λ s.
-        record { instance = s.instance; connections = map served s.connections.items } };
+        record { instance = s.instance; connections = map connection_shown s.connections.items } };
 
     ghost invariant = { λ s. length s.connections.items ≤ 64 };
 }
@@ -59,9 +59,9 @@ impl ServedInstance {
     /// An instance that nothing has happened to.
     pub fn new(alloc: Global, config: &InstanceConfig) -> Result<ServedInstance, AllocError>
         requires quota { config.now.quota ≤ 2 ^ 40 }
-        ensures stands { (p : Slots) → IfOk result (λ served. StandsFor (served_in p served)
-            (start (string_bytes config.now.name) config.now.quota config.now.slots)) }
-        ensures within { (p : Slots) → IfOk result (λ served. IsWithin (served_in p served)) }
+        ensures stands { (p : Slots) → IfOk result (λ served. StandsFor (served_state_in p served)
+            (new_lone (string_bytes config.now.name) config.now.quota config.now.slots)) }
+        ensures within { (p : Slots) → IfOk result (λ served. IsWithin (served_state_in p served)) }
         ensures holders { IfOk result (λ served. (k : ℕ) → holders_of served k ≡ 0) }
     {
         Ok(ServedInstance {
@@ -77,20 +77,20 @@ impl ServedInstance {
     /// limits stand then too, and the pool still counts it.
     pub fn step(&mut self, pool: &mut Pool, event: &Event) -> Result<(), EventRefusal>
         requires kept { IsKept pool.old self.old }
-        ensures outcome { (l : Lone) → StandsFor (served_in pool.old self.old) l
+        ensures outcome { (l : Lone) → StandsFor (served_state_in pool.old self.old) l
             → IsOutcome result (refusal_of (event_value event.now) l) }
-        ensures stands { (l : Lone) → StandsFor (served_in pool.old self.old) l
+        ensures stands { (l : Lone) → StandsFor (served_state_in pool.old self.old) l
             → (result ≢ Err EventRefusal.NoMemory)
-            → StandsFor (served_in pool.new self.new) (lone_step (event_value event.now) l) }
+            → StandsFor (served_state_in pool.new self.new) (lone_step (event_value event.now) l) }
         ensures here { result ≢ Err EventRefusal.NoSuchInstance }
         ensures memory_free { NeedsNoMemory (event_value event.now).what
             → result ≢ Err EventRefusal.NoMemory }
         ensures refused { IfErr result (λ refusal. refusal ≢ EventRefusal.NoMemory
             → (self.new ≡ self.old) × (pool.new ≡ pool.old)) }
-        ensures settled { OnOk result ((l : Lone) → StandsFor (served_in pool.old self.old) l
+        ensures settled { OnOk result ((l : Lone) → StandsFor (served_state_in pool.old self.old) l
             → AreSettled (lone_step (event_value event.now) l)) }
         // No source is held of a range that is over.
-        ensures released { OnOk result (spent_at self.new.connections ≡ []) }
+        ensures released { OnOk result (spent_sources self.new.connections ≡ []) }
         ensures moves { Moves pool.old pool.new (holders_of self.old) (holders_of self.new) }
         ensures kept { IsKept pool.new self.new }
     {
@@ -118,7 +118,7 @@ impl ServedInstance {
     pub fn pending(&self, connection: u32) -> Option<&[u8]>
         ensures bytes { (l : Lone) → HasConnections self.now l
             → option_map (λ bytes. bytes.now) result
-            ≡ option_map (λ p. pending p.diary) (open_at connection l.connections) }
+            ≡ option_map (λ p. pending_bytes p.history) (open_at connection l.connections) }
         ensures room { IfSome result (λ bytes. length bytes.now ≤ most_untaken) }
     {
         match connection_at(&self.connections, connection) {
@@ -130,7 +130,7 @@ impl ServedInstance {
     /// Whether an error of an open connection was met.
     pub fn ended(&self, connection: u32) -> Option<bool>
         ensures { (l : Lone) → HasConnections self.now l
-            → result ≡ option_map (λ p. has_failed p.diary) (open_at connection l.connections) }
+            → result ≡ option_map (λ p. has_failed p.history) (open_at connection l.connections) }
     {
         match connection_at(&self.connections, connection) {
             None => None,
@@ -158,9 +158,9 @@ impl ServedInstance {
     /// Puts all that can be put, on each open connection, and releases what no range is left of.
     fn pump(&mut self, pool: &mut Pool)
         requires { IsKept pool.old self.old }
-        ensures stands { (l : Lone) → StandsFor (served_in pool.old self.old) l
-            → StandsFor (served_in pool.new self.new) (pumped_all l) }
-        ensures released { spent_at self.new.connections ≡ [] }
+        ensures stands { (l : Lone) → StandsFor (served_state_in pool.old self.old) l
+            → StandsFor (served_state_in pool.new self.new) (after_pump l) }
+        ensures released { spent_sources self.new.connections ≡ [] }
         ensures moves { Moves pool.old pool.new (holders_of self.old) (holders_of self.new) }
         ensures kept { IsKept pool.new self.new }
     {
@@ -176,11 +176,12 @@ fn act(
     connections: &mut Vec<OpenConnection>,
     what: &What,
 ) -> Result<(), AllocError>
-    requires accepted { refusal_by_what (what_value what.now) (map served connections.old.items)
+    requires accepted { refusal_by_what (what_value what.now)
+        (map connection_shown connections.old.items)
         ≡ None }
     requires kept { IsKept pool.old (slots_of instance.old connections.old.items) }
     ensures acted { OnOk result (ActsIn pool.old instance.old connections.old.items
-        pool.new instance.new connections.new.items (acted (what_value what.now))) }
+        pool.new instance.new connections.new.items (effect_of (what_value what.now))) }
     ensures memory_free { OnErr result (NeedsNoMemory (what_value what.now) → ⊥) }
     ensures moves { Moves pool.old pool.new
         (holders_of (slots_of instance.old connections.old.items))
@@ -210,7 +211,7 @@ fn act(
 fn open(alloc: Global, connections: &mut Vec<OpenConnection>, number: u32) -> Result<(), AllocError>
     requires few { length connections.old.items < 64 }
     ensures opened { OnOk result ((s : InstanceState)
-        → Acts s connections.old.items s connections.new.items (was_opened number)) }
+        → Acts s connections.old.items s connections.new.items (after_opening number)) }
     ensures few { length connections.new.items ≤ 64 }
     ensures holds { HoldAlike connections.old.items connections.new.items }
 {
@@ -221,16 +222,16 @@ fn open(alloc: Global, connections: &mut Vec<OpenConnection>, number: u32) -> Re
 
 /// Puts all that can be put, on each connection, and releases what no range is left of.
 fn pump_all(pool: &mut Pool, connections: &mut [OpenConnection])
-    requires fit { AreFit (text_at pool.old) (map served connections.old) }
-    requires counted { (k : ℕ) → range_holders (map served connections.old) k
+    requires fit { AreFit (text_at pool.old) (map connection_shown connections.old) }
+    requires counted { (k : ℕ) → range_holders (map connection_shown connections.old) k
         ≤ count_at pool.old k }
     ensures stands { (ks : List LoneConnection)
-        → AreServed (text_at pool.old) (map served connections.old) (open_ones ks)
-        → AreServed (text_at pool.old) (map served connections.new)
+        → AreServed (text_at pool.old) (map connection_shown connections.old) (open_ones ks)
+        → AreServed (text_at pool.old) (map connection_shown connections.new)
         (open_ones (at_all_open with_pumped ks)) }
-    ensures none { spent_at (map served connections.new) ≡ [] }
-    ensures releases { Releases pool.old (map served connections.old)
-        pool.new (map served connections.new) }
+    ensures none { spent_sources (map connection_shown connections.new) ≡ [] }
+    ensures releases { Releases pool.old (map connection_shown connections.old)
+        pool.new (map connection_shown connections.new) }
     ensures count { length connections.new ≡ length connections.old }
 {
     pump_each(pool, connections);
@@ -239,10 +240,10 @@ fn pump_all(pool: &mut Pool, connections: &mut [OpenConnection])
 
 /// Puts all that can be put, on each connection, with the texts of the pool.
 fn pump_each(pool: &Pool, connections: &mut [OpenConnection])
-    requires { AreFit (text_at pool.now) (map served connections.old) }
+    requires { AreFit (text_at pool.now) (map connection_shown connections.old) }
     ensures stands { (ks : List LoneConnection)
-        → AreServed (text_at pool.now) (map served connections.old) (open_ones ks)
-        → AreServed (text_at pool.now) (map served connections.new)
+        → AreServed (text_at pool.now) (map connection_shown connections.old) (open_ones ks)
+        → AreServed (text_at pool.now) (map connection_shown connections.new)
         (open_ones (at_all_open with_pumped ks)) }
     ensures holds { HoldAlike connections.old connections.new }
     ensures count { length connections.new ≡ length connections.old }
@@ -255,7 +256,7 @@ fn pump_each(pool: &Pool, connections: &mut [OpenConnection])
 
 /// Why a connection of this number is not opened.
 fn refusal_to_open(connections: &[OpenConnection], number: u32) -> Option<EventRefusal>
-    ensures { result ≡ refusal_to_open number (map served connections.now) }
+    ensures { result ≡ refusal_to_open number (map connection_shown connections.now) }
 {
     if connection_at(connections, number).is_some() {
         Some(EventRefusal::ConnectionExists)
@@ -268,7 +269,7 @@ fn refusal_to_open(connections: &[OpenConnection], number: u32) -> Option<EventR
 
 /// The connection has to be open.
 fn unless_open(connections: &[OpenConnection], number: u32) -> Option<EventRefusal>
-    ensures { result ≡ unless_kept number (map served connections.now) }
+    ensures { result ≡ unless_present number (map connection_shown connections.now) }
 {
     match connection_at(connections, number) {
         Some(_) => None,
@@ -278,7 +279,7 @@ fn unless_open(connections: &[OpenConnection], number: u32) -> Option<EventRefus
 
 /// No more can be taken than waits.
 fn refusal_to_take(connections: &[OpenConnection], number: u32, count: u32) -> Option<EventRefusal>
-    ensures { result ≡ refusal_to_take number count (map served connections.now) }
+    ensures { result ≡ refusal_to_take number count (map connection_shown connections.now) }
 {
     match connection_at(connections, number) {
         None => Some(EventRefusal::NoSuchConnection),

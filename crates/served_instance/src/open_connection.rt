@@ -3,8 +3,8 @@
 ghost use Rattle.std.specs.Prelude.{◌≡◌, ◌++◌, ◌<◌, ◌≤◌, false, None, map, option_map, position, IfOk, OnOk, length};
 ghost use Rattle.std.specs.Option.{option_map_or};
 ghost use Rattle.conn_core.specs.Past.{Past, with_taken};
-ghost use Rattle.served_instance.specs.Acts.{Changed, Takes, Pops, ReadsFrame, kept_at, HoldAlike};
-ghost use Rattle.served_instance.specs.Shown.{served};
+ghost use Rattle.served_instance.specs.Acts.{Changed, Takes, Pops, ReadsFrame, present_at, HoldAlike};
+ghost use Rattle.served_instance.specs.Shown.{connection_shown};
 ghost use Rattle.served_instance.specs.Present.{is_numbered, CanTake};
 ghost use Rattle.served_instance.specs.StandsFor.{connection_at};
 
@@ -31,7 +31,7 @@ pub(crate) fn connection_at<'a>(
     number: u32,
 ) -> Option<&'a Connection>
     ensures { option_map (λ connection. connection.now) result
-        ≡ connection_at number (map served connections.now) }
+        ≡ connection_at number (map connection_shown connections.now) }
 {
     match find(connections, number) {
         None => None,
@@ -62,7 +62,7 @@ pub(crate) fn read_frame(
 ) -> Result<bool, AllocError>
     ensures read { IfOk result (λ more. Changed number connections.old connections.new
         (ReadsFrame more)) }
-    ensures none { IfOk result (λ more. kept_at number connections.old ≡ None → more ≡ false) }
+    ensures none { IfOk result (λ more. present_at number connections.old ≡ None → more ≡ false) }
     ensures holds { HoldAlike connections.old connections.new }
 {
     match find(connections, number) {
@@ -74,7 +74,7 @@ pub(crate) fn read_frame(
 /// Gives the next event of a call on the connection that is due.
 pub(crate) fn pop_event(connections: &mut [OpenConnection], number: u32) -> Option<CallEvent>
     ensures event { Changed number connections.old connections.new (Pops result) }
-    ensures none { kept_at number connections.old ≡ None → result ≡ None }
+    ensures none { present_at number connections.old ≡ None → result ≡ None }
     ensures holds { HoldAlike connections.old connections.new }
 {
     match find(connections, number) {
@@ -85,7 +85,7 @@ pub(crate) fn pop_event(connections: &mut [OpenConnection], number: u32) -> Opti
 
 /// The client of the connection took so many of the bytes that wait for it.
 pub(crate) fn take(connections: &mut [OpenConnection], number: u32, count: usize)
-    requires { CanTake count (kept_at number connections.old) }
+    requires { CanTake count (present_at number connections.old) }
     ensures taken { Changed number connections.old connections.new
         (Takes (λ p. with_taken p count)) }
     ensures holds { HoldAlike connections.old connections.new }

@@ -1,7 +1,7 @@
 //! The texts of a pool as the sources of ranges.
 
 ghost use Rattle.std.specs.Prelude.{◌<◌, length};
-ghost use Rattle.blob_pool.specs.Held.{text_at};
+ghost use Rattle.blob_pool.specs.Slots.{text_at};
 ghost use Rattle.grpc_sending.specs.Parts.{IsPart};
 
 use blob_pool::{Kept, Pool, keep};

@@ -1,14 +1,14 @@
 //! Sources of ranges that are over are released in the pool. This takes no memory.
 
 ghost use Rattle.std.specs.Prelude.{◌≡◌, ◌≤◌, ℕ, List, [], length, map};
-ghost use Rattle.blob_pool.specs.Held.{count_at};
-ghost use Rattle.blob_pool.specs.Moves.{Moves, nobody};
-ghost use Rattle.grpc_sending.specs.Kept.{Look};
+ghost use Rattle.blob_pool.specs.Slots.{count_at};
+ghost use Rattle.blob_pool.specs.Moves.{Moves, no_holders};
+ghost use Rattle.grpc_sending.specs.StoredSending.{Look};
 ghost use Rattle.grpc_sending.specs.Sources.{count_of};
 ghost use Rattle.conn_core.specs.StandsFor.{Becomes};
 ghost use Rattle.served_instance.specs.Connections.{LoneConnection};
-ghost use Rattle.served_instance.specs.Ranges.{Releases, range_holders, spent_at};
-ghost use Rattle.served_instance.specs.Shown.{served};
+ghost use Rattle.served_instance.specs.Ranges.{Releases, range_holders, spent_sources};
+ghost use Rattle.served_instance.specs.Shown.{connection_shown};
 ghost use Rattle.served_instance.specs.StandsFor.{AreServed};
 
 use crate::open_connection::OpenConnection;
@@ -22,7 +22,8 @@ pub(crate) fn release_spent(pool: &mut Pool, connection: &mut Connection)
     ensures queues { connection.new.sending.queues ≡ connection.old.sending.queues }
     ensures told { connection.new.sending.spent ≡ [] }
     ensures rest { connection.new ≡ record connection.old { sending = connection.new.sending } }
-    ensures moves { Moves pool.old pool.new (λ k. count_of k connection.old.sending.spent) nobody }
+    ensures moves { Moves pool.old pool.new
+        (λ k. count_of k connection.old.sending.spent) no_holders }
 {
     'sources: while let Some(source) = connection.spent() {
         let kept = Kept::of_number(source);
@@ -32,13 +33,14 @@ pub(crate) fn release_spent(pool: &mut Pool, connection: &mut Connection)
 
 /// Releases each source that one of the connections tells.
 pub(crate) fn release_all(pool: &mut Pool, connections: &mut [OpenConnection])
-    requires { (k : ℕ) → range_holders (map served connections.old) k ≤ count_at pool.old k }
+    requires { (k : ℕ) → range_holders (map connection_shown connections.old) k
+        ≤ count_at pool.old k }
     ensures stands { (texts : Look) (ls : List LoneConnection)
-        → AreServed texts (map served connections.old) ls
-        → AreServed texts (map served connections.new) ls }
-    ensures none { spent_at (map served connections.new) ≡ [] }
-    ensures releases { Releases pool.old (map served connections.old)
-        pool.new (map served connections.new) }
+        → AreServed texts (map connection_shown connections.old) ls
+        → AreServed texts (map connection_shown connections.new) ls }
+    ensures none { spent_sources (map connection_shown connections.new) ≡ [] }
+    ensures releases { Releases pool.old (map connection_shown connections.old)
+        pool.new (map connection_shown connections.new) }
     ensures count { length connections.new ≡ length connections.old }
 {
     for kept in connections.iter_mut() {

@@ -3,9 +3,9 @@
 ghost use Rattle.std.specs.Prelude.{◌≡◌, ◌≤◌, ◌<◌, ◌^◌, ℕ, OnOk, length, map};
 ghost use Rattle.std.specs.List.{AllByRecursion};
 ghost use Rattle.conn_core.specs.Past.{Past, with_item};
-ghost use Rattle.grpc_sending.specs.Kept.{Look};
-ghost use Rattle.blob_pool.specs.Held.{count_at};
-ghost use Rattle.blob_pool.specs.Moves.{Moves, nobody, one_at};
+ghost use Rattle.grpc_sending.specs.StoredSending.{Look};
+ghost use Rattle.blob_pool.specs.Slots.{count_at};
+ghost use Rattle.blob_pool.specs.Moves.{Moves, no_holders, one_at};
 ghost use Rattle.instance_core.specs.Calls.{IsShortEvent};
 ghost use Rattle.instance_core.specs.Given.{item_holders, items_holders, replies_holders};
 ghost use Rattle.instance_core.specs.Shown.{event_shown};
@@ -13,9 +13,9 @@ ghost use Rattle.conn_core.specs.StandsFor.{OwesRange};
 ghost use Rattle.served_instance.specs.Acts.{Changed, Owes, Keeps};
 ghost use Rattle.served_instance.specs.Calls.{call_event_on, item_of};
 ghost use Rattle.served_instance.specs.Connections.{LoneConnection, open_ones};
-ghost use Rattle.served_instance.specs.Lone.{Lone, replied};
+ghost use Rattle.served_instance.specs.Lone.{Lone, after_replies};
 ghost use Rattle.served_instance.specs.Given.{item_by, reply_by, with_owed, CanBeOwed, ReplyCanBeOwed, EndsWithin, ItemsEndWithin, ReplyEndsWithin, RepliesEndWithin, TakesRanges, TakeRanges};
-ghost use Rattle.served_instance.specs.Shown.{served};
+ghost use Rattle.served_instance.specs.Shown.{connection_shown};
 ghost use Rattle.served_instance.specs.StandsFor.{AreServed};
 
 use crate::open_connection::{OpenConnection, find};
@@ -52,12 +52,13 @@ pub(crate) fn give_all(
     requires owed { AllByRecursion ReplyCanBeOwed replies.now }
     requires counted { (k : ℕ) → replies_holders replies.now k ≤ count_at pool.old k }
     ensures given { OnOk result ((texts : Look) (l : Lone)
-        → AreServed texts (map served connections.old) (open_ones l.connections)
-        → AreServed texts (map served connections.new)
-        (open_ones (replied (map (reply_by texts) replies.now) l).connections)) }
+        → AreServed texts (map connection_shown connections.old) (open_ones l.connections)
+        → AreServed texts (map connection_shown connections.new)
+        (open_ones (after_replies (map (reply_by texts) replies.now) l).connections)) }
     ensures rest { OnOk result (Keeps connections.old connections.new) }
     ensures takes { TakeRanges (replies_holders replies.now) (RepliesEndWithin replies.now)
-        pool.old (map served connections.old) pool.new (map served connections.new) }
+        pool.old (map connection_shown connections.old) pool.new
+        (map connection_shown connections.new) }
 {
     let mut left = replies;
     'replies: while let [first, rest @ ..] = left {
@@ -82,7 +83,8 @@ fn give(
     ensures given { OnOk result (Changed reply.now.call.connection connections.old connections.new
         (Owes (with_owed reply.now.call.stream reply.now.items.items))) }
     ensures takes { TakeRanges (items_holders reply.now.items.items) (ReplyEndsWithin reply.now)
-        pool.old (map served connections.old) pool.new (map served connections.new) }
+        pool.old (map connection_shown connections.old) pool.new
+        (map connection_shown connections.new) }
 {
     match find(connections, reply.call.connection) {
         None => {
@@ -177,7 +179,7 @@ fn owe_range(
 /// Releases the ranges of the replies.
 fn release_replies(pool: &mut Pool, replies: &[Reply])
     requires { (k : ℕ) → replies_holders replies.now k ≤ count_at pool.old k }
-    ensures { Moves pool.old pool.new (replies_holders replies.now) nobody }
+    ensures { Moves pool.old pool.new (replies_holders replies.now) no_holders }
 {
     let mut left = replies;
     'replies: while let [first, rest @ ..] = left {
@@ -189,7 +191,7 @@ fn release_replies(pool: &mut Pool, replies: &[Reply])
 /// Releases the ranges among the items.
 fn release_items(pool: &mut Pool, items: &[ReplyItem])
     requires { (k : ℕ) → items_holders items.now k ≤ count_at pool.old k }
-    ensures { Moves pool.old pool.new (items_holders items.now) nobody }
+    ensures { Moves pool.old pool.new (items_holders items.now) no_holders }
 {
     let mut left = items;
     'items: while let [first, rest @ ..] = left {
@@ -200,7 +202,7 @@ fn release_items(pool: &mut Pool, items: &[ReplyItem])
 
 fn release_item(pool: &mut Pool, item: &ReplyItem)
     requires { (k : ℕ) → item_holders item.now k ≤ count_at pool.old k }
-    ensures { Moves pool.old pool.new (item_holders item.now) nobody }
+    ensures { Moves pool.old pool.new (item_holders item.now) no_holders }
 {
     if let ReplyItem::Gives(range) = item {
         release_kept(pool, range.text);

@@ -4,7 +4,7 @@ use Rattle.std.specs.Prelude.{◌==◌, true, cond, Some, string_bytes}
 use Rattle.std.proofs.lemmas.Bool.Decides.{nat_tests}
 use Rattle.std.specs.List.{slice_get, AllByRecursion}
 use Rattle.std.proofs.lemmas.Option.{slice_get_within, get_or_from_slice_get}
-use Rattle.blob_pool.specs.Held.{Slots, text_at, count_at}
+use Rattle.blob_pool.specs.Slots.{Slots, text_at, count_at}
 use Rattle.std.proofs.lemmas.Bool.{cases_lt}
 use Rattle.std.proofs.lemmas.List.{get_or-map, map_more, length-map}
 use Rattle.std.proofs.lemmas.Grind.{common_steps}
@@ -12,18 +12,18 @@ use Rattle.server_events.specs.declared.configs.InstanceConfig.{InstanceConfig}
 use Rattle.server_events.specs.Configs.{ConfigValue, instance_limit}
 use Rattle.server_events.specs.Faults.{IsConfig}
 use Rattle.server_events.specs.Shown.{config_value}
-use Rattle.served_instance.specs.Lone.{start}
-use Rattle.served_instance.specs.StandsFor.{Served, ServedState, StandsFor as IsServed, IsWithin}
-use Rattle.served_instance.specs.Slots.{ServedSlots, served_in, holders_of}
+use Rattle.served_instance.specs.Lone.{new_lone}
+use Rattle.served_instance.specs.StandsFor.{ServedConnection, ServedState, StandsFor as IsServed, IsWithin}
+use Rattle.served_instance.specs.Slots.{ServedSlots, served_state_in, holders_of}
 use Rattle.grpc_sending.specs.Sources.{count_of}
-use Rattle.grpc_sending.specs.Kept.{Look, sources_of}
+use Rattle.grpc_sending.specs.StoredSending.{Look, sources_of}
 use Rattle.served_instance.specs.Ranges.{sources_at, range_holders, AreFit, HaveFew}
 use Rattle.grpc_sending.proofs.Agreeing.{count_append}
 use Rattle.served_instance.proofs.Ranges.{fit_none}
 use Rattle.server_core.specs.Shared.{all_in, all_holders, HasRanges, IsServer}
-use Rattle.run_record.specs.Runs.{begun}
+use Rattle.run_record.specs.Runs.{new_run}
 use Rattle.run_record.specs.StandsFor.{RecordValue, StandsFor as IsRecord}
-use Rattle.server_core.specs.Lone.{config_at}
+use Rattle.server_core.specs.LoneOutput.{config_at}
 use Rattle.server_core.specs.RunTo.{IsNotedAt}
 use Rattle.server_core.specs.StandsFor.{StandsAt}
 use Rattle.server_core.proofs.Lists.{get-append, get-last, get-pushed, all-push}
@@ -35,18 +35,18 @@ quota_in xs k x lt at all =
     subst (λ (v : ConfigValue). v.quota ≤ 2 ^ 40) (get_or-map config_value xs k x (config_value x) lt ∙ ap config_value (sym at)) c.quota
 
 abbrev pub Starts : List ConfigValue → List ServedState → Type 0
-Starts configs vs = (i : ℕ) (config : ConfigValue) → config_at i configs ≡ Some config → StandsAt i vs (start config.name config.quota config.slots)
+Starts configs vs = (i : ℕ) (config : ConfigValue) → config_at i configs ≡ Some config → StandsAt i vs (new_lone config.name config.quota config.slots)
 
 -- one more instance
-starts_push : (configs : List ConfigValue) (vs : List ServedState) (x : ConfigValue) (v : ServedState) → length configs ≡ length vs → Starts configs vs → IsServed v (start x.name x.quota x.slots) → Starts (configs ++ x ∷ []) (vs ++ v ∷ [])
+starts_push : (configs : List ConfigValue) (vs : List ServedState) (x : ConfigValue) (v : ServedState) → length configs ≡ length vs → Starts configs vs → IsServed v (new_lone x.name x.quota x.slots) → Starts (configs ++ x ∷ []) (vs ++ v ∷ [])
 starts_push configs vs x v same h own i config is =
     elim (get-pushed configs x config i is) [
       | inl old ↦ let s = h i config old in (s.0, get-append vs (v ∷ []) i s.0 s.1, s.2)
       | inr new ↦
-          (v, ap (λ k. slice_get (vs ++ v ∷ []) k) (new.0 ∙ same) ∙ get-last vs v, subst (λ (c : ConfigValue). IsServed v (start c.name c.quota c.slots)) new.1 own)
+          (v, ap (λ k. slice_get (vs ++ v ∷ []) k) (new.0 ∙ same) ∙ get-last vs v, subst (λ (c : ConfigValue). IsServed v (new_lone c.name c.quota c.slots)) new.1 own)
     ]
 
-pub starts_more : (xs : List InstanceConfig) (k : ℕ) (x : InstanceConfig) (vs ws : List ServedState) (v : ServedState) → k < length xs → x ≡ get_or xs k x → length vs ≡ k → ws ≡ vs ++ v ∷ [] → Starts (map config_value (take k xs)) vs → IsServed v (start (string_bytes x.name) x.quota x.slots) → Starts (map config_value (take (k + 1) xs)) ws
+pub starts_more : (xs : List InstanceConfig) (k : ℕ) (x : InstanceConfig) (vs ws : List ServedState) (v : ServedState) → k < length xs → x ≡ get_or xs k x → length vs ≡ k → ws ≡ vs ++ v ∷ [] → Starts (map config_value (take k xs)) vs → IsServed v (new_lone (string_bytes x.name) x.quota x.slots) → Starts (map config_value (take (k + 1) xs)) ws
 starts_more xs k x vs ws v lt at count is h own =
     let more : map config_value (take (k + 1) xs) ≡ map config_value (take k xs) ++ config_value x ∷ [] =
     map_more config_value xs k x lt ∙ ap (λ (y : InstanceConfig). map config_value (take k xs) ++ config_value y ∷ []) (sym at) in
@@ -54,9 +54,9 @@ starts_more xs k x vs ws v lt at count is h own =
     subst (λ (cs : List ConfigValue). Starts cs ws) (sym more) (subst (λ (us : List ServedState). Starts (map config_value (take k xs) ++ config_value x ∷ []) us) (sym is) (starts_push (map config_value (take k xs)) vs (config_value x) v same h own))
 
 abbrev pub AreBegun : ℕ → List RecordValue → Type 0
-AreBegun n records = (i : ℕ) → i < n → (config : ConfigValue) → IsNotedAt i records (begun config)
+AreBegun n records = (i : ℕ) → i < n → (config : ConfigValue) → IsNotedAt i records (new_run config)
 
-pub begun_more : (records more : List RecordValue) (v : RecordValue) (n : ℕ) → length records ≡ n → more ≡ records ++ v ∷ [] → AreBegun n records → ((config : ConfigValue) → IsRecord v (begun config)) → AreBegun (n + 1) more
+pub begun_more : (records more : List RecordValue) (v : RecordValue) (n : ℕ) → length records ≡ n → more ≡ records ++ v ∷ [] → AreBegun n records → ((config : ConfigValue) → IsRecord v (new_run config)) → AreBegun (n + 1) more
 begun_more records more v n count is h own i lt config =
     elim (cases_lt i n) [
       | inl old ↦
@@ -68,20 +68,20 @@ begun_more records more v n count is h own i lt config =
     ]
 
 -- nothing was counted yet
-pub none_counted : (v : RecordValue) → ((config : ConfigValue) → IsRecord v (begun config)) → v.count < 1
+pub none_counted : (v : RecordValue) → ((config : ConfigValue) → IsRecord v (new_run config)) → v.count < 1
 none_counted v own =
     let none : v.count ≡ 0 = (own (record { name = []; quota = 0; slots = 0 })).count in
     omega arith
 
 -- ---- one more instance over a pool
 
-pub all_pushed : (p : Slots) (xs : List ServedSlots) (v : ServedSlots) → all_in p (xs ++ v ∷ []) ≡ all_in p xs ++ served_in p v ∷ []
+pub all_pushed : (p : Slots) (xs : List ServedSlots) (v : ServedSlots) → all_in p (xs ++ v ∷ []) ≡ all_in p xs ++ served_state_in p v ∷ []
 all_pushed p [] v = refl
-all_pushed p (x ∷ xs) v = ap (λ (vs : List ServedState). served_in p x ∷ vs) (all_pushed p xs v)
+all_pushed p (x ∷ xs) v = ap (λ (vs : List ServedState). served_state_in p x ∷ vs) (all_pushed p xs v)
 
-pub within_pushed : (p : Slots) (xs : List ServedSlots) (v : ServedSlots) (ys : List ServedSlots) → ys ≡ xs ++ v ∷ [] → AllByRecursion IsWithin (all_in p xs) → IsWithin (served_in p v) → AllByRecursion IsWithin (all_in p ys)
+pub within_pushed : (p : Slots) (xs : List ServedSlots) (v : ServedSlots) (ys : List ServedSlots) → ys ≡ xs ++ v ∷ [] → AllByRecursion IsWithin (all_in p xs) → IsWithin (served_state_in p v) → AllByRecursion IsWithin (all_in p ys)
 within_pushed p xs v ys is old own =
-    subst (λ (vs : List ServedState). AllByRecursion IsWithin vs) (sym (ap (all_in p) is ∙ all_pushed p xs v)) (all-push IsWithin (all_in p xs) (served_in p v) old own)
+    subst (λ (vs : List ServedState). AllByRecursion IsWithin vs) (sym (ap (all_in p) is ∙ all_pushed p xs v)) (all-push IsWithin (all_in p xs) (served_state_in p v) old own)
 
 holders_pushed : (xs : List ServedSlots) (v : ServedSlots) (k : ℕ) → all_holders (xs ++ v ∷ []) k ≡ all_holders xs k + holders_of v k
 holders_pushed [] v k = omega arith
@@ -101,14 +101,14 @@ none_of (n ∷ ns) none =
     let one : cond {A = ℕ} (n == n) 1 0 ≡ 1 = ap (λ b. cond b 1 0) own in
     absurd (omega (arith, one, none n))
 
-fit_bare : (texts : Look) (vs : List Served) → ((k : ℕ) → range_holders vs k ≡ 0) → AreFit texts vs
+fit_bare : (texts : Look) (vs : List ServedConnection) → ((k : ℕ) → range_holders vs k ≡ 0) → AreFit texts vs
 fit_bare texts [] none = tt
 fit_bare texts (v ∷ vs) none =
     let both : (k : ℕ) → range_holders (v ∷ vs) k ≡ count_of k (sources_of v.connection.sending) + range_holders vs k = λ k. count_append k (sources_of v.connection.sending) (sources_at vs) in
     let own = none_of (sources_of v.connection.sending) (λ k. omega (arith, none k, both k)) in
     (fit_none texts v.connection.sending own, fit_bare texts vs (λ k. omega (arith, none k, both k)))
 
-few_bare : (vs : List Served) → ((k : ℕ) → range_holders vs k ≡ 0) → HaveFew vs
+few_bare : (vs : List ServedConnection) → ((k : ℕ) → range_holders vs k ≡ 0) → HaveFew vs
 few_bare [] none = tt
 few_bare (v ∷ vs) none =
     let both : (k : ℕ) → range_holders (v ∷ vs) k ≡ count_of k (sources_of v.connection.sending) + range_holders vs k = λ k. count_append k (sources_of v.connection.sending) (sources_at vs) in

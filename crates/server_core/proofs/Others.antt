@@ -9,24 +9,24 @@ use Rattle.std.proofs.lemmas.Bool.Decides.{nat_tests}
 use Rattle.std.proofs.Math.Nat.{mul-le-mul_right}
 use Rattle.std.proofs.lemmas.List.{length-set, length-map}
 use Rattle.std.proofs.lemmas.Option.{slice_get-map, slice_get_within, same_Some}
-use Rattle.blob_pool.specs.Held.{Slots, text_at}
+use Rattle.blob_pool.specs.Slots.{Slots, text_at}
 use Rattle.blob_pool.specs.Moves.{Moves}
 use Rattle.grpc_sending.specs.Sources.{count_of}
-use Rattle.grpc_sending.specs.Kept.{Look, AgreeOn, sources_of}
+use Rattle.grpc_sending.specs.StoredSending.{Look, AgreeOn, sources_of}
 use Rattle.instance_view.specs.Visible.{Blob}
 use Rattle.instance_view.proofs.Held.{shown_same, holders-few}
-use Rattle.quota_evict.proofs.Steps.{length-shown}
+use Rattle.quota_evict.proofs.Steps.{length-visible_in}
 use Rattle.instance_core.specs.State.{most_blobs}
 use Rattle.served_instance.specs.declared.refusal.EventRefusal.{EventRefusal}
 use Rattle.served_instance.specs.declared.refusal.EventRefusal.TheVariants.{NoMemory}
 use Rattle.served_instance.specs.Lone.{Lone}
 use Rattle.served_instance.specs.Connections.{open_ones}
-use Rattle.served_instance.specs.StandsFor.{Served, ServedState, StandsFor as IsServed, IsWithin}
+use Rattle.served_instance.specs.StandsFor.{ServedConnection, ServedState, StandsFor as IsServed, IsWithin}
 use Rattle.served_instance.specs.Ranges.{served_with, sources_at, range_holders}
 use Rattle.served_instance.specs.Refusals.{connection_limit}
 use Rattle.grpc_sending.proofs.Agreeing.{count_append}
 use Rattle.served_instance.proofs.Ranges.{fit_agreed_each, plain_served, same_served}
-use Rattle.served_instance.specs.Slots.{ServedSlots, served_in, holders_of, IsKept, HasConnections}
+use Rattle.served_instance.specs.Slots.{ServedSlots, served_state_in, holders_of, IsKept, HasConnections}
 use Rattle.server_core.specs.Shared.{all_in, all_holders, IsServer, HasRanges}
 use Rattle.server_core.specs.StandsFor.{StandsAt, instance_at}
 use Rattle.server_core.proofs.Lists.{get-set_same, get-set_other}
@@ -81,19 +81,19 @@ others_few m (x ∷ xs) (suc i) a k few at =
 
 -- ---- what an instance may rely on
 
-abbrev HaveFewer : ℕ → List Served → Type 0
+abbrev HaveFewer : ℕ → List ServedConnection → Type 0
 HaveFewer m vs = AllByRecursion (λ s. (k : ℕ) → count_of k (sources_of s.connection.sending) < m) vs
 
-within_at : (p : Slots) (xs : List ServedSlots) (i : ℕ) (a : ServedSlots) → AllByRecursion IsWithin (all_in p xs) → slice_get xs i ≡ Some a → IsWithin (served_in p a)
+within_at : (p : Slots) (xs : List ServedSlots) (i : ℕ) (a : ServedSlots) → AllByRecursion IsWithin (all_in p xs) → slice_get xs i ≡ Some a → IsWithin (served_state_in p a)
 within_at p [] i a w at = cc
-within_at p (x ∷ xs) zero a w at = let same : x ≡ a = first x a at in subst (λ (y : ServedSlots). IsWithin (served_in p y)) same w.0
+within_at p (x ∷ xs) zero a w at = let same : x ≡ a = first x a at in subst (λ (y : ServedSlots). IsWithin (served_state_in p y)) same w.0
   where
     first : (x a : ServedSlots) → Some x ≡ Some a → x ≡ a
     first x a e = cc
 within_at p (x ∷ xs) (suc i) a w at = within_at p xs i a w.1 at
 
 -- no connection has more ranges of a slot than m
-ranges_few : (m : ℕ) (vs : List Served) → HaveFewer m vs → (k : ℕ) → range_holders vs k ≤ length vs * m
+ranges_few : (m : ℕ) (vs : List ServedConnection) → HaveFewer m vs → (k : ℕ) → range_holders vs k ≤ length vs * m
 ranges_few m [] few k = omega arith
 ranges_few m (v ∷ vs) few k =
     let ih = ranges_few m vs few.1 k in
@@ -107,9 +107,9 @@ abbrev most_held : ℕ
 most_held = most_blobs + connection_limit * 2 ^ 64
 
 -- an instance has no more entries than it may have texts
-holds_few : (p : Slots) (a : ServedSlots) → IsWithin (served_in p a) → HasRanges p a → (k : ℕ) → holders_of a k ≤ most_held
+holds_few : (p : Slots) (a : ServedSlots) → IsWithin (served_state_in p a) → HasRanges p a → (k : ℕ) → holders_of a k ≤ most_held
 holds_few p a w r k =
-    let long = length-shown p a.instance.view in
+    let long = length-visible_in p a.instance.view in
     let entries = w.instance.texts.entries in
     let most = holders-few a.instance.view.entries k in
     let ranges = ranges_few (2 ^ 64) a.connections r.few k in
@@ -144,7 +144,7 @@ kept_at p xs i a at s =
 abbrev with_visible : ServedState → List Blob → ServedState
 with_visible v bs = record v { state = record v.state { visible = bs } }
 
-abbrev with_connections : ServedState → List Served → List (List ℕ) → ServedState
+abbrev with_connections : ServedState → List ServedConnection → List (List ℕ) → ServedState
 with_connections v cs ts = record { state = v.state; connections = cs; ranges = ts }
 
 same_texts : (t u : Look) (ns : List ℕ) → AgreeOn ns t u → map t ns ≡ map u ns
@@ -159,14 +159,14 @@ same_texts t u (n ∷ ns) h =
 apart : (p q : Slots) (xs : List ServedSlots) (i j : ℕ) (a b x : ServedSlots) → i ≢ j → slice_get xs i ≡ Some a → slice_get xs j ≡ Some x → IsServer p xs → Moves p q (holders_of a) (holders_of b) → (k : ℕ) → 0 < holders_of x k → text_at q k ≡ text_at p k
 apart p q xs i j a b x ne at there s m k some = m.texts k (omega (arith, s.exact k, pair_le xs i j a x k ne at there, some))
 
-pub other_same : (p q : Slots) (xs : List ServedSlots) (i j : ℕ) (a b x : ServedSlots) → i ≢ j → slice_get xs i ≡ Some a → slice_get xs j ≡ Some x → IsServer p xs → Moves p q (holders_of a) (holders_of b) → served_in q x ≡ served_in p x
+pub other_same : (p q : Slots) (xs : List ServedSlots) (i j : ℕ) (a b x : ServedSlots) → i ≢ j → slice_get xs i ≡ Some a → slice_get xs j ≡ Some x → IsServer p xs → Moves p q (holders_of a) (holders_of b) → served_state_in q x ≡ served_state_in p x
 other_same p q xs i j a b x ne at there s m =
     let same : (k : ℕ) → 0 < holders_of x k → text_at q k ≡ text_at p k = apart p q xs i j a b x ne at there s m in
     let find : AgreeOn (sources_at x.connections) (text_at q) (text_at p) = λ k some. same k (omega (arith, some)) in
     let entries = shown_same p q x.instance.view.entries (λ k some. same k (omega (arith, some))) in
-    ap (λ (cs : List Served). with_connections (served_in q x) cs (map (text_at q) (sources_at x.connections))) (same_served (text_at q) (text_at p) x.connections find)
-    ∙ ap (with_connections (served_in q x) (map (served_with (text_at p)) x.connections)) (same_texts (text_at q) (text_at p) (sources_at x.connections) find)
-    ∙ ap (with_visible (served_in p x)) entries
+    ap (λ (cs : List ServedConnection). with_connections (served_state_in q x) cs (map (text_at q) (sources_at x.connections))) (same_served (text_at q) (text_at p) x.connections find)
+    ∙ ap (with_connections (served_state_in q x) (map (served_with (text_at p)) x.connections)) (same_texts (text_at q) (text_at p) (sources_at x.connections) find)
+    ∙ ap (with_visible (served_state_in p x)) entries
 
 other_ranges : (p q : Slots) (xs : List ServedSlots) (i j : ℕ) (a b x : ServedSlots) → i ≢ j → slice_get xs i ≡ Some a → slice_get xs j ≡ Some x → IsServer p xs → Moves p q (holders_of a) (holders_of b) → HasRanges q x
 other_ranges p q xs i j a b x ne at there s m =
@@ -177,18 +177,18 @@ other_ranges p q xs i j a b x ne at there s m =
 pub others_after : (p q : Slots) (xs : List ServedSlots) (i : ℕ) (a b : ServedSlots) → slice_get xs i ≡ Some a → IsServer p xs → Moves p q (holders_of a) (holders_of b)
     → (j : ℕ) → j ≢ i → instance_at j (all_in q (set xs i b)) ≡ instance_at j (all_in p xs)
 others_after p q xs i a b at s m j ne =
-    slice_get-map (served_in q) (set xs i b) j
-    ∙ ap (option_map (served_in q)) (get-set_other xs i j b ne)
+    slice_get-map (served_state_in q) (set xs i b) j
+    ∙ ap (option_map (served_state_in q)) (get-set_other xs i j b ne)
     ∙ go (slice_get xs j) refl
-    ∙ sym (slice_get-map (served_in p) xs j)
+    ∙ sym (slice_get-map (served_state_in p) xs j)
   where
-    go : (o : Option ServedSlots) → slice_get xs j ≡ o → option_map (served_in q) (slice_get xs j) ≡ option_map (served_in p) (slice_get xs j)
-    go None is = ap (option_map (served_in q)) is ∙ sym (ap (option_map (served_in p)) is)
-    go (Some x) is = ap (option_map (served_in q)) is ∙ ap Some (other_same p q xs i j a b x (λ e. ne (sym e)) at is s m) ∙ sym (ap (option_map (served_in p)) is)
+    go : (o : Option ServedSlots) → slice_get xs j ≡ o → option_map (served_state_in q) (slice_get xs j) ≡ option_map (served_state_in p) (slice_get xs j)
+    go None is = ap (option_map (served_state_in q)) is ∙ sym (ap (option_map (served_state_in p)) is)
+    go (Some x) is = ap (option_map (served_state_in q)) is ∙ ap Some (other_same p q xs i j a b x (λ e. ne (sym e)) at is s m) ∙ sym (ap (option_map (served_state_in p)) is)
 
 -- ---- the server afterwards
 
-within_by : (q : Slots) (xs : List ServedSlots) → ((j : ℕ) (x : ServedSlots) → slice_get xs j ≡ Some x → IsWithin (served_in q x)) → AllByRecursion IsWithin (all_in q xs)
+within_by : (q : Slots) (xs : List ServedSlots) → ((j : ℕ) (x : ServedSlots) → slice_get xs j ≡ Some x → IsWithin (served_state_in q x)) → AllByRecursion IsWithin (all_in q xs)
 within_by q [] each = tt
 within_by q (x ∷ xs) each = (each 0 x refl, within_by q xs (λ j y at. each (suc j) y at))
 
@@ -213,7 +213,7 @@ server_after p q xs i a b at s m kept = record {
   exact = λ k. omega (arith, s.exact k, m.counts k, set_holders xs i a b k at);
   few = omega (arith, length-set xs i b, s.few);
   within = within_by q (set xs i b) (λ j x there. elim (has_acted xs i j a b x at there) [
-    | inl own ↦ subst (λ (y : ServedSlots). IsWithin (served_in q y)) own kept.within
+    | inl own ↦ subst (λ (y : ServedSlots). IsWithin (served_state_in q y)) own kept.within
     | inr other ↦ subst IsWithin (sym (other_same p q xs i j a b x other.0 at other.1 s m)) (within_at p xs j x s.within other.1)
   ]);
   ranges = ranges_by q (set xs i b) (λ j x there. elim (has_acted xs i j a b x at there) [
@@ -224,21 +224,21 @@ server_after p q xs i a b at s m kept = record {
 
 -- ---- the instance itself
 
-pub here : (p : Slots) (xs : List ServedSlots) (i : ℕ) (a : ServedSlots) → slice_get xs i ≡ Some a → instance_at i (all_in p xs) ≡ Some (served_in p a)
-here p xs i a at = slice_get-map (served_in p) xs i ∙ ap (option_map (served_in p)) at
+pub here : (p : Slots) (xs : List ServedSlots) (i : ℕ) (a : ServedSlots) → slice_get xs i ≡ Some a → instance_at i (all_in p xs) ≡ Some (served_state_in p a)
+here p xs i a at = slice_get-map (served_state_in p) xs i ∙ ap (option_map (served_state_in p)) at
 
-pub stands_here : (p : Slots) (xs : List ServedSlots) (i : ℕ) (a : ServedSlots) (l : Lone) → slice_get xs i ≡ Some a → StandsAt i (all_in p xs) l → IsServed (served_in p a) l
+pub stands_here : (p : Slots) (xs : List ServedSlots) (i : ℕ) (a : ServedSlots) (l : Lone) → slice_get xs i ≡ Some a → StandsAt i (all_in p xs) l → IsServed (served_state_in p a) l
 stands_here p xs i a l at s =
-    subst (λ (v : ServedState). IsServed v l) (same_Some s.0 (served_in p a) (sym s.1 ∙ here p xs i a at)) s.2
+    subst (λ (v : ServedState). IsServed v l) (same_Some s.0 (served_state_in p a) (sym s.1 ∙ here p xs i a at)) s.2
 
-pub stands_after : (q : Slots) (xs : List ServedSlots) (i : ℕ) (a b : ServedSlots) (l : Lone) → slice_get xs i ≡ Some a → IsServed (served_in q b) l → StandsAt i (all_in q (set xs i b)) l
-stands_after q xs i a b l at st = (served_in q b, here q (set xs i b) i b (get-set_same xs i b (slice_get_within xs i a at)), st)
+pub stands_after : (q : Slots) (xs : List ServedSlots) (i : ℕ) (a b : ServedSlots) (l : Lone) → slice_get xs i ≡ Some a → IsServed (served_state_in q b) l → StandsAt i (all_in q (set xs i b)) l
+stands_after q xs i a b l at st = (served_state_in q b, here q (set xs i b) i b (get-set_same xs i b (slice_get_within xs i a at)), st)
 
 -- an instance that is not there stands for nothing
 pub nobody_there : (p : Slots) (xs : List ServedSlots) (i : ℕ) (l : Lone) → length xs ≤ i → StandsAt i (all_in p xs) l → ⊥
 nobody_there p xs i l past s =
     let lt = slice_get_within (all_in p xs) i s.0 s.1 in
-    let long = length-map xs (served_in p) in
+    let long = length-map xs (served_state_in p) in
     absurd (omega (arith, lt, long, past))
 
 set-same : (xs : List ServedSlots) (i : ℕ) (a : ServedSlots) → slice_get xs i ≡ Some a → set xs i a ≡ xs
@@ -259,9 +259,9 @@ refused_after (Err refusal) p q xs i a b at h = λ ne.
     ∙ ap (all_in p) (set-same xs i a at)
 
 -- what an instance by itself is seen to have on its connections
-pub connections_of : (p : Slots) (v : ServedSlots) (l : Lone) → IsServed (served_in p v) l → HasConnections v l
+pub connections_of : (p : Slots) (v : ServedSlots) (l : Lone) → IsServed (served_state_in p v) l → HasConnections v l
 connections_of p v l st = record { pool = p; stand = plain_served (text_at p) v.connections (open_ones l.connections) st.connections }
 
-pub connections_there : (p : Slots) (vs : List ServedState) (i : ℕ) (v : ServedSlots) (l : Lone) → Some (served_in p v) ≡ instance_at i vs → StandsAt i vs l → HasConnections v l
+pub connections_there : (p : Slots) (vs : List ServedState) (i : ℕ) (v : ServedSlots) (l : Lone) → Some (served_state_in p v) ≡ instance_at i vs → StandsAt i vs l → HasConnections v l
 connections_there p vs i v l there s =
-    connections_of p v l (subst (λ (w : ServedState). IsServed w l) (same_Some s.0 (served_in p v) (sym s.1 ∙ sym there)) s.2)
+    connections_of p v l (subst (λ (w : ServedState). IsServed w l) (same_Some s.0 (served_state_in p v) (sym s.1 ∙ sym there)) s.2)

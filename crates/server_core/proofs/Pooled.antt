@@ -4,12 +4,12 @@ use Rattle.std.specs.Prelude.{None}
 use Rattle.std.specs.Str.{bytes_eq}
 use Rattle.std.proofs.lemmas.Bool.Decides.{nat_tests}
 use Rattle.std.proofs.lemmas.Slice.Eq.{bytes_eq-Decides}
-use Rattle.blob_pool.specs.Held.{Slots, held_at, text_at, count_at, IsShared}
+use Rattle.blob_pool.specs.Slots.{Slots, held_text_at, text_at, count_at, IsShared}
 use Rattle.blob_pool.specs.Moves.{one_at}
 use Rattle.grpc_sending.specs.Sources.{count_of}
 use Rattle.served_instance.specs.Slots.{ServedSlots}
 use Rattle.server_core.specs.Shared.{all_in, IsServer}
-use Rattle.server_core.specs.Stored.{texts_of_all, Among}
+use Rattle.server_core.specs.Stored.{texts_of_all, IsAmong}
 use Rattle.server_core.specs.Pooled.{times_in, IsPoolOf}
 use Rattle.server_core.proofs.Slots.{slots_of_all, holders_are, texts_are}
 use Rattle.server_core.proofs.Storing.{IsHeldAt, all_slot}
@@ -50,16 +50,16 @@ slots_same p (n ∷ ns) k shared there held =
 
 -- ---- a text that is held is among those of the instances
 
-in_texts : (t : List ℕ) (xs : List (List ℕ)) → 0 < times_in t xs → Among t xs
+in_texts : (t : List ℕ) (xs : List (List ℕ)) → 0 < times_in t xs → IsAmong t xs
 in_texts t [] some = absurd (omega arith)
 in_texts t (x ∷ xs) some = go (bytes_eq x t) refl (in_texts t xs) where
-  go : (e : Bool) → bytes_eq x t ≡ e → (0 < times_in t xs → Among t xs) → Among t (x ∷ xs)
+  go : (e : Bool) → bytes_eq x t ≡ e → (0 < times_in t xs → IsAmong t xs) → IsAmong t (x ∷ xs)
   go true is later = inl ((bytes_eq-Decides x t).0 is)
   go false is later =
       let none : number (bytes_eq x t) ≡ number false = ap number is in
       inr (later (omega (arith, some, none)))
 
-pub is_pool_of : (p : Slots) (xs : List ServedSlots) (failed : Bool) → IsServer p xs → IsShared p → ((k : ℕ) → held_at p k ≢ None → 0 < count_at p k) → IsPoolOf p (record { instances = all_in p xs; failed = failed })
+pub is_pool_of : (p : Slots) (xs : List ServedSlots) (failed : Bool) → IsServer p xs → IsShared p → ((k : ℕ) → held_text_at p k ≢ None → 0 < count_at p k) → IsPoolOf p (record { instances = all_in p xs; failed = failed })
 is_pool_of p xs failed s shared held = record {
   all = λ t some.
       let r : IsHeldAt p (slots_of_all xs) t = all_slot p xs t (in_texts t (texts_of_all (all_in p xs)) some) in

@@ -13,7 +13,7 @@ use Rattle.run_record.specs.Runs.{Run, run_of, run_step}
 use Rattle.served_instance.specs.StandsFor.{ServedState}
 use Rattle.run_record.specs.StandsFor.{RecordValue}
 use Rattle.server_core.specs.RunTo.{HasRun}
-use Rattle.server_core.specs.Lone.{stray_at, strays_from, strays}
+use Rattle.server_core.specs.LoneOutput.{stray_at, strays_from, strays}
 
 -- the events so far and one more
 events_more : (events : List Event) (k : ℕ) (e : Event) → k < length events → e ≡ get_or events k e → map event_value (take (k + 1) events) ≡ map event_value (take k events) ++ event_value e ∷ []

@@ -1,4 +1,4 @@
-pub mod Lone
+pub mod LoneOutput
 pub mod RunTo
 pub mod Shown
 pub mod StandsFor

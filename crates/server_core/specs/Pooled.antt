@@ -1,7 +1,7 @@
 -- What stands in the pool of a server, by what its instances have.
 use Rattle.std.specs.Prelude.{◌≡◌, ◌≢◌, ◌<◌, ◌+◌, ℕ, List, [], ◌∷◌, None, if◌then◌else◌}
 use Rattle.std.specs.Str.{bytes_eq}
-use Rattle.blob_pool.specs.Held.{Slots, held_at, text_at, count_at, IsShared}
+use Rattle.blob_pool.specs.Slots.{Slots, held_text_at, text_at, count_at, IsShared}
 use Rattle.server_core.specs.StandsFor.{ServerState}
 use Rattle.server_core.specs.Stored.{texts_held}
 
@@ -30,4 +30,4 @@ pub record IsPoolOf (p : Slots) (s : ServerState) : Type 0 where
   -- which counts how often it is held
   pub counts : (k : ℕ) → 0 < count_at p k → count_at p k ≡ times_held (text_at p k) s
   -- and nothing stands there that is not held
-  pub only : (k : ℕ) → held_at p k ≢ None → 0 < count_at p k
+  pub only : (k : ℕ) → held_text_at p k ≢ None → 0 < count_at p k

@@ -1,16 +1,16 @@
 -- Instances over one pool of texts.
 use Rattle.std.specs.Prelude.{◌≡◌, ◌≤◌, ◌+◌, ℕ, List, [], ◌∷◌, length, map}
 use Rattle.std.specs.List.{AllByRecursion}
-use Rattle.blob_pool.specs.Held.{Slots, text_at, count_at}
+use Rattle.blob_pool.specs.Slots.{Slots, text_at, count_at}
 use Rattle.blob_pool.specs.Moves.{Holders}
 use Rattle.server_events.specs.Configs.{instance_limit}
 use Rattle.served_instance.specs.StandsFor.{ServedState, IsWithin}
-use Rattle.served_instance.specs.Slots.{ServedSlots, served_in, holders_of}
+use Rattle.served_instance.specs.Slots.{ServedSlots, served_state_in, holders_of}
 use Rattle.served_instance.specs.Ranges.{AreFit, HaveFew}
 
 -- the instances, with the texts that their slots have in the pool
 abbrev pub all_in : Slots → List ServedSlots → List ServedState
-all_in p xs = map (served_in p) xs
+all_in p xs = map (served_state_in p) xs
 
 -- how often they hold each slot, all together
 abbrev pub all_holders : List ServedSlots → Holders

@@ -3,8 +3,8 @@ use Rattle.std.specs.Prelude.{ℕ, List, Option}
 use Rattle.std.specs.Option.{option_map}
 use Rattle.std.specs.List.{slice_get}
 use Rattle.run_record.specs.declared.outputs.InstanceOutput.{InstanceOutput}
-use Rattle.run_record.specs.Outputs.{OutputValue}
-use Rattle.run_record.specs.Shown.{output_shown}
+use Rattle.run_record.specs.Outputs.{InstanceOutputValue}
+use Rattle.run_record.specs.Shown.{instance_output_shown}
 
-abbrev pub output_at : ℕ → List InstanceOutput → Option OutputValue
-output_at i outputs = option_map output_shown (slice_get outputs i)
+abbrev pub output_at : ℕ → List InstanceOutput → Option InstanceOutputValue
+output_at i outputs = option_map instance_output_shown (slice_get outputs i)

@@ -20,23 +20,23 @@ texts_of_all (v ∷ vs) = own_texts v ++ texts_of_all vs
 abbrev pub texts_held : ServerState → List (List ℕ)
 texts_held s = texts_of_all s.instances
 
-abbrev pub Among : List ℕ → List (List ℕ) → Type 0
-Among t [] = ⊥
-Among t (x ∷ xs) = (x ≡ t) ⊎ Among t xs
+abbrev pub IsAmong : List ℕ → List (List ℕ) → Type 0
+IsAmong t [] = ⊥
+IsAmong t (x ∷ xs) = (x ≡ t) ⊎ IsAmong t xs
 
 abbrev pub AreDistinct : List (List ℕ) → Type 0
 AreDistinct [] = Unit {0}
-AreDistinct (x ∷ xs) = (Among x xs → ⊥) × AreDistinct xs
+AreDistinct (x ∷ xs) = (IsAmong x xs → ⊥) × AreDistinct xs
 
-abbrev pub bytes_of : List (List ℕ) → ℕ
-bytes_of [] = 0
-bytes_of (x ∷ xs) = length x + bytes_of xs
+abbrev pub total_length : List (List ℕ) → ℕ
+total_length [] = 0
+total_length (x ∷ xs) = length x + total_length xs
 
 -- so many different texts are held, with so many bytes together
 pub record AreStored (held : List (List ℕ)) (count bytes : ℕ) : Type 0 where
   pub texts : List (List ℕ)
   pub distinct : AreDistinct texts
-  pub all : (t : List ℕ) → Among t held → Among t texts
-  pub only : (t : List ℕ) → Among t texts → Among t held
+  pub all : (t : List ℕ) → IsAmong t held → IsAmong t texts
+  pub only : (t : List ℕ) → IsAmong t texts → IsAmong t held
   pub count_is : count ≡ length texts
-  pub bytes_is : bytes ≡ bytes_of texts
+  pub bytes_is : bytes ≡ total_length texts

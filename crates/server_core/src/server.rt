@@ -4,20 +4,20 @@ ghost use Rattle.std.specs.Prelude.{◌≡◌, ◌≢◌, ◌<◌, ◌≤◌, �
 ghost use Rattle.std.specs.List.{AllByRecursion};
 ghost use Rattle.server_events.specs.Configs.{ConfigValue};
 ghost use Rattle.server_events.specs.Shown.{event_value};
-ghost use Rattle.grpc_sending.specs.Bytes.{most_untaken, pending};
-ghost use Rattle.http2_streams.specs.Diary.{has_failed};
+ghost use Rattle.grpc_sending.specs.Bytes.{most_untaken, pending_bytes};
+ghost use Rattle.http2_streams.specs.History.{has_failed};
 ghost use Rattle.conn_core.specs.Past.{Past};
 ghost use Rattle.served_instance.specs.Connections.{open_at};
-ghost use Rattle.served_instance.specs.Lone.{Lone, start};
+ghost use Rattle.served_instance.specs.Lone.{Lone, new_lone};
 ghost use Rattle.served_instance.specs.Refusals.{NeedsNoMemory, refusal_of, lone_step, IsOutcome};
 ghost use Rattle.served_instance.specs.StandsFor.{IsWithin, AreSettled};
-ghost use Rattle.served_instance.specs.Slots.{served_in};
-ghost use Rattle.server_core.specs.Lone.{config_at};
+ghost use Rattle.served_instance.specs.Slots.{served_state_in};
+ghost use Rattle.server_core.specs.LoneOutput.{config_at};
 ghost use Rattle.server_core.specs.Shared.{all_in, IsServer};
 ghost use Rattle.server_core.specs.StandsFor.{StandsAt, instance_at};
 ghost use Rattle.server_core.specs.Stored.{AreStored, texts_held, texts_of_all};
 ghost use Rattle.server_core.specs.Pooled.{IsPoolOf};
-ghost use Rattle.blob_pool.specs.Held.{Slots};
+ghost use Rattle.blob_pool.specs.Slots.{Slots};
 
 use blob_pool::Pool;
 use served_instance::{EventRefusal, ServedInstance};
@@ -54,7 +54,7 @@ impl Server {
     pub fn new(alloc: Global, configs: &Configs) -> Result<Server, AllocError>
         ensures stands { IfOk result (λ server. (i : ℕ) (config : ConfigValue)
             → config_at i configs.now ≡ Some config
-            → StandsAt i server.instances (start config.name config.quota config.slots)) }
+            → StandsAt i server.instances (new_lone config.name config.quota config.slots)) }
         ensures count { IfOk result (λ server. length server.instances ≡ length configs.now) }
         ensures serves { IfOk result (λ server. server.failed ≡ false) }
         ensures within { IfOk result (λ server. AllByRecursion IsWithin server.instances) }
@@ -123,7 +123,7 @@ impl Server {
         ensures none { instance_at instance self.now.instances ≡ None → result ≡ None }
         ensures bytes { (l : Lone) → StandsAt instance self.now.instances l
             → option_map (λ bytes. bytes.now) result
-            ≡ option_map (λ p. pending p.diary) (open_at connection l.connections) }
+            ≡ option_map (λ p. pending_bytes p.history) (open_at connection l.connections) }
         ensures room { IfSome result (λ bytes. length bytes.now ≤ most_untaken) }
     {
         self.instance(instance)?.pending(connection)
@@ -133,7 +133,7 @@ impl Server {
     pub fn ended(&self, instance: u32, connection: u32) -> Option<bool>
         ensures none { instance_at instance self.now.instances ≡ None → result ≡ None }
         ensures error { (l : Lone) → StandsAt instance self.now.instances l
-            → result ≡ option_map (λ p. has_failed p.diary) (open_at connection l.connections) }
+            → result ≡ option_map (λ p. has_failed p.history) (open_at connection l.connections) }
     {
         self.instance(instance)?.ended(connection)
     }
@@ -159,7 +159,7 @@ impl Server {
     /// The instance of this number. What it keeps of its own is the instance, with the texts that a
     /// pool has.
     pub fn instance(&self, number: u32) -> Option<&ServedInstance>
-        ensures { (p : Slots) × (option_map (λ served. served_in p served.now) result
+        ensures { (p : Slots) × (option_map (λ served. served_state_in p served.now) result
             ≡ instance_at number self.now.instances) }
     {
         self.instances.get(number as usize)

@@ -5,8 +5,8 @@ ghost use Rattle.server_events.specs.Configs.{ConfigValue};
 ghost use Rattle.server_events.specs.Events.{EventValue, own_events};
 ghost use Rattle.server_events.specs.Shown.{event_value};
 ghost use Rattle.instance_core.specs.State.{WithinLimits};
-ghost use Rattle.run_record.specs.Runs.{Run, begun, run_of, run_step, output_of};
-ghost use Rattle.server_core.specs.Lone.{config_at, lone, strays, stray_at};
+ghost use Rattle.run_record.specs.Runs.{Run, new_run, run_of, run_step, output_of_run};
+ghost use Rattle.server_core.specs.LoneOutput.{config_at, lone_output, strays, stray_at};
 ghost use Rattle.server_core.specs.Shown.{output_at};
 ghost use Rattle.server_core.specs.RunTo.{IsNotedAt, HasRun};
 
@@ -33,7 +33,7 @@ pub fn run(alloc: Global, configs: &Configs, events: &[Event]) -> Result<Outputs
     ensures alone { IfOk result (λ outputs. (i : ℕ) (config : ConfigValue)
         → config_at i configs.now ≡ Some config
         → output_at i outputs.instances.items
-        ≡ Some (lone config (own_events i (map event_value events.now)))) }
+        ≡ Some (lone_output config (own_events i (map event_value events.now)))) }
     // Each instance keeps its limits: each of its texts is what its digest says.
     ensures within { (i : ℕ) (config : ConfigValue) → config_at i configs.now ≡ Some config
         → WithinLimits (run_of config (own_events i (map event_value events.now))).lone.state }
@@ -104,7 +104,7 @@ fn step_and_note(
 fn new_records(alloc: Global, count: usize) -> Result<Vec<InstanceRecord>, AllocError>
     ensures count { IfOk result (λ records. length records.items ≡ count) }
     ensures begun { IfOk result (λ records. (i : ℕ) → i < count → (config : ConfigValue)
-        → IsNotedAt i records.items (begun config)) }
+        → IsNotedAt i records.items (new_run config)) }
     ensures room { IfOk result (λ records. All (λ r. r.count < 1) records.items) }
 {
     let mut records = Vec::new(alloc);
@@ -120,7 +120,7 @@ fn outputs_of(
 ) -> Result<Vec<InstanceOutput>, AllocError>
     ensures count { IfOk result (λ outputs. length outputs.items ≡ length records.items) }
     ensures outputs { IfOk result (λ outputs. (i : ℕ) (r : Run) → IsNotedAt i records.items r
-        → output_at i outputs.items ≡ Some (output_of r)) }
+        → output_at i outputs.items ≡ Some (output_of_run r)) }
 {
     let mut outputs = Vec::new(alloc);
     for record in records {

@@ -32,8 +32,10 @@ own_fault before config =
 -- the first such fault of instances that follow others
 abbrev pub first_own_fault : List ConfigValue → List ConfigValue → Option ConfigFault
 first_own_fault before [] = None
-first_own_fault before (config ∷ configs) = option_or (own_fault before config) (first_own_fault (before ++ config ∷ []) configs)
+first_own_fault before (config ∷ configs) =
+    option_or (own_fault before config) (first_own_fault (before ++ config ∷ []) configs)
 
 -- the first fault of the instances of a server
 abbrev pub config_fault : List ConfigValue → Option ConfigFault
-config_fault configs = if nat_lt instance_limit (length configs) then Some TooMany else first_own_fault [] configs
+config_fault configs =
+    if nat_lt instance_limit (length configs) then Some TooMany else first_own_fault [] configs

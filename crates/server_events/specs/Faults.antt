@@ -24,8 +24,10 @@ pub record AreConfigs (configs : List ConfigValue) : Type 0 where
 
 -- the first fault of an instance after others
 abbrev pub IsOwnFault : List ConfigValue → ConfigValue → ConfigFault → Type 0
-IsOwnFault before config (BadName number) = (number ≡ length before) × (¬ (IsInstanceName config.name))
-IsOwnFault before config (BadQuota number) = (number ≡ length before) × IsInstanceName config.name × (quota_limit < config.quota)
+IsOwnFault before config (BadName number) =
+    (number ≡ length before) × (¬ (IsInstanceName config.name))
+IsOwnFault before config (BadQuota number) =
+    (number ≡ length before) × IsInstanceName config.name × (quota_limit < config.quota)
 IsOwnFault before config (BadSlots number) =
     (number ≡ length before) × IsInstanceName config.name × (config.quota ≤ quota_limit) × (slots_limit < config.slots)
 IsOwnFault before config (DuplicateName number) =

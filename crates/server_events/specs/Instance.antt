@@ -5,7 +5,8 @@ use Rattle.std.specs.Str.{bytes_eq}
 
 -- `a` to `z`, `0` to `9` or `-`
 abbrev pub is_name_byte : ℕ → Bool
-is_name_byte byte = (nat_le 97 byte && nat_le byte 122) || (nat_le 48 byte && nat_le byte 57) || byte == 45
+is_name_byte byte =
+    (nat_le 97 byte && nat_le byte 122) || (nat_le 48 byte && nat_le byte 57) || byte == 45
 
 -- the words that part a resource name, which no part of an instance name may be
 -- (remote_execution.proto, `instance_name`)

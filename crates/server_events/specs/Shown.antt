@@ -12,7 +12,8 @@ use Rattle.server_events.specs.Configs.{ConfigValue}
 use Rattle.server_events.specs.Events.{OutputValue, OutcomeValue, failed, exited, WhatValue, opened, received, took, closed, tick, ended, EventValue}
 
 abbrev pub config_value : InstanceConfig → ConfigValue
-config_value config = record { name = string_bytes config.name; quota = config.quota; slots = config.slots }
+config_value config =
+    record { name = string_bytes config.name; quota = config.quota; slots = config.slots }
 
 abbrev pub output_value : OutputFile → OutputValue
 output_value output =
@@ -20,7 +21,8 @@ output_value output =
 
 abbrev pub outcome_value : Outcome → OutcomeValue
 outcome_value Failed = failed
-outcome_value (Exited code stdout stderr outputs) = exited code stdout.items stderr.items (map output_value outputs.items)
+outcome_value (Exited code stdout stderr outputs) =
+    exited code stdout.items stderr.items (map output_value outputs.items)
 
 abbrev pub what_value : What → WhatValue
 what_value (Open connection) = opened connection
@@ -31,4 +33,5 @@ what_value Tick = tick
 what_value (TheOutcome job outcome) = ended job (outcome_value outcome)
 
 abbrev pub event_value : Event → EventValue
-event_value event = record { moment = event.moment; instance = event.instance; what = what_value event.what }
+event_value event =
+    record { moment = event.moment; instance = event.instance; what = what_value event.what }

@@ -4,21 +4,21 @@ use Rattle.std.specs.Prelude.{unwrap_or, IfSome}
 use Rattle.std.specs.List.{AllByRecursion}
 use Rattle.std.specs.Map.{lookup}
 use Rattle.message_fields.specs.declared.error.MessageError.{MessageError}
-use Rattle.message_fields.specs.Fields.{decoded}
+use Rattle.message_fields.specs.Fields.{value_of_text}
 use Rattle.protobuf_wire.proofs.Tools.{bind_ok}
 use Rattle.digest.specs.declared.Digest.{Digest}
-use Rattle.digest.specs.Naming.{Names, same, digest_of}
+use Rattle.digest.specs.Naming.{Names, same_digest, digest_of}
 use Rattle.digest.proofs.Same.{same_equal, same_names}
-use Rattle.instance_view.specs.Visible.{Blob, seen}
+use Rattle.instance_view.specs.Visible.{Blob, visible_text}
 use Rattle.quota_evict.proofs.Seen.{named_by}
 use Rattle.reapi_messages.specs.Digests.{DigestValue}
 use Rattle.tree_messages.specs.Directories.{DirectoryValue, FileNodeValue, TreeValue, tree_of}
 use Rattle.tree_messages.specs.Results.{ActionResultValue, OutputFileValue, OutputDirectoryValue, action_result_of}
 use Rattle.tree_messages.specs.GetTree.{GetTreeResponseValue}
-use Rattle.input_tree.specs.Directories.{digest_written}
+use Rattle.input_tree.specs.Directories.{written_digest}
 use Rattle.input_tree.specs.Listing.{Lookup, children_of_text}
 use Rattle.input_tree.specs.Pages.{page_text, text_or_none, texts}
-use Rattle.action_cache.specs.Complete.{and_then, blobs_of, with_blob, with_directories, with_files, with_output_directories, with_output_directory, with_output_files, with_outputs, with_root, with_seen, with_set, with_streams, with_tree, with_tree_of}
+use Rattle.action_cache.specs.Complete.{and_then, blobs_of, with_blob, with_directories, with_files, with_output_directories, with_output_directory, with_output_files, with_outputs, with_root, with_digest, with_set, with_streams, with_tree, with_tree_of}
 use Rattle.action_cache.specs.Answering.{blobs_for, result_for}
 use Rattle.tree_calls.specs.Asking.{action_asked}
 use Rattle.tree_calls.specs.GetTree.{texts_seen, get_tree_replies}
@@ -35,8 +35,8 @@ abbrev pub AllNamed : List Blob → Type 0
 AllNamed visible = AllByRecursion (λ (b : Blob). Names b.0 b.1) visible
 
 directory_named : (visible : List Blob) (d : Digest) → AllNamed visible → IsDirectory (texts_seen visible) d → Names d (text_or_none (texts_seen visible) d)
-directory_named visible d named h = go (seen d visible) refl h where
-  go : (o : Option (List ℕ)) → seen d visible ≡ o → is_some (children_of_text o) ≡ true → Names d (unwrap_or o [])
+directory_named visible d named h = go (visible_text d visible) refl h where
+  go : (o : Option (List ℕ)) → visible_text d visible ≡ o → is_some (children_of_text o) ≡ true → Names d (unwrap_or o [])
   go None is h = absurd (cc)
   go (Some t) is h = named_by visible d t named is
 
@@ -89,12 +89,12 @@ some_then None f y h = absurd (cc)
 some_then (Some x) f y h = (x, refl, h)
 
 blob_there : (look : Lookup) (ds : List Digest) (written : Option DigestValue) (all : List Digest) → with_blob look ds written ≡ Some all → HasBlob look written
-blob_there look ds written all h = go (digest_written written) refl h where
-  test : (d : Digest) → digest_written written ≡ Some d → (b : Bool) → is_some (look d) ≡ b → (if b then Some (ds ++ d ∷ []) else None) ≡ Some all → HasBlob look written
+blob_there look ds written all h = go (written_digest written) refl h where
+  test : (d : Digest) → written_digest written ≡ Some d → (b : Bool) → is_some (look d) ≡ b → (if b then Some (ds ++ d ∷ []) else None) ≡ Some all → HasBlob look written
   test d is true there h = record { digest = d; is = is; there = there }
   test d is false there h = absurd (cc)
 
-  go : (o : Option Digest) → digest_written written ≡ o → with_seen look ds o ≡ Some all → HasBlob look written
+  go : (o : Option Digest) → written_digest written ≡ o → with_digest look ds o ≡ Some all → HasBlob look written
   go None is h = absurd (cc)
   go (Some d) is h = test d is (is_some (look d)) refl h
 
@@ -118,9 +118,9 @@ root_there : (look : Lookup) (ds : List Digest) (root : Option DirectoryValue) (
 root_there look ds None all h = tt
 root_there look ds (Some v) all h = files_there look ds v.files all h
 
-tree_there : (look : Lookup) (ds : List Digest) (written : Option DigestValue) (all : List Digest) → with_tree_of look ds (digest_written written) ≡ Some all → HasTree look written
-tree_there look ds written all h = go (digest_written written) refl h where
-  spelled : (d : Digest) → digest_written written ≡ Some d → (t : List ℕ) → look d ≡ Some t → (r : Result TreeValue MessageError) → decoded tree_of t ≡ r → with_tree look (ds ++ d ∷ []) r ≡ Some all → HasTree look written
+tree_there : (look : Lookup) (ds : List Digest) (written : Option DigestValue) (all : List Digest) → with_tree_of look ds (written_digest written) ≡ Some all → HasTree look written
+tree_there look ds written all h = go (written_digest written) refl h where
+  spelled : (d : Digest) → written_digest written ≡ Some d → (t : List ℕ) → look d ≡ Some t → (r : Result TreeValue MessageError) → value_of_text tree_of t ≡ r → with_tree look (ds ++ d ∷ []) r ≡ Some all → HasTree look written
   spelled d is t there (Err e) reads h = absurd (cc)
   spelled d is t there (Ok tree) reads h =
       let s = some_then (with_root look (ds ++ d ∷ []) tree.root) (λ more. with_directories look more tree.children) all h in
@@ -135,11 +135,11 @@ tree_there look ds written all h = go (digest_written written) refl h where
         children = directories_there look s.0 tree.children all s.2;
       }
 
-  test : (d : Digest) → digest_written written ≡ Some d → (o : Option (List ℕ)) → look d ≡ o → (if is_some o then with_tree look (ds ++ d ∷ []) (decoded tree_of (unwrap_or o [])) else None) ≡ Some all → HasTree look written
+  test : (d : Digest) → written_digest written ≡ Some d → (o : Option (List ℕ)) → look d ≡ o → (if is_some o then with_tree look (ds ++ d ∷ []) (value_of_text tree_of (unwrap_or o [])) else None) ≡ Some all → HasTree look written
   test d is None there h = absurd (cc)
-  test d is (Some t) there h = spelled d is t there (decoded tree_of t) refl h
+  test d is (Some t) there h = spelled d is t there (value_of_text tree_of t) refl h
 
-  go : (o : Option Digest) → digest_written written ≡ o → with_tree_of look ds o ≡ Some all → HasTree look written
+  go : (o : Option Digest) → written_digest written ≡ o → with_tree_of look ds o ≡ Some all → HasTree look written
   go None is h = absurd (cc)
   go (Some d) is h = test d is (look d) refl h
 
@@ -156,8 +156,8 @@ outputs_there look ds (f ∷ fs) all h =
     (blob_there look ds f.digest s.0 s.1, outputs_there look s.0 fs all s.2)
 
 is_complete : (look : Lookup) (t : List ℕ) (all : List Digest) → blobs_of look t ≡ Some all → IsComplete look t
-is_complete look t all h = go (decoded action_result_of t) refl h where
-  go : (r : Result ActionResultValue MessageError) → decoded action_result_of t ≡ r → with_outputs look r ≡ Some all → IsComplete look t
+is_complete look t all h = go (value_of_text action_result_of t) refl h where
+  go : (r : Result ActionResultValue MessageError) → value_of_text action_result_of t ≡ r → with_outputs look r ≡ Some all → IsComplete look t
   go (Err e) reads h = absurd (cc)
   go (Ok v) reads h =
       let files = some_then (with_output_files look [] v.output_files) (λ files. and_then (with_output_directories look files v.output_directories) (λ all. with_streams look all v)) all h in
@@ -181,8 +181,8 @@ result_complete own visible results request reply h =
     let look = texts_seen visible in
     let a = bind_ok (action_asked own request) (λ action. or_no_result (result_for look action results)) reply h in
     let found = result_ok (result_for look a.0 results) reply a.2 in
-    let b = some_then (blobs_for look a.0 results) (λ (all : List Digest). lookup (same a.0) results) reply found in
-    let s = some_then (lookup (same a.0) results) (blobs_of look) b.0 b.1 in
+    let b = some_then (blobs_for look a.0 results) (λ (all : List Digest). lookup (same_digest a.0) results) reply found in
+    let s = some_then (lookup (same_digest a.0) results) (blobs_of look) b.0 b.1 in
     let same_text : s.0 ≡ reply = let x = s.1 in let y = b.2 in cc in
     record {
       action = a.0;

@@ -6,7 +6,7 @@ use Rattle.std.proofs.lemmas.Bool.{and_parts}
 use Rattle.std.proofs.lemmas.Bool.Decides.{nat_tests}
 use Rattle.std.proofs.lemmas.List.{length-append}
 use Rattle.protobuf_wire.specs.Record.{Record}
-use Rattle.message_fields.specs.Writing.{text}
+use Rattle.message_fields.specs.Writing.{records_text}
 use Rattle.message_fields.specs.Parts.{repeated_octets_field}
 use Rattle.protobuf_wire.proofs.Tools.{bind_ok}
 use Rattle.digest.specs.declared.Digest.{Digest}
@@ -27,7 +27,7 @@ records_last [] t = refl
 records_last (u ∷ us) t = ap (λ (rs : List Record). repeated_octets_field 1 (u ∷ []) ++ rs) (records_last us t)
 
 bytes_last : (page : List (List ℕ)) (t : List ℕ) → page_bytes (page ++ t ∷ []) ≡ page_bytes page + page_bytes (t ∷ [])
-bytes_last page t = ap (λ (rs : List Record). length (text rs)) (records_last page t) ∙ both_written (repeated_octets_field 1 page) (repeated_octets_field 1 (t ∷ []))
+bytes_last page t = ap (λ (rs : List Record). length (records_text rs)) (records_last page t) ∙ both_written (repeated_octets_field 1 page) (repeated_octets_field 1 (t ∷ []))
 
 -- the directories of a page so far
 pub record IsBegun (size : ℕ) (page : List (List ℕ)) : Type 0 where

@@ -7,26 +7,26 @@ use Rattle.std.specs.Map.{lookup, remove_entry}
 use Rattle.std.proofs.lemmas.Fmt.{length-decimal-le}
 use Rattle.std.proofs.lemmas.List.{length-append, length-drop}
 use Rattle.message_fields.specs.declared.error.MessageError.{MessageError}
-use Rattle.message_fields.specs.Fields.{decoded, payloads, embedded, sent, string, int32, joined_payloads}
+use Rattle.message_fields.specs.Fields.{value_of_text, payloads, embedded_value, sent_bytes, string, int32, joined_payloads}
 use Rattle.message_fields.specs.Parts.{repeated_octets_field, string_field}
 use Rattle.protobuf_wire.proofs.Tools.{bind_ok, ok_is}
 use Rattle.digest.specs.declared.Digest.{Digest}
-use Rattle.digest.specs.Naming.{same}
-use Rattle.instance_view.specs.Visible.{Blob, fronted, total}
-use Rattle.instance_view.proofs.Visibles.{total-fronted, length-fronted}
+use Rattle.digest.specs.Naming.{same_digest}
+use Rattle.instance_view.specs.Visible.{Blob, with_match_first, total_length}
+use Rattle.instance_view.proofs.Visibles.{total_length-with_match_first, length-with_match_first}
 use Rattle.reapi_messages.specs.Digests.{digest_of}
 use Rattle.tree_messages.specs.GetTree.{GetTreeResponseValue}
 use Rattle.tree_messages.specs.ActionCache.{UpdateActionResultRequestValue, update_action_result_request_of}
 use Rattle.tree_messages.specs.Directories.{DirectoryValue, directory_of}
 use Rattle.tree_messages.specs.Results.{action_result_of}
-use Rattle.input_tree.specs.Directories.{checked, child_digests}
+use Rattle.input_tree.specs.Directories.{valid_directory, child_digests}
 use Rattle.input_tree.specs.Listing.{Lookup, children_of_text}
 use Rattle.input_tree.specs.Pages.{page_bytes, page_text, place_asked, place_within, text_or_none, texts}
 use Rattle.decimals.specs.Number.{decimal_of}
 use Rattle.action_cache.specs.Results.{front_within}
 use Rattle.action_cache.specs.Answering.{blobs_for}
-use Rattle.cas_service.specs.Requests.{readable, own_instance, known_function}
-use Rattle.cas_service.specs.BatchUpdate.{set_digest}
+use Rattle.cas_service.specs.Requests.{message_or_refusal, instance_check, function_check}
+use Rattle.cas_service.specs.BatchUpdate.{digest_or_refusal}
 use Rattle.rpc.specs.declared.refusal.Refusal.{Refusal}
 use Rattle.tree_calls.specs.Asking.{ResultSentValue, action_asked, result_sent}
 use Rattle.tree_calls.specs.GetTree.{texts_seen, get_tree_replies}
@@ -54,7 +54,7 @@ directory_short : (look : Lookup) (d : Digest) → IsDirectory look d → IsShor
 directory_short look d h = go (look d) h where
   go : (o : Option (List ℕ)) → is_some (children_of_text o) ≡ true → length (unwrap_or o []) ≤ 67108864
   go None h = absurd (cc)
-  go (Some t) h = bounded_by 67108864 t (checked (decoded directory_of t)) h
+  go (Some t) h = bounded_by 67108864 t (valid_directory (value_of_text directory_of t)) h
 
 texts_short : (look : Lookup) (ds : List Digest) → AllByRecursion (IsDirectory look) ds → AllByRecursion (IsShort 67108864) (texts look ds)
 texts_short look [] h = tt
@@ -126,17 +126,17 @@ get_tree_short own visible request messages h =
 
 -- ---- results
 
-stored_short : (t : Digest → Bool) (results : List Blob) (reply : List ℕ) → lookup t results ≡ Some reply → length reply ≤ total results
+stored_short : (t : Digest → Bool) (results : List Blob) (reply : List ℕ) → lookup t results ≡ Some reply → length reply ≤ total_length results
 stored_short t [] reply h = absurd (cc)
 stored_short t (b ∷ bs) reply h = go (t b.0) h (stored_short t bs reply) where
-  go : (c : Bool) → cond c (Some b.1) (lookup t bs) ≡ Some reply → (lookup t bs ≡ Some reply → length reply ≤ total bs) → length reply ≤ length b.1 + total bs
+  go : (c : Bool) → cond c (Some b.1) (lookup t bs) ≡ Some reply → (lookup t bs ≡ Some reply → length reply ≤ total_length bs) → length reply ≤ length b.1 + total_length bs
   go true h later = let e : b.1 ≡ reply = cc in rw (← e) (omega arith)
   go false h later = let rest = later h in omega (arith, rest)
 
 pub get_action_result_short : (own : List ℕ) (visible results : List Blob) (request reply : List ℕ) → AreWithin results → get_action_result_reply own visible results request ≡ Ok reply → length reply < 2 ^ 32
 get_action_result_short own visible results request reply within h =
     let c = result_complete own visible results request reply h in
-    let one = stored_short (same c.action) results reply c.is_stored in
+    let one = stored_short (same_digest c.action) results reply c.is_stored in
     let all = within.short in
     omega (arith, one, all)
 
@@ -148,19 +148,19 @@ joined_short : (ps : List (List ℕ)) → length (unwrap_or (joined_payloads ps)
 joined_short [] = omega arith
 joined_short (p ∷ ps) = concat_short (p ∷ ps)
 
-readable_ok : {V : Type 0} (r : Result V MessageError) (v : V) → readable r ≡ Ok v → r ≡ Ok v
+readable_ok : {V : Type 0} (r : Result V MessageError) (v : V) → message_or_refusal r ≡ Ok v → r ≡ Ok v
 readable_ok (Ok x) v h = cc
 readable_ok (Err e) v h = absurd (cc)
 
-request_short : (request : List ℕ) (v : UpdateActionResultRequestValue) → decoded update_action_result_request_of request ≡ Ok v → length (unwrap_or v.action_result []) ≤ length request
+request_short : (request : List ℕ) (v : UpdateActionResultRequestValue) → value_of_text update_action_result_request_of request ≡ Ok v → length (unwrap_or v.action_result []) ≤ length request
 unfolding update_action_result_request_of
 request_short request v h =
     let r = read_from update_action_result_request_of request v h in
     let name = bind_ok (string 1 r.records) _ v r.means in
-    let action = bind_ok (embedded digest_of 2 r.records) _ v name.2 in
-    let result = bind_ok (sent action_result_of 3 r.records) _ v action.2 in
+    let action = bind_ok (embedded_value digest_of 2 r.records) _ v name.2 in
+    let result = bind_ok (sent_bytes action_result_of 3 r.records) _ v action.2 in
     let e = ok_is (record { instance_name = name.0; action_digest = action.0; action_result = result.0; digest_function = int32 5 r.records }) v result.2 in
-    let read = bind_ok (embedded action_result_of 3 r.records) _ result.0 result.1 in
+    let read = bind_ok (embedded_value action_result_of 3 r.records) _ result.0 result.1 in
     let f = ok_is (joined_payloads (payloads 3 r.records)) result.0 read.2 in
     let short = joined_short (payloads 3 r.records) in
     let whole_size = payloads_weight 3 r.records in
@@ -170,11 +170,11 @@ request_short request v h =
 pub sent_short : (own request : List ℕ) (sent : ResultSentValue) → result_sent own request ≡ Ok sent → length sent.text ≤ length request
 unfolding result_sent
 sent_short own request sent h =
-    let q = bind_ok (readable (decoded update_action_result_request_of request)) _ sent h in
-    let short = request_short request q.0 (readable_ok (decoded update_action_result_request_of request) q.0 q.1) in
-    let i = bind_ok (own_instance own q.0.instance_name) _ sent q.2 in
-    let f = bind_ok (known_function q.0.digest_function) _ sent i.2 in
-    let d = bind_ok (set_digest q.0.action_digest) _ sent f.2 in
+    let q = bind_ok (message_or_refusal (value_of_text update_action_result_request_of request)) _ sent h in
+    let short = request_short request q.0 (readable_ok (value_of_text update_action_result_request_of request) q.0 q.1) in
+    let i = bind_ok (instance_check own q.0.instance_name) _ sent q.2 in
+    let f = bind_ok (function_check q.0.digest_function) _ sent i.2 in
+    let d = bind_ok (digest_or_refusal q.0.action_digest) _ sent f.2 in
     let e = ok_is (record { action = d.0; text = unwrap_or q.0.action_result [] }) sent d.2 in
     rw (← e) short
 
@@ -196,25 +196,25 @@ front_few (suc n) room (b ∷ bs) = go (nat_le (length b.1) room) (front_few n (
   go true ih = omega (arith, ih)
   go false ih = omega arith
 
-front_short : (n room : ℕ) (bs : List Blob) → total (front_within n room bs) ≤ room
+front_short : (n room : ℕ) (bs : List Blob) → total_length (front_within n room bs) ≤ room
 unfolding front_within
 front_short zero room bs = omega arith
 front_short (suc n) room [] = omega arith
 front_short (suc n) room (b ∷ bs) = go (nat_le (length b.1) room) refl (front_short n (room - length b.1) bs) where
-  go : (c : Bool) → nat_le (length b.1) room ≡ c → total (front_within n (room - length b.1) bs) ≤ room - length b.1 → total (if c then b ∷ front_within n (room - length b.1) bs else []) ≤ room
+  go : (c : Bool) → nat_le (length b.1) room ≡ c → total_length (front_within n (room - length b.1) bs) ≤ room - length b.1 → total_length (if c then b ∷ front_within n (room - length b.1) bs else []) ≤ room
   go true is ih = let le = leb-true (length b.1) room is in omega (arith, ih, le)
   go false is ih = omega arith
 
-fronted_within : (t : Digest → Bool) (results : List Blob) → AreWithin results → AreWithin (fronted t results)
+fronted_within : (t : Digest → Bool) (results : List Blob) → AreWithin results → AreWithin (with_match_first t results)
 fronted_within t results within = record {
-  few = rw (length-fronted t results) within.few;
-  short = rw (total-fronted t results) within.short;
+  few = rw (length-with_match_first t results) within.few;
+  short = rw (total_length-with_match_first t results) within.short;
 }
 
 pub get_stays_within : (own : List ℕ) (visible results : List Blob) (request : List ℕ) → AreWithin results → AreWithin (after_get own visible results request)
 get_stays_within own visible results request within = go (action_asked own request) where
-  test : (action : Digest) (b : Bool) → AreWithin (if b then fronted (same action) results else results)
-  test action true = fronted_within (same action) results within
+  test : (action : Digest) (b : Bool) → AreWithin (if b then with_match_first (same_digest action) results else results)
+  test action true = fronted_within (same_digest action) results within
   test action false = within
 
   go : (r : Result Digest Refusal) → AreWithin (after_asking visible results r)
@@ -232,4 +232,4 @@ update_stays_within own results request within = go (result_sent own request) wh
 
   go : (r : Result ResultSentValue Refusal) → AreWithin (after_sending results r)
   go (Err refusal) = within
-  go (Ok sent) = test ((sent.action, sent.text) ∷ remove_entry (same sent.action) results) (nat_lt 67108864 (length sent.text))
+  go (Ok sent_bytes) = test ((sent_bytes.action, sent_bytes.text) ∷ remove_entry (same_digest sent_bytes.action) results) (nat_lt 67108864 (length sent_bytes.text))

@@ -9,12 +9,12 @@ use Rattle.protobuf_wire.specs.declared.field.WireError.{WireError}
 use Rattle.protobuf_wire.specs.Record.{Value, Number, Eight, Payload, Four, Record}
 use Rattle.protobuf_wire.specs.Reading.{records_of}
 use Rattle.protobuf_wire.specs.Spelling.{AreGroups, IsContent, IsRecord, Spells}
-use Rattle.protobuf_wire.specs.Writing.{varint, record_text, text, number_field, bytes_field, message_field}
+use Rattle.protobuf_wire.specs.Writing.{varint, record_text, records_text, number_field, bytes_field, message_field}
 use Rattle.protobuf_wire.proofs.Texts.{spells_read, varint_is}
 use Rattle.protobuf_wire.proofs.Tools.{bind_ok, ok_is}
 use Rattle.message_fields.specs.declared.error.MessageError.{MessageError}
-use Rattle.message_fields.specs.Answers.{lifted}
-use Rattle.message_fields.specs.Fields.{parsed, decoded, payloads, numbers, last_or, each_of, utf8, string, int64}
+use Rattle.message_fields.specs.Answers.{of_wire}
+use Rattle.message_fields.specs.Fields.{records_in, value_of_text, payloads, numbers, last_or, each_of, utf8, string, int64}
 use Rattle.message_fields.proofs.Texts.{text_append}
 
 -- ---- what is read
@@ -76,7 +76,7 @@ spelled_narrow : (t : List ℕ) (rs : List Record) → Spells t rs → AllNarrow
 spelled_narrow t [] h = tt
 spelled_narrow t (r ∷ rs) h = (content_narrow h.3.content r.value h.3.filled, spelled_narrow h.1 rs h.4)
 
-lifted_ok : {A : Type 0} (r : Result A WireError) (x : A) → lifted r ≡ Ok x → r ≡ Ok x
+lifted_ok : {A : Type 0} (r : Result A WireError) (x : A) → of_wire r ≡ Ok x → r ≡ Ok x
 lifted_ok (Ok y) x h = cc
 lifted_ok (Err e) x h = absurd (cc)
 
@@ -87,10 +87,10 @@ pub record IsReadFrom {V : Type 0} (value_of : List Record → Result V MessageE
   pub narrow : AllNarrow records
   pub means : value_of records ≡ Ok v
 
-pub read_from : {V : Type 0} (value_of : List Record → Result V MessageError) (t : List ℕ) (v : V) → decoded value_of t ≡ Ok v → IsReadFrom value_of t v
-unfolding parsed
+pub read_from : {V : Type 0} (value_of : List Record → Result V MessageError) (t : List ℕ) (v : V) → value_of_text value_of t ≡ Ok v → IsReadFrom value_of t v
+unfolding records_in
 read_from value_of t v h =
-    let b = bind_ok (lifted (records_of t)) value_of v h in
+    let b = bind_ok (of_wire (records_of t)) value_of v h in
     let spells = spells_read t b.0 (lifted_ok (records_of t) b.0 b.1) in
     record { records = b.0; light = spelled_weight t b.0 spells; narrow = spelled_narrow t b.0 spells; means = b.2 }
 
@@ -166,10 +166,10 @@ string_size field rs t h =
 
 -- ---- what is written
 
-one_record : (r : Record) → length (text (r ∷ [])) ≡ length (record_text r)
-one_record r = let e = ap (length {A = ℕ}) (flat_map-cons record_text r []) in let parts = length-append (record_text r) (text []) in omega arith
+one_record : (r : Record) → length (records_text (r ∷ [])) ≡ length (record_text r)
+one_record r = let e = ap (length {A = ℕ}) (flat_map-cons record_text r []) in let parts = length-append (record_text r) (records_text []) in omega arith
 
-pub message_written : (field : ℕ) (b : List ℕ) → field < 2 ^ 29 → length b < 2 ^ 64 → length (text (message_field field b)) ≤ 20 + length b
+pub message_written : (field : ℕ) (b : List ℕ) → field < 2 ^ 29 → length b < 2 ^ 64 → length (records_text (message_field field b)) ≤ 20 + length b
 message_written field b small fits =
     let tag = (varint_is (8 * field + 2) (omega arith)).short in
     let len = (varint_is (length b) fits).short in
@@ -178,15 +178,15 @@ message_written field b small fits =
     let inside = length-append (varint (length b)) b in
     omega arith
 
-pub bytes_written : (field : ℕ) (b : List ℕ) → field < 2 ^ 29 → length b < 2 ^ 64 → length (text (bytes_field field b)) ≤ 20 + length b
+pub bytes_written : (field : ℕ) (b : List ℕ) → field < 2 ^ 29 → length b < 2 ^ 64 → length (records_text (bytes_field field b)) ≤ 20 + length b
 bytes_written field b small fits = go (eqb (length b) 0) where
-  go : (c : Bool) → length (text (cond c [] (message_field field b))) ≤ 20 + length b
+  go : (c : Bool) → length (records_text (cond c [] (message_field field b))) ≤ 20 + length b
   go true = omega arith
   go false = message_written field b small fits
 
-pub number_written : (field n : ℕ) → field < 2 ^ 29 → n < 2 ^ 64 → length (text (number_field field n)) ≤ 20
+pub number_written : (field n : ℕ) → field < 2 ^ 29 → n < 2 ^ 64 → length (records_text (number_field field n)) ≤ 20
 number_written field n small fits = go (eqb n 0) where
-  go : (c : Bool) → length (text (cond c [] (record { number = field; value = Number n } ∷ []))) ≤ 20
+  go : (c : Bool) → length (records_text (cond c [] (record { number = field; value = Number n } ∷ []))) ≤ 20
   go true = omega arith
   go false =
       let tag = (varint_is (8 * field + 0) (omega arith)).short in
@@ -195,5 +195,5 @@ number_written field n small fits = go (eqb n 0) where
       let parts = length-append (varint (8 * field + 0)) (varint n) in
       omega arith
 
-pub both_written : (a b : List Record) → length (text (a ++ b)) ≡ length (text a) + length (text b)
-both_written a b = ap (length {A = ℕ}) (text_append a b) ∙ length-append (text a) (text b)
+pub both_written : (a b : List Record) → length (records_text (a ++ b)) ≡ length (records_text a) + length (records_text b)
+both_written a b = ap (length {A = ℕ}) (text_append a b) ∙ length-append (records_text a) (records_text b)

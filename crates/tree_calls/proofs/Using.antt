@@ -4,9 +4,9 @@ use Rattle.protobuf_wire.proofs.Tools.{bind_ok}
 use Rattle.reapi_messages.specs.Results.{◌>>=◌}
 use Rattle.rpc.specs.declared.refusal.Refusal.{Refusal}
 use Rattle.digest.specs.declared.Digest.{Digest}
-use Rattle.blob_pool.specs.Held.{Slots}
-use Rattle.instance_view.specs.Visible.{Blob, used}
-use Rattle.instance_view.specs.Shown.{ViewValue, shown, holders}
+use Rattle.blob_pool.specs.Slots.{Slots}
+use Rattle.instance_view.specs.Visible.{Blob, visible_after_use}
+use Rattle.instance_view.specs.Shown.{ViewValue, visible_in, holders}
 use Rattle.quota_evict.specs.Within.{Within}
 use Rattle.quota_evict.specs.Kept.{AreKept}
 use Rattle.quota_evict.proofs.Limits.{used_within}
@@ -16,28 +16,28 @@ use Rattle.input_tree.specs.declared.error.GetTreeError.TheVariants as Tree
 use Rattle.input_tree.specs.Answers as input_tree
 use Rattle.input_tree.specs.Listing.{tree_list}
 use Rattle.input_tree.specs.Pages.{digests_of, get_tree_reply, pages_of}
-use Rattle.input_tree.specs.Uses.{all_used}
+use Rattle.input_tree.specs.Uses.{visible_after_uses}
 use Rattle.action_cache.specs.Answering.{blobs_used}
 use Rattle.cas_service.specs.declared.error.CallError.{CallError}
 use Rattle.cas_service.specs.Answers.{Fails}
-use Rattle.cas_service.specs.Changes.{Use, changed, uses}
+use Rattle.cas_service.specs.Changes.{Use, visible_after_changes, uses}
 use Rattle.tree_calls.specs.Asking.{TreeAskedValue, action_asked, tree_asked}
 use Rattle.tree_calls.specs.GetTree.{texts_seen, tree_error, of_tree, pages_asked, directories_used, get_tree_replies, get_tree_changes}
 use Rattle.tree_calls.specs.Results.{get_action_result_changes}
 
-pub all_changed : (limit quota : ℕ) (ds : List Digest) (visible : List Blob) → all_used ds visible ≡ changed limit quota (map Use ds) visible
+pub all_changed : (limit quota : ℕ) (ds : List Digest) (visible : List Blob) → visible_after_uses ds visible ≡ visible_after_changes limit quota (map Use ds) visible
 all_changed limit quota [] visible = refl
-all_changed limit quota (d ∷ ds) visible = all_changed limit quota ds (used d visible)
+all_changed limit quota (d ∷ ds) visible = all_changed limit quota ds (visible_after_use d visible)
 
-all_within : (limit quota : ℕ) (ds : List Digest) (visible : List Blob) → Within limit quota visible → Within limit quota (all_used ds visible)
+all_within : (limit quota : ℕ) (ds : List Digest) (visible : List Blob) → Within limit quota visible → Within limit quota (visible_after_uses ds visible)
 all_within limit quota [] visible h = h
-all_within limit quota (d ∷ ds) visible h = all_within limit quota ds (used d visible) (used_within limit quota d visible h)
+all_within limit quota (d ∷ ds) visible h = all_within limit quota ds (visible_after_use d visible) (used_within limit quota d visible h)
 
 -- uses keep what an instance relies on
-pub all_kept : (quota : ℕ) (ds : List Digest) (p : Slots) (v w : ViewValue) → AreKept quota p v → w.limit ≡ v.limit → shown p w ≡ all_used ds (shown p v) → ((k : ℕ) → holders w k ≡ holders v k) → AreKept quota p w
+pub all_kept : (quota : ℕ) (ds : List Digest) (p : Slots) (v w : ViewValue) → AreKept quota p v → w.limit ≡ v.limit → visible_in p w ≡ visible_after_uses ds (visible_in p v) → ((k : ℕ) → holders w k ≡ holders v k) → AreKept quota p w
 all_kept quota ds p v w kept limit is same = record {
   held = record { counted = λ k. omega (arith, same k, kept.held.counted k); others = λ k. omega (arith, same k, kept.held.others k) };
-  within = subst (λ (n : ℕ). Within n quota (shown p w)) (sym limit) (subst (Within v.limit quota) (sym is) (all_within v.limit quota ds (shown p v) kept.within));
+  within = subst (λ (n : ℕ). Within n quota (visible_in p w)) (sym limit) (subst (Within v.limit quota) (sym is) (all_within v.limit quota ds (visible_in p v) kept.within));
 }
 
 -- ---- GetTree

@@ -3,7 +3,7 @@ use Rattle.std.proofs.Common.{◌≡◌, ℕ, zero, suc, ◌+◌, ◌≤◌, Boo
 use Rattle.std.specs.List.{AllByRecursion, IsDistinct, list_any}
 use Rattle.std.proofs.lemmas.List.{append-nil, length-append}
 use Rattle.digest.specs.declared.Digest.{Digest}
-use Rattle.digest.specs.Naming.{same}
+use Rattle.digest.specs.Naming.{same_digest}
 use Rattle.digest.proofs.Same.{same_refl, same_symm}
 use Rattle.input_tree.specs.declared.error.TreeRefusal.TheVariants.{BadDirectory}
 use Rattle.input_tree.specs.Directories.{children_in}
@@ -14,15 +14,15 @@ use Rattle.tree_calls.specs.Lists.{IsListed, IsDirectory, children_or_none, HasP
 
 listed_more : (ds more : List Digest) (d : Digest) → IsListed ds d → IsListed (ds ++ more) d
 listed_more [] more d h = absurd (cc)
-listed_more (x ∷ xs) more d h = go (same d x) h (listed_more xs more d) where
-  go : (b : Bool) → (b || list_any (same d) xs) ≡ true → (IsListed xs d → IsListed (xs ++ more) d) → (b || list_any (same d) (xs ++ more)) ≡ true
+listed_more (x ∷ xs) more d h = go (same_digest d x) h (listed_more xs more d) where
+  go : (b : Bool) → (b || list_any (same_digest d) xs) ≡ true → (IsListed xs d → IsListed (xs ++ more) d) → (b || list_any (same_digest d) (xs ++ more)) ≡ true
   go true h later = refl
   go false h later = later h
 
 listed_at : (before : List Digest) (d : Digest) (more : List Digest) → IsListed (before ++ d ∷ more) d
 listed_at [] d more = rw (same_refl d) refl
-listed_at (x ∷ xs) d more = go (same d x) (listed_at xs d more) where
-  go : (b : Bool) → IsListed (xs ++ d ∷ more) d → (b || list_any (same d) (xs ++ d ∷ more)) ≡ true
+listed_at (x ∷ xs) d more = go (same_digest d x) (listed_at xs d more) where
+  go : (b : Bool) → IsListed (xs ++ d ∷ more) d → (b || list_any (same_digest d) (xs ++ d ∷ more)) ≡ true
   go true h = refl
   go false h = h
 
@@ -36,8 +36,8 @@ all_implied P Q f (x ∷ xs) h = (f x h.0, all_implied P Q f xs h.1)
 
 listed_in : (all ds : List Digest) → ((d : Digest) → IsListed ds d → IsListed all d) → AllByRecursion (IsListed all) ds
 listed_in all [] f = tt
-listed_in all (x ∷ xs) f = (f x (listed_at [] x xs), listed_in all xs (λ d h. f d (later d (same d x) h))) where
-  later : (d : Digest) (b : Bool) → IsListed xs d → (b || list_any (same d) xs) ≡ true
+listed_in all (x ∷ xs) f = (f x (listed_at [] x xs), listed_in all xs (λ d h. f d (later d (same_digest d x) h))) where
+  later : (d : Digest) (b : Bool) → IsListed xs d → (b || list_any (same_digest d) xs) ≡ true
   later d true h = refl
   later d false h = h
 
@@ -48,15 +48,15 @@ neither : (a b : Bool) → (a || b) ≡ false → (a ≡ false) × (b ≡ false)
 neither true b h = absurd (cc)
 neither false b h = (refl, h)
 
-distinct_last : (ds : List Digest) (d : Digest) → IsDistinct same ds → list_any (same d) ds ≡ false → IsDistinct same (ds ++ d ∷ [])
+distinct_last : (ds : List Digest) (d : Digest) → IsDistinct same_digest ds → list_any (same_digest d) ds ≡ false → IsDistinct same_digest (ds ++ d ∷ [])
 unfolding IsDistinct
 distinct_last [] d h none = (tt, tt)
 distinct_last (x ∷ xs) d h none =
-    let parts = neither (same d x) (list_any (same d) xs) none in
-    let other : same x d ≡ false = same_symm x d ∙ parts.0 in
-    (all_last (λ (y : Digest). same x y ≡ false) xs d h.0 other, distinct_last xs d h.1 parts.1)
+    let parts = neither (same_digest d x) (list_any (same_digest d) xs) none in
+    let other : same_digest x d ≡ false = same_symm x d ∙ parts.0 in
+    (all_last (λ (y : Digest). same_digest x y ≡ false) xs d h.0 other, distinct_last xs d h.1 parts.1)
 
-distinct_one : (d : Digest) → IsDistinct same (d ∷ [])
+distinct_one : (d : Digest) → IsDistinct same_digest (d ∷ [])
 unfolding IsDistinct
 distinct_one d = (tt, tt)
 
@@ -70,7 +70,7 @@ record IsTree (look : Lookup) (root : Digest) (ds : List Digest) : Type 0 where
   others : List Digest
   begins : ds ≡ root ∷ others
   reached : AreReached look (root ∷ []) others
-  distinct : IsDistinct same ds
+  distinct : IsDistinct same_digest ds
   directories : AllByRecursion (IsDirectory look) ds
 
 -- more digests, among them the directories of some
@@ -81,11 +81,11 @@ record IsGrown (look : Lookup) (root : Digest) (ds new cs : List Digest) : Type 
   listed : AllByRecursion (λ c. IsDirectory look c → IsListed new c) cs
 
 grown_one : (look : Lookup) (root : Digest) (ds : List Digest) (d c : Digest) → IsTree look root ds → IsListed ds d → IsListed (children_or_none look d) c → IsGrown look root ds (with_listed look ds c) (c ∷ [])
-grown_one look root ds d c tree parent child = go (is_some (children look c)) refl (list_any (same c) ds) refl where
+grown_one look root ds d c tree parent child = go (is_some (children look c)) refl (list_any (same_digest c) ds) refl where
   parented : HasParent look (root ∷ tree.others) c
   parented = record { parent = d; is_before = subst (λ (xs : List Digest). IsListed xs d) tree.begins parent; is_child = child }
 
-  go : (b : Bool) → is_some (children look c) ≡ b → (t : Bool) → list_any (same c) ds ≡ t → IsGrown look root ds (if b then (if t then ds else ds ++ c ∷ []) else ds) (c ∷ [])
+  go : (b : Bool) → is_some (children look c) ≡ b → (t : Bool) → list_any (same_digest c) ds ≡ t → IsGrown look root ds (if b then (if t then ds else ds ++ c ∷ []) else ds) (c ∷ [])
   go false is t there = record {
     more = [];
     is = sym (append-nil ds);

@@ -2,13 +2,13 @@
 -- is read, the instance is the own one, the digest function is known, the digest has its form.
 use Rattle.std.specs.Prelude.{ℕ, ℤ, List, [], Result, Ok, unwrap_or}
 use Rattle.reapi_messages.specs.Results.{◌>>=◌}
-use Rattle.reapi_messages.specs.Fields.{decoded}
+use Rattle.reapi_messages.specs.Fields.{value_of_text}
 use Rattle.tree_messages.specs.GetTree.{get_tree_request_of}
 use Rattle.tree_messages.specs.ActionCache.{get_action_result_request_of, update_action_result_request_of}
 use Rattle.rpc.specs.declared.refusal.Refusal.{Refusal}
 use Rattle.digest.specs.declared.Digest.{Digest}
-use Rattle.cas_service.specs.Requests.{readable, own_instance, known_function}
-use Rattle.cas_service.specs.BatchUpdate.{set_digest}
+use Rattle.cas_service.specs.Requests.{message_or_refusal, instance_check, function_check}
+use Rattle.cas_service.specs.BatchUpdate.{digest_or_refusal}
 use Rattle.tree_calls.specs.declared.asking.TreeAsked.{TreeAsked}
 use Rattle.tree_calls.specs.declared.asking.ResultSent.{ResultSent}
 
@@ -28,19 +28,19 @@ tree_asked_shown a = record {
 -- what a GetTreeRequest asks for
 unfoldable pub tree_asked : List ℕ → List ℕ → Result TreeAskedValue Refusal
 tree_asked own message = do
-  request ← readable (decoded get_tree_request_of message)
-  _ ← own_instance own request.instance_name
-  _ ← known_function request.digest_function
-  root ← set_digest request.root_digest
+  request ← message_or_refusal (value_of_text get_tree_request_of message)
+  _ ← instance_check own request.instance_name
+  _ ← function_check request.digest_function
+  root ← digest_or_refusal request.root_digest
   Ok (record { root = root; page_size = request.page_size; page_token = request.page_token })
 
 -- the action whose result is asked for
 unfoldable pub action_asked : List ℕ → List ℕ → Result Digest Refusal
 action_asked own message = do
-  request ← readable (decoded get_action_result_request_of message)
-  _ ← own_instance own request.instance_name
-  _ ← known_function request.digest_function
-  set_digest request.action_digest
+  request ← message_or_refusal (value_of_text get_action_result_request_of message)
+  _ ← instance_check own request.instance_name
+  _ ← function_check request.digest_function
+  digest_or_refusal request.action_digest
 
 -- the bytes of an action's result; one that is not set has none
 pub record ResultSentValue : Type 0 where
@@ -53,8 +53,8 @@ result_sent_shown s = record { action = s.action; text = s.text.items }
 -- what an UpdateActionResultRequest sends
 unfoldable pub result_sent : List ℕ → List ℕ → Result ResultSentValue Refusal
 result_sent own message = do
-  request ← readable (decoded update_action_result_request_of message)
-  _ ← own_instance own request.instance_name
-  _ ← known_function request.digest_function
-  action ← set_digest request.action_digest
+  request ← message_or_refusal (value_of_text update_action_result_request_of message)
+  _ ← instance_check own request.instance_name
+  _ ← function_check request.digest_function
+  action ← digest_or_refusal request.action_digest
   Ok (record { action = action; text = unwrap_or request.action_result [] })

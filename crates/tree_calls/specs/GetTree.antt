@@ -6,7 +6,7 @@ use Rattle.rpc.specs.declared.refusal.Refusal.{Refusal}
 use Rattle.rpc.specs.declared.refusal.Refusal.TheVariants.{BlobNotFound, TreeTooLarge}
 use Rattle.rpc.specs.declared.refusal.Refusal.TheVariants as Refused
 use Rattle.digest.specs.declared.Digest.{Digest}
-use Rattle.instance_view.specs.Visible.{Blob, seen}
+use Rattle.instance_view.specs.Visible.{Blob, visible_text}
 use Rattle.input_tree.specs.declared.error.TreeRefusal.{TreeRefusal}
 use Rattle.input_tree.specs.declared.error.TreeRefusal.TheVariants.{NotFound, BadDirectory, TooMany, BadPage}
 use Rattle.input_tree.specs.declared.error.GetTreeError.{GetTreeError}
@@ -20,7 +20,7 @@ use Rattle.tree_calls.specs.Asking.{TreeAskedValue, tree_asked}
 
 -- the texts that an instance sees
 abbrev pub texts_seen : List Blob → Lookup
-texts_seen visible d = seen d visible
+texts_seen visible d = visible_text d visible
 
 abbrev pub tree_refusal : TreeRefusal → Refusal
 tree_refusal NotFound = BlobNotFound

@@ -2,11 +2,11 @@
 use Rattle.std.specs.Prelude.{◌≡◌, true, List, [], ◌∷◌, ◌++◌, is_some, unwrap_or}
 use Rattle.std.specs.List.{AllByRecursion, IsDistinct, list_any}
 use Rattle.digest.specs.declared.Digest.{Digest}
-use Rattle.digest.specs.Naming.{same}
+use Rattle.digest.specs.Naming.{same_digest}
 use Rattle.input_tree.specs.Listing.{Lookup, children}
 
 abbrev pub IsListed : List Digest → Digest → Type 0
-IsListed ds d = list_any (same d) ds ≡ true
+IsListed ds d = list_any (same_digest d) ds ≡ true
 
 -- the text of the digest is there, and spells a directory that is taken
 abbrev pub IsDirectory : Lookup → Digest → Type 0
@@ -37,7 +37,7 @@ pub record IsWholeTree (look : Lookup) (root : Digest) (ds : List Digest) : Type
   -- each other is in a directory before it
   pub reached : AreReached look (root ∷ []) others
   -- no digest stands twice
-  pub distinct : IsDistinct same ds
+  pub distinct : IsDistinct same_digest ds
   pub directories : AllByRecursion (IsDirectory look) ds
   -- nothing that is in a listed one is left out
   pub whole : AllByRecursion (HasListed look ds) ds

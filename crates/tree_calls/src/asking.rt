@@ -3,7 +3,7 @@
 ghost use Rattle.std.specs.Prelude.{◌≡◌, option_map};
 ghost use Rattle.reapi_messages.specs.Digests.{digest_shown};
 ghost use Rattle.cas_service.specs.Answers.{Answers};
-ghost use Rattle.cas_service.specs.BatchUpdate.{set_digest};
+ghost use Rattle.cas_service.specs.BatchUpdate.{digest_or_refusal};
 ghost use Rattle.tree_calls.specs.Asking.{tree_asked, tree_asked_shown, action_asked, result_sent, result_sent_shown};
 
 use cas_service::{CallError, check_function, check_instance};
@@ -33,7 +33,7 @@ pub struct ResultSent {
 
 /// The digest that a request has to write.
 fn read_digest(sent: &Option<messages::Digest<'_>>) -> Result<Digest, Refusal>
-    ensures { result ≡ set_digest (option_map digest_shown sent.now) }
+    ensures { result ≡ digest_or_refusal (option_map digest_shown sent.now) }
 {
     match digest_written(sent) {
         Some(digest) => Ok(digest),

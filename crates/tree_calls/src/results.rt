@@ -1,11 +1,11 @@
 //! GetActionResult and UpdateActionResult.
 
 ghost use Rattle.std.specs.Prelude.{◌≡◌, ◌≤◌, ℕ, OnErr};
-ghost use Rattle.blob_pool.specs.Held.{Slots, count_at};
-ghost use Rattle.instance_view.specs.Shown.{shown, holders};
+ghost use Rattle.blob_pool.specs.Slots.{Slots, count_at};
+ghost use Rattle.instance_view.specs.Shown.{visible_in, holders};
 ghost use Rattle.quota_evict.specs.Kept.{AreKept};
 ghost use Rattle.cas_service.specs.Answers.{Answers, IfAnswered};
-ghost use Rattle.cas_service.specs.Changes.{changed};
+ghost use Rattle.cas_service.specs.Changes.{visible_after_changes};
 ghost use Rattle.tree_calls.specs.Results.{get_action_result_reply, get_action_result_changes, after_get, update_action_result_reply, after_update};
 
 use crate::asking::{ResultSent, action_asked, result_sent};
@@ -29,14 +29,15 @@ pub fn get_action_result(
 ) -> Result<Vec<u8>, CallError>
     requires held { (k : ℕ) → holders view.old k ≤ count_at pool.now k }
     ensures reply { Answers (λ reply. reply.items) result
-        (get_action_result_reply own.now (shown pool.now view.old) results.old message.now) }
+        (get_action_result_reply own.now (visible_in pool.now view.old) results.old message.now) }
     ensures results { IfAnswered result
-        (results.new ≡ after_get own.now (shown pool.now view.old) results.old message.now) }
+        (results.new ≡ after_get own.now (visible_in pool.now view.old) results.old message.now) }
     ensures used { (p : Slots) (quota : ℕ) →
-        let visible = shown pool.now view.old in
+        let visible = visible_in pool.now view.old in
         let changes = get_action_result_changes own.now visible results.old message.now in
         IfAnswered result
-        (shown p view.new ≡ changed view.old.limit quota changes (shown p view.old)) }
+        (visible_in p view.new
+        ≡ visible_after_changes view.old.limit quota changes (visible_in p view.old)) }
     ensures err { OnErr result ((results.new ≡ results.old) × (view.new ≡ view.old)) }
     ensures holders { (k : ℕ) → holders view.new k ≡ holders view.old k }
     ensures kept { (p : Slots) (quota : ℕ) → AreKept quota p view.old → AreKept quota p view.new }

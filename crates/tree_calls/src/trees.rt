@@ -1,11 +1,11 @@
 //! GetTree.
 
 ghost use Rattle.std.specs.Prelude.{◌≡◌, ◌≤◌, ℕ, map, OnErr};
-ghost use Rattle.blob_pool.specs.Held.{Slots, count_at};
-ghost use Rattle.instance_view.specs.Shown.{shown, holders};
+ghost use Rattle.blob_pool.specs.Slots.{Slots, count_at};
+ghost use Rattle.instance_view.specs.Shown.{visible_in, holders};
 ghost use Rattle.quota_evict.specs.Kept.{AreKept};
 ghost use Rattle.cas_service.specs.Answers.{Answers, IfAnswered};
-ghost use Rattle.cas_service.specs.Changes.{changed};
+ghost use Rattle.cas_service.specs.Changes.{visible_after_changes};
 ghost use Rattle.tree_calls.specs.GetTree.{tree_error, tree_refusal, get_tree_replies, get_tree_changes};
 
 use crate::asking::tree_asked;
@@ -55,11 +55,12 @@ pub fn get_tree(
 ) -> Result<Vec<Vec<u8>>, CallError>
     requires held { (k : ℕ) → holders view.old k ≤ count_at pool.now k }
     ensures replies { Answers (λ pages. map (λ page. page.items) pages.items) result
-        (get_tree_replies own.now (shown pool.now view.old) message.now) }
+        (get_tree_replies own.now (visible_in pool.now view.old) message.now) }
     ensures used { (p : Slots) (quota : ℕ) →
-        let changes = get_tree_changes own.now (shown pool.now view.old) message.now in
+        let changes = get_tree_changes own.now (visible_in pool.now view.old) message.now in
         IfAnswered result
-        (shown p view.new ≡ changed view.old.limit quota changes (shown p view.old)) }
+        (visible_in p view.new
+        ≡ visible_after_changes view.old.limit quota changes (visible_in p view.old)) }
     ensures err { OnErr result (view.new ≡ view.old) }
     ensures holders { (k : ℕ) → holders view.new k ≡ holders view.old k }
     ensures kept { (p : Slots) (quota : ℕ) → AreKept quota p view.old → AreKept quota p view.new }

@@ -5,7 +5,7 @@ use Rattle.std.specs.Int.{w32}
 use Rattle.message_fields.specs.declared.error.MessageError.{MessageError}
 use Rattle.message_fields.specs.Results.{◌>>=◌}
 use Rattle.message_fields.specs.Record.{Record}
-use Rattle.message_fields.specs.Fields.{decoded, embedded, int32, sent, string}
+use Rattle.message_fields.specs.Fields.{value_of_text, embedded_value, int32, sent_bytes, string}
 use Rattle.message_fields.specs.Parts.{embedded_field, int32_field, sent_field, string_field}
 use Rattle.tree_messages.specs.declared.action_cache.GetActionResultRequest.{GetActionResultRequest}
 use Rattle.tree_messages.specs.declared.action_cache.UpdateActionResultRequest.{UpdateActionResultRequest}
@@ -25,14 +25,17 @@ get_action_result_request_shown m = record {
   digest_function = m.digest_function;
 }
 
-unfoldable pub get_action_result_request_of : List Record → Result GetActionResultRequestValue MessageError
+unfoldable pub get_action_result_request_of : List Record →
+    Result GetActionResultRequestValue MessageError
 get_action_result_request_of rs = do
   instance_name ← string 1 rs
-  action_digest ← embedded digest_of 2 rs
+  action_digest ← embedded_value digest_of 2 rs
   Ok (record { instance_name = instance_name; action_digest = action_digest; digest_function = int32 6 rs })
 
 abbrev pub get_action_result_request_records : GetActionResultRequestValue → List Record
-get_action_result_request_records v = string_field 1 v.instance_name ++ embedded_field digest_records 2 v.action_digest ++ int32_field 6 v.digest_function
+get_action_result_request_records v =
+    string_field 1 v.instance_name ++ embedded_field digest_records 2 v.action_digest
+    ++ int32_field 6 v.digest_function
 
 -- instance_name 1, action_digest 2, action_result 3, digest_function 5
 pub record UpdateActionResultRequestValue : Type 0 where
@@ -41,7 +44,8 @@ pub record UpdateActionResultRequestValue : Type 0 where
   pub action_result : Option (List ℕ)
   pub digest_function : ℤ
 
-abbrev pub update_action_result_request_shown : UpdateActionResultRequest → UpdateActionResultRequestValue
+abbrev pub update_action_result_request_shown : UpdateActionResultRequest →
+    UpdateActionResultRequestValue
 update_action_result_request_shown m = record {
   instance_name = m.instance_name.now;
   action_digest = option_map digest_shown m.action_digest;
@@ -49,15 +53,18 @@ update_action_result_request_shown m = record {
   digest_function = m.digest_function;
 }
 
-unfoldable pub update_action_result_request_of : List Record → Result UpdateActionResultRequestValue MessageError
+unfoldable pub update_action_result_request_of : List Record →
+    Result UpdateActionResultRequestValue MessageError
 update_action_result_request_of rs = do
   instance_name ← string 1 rs
-  action_digest ← embedded digest_of 2 rs
-  action_result ← sent action_result_of 3 rs
+  action_digest ← embedded_value digest_of 2 rs
+  action_result ← sent_bytes action_result_of 3 rs
   Ok (record { instance_name = instance_name; action_digest = action_digest; action_result = action_result; digest_function = int32 5 rs })
 
 abbrev pub update_action_result_request_records : UpdateActionResultRequestValue → List Record
-update_action_result_request_records v = string_field 1 v.instance_name ++ embedded_field digest_records 2 v.action_digest ++ sent_field 3 v.action_result ++ int32_field 5 v.digest_function
+update_action_result_request_records v =
+    string_field 1 v.instance_name ++ embedded_field digest_records 2 v.action_digest
+    ++ sent_field 3 v.action_result ++ int32_field 5 v.digest_function
 
 -- ---- what fits the types of the fields
 
@@ -69,5 +76,5 @@ pub record FitsGetActionResultRequest (v : GetActionResultRequestValue) : Type 0
 pub record FitsUpdateActionResultRequest (v : UpdateActionResultRequestValue) : Type 0 where
   pub instance_name : is_utf8 v.instance_name ≡ true
   pub action_digest : IfSome v.action_digest FitsDigest
-  pub action_result : IfSome v.action_result (λ b. IsOk (decoded action_result_of b))
+  pub action_result : IfSome v.action_result (λ b. IsOk (value_of_text action_result_of b))
   pub digest_function : FitsSigned w32 v.digest_function

@@ -5,7 +5,7 @@ use Rattle.std.specs.List.{AllByRecursion}
 use Rattle.message_fields.specs.declared.error.MessageError.{MessageError}
 use Rattle.message_fields.specs.Results.{◌>>=◌}
 use Rattle.message_fields.specs.Record.{Record}
-use Rattle.message_fields.specs.Fields.{embedded, flag, repeated, string}
+use Rattle.message_fields.specs.Fields.{embedded_value, flag, repeated_values, string}
 use Rattle.message_fields.specs.Parts.{embedded_field, flag_field, repeated_field, string_field}
 use Rattle.tree_messages.specs.declared.directories.FileNode.{FileNode}
 use Rattle.tree_messages.specs.declared.directories.DirectoryNode.{DirectoryNode}
@@ -30,11 +30,13 @@ file_node_shown m = record {
 unfoldable pub file_node_of : List Record → Result FileNodeValue MessageError
 file_node_of rs = do
   name ← string 1 rs
-  digest ← embedded digest_of 2 rs
+  digest ← embedded_value digest_of 2 rs
   Ok (record { name = name; digest = digest; is_executable = flag 4 rs })
 
 abbrev pub file_node_records : FileNodeValue → List Record
-file_node_records v = string_field 1 v.name ++ embedded_field digest_records 2 v.digest ++ flag_field 4 v.is_executable
+file_node_records v =
+    string_field 1 v.name ++ embedded_field digest_records 2 v.digest
+    ++ flag_field 4 v.is_executable
 
 -- name 1, digest 2
 pub record DirectoryNodeValue : Type 0 where
@@ -47,7 +49,7 @@ directory_node_shown m = record { name = m.name.now; digest = option_map digest_
 unfoldable pub directory_node_of : List Record → Result DirectoryNodeValue MessageError
 directory_node_of rs = do
   name ← string 1 rs
-  digest ← embedded digest_of 2 rs
+  digest ← embedded_value digest_of 2 rs
   Ok (record { name = name; digest = digest })
 
 abbrev pub directory_node_records : DirectoryNodeValue → List Record
@@ -85,13 +87,16 @@ directory_shown m = record {
 
 unfoldable pub directory_of : List Record → Result DirectoryValue MessageError
 directory_of rs = do
-  files ← repeated file_node_of 1 rs
-  directories ← repeated directory_node_of 2 rs
-  symlinks ← repeated symlink_node_of 3 rs
+  files ← repeated_values file_node_of 1 rs
+  directories ← repeated_values directory_node_of 2 rs
+  symlinks ← repeated_values symlink_node_of 3 rs
   Ok (record { files = files; directories = directories; symlinks = symlinks })
 
 abbrev pub directory_records : DirectoryValue → List Record
-directory_records v = repeated_field file_node_records 1 v.files ++ repeated_field directory_node_records 2 v.directories ++ repeated_field symlink_node_records 3 v.symlinks
+directory_records v =
+    repeated_field file_node_records 1 v.files
+    ++ repeated_field directory_node_records 2 v.directories
+    ++ repeated_field symlink_node_records 3 v.symlinks
 
 -- root 1, children 2 repeated
 pub record TreeValue : Type 0 where
@@ -106,12 +111,13 @@ tree_shown m = record {
 
 unfoldable pub tree_of : List Record → Result TreeValue MessageError
 tree_of rs = do
-  root ← embedded directory_of 1 rs
-  children ← repeated directory_of 2 rs
+  root ← embedded_value directory_of 1 rs
+  children ← repeated_values directory_of 2 rs
   Ok (record { root = root; children = children })
 
 abbrev pub tree_records : TreeValue → List Record
-tree_records v = embedded_field directory_records 1 v.root ++ repeated_field directory_records 2 v.children
+tree_records v =
+    embedded_field directory_records 1 v.root ++ repeated_field directory_records 2 v.children
 
 -- ---- what fits the types of the fields
 

@@ -5,7 +5,7 @@ use Rattle.std.specs.Int.{w32}
 use Rattle.message_fields.specs.declared.error.MessageError.{MessageError}
 use Rattle.message_fields.specs.Results.{◌>>=◌}
 use Rattle.message_fields.specs.Record.{Record}
-use Rattle.message_fields.specs.Fields.{embedded, int32, repeated_octets, string}
+use Rattle.message_fields.specs.Fields.{embedded_value, int32, repeated_octets, string}
 use Rattle.message_fields.specs.Parts.{embedded_field, int32_field, repeated_octets_field, string_field}
 use Rattle.tree_messages.specs.declared.get_tree.GetTreeRequest.{GetTreeRequest}
 use Rattle.tree_messages.specs.declared.get_tree.GetTreeResponse.{GetTreeResponse}
@@ -31,12 +31,14 @@ get_tree_request_shown m = record {
 unfoldable pub get_tree_request_of : List Record → Result GetTreeRequestValue MessageError
 get_tree_request_of rs = do
   instance_name ← string 1 rs
-  root_digest ← embedded digest_of 2 rs
+  root_digest ← embedded_value digest_of 2 rs
   page_token ← string 4 rs
   Ok (record { instance_name = instance_name; root_digest = root_digest; page_size = int32 3 rs; page_token = page_token; digest_function = int32 5 rs })
 
 abbrev pub get_tree_request_records : GetTreeRequestValue → List Record
-get_tree_request_records v = string_field 1 v.instance_name ++ embedded_field digest_records 2 v.root_digest ++ int32_field 3 v.page_size ++ string_field 4 v.page_token ++ int32_field 5 v.digest_function
+get_tree_request_records v =
+    string_field 1 v.instance_name ++ embedded_field digest_records 2 v.root_digest
+    ++ int32_field 3 v.page_size ++ string_field 4 v.page_token ++ int32_field 5 v.digest_function
 
 -- directories 1 repeated, next_page_token 2
 pub record GetTreeResponseValue : Type 0 where
@@ -55,7 +57,8 @@ get_tree_response_of rs = do
   Ok (record { directories = repeated_octets 1 rs; next_page_token = next_page_token })
 
 abbrev pub get_tree_response_records : GetTreeResponseValue → List Record
-get_tree_response_records v = repeated_octets_field 1 v.directories ++ string_field 2 v.next_page_token
+get_tree_response_records v =
+    repeated_octets_field 1 v.directories ++ string_field 2 v.next_page_token
 
 -- ---- what fits the types of the fields
 

@@ -6,7 +6,7 @@ use Rattle.std.specs.List.{AllByRecursion}
 use Rattle.message_fields.specs.declared.error.MessageError.{MessageError}
 use Rattle.message_fields.specs.Results.{◌>>=◌}
 use Rattle.message_fields.specs.Record.{Record}
-use Rattle.message_fields.specs.Fields.{embedded, flag, int32, octets, repeated, string}
+use Rattle.message_fields.specs.Fields.{embedded_value, flag, int32, octets, repeated_values, string}
 use Rattle.message_fields.specs.Parts.{embedded_field, flag_field, int32_field, repeated_field, string_field}
 use Rattle.message_fields.specs.Writing.{bytes_field}
 use Rattle.tree_messages.specs.declared.results.OutputFile.{OutputFile}
@@ -30,11 +30,13 @@ output_file_shown m = record {
 unfoldable pub output_file_of : List Record → Result OutputFileValue MessageError
 output_file_of rs = do
   path ← string 1 rs
-  digest ← embedded digest_of 2 rs
+  digest ← embedded_value digest_of 2 rs
   Ok (record { path = path; digest = digest; is_executable = flag 4 rs })
 
 abbrev pub output_file_records : OutputFileValue → List Record
-output_file_records v = string_field 1 v.path ++ embedded_field digest_records 2 v.digest ++ flag_field 4 v.is_executable
+output_file_records v =
+    string_field 1 v.path ++ embedded_field digest_records 2 v.digest
+    ++ flag_field 4 v.is_executable
 
 -- path 1, tree_digest 3
 pub record OutputDirectoryValue : Type 0 where
@@ -42,12 +44,13 @@ pub record OutputDirectoryValue : Type 0 where
   pub tree_digest : Option DigestValue
 
 abbrev pub output_directory_shown : OutputDirectory → OutputDirectoryValue
-output_directory_shown m = record { path = m.path.now; tree_digest = option_map digest_shown m.tree_digest }
+output_directory_shown m =
+    record { path = m.path.now; tree_digest = option_map digest_shown m.tree_digest }
 
 unfoldable pub output_directory_of : List Record → Result OutputDirectoryValue MessageError
 output_directory_of rs = do
   path ← string 1 rs
-  tree_digest ← embedded digest_of 3 rs
+  tree_digest ← embedded_value digest_of 3 rs
   Ok (record { path = path; tree_digest = tree_digest })
 
 abbrev pub output_directory_records : OutputDirectoryValue → List Record
@@ -77,14 +80,18 @@ action_result_shown m = record {
 
 unfoldable pub action_result_of : List Record → Result ActionResultValue MessageError
 action_result_of rs = do
-  output_files ← repeated output_file_of 2 rs
-  output_directories ← repeated output_directory_of 3 rs
-  stdout_digest ← embedded digest_of 6 rs
-  stderr_digest ← embedded digest_of 8 rs
+  output_files ← repeated_values output_file_of 2 rs
+  output_directories ← repeated_values output_directory_of 3 rs
+  stdout_digest ← embedded_value digest_of 6 rs
+  stderr_digest ← embedded_value digest_of 8 rs
   Ok (record { output_files = output_files; output_directories = output_directories; exit_code = int32 4 rs; stdout_raw = octets 5 rs; stdout_digest = stdout_digest; stderr_raw = octets 7 rs; stderr_digest = stderr_digest })
 
 abbrev pub action_result_records : ActionResultValue → List Record
-action_result_records v = repeated_field output_file_records 2 v.output_files ++ repeated_field output_directory_records 3 v.output_directories ++ int32_field 4 v.exit_code ++ bytes_field 5 v.stdout_raw ++ embedded_field digest_records 6 v.stdout_digest ++ bytes_field 7 v.stderr_raw ++ embedded_field digest_records 8 v.stderr_digest
+action_result_records v =
+    repeated_field output_file_records 2 v.output_files
+    ++ repeated_field output_directory_records 3 v.output_directories ++ int32_field 4 v.exit_code
+    ++ bytes_field 5 v.stdout_raw ++ embedded_field digest_records 6 v.stdout_digest
+    ++ bytes_field 7 v.stderr_raw ++ embedded_field digest_records 8 v.stderr_digest
 
 -- ---- what fits the types of the fields
 

@@ -5,14 +5,14 @@ use Rattle.message_fields.specs.Results.{◌>>=◌}
 use Rattle.digest.specs.declared.Digest.{Digest}
 use Rattle.input_tree.specs.Listing.{Lookup}
 use Rattle.tree_plan.specs.Nodes.{NodeKindValue, file, symlink, directory, PlanNodeValue, nodes_in}
-use Rattle.tree_plan.specs.Walk.{Nodes, taken, nodes_of_text, directory_nodes, nodes_below, nodes_inside, walk_along, nodes_met, digests_met, missing_among, planned, walk, missing, too_deep}
+use Rattle.tree_plan.specs.Walk.{Nodes, nodes_or_fault, nodes_of_text, directory_nodes, nodes_below, nodes_inside, walk_along, nodes_met, digests_met, missing_among, plan_of, walk, missing, too_deep}
 use Rattle.tree_plan.specs.Tree.{AreMissing}
 use Rattle.tree_plan.proofs.Kept.{in_none, filter_gives, filter_has}
 use Rattle.tree_plan.proofs.Trees.{none_missing_err, plan_is}
 
 -- ---- no step of the walk finds anything missing
 
-taken_not : (ds : List Digest) (o : Option (List PlanNodeValue)) → taken o ≡ Err (missing ds) → ⊥
+taken_not : (ds : List Digest) (o : Option (List PlanNodeValue)) → nodes_or_fault o ≡ Err (missing ds) → ⊥
 taken_not ds None h = cc
 taken_not ds (Some nodes) h = cc
 
@@ -56,7 +56,7 @@ is_there (Some text) h = refl
 
 pub all_missing : (look : Lookup) (root : Digest) (digests : List Digest) → walk look root ≡ Err (missing digests) → AreMissing look root digests
 all_missing look root digests h = go (nodes_met look root) refl h where
-  go : (m : Nodes) → nodes_met look root ≡ m → (m >>= planned look root) ≡ Err (missing digests) → AreMissing look root digests
+  go : (m : Nodes) → nodes_met look root ≡ m → (m >>= plan_of look root) ≡ Err (missing digests) → AreMissing look root digests
   go (Err e) is h = absurd (met_not digests look root (is ∙ h))
   go (Ok nodes) is h =
       let all = digests_met root nodes in

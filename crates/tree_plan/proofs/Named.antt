@@ -5,14 +5,14 @@ use Rattle.std.proofs.lemmas.List.{map-append}
 use Rattle.std.proofs.lemmas.List.Elements.{Contains-append_cases}
 use Rattle.std.proofs.lemmas.Bool.{and_parts}
 use Rattle.message_fields.specs.declared.error.MessageError.{MessageError}
-use Rattle.message_fields.specs.Fields.{decoded}
+use Rattle.message_fields.specs.Fields.{value_of_text}
 use Rattle.digest.specs.declared.Digest.{Digest}
 use Rattle.tree_messages.specs.Directories.{DirectoryValue, DirectoryNodeValue, FileNodeValue, SymlinkNodeValue, directory_of}
 use Rattle.input_tree.specs.Names.{is_name, is_name_byte, is_target, are_rising, are_apart}
-use Rattle.input_tree.specs.Directories.{digest_written, is_file, is_child, is_symlink, file_names, child_names, symlink_names, has_nodes, has_order, is_directory, checked, directory_in}
+use Rattle.input_tree.specs.Directories.{written_digest, is_file, is_child, is_symlink, file_names, child_names, symlink_names, has_nodes, has_order, is_directory, valid_directory, directory_in}
 use Rattle.input_tree.specs.Listing.{Lookup}
 use Rattle.tree_plan.specs.Nodes.{NodeKindValue, file, symlink, directory, PlanNodeValue, file_at, symlink_at, directory_at, nodes_of, nodes_in}
-use Rattle.tree_plan.specs.Walk.{taken, nodes_of_text, directory_nodes, nodes_below, nodes_inside, too_deep}
+use Rattle.tree_plan.specs.Walk.{nodes_or_fault, nodes_of_text, directory_nodes, nodes_below, nodes_inside, too_deep}
 use Rattle.tree_plan.proofs.Kept.{in_none, in_cases}
 use Rattle.tree_plan.proofs.Pairs.{Pairs, in_map, pairs_joined}
 use Rattle.tree_plan.proofs.Distinct.{distinct_by_order, apart_differ, name_bytes}
@@ -56,14 +56,14 @@ names_good name is_good leads vs h t c =
     name_bytes t (ap is_name (sym found.2) ∙ leads found.0 (all_good is_good vs h found.0 found.1))
 
 file_given : (above : List ℕ) (level : ℕ) (v : FileNodeValue) → is_file v ≡ true → Gives (file_at above level) (above ++ v.name) v
-file_given above level v h = go (digest_written v.digest) refl (and_parts (is_name v.name) (is_some (digest_written v.digest)) h).1 where
-  go : (d : Option Digest) → digest_written v.digest ≡ d → is_some d ≡ true → Gives (file_at above level) (above ++ v.name) v
+file_given above level v h = go (written_digest v.digest) refl (and_parts (is_name v.name) (is_some (written_digest v.digest)) h).1 where
+  go : (d : Option Digest) → written_digest v.digest ≡ d → is_some d ≡ true → Gives (file_at above level) (above ++ v.name) v
   go (Some d) is some = record { node = record { path = above ++ v.name; level = level; kind = file d v.is_executable }; node_is = ap (option_map (λ d. record { path = above ++ v.name; level = level; kind = file d v.is_executable })) is; path_is = refl }
   go None is some = cc
 
 child_given : (above : List ℕ) (level : ℕ) (v : DirectoryNodeValue) → is_child v ≡ true → Gives (directory_at above level) (above ++ v.name) v
-child_given above level v h = go (digest_written v.digest) refl (and_parts (is_name v.name) (is_some (digest_written v.digest)) h).1 where
-  go : (d : Option Digest) → digest_written v.digest ≡ d → is_some d ≡ true → Gives (directory_at above level) (above ++ v.name) v
+child_given above level v h = go (written_digest v.digest) refl (and_parts (is_name v.name) (is_some (written_digest v.digest)) h).1 where
+  go : (d : Option Digest) → written_digest v.digest ≡ d → is_some d ≡ true → Gives (directory_at above level) (above ++ v.name) v
   go (Some d) is some = record { node = record { path = above ++ v.name; level = level; kind = directory d }; node_is = ap (option_map (λ d. record { path = above ++ v.name; level = level; kind = directory d })) is; path_is = refl }
   go None is some = cc
 
@@ -122,10 +122,10 @@ names_are_good : (v : DirectoryValue) → Taken v → (n : List ℕ) → Contain
 names_are_good v t n c = go (Contains-append_cases (file_names v) (symlink_names v ++ child_names v) n c) where
   others : Contains (symlink_names v) n ⊎ Contains (child_names v) n → list_all is_name_byte n ≡ true
   others (inl c) = names_good (λ n. n.name) is_symlink (λ w h. (and_parts (is_name w.name) (is_target w.target) h).0) v.symlinks t.symlinks n c
-  others (inr c) = names_good (λ n. n.name) is_child (λ w h. (and_parts (is_name w.name) (is_some (digest_written w.digest)) h).0) v.directories t.directories n c
+  others (inr c) = names_good (λ n. n.name) is_child (λ w h. (and_parts (is_name w.name) (is_some (written_digest w.digest)) h).0) v.directories t.directories n c
 
   go : Contains (file_names v) n ⊎ Contains (symlink_names v ++ child_names v) n → list_all is_name_byte n ≡ true
-  go (inl c) = names_good (λ n. n.name) is_file (λ w h. (and_parts (is_name w.name) (is_some (digest_written w.digest)) h).0) v.files t.files n c
+  go (inl c) = names_good (λ n. n.name) is_file (λ w h. (and_parts (is_name w.name) (is_some (written_digest w.digest)) h).0) v.files t.files n c
   go (inr c) = others (Contains-append_cases (symlink_names v) (child_names v) n c)
 
 named_by : (above : List ℕ) (level : ℕ) (v : DirectoryValue) → is_directory v ≡ true → Named above (nodes_of above level v)
@@ -141,17 +141,17 @@ directory_good text v h = sized (nat_le _ _) h where
   tested w true is h = let same : w ≡ v = cc in rw (← same) is
   tested w false is h = cc
 
-  read : (r : Result DirectoryValue MessageError) → checked r ≡ Some v → is_directory v ≡ true
+  read : (r : Result DirectoryValue MessageError) → valid_directory r ≡ Some v → is_directory v ≡ true
   read (Ok w) h = tested w (is_directory w) refl h
   read (Err e) h = cc
 
-  sized : (b : Bool) → (if b then checked (decoded directory_of text) else None) ≡ Some v → is_directory v ≡ true
-  sized true h = read (decoded directory_of text) h
+  sized : (b : Bool) → (if b then valid_directory (value_of_text directory_of text) else None) ≡ Some v → is_directory v ≡ true
+  sized true h = read (value_of_text directory_of text) h
   sized false h = cc
 
-named_in : (above : List ℕ) (level : ℕ) (text : List ℕ) (nodes : List PlanNodeValue) → taken (nodes_in above level text) ≡ Ok nodes → Named above nodes
+named_in : (above : List ℕ) (level : ℕ) (text : List ℕ) (nodes : List PlanNodeValue) → nodes_or_fault (nodes_in above level text) ≡ Ok nodes → Named above nodes
 named_in above level text nodes h = go (directory_in text) refl h where
-  go : (d : Option DirectoryValue) → directory_in text ≡ d → taken (option_map (nodes_of above level) d) ≡ Ok nodes → Named above nodes
+  go : (d : Option DirectoryValue) → directory_in text ≡ d → nodes_or_fault (option_map (nodes_of above level) d) ≡ Ok nodes → Named above nodes
   go None is h = cc
   go (Some v) is h = let same : nodes_of above level v ≡ nodes = cc in rw (← same) (named_by above level v (directory_good text v is))
 

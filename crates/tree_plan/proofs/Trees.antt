@@ -4,7 +4,7 @@ use Rattle.message_fields.specs.Results.{◌>>=◌}
 use Rattle.digest.specs.declared.Digest.{Digest}
 use Rattle.input_tree.specs.Listing.{Lookup}
 use Rattle.tree_plan.specs.Nodes.{PlanNodeValue}
-use Rattle.tree_plan.specs.Walk.{Nodes, directory_nodes, nodes_inside, walk_along, nodes_met, digests_met, missing_among, none_missing, planned, walk, missing}
+use Rattle.tree_plan.specs.Walk.{Nodes, directory_nodes, nodes_inside, walk_along, nodes_met, digests_met, missing_among, nodes_unless_missing, plan_of, walk, missing}
 use Rattle.tree_plan.specs.Tree.{Meets, none, met as met_first, IsTree}
 
 -- what is met from a list of nodes is what is met from its front, and then from its rest
@@ -55,18 +55,18 @@ continues (suc most) look (n ∷ next) met nodes h = go (nodes_inside look n) re
 
 -- ---- what a plan says of the walk
 
-none_missing_ok : (nodes plan : List PlanNodeValue) (ds : List Digest) → none_missing nodes ds ≡ Ok plan → (nodes ≡ plan) × (ds ≡ [])
+none_missing_ok : (nodes plan : List PlanNodeValue) (ds : List Digest) → nodes_unless_missing nodes ds ≡ Ok plan → (nodes ≡ plan) × (ds ≡ [])
 none_missing_ok nodes plan [] h = (cc, refl)
 none_missing_ok nodes plan (d ∷ ds) h = cc
 
-pub none_missing_err : (nodes : List PlanNodeValue) (ds digests : List Digest) → none_missing nodes ds ≡ Err (missing digests) → ds ≡ digests
+pub none_missing_err : (nodes : List PlanNodeValue) (ds digests : List Digest) → nodes_unless_missing nodes ds ≡ Err (missing digests) → ds ≡ digests
 none_missing_err nodes [] digests h = cc
 none_missing_err nodes (d ∷ ds) digests h = cc
 
 -- a plan's nodes are those met, and nothing is missing among them
 pub plan_is : (look : Lookup) (root : Digest) (plan : List PlanNodeValue) → walk look root ≡ Ok plan → (nodes_met look root ≡ Ok plan) × (missing_among look (digests_met root plan) ≡ [])
 plan_is look root plan h = go (nodes_met look root) refl h where
-  go : (m : Nodes) → nodes_met look root ≡ m → (m >>= planned look root) ≡ Ok plan → (nodes_met look root ≡ Ok plan) × (missing_among look (digests_met root plan) ≡ [])
+  go : (m : Nodes) → nodes_met look root ≡ m → (m >>= plan_of look root) ≡ Ok plan → (nodes_met look root ≡ Ok plan) × (missing_among look (digests_met root plan) ≡ [])
   go (Ok nodes) is h =
       let parts = none_missing_ok nodes plan (missing_among look (digests_met root nodes)) h in
       (is ∙ ap (λ (ns : List PlanNodeValue). Ok ns) parts.0, ap (λ (ns : List PlanNodeValue). missing_among look (digests_met root ns)) (sym parts.0) ∙ parts.1)

@@ -12,6 +12,7 @@ Fails TooDeep meaning = meaning ≡ Err too_deep
 Fails NoMemory meaning = Unit {0}
 
 -- a call's answer, seen by view, is the meaning
-abbrev pub Answers : {X Y : Type 0} → (X → Y) → Result X TreeFault → Result Y TreeFaultValue → Type 0
+abbrev pub Answers : {X Y : Type 0} → (X → Y) → Result X TreeFault → Result Y TreeFaultValue →
+    Type 0
 Answers view (Ok x) meaning = meaning ≡ Ok (view x)
 Answers view (Err e) meaning = Fails e meaning

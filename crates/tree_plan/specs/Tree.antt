@@ -9,7 +9,9 @@ use Rattle.tree_plan.specs.Walk.{digests_met, directory_nodes, nodes_inside, nod
 -- nodes, and all that is met from them: each is followed by all that is met from those in it
 pub data Meets (look : Lookup) : List PlanNodeValue → List PlanNodeValue → Type 0 where
   none : Meets look [] []
-  met : (n : PlanNodeValue) (inside below next after : List PlanNodeValue) → nodes_inside look n ≡ Ok inside → Meets look inside below → Meets look next after → Meets look (n ∷ next) (n ∷ (below ++ after))
+  met : (n : PlanNodeValue) (inside below next after : List PlanNodeValue) →
+      nodes_inside look n ≡ Ok inside → Meets look inside below → Meets look next after →
+      Meets look (n ∷ next) (n ∷ (below ++ after))
 
 -- the nodes are those of the root's tree
 pub record IsTree (look : Lookup) (root : Digest) (nodes : List PlanNodeValue) : Type 0 where
@@ -25,16 +27,20 @@ pub record StandsIn (look : Lookup) (d n : PlanNodeValue) : Type 0 where
 
 -- a node is at the top, or in one of those before it
 abbrev pub HasPlace : Lookup → List PlanNodeValue → List PlanNodeValue → PlanNodeValue → Type 0
-HasPlace look top before n = Contains top n ⊎ ((d : PlanNodeValue) × Contains before d × StandsIn look d n)
+HasPlace look top before n =
+    Contains top n ⊎ ((d : PlanNodeValue) × Contains before d × StandsIn look d n)
 
 -- each node has its place behind those before it
-abbrev pub HavePlaces : Lookup → List PlanNodeValue → List PlanNodeValue → List PlanNodeValue → Type 0
+abbrev pub HavePlaces : Lookup → List PlanNodeValue → List PlanNodeValue → List PlanNodeValue →
+    Type 0
 HavePlaces look top before [] = Unit {0}
-HavePlaces look top before (n ∷ nodes) = HasPlace look top before n × HavePlaces look top (before ++ n ∷ []) nodes
+HavePlaces look top before (n ∷ nodes) =
+    HasPlace look top before n × HavePlaces look top (before ++ n ∷ []) nodes
 
 -- these are the digests of all that is met and not there
 pub record AreMissing (look : Lookup) (root : Digest) (digests : List Digest) : Type 0 where
   pub nodes : List PlanNodeValue
   pub nodes_are : nodes_met look root ≡ Ok nodes
-  pub each : (d : Digest) → Contains digests d → Contains (digests_met root nodes) d × (look d ≡ None)
+  pub each : (d : Digest) → Contains digests d →
+      Contains (digests_met root nodes) d × (look d ≡ None)
   pub all : (d : Digest) → Contains (digests_met root nodes) d → look d ≡ None → Contains digests d

@@ -18,14 +18,14 @@ pub data TreeFaultValue : Type 0 where
 abbrev pub Nodes : Type 0
 Nodes = Result (List PlanNodeValue) TreeFaultValue
 
-abbrev pub taken : Option (List PlanNodeValue) → Nodes
-taken None = Err bad_directory
-taken (Some nodes) = Ok nodes
+abbrev pub nodes_or_fault : Option (List PlanNodeValue) → Nodes
+nodes_or_fault None = Err bad_directory
+nodes_or_fault (Some nodes) = Ok nodes
 
 -- the nodes of a directory; none are met where its text is not there
 abbrev pub nodes_of_text : List ℕ → ℕ → Option (List ℕ) → Nodes
 nodes_of_text above level None = Ok []
-nodes_of_text above level (Some text) = taken (nodes_in above level text)
+nodes_of_text above level (Some text) = nodes_or_fault (nodes_in above level text)
 
 abbrev pub directory_nodes : Lookup → List ℕ → ℕ → Digest → Nodes
 directory_nodes look above level d = nodes_of_text above level (look d)
@@ -34,7 +34,8 @@ directory_nodes look above level d = nodes_of_text above level (look d)
 abbrev pub nodes_below : Lookup → List ℕ → ℕ → NodeKindValue → Nodes
 nodes_below look path level (file d is_executable) = Ok []
 nodes_below look path level (symlink target) = Ok []
-nodes_below look path level (directory d) = if nat_le 64 level then Err too_deep else directory_nodes look (path ++ 47 ∷ []) (level + 1) d
+nodes_below look path level (directory d) =
+    if nat_le 64 level then Err too_deep else directory_nodes look (path ++ 47 ∷ []) (level + 1) d
 
 abbrev pub nodes_inside : Lookup → PlanNodeValue → Nodes
 nodes_inside look n = nodes_below look n.path n.level n.kind
@@ -43,7 +44,8 @@ nodes_inside look n = nodes_below look n.path n.level n.kind
 unfoldable pub walk_along : ℕ → Lookup → List PlanNodeValue → List PlanNodeValue → Nodes
 walk_along most look [] met = Ok met
 walk_along zero look (n ∷ next) met = Err too_many
-walk_along (suc most) look (n ∷ next) met = nodes_inside look n >>= (λ inside. walk_along most look (inside ++ next) (met ++ n ∷ []))
+walk_along (suc most) look (n ∷ next) met =
+    nodes_inside look n >>= (λ inside. walk_along most look (inside ++ next) (met ++ n ∷ []))
 
 -- the nodes of a root's tree, at most 10,000, in the order met
 abbrev pub nodes_met : Lookup → Digest → Nodes
@@ -67,13 +69,13 @@ digests_met root nodes = root ∷ filter_map digest_of_node nodes
 abbrev pub missing_among : Lookup → List Digest → List Digest
 missing_among look ds = filter (λ d. not (is_some (look d))) ds
 
-abbrev pub none_missing : List PlanNodeValue → List Digest → Nodes
-none_missing nodes [] = Ok nodes
-none_missing nodes (d ∷ ds) = Err (missing (d ∷ ds))
+abbrev pub nodes_unless_missing : List PlanNodeValue → List Digest → Nodes
+nodes_unless_missing nodes [] = Ok nodes
+nodes_unless_missing nodes (d ∷ ds) = Err (missing (d ∷ ds))
 
-abbrev pub planned : Lookup → Digest → List PlanNodeValue → Nodes
-planned look root nodes = none_missing nodes (missing_among look (digests_met root nodes))
+abbrev pub plan_of : Lookup → Digest → List PlanNodeValue → Nodes
+plan_of look root nodes = nodes_unless_missing nodes (missing_among look (digests_met root nodes))
 
 -- the nodes of a root's tree, in the order met: the first fault that is met, or all that is missing
 abbrev pub walk : Lookup → Digest → Nodes
-walk look root = nodes_met look root >>= planned look root
+walk look root = nodes_met look root >>= plan_of look root

@@ -3,7 +3,7 @@
 ghost use Rattle.std.specs.Prelude.{◌≡◌, ◌++◌, ◌<◌, ◌≤◌, ℕ, map, option_map, IfOk, OnOk};
 ghost use Rattle.std.specs.List.{filter_map};
 ghost use Rattle.tree_messages.specs.Directories.{directory_shown};
-ghost use Rattle.blob_pool.specs.Held.{count_at, text_at};
+ghost use Rattle.blob_pool.specs.Slots.{count_at, text_at};
 ghost use Rattle.instance_view.specs.Shown.{holders, holders_seen, text_seen};
 ghost use Rattle.input_tree.specs.Texts.{texts_of};
 ghost use Rattle.tree_plan.specs.Nodes.{nodes_in, nodes_of};

@@ -1,7 +1,7 @@
 //! The walk.
 
 ghost use Rattle.std.specs.Prelude.{◌≡◌, ◌++◌, ◌≤◌, ◌<◌, ℕ, [], map, reverse, IfOk, OnOk};
-ghost use Rattle.blob_pool.specs.Held.{count_at};
+ghost use Rattle.blob_pool.specs.Slots.{count_at};
 ghost use Rattle.instance_view.specs.Shown.{holders};
 ghost use Rattle.input_tree.specs.Texts.{texts_of};
 ghost use Rattle.tree_plan.specs.Shown.{node_shown, nodes_shown};

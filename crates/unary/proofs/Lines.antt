@@ -10,12 +10,12 @@ use Rattle.script.specs.UnaryShown.{command_value, instance_value}
 use Rattle.server_events.specs.Instance.{quota_limit}
 use Rattle.script.specs.UnaryScript.{InstanceValue}
 use Rattle.script.specs.UnaryLines.{instance_place}
-use Rattle.unary.specs.Session.{StoreValue, opened, line_of, store_of, stores_after, lines_of_commands, written}
+use Rattle.unary.specs.Session.{StoreValue, new_store, line_of, store_of, stores_after, lines_of_commands, text_of_lines}
 
-pub written-append : (xs ys : List (List ℕ)) → written (xs ++ ys) ≡ written xs ++ written ys
-written-append [] ys = refl
-written-append (x ∷ xs) ys =
-    ap (λ (t : List ℕ). x ++ 10 ∷ t) (written-append xs ys) ∙ sym (append_assoc x (10 ∷ written xs) (written ys))
+pub text_of_lines-append : (xs ys : List (List ℕ)) → text_of_lines (xs ++ ys) ≡ text_of_lines xs ++ text_of_lines ys
+text_of_lines-append [] ys = refl
+text_of_lines-append (x ∷ xs) ys =
+    ap (λ (t : List ℕ). x ++ 10 ∷ t) (text_of_lines-append xs ys) ∙ sym (append_assoc x (10 ∷ text_of_lines xs) (text_of_lines ys))
 
 pub appends_more : (first second third : Option (List ℕ)) (xs ys : List ℕ) → Appends first second xs → Appends second third ys → Appends first third (xs ++ ys)
 appends_more None second third xs ys a b = tt
@@ -32,7 +32,7 @@ appends_none (Some u) (Some v) k = k ∙ sym (append-nil u)
 pub record Told (commands : List Command) (at : ℕ) (first now : List StoreValue) (before after : Option (List ℕ)) : Type 0 where
   pub done : List (List ℕ)
   pub lines : done ++ lines_of_commands (map command_value (drop at commands)) now ≡ lines_of_commands (map command_value commands) first
-  pub out : Appends before after (written done)
+  pub out : Appends before after (text_of_lines done)
   pub stores : length now ≡ length first
 
 pub told_none : (commands : List Command) (first : List StoreValue) (before : Option (List ℕ)) → Told commands 0 first first before before
@@ -58,7 +58,7 @@ told_more commands at c first now next before between after lt is changed put t 
     record {
       done = t.done ++ line ∷ [];
       lines = append_assoc t.done (line ∷ []) (later next) ∙ ap (λ (s : List StoreValue). t.done ++ line ∷ later s) changed ∙ sym (ap of_rest rest) ∙ t.lines;
-      out = subst (Appends before after) (sym (written-append t.done (line ∷ []))) (appends_more before between after (written t.done) (line ++ 10 ∷ []) t.out put);
+      out = subst (Appends before after) (sym (text_of_lines-append t.done (line ∷ []))) (appends_more before between after (text_of_lines t.done) (line ++ 10 ∷ []) t.out put);
       stores = ap (λ (s : List StoreValue). length s) changed ∙ length-set now (instance_place (command_value c)) _ ∙ t.stores;
     }
 
@@ -68,22 +68,22 @@ take_done (x ∷ xs) ys = ap (λ (zs : List (List ℕ)). x ∷ zs) (take_done xs
 
 -- all lines were written
 pub told_all : (commands : List Command) (at : ℕ) (first now : List StoreValue) (before after : Option (List ℕ)) → length commands ≤ at → Told commands at first now before after
-    → Appends before after (written (lines_of_commands (map command_value commands) first))
+    → Appends before after (text_of_lines (lines_of_commands (map command_value commands) first))
 told_all commands at first now before after le t =
     let none : drop at commands ≡ [] = drop_all at commands le in
     let of_rest : List Command → List (List ℕ) = λ cs. t.done ++ lines_of_commands (map command_value cs) now in
     let all : t.done ≡ lines_of_commands (map command_value commands) first = sym (append-nil t.done) ∙ sym (ap of_rest none) ∙ t.lines in
-    subst (λ (xs : List (List ℕ)). Appends before after (written xs)) all t.out
+    subst (λ (xs : List (List ℕ)). Appends before after (text_of_lines xs)) all t.out
 
 -- the first of them were
 pub told_some : (commands : List Command) (at : ℕ) (first now : List StoreValue) (before between after : Option (List ℕ)) → Told commands at first now before between → Keeps between after
-    → (count : ℕ) × Appends before after (written (take count (lines_of_commands (map command_value commands) first)))
+    → (count : ℕ) × Appends before after (text_of_lines (take count (lines_of_commands (map command_value commands) first)))
 told_some commands at first now before between after t kept =
     let some : take (length t.done) (lines_of_commands (map command_value commands) first) ≡ t.done =
     ap (take (length t.done)) (sym t.lines) ∙ take_done t.done (lines_of_commands (map command_value (drop at commands)) now) in
-    let out : Appends before after (written t.done ++ []) = appends_more before between after (written t.done) [] t.out (appends_none between after kept) in
-    let plain : Appends before after (written t.done) = subst (Appends before after) (append-nil (written t.done)) out in
-    (length t.done, subst (λ (xs : List (List ℕ)). Appends before after (written xs)) (sym some) plain)
+    let out : Appends before after (text_of_lines t.done ++ []) = appends_more before between after (text_of_lines t.done) [] t.out (appends_none between after kept) in
+    let plain : Appends before after (text_of_lines t.done) = subst (Appends before after) (append-nil (text_of_lines t.done)) out in
+    (length t.done, subst (λ (xs : List (List ℕ)). Appends before after (text_of_lines xs)) (sym some) plain)
 
 -- ---- a script's own promises
 
@@ -91,9 +91,9 @@ length-instances : (xs : List Instance) → length (map instance_value xs) ≡ l
 length-instances [] = refl
 length-instances (x ∷ xs) = let ih = length-instances xs in omega (arith, ih)
 
-pub length-opened : (xs : List InstanceValue) → length (map opened xs) ≡ length xs
-length-opened [] = refl
-length-opened (x ∷ xs) = let ih = length-opened xs in omega (arith, ih)
+pub length-new_store : (xs : List InstanceValue) → length (map new_store xs) ≡ length xs
+length-new_store [] = refl
+length-new_store (x ∷ xs) = let ih = length-new_store xs in omega (arith, ih)
 
 pub quotas_small : (xs : List Instance) → All (λ (i : InstanceValue). i.quota ≤ quota_limit) (map instance_value xs) → All (λ (i : Instance). i.quota ≤ 2 ^ 40) xs
 quotas_small xs h = λ k d lt. subst (λ (i : InstanceValue). i.quota ≤ 2 ^ 40) (get_or-map instance_value xs k d (instance_value d) lt) (h k (instance_value d) (omega (arith, length-instances xs, lt)))

@@ -11,9 +11,9 @@ use Rattle.script.specs.UnaryLines.{instance_place}
 use Rattle.rpc.specs.declared.refusal.Refusal.{Refusal}
 use Rattle.rpc.specs.Status.{code_of, text_of}
 use Rattle.digest.specs.Naming.{digest_of}
-use Rattle.instance_view.specs.Visible.{Blob, seen}
-use Rattle.quota_evict.specs.Admission.{admitted}
-use Rattle.cas_service.specs.Changes.{Change, changed}
+use Rattle.instance_view.specs.Visible.{Blob, visible_text}
+use Rattle.quota_evict.specs.Admission.{visible_after_admission}
+use Rattle.cas_service.specs.Changes.{Change, visible_after_changes}
 use Rattle.cas_service.specs.FindMissing.{find_missing_reply, find_missing_changes}
 use Rattle.cas_service.specs.BatchUpdate.{batch_update_reply, batch_update_changes}
 use Rattle.cas_service.specs.BatchRead.{batch_read_reply, batch_read_changes}
@@ -29,8 +29,8 @@ abbrev pub most_blobs : ℕ
 most_blobs = 65536
 
 -- at first there are no texts
-abbrev pub opened : InstanceValue → StoreValue
-opened instance = record { name = instance.name; quota = instance.quota; visible = [] }
+abbrev pub new_store : InstanceValue → StoreValue
+new_store instance = record { name = instance.name; quota = instance.quota; visible = [] }
 
 -- the reply to a call, or its refusal
 abbrev pub reply_to : Method → StoreValue → List ℕ → Result (List ℕ) Refusal
@@ -58,17 +58,18 @@ reply_line (Err refusal) = status_line refusal
 
 -- a text that is not there and is longer than the quota is refused
 abbrev pub is_refused : ℕ → List Blob → List ℕ → Bool
-is_refused quota visible text = not (is_some (seen (digest_of text) visible)) && nat_lt quota (length text)
+is_refused quota visible text =
+    not (is_some (visible_text (digest_of text) visible)) && nat_lt quota (length text)
 
 abbrev pub put_line : Bool → List ℕ
 put_line refused = if refused then codes "refused" else codes "stored"
 
 -- a text is stored under its digest
-abbrev pub stored : List ℕ → StoreValue → StoreValue
-stored text s = record s { visible = admitted most_blobs s.quota (digest_of text) text s.visible }
+abbrev pub store_after_put : List ℕ → StoreValue → StoreValue
+store_after_put text s = record s { visible = visible_after_admission most_blobs s.quota (digest_of text) text s.visible }
 
-abbrev pub called : Method → List ℕ → StoreValue → StoreValue
-called method message s = record s { visible = changed most_blobs s.quota (changes_by method s message) s.visible }
+abbrev pub store_after_call : Method → List ℕ → StoreValue → StoreValue
+store_after_call method message s = record s { visible = visible_after_changes most_blobs s.quota (changes_by method s message) s.visible }
 
 -- the line that a command prints
 abbrev pub line_of : CommandValue → StoreValue → List ℕ
@@ -76,35 +77,38 @@ line_of (put place text) s = put_line (is_refused s.quota s.visible text)
 line_of (call place method message) s = reply_line (reply_to method s message)
 
 -- the instance after a command
-abbrev pub after : CommandValue → StoreValue → StoreValue
-after (put place text) s = stored text s
-after (call place method message) s = called method message s
+abbrev pub store_after : CommandValue → StoreValue → StoreValue
+store_after (put place text) s = store_after_put text s
+store_after (call place method message) s = store_after_call method message s
 
-abbrev pub nobody : StoreValue
-nobody = record { name = []; quota = 0; visible = [] }
+abbrev pub no_store : StoreValue
+no_store = record { name = []; quota = 0; visible = [] }
 
 -- the instance that a command is for
 abbrev pub store_of : CommandValue → List StoreValue → StoreValue
-store_of command stores = slice_index_or stores (instance_place command) nobody
+store_of command stores = slice_index_or stores (instance_place command) no_store
 
 -- a command leaves all instances but its own as they are
 abbrev pub stores_after : CommandValue → List StoreValue → List StoreValue
-stores_after command stores = slice_set stores (instance_place command) (after command (store_of command stores))
+stores_after command stores =
+    slice_set stores (instance_place command) (store_after command (store_of command stores))
 
 -- the lines that commands print, one after another
 abbrev pub lines_of_commands : List CommandValue → List StoreValue → List (List ℕ)
 lines_of_commands [] stores = []
-lines_of_commands (command ∷ commands) stores = line_of command (store_of command stores) ∷ lines_of_commands commands (stores_after command stores)
+lines_of_commands (command ∷ commands) stores =
+    line_of command (store_of command stores)
+    ∷ lines_of_commands commands (stores_after command stores)
 
 -- the lines that a script prints
 abbrev pub lines_of_value : UnaryScriptValue → List (List ℕ)
-lines_of_value script = lines_of_commands script.commands (map opened script.instances)
+lines_of_value script = lines_of_commands script.commands (map new_store script.instances)
 
 -- the lines that the script of a text prints, or the number of its first bad line
 abbrev pub lines_of_script : List ℕ → Result (List (List ℕ)) ℕ
 lines_of_script text = unary_script_of text >>= λ script. Ok (lines_of_value script)
 
 -- lines as they are written, each with a newline at its end
-abbrev pub written : List (List ℕ) → List ℕ
-written [] = []
-written (line ∷ lines) = line ++ 10 ∷ written lines
+abbrev pub text_of_lines : List (List ℕ) → List ℕ
+text_of_lines [] = []
+text_of_lines (line ∷ lines) = line ++ 10 ∷ text_of_lines lines

@@ -6,7 +6,7 @@ ghost use Rattle.program_status.specs.declared.Status.TheVariants.{Failed};
 ghost use Rattle.program_status.specs.declared.Fault.TheVariants.{OutOfMemory};
 ghost use Rattle.script.specs.UnaryShown.{command_value, unary_script_value};
 ghost use Rattle.script.specs.UnaryLines.{instance_place, HasGoodInstances};
-ghost use Rattle.unary.specs.Session.{line_of, store_of, stores_after, lines_of_commands, lines_of_value, lines_of_script, written};
+ghost use Rattle.unary.specs.Session.{line_of, store_of, stores_after, lines_of_commands, lines_of_value, lines_of_script, text_of_lines};
 ghost use Rattle.unary.specs.Outcome.{IsOutcome};
 
 use crate::session::{answer, open_all};
@@ -49,10 +49,11 @@ fn play<O: Write>(
     requires { All (λ command. instance_place (command_value command) < length stores.old)
         commands.now }
     ensures lines { OnOk result (Appends (O.contents output.old) (O.contents output.new)
-        (written (lines_of_commands (map command_value commands.now) stores.old))) }
+        (text_of_lines (lines_of_commands (map command_value commands.now) stores.old))) }
     ensures memory { result ≡ Err OutOfMemory →
         (count : ℕ) × Appends (O.contents output.old) (O.contents output.new)
-        (written (take count (lines_of_commands (map command_value commands.now) stores.old))) }
+        (text_of_lines (take count
+        (lines_of_commands (map command_value commands.now) stores.old))) }
 {
     for command in commands {
         step(alloc, stores, command, output)?;
@@ -66,10 +67,10 @@ fn perform<O: Write>(alloc: Global, script: &UnaryScript, output: &mut O) -> Res
     requires commands { All (λ command. instance_place
         (command_value command) < vec_len script.now.instances) script.now.commands.items }
     ensures lines { OnOk result (Appends (O.contents output.old) (O.contents output.new)
-        (written (lines_of_value (unary_script_value script.now)))) }
+        (text_of_lines (lines_of_value (unary_script_value script.now)))) }
     ensures memory { result ≡ Err OutOfMemory →
         (count : ℕ) × Appends (O.contents output.old) (O.contents output.new)
-        (written (take count (lines_of_value (unary_script_value script.now)))) }
+        (text_of_lines (take count (lines_of_value (unary_script_value script.now)))) }
 {
     let mut stores = open_all(alloc, &script.instances)?;
     play(alloc, &mut stores, &script.commands, output)

@@ -3,7 +3,7 @@ ghost use Rattle.std.specs.List.{All};
 ghost use Rattle.script.specs.UnaryShown.{instance_value, command_value};
 ghost use Rattle.script.specs.UnaryLines.{instance_place};
 ghost use Rattle.rpc.specs.declared.refusal.Refusal.{Refusal};
-ghost use Rattle.unary.specs.Session.{opened, reply_to, ok_line, status_line, line_of, after, store_of, stores_after};
+ghost use Rattle.unary.specs.Session.{new_store, reply_to, ok_line, status_line, line_of, store_after, store_of, stores_after};
 
 use crate::store::Store;
 use cas_service::CallError;
@@ -15,7 +15,8 @@ use std::alloc::{AllocError, Global};
 /// The instances of a script, with no texts yet.
 pub fn open_all(alloc: Global, instances: &[Instance]) -> Result<Vec<Store>, AllocError>
     requires { All (λ instance. instance.quota ≤ 2 ^ 40) instances.now }
-    ensures { IfOk result (λ stores. stores.items ≡ map opened (map instance_value instances.now)) }
+    ensures { IfOk result (λ stores. stores.items
+        ≡ map new_store (map instance_value instances.now)) }
 {
     let mut stores = Vec::new(alloc);
     for instance in instances {
@@ -53,7 +54,7 @@ fn carry_out(
 ) -> Result<(), AllocError>
     ensures line { OnOk result (line.new.items ≡ line.old.items
         ++ line_of (command_value command.now) store.old) }
-    ensures after { OnOk result (store.new ≡ after (command_value command.now) store.old) }
+    ensures after { OnOk result (store.new ≡ store_after (command_value command.now) store.old) }
 {
     match command {
         Command::Put { content, .. } => {

@@ -1,13 +1,12 @@
 ghost use Rattle.std.specs.Prelude.{◌≡◌, ◌≤◌, ◌^◌, ℕ, List, OnOk, OnErr, IfOk};
 ghost use Rattle.script.specs.UnaryShown.{instance_value};
-ghost use Rattle.cas_service.specs.Answers.{Answers};
-ghost use Rattle.cas_service.specs.Changes.{changed};
+ghost use Rattle.cas_service.specs.Answers.{Answers, IfAnswered};
+ghost use Rattle.cas_service.specs.Changes.{visible_after_changes};
 ghost use Rattle.digest.specs.Naming.{digest_of};
-ghost use Rattle.instance_view.specs.Shown.{shown};
-ghost use Rattle.quota_evict.specs.Admission.{admitted};
+ghost use Rattle.instance_view.specs.Shown.{visible_in};
+ghost use Rattle.quota_evict.specs.Admission.{visible_after_admission};
 ghost use Rattle.quota_evict.specs.Kept.{AreKept};
-ghost use Rattle.unary.specs.Answered.{IfAnswered};
-ghost use Rattle.unary.specs.Session.{opened, reply_to, changes_by, is_refused, stored, called};
+ghost use Rattle.unary.specs.Session.{new_store, reply_to, changes_by, is_refused, store_after_put, store_after_call};
 
 use blob_pool::Pool;
 use cas_service::{CallError, batch_read, batch_update, find_missing};
@@ -32,14 +31,14 @@ pub struct Store {
 
 impl Model for Store {
     ghost use Rattle.std.specs.Prelude.{◌≡◌, ◌≤◌, ◌^◌, string_bytes};
-    ghost use Rattle.instance_view.specs.Shown.{shown};
+    ghost use Rattle.instance_view.specs.Shown.{visible_in};
     ghost use Rattle.quota_evict.specs.Kept.{AreKept};
     ghost use Rattle.unary.specs.Session.{StoreValue, most_blobs};
 
     ghost Value = { StoreValue };
 
     ghost view = { λ s. record
-        { name = string_bytes s.name; quota = s.quota; visible = shown s.pool s.view } };
+        { name = string_bytes s.name; quota = s.quota; visible = visible_in s.pool s.view } };
 
     ghost invariant = { λ s. (s.quota ≤ 2 ^ 40) × AreKept s.quota s.pool s.view
         × (s.view.limit ≡ most_blobs) };
@@ -49,7 +48,7 @@ impl Store {
     /// An instance that has no texts yet.
     pub fn open(alloc: Global, instance: &Instance) -> Result<Store, AllocError>
         requires { instance.now.quota ≤ 2 ^ 40 }
-        ensures { IfOk result (λ store. store ≡ opened (instance_value instance.now)) }
+        ensures { IfOk result (λ store. store ≡ new_store (instance_value instance.now)) }
     {
         let name = String::from_str(alloc, &instance.name)?;
         let view = View::new(alloc, MOST_BLOBS)?;
@@ -66,7 +65,7 @@ impl Store {
     pub fn put(&mut self, bytes: &[u8]) -> Result<bool, AllocError>
         ensures refused { IfOk result (λ refused. refused
             ≡ is_refused self.old.quota self.old.visible bytes.now) }
-        ensures stored { OnOk result (self.new ≡ stored bytes.now self.old) }
+        ensures stored { OnOk result (self.new ≡ store_after_put bytes.now self.old) }
         ensures err { OnErr result (self.new ≡ self.old) }
     {
         put(&mut self.view, &mut self.pool, self.quota, bytes)
@@ -81,7 +80,8 @@ impl Store {
     ) -> Result<Vec<u8>, CallError>
         ensures reply { Answers (λ reply. reply.items) result
             (reply_to method self.old message.now) }
-        ensures called { IfAnswered result (self.new ≡ called method message.now self.old) }
+        ensures called { IfAnswered result
+            (self.new ≡ store_after_call method message.now self.old) }
     {
         call(
             alloc,
@@ -100,9 +100,10 @@ fn put(view: &mut View, pool: &mut Pool, quota: u64, bytes: &[u8]) -> Result<boo
     requires quota { quota ≤ 2 ^ 40 }
     requires kept { AreKept quota pool.old view.old }
     ensures refused { IfOk result (λ refused. refused
-        ≡ is_refused quota (shown pool.old view.old) bytes.now) }
-    ensures stored { OnOk result (shown pool.new view.new
-        ≡ admitted view.old.limit quota (digest_of bytes.now) bytes.now (shown pool.old view.old)) }
+        ≡ is_refused quota (visible_in pool.old view.old) bytes.now) }
+    ensures stored { OnOk result (visible_in pool.new view.new
+        ≡ visible_after_admission view.old.limit quota (digest_of bytes.now) bytes.now
+        (visible_in pool.old view.old)) }
     ensures err { OnErr result ((view.new ≡ view.old) × (pool.new ≡ pool.old)) }
     ensures kept { AreKept quota pool.new view.new }
     ensures limit { view.new.limit ≡ view.old.limit }
@@ -128,13 +129,13 @@ fn call(
     requires kept { AreKept quota pool.old view.old }
     ensures reply { Answers (λ reply. reply.items) result
         (reply_to method (record
-        { name = own.now; quota = quota; visible = shown pool.old view.old }) message.now) }
+        { name = own.now; quota = quota; visible = visible_in pool.old view.old }) message.now) }
     ensures called { IfAnswered result
-        (shown pool.new view.new
-        ≡ changed view.old.limit quota
+        (visible_in pool.new view.new
+        ≡ visible_after_changes view.old.limit quota
         (changes_by method (record
-        { name = own.now; quota = quota; visible = shown pool.old view.old }) message.now)
-        (shown pool.old view.old)) }
+        { name = own.now; quota = quota; visible = visible_in pool.old view.old }) message.now)
+        (visible_in pool.old view.old)) }
     ensures kept { AreKept quota pool.new view.new }
     ensures limit { view.new.limit ≡ view.old.limit }
 {

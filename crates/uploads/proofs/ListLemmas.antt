@@ -8,8 +8,8 @@ use lib.Pointwise.{pointwise}
 use Rattle.digest.proofs.Same.{same_refl}
 use Rattle.uploads.specs.declared.error.UploadError.{UploadError}
 use Rattle.uploads.specs.declared.error.UploadError.TheVariants.{Offset, Size, Hash, TooMany, OverQuota, NoMemory}
-use Rattle.uploads.specs.Uploads.{KeyValue, UploadValue, UploadList, same_upload, upload_at, with_upload, without_upload, bytes_of, text_in, text_so_far, is_recent, unexpired, WithinLimits}
-use Rattle.uploads.specs.Writing.{PieceValue, is_at, if_ok, piece_answer, may_begin, begin_answer, append_answer, call_answer, finish_answer, after_piece, after_finish, Fits, Answers}
+use Rattle.uploads.specs.Uploads.{KeyValue, UploadValue, UploadList, same_upload, upload_at, with_upload, without_upload, total_length, text_in, text_so_far, is_recent, uploads_at, WithinLimits}
+use Rattle.uploads.specs.Writing.{PieceValue, is_place, if_ok, piece_answer, may_begin, begin_answer, append_answer, call_answer, finish_answer, after_piece, after_finish, Fits, Answers}
 
 same_bytes : (bs : List ℕ) → pointwise nat_eq bs bs ≡ true
 same_bytes [] = refl
@@ -59,11 +59,11 @@ with_same k u (v ∷ us) at = go (same_upload k v.0) refl (with_same k u us) at 
 
 -- ---- bytes and numbers
 
-pub bytes_with : (k : KeyValue) (u : UploadValue) (us : UploadList) → bytes_of (with_upload k u us) + length (text_so_far k us) ≡ bytes_of us + length u.text
+pub bytes_with : (k : KeyValue) (u : UploadValue) (us : UploadList) → total_length (with_upload k u us) + length (text_so_far k us) ≡ total_length us + length u.text
 bytes_with k u [] = omega arith
 bytes_with k u (v ∷ us) = go (same_upload k v.0) refl (bytes_with k u us) where
-  go : (s : Bool) → same_upload k v.0 ≡ s → bytes_of (with_upload k u us) + length (text_so_far k us) ≡ bytes_of us + length u.text
-      → bytes_of (with_upload k u (v ∷ us)) + length (text_so_far k (v ∷ us)) ≡ bytes_of (v ∷ us) + length u.text
+  go : (s : Bool) → same_upload k v.0 ≡ s → total_length (with_upload k u us) + length (text_so_far k us) ≡ total_length us + length u.text
+      → total_length (with_upload k u (v ∷ us)) + length (text_so_far k (v ∷ us)) ≡ total_length (v ∷ us) + length u.text
   go true is ih = rw is (omega arith)
   go false is ih = rw is (omega (arith, ih))
 
@@ -82,10 +82,10 @@ length_with_there k u (v ∷ us) some = go (same_upload k v.0) refl (length_with
   go true is ih some = rw is (omega arith)
   go false is ih some = let shorter = ih (rw is at some) in rw is (omega (arith, shorter))
 
-pub bytes_without : (k : KeyValue) (us : UploadList) → bytes_of (without_upload k us) ≤ bytes_of us
+pub bytes_without : (k : KeyValue) (us : UploadList) → total_length (without_upload k us) ≤ total_length us
 bytes_without k [] = omega arith
 bytes_without k (v ∷ us) = go (same_upload k v.0) refl (bytes_without k us) where
-  go : (s : Bool) → same_upload k v.0 ≡ s → bytes_of (without_upload k us) ≤ bytes_of us → bytes_of (without_upload k (v ∷ us)) ≤ bytes_of (v ∷ us)
+  go : (s : Bool) → same_upload k v.0 ≡ s → total_length (without_upload k us) ≤ total_length us → total_length (without_upload k (v ∷ us)) ≤ total_length (v ∷ us)
   go true is ih = rw is (omega arith)
   go false is ih = rw is (omega (arith, ih))
 
@@ -96,17 +96,17 @@ length_without k (v ∷ us) = go (same_upload k v.0) refl (length_without k us) 
   go true is ih = rw is (omega arith)
   go false is ih = rw is (omega (arith, ih))
 
-pub text-short : (k : KeyValue) (us : UploadList) → length (text_so_far k us) ≤ bytes_of us
+pub text-short : (k : KeyValue) (us : UploadList) → length (text_so_far k us) ≤ total_length us
 text-short k [] = omega arith
 text-short k (v ∷ us) = go (same_upload k v.0) refl (text-short k us) where
-  go : (s : Bool) → same_upload k v.0 ≡ s → length (text_so_far k us) ≤ bytes_of us → length (text_so_far k (v ∷ us)) ≤ bytes_of (v ∷ us)
+  go : (s : Bool) → same_upload k v.0 ≡ s → length (text_so_far k us) ≤ total_length us → length (text_so_far k (v ∷ us)) ≤ total_length (v ∷ us)
   go true is ih = rw is (omega arith)
   go false is ih = rw is (omega (arith, ih))
 
-bytes_filter : (test : (KeyValue × UploadValue) → Bool) (us : UploadList) → bytes_of (filter test us) ≤ bytes_of us
+bytes_filter : (test : (KeyValue × UploadValue) → Bool) (us : UploadList) → total_length (filter test us) ≤ total_length us
 bytes_filter test [] = omega arith
 bytes_filter test (v ∷ us) = go (test v) refl (bytes_filter test us) where
-  go : (s : Bool) → test v ≡ s → bytes_of (filter test us) ≤ bytes_of us → bytes_of (filter test (v ∷ us)) ≤ bytes_of (v ∷ us)
+  go : (s : Bool) → test v ≡ s → total_length (filter test us) ≤ total_length us → total_length (filter test (v ∷ us)) ≤ total_length (v ∷ us)
   go true is ih = rw is (omega (arith, ih))
   go false is ih = rw is (omega (arith, ih))
 
@@ -119,7 +119,7 @@ length_filter test (v ∷ us) = go (test v) refl (length_filter test us) where
 
 -- ---- within the limits
 
-pub within_unexpired : (quota moment : ℕ) (us : UploadList) → WithinLimits quota us → WithinLimits quota (unexpired moment us)
+pub within_unexpired : (quota moment : ℕ) (us : UploadList) → WithinLimits quota us → WithinLimits quota (uploads_at moment us)
 within_unexpired quota moment us h = record {
   bytes = let b = bytes_filter (is_recent moment) us in let q = h.bytes in omega arith;
   count = let n = length_filter (is_recent moment) us in let q = h.count in omega arith;
@@ -142,9 +142,9 @@ piece_bounds false past over h = cc
 
 -- a piece that is taken leaves the text within its size, and all texts within the quota
 pub piece_room : (quota : ℕ) (k : KeyValue) (piece : PieceValue) (us : UploadList) → piece_answer quota k piece us ≡ Ok tt
-    → (length (text_so_far k us) + length piece.bytes ≤ k.digest.size) × (bytes_of us + length piece.bytes ≤ quota)
+    → (length (text_so_far k us) + length piece.bytes ≤ k.digest.size) × (total_length us + length piece.bytes ≤ quota)
 piece_room quota k piece us h =
-    let bounds = piece_bounds (is_at piece.offset (length (text_so_far k us))) (nat_lt k.digest.size (length (text_so_far k us) + length piece.bytes)) (nat_lt quota (bytes_of us + length piece.bytes)) h in
+    let bounds = piece_bounds (is_place piece.offset (length (text_so_far k us))) (nat_lt k.digest.size (length (text_so_far k us) + length piece.bytes)) (nat_lt quota (total_length us + length piece.bytes)) h in
     let past = bounds.0 in
     let over = bounds.1 in
     (grind (arith, nat_tests), grind (arith, nat_tests))
@@ -158,7 +158,7 @@ fits_piece quota k piece us small h =
     record { named = named; short = omega arith }
 
 within_with : (quota moment : ℕ) (k : KeyValue) (piece : PieceValue) (us : UploadList) → WithinLimits quota us
-    → bytes_of us + length piece.bytes ≤ quota → length (with_upload k (record { text = text_so_far k us ++ piece.bytes; written = moment }) us) ≤ 64
+    → total_length us + length piece.bytes ≤ quota → length (with_upload k (record { text = text_so_far k us ++ piece.bytes; written = moment }) us) ≤ 64
     → WithinLimits quota (with_upload k (record { text = text_so_far k us ++ piece.bytes; written = moment }) us)
 within_with quota moment k piece us h room few = record {
   bytes =
@@ -170,7 +170,7 @@ within_with quota moment k piece us h room few = record {
 
 -- the answers of a piece, one by one
 pub within_after : (quota moment : ℕ) (k : KeyValue) (piece : PieceValue) (us : UploadList) (r : Result Unit UploadError) → WithinLimits quota us
-    → OnOk r ((bytes_of us + length piece.bytes ≤ quota) × (length (with_upload k (record { text = text_so_far k us ++ piece.bytes; written = moment }) us) ≤ 64))
+    → OnOk r ((total_length us + length piece.bytes ≤ quota) × (length (with_upload k (record { text = text_so_far k us ++ piece.bytes; written = moment }) us) ≤ 64))
     → WithinLimits quota (after_piece moment k piece r us)
 within_after quota moment k piece us (Ok u) h room = within_with quota moment k piece us h room.0 room.1
 within_after quota moment k piece us (Err Offset) h room = h

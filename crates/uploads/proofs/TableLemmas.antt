@@ -7,13 +7,13 @@ use Rattle.std.proofs.lemmas.Bool.{and_parts}
 use Rattle.std.proofs.lemmas.List.Sums.{sum_by-cons}
 use Rattle.indexmap.specs.IndexMap.{insert_entry}
 use Rattle.digest.proofs.Same.{same_equal}
-use Rattle.digest.specs.Naming.{same}
+use Rattle.digest.specs.Naming.{same_digest}
 use Rattle.digest.specs.declared.Digest.{Digest}
 use lib.Pointwise.{pointwise}
 use Rattle.std.specs.Prelude.{nat_eq}
 use Rattle.uploads.specs.declared.key.UploadKey.{UploadKey}
 use Rattle.uploads.specs.declared.table.Upload.{Upload}
-use Rattle.uploads.specs.Uploads.{KeyValue, UploadValue, same_upload, upload_at, with_upload, without_upload, is_recent, unexpired, bytes_of, text_so_far}
+use Rattle.uploads.specs.Uploads.{KeyValue, UploadValue, same_upload, upload_at, with_upload, without_upload, is_recent, uploads_at, total_length, text_so_far}
 use Rattle.uploads.specs.Shown.{key_shown, upload_shown, entry_shown, IsWhole, AreWhole}
 
 -- whether two keys are one, as the table compares them
@@ -51,14 +51,14 @@ whole_without k (e ∷ es) h = go (same_key k e.0) refl (whole_without k es h.1)
   go false is ih = rw is (h.0, ih)
 
 -- one key has one digest
-same_digest : (j k : UploadKey) → same_key j k ≡ true → j.digest ≡ k.digest
-same_digest j k h = same_equal j.digest k.digest (and_parts (pointwise nat_eq j.uuid.bytes k.uuid.bytes) (same j.digest k.digest) h).1
+digest_of_same_key : (j k : UploadKey) → same_key j k ≡ true → j.digest ≡ k.digest
+digest_of_same_key j k h = same_equal j.digest k.digest (and_parts (pointwise nat_eq j.uuid.bytes k.uuid.bytes) (same_digest j.digest k.digest) h).1
 
 pub whole_with : (k : UploadKey) (u : Upload) (es : List (UploadKey × Upload)) → IsWhole (k, u) → AreWhole es → AreWhole (insert_entry same_key es k u)
 whole_with k u [] w h = (w, tt)
 whole_with k u (e ∷ es) w h = go (same_key k e.0) refl (whole_with k u es w h.1) where
   go : (b : Bool) → same_key k e.0 ≡ b → AreWhole (insert_entry same_key es k u) → AreWhole (insert_entry same_key (e ∷ es) k u)
-  go true is ih = rw is (record { whole = λ closed. w.whole closed ∙ ap (λ (d : Digest). d.size) (same_digest k e.0 is) }, h.1)
+  go true is ih = rw is (record { whole = λ closed. w.whole closed ∙ ap (λ (d : Digest). d.size) (digest_of_same_key k e.0 is) }, h.1)
   go false is ih = rw is (h.0, ih)
 
 some_same : (a b : Upload) → Some a ≡ Some b → a ≡ b
@@ -71,7 +71,7 @@ whole_at k (e ∷ es) u h at = go (same_key k e.0) refl (whole_at k es u h.1) at
   go true is ih at =
       let found = rw is at at in
       let here : e.1 ≡ u = some_same e.1 u found in
-      record { whole = λ closed. rw (← here) (h.0.whole (rw here closed) ∙ ap (λ (d : Digest). d.size) (sym (same_digest k e.0 is))) }
+      record { whole = λ closed. rw (← here) (h.0.whole (rw here closed) ∙ ap (λ (d : Digest). d.size) (sym (digest_of_same_key k e.0 is))) }
   go false is ih at = ih (rw is at at)
 
 pub whole_filter : (test : (UploadKey × Upload) → Bool) (es : List (UploadKey × Upload)) → AreWhole es → AreWhole (filter test es)
@@ -83,18 +83,18 @@ whole_filter test (e ∷ es) h = go (test e) refl (whole_filter test es h.1) whe
 
 -- ---- those that a moment leaves
 
-pub unexpired_shown : (moment : ℕ) (es : List (UploadKey × Upload)) → map entry_shown (filter (λ (e : UploadKey × Upload). nat_lt (moment - e.1.written) 600000) es) ≡ unexpired moment (map entry_shown es)
+pub unexpired_shown : (moment : ℕ) (es : List (UploadKey × Upload)) → map entry_shown (filter (λ (e : UploadKey × Upload). nat_lt (moment - e.1.written) 600000) es) ≡ uploads_at moment (map entry_shown es)
 unexpired_shown moment [] = refl
 unexpired_shown moment (e ∷ es) = go (nat_lt (moment - e.1.written) 600000) refl (unexpired_shown moment es) where
   go : (b : Bool) → nat_lt (moment - e.1.written) 600000 ≡ b
-      → map entry_shown (filter (λ (d : UploadKey × Upload). nat_lt (moment - d.1.written) 600000) es) ≡ unexpired moment (map entry_shown es)
-      → map entry_shown (filter (λ (d : UploadKey × Upload). nat_lt (moment - d.1.written) 600000) (e ∷ es)) ≡ unexpired moment (map entry_shown (e ∷ es))
+      → map entry_shown (filter (λ (d : UploadKey × Upload). nat_lt (moment - d.1.written) 600000) es) ≡ uploads_at moment (map entry_shown es)
+      → map entry_shown (filter (λ (d : UploadKey × Upload). nat_lt (moment - d.1.written) 600000) (e ∷ es)) ≡ uploads_at moment (map entry_shown (e ∷ es))
   go true is ih = rw is (ap (λ (us : List (KeyValue × UploadValue)). entry_shown e ∷ us) ih)
   go false is ih = rw is ih
 
 -- ---- sums
 
-pub bytes_shown : (es : List (UploadKey × Upload)) → sum_by (λ (u : Upload). length u.draft.text) (map (λ (e : UploadKey × Upload). e.1) es) ≡ bytes_of (map entry_shown es)
+pub bytes_shown : (es : List (UploadKey × Upload)) → sum_by (λ (u : Upload). length u.draft.text) (map (λ (e : UploadKey × Upload). e.1) es) ≡ total_length (map entry_shown es)
 bytes_shown [] = refl
 bytes_shown (e ∷ es) = sum_by-cons (λ (u : Upload). length u.draft.text) e.1 (map (λ (d : UploadKey × Upload). d.1) es) ∙ ap (λ n. length e.1.draft.text + n) (bytes_shown es)
 

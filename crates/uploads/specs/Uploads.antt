@@ -4,7 +4,7 @@ use Rattle.std.specs.List.{filter}
 use Rattle.std.specs.Map.{lookup, remove_entry}
 use lib.Pointwise.{pointwise}
 use Rattle.digest.specs.declared.Digest.{Digest}
-use Rattle.digest.specs.Naming.{same}
+use Rattle.digest.specs.Naming.{same_digest}
 
 -- what names an upload: its uuid, and the digest that is to name its text
 pub record KeyValue : Type 0 where
@@ -21,7 +21,7 @@ abbrev pub UploadList : Type 0
 UploadList = List (KeyValue × UploadValue)
 
 abbrev pub same_upload : KeyValue → KeyValue → Bool
-same_upload a b = pointwise nat_eq a.uuid b.uuid && same a.digest b.digest
+same_upload a b = pointwise nat_eq a.uuid b.uuid && same_digest a.digest b.digest
 
 abbrev pub upload_at : KeyValue → UploadList → Option UploadValue
 upload_at key uploads = lookup (same_upload key) uploads
@@ -29,15 +29,16 @@ upload_at key uploads = lookup (same_upload key) uploads
 -- an upload that is there keeps its place, a new one goes last
 abbrev pub with_upload : KeyValue → UploadValue → UploadList → UploadList
 with_upload key upload [] = (key, upload) ∷ []
-with_upload key upload (u ∷ us) = if same_upload key u.0 then (u.0, upload) ∷ us else u ∷ with_upload key upload us
+with_upload key upload (u ∷ us) =
+    if same_upload key u.0 then (u.0, upload) ∷ us else u ∷ with_upload key upload us
 
 abbrev pub without_upload : KeyValue → UploadList → UploadList
 without_upload key uploads = remove_entry (same_upload key) uploads
 
 -- how many bytes the texts have together
-abbrev pub bytes_of : UploadList → ℕ
-bytes_of [] = 0
-bytes_of (u ∷ us) = length u.1.text + bytes_of us
+abbrev pub total_length : UploadList → ℕ
+total_length [] = 0
+total_length (u ∷ us) = length u.1.text + total_length us
 
 -- the text so far, and none of an upload that is not there
 abbrev pub text_in : Option UploadValue → List ℕ
@@ -52,11 +53,11 @@ abbrev pub is_recent : ℕ → (KeyValue × UploadValue) → Bool
 is_recent moment u = nat_lt (moment - u.1.written) 600000
 
 -- those that a moment leaves
-abbrev pub unexpired : ℕ → UploadList → UploadList
-unexpired moment uploads = filter (is_recent moment) uploads
+abbrev pub uploads_at : ℕ → UploadList → UploadList
+uploads_at moment uploads = filter (is_recent moment) uploads
 
 -- the limits that uploads keep
 pub record WithinLimits (quota : ℕ) (uploads : UploadList) : Type 0 where
   -- the texts have no more bytes together than the quota
-  pub bytes : bytes_of uploads ≤ quota
+  pub bytes : total_length uploads ≤ quota
   pub count : length uploads ≤ 64

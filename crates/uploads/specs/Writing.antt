@@ -1,19 +1,19 @@
 -- What a piece of an upload is answered, and what becomes of the uploads (bytestream.proto,
 -- `Write`).
 use Rattle.std.specs.Prelude.{◌≡◌, ℕ, ℤ, pos, negsuc, ◌+◌, ◌^◌, ◌≤◌, Bool, true, false, ◌&&◌, ◌==◌, not, nat_le, nat_lt, is_some, if◌then◌else◌, List, ◌++◌, length, Result, Ok, Err}
-use Rattle.digest.specs.Naming.{same, digest_of}
+use Rattle.digest.specs.Naming.{same_digest, digest_of}
 use Rattle.uploads.specs.declared.error.UploadError.{UploadError}
 use Rattle.uploads.specs.declared.error.UploadError.TheVariants.{Offset, Size, Hash, TooMany, OverQuota, NoMemory}
-use Rattle.uploads.specs.Uploads.{KeyValue, UploadList, upload_at, with_upload, without_upload, text_so_far, bytes_of}
+use Rattle.uploads.specs.Uploads.{KeyValue, UploadList, upload_at, with_upload, without_upload, text_so_far, total_length}
 
 -- where a piece begins, and its bytes
 pub record PieceValue : Type 0 where
   pub offset : ℤ
   pub bytes : List ℕ
 
-abbrev pub is_at : ℤ → ℕ → Bool
-is_at (pos n) place = n == place
-is_at (negsuc n) place = false
+abbrev pub is_place : ℤ → ℕ → Bool
+is_place (pos n) place = n == place
+is_place (negsuc n) place = false
 
 -- a step that may be refused, and then another
 abbrev pub if_ok : Result Unit UploadError → Result Unit UploadError → Result Unit UploadError
@@ -24,9 +24,9 @@ if_ok (Err e) next = Err e
 -- the quota
 abbrev pub piece_answer : ℕ → KeyValue → PieceValue → UploadList → Result Unit UploadError
 piece_answer quota key piece uploads =
-    if not (is_at piece.offset (length (text_so_far key uploads))) then Err Offset
+    if not (is_place piece.offset (length (text_so_far key uploads))) then Err Offset
     else (if nat_lt key.digest.size (length (text_so_far key uploads) + length piece.bytes) then Err Size
-    else (if nat_lt quota (bytes_of uploads + length piece.bytes) then Err OverQuota
+    else (if nat_lt quota (total_length uploads + length piece.bytes) then Err OverQuota
     else Ok tt))
 
 -- a piece leaves room for itself
@@ -42,7 +42,8 @@ may_begin quota key uploads =
 
 -- the first piece of a call, of an upload that is there or is not
 abbrev pub begin_answer : ℕ → KeyValue → PieceValue → UploadList → Result Unit UploadError
-begin_answer quota key piece uploads = if_ok (may_begin quota key uploads) (piece_answer quota key piece uploads)
+begin_answer quota key piece uploads =
+    if_ok (may_begin quota key uploads) (piece_answer quota key piece uploads)
 
 -- a later piece of a call, whose upload may be gone
 abbrev pub append_answer : ℕ → KeyValue → PieceValue → UploadList → Result Unit UploadError
@@ -56,7 +57,8 @@ call_answer first quota key piece uploads =
 
 -- the uploads after a piece that was answered so: written at this moment, forgotten where it passed
 -- its size, and as they were at any other refusal and for want of memory
-abbrev pub after_piece : ℕ → KeyValue → PieceValue → Result Unit UploadError → UploadList → UploadList
+abbrev pub after_piece : ℕ → KeyValue → PieceValue → Result Unit UploadError → UploadList →
+    UploadList
 after_piece moment key piece (Ok _) uploads =
     with_upload key (record { text = text_so_far key uploads ++ piece.bytes; written = moment }) uploads
 after_piece moment key piece (Err Size) uploads = without_upload key uploads
@@ -64,7 +66,8 @@ after_piece moment key piece (Err e) uploads = uploads
 
 -- an upload ends well where its digest names its text
 abbrev pub finish_answer : KeyValue → UploadList → Result Unit UploadError
-finish_answer key uploads = if same key.digest (digest_of (text_so_far key uploads)) then Ok tt else Err Hash
+finish_answer key uploads =
+    if same_digest key.digest (digest_of (text_so_far key uploads)) then Ok tt else Err Hash
 
 -- it is then forgotten, and stays for want of memory alone
 abbrev pub after_finish : KeyValue → Result Unit UploadError → UploadList → UploadList

@@ -3,10 +3,10 @@
 ghost use Rattle.std.specs.Prelude.{◌≡◌, ◌≤◌, ◌+◌, ◌^◌, ◌↔◌, ◌⊎◌, ◌++◌, true, length, map, IsTrue, IsSome, Ok, Err, OnOk, OnErr};
 ghost use Rattle.digest.specs.Naming.{Names};
 ghost use Rattle.blob_pool.specs.Moves.{Moves};
-ghost use Rattle.instance_view.specs.Shown.{shown, holders};
-ghost use Rattle.quota_evict.specs.Admission.{admitted};
+ghost use Rattle.instance_view.specs.Shown.{visible_in, holders};
+ghost use Rattle.quota_evict.specs.Admission.{visible_after_admission};
 ghost use Rattle.quota_evict.specs.Kept.{AreKept};
-ghost use Rattle.uploads.specs.Uploads.{bytes_of, upload_at, with_upload, text_so_far, WithinLimits};
+ghost use Rattle.uploads.specs.Uploads.{total_length, upload_at, with_upload, text_so_far, WithinLimits};
 ghost use Rattle.uploads.specs.Writing as writing;
 ghost use Rattle.uploads.specs.Writing.{Answers, Fits, piece_answer, call_answer, finish_answer, after_piece, after_finish, may_begin};
 ghost use Rattle.uploads.specs.Shown.{key_shown, upload_shown, entry_shown, piece_shown, IsWhole, AreWhole};
@@ -31,7 +31,7 @@ pub struct Piece<'a> {
 }
 
 fn is_at(offset: i64, place: u64) -> bool
-    ensures { result ≡ writing.is_at offset place }
+    ensures { result ≡ writing.is_place offset place }
 {
     offset >= 0 && offset as u64 == place
 }
@@ -268,10 +268,10 @@ pub fn finish(
         ≡ after_finish (key_shown key.now) result (map entry_shown table.old.entries) }
     ensures within { WithinLimits quota (map entry_shown table.new.entries) }
     ensures whole { AreWhole table.new.entries }
-    ensures admitted { OnOk result (shown pool.new view.new
-        ≡ admitted view.old.limit quota (key_shown key.now).digest
+    ensures admitted { OnOk result (visible_in pool.new view.new
+        ≡ visible_after_admission view.old.limit quota (key_shown key.now).digest
         (text_so_far (key_shown key.now) (map entry_shown table.old.entries))
-        (shown pool.old view.old)) }
+        (visible_in pool.old view.old)) }
     ensures err { OnErr result ((view.new ≡ view.old) × (pool.new ≡ pool.old)) }
     ensures moves { Moves pool.old pool.new (holders view.old) (holders view.new) }
     ensures kept { AreKept quota pool.new view.new }

@@ -4,8 +4,8 @@ ghost use Rattle.std.specs.Prelude.{◌≡◌, ◌≤◌, ◌<◌, ◌+◌, ◌^
 ghost use Rattle.std.specs.List.{sum_by, filter};
 ghost use Rattle.std.specs.Option.{option_copied};
 ghost use Rattle.indexmap.specs.IndexMap.{values};
-ghost use Rattle.digest.specs.Naming.{Names, same, digest_of};
-ghost use Rattle.uploads.specs.Uploads.{bytes_of, upload_at, with_upload, without_upload, text_so_far, unexpired};
+ghost use Rattle.digest.specs.Naming.{Names, same_digest, digest_of};
+ghost use Rattle.uploads.specs.Uploads.{total_length, upload_at, with_upload, without_upload, text_so_far, uploads_at};
 ghost use Rattle.uploads.specs.Shown.{key_shown, upload_shown, entry_shown, IsWhole, AreWhole};
 
 use crate::key::UploadKey;
@@ -56,8 +56,8 @@ fn sum_of_lengths(table: &Table) -> u64
 
 /// How many bytes all uploads have together.
 pub fn total(table: &Table) -> u64
-    requires { bytes_of (map entry_shown table.now.entries) < 2 ^ 64 }
-    ensures { result ≡ bytes_of (map entry_shown table.now.entries) }
+    requires { total_length (map entry_shown table.now.entries) < 2 ^ 64 }
+    ensures { result ≡ total_length (map entry_shown table.now.entries) }
 {
     sum_of_lengths(table)
 }
@@ -76,7 +76,7 @@ pub fn forget(table: &mut Table, key: &UploadKey)
 pub fn expire(table: &mut Table, moment: u64)
     requires whole { AreWhole table.old.entries }
     ensures left { map entry_shown table.new.entries
-        ≡ unexpired moment (map entry_shown table.old.entries) }
+        ≡ uploads_at moment (map entry_shown table.old.entries) }
     ensures whole { AreWhole table.new.entries }
 {
     table.retain(|_key, upload| moment.saturating_sub(upload.written) < UPLOAD_AGE);

@@ -1,9 +1,9 @@
 ghost use Rattle.std.specs.Prelude.{◌≡◌, ◌≤◌, ◌^◌, ℕ, [], IsSome, IfSome, OnOk, OnErr, length, option_map};
 ghost use Rattle.blob_pool.specs.Moves.{Moves};
-ghost use Rattle.instance_view.specs.Shown.{shown, holders};
-ghost use Rattle.quota_evict.specs.Admission.{admitted};
+ghost use Rattle.instance_view.specs.Shown.{visible_in, holders};
+ghost use Rattle.quota_evict.specs.Admission.{visible_after_admission};
 ghost use Rattle.quota_evict.specs.Kept.{AreKept};
-ghost use Rattle.uploads.specs.Uploads.{upload_at, text_so_far, unexpired, WithinLimits};
+ghost use Rattle.uploads.specs.Uploads.{upload_at, text_so_far, uploads_at, WithinLimits};
 ghost use Rattle.uploads.specs.Writing.{Answers, call_answer, finish_answer, after_piece, after_finish};
 ghost use Rattle.uploads.specs.Shown.{key_shown, piece_shown};
 
@@ -56,9 +56,9 @@ impl Uploads {
         }
     }
 
-    /// Takes a piece of a call: the first begins the upload where it is not there, and the upload of
-    /// a later one may be gone. One that goes past the size forgets the upload; any other refusal,
-    /// and want of memory, leaves the uploads as they were.
+    /// Takes a piece of a call: the first begins the upload where it is not there, and the upload
+    /// of a later one may be gone. One that goes past the size forgets the upload; any other
+    /// refusal, and want of memory, leaves the uploads as they were.
     pub fn take_piece(
         &mut self,
         alloc: Global,
@@ -97,9 +97,9 @@ impl Uploads {
         ensures answer { Answers result (finish_answer (key_shown key.now) self.old) }
         ensures uploads { self.new ≡ after_finish (key_shown key.now) result self.old }
         ensures within { WithinLimits quota self.new }
-        ensures admitted { OnOk result (shown pool.new view.new
-            ≡ admitted view.old.limit quota (key_shown key.now).digest
-            (text_so_far (key_shown key.now) self.old) (shown pool.old view.old)) }
+        ensures admitted { OnOk result (visible_in pool.new view.new
+            ≡ visible_after_admission view.old.limit quota (key_shown key.now).digest
+            (text_so_far (key_shown key.now) self.old) (visible_in pool.old view.old)) }
         ensures err { OnErr result ((view.new ≡ view.old) × (pool.new ≡ pool.old)) }
         ensures moves { Moves pool.old pool.new (holders view.old) (holders view.new) }
         ensures kept { AreKept quota pool.new view.new }
@@ -111,7 +111,7 @@ impl Uploads {
     /// Forgets the uploads that were last written to 600,000 or more milliseconds ago. It takes no
     /// memory.
     pub fn expire(&mut self, moment: u64)
-        ensures left { self.new ≡ unexpired moment self.old }
+        ensures left { self.new ≡ uploads_at moment self.old }
         ensures within { (quota : ℕ) → WithinLimits quota self.old → WithinLimits quota self.new }
     {
         table::expire(&mut self.table, moment);

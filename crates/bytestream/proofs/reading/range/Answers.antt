@@ -1,5 +1,5 @@
 use Rattle.std.proofs.Common.{ℕ, ◌≤◌}
-use Rattle.blob_pool.specs.Held.{count_at}
+use Rattle.blob_pool.specs.Slots.{count_at}
 use Rattle.instance_view.specs.declared.view.Seen.{Seen}
 use Rattle.instance_view.specs.Shown.{holders_seen}
 use Rattle.bytestream.proofs.HeldLemmas.{held_at, held_ok}

@@ -1,4 +1,4 @@
-use Rattle.blob_pool.specs.Held.{count_at}
+use Rattle.blob_pool.specs.Slots.{count_at}
 use Rattle.instance_view.specs.Shown.{holders}
 use Rattle.bytestream.proofs.HeldLemmas.{held_more}
 use Rattle.bytestream.proofs.reading.read.Goals as goal

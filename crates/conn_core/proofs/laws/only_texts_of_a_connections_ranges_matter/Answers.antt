@@ -5,7 +5,7 @@ pub returns : goal.returns
 returns c = λ t u v agree p st. record {
   ended = st.ended;
   streams = st.streams;
-  sending = stands_agreed t u v.sending p.diary p.owed agree st.sending;
+  sending = stands_agreed t u v.sending p.history p.owed agree st.sending;
   due = st.due;
   alive = st.alive;
 }

@@ -1,4 +1,4 @@
-use Rattle.grpc_sending.specs.Kept.{sending_in}
+use Rattle.grpc_sending.specs.StoredSending.{sending_in}
 use Rattle.grpc_sending.proofs.Received.{frame_heard, fault_heard}
 use Rattle.grpc_sending.proofs.laws.received_bytes_put_nothing.Goals as goal
 

@@ -1,6 +1,6 @@
 use Rattle.std.proofs.Common.{ap, ◌∙◌, List, length, sym}
 use Rattle.grpc_sending.specs.declared.queue.StoredQueue.{StoredQueue}
-use Rattle.grpc_sending.specs.Kept.{first_at}
+use Rattle.grpc_sending.specs.StoredSending.{first_at}
 use Rattle.grpc_sending.proofs.Pushes.{pushed_at_by, pushed_new_by}
 use Rattle.grpc_sending.proofs.Sources.{pushed_sources, pushed_new_sources}
 use Rattle.grpc_sending.proofs.queue.push.Goals as goal

@@ -3,7 +3,7 @@ use Rattle.std.specs.Prelude.{vec_capacity}
 use Rattle.std.proofs.Math.ListN.{set}
 use Rattle.std.proofs.lemmas.List.Edits.{map_over_more}
 use Rattle.grpc_sending.specs.declared.queue.StoredQueue.{StoredQueue}
-use Rattle.grpc_sending.specs.Kept.{left_at}
+use Rattle.grpc_sending.specs.StoredSending.{left_at}
 use Rattle.grpc_sending.proofs.Sources.{long_at, same_set, room_at}
 use Rattle.grpc_sending.proofs.queue.remove_each.Goals as goal
 

@@ -1,6 +1,6 @@
 use Rattle.std.proofs.Common.{◌≡◌, ◌≤◌, take, drop, ◌++◌}
 use Rattle.std.specs.Prelude.{map, vec_capacity}
-use Rattle.grpc_sending.specs.Kept.{left_at}
+use Rattle.grpc_sending.specs.StoredSending.{left_at}
 use Rattle.grpc_sending.specs.Sources.{AreSame, sources_held}
 use Rattle.grpc_sending.proofs.queue.remove_each.Given as goal
 

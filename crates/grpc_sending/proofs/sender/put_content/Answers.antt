@@ -2,7 +2,7 @@ use Rattle.std.proofs.Common.{ap, sym, subst, ◌∙◌, ◌≤◌, ◌++◌, le
 use Rattle.std.specs.Prelude.{false}
 use Rattle.http2_frames.specs.declared.frame.Frame.TheVariants.{Data}
 use Rattle.http2_frames.specs.Writing.{text_of}
-use Rattle.grpc_sending.specs.Kept.{AreFit, stored_on}
+use Rattle.grpc_sending.specs.StoredSending.{AreFit, stored_on}
 use Rattle.grpc_sending.proofs.Stored.{none_there, front_first}
 use Rattle.grpc_sending.proofs.sender.put_content.Goals as goal
 

@@ -1,7 +1,7 @@
 use Rattle.std.proofs.Common.{◌≡◌, take, drop, ◌++◌}
 use Rattle.std.specs.Prelude.{map}
-use Rattle.http2_streams.specs.Step.{resized}
+use Rattle.http2_streams.specs.Step.{stream_after_resize}
 use Rattle.http2_streams.proofs.live.resize.Given as goal
 
 abbrev pub invariant-loop-stream : goal.invariant-loop-stream
-invariant-loop-stream l = l.live ≡ map (resized l.initial_size) (take l.stream-index l.fn.live) ++ drop l.stream-index l.fn.live
+invariant-loop-stream l = l.live ≡ map (stream_after_resize l.initial_size) (take l.stream-index l.fn.live) ++ drop l.stream-index l.fn.live

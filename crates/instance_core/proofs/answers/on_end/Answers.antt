@@ -3,7 +3,7 @@ use Rattle.rpc.specs.declared.refusal.Refusal.TheVariants.{NoMessage}
 use Rattle.bytestream.specs.Shown.{open_write_shown}
 use Rattle.bytestream.specs.Writing.{unfinished_reply}
 use Rattle.instance_core.specs.Calls.{waits, has, writes, call_at}
-use Rattle.instance_core.specs.Answer.{ended}
+use Rattle.instance_core.specs.Answer.{final_answer}
 use Rattle.instance_core.specs.Shown.{state_of}
 use Rattle.instance_core.proofs.Parts.{call_found, ended_whole, ended_in_part, made_whole, made_in_part, calls_made}
 use Rattle.instance_core.proofs.answers.on_end.Goals as goal
@@ -19,7 +19,7 @@ returns-in-Waits-clause-changed c = λ moment.
     let s = state_of c.args.settings.now moment c.args.pool.now c.args.contents.now c.args.calls.now in
     let waiting : waits ≡ c.in-Some.call.now.progress = rw c.in-Waits.is at c.progress.ensures in
     let there = call_found c.in-Some.call.now c.in-Some.call.now.method waits (call_at c.args.id c.args.calls.now) c.in-Some.ensures.found refl waiting in
-    rw (← there) (calls_made c.finish.result (ended c.args.id (Err NoMessage)).changes s c.finish.new.calls c.finish.ensures.changed c.finish.ensures.err)
+    rw (← there) (calls_made c.finish.result (final_answer c.args.id (Err NoMessage)).changes s c.finish.new.calls c.finish.ensures.changed c.finish.ensures.err)
 
 pub returns-in_ok-replies-in-Has-clause-replies : goal.returns-in_ok-replies-in-Has-clause-replies
 returns-in_ok-replies-in-Has-clause-replies c = λ moment.
@@ -63,4 +63,4 @@ returns-in_ok-reply-in-Writes-clause-changed c = λ moment.
     let write = open_write_shown c.in-Writes.write in
     let come : writes write ≡ c.in-Some.call.now.progress = rw c.in-Writes.is at c.progress.ensures in
     let there = call_found c.in-Some.call.now c.in-Some.call.now.method (writes write) (call_at c.args.id c.args.calls.now) c.in-Some.ensures.found refl come in
-    rw (← there) (calls_made c.finish-in-Writes.result (ended c.args.id (Ok (unfinished_reply write.key s.uploads))).changes s c.finish-in-Writes.new.calls c.finish-in-Writes.ensures.changed c.finish-in-Writes.ensures.err)
+    rw (← there) (calls_made c.finish-in-Writes.result (final_answer c.args.id (Ok (unfinished_reply write.key s.uploads))).changes s c.finish-in-Writes.new.calls c.finish-in-Writes.ensures.changed c.finish-in-Writes.ensures.err)

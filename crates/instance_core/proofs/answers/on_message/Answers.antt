@@ -2,7 +2,7 @@ use Rattle.std.proofs.Common.{◌≡◌, refl, Err}
 use Rattle.rpc.specs.declared.refusal.Refusal.TheVariants.{MoreThanOneMessage}
 use Rattle.bytestream.specs.Shown.{open_write_shown}
 use Rattle.instance_core.specs.Calls.{has, writes, call_at}
-use Rattle.instance_core.specs.Answer.{ended}
+use Rattle.instance_core.specs.Answer.{final_answer}
 use Rattle.instance_core.specs.Shown.{state_of}
 use Rattle.instance_core.specs.Writes.{next_changes, next_outcome}
 use Rattle.instance_core.proofs.Events.{found_short}
@@ -21,7 +21,7 @@ returns-in-Has-clause-changed c =
     let s = state_of c.args.settings.now c.args.moment c.args.pool.now c.args.contents.now c.args.calls.now in
     let come : has c.in-Has.field-0.items ≡ c.in-Some.call.now.progress = rw c.in-Has.is at c.progress.ensures in
     let there = call_found c.in-Some.call.now c.in-Some.call.now.method (has c.in-Has.field-0.items) (call_at c.args.id c.args.calls.now) c.in-Some.ensures.found refl come in
-    rw (← there) (calls_made c.finish.result (ended c.args.id (Err MoreThanOneMessage)).changes s c.finish.new.calls c.finish.ensures.changed c.finish.ensures.err)
+    rw (← there) (calls_made c.finish.result (final_answer c.args.id (Err MoreThanOneMessage)).changes s c.finish.new.calls c.finish.ensures.changed c.finish.ensures.err)
 
 pub returns-in-Writes-clause-replies : goal.returns-in-Writes-clause-replies
 returns-in-Writes-clause-replies c = λ p.

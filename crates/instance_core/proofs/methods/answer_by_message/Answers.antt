@@ -1,6 +1,6 @@
 use Rattle.std.proofs.Common.{◌≡◌}
-use Rattle.instance_view.specs.Shown.{shown}
-use Rattle.cas_service.specs.Changes.{changed, MadeInPart}
+use Rattle.instance_view.specs.Shown.{visible_in}
+use Rattle.cas_service.specs.Changes.{visible_after_changes, MadeInPart}
 use Rattle.instance_core.specs.Methods.{reply_to, text_changes}
 use Rattle.instance_core.specs.State.{most_blobs}
 use Rattle.instance_core.specs.Shown.{state_of}
@@ -16,13 +16,13 @@ returns-clause-replies c = λ moment calls p.
 pub returns-clause-changed : goal.returns-clause-changed
 returns-clause-changed c = λ moment calls.
     let s = state_of c.args.settings.now moment c.args.pool.now c.args.contents.now calls in
-    let new = shown c.reply_to-outcome.new.pool c.reply_to-outcome.new.contents.view in
-    settled_whole c.reply_to-outcome.result c.settle.result (new ≡ changed most_blobs s.quota (text_changes c.args.method s c.args.message.now) s.visible) (c.reply_to-outcome.ensures.changed moment calls) c.settle.ensures.memory
+    let new = visible_in c.reply_to-outcome.new.pool c.reply_to-outcome.new.contents.view in
+    settled_whole c.reply_to-outcome.result c.settle.result (new ≡ visible_after_changes most_blobs s.quota (text_changes c.args.method s c.args.message.now) s.visible) (c.reply_to-outcome.ensures.changed moment calls) c.settle.ensures.memory
 
 pub returns-clause-memory : goal.returns-clause-memory
 returns-clause-memory c = λ moment calls.
     let s = state_of c.args.settings.now moment c.args.pool.now c.args.contents.now calls in
-    let new = shown c.reply_to-outcome.new.pool c.reply_to-outcome.new.contents.view in
+    let new = visible_in c.reply_to-outcome.new.pool c.reply_to-outcome.new.contents.view in
     let changes = text_changes c.args.method s c.args.message.now in
     settled_in_part c.reply_to-outcome.result c.settle.result (MadeInPart most_blobs s.quota changes s.visible new)
     (answered_in_part c.reply_to-outcome.result most_blobs s.quota changes s.visible new (c.reply_to-outcome.ensures.changed moment calls)) (c.reply_to-outcome.ensures.memory moment calls)

@@ -1,9 +1,9 @@
 use Rattle.std.proofs.Common.{◌≡◌, ℕ, List, sym, subst, ◌∙◌}
 use Rattle.std.specs.Prelude.{OnOk, OnErr}
 use Rattle.instance_view.specs.Visible.{Blob}
-use Rattle.instance_view.specs.Shown.{shown}
+use Rattle.instance_view.specs.Shown.{visible_in}
 use Rattle.quota_evict.specs.Within.{Within}
-use Rattle.cas_service.specs.Changes.{changed, MadeInPart}
+use Rattle.cas_service.specs.Changes.{visible_after_changes, MadeInPart}
 use Rattle.bytestream.specs.Reading.{read_asked}
 use Rattle.tree_calls.specs.GetTree.{get_tree_changes}
 use Rattle.instance_core.specs.Methods.{use_asked}
@@ -20,17 +20,17 @@ pub returns-in-Read-clause-changed : goal.returns-in-Read-clause-changed
 returns-in-Read-clause-changed c = λ moment calls.
     let p = c.args.pool.now in
     let q = c.answer_read.new.pool in
-    let old = shown p c.args.contents.now.view in
+    let old = visible_in p c.args.contents.now.view in
     let asked = use_asked (read_asked c.deref.result.now c.args.message.now) in
     let same = read_shown p q c.args.contents.now.view c.answer_read.new.view (holders_given c.answer_read.result) c.answer_read.ensures.moves c.answer_read.ensures.holders c.requires.kept.held.counted in
     rw (c.in-Read.is, ← c.deref.ensures)
-    (subst (λ (bs : List Blob). OnOk c.answer_read.result (bs ≡ changed most_blobs c.args.settings.now.quota asked old)) (sym same) (c.answer_read.ensures.changed p most_blobs c.args.settings.now.quota))
+    (subst (λ (bs : List Blob). OnOk c.answer_read.result (bs ≡ visible_after_changes most_blobs c.args.settings.now.quota asked old)) (sym same) (c.answer_read.ensures.changed p most_blobs c.args.settings.now.quota))
 
 pub returns-in-Read-clause-memory : goal.returns-in-Read-clause-memory
 returns-in-Read-clause-memory c = λ moment calls.
     let p = c.args.pool.now in
     let q = c.answer_read.new.pool in
-    let old = shown p c.args.contents.now.view in
+    let old = visible_in p c.args.contents.now.view in
     let asked = use_asked (read_asked c.deref.result.now c.args.message.now) in
     let same = read_shown p q c.args.contents.now.view c.answer_read.new.view (holders_given c.answer_read.result) c.answer_read.ensures.moves c.answer_read.ensures.holders c.requires.kept.held.counted in
     rw (c.in-Read.is, ← c.deref.ensures)
@@ -42,7 +42,7 @@ returns-in-Read-clause-within c =
     let q = c.answer_read.new.pool in
     let quota = c.args.settings.now.quota in
     let same = read_shown p q c.args.contents.now.view c.answer_read.new.view (holders_given c.answer_read.result) c.answer_read.ensures.moves c.answer_read.ensures.holders c.requires.kept.held.counted in
-    let limited = subst (λ n. Within n quota (shown p c.args.contents.now.view)) c.requires.limit c.requires.kept.within in
+    let limited = subst (λ n. Within n quota (visible_in p c.args.contents.now.view)) c.requires.limit c.requires.kept.within in
     subst (Within most_blobs quota) (sym same) (c.answer_read.ensures.within p most_blobs quota limited)
 
 pub answer_by_message-requires-clause-plain : goal.answer_by_message-requires-clause-plain
@@ -60,24 +60,24 @@ returns-in-GetTree-clause-replies c = λ moment calls.
 pub returns-in-GetTree-clause-changed : goal.returns-in-GetTree-clause-changed
 returns-in-GetTree-clause-changed c = λ moment calls.
     let p = c.args.pool.now in
-    let old = shown p c.args.contents.now.view in
+    let old = visible_in p c.args.contents.now.view in
     let changes = get_tree_changes c.deref-in-GetTree.result.now old c.args.message.now in
     let quota = c.args.settings.now.quota in
     rw (c.in-GetTree.is, ← c.deref-in-GetTree.ensures)
-    (subst (λ (n : ℕ). OnOk c.answer_tree.result (shown p c.answer_tree.new.view ≡ changed n quota changes old)) c.requires.limit (c.answer_tree.ensures.changed p quota))
+    (subst (λ (n : ℕ). OnOk c.answer_tree.result (visible_in p c.answer_tree.new.view ≡ visible_after_changes n quota changes old)) c.requires.limit (c.answer_tree.ensures.changed p quota))
 
 pub returns-in-GetTree-clause-memory : goal.returns-in-GetTree-clause-memory
 returns-in-GetTree-clause-memory c = λ moment calls.
     let p = c.args.pool.now in
-    let old = shown p c.args.contents.now.view in
+    let old = visible_in p c.args.contents.now.view in
     let changes = get_tree_changes c.deref-in-GetTree.result.now old c.args.message.now in
     let quota = c.args.settings.now.quota in
     rw (c.in-GetTree.is, ← c.deref-in-GetTree.ensures)
-    (subst (λ (n : ℕ). OnErr c.answer_tree.result (MadeInPart n quota changes old (shown p c.answer_tree.new.view))) c.requires.limit (c.answer_tree.ensures.memory p quota))
+    (subst (λ (n : ℕ). OnErr c.answer_tree.result (MadeInPart n quota changes old (visible_in p c.answer_tree.new.view))) c.requires.limit (c.answer_tree.ensures.memory p quota))
 
 pub returns-in-GetTree-clause-within : goal.returns-in-GetTree-clause-within
 returns-in-GetTree-clause-within c =
     let p = c.args.pool.now in
     let quota = c.args.settings.now.quota in
     let kept = c.answer_tree.ensures.kept p quota c.requires.kept in
-    subst (λ n. Within n quota (shown p c.answer_tree.new.view)) (c.answer_tree.ensures.limit ∙ c.requires.limit) kept.within
+    subst (λ n. Within n quota (visible_in p c.answer_tree.new.view)) (c.answer_tree.ensures.limit ∙ c.requires.limit) kept.within

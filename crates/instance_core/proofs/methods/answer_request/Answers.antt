@@ -1,4 +1,4 @@
-use Rattle.instance_view.specs.Shown.{shown}
+use Rattle.instance_view.specs.Shown.{visible_in}
 use Rattle.instance_core.specs.Methods.{LeavesResults, request_changes}
 use Rattle.instance_core.specs.Shown.{state_of}
 use Rattle.instance_core.proofs.Parts.{leaves, texts_make, same_uploads}
@@ -11,7 +11,7 @@ pub returns-in_default-clause-changed : goal.returns-in_default-clause-changed
 returns-in_default-clause-changed c = λ moment calls.
     let s = state_of c.args.settings.now moment c.args.pool.now c.args.contents.now calls in
     let apart : LeavesResults c.args.method = (c.in_default.not-GetActionResult, c.in_default.not-UpdateActionResult) in
-    let texts = shown c.answer_from_texts.new.pool c.answer_from_texts.new.contents.view in
+    let texts = visible_in c.answer_from_texts.new.pool c.answer_from_texts.new.contents.view in
     let results = c.answer_from_texts.new.contents.results in
     let made = texts_make c.answer_from_texts.result c.args.method s c.args.message.now texts results apart
     (c.answer_from_texts.ensures.changed moment calls) (c.answer_from_texts.ensures.memory moment calls) c.answer_from_texts.ensures.results in

@@ -1,7 +1,7 @@
 use Rattle.std.proofs.Common.{◌≡◌, ℕ, [], subst}
-use Rattle.instance_view.specs.Shown.{shown}
+use Rattle.instance_view.specs.Shown.{visible_in}
 use Rattle.cas_service.specs.Answers.{IfAnswered}
-use Rattle.cas_service.specs.Changes.{changed}
+use Rattle.cas_service.specs.Changes.{visible_after_changes}
 use Rattle.tree_calls.specs.Results.{get_action_result_reply, get_action_result_changes, after_get}
 use Rattle.tree_calls.proofs.Short.{get_stays_within}
 use Rattle.instance_core.specs.State.{most_blobs}
@@ -23,9 +23,9 @@ returns-clause-changed c = λ moment calls.
     let outcome = c.get_action_result-outcome in
     let changes = get_action_result_changes s.name s.visible s.results message in
     let used = rw c.deref.ensures at outcome.ensures.used p s.quota in
-    let limited = subst (λ (n : ℕ). IfAnswered outcome.result (shown p outcome.new.view ≡ changed n s.quota changes s.visible)) c.requires.limit used in
+    let limited = subst (λ (n : ℕ). IfAnswered outcome.result (visible_in p outcome.new.view ≡ visible_after_changes n s.quota changes s.visible)) c.requires.limit used in
     let left = rw c.deref.ensures at outcome.ensures.results in
-    results_make outcome.result c.settle.result s changes (after_get s.name s.visible s.results message) (shown p outcome.new.view) outcome.new.results
+    results_make outcome.result c.settle.result s changes (after_get s.name s.visible s.results message) (visible_in p outcome.new.view) outcome.new.results
     limited left (seen_same outcome.result outcome.new.results s.results p c.args.contents.now.view outcome.new.view outcome.ensures.err) c.settle.ensures.memory
 
 pub returns-clause-results : goal.returns-clause-results

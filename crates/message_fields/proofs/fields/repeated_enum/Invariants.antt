@@ -1,11 +1,11 @@
 use Rattle.std.proofs.Common.{◌≡◌, map, length}
-use Rattle.protobuf_wire.specs.Shown.{view}
+use Rattle.protobuf_wire.specs.Shown.{record_shown}
 use Rattle.message_fields.specs.Fields.{repeated_numbers, repeated_enum}
 use Rattle.message_fields.specs.Joining.{with_numbers}
 use Rattle.message_fields.proofs.fields.repeated_enum.Given as goal
 
 abbrev pub invariant-records : goal.invariant-records
-invariant-records l = with_numbers l.values.items (repeated_numbers l.field (map view l.left)) ≡ repeated_enum l.field (map view l.records)
+invariant-records l = with_numbers l.values.items (repeated_numbers l.field (map record_shown l.left)) ≡ repeated_enum l.field (map record_shown l.records)
 
 abbrev pub decreases-records : goal.decreases-records
 decreases-records l = length l.left

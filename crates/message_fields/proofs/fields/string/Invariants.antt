@@ -1,13 +1,13 @@
 use denote.Shadow.{shadow}
 use denote.Text.{Utf8}
 use Rattle.std.proofs.Common.{◌≡◌, [], map, length}
-use Rattle.protobuf_wire.specs.Shown.{view}
+use Rattle.protobuf_wire.specs.Shown.{record_shown}
 use Rattle.message_fields.specs.Fields.{repeated_string}
 use Rattle.message_fields.proofs.Lists.{last_after}
 use Rattle.message_fields.proofs.fields.string.Given as goal
 
 abbrev pub invariant-records : goal.invariant-records
-invariant-records l = (last_after l.last (repeated_string l.field (map view l.left)) ≡ last_after [] (repeated_string l.field (map view l.records))) × shadow (Utf8 l.last)
+invariant-records l = (last_after l.last (repeated_string l.field (map record_shown l.left)) ≡ last_after [] (repeated_string l.field (map record_shown l.records))) × shadow (Utf8 l.last)
 
 abbrev pub decreases-records : goal.decreases-records
 decreases-records l = length l.left

@@ -1,4 +1,4 @@
-use Rattle.grpc_sending.specs.Kept.{Look, Fit}
+use Rattle.grpc_sending.specs.StoredSending.{Look, Fit}
 use Rattle.protocol_tests.proofs.conn_core_tests.fill.Given as goal
 
 abbrev pub invariant-loop : goal.invariant-loop

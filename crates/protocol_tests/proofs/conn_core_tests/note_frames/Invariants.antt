@@ -1,4 +1,4 @@
-use Rattle.grpc_sending.specs.Kept.{Look, Fit}
+use Rattle.grpc_sending.specs.StoredSending.{Look, Fit}
 use Rattle.protocol_tests.proofs.conn_core_tests.note_frames.Given as goal
 
 abbrev pub invariant-frames : goal.invariant-frames

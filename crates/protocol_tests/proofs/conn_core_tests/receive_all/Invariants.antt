@@ -1,4 +1,4 @@
-use Rattle.grpc_sending.specs.Kept.{Look, Fit}
+use Rattle.grpc_sending.specs.StoredSending.{Look, Fit}
 use Rattle.protocol_tests.proofs.conn_core_tests.receive_all.Given as goal
 
 abbrev pub invariant-loop-piece : goal.invariant-loop-piece

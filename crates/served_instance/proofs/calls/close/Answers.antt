@@ -1,11 +1,11 @@
 use Rattle.std.proofs.Common.{◌≡◌, sym, ap, ◌∙◌, subst, List}
 use Rattle.conn_core.specs.declared.event.CallEvent.{CallEvent}
 use Rattle.served_instance.specs.Acts.{Acts, cancels_of}
-use Rattle.served_instance.specs.Lone.{all_happened}
+use Rattle.served_instance.specs.Lone.{after_call_events}
 use Rattle.std.specs.Prelude.{position}
 use Rattle.instance_core.specs.Slots.{state_in}
 use Rattle.served_instance.specs.Present.{is_numbered}
-use Rattle.blob_pool.specs.Held.{count_at}
+use Rattle.blob_pool.specs.Slots.{count_at}
 use Rattle.served_instance.proofs.Releasing.{closed_few, releases_closed}
 use Rattle.served_instance.proofs.Closes.{closes_none, closes_by}
 use Rattle.served_instance.proofs.calls.close.Goals as goal
@@ -23,7 +23,7 @@ returns-in-Some-clause-closed c = λ p.
     (sym (c.find.ensures ∙ ap (position (is_numbered c.args.number)) c.deref.ensures.value) ∙ c.in-Some.is)
     c.remove.ensures.value
     c.remove.ensures.by_index.2
-    (subst (λ (es : List CallEvent). Acts (state_in p c.args.instance.now) left (state_in p c.give_up.new.instance) left (all_happened c.args.number es)) same (c.give_up.ensures.cancelled p left))
+    (subst (λ (es : List CallEvent). Acts (state_in p c.args.instance.now) left (state_in p c.give_up.new.instance) left (after_call_events c.args.number es)) same (c.give_up.ensures.cancelled p left))
 
 pub release_spent-requires : goal.release_spent-requires
 release_spent-requires c = λ k.

@@ -1,13 +1,13 @@
 use Rattle.std.proofs.Common.{◌≡◌, ◌<◌, ◌∙◌, sym, subst, refl, ℕ, length, map}
 use Rattle.std.specs.Prelude.{Option, Some, None}
 use Rattle.conn_core.specs.declared.event.CallEvent.{CallEvent}
-use Rattle.blob_pool.specs.Held.{text_at}
+use Rattle.blob_pool.specs.Slots.{text_at}
 use Rattle.blob_pool.proofs.Moves.{moves_none, moves_trans}
 use Rattle.instance_core.specs.Slots.{state_in}
 use Rattle.instance_core.specs.Shown.{event_shown}
-use Rattle.served_instance.specs.Lone.{due_happened}
-use Rattle.served_instance.specs.Acts.{Changed, Pops, due_count, kept_at, slots_of}
-use Rattle.served_instance.specs.Shown.{served}
+use Rattle.served_instance.specs.Lone.{after_due_on}
+use Rattle.served_instance.specs.Acts.{Changed, Pops, due_count, present_at, slots_of}
+use Rattle.served_instance.specs.Shown.{connection_shown}
 use Rattle.served_instance.specs.Slots.{holders_of}
 use Rattle.served_instance.proofs.Changes.{changed_fewer, keeps_due, keeps_unread}
 use Rattle.served_instance.proofs.Kept.{alike_moves}
@@ -20,7 +20,7 @@ events-init c =
     let p = c.args.pool.now in
     let here = slots_of c.args.instance.now c.args.connections.now in
     record {
-      leads = leads_here (state_in p c.args.instance.now) c.args.connections.now (due_happened c.args.number) (text_at p);
+      leads = leads_here (state_in p c.args.instance.now) c.args.connections.now (after_due_on c.args.number) (text_at p);
       unread = refl;
       moves = moves_none p (holders_of here) (holders_of here) (λ k. refl);
       kept = c.requires.kept;
@@ -41,7 +41,7 @@ events-smaller c =
     let os = c.events.connections in
     let ns = c.pop_event.new.connections in
     let xs = c.happen.new.connections in
-    let there : kept_at n os ≡ None → ⊥ = λ none. let e = c.in-Some.ensures.none none in cc in
+    let there : present_at n os ≡ None → ⊥ = λ none. let e = c.in-Some.ensures.none none in cc in
     let fewer : due_count n ns < due_count n os = changed_fewer (λ v. length v.due) n os ns (Pops (Some c.in-Some.event)) there c.in-Some.ensures.event (λ v w r. r.fewer) in
     subst (λ (m : ℕ). m < due_count n os) (sym (keeps_due n ns xs c.in_ok-happen.ensures.rest)) fewer
 
@@ -54,7 +54,7 @@ events-preserved c =
     let os = c.events.connections in
     let ns = c.pop_event.new.connections in
     let xs = c.happen.new.connections in
-    let there : kept_at n os ≡ None → ⊥ = λ none. let e = c.in-Some.ensures.none none in cc in
+    let there : present_at n os ≡ None → ⊥ = λ none. let e = c.in-Some.ensures.none none in cc in
     let first = holders_of (slots_of c.args.instance.now c.args.connections.now) in
     let before = holders_of (slots_of c.events.instance os) in
     let between = holders_of (slots_of c.events.instance ns) in
@@ -64,7 +64,7 @@ events-preserved c =
           c.events.invariant.leads c.in-Some.ensures.event there c.call_event_on-event.ensures.event c.in_ok-happen.ensures.happened;
       unread = keeps_unread n ns xs c.in_ok-happen.ensures.rest ∙ popped_unread n os ns (Some c.in-Some.event) c.in-Some.ensures.event ∙ c.events.invariant.unread;
       moves = moves_trans p q r first before after c.events.invariant.moves
-          (moves_trans q q r before between after (alike_moves q c.events.instance (map served os) (map served ns) c.pop_event.ensures.holds) c.happen.ensures.moves);
+          (moves_trans q q r before between after (alike_moves q c.events.instance (map connection_shown os) (map connection_shown ns) c.pop_event.ensures.holds) c.happen.ensures.moves);
       kept = c.happen.ensures.kept;
     }
 
@@ -80,10 +80,10 @@ returns c =
     let before = holders_of (slots_of c.events.instance os) in
     let after = holders_of (slots_of c.events.instance ns) in
     record {
-      due = leads_acts_by (text_at p) (text_at q) (text_at q) (state_in p c.args.instance.now) (state_in q c.events.instance) (state_in q c.events.instance) c.args.connections.now os ns (due_happened n) (due_happened n)
+      due = leads_acts_by (text_at p) (text_at q) (text_at q) (state_in p c.args.instance.now) (state_in q c.events.instance) (state_in q c.events.instance) c.args.connections.now os ns (after_due_on n) (after_due_on n)
           c.events.invariant.leads (popped_all n (state_in q c.events.instance) os ns popped (text_at q));
       unread = popped_unread n os ns None popped ∙ c.events.invariant.unread;
-      moves = moves_trans p q q first before after c.events.invariant.moves (alike_moves q c.events.instance (map served os) (map served ns) c.pop_event.ensures.holds);
+      moves = moves_trans p q q first before after c.events.invariant.moves (alike_moves q c.events.instance (map connection_shown os) (map connection_shown ns) c.pop_event.ensures.holds);
       kept = alike_writes q c.events.instance os os ns ns refl refl c.pop_event.auto.connections c.events.invariant.kept c.pop_event.ensures.holds;
     }
 
@@ -99,4 +99,4 @@ returns-in_err-happen-clause-moves c =
     let between = holders_of (slots_of c.events.instance ns) in
     let after = holders_of (slots_of c.happen.new.instance c.happen.new.connections) in
     moves_trans p q r first before after c.events.invariant.moves
-    (moves_trans q q r before between after (alike_moves q c.events.instance (map served os) (map served ns) c.pop_event.ensures.holds) c.happen.ensures.moves)
+    (moves_trans q q r before between after (alike_moves q c.events.instance (map connection_shown os) (map connection_shown ns) c.pop_event.ensures.holds) c.happen.ensures.moves)

@@ -1,14 +1,14 @@
 use Rattle.std.proofs.Common.{◌≡◌, ℕ, length, List}
-use Rattle.blob_pool.specs.Held.{Slots}
+use Rattle.blob_pool.specs.Slots.{Slots}
 use Rattle.instance_core.specs.Slots.{state_in, holders_of, IsKept}
 use Rattle.served_instance.specs.declared.open_connection.OpenConnection.{OpenConnection}
-use Rattle.served_instance.specs.Lone.{all_happened}
+use Rattle.served_instance.specs.Lone.{after_call_events}
 use Rattle.served_instance.specs.Acts.{LeadsOn, cancels_of}
 use Rattle.served_instance.proofs.calls.give_up.Given as goal
 
 abbrev pub invariant-calls : goal.invariant-calls
 invariant-calls l = record {
-  leads : (p : Slots) (others : List OpenConnection) → LeadsOn (state_in p l.fn.instance) others (state_in p l.instance) others (all_happened l.number (cancels_of l.initial.closed)) (all_happened l.number (cancels_of l.closed));
+  leads : (p : Slots) (others : List OpenConnection) → LeadsOn (state_in p l.fn.instance) others (state_in p l.instance) others (after_call_events l.number (cancels_of l.initial.closed)) (after_call_events l.number (cancels_of l.closed));
   holders : (k : ℕ) → holders_of l.instance k ≡ holders_of l.fn.instance k;
   kept : (p : Slots) → IsKept p l.fn.instance → IsKept p l.instance;
 }

@@ -1,14 +1,14 @@
 use Rattle.std.proofs.Common.{◌+◌, ◌∙◌, sym, ap, subst, List, map, arith, refl}
 use Rattle.std.specs.List.{AllByRecursion}
 use Rattle.std.proofs.lemmas.List.{length-map}
-use Rattle.blob_pool.specs.Moves.{Moves, nobody}
+use Rattle.blob_pool.specs.Moves.{Moves, no_holders}
 use Rattle.instance_core.specs.declared.event.Reply.{Reply}
 use Rattle.instance_core.specs.Given.{replies_holders}
 use Rattle.instance_core.specs.Replies.{IsShortReply}
 use Rattle.instance_core.specs.Shown.{event_shown, reply_shown}
 use Rattle.instance_core.specs.Slots.{holders_of as holders_of_instance}
 use Rattle.served_instance.specs.Given.{ReplyCanBeOwed, RepliesEndWithin}
-use Rattle.served_instance.specs.Shown.{served}
+use Rattle.served_instance.specs.Shown.{connection_shown}
 use Rattle.served_instance.specs.Acts.{slots_of}
 use Rattle.served_instance.proofs.Kept.{few_connections, instance_kept}
 use Rattle.served_instance.proofs.Taking.{take_none}
@@ -27,11 +27,11 @@ returns-in_err-replies-clause-kept c =
     let q = c.call_event.new.pool in
     let i = c.args.instance.now in
     let os = c.args.connections.now in
-    let vs = map served os in
-    answered_kept nobody (λ texts. Unit {0}) p q q i c.call_event.new.self vs vs (record {
+    let vs = map connection_shown os in
+    answered_kept no_holders (λ texts. Unit {0}) p q q i c.call_event.new.self vs vs (record {
       kept = c.requires.kept;
       moves = c.in_err-replies.ensures.moves;
-      takes = take_none nobody (λ texts. Unit {0}) q vs (λ k. refl);
+      takes = take_none no_holders (λ texts. Unit {0}) q vs (λ k. refl);
       within = c.call_event.ensures.within;
       good = tt;
     })
@@ -55,6 +55,6 @@ returns-clause-kept c =
     let p = c.args.pool.now in
     let os = c.args.connections.now in
     let ns = c.give_all.new.connections in
-    answered_kept (replies_holders c.deref.result.now) (RepliesEndWithin c.deref.result.now) p c.call_event.new.pool c.give_all.new.pool c.args.instance.now c.call_event.new.self (map served os) (map served ns)
+    answered_kept (replies_holders c.deref.result.now) (RepliesEndWithin c.deref.result.now) p c.call_event.new.pool c.give_all.new.pool c.args.instance.now c.call_event.new.self (map connection_shown os) (map connection_shown ns)
     (answers_given p c.call_event.new.pool c.give_all.new.pool c.args.instance.now c.call_event.new.self os ns c.deref.result.now c.in_ok-replies.replies.items c.deref.ensures.value c.requires.kept c.in_ok-replies.ensures.moves c.give_all.ensures.takes c.call_event.ensures.within c.in_ok-replies.ensures.short)
-    (omega (arith, c.give_all.auto.connections, few_connections p (slots_of c.args.instance.now os) c.requires.kept, length-map os served, length-map ns served))
+    (omega (arith, c.give_all.auto.connections, few_connections p (slots_of c.args.instance.now os) c.requires.kept, length-map os connection_shown, length-map ns connection_shown))

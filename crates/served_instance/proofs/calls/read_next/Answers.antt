@@ -1,10 +1,10 @@
 use Rattle.std.proofs.Common.{◌≡◌, refl, subst, map}
 use Rattle.std.specs.Prelude.{Bool, None}
-use Rattle.blob_pool.specs.Held.{text_at}
+use Rattle.blob_pool.specs.Slots.{text_at}
 use Rattle.blob_pool.proofs.Moves.{moves_trans}
 use Rattle.instance_core.specs.Slots.{state_in}
-use Rattle.served_instance.specs.Acts.{Changed, ReadsFrame, kept_at, slots_of}
-use Rattle.served_instance.specs.Shown.{served}
+use Rattle.served_instance.specs.Acts.{Changed, ReadsFrame, present_at, slots_of}
+use Rattle.served_instance.specs.Shown.{connection_shown}
 use Rattle.served_instance.specs.Slots.{holders_of}
 use Rattle.served_instance.proofs.Kept.{alike_moves}
 use Rattle.served_instance.proofs.Leads.{read_leads, read_done, done_leads, read_fewer}
@@ -23,7 +23,7 @@ returns-in_ok-give_due-clause-reads c =
     let os = c.args.connections.now in
     let ns = c.read_frame.new.connections in
     let read = subst (λ (b : Bool). Changed n os ns (ReadsFrame b)) c.if-branch.true c.in_ok-read_frame.ensures.read in
-    let there : kept_at n os ≡ None → ⊥ = λ none. let e = c.in_ok-read_frame.ensures.none none in cc in
+    let there : present_at n os ≡ None → ⊥ = λ none. let e = c.in_ok-read_frame.ensures.none none in cc in
     read_leads (text_at p) (text_at q) n (state_in p c.args.instance.now) (state_in q c.give_due.new.instance) os ns c.give_due.new.connections read there c.in_ok-give_due.ensures.due
 
 pub returns-in_ok-give_due-clause-fewer : goal.returns-in_ok-give_due-clause-fewer
@@ -32,7 +32,7 @@ returns-in_ok-give_due-clause-fewer c = λ more.
     let os = c.args.connections.now in
     let ns = c.read_frame.new.connections in
     let read = subst (λ (b : Bool). Changed n os ns (ReadsFrame b)) c.if-branch.true c.in_ok-read_frame.ensures.read in
-    let there : kept_at n os ≡ None → ⊥ = λ none. let e = c.in_ok-read_frame.ensures.none none in cc in
+    let there : present_at n os ≡ None → ⊥ = λ none. let e = c.in_ok-read_frame.ensures.none none in cc in
     read_fewer n os ns c.give_due.new.connections read there c.in_ok-give_due.ensures.unread
 
 pub returns-in_ok-give_due-clause-moves : goal.returns-in_ok-give_due-clause-moves
@@ -44,7 +44,7 @@ returns-in_err-give_due-clause-moves c =
     moves_after c.args.pool.now c.give_due.new.pool c.args.instance.now c.give_due.new.instance c.args.connections.now c.read_frame.new.connections c.give_due.new.connections c.read_frame.ensures.holds c.give_due.ensures.moves
 
 pub returns-in_err-read_frame-clause-moves : goal.returns-in_err-read_frame-clause-moves
-returns-in_err-read_frame-clause-moves c = alike_moves c.args.pool.now c.args.instance.now (map served c.args.connections.now) (map served c.read_frame.new.connections) c.read_frame.ensures.holds
+returns-in_err-read_frame-clause-moves c = alike_moves c.args.pool.now c.args.instance.now (map connection_shown c.args.connections.now) (map connection_shown c.read_frame.new.connections) c.read_frame.ensures.holds
 
 pub returns-in_err-read_frame-clause-kept : goal.returns-in_err-read_frame-clause-kept
 returns-in_err-read_frame-clause-kept c = alike_after c.args.pool.now c.args.instance.now c.args.connections.now c.read_frame.new.connections c.read_frame.auto.connections c.requires.kept c.read_frame.ensures.holds
@@ -60,7 +60,7 @@ returns-else-branch-clause-ends c = λ last.
     read_done c.args.number (state_in c.args.pool.now c.args.instance.now) c.args.connections.now c.read_frame.new.connections read (text_at c.args.pool.now)
 
 pub returns-else-branch-clause-moves : goal.returns-else-branch-clause-moves
-returns-else-branch-clause-moves c = alike_moves c.args.pool.now c.args.instance.now (map served c.args.connections.now) (map served c.read_frame.new.connections) c.read_frame.ensures.holds
+returns-else-branch-clause-moves c = alike_moves c.args.pool.now c.args.instance.now (map connection_shown c.args.connections.now) (map connection_shown c.read_frame.new.connections) c.read_frame.ensures.holds
 
 pub returns-else-branch-clause-kept : goal.returns-else-branch-clause-kept
 returns-else-branch-clause-kept c = alike_after c.args.pool.now c.args.instance.now c.args.connections.now c.read_frame.new.connections c.read_frame.auto.connections c.requires.kept c.read_frame.ensures.holds

@@ -1,11 +1,12 @@
 use Rattle.std.proofs.Common.{refl, map}
-use Rattle.blob_pool.specs.Held.{text_at}
+use Rattle.blob_pool.specs.Slots.{text_at}
 use Rattle.blob_pool.proofs.Moves.{moves_trans}
 use Rattle.instance_core.specs.Slots.{state_in}
 use Rattle.served_instance.specs.Connections.{at_open}
-use Rattle.served_instance.specs.Lone.{Lone, with_bytes, bytes_came}
-use Rattle.served_instance.specs.Acts.{rest_read, slots_of}
-use Rattle.served_instance.specs.Shown.{served}
+use Rattle.conn_core.specs.Past.{with_bytes}
+use Rattle.served_instance.specs.Lone.{Lone, after_bytes_on}
+use Rattle.served_instance.specs.Acts.{after_rest_on, slots_of}
+use Rattle.served_instance.specs.Shown.{connection_shown}
 use Rattle.served_instance.specs.Slots.{holders_of}
 use Rattle.served_instance.proofs.Kept.{alike_moves}
 use Rattle.served_instance.proofs.Leads.{step_acts, leads_trans, leads_acts_by}
@@ -21,12 +22,12 @@ frames-init c =
       leads = λ l st.
           let k : Lone = record l { connections = at_open c.args.number (with_bytes c.args.bytes.now) l.connections } in
           (k, step_acts c.args.number (state_in p c.args.instance.now) os ns (with_bytes c.args.bytes.now) c.in_ok-feed.ensures.fed (text_at p) l st, refl);
-      moves = alike_moves p c.args.instance.now (map served os) (map served ns) c.feed.ensures.holds;
+      moves = alike_moves p c.args.instance.now (map connection_shown os) (map connection_shown ns) c.feed.ensures.holds;
       kept = alike_after p c.args.instance.now os ns c.feed.auto.connections c.requires.kept c.feed.ensures.holds;
     }
 
 pub returns-in_err-feed-clause-moves : goal.returns-in_err-feed-clause-moves
-returns-in_err-feed-clause-moves c = alike_moves c.args.pool.now c.args.instance.now (map served c.args.connections.now) (map served c.feed.new.connections) c.feed.ensures.holds
+returns-in_err-feed-clause-moves c = alike_moves c.args.pool.now c.args.instance.now (map connection_shown c.args.connections.now) (map connection_shown c.feed.new.connections) c.feed.ensures.holds
 
 pub returns-in_err-feed-clause-kept : goal.returns-in_err-feed-clause-kept
 returns-in_err-feed-clause-kept c = alike_after c.args.pool.now c.args.instance.now c.args.connections.now c.feed.new.connections c.feed.auto.connections c.requires.kept c.feed.ensures.holds
@@ -41,7 +42,7 @@ frames-preserved c =
     let r = c.read_next.new.pool in
     record {
       leads = leads_trans (text_at p) (text_at q) (text_at r) (state_in p c.args.instance.now) (state_in q c.frames.instance) (state_in r c.read_next.new.instance) c.args.connections.now c.frames.connections c.read_next.new.connections
-          (bytes_came c.args.number c.args.bytes.now) (rest_read c.args.number) (rest_read c.args.number) c.frames.invariant.leads c.in_ok-read_next.ensures.reads;
+          (after_bytes_on c.args.number c.args.bytes.now) (after_rest_on c.args.number) (after_rest_on c.args.number) c.frames.invariant.leads c.in_ok-read_next.ensures.reads;
       moves = moves_trans p q r (holders_of (slots_of c.args.instance.now c.args.connections.now)) (holders_of (slots_of c.frames.instance c.frames.connections)) (holders_of (slots_of c.read_next.new.instance c.read_next.new.connections))
           c.frames.invariant.moves c.read_next.ensures.moves;
       kept = c.read_next.ensures.kept;
@@ -53,7 +54,7 @@ returns-clause-came c =
     let q = c.frames.pool in
     let r = c.read_next.new.pool in
     leads_acts_by (text_at p) (text_at q) (text_at r) (state_in p c.args.instance.now) (state_in q c.frames.instance) (state_in r c.read_next.new.instance) c.args.connections.now c.frames.connections c.read_next.new.connections
-    (bytes_came c.args.number c.args.bytes.now) (rest_read c.args.number) c.frames.invariant.leads (c.in_ok-read_next.ensures.ends c.if-branch.false)
+    (after_bytes_on c.args.number c.args.bytes.now) (after_rest_on c.args.number) c.frames.invariant.leads (c.in_ok-read_next.ensures.ends c.if-branch.false)
 
 pub returns-clause-moves : goal.returns-clause-moves
 returns-clause-moves c =

@@ -9,12 +9,12 @@ use Rattle.server_events.specs.Shown.{what_value}
 use Rattle.served_instance.specs.declared.open_connection.OpenConnection.{OpenConnection}
 use Rattle.instance_core.specs.Calls.{tick as time_passes}
 use Rattle.instance_core.specs.Slots.{state_in}
-use Rattle.blob_pool.specs.Held.{text_at}
+use Rattle.blob_pool.specs.Slots.{text_at}
 use Rattle.served_instance.specs.Connections.{at_open}
-use Rattle.served_instance.specs.Lone.{Lone, acted, happened, was_opened, was_closed, bytes_came}
+use Rattle.served_instance.specs.Lone.{Lone, effect_of, after_call_event, after_opening, after_closing, after_bytes_on}
 use Rattle.served_instance.specs.Present.{CanTake, refusal_by_what}
-use Rattle.served_instance.specs.Shown.{served}
-use Rattle.served_instance.specs.Acts.{kept_at, slots_of}
+use Rattle.served_instance.specs.Shown.{connection_shown}
+use Rattle.served_instance.specs.Acts.{present_at, slots_of}
 use Rattle.served_instance.proofs.Closes.{acts_between, at_state, written_back, can_take, tick_acts}
 use Rattle.served_instance.proofs.Kept.{alike_keeps, few_connections, instance_after, instance_kept, moment_keeps, release_keeps}
 use Rattle.served_instance.proofs.Stands.{released_acts}
@@ -26,9 +26,9 @@ pub take-requires : goal.take-requires
 take-requires c =
     let os = c.args.connections.now.items in
     let n = c.in-Took.number in
-    let P : What → Type 0 = λ w. refusal_by_what (what_value w) (map served os) ≡ None in
-    let Q : List OpenConnection → Type 0 = λ xs. CanTake c.in-Took.count (kept_at n xs) in
-    subst Q (sym c.deref_mut-in-Took.ensures.value) (can_take c.in-Took.count (kept_at n os) (subst P c.in-Took.is c.requires.accepted))
+    let P : What → Type 0 = λ w. refusal_by_what (what_value w) (map connection_shown os) ≡ None in
+    let Q : List OpenConnection → Type 0 = λ xs. CanTake c.in-Took.count (present_at n xs) in
+    subst Q (sym c.deref_mut-in-Took.ensures.value) (can_take c.in-Took.count (present_at n os) (subst P c.in-Took.is c.requires.accepted))
 
 pub returns-in-Open-clause-acted : goal.returns-in-Open-clause-acted
 returns-in-Open-clause-acted c =
@@ -36,8 +36,8 @@ returns-in-Open-clause-acted c =
     let ns = c.open.new.connections.items in
     let t = text_at c.args.pool.now in
     let s = state_in c.args.pool.now c.args.instance.now in
-    acts_between c.open.result t t s s os os ns ns (was_opened c.in-Open.number) (acted (what_value c.args.what.now)) refl refl
-    (ap (λ (w : What). acted (what_value w)) c.in-Open.is) (at_state c.open.result t s os ns (was_opened c.in-Open.number) c.open.ensures.opened)
+    acts_between c.open.result t t s s os os ns ns (after_opening c.in-Open.number) (effect_of (what_value c.args.what.now)) refl refl
+    (ap (λ (w : What). effect_of (what_value w)) c.in-Open.is) (at_state c.open.result t s os ns (after_opening c.in-Open.number) c.open.ensures.opened)
 
 pub receive-requires : goal.receive-requires
 receive-requires c =
@@ -49,9 +49,9 @@ returns-in-Bytes-clause-acted c =
     let q = c.receive.new.pool in
     let all = c.args.connections.now in
     let ns = c.receive.new.connections in
-    acts_between c.receive.result (text_at p) (text_at q) (state_in p c.args.instance.now) (state_in q c.receive.new.instance) all.items c.deref_mut.result.now ns _ (bytes_came c.in-Bytes.number c.deref.result.now) (acted (what_value c.args.what.now))
+    acts_between c.receive.result (text_at p) (text_at q) (state_in p c.args.instance.now) (state_in q c.receive.new.instance) all.items c.deref_mut.result.now ns _ (after_bytes_on c.in-Bytes.number c.deref.result.now) (effect_of (what_value c.args.what.now))
     c.deref_mut.ensures.value (written_back all.len ns all.items (c.receive.auto.connections ∙ ap length c.deref_mut.ensures.value) (grind (arith, common_steps)))
-    (ap (λ (w : What). acted (what_value w)) c.in-Bytes.is ∙ ap (bytes_came c.in-Bytes.number) (sym c.deref.ensures.value)) c.receive.ensures.came
+    (ap (λ (w : What). effect_of (what_value w)) c.in-Bytes.is ∙ ap (after_bytes_on c.in-Bytes.number) (sym c.deref.ensures.value)) c.receive.ensures.came
 
 pub returns-in-Bytes-clause-moves : goal.returns-in-Bytes-clause-moves
 returns-in-Bytes-clause-moves c =
@@ -68,9 +68,9 @@ returns-in-Took-clause-acted c =
     let s = state_in c.args.pool.now c.args.instance.now in
     let step : Lone → Lone = λ l. record l { connections = at_open c.in-Took.number (λ p. with_taken p c.in-Took.count) l.connections } in
     let done : Result (Unit {0}) AllocError = Ok tt in
-    acts_between done t t s s all.items c.deref_mut-in-Took.result.now ns _ step (acted (what_value c.args.what.now))
+    acts_between done t t s s all.items c.deref_mut-in-Took.result.now ns _ step (effect_of (what_value c.args.what.now))
     c.deref_mut-in-Took.ensures.value (written_back all.len ns all.items (c.take.auto.connections ∙ ap length c.deref_mut-in-Took.ensures.value) (grind (arith, common_steps)))
-    (ap (λ (w : What). acted (what_value w)) c.in-Took.is) (step_acts c.in-Took.number s c.deref_mut-in-Took.result.now ns (λ p. with_taken p c.in-Took.count) c.take.ensures.taken t)
+    (ap (λ (w : What). effect_of (what_value w)) c.in-Took.is) (step_acts c.in-Took.number s c.deref_mut-in-Took.result.now ns (λ p. with_taken p c.in-Took.count) c.take.ensures.taken t)
 
 pub returns-in-Closed-clause-acted : goal.returns-in-Closed-clause-acted
 returns-in-Closed-clause-acted c =
@@ -81,9 +81,9 @@ returns-in-Closed-clause-acted c =
     let os = c.args.connections.now.items in
     let ns = c.close.new.connections.items in
     let done : Result (Unit {0}) AllocError = Ok tt in
-    acts_between done (text_at p) (text_at q) (state_in p i) (state_in q j) os os ns ns (was_closed c.in-Closed.number) (acted (what_value c.args.what.now)) refl refl
-    (ap (λ (w : What). acted (what_value w)) c.in-Closed.is)
-    (released_acts p q i j os ns (was_closed c.in-Closed.number) c.requires.kept c.close.ensures.releases (c.close.ensures.closed q))
+    acts_between done (text_at p) (text_at q) (state_in p i) (state_in q j) os os ns ns (after_closing c.in-Closed.number) (effect_of (what_value c.args.what.now)) refl refl
+    (ap (λ (w : What). effect_of (what_value w)) c.in-Closed.is)
+    (released_acts p q i j os ns (after_closing c.in-Closed.number) c.requires.kept c.close.ensures.releases (c.close.ensures.closed q))
 
 pub returns-in-Tick-clause-acted : goal.returns-in-Tick-clause-acted
 returns-in-Tick-clause-acted c =
@@ -92,15 +92,15 @@ returns-in-Tick-clause-acted c =
     let before = state_in c.args.pool.now c.args.instance.now in
     let after = state_in c.args.pool.now c.tick.new.self in
     let done : Result (Unit {0}) AllocError = Ok tt in
-    acts_between done t t before after os os os os (happened time_passes) (acted (what_value c.args.what.now)) refl refl
-    (ap (λ (w : What). acted (what_value w)) c.in-Tick.is) (tick_acts before after os (c.tick.ensures.changed c.args.pool.now) t)
+    acts_between done t t before after os os os os (after_call_event time_passes) (effect_of (what_value c.args.what.now)) refl refl
+    (ap (λ (w : What). effect_of (what_value w)) c.in-Tick.is) (tick_acts before after os (c.tick.ensures.changed c.args.pool.now) t)
 
 pub returns-in-Open-clause-kept : goal.returns-in-Open-clause-kept
 returns-in-Open-clause-kept c =
     let os = c.args.connections.now.items in
     let ns = c.open.new.connections.items in
-    alike_keeps c.args.pool.now c.args.instance.now (map served os) (map served ns) c.requires.kept c.open.ensures.holds
-    (omega (arith, c.open.ensures.few, length-map ns served))
+    alike_keeps c.args.pool.now c.args.instance.now (map connection_shown os) (map connection_shown ns) c.requires.kept c.open.ensures.holds
+    (omega (arith, c.open.ensures.few, length-map ns connection_shown))
 
 pub returns-in-Bytes-clause-kept : goal.returns-in-Bytes-clause-kept
 returns-in-Bytes-clause-kept c =
@@ -124,14 +124,14 @@ returns-in-Closed-clause-kept c =
     let i = c.args.instance.now in
     let os = c.args.connections.now.items in
     let ns = c.close.new.connections.items in
-    release_keeps p q i c.close.new.instance (map served os) (map served ns) c.requires.kept c.close.ensures.releases c.close.ensures.holders
-    (c.close.ensures.kept q (instance_after p q i (map served os) (map served ns) c.requires.kept c.close.ensures.releases))
-    (omega (arith, c.close.ensures.fewer, few_connections p (slots_of i os) c.requires.kept, length-map os served, length-map ns served))
+    release_keeps p q i c.close.new.instance (map connection_shown os) (map connection_shown ns) c.requires.kept c.close.ensures.releases c.close.ensures.holders
+    (c.close.ensures.kept q (instance_after p q i (map connection_shown os) (map connection_shown ns) c.requires.kept c.close.ensures.releases))
+    (omega (arith, c.close.ensures.fewer, few_connections p (slots_of i os) c.requires.kept, length-map os connection_shown, length-map ns connection_shown))
 
 pub returns-in-Tick-clause-kept : goal.returns-in-Tick-clause-kept
 returns-in-Tick-clause-kept c =
     let p = c.args.pool.now in
     let os = c.args.connections.now.items in
     let here = slots_of c.args.instance.now os in
-    moment_keeps p c.args.instance.now c.tick.new.self (map served os) c.requires.kept c.tick.ensures.holders
+    moment_keeps p c.args.instance.now c.tick.new.self (map connection_shown os) c.requires.kept c.tick.ensures.holders
     (c.tick.ensures.kept p (instance_kept p here here refl c.requires.kept))

@@ -1,14 +1,14 @@
 use Rattle.std.proofs.Common.{◌<◌, length, map, arith, add-one, get_or, refl}
 use Rattle.std.proofs.Math.ListN.{set}
-use Rattle.blob_pool.specs.Held.{text_at}
+use Rattle.blob_pool.specs.Slots.{text_at}
 use Rattle.served_instance.specs.declared.open_connection.OpenConnection.{OpenConnection}
-use Rattle.served_instance.specs.Shown.{served}
+use Rattle.served_instance.specs.Shown.{connection_shown}
 use Rattle.served_instance.proofs.Ranges.{alike_here, alike_trans, alike_set, fit_at}
 use Rattle.served_instance.proofs.Serves.{Pumps, pumped_more, pump_serves}
 use Rattle.served_instance.proofs.instance.pump_each.Goals as goal
 
 pub loop-kept-init : goal.loop-kept-init
-loop-kept-init c = record { pumped = refl; holds = alike_here (map served c.args.connections.now) }
+loop-kept-init c = record { pumped = refl; holds = alike_here (map connection_shown c.args.connections.now) }
 
 pub pump-requires : goal.pump-requires
 pump-requires c =
@@ -27,7 +27,7 @@ loop-kept-preserved c =
     let h : Pumps texts x w = (refl, c.pump.ensures.stands) in
     record {
       pumped = rw add-one (pumped_more texts i os ns c.kept-item.result w lt h c.loop-kept.invariant.pumped);
-      holds = alike_trans (map served os) (map served ns) (map served (set ns i w)) c.loop-kept.invariant.holds
+      holds = alike_trans (map connection_shown os) (map connection_shown ns) (map connection_shown (set ns i w)) c.loop-kept.invariant.holds
           (alike_set ns i c.kept-item.result w lt (record { sources = c.pump.ensures.sources; fit = c.pump.ensures.fit }));
     }
 

@@ -1,4 +1,4 @@
-use Rattle.blob_pool.specs.Held.{text_at}
+use Rattle.blob_pool.specs.Slots.{text_at}
 use Rattle.served_instance.specs.Acts.{HoldAlike}
 use Rattle.served_instance.proofs.Serves.{ArePumped}
 use Rattle.served_instance.proofs.instance.pump_each.Given as goal

@@ -1,9 +1,9 @@
 use Rattle.std.proofs.Common.{sym, ◌∙◌, map, ap}
 use Rattle.conn_core.specs.StandsFor.{Present}
 use Rattle.served_instance.specs.Acts.{Takes}
-use Rattle.served_instance.specs.Lone.{with_bytes}
+use Rattle.conn_core.specs.Past.{with_bytes}
 use Rattle.served_instance.proofs.Ranges.{alike_here, alike_place, keeps_here}
-use Rattle.served_instance.specs.Shown.{served}
+use Rattle.served_instance.specs.Shown.{connection_shown}
 use Rattle.served_instance.proofs.Changes.{changed_none, changed_ok}
 use Rattle.served_instance.proofs.open_connection.feed.Goals as goal
 
@@ -14,7 +14,7 @@ pub returns-in-Some-clause-fed : goal.returns-in-Some-clause-fed
 returns-in-Some-clause-fed c = changed_ok c.feed.result c.args.number c.args.connections.now c.in-Some.place c.index-connections-place.result c.feed.new.self (Takes (with_bytes c.args.bytes.now)) (sym c.find.ensures ∙ c.in-Some.is) c.feed.ensures.stands
 
 pub returns-in-None-clause-holds : goal.returns-in-None-clause-holds
-returns-in-None-clause-holds c = alike_here (map served c.args.connections.now)
+returns-in-None-clause-holds c = alike_here (map connection_shown c.args.connections.now)
 
 pub returns-in-Some-clause-holds : goal.returns-in-Some-clause-holds
 returns-in-Some-clause-holds c =

@@ -3,7 +3,7 @@ use Rattle.std.specs.Prelude.{None}
 use Rattle.conn_core.specs.StandsFor.{Present}
 use Rattle.served_instance.specs.Acts.{Pops}
 use Rattle.served_instance.proofs.Ranges.{alike_here, alike_place, keeps_here}
-use Rattle.served_instance.specs.Shown.{served}
+use Rattle.served_instance.specs.Shown.{connection_shown}
 use Rattle.served_instance.proofs.Changes.{changed_none, changed_some, there_is_one}
 use Rattle.served_instance.proofs.open_connection.pop_event.Goals as goal
 
@@ -19,7 +19,7 @@ pub returns-in-Some-clause-none : goal.returns-in-Some-clause-none
 returns-in-Some-clause-none c = λ none. absurd (there_is_one c.args.number c.args.connections.now c.in-Some.place c.index-connections-place.result (sym c.find.ensures ∙ c.in-Some.is) none)
 
 pub returns-in-None-clause-holds : goal.returns-in-None-clause-holds
-returns-in-None-clause-holds c = alike_here (map served c.args.connections.now)
+returns-in-None-clause-holds c = alike_here (map connection_shown c.args.connections.now)
 
 pub returns-in-Some-clause-holds : goal.returns-in-Some-clause-holds
 returns-in-Some-clause-holds c =

@@ -2,7 +2,7 @@ use Rattle.std.proofs.Common.{sym, ◌∙◌, map}
 use Rattle.std.specs.Prelude.{false}
 use Rattle.served_instance.specs.Acts.{ReadsFrame}
 use Rattle.served_instance.proofs.Ranges.{alike_here, alike_place}
-use Rattle.served_instance.specs.Shown.{served}
+use Rattle.served_instance.specs.Shown.{connection_shown}
 use Rattle.served_instance.proofs.Changes.{changed_none, changed_read, none_read}
 use Rattle.served_instance.proofs.open_connection.read_frame.Goals as goal
 
@@ -16,7 +16,7 @@ pub returns-in-Some-clause-none : goal.returns-in-Some-clause-none
 returns-in-Some-clause-none c = none_read c.read_frame.result c.args.number c.args.connections.now c.in-Some.place c.index-connections-place.result (sym c.find.ensures ∙ c.in-Some.is)
 
 pub returns-in-None-clause-holds : goal.returns-in-None-clause-holds
-returns-in-None-clause-holds c = alike_here (map served c.args.connections.now)
+returns-in-None-clause-holds c = alike_here (map connection_shown c.args.connections.now)
 
 pub returns-in-Some-clause-holds : goal.returns-in-Some-clause-holds
 returns-in-Some-clause-holds c =

@@ -5,7 +5,7 @@ use Rattle.conn_core.specs.StandsFor.{Present}
 use Rattle.served_instance.specs.Acts.{Takes}
 use Rattle.served_instance.specs.Present.{CanTake}
 use Rattle.served_instance.proofs.Ranges.{alike_here, alike_place, keeps_queues}
-use Rattle.served_instance.specs.Shown.{served}
+use Rattle.served_instance.specs.Shown.{connection_shown}
 use Rattle.served_instance.proofs.Changes.{changed_none, changed_some}
 use Rattle.served_instance.proofs.Places.{place_some}
 use Rattle.served_instance.proofs.open_connection.take.Goals as goal
@@ -22,7 +22,7 @@ pub returns-in-None-clause-taken : goal.returns-in-None-clause-taken
 returns-in-None-clause-taken c = changed_none c.args.number c.args.connections.now (Takes (λ p. with_taken p c.args.count)) (sym c.find.ensures ∙ c.in-None.is)
 
 pub returns-in-None-clause-holds : goal.returns-in-None-clause-holds
-returns-in-None-clause-holds c = alike_here (map served c.args.connections.now)
+returns-in-None-clause-holds c = alike_here (map connection_shown c.args.connections.now)
 
 pub returns-in-Some-clause-holds : goal.returns-in-Some-clause-holds
 returns-in-Some-clause-holds c =

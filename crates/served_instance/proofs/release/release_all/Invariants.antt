@@ -1,14 +1,14 @@
 use Rattle.std.proofs.Common.{List, ◌≡◌, [], map, take}
-use Rattle.grpc_sending.specs.Kept.{Look}
+use Rattle.grpc_sending.specs.StoredSending.{Look}
 use Rattle.served_instance.specs.Connections.{LoneConnection}
-use Rattle.served_instance.specs.Ranges.{Releases, spent_at}
-use Rattle.served_instance.specs.Shown.{served}
+use Rattle.served_instance.specs.Ranges.{Releases, spent_sources}
+use Rattle.served_instance.specs.Shown.{connection_shown}
 use Rattle.served_instance.specs.StandsFor.{AreServed}
 use Rattle.served_instance.proofs.release.release_all.Given as goal
 
 abbrev pub invariant-loop-kept : goal.invariant-loop-kept
 invariant-loop-kept l = record {
-  stands : (texts : Look) (ls : List LoneConnection) → AreServed texts (map served l.fn.connections) ls → AreServed texts (map served l.connections) ls;
-  releases : Releases l.fn.pool (map served l.fn.connections) l.pool (map served l.connections);
-  none : spent_at (map served (take l.kept-index l.connections)) ≡ [];
+  stands : (texts : Look) (ls : List LoneConnection) → AreServed texts (map connection_shown l.fn.connections) ls → AreServed texts (map connection_shown l.connections) ls;
+  releases : Releases l.fn.pool (map connection_shown l.fn.connections) l.pool (map connection_shown l.connections);
+  none : spent_sources (map connection_shown (take l.kept-index l.connections)) ≡ [];
 }

@@ -1,5 +1,5 @@
 use Rattle.std.proofs.Common.{get_or, refl, subst, arith, ℕ, ◌≤◌, ◌+◌}
-use Rattle.blob_pool.specs.Held.{count_at}
+use Rattle.blob_pool.specs.Slots.{count_at}
 use Rattle.conn_core.specs.Past.{with_item}
 use Rattle.instance_core.specs.declared.event.ReplyItem.{ReplyItem}
 use Rattle.instance_core.specs.Given.{item_holders}

@@ -1,6 +1,6 @@
 use Rattle.std.proofs.Common.{ℕ, ◌≤◌, length}
 use Rattle.std.specs.List.{AllByRecursion}
-use Rattle.blob_pool.specs.Held.{Slots, count_at}
+use Rattle.blob_pool.specs.Slots.{Slots, count_at}
 use Rattle.conn_core.specs.StandsFor.{Present}
 use Rattle.instance_core.specs.Given.{items_holders}
 use Rattle.served_instance.specs.Acts.{Owes}

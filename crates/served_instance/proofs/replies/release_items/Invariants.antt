@@ -1,12 +1,12 @@
 use Rattle.std.proofs.Common.{ℕ, ◌≤◌, length}
-use Rattle.blob_pool.specs.Held.{Slots, count_at}
-use Rattle.blob_pool.specs.Moves.{Moves, nobody}
+use Rattle.blob_pool.specs.Slots.{Slots, count_at}
+use Rattle.blob_pool.specs.Moves.{Moves, no_holders}
 use Rattle.instance_core.specs.Given.{items_holders}
 use Rattle.served_instance.proofs.replies.release_items.Given as goal
 
 abbrev pub invariant-items : goal.invariant-items
 invariant-items l = record {
-  moves : (r : Slots) → Moves l.pool r (items_holders l.left) nobody → Moves l.fn.pool r (items_holders l.items) nobody;
+  moves : (r : Slots) → Moves l.pool r (items_holders l.left) no_holders → Moves l.fn.pool r (items_holders l.items) no_holders;
   counted : (k : ℕ) → items_holders l.left k ≤ count_at l.pool k;
 }
 

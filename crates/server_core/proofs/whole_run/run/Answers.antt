@@ -7,7 +7,7 @@ use Rattle.std.proofs.lemmas.Option.{slice_get_within}
 use Rattle.server_events.specs.Events.{own_events}
 use Rattle.server_events.specs.Shown.{config_value, event_value}
 use Rattle.run_record.specs.StandsFor.{RecordValue}
-use Rattle.server_core.specs.Lone.{lone, strays}
+use Rattle.server_core.specs.LoneOutput.{lone_output, strays}
 use Rattle.server_core.proofs.Lists.{written}
 use Rattle.server_core.proofs.Runs.{runs_more, strays_more}
 use Rattle.server_core.proofs.whole_run.run.Goals as goal
@@ -53,7 +53,7 @@ loop-event-preserved c =
 pub returns-clause-alone : goal.returns-clause-alone
 returns-clause-alone c = λ i config is.
     let all : map event_value (take c.loop-event.event-index c.args.events.now) ≡ map event_value c.args.events.now = ap (map event_value) (take_all _ _ c.loop-event-test.false) in
-    c.in_ok-outputs_of.ensures.outputs i _ (c.loop-event.invariant.runs i config is).noted ∙ ap (λ es. Some (lone config (own_events i es))) all
+    c.in_ok-outputs_of.ensures.outputs i _ (c.loop-event.invariant.runs i config is).noted ∙ ap (λ es. Some (lone_output config (own_events i es))) all
 
 pub returns-clause-strays : goal.returns-clause-strays
 returns-clause-strays c = c.loop-event.invariant.strays ∙ ap (λ es. strays c.args.configs.now (map event_value es)) (take_all _ _ c.loop-event-test.false)

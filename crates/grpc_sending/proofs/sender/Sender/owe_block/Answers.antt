@@ -2,7 +2,7 @@ use Rattle.std.proofs.Common.{ap, sym, ◌∙◌, [], ◌∷◌}
 use Rattle.grpc_sending.specs.Owed.{Headed}
 use Rattle.grpc_sending.specs.declared.piece.StoredPiece.TheVariants.{Encoded}
 use Rattle.grpc_sending.specs.Pieces.{Block}
-use Rattle.grpc_sending.specs.Kept.{sending_in}
+use Rattle.grpc_sending.specs.StoredSending.{sending_in}
 use Rattle.grpc_sending.proofs.Takes.{owe_by, stands_failed, stands_unowed}
 use Rattle.grpc_sending.proofs.Keeping.{fit_push, keeps_push}
 use Rattle.grpc_sending.proofs.sender.Sender.owe_block.Goals as goal

@@ -2,7 +2,7 @@ use Rattle.std.proofs.Common.{ap, sym, ◌∙◌, [], ◌∷◌}
 use Rattle.grpc_sending.specs.Owed.{Message}
 use Rattle.grpc_sending.specs.declared.piece.StoredPiece.TheVariants.{Framed}
 use Rattle.grpc_sending.specs.Pieces.{Part}
-use Rattle.grpc_sending.specs.Kept.{sending_in}
+use Rattle.grpc_sending.specs.StoredSending.{sending_in}
 use Rattle.grpc_sending.proofs.Takes.{owe_by, stands_failed, stands_unowed}
 use Rattle.grpc_sending.proofs.Keeping.{fit_push, keeps_push}
 use Rattle.grpc_sending.proofs.sender.Sender.owe_message.Goals as goal

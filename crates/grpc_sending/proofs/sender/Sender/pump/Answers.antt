@@ -1,5 +1,5 @@
 use Rattle.std.proofs.Common.{ap, ◌∙◌}
-use Rattle.grpc_sending.specs.Kept.{sending_in}
+use Rattle.grpc_sending.specs.StoredSending.{sending_in}
 use Rattle.grpc_sending.proofs.Pumping.{pumping_more, pumping_streams, pumping_sending, pumping_by}
 use Rattle.grpc_sending.proofs.sender.Sender.pump.Goals as goal
 

@@ -1,5 +1,5 @@
 use Rattle.std.proofs.Common.{◌-◌, ◌≤◌, length}
-use Rattle.grpc_sending.specs.Kept.{Look, Fit, KeepsSources, sending_in}
+use Rattle.grpc_sending.specs.StoredSending.{Look, Fit, KeepsSources, sending_in}
 use Rattle.grpc_sending.proofs.Pumping.{Pumping}
 use Rattle.grpc_sending.proofs.sender.Sender.pump.Given as goal
 

@@ -1,9 +1,9 @@
 use Rattle.std.proofs.Common.{◌≡◌, List, ◌∷◌, [], ◌++◌, sym, ap, ◌∙◌}
-use Rattle.instance_view.specs.Shown.{Entry, ViewValue}
+use Rattle.instance_view.specs.Shown.{ViewEntry, ViewValue}
 use Rattle.instance_view.proofs.Held.{dropped_held, dropped_moves, dropped_shown}
 use Rattle.instance_view.proofs.view.View.drop_oldest.Goals as goal
 
-abbrev entries_of : ViewValue → List Entry
+abbrev entries_of : ViewValue → List ViewEntry
 entries_of v = v.entries
 
 pub release_kept-requires : goal.release_kept-requires

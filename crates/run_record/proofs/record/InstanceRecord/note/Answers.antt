@@ -7,7 +7,7 @@ use Rattle.served_instance.specs.declared.refusal.EventRefusal.{EventRefusal}
 use Rattle.served_instance.specs.Refusals.{refusal_of, lone_step, IsOutcome}
 use Rattle.run_record.specs.declared.record.OpenRecord.{OpenRecord}
 use Rattle.run_record.specs.Shown.{sent_shown, refused_shown}
-use Rattle.run_record.specs.Notes.{open_after, sent_after, gathered, counted_on}
+use Rattle.run_record.specs.Notes.{open_records_after, sent_bytes_after, sent_bytes_with_all, record_after_noting}
 use Rattle.run_record.specs.StandsFor.{RecordValue, StandsFor}
 use Rattle.run_record.proofs.Noted.{noted}
 use Rattle.run_record.proofs.record.InstanceRecord.note.Goals as goal
@@ -20,11 +20,11 @@ returns-in_ok-gather-in-Ok-clause-stands c = λ r st outcome served.
     let st0 : StandsFor v r = subst (λ (w : RecordValue). StandsFor w r) (sym c.self.view_is) st in
     let none : refusal_of e r.lone ≡ None = subst (λ (o : Result (Unit {0}) EventRefusal). IsOutcome o (refusal_of e r.lone)) c.in-Ok.is outcome in
     let live = c.in_ok-follow-in-Ok.ensures.live in
-    let sent : map sent_shown c.gather.new.sent.items ≡ gathered m (open_after e.what (length v.sent) v.live) (sent_after e.what v.sent) =
+    let sent : map sent_shown c.gather.new.sent.items ≡ sent_bytes_with_all m (open_records_after e.what (length v.sent) v.live) (sent_bytes_after e.what v.sent) =
     c.in_ok-gather-in-Ok.ensures m served
-    ∙ ap (λ (os : List OpenRecord). gathered m os (map sent_shown c.follow.new.sent.items)) (c.deref.ensures.value ∙ live)
-    ∙ ap (gathered m (open_after e.what (length v.sent) v.live)) c.in_ok-follow-in-Ok.ensures.sent in
-    let counted : c.count_untaken.new.live ≡ map (counted_on m) (open_after e.what (length v.sent) v.live) =
-    c.count_untaken.ensures m served ∙ ap (map (counted_on m)) (c.deref_mut.ensures.value ∙ live) in
+    ∙ ap (λ (os : List OpenRecord). sent_bytes_with_all m os (map sent_shown c.follow.new.sent.items)) (c.deref.ensures.value ∙ live)
+    ∙ ap (sent_bytes_with_all m (open_records_after e.what (length v.sent) v.live)) c.in_ok-follow-in-Ok.ensures.sent in
+    let counted : c.count_untaken.new.live ≡ map (record_after_noting m) (open_records_after e.what (length v.sent) v.live) =
+    c.count_untaken.ensures m served ∙ ap (map (record_after_noting m)) (c.deref_mut.ensures.value ∙ live) in
     let written : (with_items c.follow.new.live c.count_untaken.new.live).items ≡ c.count_untaken.new.live = with_items_is c.follow.new.live c.count_untaken.new.live (c.count_untaken.auto.live ∙ c.deref_mut.ensures.len) in
     noted v r e (map sent_shown c.gather.new.sent.items) (with_items c.follow.new.live c.count_untaken.new.live).items st0 none sent (written ∙ counted)

@@ -1,10 +1,10 @@
 use Rattle.std.proofs.Common.{◌≤◌, List, map, sym, subst, arith, ap, ◌∙◌, length}
 use Rattle.std.proofs.lemmas.Grind.{common_steps}
-use Rattle.blob_pool.specs.Held.{text_at, count_at}
+use Rattle.blob_pool.specs.Slots.{text_at, count_at}
 use Rattle.served_instance.specs.declared.open_connection.OpenConnection.{OpenConnection}
 use Rattle.served_instance.specs.Ranges.{AreFit, range_holders}
-use Rattle.served_instance.specs.Shown.{served}
-use Rattle.served_instance.specs.Slots.{ServedSlots, served_in, IsKept}
+use Rattle.served_instance.specs.Shown.{connection_shown}
+use Rattle.served_instance.specs.Slots.{ServedSlots, served_state_in, IsKept}
 use Rattle.served_instance.specs.StandsFor.{StandsFor}
 use Rattle.served_instance.specs.Acts.{slots_of}
 use Rattle.served_instance.proofs.Closes.{written_back}
@@ -18,8 +18,8 @@ pump_all-requires c =
     let Q : ServedSlots → Type 0 = λ v. IsKept p v in
     let kept : IsKept p (slots_of c.self.inside.instance os) = subst Q (sym c.self.view_is) c.requires in
     record {
-      fit = subst (λ (xs : List OpenConnection). AreFit (text_at p) (map served xs)) (sym c.deref_mut.ensures.value) kept.fit;
-      counted = λ k. subst (λ (xs : List OpenConnection). range_holders (map served xs) k ≤ count_at p k) (sym c.deref_mut.ensures.value) (counted_ranges p c.self.inside.instance os kept k);
+      fit = subst (λ (xs : List OpenConnection). AreFit (text_at p) (map connection_shown xs)) (sym c.deref_mut.ensures.value) kept.fit;
+      counted = λ k. subst (λ (xs : List OpenConnection). range_holders (map connection_shown xs) k ≤ count_at p k) (sym c.deref_mut.ensures.value) (counted_ranges p c.self.inside.instance os kept k);
     }
 
 pub returns-clause-stands : goal.returns-clause-stands
@@ -29,7 +29,7 @@ returns-clause-stands c = λ l st.
     let all = c.self.inside.connections in
     let ns = c.pump_all.new.connections in
     let Q : ServedSlots → Type 0 = λ v. IsKept p v in
-    let S : ServedSlots → Type 0 = λ v. StandsFor (served_in p v) l in
+    let S : ServedSlots → Type 0 = λ v. StandsFor (served_state_in p v) l in
     let done = pumped_written p c.pump_all.new.pool i all.items c.deref_mut.result.now ns _ c.deref_mut.ensures.value
     (written_back all.len ns all.items (c.pump_all.ensures.count ∙ ap length c.deref_mut.ensures.value) (grind (arith, common_steps)))
     (subst Q (sym c.self.view_is) c.requires) (record { stands = c.pump_all.ensures.stands; releases = c.pump_all.ensures.releases; count = c.pump_all.ensures.count }) in

@@ -1,14 +1,14 @@
 use Rattle.std.proofs.Common.{◌≡◌, refl, sym, ◌∙◌, subst}
 use Rattle.std.specs.Prelude.{map, None}
-use Rattle.blob_pool.specs.Held.{text_at}
-use Rattle.served_instance.specs.Shown.{served}
+use Rattle.blob_pool.specs.Slots.{text_at}
+use Rattle.served_instance.specs.Shown.{connection_shown}
 use Rattle.server_events.specs.Shown.{event_value}
 use Rattle.served_instance.specs.declared.refusal.EventRefusal.TheVariants.{NoSuchInstance, NoMemory}
 use Rattle.served_instance.specs.Present.{refusal_by}
 use Rattle.instance_core.specs.Slots.{state_in}
-use Rattle.served_instance.specs.Lone.{came_at, acted}
+use Rattle.served_instance.specs.Lone.{lone_at_moment, effect_of}
 use Rattle.served_instance.specs.StandsFor.{StandsFor}
-use Rattle.served_instance.specs.Slots.{ServedSlots, served_in, IsKept}
+use Rattle.served_instance.specs.Slots.{ServedSlots, served_state_in, IsKept}
 use Rattle.served_instance.proofs.Refuses.{no_reason, refused_outcome, kept_at_refusal, stands_accepted, settled_accepted, accepted_what, not_elsewhere, not_for_memory}
 use Rattle.served_instance.proofs.Serves.{pump_settles}
 use Rattle.served_instance.proofs.Kept.{slots_at, instance_kept, moment_keeps}
@@ -31,26 +31,26 @@ pub returns-in-Ok-clause-stands : goal.returns-in-Ok-clause-stands
 returns-in-Ok-clause-stands c = λ l s n.
     let e = event_value c.args.event.now in
     let p = c.args.pool.now in
-    let m = came_at e.moment l in
+    let m = lone_at_moment e.moment l in
     let acts = c.in-Ok.ensures.acted m (came_by p c.self.inside.instance c.set_moment.new.self c.self.inside.connections.items c.args.self.now e.moment l c.self.view_is (c.set_moment.ensures.changed p) s) in
     let q = c.act.new.pool in
-    let here = stands_for q q c.act.new.instance c.act.new.connections.items (acted e.what m) (λ k some. refl) acts in
-    stands_accepted p e c.args.self.now (served_in c.pump.new.pool c.pump.new.self) l (sym c.in_default.is ∙ c.refusal.ensures) s (c.pump.ensures.stands (acted e.what m) here)
+    let here = stands_for q q c.act.new.instance c.act.new.connections.items (effect_of e.what m) (λ k some. refl) acts in
+    stands_accepted p e c.args.self.now (served_state_in c.pump.new.pool c.pump.new.self) l (sym c.in_default.is ∙ c.refusal.ensures) s (c.pump.ensures.stands (effect_of e.what m) here)
 
 pub returns-in-Ok-clause-settled : goal.returns-in-Ok-clause-settled
 returns-in-Ok-clause-settled c = λ l s.
     let e = event_value c.args.event.now in
     let p = c.args.pool.now in
-    let m = came_at e.moment l in
+    let m = lone_at_moment e.moment l in
     let acts = c.in-Ok.ensures.acted m (came_by p c.self.inside.instance c.set_moment.new.self c.self.inside.connections.items c.args.self.now e.moment l c.self.view_is (c.set_moment.ensures.changed p) s) in
-    settled_accepted p e c.args.self.now l (sym c.in_default.is ∙ c.refusal.ensures) s (pump_settles (text_at c.act.new.pool) (map served c.act.new.connections.items) (acted e.what m).connections acts.connections)
+    settled_accepted p e c.args.self.now l (sym c.in_default.is ∙ c.refusal.ensures) s (pump_settles (text_at c.act.new.pool) (map connection_shown c.act.new.connections.items) (effect_of e.what m).connections acts.connections)
 
 pub act-requires : goal.act-requires
 act-requires c =
     let e = event_value c.args.event.now in
     let p = c.args.pool.now in
     let P : ServedSlots → Type 0 = λ v. refusal_by e v ≡ None in
-    let vs = map served c.self.inside.connections.items in
+    let vs = map connection_shown c.self.inside.connections.items in
     let at : ServedSlots = slots_at c.self.inside.instance vs in
     let none : refusal_by e c.args.self.now ≡ None = sym c.refusal.ensures ∙ c.in_default.is in
     let Q : ServedSlots → Type 0 = λ v. IsKept p v in

@@ -2,7 +2,7 @@ use Rattle.std.proofs.Common.{ap, ◌∙◌, sym}
 use Rattle.std.specs.Option.{option_map}
 use Rattle.std.specs.List.{slice_get}
 use Rattle.std.proofs.lemmas.Option.{slice_get-map}
-use Rattle.served_instance.specs.Slots.{served_in}
+use Rattle.served_instance.specs.Slots.{served_state_in}
 use Rattle.server_core.specs.StandsFor.{ServerState, instance_at}
 use Rattle.server_core.proofs.Lists.{map_twice, got}
 use Rattle.server_core.proofs.server.Server.instance.Goals as goal
@@ -14,8 +14,8 @@ returns c =
     let i = c.args.number in
     let at = got (λ r. r.now) c.deref.result.now i c.get.result c.get.ensures.lookup.0 c.get.ensures.lookup.1 in (
       p,
-      map_twice (served_in p) (λ r. r.now) c.get.result
-          ∙ ap (option_map (served_in p)) (at ∙ ap (λ ys. slice_get ys i) c.deref.ensures.value)
-          ∙ sym (slice_get-map (served_in p) xs i)
+      map_twice (served_state_in p) (λ r. r.now) c.get.result
+          ∙ ap (option_map (served_state_in p)) (at ∙ ap (λ ys. slice_get ys i) c.deref.ensures.value)
+          ∙ sym (slice_get-map (served_state_in p) xs i)
           ∙ ap (λ (v : ServerState). instance_at i v.instances) c.self.view_is,
     )

@@ -1,9 +1,9 @@
 use Rattle.std.proofs.Common.{◌≡◌, ap, ◌∙◌, sym, length, ◌+◌, ◌≤◌, map, take, arith}
 use Rattle.std.proofs.lemmas.Bool.{true≢false}
 use Rattle.server_events.specs.Configs.{config_fault, instance_limit}
-use Rattle.server_core.specs.Lone.{config_at}
+use Rattle.server_core.specs.LoneOutput.{config_at}
 use Rattle.server_events.specs.Shown.{config_value}
-use Rattle.served_instance.specs.Slots.{served_in}
+use Rattle.served_instance.specs.Slots.{served_state_in}
 use Rattle.std.proofs.lemmas.List.{length_push, length-map, take_all}
 use Rattle.server_core.specs.Shared.{all_in}
 use Rattle.server_core.proofs.Begins.{quota_in, starts_more, all_pushed, within_pushed, nobody_pushed, server_begun}
@@ -26,7 +26,7 @@ loop-config-preserved c =
       count = ap length more ∙ length_push _ _ ∙ ap (λ k. k + 1) old.count;
       nobody = nobody_pushed xs v _ more old.nobody new.holders;
       within = λ p. within_pushed p xs v _ more (old.within p) (new.within p);
-      stands = λ p. starts_more _ _ _ (all_in p xs) _ (served_in p v) c.loop-config-test.true c.config-item.is (length-map xs (served_in p) ∙ old.count) (ap (all_in p) more ∙ all_pushed p xs v) (old.stands p) (new.stands p);
+      stands = λ p. starts_more _ _ _ (all_in p xs) _ (served_state_in p v) c.loop-config-test.true c.config-item.is (length-map xs (served_state_in p) ∙ old.count) (ap (all_in p) more ∙ all_pushed p xs v) (old.stands p) (new.stands p);
     }
 
 pub returns-clause-stands : goal.returns-clause-stands

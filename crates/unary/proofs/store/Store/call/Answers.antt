@@ -1,13 +1,13 @@
 use Rattle.std.proofs.Common.{◌≡◌, ℕ, List, subst}
-use Rattle.instance_view.specs.Shown.{shown}
-use Rattle.cas_service.specs.Changes.{changed}
-use Rattle.unary.specs.Answered.{IfAnswered}
+use Rattle.instance_view.specs.Shown.{visible_in}
+use Rattle.cas_service.specs.Changes.{visible_after_changes}
+use Rattle.cas_service.specs.Answers.{IfAnswered}
 use Rattle.unary.specs.Session.{changes_by}
 use Rattle.unary.proofs.Calls.{called_by}
 use Rattle.unary.proofs.store.Store.call.Goals as goal
 
 pub returns-clause-called : goal.returns-clause-called
 returns-clause-called c =
-    let visible = shown c.self.inside.pool c.self.inside.view in
-    let IsCalled : List ℕ → Type 0 = λ name. IfAnswered c.call.result (shown c.call.new.pool c.call.new.view ≡ changed c.self.inside.view.limit c.self.inside.quota (changes_by c.args.method (record { name = name; quota = c.self.inside.quota; visible = visible }) c.args.message.now) visible) in
-    called_by c.call.result c.args.method _ c.args.self.now (shown c.call.new.pool c.call.new.view) c.self.inside.view.limit c.args.message.now c.self.view_is c.self.invariant.2 (subst IsCalled c.deref.ensures c.call.ensures.called)
+    let visible = visible_in c.self.inside.pool c.self.inside.view in
+    let IsCalled : List ℕ → Type 0 = λ name. IfAnswered c.call.result (visible_in c.call.new.pool c.call.new.view ≡ visible_after_changes c.self.inside.view.limit c.self.inside.quota (changes_by c.args.method (record { name = name; quota = c.self.inside.quota; visible = visible }) c.args.message.now) visible) in
+    called_by c.call.result c.args.method _ c.args.self.now (visible_in c.call.new.pool c.call.new.view) c.self.inside.view.limit c.args.message.now c.self.view_is c.self.invariant.2 (subst IsCalled c.deref.ensures c.call.ensures.called)

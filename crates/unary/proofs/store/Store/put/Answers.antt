@@ -1,6 +1,6 @@
-use Rattle.instance_view.specs.Shown.{shown}
+use Rattle.instance_view.specs.Shown.{visible_in}
 use Rattle.unary.proofs.Calls.{stored_by}
 use Rattle.unary.proofs.store.Store.put.Goals as goal
 
 pub returns-clause-stored : goal.returns-clause-stored
-returns-clause-stored c = stored_by c.put.result _ c.args.self.now (shown c.put.new.pool c.put.new.view) c.self.inside.view.limit c.args.bytes.now c.self.view_is c.self.invariant.2 c.put.ensures.stored
+returns-clause-stored c = stored_by c.put.result _ c.args.self.now (visible_in c.put.new.pool c.put.new.view) c.self.inside.view.limit c.args.bytes.now c.self.view_is c.self.invariant.2 c.put.ensures.stored

@@ -23,20 +23,20 @@ pub data SocketEvent : Type 0 where
 
 -- ---- what a call of the sockets adds, by its result
 
-abbrev pub accepted_by : {E : Type 0} → Socket → Result ⊤ E → List SocketEvent
-accepted_by at (Ok x) = port at.instance (accepted at.connection) ∷ []
-accepted_by at (Err e) = []
+abbrev pub accept_events : {E : Type 0} → Socket → Result ⊤ E → List SocketEvent
+accept_events at (Ok x) = port at.instance (accepted at.connection) ∷ []
+accept_events at (Err e) = []
 
-abbrev pub read_by : {E : Type 0} → Socket → Result ℕ E → List ℕ → List SocketEvent
-read_by at (Ok n) room = port at.instance (read at.connection (take n room)) ∷ []
-read_by at (Err e) room = []
+abbrev pub read_events : {E : Type 0} → Socket → Result ℕ E → List ℕ → List SocketEvent
+read_events at (Ok n) room = port at.instance (read at.connection (take n room)) ∷ []
+read_events at (Err e) room = []
 
-abbrev pub written_by : {E : Type 0} → Socket → Result ℕ E → List ℕ → List SocketEvent
-written_by at (Ok n) bytes = port at.instance (written at.connection (take n bytes)) ∷ []
-written_by at (Err e) bytes = []
+abbrev pub write_events : {E : Type 0} → Socket → Result ℕ E → List ℕ → List SocketEvent
+write_events at (Ok n) bytes = port at.instance (written at.connection (take n bytes)) ∷ []
+write_events at (Err e) bytes = []
 
-abbrev pub shut_by : Socket → List SocketEvent
-shut_by at = port at.instance (shut at.connection) ∷ []
+abbrev pub shutdown_events : Socket → List SocketEvent
+shutdown_events at = port at.instance (shut at.connection) ∷ []
 
 -- where it is known what happened, this happened next
 abbrev pub Adds : Option (List SocketEvent) → Option (List SocketEvent) → List SocketEvent → Type 0
@@ -59,13 +59,14 @@ abbrev pub moment_of : List SocketEvent → ℕ
 moment_of h = fold moment_after 0 h
 
 -- time goes on for each instance; what happens at a port is an event of its instance alone
-abbrev pub told_of : ℕ → ℕ → SocketEvent → List EventValue
-told_of i m (clock n) = record { moment = n; instance = i; what = tick } ∷ []
-told_of i m (port j p) = if j == i then record { moment = m; instance = j; what = what_of p } ∷ [] else []
+abbrev pub events_for : ℕ → ℕ → SocketEvent → List EventValue
+events_for i m (clock n) = record { moment = n; instance = i; what = tick } ∷ []
+events_for i m (port j p) =
+    if j == i then record { moment = m; instance = j; what = what_of p } ∷ [] else []
 
 abbrev pub events_from : ℕ → ℕ → List SocketEvent → List EventValue
 events_from i m [] = []
-events_from i m (s ∷ h) = told_of i m s ++ events_from i (moment_after m s) h
+events_from i m (s ∷ h) = events_for i m s ++ events_from i (moment_after m s) h
 
 -- the events of instance i
 abbrev pub events_of : ℕ → List SocketEvent → List EventValue

@@ -4,10 +4,10 @@ use Rattle.std.specs.Prelude.{◌≡◌, ◌<◌, ◌≤◌, ◌-◌, ◌^◌, �
 use Rattle.std.specs.List.{flat_map, AllByRecursion}
 use Rattle.hpack.specs.declared.encoder.Position.{Position}
 use Rattle.hpack.specs.declared.encoder.Position.TheVariants.{First}
-use Rattle.http2_flow.specs.Credit.{left}
+use Rattle.http2_flow.specs.Credit.{window_left}
 use Rattle.http2_frames.specs.declared.frame.Frame.TheVariants.{Data}
 use Rattle.http2_frames.specs.Writing.{text_of}
-use Rattle.http2_streams.specs.Diary.{Entry, is_live, has_failed}
+use Rattle.http2_streams.specs.History.{Entry, is_not_closed, has_failed}
 use Rattle.http2_streams.specs.declared.stream.Stream.{Stream}
 use Rattle.http2_streams.specs.Standing.{Standing}
 use Rattle.http2_streams.specs.StandsFor.{StandsFor as AreStreams}
@@ -22,16 +22,16 @@ use Rattle.grpc_sending.specs.declared.turn.Due.TheVariants.{Opens, Gives}
 use Rattle.grpc_sending.specs.Pieces.{Piece, Block, Part, Queue, most_read}
 use Rattle.grpc_sending.specs.Sources.{count_of, sources_held}
 use Rattle.grpc_sending.specs.Spans.{Span, span_pieces, span_front, span_size, span_after, IsSpan}
-use Rattle.grpc_sending.specs.Owed.{Owed, Item, Range, left_on}
-use Rattle.grpc_sending.specs.Pump.{part_size, first_of, pumped}
+use Rattle.grpc_sending.specs.Owed.{OwedItem, Item, Range, pieces_left_on}
+use Rattle.grpc_sending.specs.Pump.{part_size, first_of, history_after_pump}
 use Rattle.grpc_sending.specs.Step.{Puts, Resets, Finishes}
-use Rattle.grpc_sending.specs.StandsFor.{Sending, IsSending, owed_more}
+use Rattle.grpc_sending.specs.StandsFor.{Sending, IsSending, owed_with_item}
 
 -- the text of each source
 abbrev pub Look : Type 0
 Look = ℕ → List ℕ
 
-pub record Kept : Type 0 where
+pub record StoredSending : Type 0 where
   -- the bytes that were put and not taken
   pub pending : List ℕ
   -- the place of the next header block
@@ -41,31 +41,32 @@ pub record Kept : Type 0 where
   -- sources whose ranges are over, and which were not told yet
   pub spent : List ℕ
 
-abbrev pub new_kept : Kept
-new_kept = record { pending = []; position = First; queues = []; spent = [] }
+abbrev pub new_stored_sending : StoredSending
+new_stored_sending = record { pending = []; position = First; queues = []; spent = [] }
 
 -- ---- as it is seen
 
-abbrev pub shown : Look → StoredPiece → List Piece
-shown texts (Encoded block) = Block block ∷ []
-shown texts (Framed bytes) = Part bytes ∷ []
-shown texts (Ranged s) = span_pieces most_read s (texts s.source)
+abbrev pub pieces_in : Look → StoredPiece → List Piece
+pieces_in texts (Encoded block) = Block block ∷ []
+pieces_in texts (Framed bytes) = Part bytes ∷ []
+pieces_in texts (Ranged s) = span_pieces most_read s (texts s.source)
 
 abbrev pub queue_in : Look → StoredQueue → Queue
-queue_in texts q = record { stream = q.stream; pieces = flat_map (shown texts) q.pieces }
+queue_in texts q = record { stream = q.stream; pieces = flat_map (pieces_in texts) q.pieces }
 
-abbrev pub sending_in : Look → Kept → Sending
-sending_in texts w = record { pending = w.pending; position = w.position; queues = map (queue_in texts) w.queues }
+abbrev pub sending_in : Look → StoredSending → Sending
+sending_in texts w =
+    record { pending = w.pending; position = w.position; queues = map (queue_in texts) w.queues }
 
--- what is kept stands for a diary and for all that was ever owed
-abbrev pub StandsFor : Look → Kept → List Entry → List Owed → Type 0
+-- what is kept stands for a history and for all that was ever owed
+abbrev pub StandsFor : Look → StoredSending → List Entry → List OwedItem → Type 0
 StandsFor texts w d os = IsSending (sending_in texts w) d os
 
 -- ---- sources
 
 -- each source as often as it is held: for a range that is not wholly put, or until it was told to
 -- be spent
-abbrev pub sources_of : Kept → List ℕ
+abbrev pub sources_of : StoredSending → List ℕ
 sources_of w = sources_held w.queues ++ w.spent
 
 -- two look-ups have the same text for each of these sources
@@ -73,19 +74,19 @@ abbrev pub AgreeOn : List ℕ → Look → Look → Type 0
 AgreeOn ns texts others = (n : ℕ) → 0 < count_of n ns → texts n ≡ others n
 
 -- .. for each source of a range
-abbrev pub AgreeFor : Look → Look → Kept → Type 0
+abbrev pub AgreeFor : Look → Look → StoredSending → Type 0
 AgreeFor texts others w = AgreeOn (sources_held w.queues) texts others
 
 -- the same sources are held, each as often
-abbrev pub KeepsSources : Kept → Kept → Type 0
+abbrev pub KeepsSources : StoredSending → StoredSending → Type 0
 KeepsSources v w = (k : ℕ) → count_of k (sources_of w) ≡ count_of k (sources_of v)
 
 -- each is held fewer times than 64 bits can count
-abbrev pub HasFew : Kept → Type 0
+abbrev pub HasFew : StoredSending → Type 0
 HasFew w = (k : ℕ) → count_of k (sources_of w) < 2 ^ 64
 
 -- one more is held
-abbrev pub HoldsMore : ℕ → Kept → Kept → Type 0
+abbrev pub HoldsMore : ℕ → StoredSending → StoredSending → Type 0
 HoldsMore n v w = (k : ℕ) → count_of k (sources_of w) ≡ count_of k (n ∷ sources_of v)
 
 -- the last of these is told, if there is one
@@ -113,59 +114,81 @@ Fit texts qs = (s : ℕ) → AreFit texts (stored_on s qs)
 -- ---- what a call comes to, whatever the texts are
 
 -- what is kept stands by the one look-up for all that it stands for by the other
-abbrev pub StandsAlike : Look → Look → Kept → Type 0
-StandsAlike texts others w = (d : List Entry) (os : List Owed) → StandsFor texts w d os → StandsFor others w d os
+abbrev pub StandsAlike : Look → Look → StoredSending → Type 0
+StandsAlike texts others w =
+    (d : List Entry) (os : List OwedItem) → StandsFor texts w d os → StandsFor others w d os
 
-abbrev pub FitsAlike : Look → Look → Kept → Type 0
+abbrev pub FitsAlike : Look → Look → StoredSending → Type 0
 FitsAlike texts others w = Fit texts w.queues → Fit others w.queues
 
--- an entry was added to the diary
-abbrev pub Enters : Kept → Entry → Kept → Type 0
-Enters v e w = (texts : Look) (d : List Entry) (os : List Owed) → StandsFor texts v d os → StandsFor texts w (d ++ e ∷ []) os
+-- an entry was added to the history
+abbrev pub Enters : StoredSending → Entry → StoredSending → Type 0
+Enters v e w =
+    (texts : Look) (d : List Entry) (os : List OwedItem) → StandsFor texts v d os →
+    StandsFor texts w (d ++ e ∷ []) os
 
 -- what was dropped is owed to no live stream: stream s is closed, or the connection met an error
-abbrev pub DropsClosed : ℕ → Kept → Kept → Type 0
-DropsClosed s v w = (texts : Look) (d : List Entry) (os : List Owed) → is_live d s ≡ false → StandsFor texts v d os → StandsFor texts w d os
+abbrev pub DropsClosed : ℕ → StoredSending → StoredSending → Type 0
+DropsClosed s v w =
+    (texts : Look) (d : List Entry) (os : List OwedItem) → is_not_closed d s ≡ false →
+    StandsFor texts v d os → StandsFor texts w d os
 
-abbrev pub DropsAll : Kept → Kept → Type 0
-DropsAll v w = (texts : Look) (d : List Entry) (os : List Owed) → has_failed d ≡ true → StandsFor texts v d os → StandsFor texts w d os
+abbrev pub DropsAll : StoredSending → StoredSending → Type 0
+DropsAll v w =
+    (texts : Look) (d : List Entry) (os : List OwedItem) → has_failed d ≡ true →
+    StandsFor texts v d os → StandsFor texts w d os
 
 -- an item is owed to stream s
-abbrev pub Owes : Standing → ℕ → Item → Kept → Kept → Type 0
-Owes streams s item v w = (texts : Look) (d : List Entry) (os : List Owed) → AreStreams streams d → StandsFor texts v d os → StandsFor texts w d (owed_more d os s item)
+abbrev pub Owes : Standing → ℕ → Item → StoredSending → StoredSending → Type 0
+Owes streams s item v w =
+    (texts : Look) (d : List Entry) (os : List OwedItem) → AreStreams streams d →
+    StandsFor texts v d os → StandsFor texts w d (owed_with_item d os s item)
 
 -- the text of a source from a place until another is, by whatever digest names it
-abbrev pub OwesRange : Standing → ℕ → ℕ → ℕ → ℕ → Kept → Kept → Type 0
-OwesRange streams s source from until v w = (texts : Look) (digest : Digest) (d : List Entry) (os : List Owed) → AreStreams streams d → StandsFor texts v d os → StandsFor texts w d (owed_more d os s (Range digest (texts source) from (until - from)))
+abbrev pub OwesRange : Standing → ℕ → ℕ → ℕ → ℕ → StoredSending → StoredSending → Type 0
+OwesRange streams s source from until v w =
+    (texts : Look) (digest : Digest) (d : List Entry) (os : List OwedItem) → AreStreams streams d →
+    StandsFor texts v d os →
+    StandsFor texts w d (owed_with_item d os s (Range digest (texts source) from (until - from)))
 
 -- all was put that can be
-abbrev pub PumpsStreams : Look → Standing → Kept → Standing → Type 0
-PumpsStreams texts streams v after = (d : List Entry) (os : List Owed) → AreStreams streams d → StandsFor texts v d os → AreStreams after (pumped d os)
+abbrev pub PumpsStreams : Look → Standing → StoredSending → Standing → Type 0
+PumpsStreams texts streams v after =
+    (d : List Entry) (os : List OwedItem) → AreStreams streams d → StandsFor texts v d os →
+    AreStreams after (history_after_pump d os)
 
-abbrev pub PumpsSending : Look → Standing → Kept → Kept → Type 0
-PumpsSending texts streams v w = (d : List Entry) (os : List Owed) → AreStreams streams d → StandsFor texts v d os → StandsFor texts w (pumped d os) os
+abbrev pub PumpsSending : Look → Standing → StoredSending → StoredSending → Type 0
+PumpsSending texts streams v w =
+    (d : List Entry) (os : List OwedItem) → AreStreams streams d → StandsFor texts v d os →
+    StandsFor texts w (history_after_pump d os) os
 
 -- what one turn does
-abbrev pub PutsBy : Look → Standing → Kept → Standing → Kept → Type 0
+abbrev pub PutsBy : Look → Standing → StoredSending → Standing → StoredSending → Type 0
 PutsBy texts streams v after w = Puts streams (sending_in texts v) after (sending_in texts w)
 
-abbrev pub ResetsBy : Standing → Kept → ℕ → Standing → Kept → Type 0
-ResetsBy streams v s after w = (texts : Look) → Resets streams (sending_in texts v) s after (sending_in texts w)
+abbrev pub ResetsBy : Standing → StoredSending → ℕ → Standing → StoredSending → Type 0
+ResetsBy streams v s after w =
+    (texts : Look) → Resets streams (sending_in texts v) s after (sending_in texts w)
 
-abbrev pub FinishesBy : Standing → Kept → ℕ → Bool → Standing → Kept → Type 0
-FinishesBy streams v s ended_by_client after w = (texts : Look) → Finishes streams (sending_in texts v) s ended_by_client after (sending_in texts w)
+abbrev pub FinishesBy : Standing → StoredSending → ℕ → Bool → Standing → StoredSending → Type 0
+FinishesBy streams v s ended_by_client after w =
+    (texts : Look) → Finishes streams (sending_in texts v) s ended_by_client after
+    (sending_in texts w)
 
 -- what is kept for a live stream is what is left of all that was owed to it
-abbrev pub KeepsWhatIsLeft : Look → Kept → List Entry → List Owed → Type 0
-KeepsWhatIsLeft texts w d os = StandsFor texts w d os → has_failed d ≡ false → (s : ℕ) → is_live d s ≡ true → flat_map (shown texts) (stored_on s w.queues) ≡ left_on d os s
+abbrev pub KeepsWhatIsLeft : Look → StoredSending → List Entry → List OwedItem → Type 0
+KeepsWhatIsLeft texts w d os =
+    StandsFor texts w d os → has_failed d ≡ false → (s : ℕ) → is_not_closed d s ≡ true →
+    flat_map (pieces_in texts) (stored_on s w.queues) ≡ pieces_left_on d os s
 
 -- each range that is kept stays within the text of its source
-abbrev pub KeepsFit : Kept → Kept → Type 0
+abbrev pub KeepsFit : StoredSending → StoredSending → Type 0
 KeepsFit v w = (texts : Look) → Fit texts v.queues → Fit texts w.queues
 
 -- where the text of a source goes on until there
-abbrev pub KeepsFitWith : ℕ → ℕ → Kept → Kept → Type 0
-KeepsFitWith source until v w = (texts : Look) → until ≤ length (texts source) → Fit texts v.queues → Fit texts w.queues
+abbrev pub KeepsFitWith : ℕ → ℕ → StoredSending → StoredSending → Type 0
+KeepsFitWith source until v w =
+    (texts : Look) → until ≤ length (texts source) → Fit texts v.queues → Fit texts w.queues
 
 -- ---- changes of the queues
 
@@ -183,13 +206,15 @@ with_piece p q = record q { pieces = q.pieces ++ p ∷ [] }
 
 -- a piece was appended to those of stream s
 abbrev pub Appends : ℕ → StoredPiece → List StoredQueue → List StoredQueue → Type 0
-Appends s p qs rs = (t : ℕ) → stored_on t rs ≡ (if s == t then stored_on t qs ++ p ∷ [] else stored_on t qs)
+Appends s p qs rs =
+    (t : ℕ) → stored_on t rs ≡ (if s == t then stored_on t qs ++ p ∷ [] else stored_on t qs)
 
 -- n bytes of the first piece were put
 abbrev pub stored_front : ℕ → List StoredPiece → List StoredPiece
 stored_front n [] = []
 stored_front n (Encoded block ∷ ps) = Encoded block ∷ ps
-stored_front n (Framed bytes ∷ ps) = if nat_lt n (length bytes) then Framed (drop n bytes) ∷ ps else ps
+stored_front n (Framed bytes ∷ ps) =
+    if nat_lt n (length bytes) then Framed (drop n bytes) ∷ ps else ps
 stored_front n (Ranged s ∷ ps) = map Ranged (span_after most_read n s) ++ ps
 
 abbrev pub stored_first_at : ℕ → StoredQueue → StoredQueue
@@ -205,7 +230,8 @@ pieces_left (FrontBytes n) ps = stored_front n ps
 pieces_left AllPieces ps = []
 
 abbrev pub left_at : Removal → ℕ → StoredQueue → StoredQueue
-left_at removal s q = if q.stream == s then record q { pieces = pieces_left removal q.pieces } else q
+left_at removal s q =
+    if q.stream == s then record q { pieces = pieces_left removal q.pieces } else q
 
 -- the bytes that are left of the first message of a range
 abbrev pub front_in : Look → Span → List ℕ
@@ -234,8 +260,10 @@ count_due s n = if n == 0 then None else Some (Gives s n)
 abbrev pub due_of : ℤ → Stream → List StoredPiece → Option Due
 due_of connection_window x [] = None
 due_of connection_window x (Encoded block ∷ ps) = Some (Opens x.number block x.ended_by_client)
-due_of connection_window x (Framed bytes ∷ ps) = count_due x.number (part_size (length bytes) (left x.window) connection_window)
-due_of connection_window x (Ranged s ∷ ps) = count_due x.number (part_size (span_size most_read s) (left x.window) connection_window)
+due_of connection_window x (Framed bytes ∷ ps) =
+    count_due x.number (part_size (length bytes) (window_left x.window) connection_window)
+due_of connection_window x (Ranged s ∷ ps) =
+    count_due x.number (part_size (span_size most_read s) (window_left x.window) connection_window)
 
 abbrev pub due_on : List StoredQueue → ℤ → Stream → Option Due
 due_on qs connection_window x = due_of connection_window x (stored_on x.number qs)

@@ -1,7 +1,7 @@
 //! A message as a function of its records.
 
-ghost use Rattle.std.specs.Prelude.{◌≡◌, ◌<◌, ◌^◌, ℕ, List, [], Result, Ok, Err, Option, None, Some, map, option_map, length, ◌++◌, OnOk, OnErr};
-ghost use Rattle.protobuf_wire.specs.Writing.{records_text, message_field};
+ghost use Rattle.std.specs.Prelude.{◌≡◌, ◌<◌, ◌^◌, ℕ, List, [], Result, Ok, Err, Option, None, Some, map, option_map, length, ◌++◌, OnOk, OnErr, IfOk};
+ghost use Rattle.protobuf_wire.specs.Writing.{records_text, message_field, followed_by};
 ghost use Rattle.protobuf_wire.specs.Record.{Record};
 ghost use Rattle.protobuf_wire.specs.Shown.{record_shown};
 ghost use Rattle.message_fields.specs.declared.error.MessageError.{MessageError};
@@ -34,8 +34,28 @@ pub trait Message<'a>: Sized + Drop {
 
     /// Adds the message's records, by rising field numbers.
     fn write(&self, writer: &mut Writer) -> Result<(), AllocError>
-        ensures { OnOk result (writer.new ≡ writer.old
-            ++ records_text (records_for (shown self.now))) };
+        ensures { OnOk result (writer.new
+            ≡ followed_by writer.old (records_text (records_for (shown self.now)))) };
+
+    /// The length of the canonical text in bytes, or `Err` where that is `usize::MAX` bytes or more,
+    /// for which there is no memory.
+    final fn encoded_len(&self) -> Result<usize, AllocError>
+        ensures { IfOk result (λ n. n ≡ length (text_for records_for (shown self.now))) }
+    {
+        let mut measure = Writer::measuring();
+        self.write(&mut measure)?;
+        measure.measured()
+    }
+
+    /// The canonical text of the message, in a vector that is made with the room for it.
+    final fn encode(&self, alloc: Global) -> Result<Vec<u8>, AllocError>
+        ensures { IfOk result (λ text. text.items ≡ text_for records_for (shown self.now)) }
+    {
+        let length = self.encoded_len()?;
+        let mut writer = Writer::with_capacity(alloc, length)?;
+        self.write(&mut writer)?;
+        Ok(writer.into_vec())
+    }
 
     /// Adds the canonical text of the message. A refused vector is as before.
     final fn encode_into(&self, out: &mut Vec<u8>) -> Result<(), AllocError>
@@ -43,9 +63,8 @@ pub trait Message<'a>: Sized + Drop {
             ++ text_for records_for (shown self.now)) }
         ensures err { OnErr result (out.new.items ≡ out.old.items) }
     {
-        let mut writer = Writer::new(*out.allocator());
-        self.write(&mut writer)?;
-        out.extend_from_slice(writer.as_bytes())
+        let text = self.encode(*out.allocator())?;
+        out.extend_from_slice(&text)
     }
 
     /// The message that a text spells.
@@ -123,6 +142,7 @@ pub fn repeated<'a, M: Message<'a>>(
     Ok(messages)
 }
 
+#[tactic(auto, using(protobuf_wire::proofs::Written::payload_behind_head))]
 fn put_message<'a, M: Message<'a>>(
     writer: &mut Writer,
     field: u32,
@@ -130,12 +150,12 @@ fn put_message<'a, M: Message<'a>>(
 ) -> Result<(), AllocError>
     requires positive { 0 < field }
     requires small { field < 2 ^ 29 }
-    ensures { OnOk result (writer.new ≡ writer.old
-        ++ records_text (message_field field (text_for M.records_for (M.shown message.now)))) }
+    ensures { OnOk result (writer.new
+        ≡ followed_by writer.old (records_text (message_field field (text_for M.records_for (M.shown message.now))))) }
 {
-    let mut inner = writer.empty();
-    message.write(&mut inner)?;
-    writer.message(field, inner.as_bytes())
+    let length = message.encoded_len()?;
+    writer.payload_head(field, length)?;
+    message.write(writer)
 }
 
 /// Adds an embedded message where it is set, also one of length 0.
@@ -146,8 +166,8 @@ pub fn put_embedded<'a, M: Message<'a>>(
 ) -> Result<(), AllocError>
     requires positive { 0 < field }
     requires small { field < 2 ^ 29 }
-    ensures { OnOk result (writer.new ≡ writer.old
-        ++ records_text (embedded_field M.records_for field (option_map M.shown message.now))) }
+    ensures { OnOk result (writer.new
+        ≡ followed_by writer.old (records_text (embedded_field M.records_for field (option_map M.shown message.now)))) }
 {
     match message {
         None => Ok(()),
@@ -163,8 +183,8 @@ pub fn put_repeated<'a, M: Message<'a>>(
 ) -> Result<(), AllocError>
     requires positive { 0 < field }
     requires small { field < 2 ^ 29 }
-    ensures { OnOk result (writer.new ≡ writer.old
-        ++ records_text (repeated_field M.records_for field (map M.shown messages.now))) }
+    ensures { OnOk result (writer.new
+        ≡ followed_by writer.old (records_text (repeated_field M.records_for field (map M.shown messages.now)))) }
 {
     for message in messages {
         put_message(writer, field, message)?;

@@ -1,7 +1,7 @@
 //! A message as a function of its records.
 
 ghost use Rattle.std.specs.Prelude.{◌≡◌, ◌<◌, ◌^◌, ℕ, List, [], Result, Ok, Err, Option, None, Some, map, option_map, length, ◌++◌, OnOk, OnErr, IfOk};
-ghost use Rattle.protobuf_wire.specs.Writing.{records_text, message_field, followed_by};
+ghost use Rattle.protobuf_wire.specs.Writing.{records_text, message_field, followed_by, followed_by_records};
 ghost use Rattle.protobuf_wire.specs.Record.{Record};
 ghost use Rattle.protobuf_wire.specs.Shown.{record_shown};
 ghost use Rattle.message_fields.specs.declared.error.MessageError.{MessageError};
@@ -35,7 +35,7 @@ pub trait Message<'a>: Sized + Drop {
     /// Adds the message's records, by rising field numbers.
     fn write(&self, writer: &mut Writer) -> Result<(), AllocError>
         ensures { OnOk result (writer.new
-            ≡ followed_by writer.old (records_text (records_for (shown self.now)))) };
+            ≡ followed_by_records writer.old (records_for (shown self.now))) };
 
     /// The length of the canonical text in bytes, or `Err` where that is `usize::MAX` bytes or more,
     /// for which there is no memory.
@@ -151,7 +151,7 @@ fn put_message<'a, M: Message<'a>>(
     requires positive { 0 < field }
     requires small { field < 2 ^ 29 }
     ensures { OnOk result (writer.new
-        ≡ followed_by writer.old (records_text (message_field field (text_for M.records_for (M.shown message.now))))) }
+        ≡ followed_by_records writer.old (message_field field (text_for M.records_for (M.shown message.now)))) }
 {
     let length = message.encoded_len()?;
     writer.payload_head(field, length)?;
@@ -159,6 +159,7 @@ fn put_message<'a, M: Message<'a>>(
 }
 
 /// Adds an embedded message where it is set, also one of length 0.
+#[tactic(auto, using(protobuf_wire::proofs::Written::followed_by_none))]
 pub fn put_embedded<'a, M: Message<'a>>(
     writer: &mut Writer,
     field: u32,
@@ -167,7 +168,7 @@ pub fn put_embedded<'a, M: Message<'a>>(
     requires positive { 0 < field }
     requires small { field < 2 ^ 29 }
     ensures { OnOk result (writer.new
-        ≡ followed_by writer.old (records_text (embedded_field M.records_for field (option_map M.shown message.now)))) }
+        ≡ followed_by_records writer.old (embedded_field M.records_for field (option_map M.shown message.now))) }
 {
     match message {
         None => Ok(()),
@@ -176,6 +177,7 @@ pub fn put_embedded<'a, M: Message<'a>>(
 }
 
 /// Adds repeated messages, in order, also those of length 0.
+#[tactic(auto, using(crate::proofs::Texts::written_more, protobuf_wire::proofs::Written::followed_by_none))]
 pub fn put_repeated<'a, M: Message<'a>>(
     writer: &mut Writer,
     field: u32,
@@ -184,7 +186,7 @@ pub fn put_repeated<'a, M: Message<'a>>(
     requires positive { 0 < field }
     requires small { field < 2 ^ 29 }
     ensures { OnOk result (writer.new
-        ≡ followed_by writer.old (records_text (repeated_field M.records_for field (map M.shown messages.now)))) }
+        ≡ followed_by_records writer.old (repeated_field M.records_for field (map M.shown messages.now))) }
 {
     for message in messages {
         put_message(writer, field, message)?;

@@ -2,7 +2,7 @@
 
 ghost use Rattle.std.specs.Prelude.{◌≡◌, ◌<◌, ◌^◌, ℕ, List, map, option_map, OnOk};
 ghost use Rattle.std.specs.Int.{w64, cast_unsigned};
-ghost use Rattle.protobuf_wire.specs.Writing.{records_text, bytes_field, packed_text, followed_by};
+ghost use Rattle.protobuf_wire.specs.Writing.{records_text, bytes_field, packed_text, followed_by, followed_by_records};
 ghost use Rattle.message_fields.specs.Parts.{int64_field, int32_field, flag_field, string_field, repeated_enum_field, repeated_octets_field, repeated_string_field, sent_field};
 
 use protobuf_wire::Writer;
@@ -12,7 +12,7 @@ use std::alloc::AllocError;
 pub fn put_int64(writer: &mut Writer, field: u32, value: i64) -> Result<(), AllocError>
     requires positive { 0 < field }
     requires small { field < 2 ^ 29 }
-    ensures { OnOk result (writer.new ≡ followed_by writer.old (records_text (int64_field field value))) }
+    ensures { OnOk result (writer.new ≡ followed_by_records writer.old (int64_field field value)) }
 {
     writer.varint(field, value.cast_unsigned())
 }
@@ -21,7 +21,7 @@ pub fn put_int64(writer: &mut Writer, field: u32, value: i64) -> Result<(), Allo
 pub fn put_int32(writer: &mut Writer, field: u32, value: i32) -> Result<(), AllocError>
     requires positive { 0 < field }
     requires small { field < 2 ^ 29 }
-    ensures { OnOk result (writer.new ≡ followed_by writer.old (records_text (int32_field field value))) }
+    ensures { OnOk result (writer.new ≡ followed_by_records writer.old (int32_field field value)) }
 {
     writer.varint(field, i64::from(value).cast_unsigned())
 }
@@ -30,7 +30,7 @@ pub fn put_int32(writer: &mut Writer, field: u32, value: i32) -> Result<(), Allo
 pub fn put_flag(writer: &mut Writer, field: u32, value: bool) -> Result<(), AllocError>
     requires positive { 0 < field }
     requires small { field < 2 ^ 29 }
-    ensures { OnOk result (writer.new ≡ followed_by writer.old (records_text (flag_field field value))) }
+    ensures { OnOk result (writer.new ≡ followed_by_records writer.old (flag_field field value)) }
 {
     writer.varint(field, u64::from(value))
 }
@@ -39,7 +39,7 @@ pub fn put_flag(writer: &mut Writer, field: u32, value: bool) -> Result<(), Allo
 pub fn put_octets(writer: &mut Writer, field: u32, value: &[u8]) -> Result<(), AllocError>
     requires positive { 0 < field }
     requires small { field < 2 ^ 29 }
-    ensures { OnOk result (writer.new ≡ followed_by writer.old (records_text (bytes_field field value.now))) }
+    ensures { OnOk result (writer.new ≡ followed_by_records writer.old (bytes_field field value.now)) }
 {
     writer.bytes(field, value)
 }
@@ -48,12 +48,13 @@ pub fn put_octets(writer: &mut Writer, field: u32, value: &[u8]) -> Result<(), A
 pub fn put_string(writer: &mut Writer, field: u32, value: &str) -> Result<(), AllocError>
     requires positive { 0 < field }
     requires small { field < 2 ^ 29 }
-    ensures { OnOk result (writer.new ≡ followed_by writer.old (records_text (string_field field value.now))) }
+    ensures { OnOk result (writer.new ≡ followed_by_records writer.old (string_field field value.now)) }
 {
     writer.bytes(field, value.as_bytes())
 }
 
 /// Adds a `repeated string`, empty strings too.
+#[tactic(auto, using(crate::proofs::Texts::written_more, protobuf_wire::proofs::Written::followed_by_none))]
 pub fn put_repeated_string(
     writer: &mut Writer,
     field: u32,
@@ -62,7 +63,7 @@ pub fn put_repeated_string(
     requires positive { 0 < field }
     requires small { field < 2 ^ 29 }
     ensures { OnOk result (writer.new
-        ≡ followed_by writer.old (records_text (repeated_string_field field (map (λ s. s.now) values.now)))) }
+        ≡ followed_by_records writer.old (repeated_string_field field (map (λ s. s.now) values.now))) }
 {
     for value in values {
         writer.message(field, value.as_bytes())?;
@@ -71,6 +72,7 @@ pub fn put_repeated_string(
 }
 
 /// Adds a `repeated bytes`, empty ones too.
+#[tactic(auto, using(crate::proofs::Texts::written_more, protobuf_wire::proofs::Written::followed_by_none))]
 pub fn put_repeated_octets(
     writer: &mut Writer,
     field: u32,
@@ -79,7 +81,7 @@ pub fn put_repeated_octets(
     requires positive { 0 < field }
     requires small { field < 2 ^ 29 }
     ensures { OnOk result (writer.new
-        ≡ followed_by writer.old (records_text (repeated_octets_field field (map (λ b. b.now) values.now)))) }
+        ≡ followed_by_records writer.old (repeated_octets_field field (map (λ b. b.now) values.now))) }
 {
     for value in values {
         writer.message(field, value)?;
@@ -88,6 +90,7 @@ pub fn put_repeated_octets(
 }
 
 /// Adds an embedded message by the bytes that were sent, where it is set.
+#[tactic(auto, using(protobuf_wire::proofs::Written::followed_by_none))]
 pub fn put_sent(
     writer: &mut Writer,
     field: u32,
@@ -96,7 +99,7 @@ pub fn put_sent(
     requires positive { 0 < field }
     requires small { field < 2 ^ 29 }
     ensures { OnOk result (writer.new
-        ≡ followed_by writer.old (records_text (sent_field field (option_map (λ v. v.items) message.now)))) }
+        ≡ followed_by_records writer.old (sent_field field (option_map (λ v. v.items) message.now))) }
 {
     match message {
         None => Ok(()),
@@ -104,6 +107,7 @@ pub fn put_sent(
     }
 }
 
+#[tactic(auto, using(protobuf_wire::proofs::Written::followed_by_both, protobuf_wire::proofs::Written::followed_by_none))]
 fn put_packed(writer: &mut Writer, values: &[i32]) -> Result<(), AllocError>
     ensures { OnOk result (writer.new
         ≡ followed_by writer.old (packed_text (map (cast_unsigned w64) values.now))) }
@@ -115,11 +119,12 @@ fn put_packed(writer: &mut Writer, values: &[i32]) -> Result<(), AllocError>
 }
 
 /// Adds a repeated enum, packed in one record.
+#[tactic(auto, using(protobuf_wire::proofs::Written::payload_behind_head, protobuf_wire::proofs::Written::followed_by_none))]
 pub fn put_repeated_enum(writer: &mut Writer, field: u32, values: &[i32]) -> Result<(), AllocError>
     requires positive { 0 < field }
     requires small { field < 2 ^ 29 }
     ensures { OnOk result (writer.new
-        ≡ followed_by writer.old (records_text (repeated_enum_field field values.now))) }
+        ≡ followed_by_records writer.old (repeated_enum_field field values.now)) }
 {
     let mut measure = Writer::measuring();
     put_packed(&mut measure, values)?;

@@ -62,6 +62,9 @@ unfoldable pub followed_by : Written → List ℕ → Written
 followed_by (Text before) more = Text (before ++ more)
 followed_by (Room left) more = Room (left - length more)
 
+abbrev pub followed_by_records : Written → List Record → Written
+followed_by_records before rs = followed_by before (records_text rs)
+
 -- the room of a writer that measures
 abbrev pub whole_room : ℕ
 whole_room = 2 ^ 64 - 1

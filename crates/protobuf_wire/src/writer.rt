@@ -4,7 +4,7 @@
 //! the text is written.
 
 ghost use Rattle.std.specs.Prelude.{◌≡◌, ◌+◌, ◌-◌, ◌*◌, ◌^◌, ◌<◌, ◌++◌, ℕ, List, [], take, length, OnOk, OnErr, IfOk};
-ghost use Rattle.protobuf_wire.specs.Writing.{varint, records_text, number_field, bytes_field, message_field, payload_head, BeginsWith, Written, Text, Room, followed_by, whole_room, written_text, IsText};
+ghost use Rattle.protobuf_wire.specs.Writing.{varint, records_text, number_field, bytes_field, message_field, payload_head, BeginsWith, Written, Text, Room, followed_by, followed_by_records, whole_room, written_text, IsText};
 ghost use Rattle.protobuf_wire.specs.Shown.{output_shown};
 
 use std::alloc::{AllocError, Global};
@@ -223,7 +223,7 @@ fn put_bytes(out: &mut Output, bytes: &[u8]) -> Result<(), AllocError>
 fn put_payload(out: &mut Output, number: u32, payload: &[u8]) -> Result<(), AllocError>
     requires { number < 2 ^ 29 }
     ensures ok { OnOk result (output_shown out.new
-        ≡ followed_by (output_shown out.old) (records_text (message_field number payload.now))) }
+        ≡ followed_by_records (output_shown out.old) (message_field number payload.now)) }
     ensures err { OnErr result (output_shown out.new ≡ output_shown out.old) }
 {
     match out {
@@ -239,7 +239,7 @@ fn put_payload(out: &mut Output, number: u32, payload: &[u8]) -> Result<(), Allo
 fn put_number(out: &mut Output, number: u32, value: u64) -> Result<(), AllocError>
     requires { number < 2 ^ 29 }
     ensures ok { OnOk result (output_shown out.new
-        ≡ followed_by (output_shown out.old) (records_text (number_field number value))) }
+        ≡ followed_by_records (output_shown out.old) (number_field number value)) }
     ensures err { OnErr result (output_shown out.new ≡ output_shown out.old) }
 {
     match out {
@@ -333,7 +333,7 @@ impl Writer {
         requires positive { 0 < field }
         requires small { field < 2 ^ 29 }
         ensures ok { OnOk result (self.new
-            ≡ followed_by self.old (records_text (number_field field value))) }
+            ≡ followed_by_records self.old (number_field field value)) }
         ensures err { OnErr result (self.new ≡ self.old) }
     {
         put_number(&mut self.out, field, value)
@@ -345,7 +345,7 @@ impl Writer {
         requires positive { 0 < field }
         requires small { field < 2 ^ 29 }
         ensures ok { OnOk result (self.new
-            ≡ followed_by self.old (records_text (bytes_field field payload.now))) }
+            ≡ followed_by_records self.old (bytes_field field payload.now)) }
         ensures err { OnErr result (self.new ≡ self.old) }
     {
         if !payload.is_empty() {
@@ -359,7 +359,7 @@ impl Writer {
         requires positive { 0 < field }
         requires small { field < 2 ^ 29 }
         ensures ok { OnOk result (self.new
-            ≡ followed_by self.old (records_text (message_field field payload.now))) }
+            ≡ followed_by_records self.old (message_field field payload.now)) }
         ensures err { OnErr result (self.new ≡ self.old) }
     {
         put_payload(&mut self.out, field, payload)

@@ -1,7 +1,7 @@
-use Rattle.std.proofs.Common.{◌≡◌, ◌++◌, map, drop}
-use Rattle.protobuf_wire.specs.Writing.{records_text}
+use Rattle.std.proofs.Common.{◌≡◌, map, drop}
+use Rattle.protobuf_wire.specs.Writing.{followed_by_records}
 use Rattle.message_fields.specs.Parts.{repeated_field}
 use Rattle.message_fields.proofs.message.put_repeated.Given as goal
 
 abbrev pub invariant-loop-message : goal.invariant-loop-message
-invariant-loop-message g l = l.writer ++ records_text (repeated_field g.M.Message.records_for l.field (map g.M.Message.shown (drop l.message-index l.messages))) ≡ l.fn.writer ++ records_text (repeated_field g.M.Message.records_for l.field (map g.M.Message.shown l.messages))
+invariant-loop-message g l = followed_by_records l.writer (repeated_field g.M.Message.records_for l.field (map g.M.Message.shown (drop l.message-index l.messages))) ≡ followed_by_records l.fn.writer (repeated_field g.M.Message.records_for l.field (map g.M.Message.shown l.messages))

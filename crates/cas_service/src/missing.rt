@@ -76,9 +76,7 @@ fn reply_to(alloc: Global, view: &View, asked: &[Asked<'_>]) -> Result<Vec<u8>, 
     let response = FindMissingBlobsResponse {
         missing_blob_digests,
     };
-    let mut reply = Vec::new(alloc);
-    response.encode_into(&mut reply)?;
-    Ok(reply)
+    response.encode(alloc)
 }
 
 /// Answers `FindMissingBlobs`: the digests of the request that the instance `own` has not, in order

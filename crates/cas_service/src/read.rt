@@ -161,9 +161,7 @@ fn reply_to(
     let found = find_all(alloc, view, pool, asked)?;
     let responses = responses_to(alloc, &found)?;
     let response = BatchReadBlobsResponse { responses };
-    let mut reply = Vec::new(alloc);
-    response.encode_into(&mut reply)?;
-    Ok(reply)
+    response.encode(alloc)
 }
 
 /// Answers `BatchReadBlobs`: the text of each digest of the request, or `NOT_FOUND` for one that

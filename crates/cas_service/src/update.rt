@@ -194,9 +194,7 @@ fn reply_to(alloc: Global, quota: u64, judged: &[Judged<'_>]) -> Result<Vec<u8>,
 {
     let responses = responses_to(alloc, quota, judged)?;
     let response = BatchUpdateBlobsResponse { responses };
-    let mut reply = Vec::new(alloc);
-    response.encode_into(&mut reply)?;
-    Ok(reply)
+    response.encode(alloc)
 }
 
 /// Stores bytes that the quota allows.

@@ -54,7 +54,7 @@ fn missing<'a>(
     ensures { IfOk result (λ missing. map digest_shown missing.items
         ≡ map digest_as_sent (filter (is_unseen (visible_in [] view.now)) asked.now)) }
 {
-    let mut missing = Vec::new(alloc);
+    let mut missing = Vec::with_capacity(alloc, asked.len())?;
     let mut left = asked;
     'digests: while let [first, rest @ ..] = left {
         if !is_there(view, &first.digest) {

@@ -96,7 +96,7 @@ fn find_all<'a>(
     requires { (k : ℕ) → holders view.now k ≤ count_at pool.now k }
     ensures { IfOk result (λ found. AreFound (visible_in pool.now view.now) asked.now found.items) }
 {
-    let mut found = Vec::new(alloc);
+    let mut found = Vec::with_capacity(alloc, asked.len())?;
     let mut left = asked;
     'digests: while let [first, rest @ ..] = left {
         let one = find(alloc, view, pool, first)?;
@@ -136,7 +136,7 @@ fn responses_to<'a>(
     ensures { IfOk result (λ responses. map read_blob_response_shown responses.items
         ≡ map response_of found.now) }
 {
-    let mut responses = Vec::new(alloc);
+    let mut responses = Vec::with_capacity(alloc, found.len())?;
     let mut left = found;
     'digests: while let [first, rest @ ..] = left {
         responses.push(response_to(alloc, first))?;

@@ -2,7 +2,7 @@
 
 ghost use Rattle.std.specs.Prelude.{◌≡◌, ◌<◌, ◌^◌, ℕ, List, map, option_map, OnOk};
 ghost use Rattle.std.specs.Int.{w64, cast_unsigned};
-ghost use Rattle.protobuf_wire.specs.Writing.{records_text, bytes_field, packed_text, followed_by, followed_by_records};
+ghost use Rattle.protobuf_wire.specs.Writing.{records_text, bytes_field, varint, packed_text, followed_by, followed_by_records};
 ghost use Rattle.message_fields.specs.Parts.{int64_field, int32_field, flag_field, string_field, repeated_enum_field, repeated_octets_field, repeated_string_field, sent_field};
 
 use protobuf_wire::Writer;
@@ -54,7 +54,6 @@ pub fn put_string(writer: &mut Writer, field: u32, value: &str) -> Result<(), Al
 }
 
 /// Adds a `repeated string`, empty strings too.
-#[tactic(auto, using(crate::proofs::Texts::written_more, protobuf_wire::proofs::Written::followed_by_none))]
 pub fn put_repeated_string(
     writer: &mut Writer,
     field: u32,
@@ -65,14 +64,15 @@ pub fn put_repeated_string(
     ensures { OnOk result (writer.new
         ≡ followed_by_records writer.old (repeated_string_field field (map (λ s. s.now) values.now))) }
 {
-    for value in values {
-        writer.message(field, value.as_bytes())?;
+    let mut left = values;
+    'values: while let [first, rest @ ..] = left {
+        writer.message(field, first.as_bytes())?;
+        left = rest;
     }
     Ok(())
 }
 
 /// Adds a `repeated bytes`, empty ones too.
-#[tactic(auto, using(crate::proofs::Texts::written_more, protobuf_wire::proofs::Written::followed_by_none))]
 pub fn put_repeated_octets(
     writer: &mut Writer,
     field: u32,
@@ -83,8 +83,10 @@ pub fn put_repeated_octets(
     ensures { OnOk result (writer.new
         ≡ followed_by_records writer.old (repeated_octets_field field (map (λ b. b.now) values.now))) }
 {
-    for value in values {
-        writer.message(field, value)?;
+    let mut left = values;
+    'values: while let [first, rest @ ..] = left {
+        writer.message(field, first)?;
+        left = rest;
     }
     Ok(())
 }
@@ -107,13 +109,20 @@ pub fn put_sent(
     }
 }
 
-#[tactic(auto, using(protobuf_wire::proofs::Written::followed_by_both, protobuf_wire::proofs::Written::followed_by_none))]
+fn put_packed_enum(writer: &mut Writer, value: i32) -> Result<(), AllocError>
+    ensures { OnOk result (writer.new ≡ followed_by writer.old (varint (cast_unsigned w64 value))) }
+{
+    writer.packed_number(i64::from(value).cast_unsigned())
+}
+
 fn put_packed(writer: &mut Writer, values: &[i32]) -> Result<(), AllocError>
     ensures { OnOk result (writer.new
         ≡ followed_by writer.old (packed_text (map (cast_unsigned w64) values.now))) }
 {
-    for value in values {
-        writer.packed_number(i64::from(*value).cast_unsigned())?;
+    let mut left = values;
+    'values: while let [first, rest @ ..] = left {
+        put_packed_enum(writer, *first)?;
+        left = rest;
     }
     Ok(())
 }

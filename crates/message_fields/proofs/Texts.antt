@@ -2,7 +2,7 @@
 use Rattle.std.proofs.Common.{◌≡◌, List, ◌++◌, ap, ◌∙◌}
 use Rattle.std.proofs.lemmas.List.Concat.{flat_map-append}
 use Rattle.protobuf_wire.specs.Record.{Record}
-use Rattle.protobuf_wire.specs.Writing.{record_text, records_text, Written, followed_by, followed_by_records}
+use Rattle.protobuf_wire.specs.Writing.{record_text, records_text, Written, followed_by}
 use Rattle.protobuf_wire.proofs.Written.{followed_by_both}
 
 pub text_append : (a b : List Record) → records_text (a ++ b) ≡ records_text a ++ records_text b

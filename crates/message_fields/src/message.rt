@@ -39,8 +39,8 @@ pub trait Message<'a>: Sized + Drop {
         ensures { OnOk result (writer.new
             ≡ followed_by_records writer.old (records_for (shown self.now))) };
 
-    /// The length of the canonical text in bytes, or `Err` where that is `usize::MAX` bytes or more,
-    /// for which there is no memory.
+    /// The length of the canonical text in bytes, or `Err` where that is `usize::MAX` or more, for
+    /// which there is no memory.
     final fn encoded_len(&self) -> Result<usize, AllocError>
         ensures { IfOk result (λ n. n ≡ length (text_for records_for (shown self.now))) }
     {
@@ -162,8 +162,8 @@ fn put_message<'a, M: Message<'a>>(
 ) -> Result<(), AllocError>
     requires positive { 0 < field }
     requires small { field < 2 ^ 29 }
-    ensures { OnOk result (writer.new
-        ≡ followed_by_records writer.old (message_field field (text_for M.records_for (M.shown message.now)))) }
+    ensures { OnOk result (writer.new ≡ followed_by_records writer.old
+        (message_field field (text_for M.records_for (M.shown message.now)))) }
 {
     let length = message.encoded_len()?;
     writer.payload_head(field, length)?;
@@ -179,8 +179,8 @@ pub fn put_embedded<'a, M: Message<'a>>(
 ) -> Result<(), AllocError>
     requires positive { 0 < field }
     requires small { field < 2 ^ 29 }
-    ensures { OnOk result (writer.new
-        ≡ followed_by_records writer.old (embedded_field M.records_for field (option_map M.shown message.now))) }
+    ensures { OnOk result (writer.new ≡ followed_by_records writer.old
+        (embedded_field M.records_for field (option_map M.shown message.now))) }
 {
     match message {
         None => Ok(()),
@@ -196,8 +196,8 @@ pub fn put_repeated<'a, M: Message<'a>>(
 ) -> Result<(), AllocError>
     requires positive { 0 < field }
     requires small { field < 2 ^ 29 }
-    ensures { OnOk result (writer.new
-        ≡ followed_by_records writer.old (repeated_field M.records_for field (map M.shown messages.now))) }
+    ensures { OnOk result (writer.new ≡ followed_by_records writer.old
+        (repeated_field M.records_for field (map M.shown messages.now))) }
 {
     let mut left = messages;
     'messages: while let [first, rest @ ..] = left {

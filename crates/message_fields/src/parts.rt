@@ -39,7 +39,8 @@ pub fn put_flag(writer: &mut Writer, field: u32, value: bool) -> Result<(), Allo
 pub fn put_octets(writer: &mut Writer, field: u32, value: &[u8]) -> Result<(), AllocError>
     requires positive { 0 < field }
     requires small { field < 2 ^ 29 }
-    ensures { OnOk result (writer.new ≡ followed_by_records writer.old (bytes_field field value.now)) }
+    ensures { OnOk result (writer.new ≡ followed_by_records writer.old
+        (bytes_field field value.now)) }
 {
     writer.bytes(field, value)
 }
@@ -48,7 +49,8 @@ pub fn put_octets(writer: &mut Writer, field: u32, value: &[u8]) -> Result<(), A
 pub fn put_string(writer: &mut Writer, field: u32, value: &str) -> Result<(), AllocError>
     requires positive { 0 < field }
     requires small { field < 2 ^ 29 }
-    ensures { OnOk result (writer.new ≡ followed_by_records writer.old (string_field field value.now)) }
+    ensures { OnOk result (writer.new ≡ followed_by_records writer.old
+        (string_field field value.now)) }
 {
     writer.bytes(field, value.as_bytes())
 }
@@ -61,8 +63,8 @@ pub fn put_repeated_string(
 ) -> Result<(), AllocError>
     requires positive { 0 < field }
     requires small { field < 2 ^ 29 }
-    ensures { OnOk result (writer.new
-        ≡ followed_by_records writer.old (repeated_string_field field (map (λ s. s.now) values.now))) }
+    ensures { OnOk result (writer.new ≡ followed_by_records writer.old
+        (repeated_string_field field (map (λ s. s.now) values.now))) }
 {
     let mut left = values;
     'values: while let [first, rest @ ..] = left {
@@ -80,8 +82,8 @@ pub fn put_repeated_octets(
 ) -> Result<(), AllocError>
     requires positive { 0 < field }
     requires small { field < 2 ^ 29 }
-    ensures { OnOk result (writer.new
-        ≡ followed_by_records writer.old (repeated_octets_field field (map (λ b. b.now) values.now))) }
+    ensures { OnOk result (writer.new ≡ followed_by_records writer.old
+        (repeated_octets_field field (map (λ b. b.now) values.now))) }
 {
     let mut left = values;
     'values: while let [first, rest @ ..] = left {
@@ -100,8 +102,8 @@ pub fn put_sent(
 ) -> Result<(), AllocError>
     requires positive { 0 < field }
     requires small { field < 2 ^ 29 }
-    ensures { OnOk result (writer.new
-        ≡ followed_by_records writer.old (sent_field field (option_map (λ v. v.items) message.now))) }
+    ensures { OnOk result (writer.new ≡ followed_by_records writer.old
+        (sent_field field (option_map (λ v. v.items) message.now))) }
 {
     match message {
         None => Ok(()),
@@ -132,8 +134,8 @@ fn put_packed(writer: &mut Writer, values: &[i32]) -> Result<(), AllocError>
 pub fn put_repeated_enum(writer: &mut Writer, field: u32, values: &[i32]) -> Result<(), AllocError>
     requires positive { 0 < field }
     requires small { field < 2 ^ 29 }
-    ensures { OnOk result (writer.new
-        ≡ followed_by_records writer.old (repeated_enum_field field values.now)) }
+    ensures { OnOk result (writer.new ≡ followed_by_records writer.old
+        (repeated_enum_field field values.now)) }
 {
     let mut measure = Writer::measuring();
     put_packed(&mut measure, values)?;

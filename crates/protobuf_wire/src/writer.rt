@@ -124,7 +124,7 @@ fn add_number(out: &mut Vec<u8>, number: u32, value: u64) -> Result<(), AllocErr
 }
 
 /// What a varint leaves of a room.
-fn less_varint(room: usize, value: u64) -> usize
+fn room_after_varint(room: usize, value: u64) -> usize
     ensures { result ≡ room - length (varint value) }
 {
     let mut room = room;
@@ -137,32 +137,32 @@ fn less_varint(room: usize, value: u64) -> usize
 }
 
 /// What the bytes before a payload leave of a room.
-fn less_head(room: usize, number: u32, count: usize) -> usize
+fn room_after_head(room: usize, number: u32, count: usize) -> usize
     requires { number < 2 ^ 29 }
     ensures { result ≡ room - length (payload_head number count) }
 {
-    let room = less_varint(room, u64::from(number) * 8 + 2);
-    less_varint(room, count as u64)
+    let room = room_after_varint(room, u64::from(number) * 8 + 2);
+    room_after_varint(room, count as u64)
 }
 
 /// What a record of wire type 2 leaves of a room.
-fn less_payload(room: usize, number: u32, payload: &[u8]) -> usize
+fn room_after_payload(room: usize, number: u32, payload: &[u8]) -> usize
     requires { number < 2 ^ 29 }
     ensures { result ≡ room - length (records_text (message_field number payload.now)) }
 {
-    less_head(room, number, payload.len()).saturating_sub(payload.len())
+    room_after_head(room, number, payload.len()).saturating_sub(payload.len())
 }
 
 /// What a record of wire type 0 leaves of a room, or all of it for 0.
-fn less_number(room: usize, number: u32, value: u64) -> usize
+fn room_after_number(room: usize, number: u32, value: u64) -> usize
     requires { number < 2 ^ 29 }
     ensures { result ≡ room - length (records_text (number_field number value)) }
 {
     if value == 0 {
         return room;
     }
-    let room = less_varint(room, u64::from(number) * 8);
-    less_varint(room, value)
+    let room = room_after_varint(room, u64::from(number) * 8);
+    room_after_varint(room, value)
 }
 
 /// Where records go.
@@ -182,7 +182,7 @@ fn put_varint(out: &mut Output, value: u64) -> Result<(), AllocError>
     match out {
         Output::Text(text) => add_varint(text, value),
         Output::Room(room) => {
-            *room = less_varint(*room, value);
+            *room = room_after_varint(*room, value);
             Ok(())
         }
     }
@@ -198,7 +198,7 @@ fn put_head(out: &mut Output, number: u32, count: usize) -> Result<(), AllocErro
     match out {
         Output::Text(text) => add_head(text, number, count),
         Output::Room(room) => {
-            *room = less_head(*room, number, count);
+            *room = room_after_head(*room, number, count);
             Ok(())
         }
     }
@@ -229,7 +229,7 @@ fn put_payload(out: &mut Output, number: u32, payload: &[u8]) -> Result<(), Allo
     match out {
         Output::Text(text) => add_payload(text, number, payload),
         Output::Room(room) => {
-            *room = less_payload(*room, number, payload);
+            *room = room_after_payload(*room, number, payload);
             Ok(())
         }
     }
@@ -245,7 +245,7 @@ fn put_number(out: &mut Output, number: u32, value: u64) -> Result<(), AllocErro
     match out {
         Output::Text(text) => add_number(text, number, value),
         Output::Room(room) => {
-            *room = less_number(*room, number, value);
+            *room = room_after_number(*room, number, value);
             Ok(())
         }
     }
@@ -365,8 +365,8 @@ impl Writer {
         put_payload(&mut self.out, field, payload)
     }
 
-    /// Adds the tag and the length of a record of wire type 2. Its payload of `count` bytes is to be
-    /// added next.
+    /// Adds the tag and the length of a record of wire type 2. Its payload of `count` bytes is to
+    /// be added next.
     pub fn payload_head(&mut self, field: u32, count: usize) -> Result<(), AllocError>
         requires positive { 0 < field }
         requires small { field < 2 ^ 29 }

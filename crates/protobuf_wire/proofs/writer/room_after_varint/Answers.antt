@@ -1,6 +1,6 @@
 use Rattle.std.proofs.Common.{ℕ, length, ap, arith}
 use Rattle.protobuf_wire.proofs.Writings.{varint_small, varint_large}
-use Rattle.protobuf_wire.proofs.writer.less_varint.Goals as goal
+use Rattle.protobuf_wire.proofs.writer.room_after_varint.Goals as goal
 
 pub loop-left-preserved : goal.loop-left-preserved
 loop-left-preserved c =

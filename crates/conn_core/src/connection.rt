@@ -48,10 +48,13 @@ pub struct Connection {
     due: VecDeque<CallEvent>,
     /// An error of the connection was met.
     ended: bool,
+    /// Nothing changed since the pump found nothing more to put.
+    at_rest: bool,
 }
 
 impl Model for Connection {
-    ghost use Rattle.std.specs.Prelude.{◌≡◌, ◌≤◌, false, length};
+    ghost use Rattle.std.specs.Prelude.{◌≡◌, ◌≤◌, true, false, length};
+    ghost use Rattle.grpc_sending.specs.StoredSending.{IsAtRest};
     ghost use Rattle.conn_core.specs.StandsFor.{Present};
 
     ghost Value = { Present };
@@ -59,7 +62,8 @@ impl Model for Connection {
     ghost view = { λ c. record { reader = c.reader; streams = c.streams; sending = c.sender; calls = c.calls.items; due = c.due.items; ended = c.ended } };
 
     // There is always room for GOAWAY.
-    ghost invariant = { λ c. c.ended ≡ false → length c.sender.pending ≤ 131055 };
+    ghost invariant = { λ c. (c.ended ≡ false → length c.sender.pending ≤ 131055)
+        × (c.at_rest ≡ true → IsAtRest c.streams c.sender) };
 }
 
 impl Connection {
@@ -81,6 +85,7 @@ impl Connection {
             calls: Vec::new(alloc),
             due: VecDeque::new(alloc),
             ended: false,
+            at_rest: false,
         })
     }
 
@@ -144,18 +149,20 @@ impl Connection {
         ensures rest { self.new ≡ record self.old { sending = self.new.sending } }
         ensures err { OnErr result (self.new ≡ self.old) }
     {
+        self.at_rest = false;
         self.sender.owe_block(&self.streams, stream, block)
     }
 
     /// Owes a message to the stream, where it is live. An error changes nothing.
-    pub fn owe_message(&mut self, stream: u32, message: &[u8]) -> Result<(), AllocError>
-        requires { length message.now < 2 ^ 32 }
-        ensures stands { OnOk result (Owes stream (Message message.now) self.old self.new) }
+    pub fn owe_message(&mut self, stream: u32, message: Vec<u8>) -> Result<(), AllocError>
+        requires { length message.items < 2 ^ 32 }
+        ensures stands { OnOk result (Owes stream (Message message.items) self.old self.new) }
         ensures fit { KeepsFit self.old.sending self.new.sending }
         ensures sources { KeepsSources self.old.sending self.new.sending }
         ensures rest { self.new ≡ record self.old { sending = self.new.sending } }
         ensures err { OnErr result (self.new ≡ self.old) }
     {
+        self.at_rest = false;
         self.sender.owe_message(&self.streams, stream, message)
     }
 
@@ -177,6 +184,7 @@ impl Connection {
         ensures rest { self.new ≡ record self.old { sending = self.new.sending } }
         ensures err { OnErr result (self.new ≡ self.old) }
     {
+        self.at_rest = false;
         self.sender
             .owe_range(&self.streams, stream, source, from, until)
     }
@@ -190,6 +198,7 @@ impl Connection {
         ensures spent { self.new.sending.spent ≡ self.old.sending.spent }
         ensures rest { self.new ≡ record self.old { sending = self.new.sending } }
     {
+        self.at_rest = false;
         self.sender.took(count);
     }
 
@@ -202,7 +211,11 @@ impl Connection {
         ensures rest { self.new ≡ record self.old
             { streams = self.new.streams; sending = self.new.sending } }
     {
+        if self.at_rest {
+            return;
+        }
         self.sender.pump(&mut self.streams, parts);
+        self.at_rest = true;
     }
 
     /// Tells a source whose range is over: it was wholly put, or its stream ended before that. Each
@@ -224,6 +237,7 @@ impl Connection {
         ensures sources { KeepsSources self.old.sending self.new.sending }
         ensures rest { self.new ≡ record self.old { sending = self.new.sending } }
     {
+        self.at_rest = false;
         self.sender.forget_all();
     }
 
@@ -282,6 +296,7 @@ impl Connection {
         ensures fit { KeepsFit self.old.sending self.new.sending }
         ensures sources { KeepsSources self.old.sending self.new.sending }
     {
+        self.at_rest = false;
         match self.streams.on_frame(frame) {
             Ok(answer) => self.take_answer(answer),
             Err(H2Fault::Connection(code)) => self.fail(code, None),
@@ -373,6 +388,7 @@ impl Connection {
         if !self.sender.has_room(frame) {
             return false;
         }
+        self.at_rest = false;
         self.sender.put_control(frame);
         true
     }
@@ -394,9 +410,11 @@ impl Connection {
                 end_stream,
                 &mut self.due,
             ),
-            Err(fault) => self
-                .sender
-                .owe_block(&self.streams, stream, fault.response()),
+            Err(fault) => {
+                self.at_rest = false;
+                self.sender
+                    .owe_block(&self.streams, stream, fault.response())
+            }
         }
     }
 
@@ -426,6 +444,7 @@ impl Connection {
         ensures fit { KeepsFit self.old.sending self.new.sending }
         ensures sources { KeepsSources self.old.sending self.new.sending }
     {
+        self.at_rest = false;
         self.sender.forget(stream);
         cancel_call(&mut self.calls, stream, &mut self.due)
     }
@@ -440,6 +459,7 @@ impl Connection {
         ensures sources { KeepsSources self.old.sending self.new.sending }
     {
         self.ended = true;
+        self.at_rest = false;
         self.sender
             .put_control(&goaway(self.streams.highest(), code));
         end_calls(&self.calls, self.streams.live(), reset, &mut self.due)?;

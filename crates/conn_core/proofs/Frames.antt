@@ -174,12 +174,14 @@ front_taken texts v x none u f alive front frame passes take p st =
       ),
     )
 
-pub taken_front : {T E : Type 0} (r : Result T E) (v old w x : Present) (none u : Result Unread FrameError) (f : RawFrame) → v ≡ old → w ≡ x → v.ended ≡ false → f ≡ front_of v.reader → IsFrame f
-    → ((preface text : List ℕ) (given : List RawFrame) → IsReader preface v.reader text given → IsReader preface u text (given ++ front_of v.reader ∷ []))
+abbrev Passes : Result Unread FrameError → Result Unread FrameError → Type 0
+Passes old new = (preface text : List ℕ) (given : List RawFrame) → IsReader preface old text given → IsReader preface new text (given ++ front_of old ∷ [])
+
+pub taken_front : {T E : Type 0} (r : Result T E) (v old w x : Present) (none lent u : Result Unread FrameError) (f : RawFrame) → v ≡ old → w ≡ x → v.ended ≡ false → lent ≡ v.reader → f ≡ front_of lent → IsFrame f → Passes lent u
     → OnOk r (TakesFrame (with_reader none v) f x) → OnOk r (ReadsFrame old true (with_reader u w))
-taken_front (Err e) v old w x none u f is same alive front frame passes take = tt
-taken_front (Ok y) v old w x none u f is same alive front frame passes take = λ texts p st.
-    subst (λ (z : Present). StandsAfterReading texts p true (with_reader u z)) (sym same) (front_taken texts v x none u f alive front frame passes take p (subst (λ (z : Present). StandsFor texts z p) (sym is) st))
+taken_front (Err e) v old w x none lent u f is same alive lends front frame passes take = tt
+taken_front (Ok y) v old w x none lent u f is same alive lends front frame passes take = λ texts p st.
+    subst (λ (z : Present). StandsAfterReading texts p true (with_reader u z)) (sym same) (front_taken texts v x none u f alive (front ∙ ap front_of lends) frame (subst (λ (z : Result Unread FrameError). Passes z u) lends passes) take p (subst (λ (z : Present). StandsFor texts z p) (sym is) st))
 
 pub fit_meanwhile : (v old w x : Present) → v ≡ old → w ≡ x → ((texts : Look) → Fit texts v.sending.queues → Fit texts x.sending.queues) → (texts : Look) → Fit texts old.sending.queues → Fit texts w.sending.queues
 fit_meanwhile v old w x is same keeps texts h = subst (λ (z : Present). Fit texts z.sending.queues) (sym same) (keeps texts (subst (λ (z : Present). Fit texts z.sending.queues) (sym is) h))

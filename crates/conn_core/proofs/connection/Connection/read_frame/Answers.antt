@@ -1,4 +1,5 @@
-use Rattle.std.proofs.Common.{ap, ◌∙◌, refl, Ok, Err}
+use Rattle.std.proofs.Common.{◌≡◌, ap, ◌∙◌, refl, false, Ok, Err, arith}
+use Rattle.std.proofs.lemmas.Grind.{common_steps}
 use Rattle.http2_frames.specs.declared.codes.ErrorCode.TheVariants.{ProtocolError, FrameSizeError}
 use Rattle.http2_frames.specs.declared.error.FrameError.TheVariants.{Preface, Size}
 use Rattle.conn_core.proofs.Frames.{read_none, read_some, read_refused, fewer_left}
@@ -6,7 +7,9 @@ use Rattle.conn_core.proofs.Looks.{fit_by, fit_same}
 use Rattle.conn_core.proofs.connection.Connection.read_frame.Goals as goal
 
 pub returns-in-Ok-false-clause-frame : goal.returns-in-Ok-false-clause-frame
-returns-in-Ok-false-clause-frame c = λ texts. read_none texts (record { reader = c.self.inside.reader; streams = c.self.inside.streams; sending = c.self.inside.sender; calls = c.self.inside.calls.items; due = c.self.inside.due.items; ended = c.self.inside.ended }) c.args.self.now c.find.new.self c.find.result c.self.view_is c.if-self.false (c.in-Ok-false.is) c.find.ensures.stands c.find.ensures.none
+returns-in-Ok-false-clause-frame c =
+    let none : c.find.result ≡ Ok false = grind (arith, common_steps) in
+    λ texts. read_none texts (record { reader = c.self.inside.reader; streams = c.self.inside.streams; sending = c.self.inside.sender; calls = c.self.inside.calls.items; due = c.self.inside.due.items; ended = c.self.inside.ended }) c.args.self.now c.find.new.self c.find.result c.self.view_is c.if-self.false none c.find.ensures.stands c.find.ensures.none
 
 pub returns-in_ok-take_front-in-Ok-true-clause-frame : goal.returns-in_ok-take_front-in-Ok-true-clause-frame
 returns-in_ok-take_front-in-Ok-true-clause-frame c = λ texts. read_some texts (record { reader = c.self.inside.reader; streams = c.self.inside.streams; sending = c.self.inside.sender; calls = c.self.inside.calls.items; due = c.self.inside.due.items; ended = c.self.inside.ended }) c.args.self.now c.take_front.new.self c.find.new.self c.self.view_is c.find.ensures.stands (c.in_ok-take_front-in-Ok-true.ensures.frame texts)

@@ -5,7 +5,7 @@ ghost use Rattle.std.specs.List.{AllByRecursion};
 ghost use Rattle.server_events.specs.Configs.{ConfigValue};
 ghost use Rattle.server_events.specs.Events.{EventValue};
 ghost use Rattle.served_instance.specs.Lone.{sent_bytes_on};
-ghost use Rattle.run_record.specs.Runs.{run_of};
+ghost use Rattle.server_core.specs.Runs.{run_of};
 ghost use Rattle.server_core.specs.LoneOutput.{lone_output};
 ghost use Rattle.run_reading.specs.Replies.{run_connections, run_given_items, run_state, AreRead};
 ghost use Rattle.run_reading.specs.Named.{run_answerings, ServesNamed, GivesNamed};

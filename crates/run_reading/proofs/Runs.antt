@@ -11,7 +11,7 @@ use Rattle.grpc_sending.specs.Owed.{Item}
 use Rattle.client_reading.specs.Responses.{IsItemWithin, IsTakable, IsBeginning, stream_parts, response_of}
 use Rattle.client_reading.specs.Reads.{Reads}
 use Rattle.client_reading.proofs.Pasts.{past_read}
-use Rattle.run_reading.specs.Connections.{HasPast}
+use Rattle.run_reading.proofs.Connections.{HasPast}
 use Rattle.run_reading.specs.Replies.{GivenItems, state_after_happening, items_on, longest_message, ReadsText, AreRead, new_instance_of, run_happenings, run_given_items}
 use Rattle.run_reading.specs.Named.{ServesNamed, run_answerings, GivesNamed}
 use Rattle.run_reading.proofs.Owes.{OwedFrom}

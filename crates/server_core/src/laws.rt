@@ -1,12 +1,13 @@
 //! What follows from the definitions alone.
 
-ghost use Rattle.std.specs.Prelude.{◌≡◌, ◌≤◌, ◌^◌, ℕ, List};
+ghost use Rattle.std.specs.Prelude.{◌≡◌, ◌≤◌, ℕ, List};
 ghost use Rattle.std.specs.List.{AllByRecursion};
 ghost use Rattle.instance_core.specs.Answer.{answer};
 ghost use Rattle.instance_core.specs.Calls.{CallEventValue};
 ghost use Rattle.instance_core.specs.State.{InstanceState, WithinLimits};
 ghost use Rattle.server_events.specs.Configs.{ConfigValue};
 ghost use Rattle.server_events.specs.Events.{EventValue, own_events};
+ghost use Rattle.server_events.specs.Instance.{quota_limit};
 ghost use Rattle.server_core.specs.LoneOutput.{lone_output};
 ghost use Rattle.server_core.specs.Named.{StoresNamed};
 ghost use Rattle.server_core.specs.Runs.{run_of};
@@ -32,6 +33,6 @@ pub fn calls_store_named_texts()
 /// at most 10,000 results of actions, of 67,108,864 bytes together; and each text is what its
 /// digest says: the hash is the text's SHA-256, and the size its length.
 pub fn a_run_keeps_its_limits()
-    ensures { (config : ConfigValue) (events : List EventValue) → config.quota ≤ 2 ^ 40
+    ensures { (config : ConfigValue) (events : List EventValue) → config.quota ≤ quota_limit
         → WithinLimits (run_of config events).lone.state }
 {}

@@ -14,7 +14,7 @@ use Rattle.instance_view.specs.Visible.{Blob}
 use Rattle.bytestream.specs.Writing as Writing
 use Rattle.bytestream.specs.Writing.{OpenWriteValue, WrittenValue, first_asked, next_asked}
 use Rattle.instance_core.specs.declared.event.CallId.{CallId}
-use Rattle.instance_core.specs.Calls.{Calls, ProgressValue, waits, has, writes, CallValue, CallEventValue, head, message, fault, end, cancel, tick, same_call, call_at, with_call, without_call, IsShortEvent, IsShortProgress, KeepShort}
+use Rattle.instance_core.specs.Calls.{Calls, ProgressValue, waits, has, writes, CallValue, CallEventValue, head, message, fault, end, cancel, tick, same_call, call_at, with_call, without_call, IsShortEvent, IsShortProgress}
 use Rattle.instance_core.specs.State.{InstanceState, WithinLimits, most_blobs}
 use Rattle.tree_calls.specs.Complete.{AreWithin}
 use Rattle.tree_calls.specs.Results.{after_get, after_update}

@@ -1,6 +1,6 @@
 -- One more event of a run, and the run's end.
-use Rattle.std.proofs.Common.{◌≡◌, ℕ, ◌+◌, ◌<◌, List, [], ◌∷◌, ◌++◌, length, get_or, take, map, ap, ◌∙◌, sym, subst, arith, inl, inr, append-nil, append_assoc}
-use Rattle.std.specs.Prelude.{Bool, true, false, cond, ◌==◌, if◌then◌else◌, Option, Some, fold}
+use Rattle.std.proofs.Common.{◌≡◌, ℕ, ◌+◌, ◌<◌, List, [], ◌∷◌, ◌++◌, length, get_or, take, map, ap, ◌∙◌, sym, subst, arith, append-nil, append_assoc}
+use Rattle.std.specs.Prelude.{Bool, true, false, cond, ◌==◌, if◌then◌else◌, fold}
 use Rattle.std.proofs.lemmas.List.{map_more, length-map, length-take-le}
 use Rattle.std.proofs.lemmas.List.Elements.{filter-append}
 use Rattle.std.proofs.lemmas.List.Sums.{fold_push}
@@ -9,9 +9,9 @@ use Rattle.server_events.specs.declared.event.Event.{Event}
 use Rattle.server_events.specs.Configs.{ConfigValue}
 use Rattle.server_events.specs.Events.{EventValue, own_events}
 use Rattle.server_events.specs.Shown.{event_value}
-use Rattle.run_record.specs.Runs.{Run, run_of, run_step}
+use Rattle.server_core.specs.Runs.{Run, run_of, run_step}
 use Rattle.served_instance.specs.StandsFor.{ServedState}
-use Rattle.run_record.specs.StandsFor.{RecordValue}
+use Rattle.server_core.specs.Records.{RecordValue}
 use Rattle.server_core.specs.RunTo.{HasRun}
 use Rattle.server_core.specs.LoneOutput.{stray_at, strays_from, strays}
 

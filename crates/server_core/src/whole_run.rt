@@ -5,14 +5,15 @@ ghost use Rattle.server_events.specs.Configs.{ConfigValue};
 ghost use Rattle.server_events.specs.Events.{EventValue, own_events};
 ghost use Rattle.server_events.specs.Shown.{event_value};
 ghost use Rattle.instance_core.specs.State.{WithinLimits};
-ghost use Rattle.run_record.specs.Runs.{Run, new_run, run_of, run_step, output_of_run};
+ghost use Rattle.server_core.specs.Runs.{Run, new_run, run_of, run_step, output_of_run};
 ghost use Rattle.server_core.specs.LoneOutput.{config_at, lone_output, strays, stray_at};
 ghost use Rattle.server_core.specs.Shown.{output_at};
 ghost use Rattle.server_core.specs.RunTo.{IsNotedAt, HasRun};
 
+use crate::laws::a_run_keeps_its_limits;
+use crate::outputs::InstanceOutput;
+use crate::record::InstanceRecord;
 use crate::server::Server;
-use run_limits::a_run_keeps_its_limits;
-use run_record::{InstanceOutput, InstanceRecord};
 use served_instance::EventRefusal;
 use server_events::laws::the_fault_is_the_first;
 use server_events::{Configs, Event};

@@ -6,7 +6,7 @@ use Rattle.std.proofs.lemmas.List.Elements.{All-same}
 use Rattle.std.proofs.lemmas.Option.{slice_get_within}
 use Rattle.server_events.specs.Events.{own_events}
 use Rattle.server_events.specs.Shown.{config_value, event_value}
-use Rattle.run_record.specs.StandsFor.{RecordValue}
+use Rattle.server_core.specs.Records.{RecordValue}
 use Rattle.server_core.specs.LoneOutput.{lone_output, strays}
 use Rattle.server_core.proofs.Lists.{written}
 use Rattle.server_core.proofs.Runs.{runs_more, strays_more}

@@ -3,7 +3,7 @@ use Rattle.std.specs.Prelude.{false, Some}
 use Rattle.server_events.specs.Configs.{ConfigValue}
 use Rattle.server_events.specs.Events.{own_events}
 use Rattle.server_events.specs.Shown.{event_value}
-use Rattle.run_record.specs.Runs.{run_of}
+use Rattle.server_core.specs.Runs.{run_of}
 use Rattle.server_core.specs.LoneOutput.{config_at, strays}
 use Rattle.server_core.specs.RunTo.{HasRun}
 use Rattle.server_core.proofs.whole_run.run.Given as goal

@@ -46,11 +46,9 @@ abbrev pub instances : Rule
 instances =
     record (new_rule (codes "NAME:PORT:QUOTA:SLOTS")) { required = true; action = Some Append }
 
-abbrev pub unary_command : Shape
-unary_command = (with_rule (new_app (codes "unary")) file).top
-
-abbrev pub replay_command : Shape
-replay_command = (with_rule (new_app (codes "replay")) file).top
+-- a command that carries out the script of a file
+abbrev pub script_command : Text → Shape
+script_command name = (with_rule (new_app name) file).top
 
 abbrev pub probe_command : Shape
 probe_command = (with_rule (with_rule (with_rule (with_rule (new_app (codes "probe")) port) send) want) turns).top
@@ -65,7 +63,10 @@ with_version a = record a { top = record a.top { has_version = true } }
 
 -- the program, its version and its four commands
 abbrev pub command_line : App
-command_line = with_subcommand (with_subcommand (with_subcommand (with_subcommand (with_version (new_app (codes "remoted"))) unary_command) replay_command) probe_command) serve_command
+command_line =
+    with_subcommand (with_subcommand (with_subcommand (with_subcommand
+    (with_version (new_app (codes "remoted"))) (script_command (codes "unary")))
+    (script_command (codes "replay"))) probe_command) serve_command
 
 -- ---- what is asked for
 

@@ -2,10 +2,10 @@
 #![tactic(auto)]
 
 ghost use Rattle.std.specs.Prelude.{◌≡◌, ◌≢◌, ◌⊎◌, ℕ, List, Some, None, map, string_bytes, IfOk, IfErr, option_map};
-ghost use Rattle.clap.specs.Words.{all_of, app_of, first_of, found_of, kind_of, rows_of, subcommand_rows_of};
+ghost use Rattle.clap.specs.Words.{all_of, app_of, first_of, found_of, kind_of, new_app, rows_of, subcommand_rows_of};
 ghost use Rattle.clap.specs.declared.error.kind.ErrorKind.TheVariants.{DisplayHelp, DisplayVersion};
-ghost use Rattle.command_line.specs.CommandLine.{command_line, long_option, number_of, port, send, want, turns, script_command, probe_command, probe_of, work, instances, serve_command, serve_of, file_or_probe_by, task_by, task_of};
-ghost use Rattle.command_line.specs.Shown.{task_value, task_asked, HasNoFault, HasRule, HasShape, IsFaultOf, IsFrom};
+ghost use Rattle.command_line.specs.CommandLine.{command_line, file, long_option, number_of, port, send, want, turns, script_command, probe_command, probe_of, work, instances, serve_command, serve_of, file_or_probe_by, task_by, task_of};
+ghost use Rattle.command_line.specs.Shown.{task_value, task_asked, HasApp, HasNoFault, HasRule, HasShape, IsFaultOf, IsFrom};
 
 use clap::error::ErrorKind;
 use clap::{Arg, ArgAction, ArgMatches, Command, Error, value_parser};
@@ -25,6 +25,11 @@ const REPLAY_ABOUT: &str =
 
 const REPLAY_LINES: &str =
     "The script: lines `instance NAME QUOTA SLOTS`, and then one line for each event";
+
+const PROBE_ABOUT: &str =
+    "Send a file's bytes to a server, and print the first bytes that come back";
+
+const SERVE_ABOUT: &str = "Serve instances on ports of 127.0.0.1";
 
 /// What the program is asked for.
 #[derive(Drop)]
@@ -53,6 +58,15 @@ pub enum Task<'a> {
         want: u64,
         turns: u64,
     },
+}
+
+fn file<'a>(alloc: Global, lines: &'a str) -> Arg<'a>
+    ensures { HasRule file result }
+{
+    Arg::new(alloc, "FILE")
+        .help(lines)
+        .required(true)
+        .action(ArgAction::Set)
 }
 
 /// An option `--NAME VALUE`.
@@ -114,6 +128,13 @@ fn want<'a>(alloc: Global) -> Arg<'a>
         .value_parser(value_parser!(u64).range(..=i64::MAX))
 }
 
+/// A command that has no arguments yet.
+fn described<'a>(alloc: Global, name: &'a str, about: &'a str) -> Command<'a>
+    ensures { HasApp (new_app name.entry.now) result }
+{
+    Command::new(alloc, name).about(about)
+}
+
 /// A command that carries out the script of a file.
 fn script_command<'a>(
     alloc: Global,
@@ -123,18 +144,13 @@ fn script_command<'a>(
 ) -> Result<Command<'a>, AllocError>
     ensures { IfOk result (HasShape (script_command name.entry.now)) }
 {
-    let file = Arg::new(alloc, "FILE")
-        .help(lines)
-        .required(true)
-        .action(ArgAction::Set);
-    Command::new(alloc, name).about(about).arg(file)
+    described(alloc, name, about).arg(file(alloc, lines))
 }
 
 fn probe<'a>(alloc: Global) -> Result<Command<'a>, AllocError>
     ensures { IfOk result (HasShape probe_command) }
 {
-    Command::new(alloc, "probe")
-        .about("Send a file's bytes to a server, and print the first bytes that come back")
+    described(alloc, "probe", PROBE_ABOUT)
         .arg(port(alloc))?
         .arg(send(alloc))?
         .arg(want(alloc))?
@@ -144,8 +160,7 @@ fn probe<'a>(alloc: Global) -> Result<Command<'a>, AllocError>
 fn serve<'a>(alloc: Global) -> Result<Command<'a>, AllocError>
     ensures { IfOk result (HasShape serve_command) }
 {
-    Command::new(alloc, "serve")
-        .about("Serve instances on ports of 127.0.0.1")
+    described(alloc, "serve", SERVE_ABOUT)
         .arg(work(alloc))?
         .arg(turns(alloc))?
         .arg(instances(alloc))

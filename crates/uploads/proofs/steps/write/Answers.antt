@@ -1,7 +1,7 @@
 use Rattle.std.proofs.Common.{map, ap, OnErr, ◌≡◌}
 use Rattle.uploads.specs.Shown.{key_shown, upload_shown, entry_shown}
 use Rattle.uploads.proofs.ListLemmas.{there_with, extended_ok, extended_err}
-use Rattle.uploads.proofs.steps.extend.Goals as goal
+use Rattle.uploads.proofs.steps.write.Goals as goal
 
 pub exchange-empty-requires-clause-there : goal.exchange-empty-requires-clause-there
 exchange-empty-requires-clause-there c =

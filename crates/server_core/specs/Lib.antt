@@ -1,5 +1,6 @@
 pub mod LoneOutput
 pub mod RunTo
+pub mod RunSoFar
 pub mod Shown
 pub mod StandsFor
 pub mod Shared

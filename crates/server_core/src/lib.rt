@@ -7,4 +7,4 @@ mod whole_run;
 
 pub use laws::equal_events_give_equal_outputs;
 pub use server::Server;
-pub use whole_run::{Outputs, run};
+pub use whole_run::{Outputs, ServerRun, run};

@@ -49,7 +49,11 @@ fn is_failure(event: &Event) -> bool {
 }
 
 fn are_outcomes(alloc: Global, events: &mut EventReader) -> bool {
-    match (events.next_event(alloc), events.next_event(alloc), events.next_event(alloc)) {
+    match (
+        events.next_event(alloc),
+        events.next_event(alloc),
+        events.next_event(alloc),
+    ) {
         (Ok(Some(first)), Ok(Some(second)), Ok(None)) => is_exit(&first) && is_failure(&second),
         _ => false,
     }

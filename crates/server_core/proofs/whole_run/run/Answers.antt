@@ -8,4 +8,4 @@ loop-event-preserved c =
     let events = c.args.events.now in
     let k = c.loop-event.event-index in
     rw (events_more events k c.event-item.result c.loop-event-test.true c.event-item.is)
-        (c.in_ok-run-2.ensures c.args.configs.now (map event_value (take k events)) c.loop-event.invariant)
+    (c.in_ok-run-2.ensures c.args.configs.now (map event_value (take k events)) c.loop-event.invariant)

@@ -3,9 +3,9 @@ use Rattle.std.proofs.Common.{◌≡◌, ◌∙◌, ◌+◌, ◌-◌, ◌<◌, �
 use Rattle.std.specs.Prelude.{◌^◌, Result, Ok, Err, IfOk}
 use Rattle.std.specs.declared.alloc.Global.{Global}
 use Rattle.std.specs.declared.vec.Vec.{Vec}
-use Rattle.run_record.specs.Outputs.{InstanceOutputValue}
-use Rattle.run_record.specs.Shown.{instance_output_shown}
-use Rattle.run_record.specs.declared.outputs.InstanceOutput.{InstanceOutput}
+use Rattle.server_core.specs.Outputs.{InstanceOutputValue}
+use Rattle.server_core.specs.Shown.{instance_output_shown}
+use Rattle.server_core.specs.declared.outputs.InstanceOutput.{InstanceOutput}
 use Rattle.script.specs.ReplayScript.{ReplayScriptValue}
 use Rattle.server_core.specs.RunSoFar.{HasTaken, RunValue}
 use Rattle.server_core.specs.LoneOutput.{config_at, lone_output, strays}

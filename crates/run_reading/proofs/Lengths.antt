@@ -15,7 +15,7 @@ use Rattle.instance_core.proofs.Events.{replies_short}
 use Rattle.served_instance.specs.Calls.{item_of, items_of}
 use Rattle.client_reading.specs.Responses.{WholeMessage, IsWithin, messages_cut, read_messages, IsItemWithin, IsTakable}
 use Rattle.client_reading.proofs.Choices.{choose, all_append}
-use Rattle.run_limits.proofs.Calls.{after_keeps}
+use Rattle.server_core.proofs.Calls.{after_keeps}
 use Rattle.run_reading.specs.Happenings.{Happening, MomentCame, TimePassed, RequestAnswered, CallEventCame}
 use Rattle.run_reading.specs.Replies.{GivenItems, items_of_reply, given_items_from, items_given, items_on, longest_message}
 use Rattle.run_reading.proofs.Named.{IsShortItem, IsShortHappening, moment_within}

@@ -9,7 +9,7 @@ use Rattle.server_events.specs.declared.event.Event.{Event}
 use Rattle.server_events.specs.Configs.{ConfigValue}
 use Rattle.server_events.specs.Events.{EventValue, own_events}
 use Rattle.server_events.specs.Shown.{event_value}
-use Rattle.run_record.specs.Runs.{Run, run_of, run_step}
+use Rattle.server_core.specs.Runs.{Run, run_of, run_step}
 use Rattle.server_core.specs.RunTo.{HasRun}
 use Rattle.server_core.specs.RunSoFar.{HasTaken, RunValue}
 use Rattle.server_core.specs.LoneOutput.{stray_at, strays_from, strays}

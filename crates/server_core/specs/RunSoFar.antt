@@ -2,8 +2,8 @@
 use Rattle.std.specs.Prelude.{◌≡◌, ◌<◌, ◌+◌, ℕ, List, All, Some, length, false}
 use Rattle.server_events.specs.Configs.{ConfigValue}
 use Rattle.server_events.specs.Events.{EventValue, own_events}
-use Rattle.run_record.specs.Runs.{run_of}
-use Rattle.run_record.specs.StandsFor.{RecordValue}
+use Rattle.server_core.specs.Runs.{run_of}
+use Rattle.server_core.specs.Records.{RecordValue}
 use Rattle.server_core.specs.LoneOutput.{config_at, strays}
 use Rattle.server_core.specs.RunTo.{HasRun}
 use Rattle.server_core.specs.StandsFor.{ServerState}

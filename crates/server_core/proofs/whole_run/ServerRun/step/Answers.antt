@@ -1,7 +1,7 @@
 use Rattle.std.proofs.Common.{◌≡◌, ◌+◌, ◌++◌, List, [], ◌∷◌, arith, length, refl, subst, sym}
 use Rattle.std.proofs.lemmas.Grind.{common_steps}
 use Rattle.server_events.specs.Shown.{event_value}
-use Rattle.run_record.specs.StandsFor.{RecordValue}
+use Rattle.server_core.specs.Records.{RecordValue}
 use Rattle.server_core.specs.RunSoFar.{HasTaken, RunValue}
 use Rattle.server_core.specs.RunTo.{HasRun}
 use Rattle.server_core.proofs.Lists.{written}

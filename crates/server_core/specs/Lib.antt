@@ -6,6 +6,7 @@ pub mod Notes
 pub mod Shown
 pub mod Records
 pub mod RunTo
+pub mod RunSoFar
 pub mod StandsFor
 pub mod Shared
 pub mod Stored

@@ -12,4 +12,4 @@ pub use laws::{a_run_keeps_its_limits, calls_store_named_texts, equal_events_giv
 pub use outputs::{InstanceOutput, RefusedEvent, SentBytes};
 pub use record::InstanceRecord;
 pub use server::Server;
-pub use whole_run::{Outputs, run};
+pub use whole_run::{Outputs, ServerRun, run};

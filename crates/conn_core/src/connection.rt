@@ -1,6 +1,7 @@
 //! One connection.
 
 ghost use Rattle.std.specs.Prelude.{◌≡◌, ◌≢◌, ◌≤◌, ◌<◌, ◌-◌, ◌^◌, ◌++◌, ◌∷◌, ◌==◌, [], map, true, false, option_to_list, IsTrue, IfOk, OnOk, OnErr, OnSome, MatchOption, None, Err, length, take, drop};
+ghost use Rattle.http2_frames.specs.Reader.{HasFrame, text_left};
 ghost use Rattle.http2_frames.specs.Writing.{raw_of};
 ghost use Rattle.grpc_sending.specs.Step.{IsControl};
 ghost use Rattle.http2_frames.specs.declared.error.FrameError.{FrameError};
@@ -29,6 +30,7 @@ use http2_streams::{Event, H2Fault, Stream, StreamEvent, Streams};
 use std::alloc::{AllocError, Global};
 use std::collections::VecDeque;
 use std::marker::Model;
+use std::mem;
 
 /// SETTINGS_MAX_CONCURRENT_STREAMS is 100 (RFC 9113 section 6.5.2), as in a payload.
 const MAX_CONCURRENT_STREAMS: &[u8] = b"\x00\x03\x00\x00\x00\x64";
@@ -121,10 +123,10 @@ impl Connection {
         if self.ended {
             return Ok(false);
         }
-        match self.reader.next() {
-            Ok(None) => Ok(false),
-            Ok(Some(frame)) => {
-                self.take_frame(&frame)?;
+        match self.reader.find() {
+            Ok(false) => Ok(false),
+            Ok(true) => {
+                self.take_front()?;
                 Ok(true)
             }
             Err(FrameError::Preface) => {
@@ -267,7 +269,26 @@ impl Connection {
         pop_live_call(&mut self.calls, self.streams.live())
     }
 
-    fn take_frame(&mut self, frame: &RawFrame) -> Result<(), AllocError>
+    /// Takes the frame at the front of what is still to be read. The reader lends it, and so is
+    /// apart from the rest meanwhile.
+    fn take_front(&mut self) -> Result<(), AllocError>
+        requires alive { self.old.ended ≡ false }
+        requires whole { HasFrame self.old.reader }
+        ensures frame { OnOk result (ReadsFrame self.old true self.new) }
+        ensures shorter { OnOk result (length (text_left self.new.reader)
+            < length (text_left self.old.reader)) }
+        ensures fit { KeepsFit self.old.sending self.new.sending }
+        ensures sources { KeepsSources self.old.sending self.new.sending }
+    {
+        let none = FrameReader::without_preface(*self.calls.allocator());
+        let mut reader = mem::replace(&mut self.reader, none);
+        let outcome = self.take_frame(&reader.frame());
+        reader.pass();
+        self.reader = reader;
+        outcome
+    }
+
+    fn take_frame(&mut self, frame: &RawFrame<'_>) -> Result<(), AllocError>
         requires alive { self.old.ended ≡ false }
         requires short { length frame.now.payload ≤ 16384 }
         ensures stands { OnOk result (TakesFrame self.old frame.now self.new) }

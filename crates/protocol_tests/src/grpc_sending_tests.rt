@@ -21,9 +21,10 @@ fn receive(alloc: Global, streams: &mut Streams, bytes: &[u8]) -> Result<(), Fai
     let mut reader = FrameReader::without_preface(alloc);
     reader.feed(bytes).ok().ok_or("memory")?;
     for _ in 0..9 {
-        match reader.next() {
-            Ok(Some(frame)) => {
-                let _ = streams.on_frame(&frame);
+        match reader.find() {
+            Ok(true) => {
+                let _ = streams.on_frame(&reader.frame());
+                reader.pass();
             }
             _ => break,
         }
@@ -148,8 +149,12 @@ fn a_response_before_the_end(rt: HostRuntime) -> Result<(), Fail> {
 
 /// The length of the next frame's payload.
 fn next_length(reader: &mut FrameReader) -> Option<usize> {
-    match reader.next() {
-        Ok(Some(frame)) => Some(frame.payload.len()),
+    match reader.find() {
+        Ok(true) => {
+            let length = reader.frame().payload.len();
+            reader.pass();
+            Some(length)
+        }
         _ => None,
     }
 }

@@ -78,7 +78,7 @@ impl Streams {
 
     /// Takes a frame of the client. What it causes follows from all that passed on the connection
     /// before.
-    pub fn on_frame<'a>(&mut self, frame: &'a RawFrame) -> Result<StreamEvent<'a>, H2Fault>
+    pub fn on_frame<'a>(&mut self, frame: &RawFrame<'a>) -> Result<StreamEvent<'a>, H2Fault>
         requires { length frame.now.payload ≤ MAX_FRAME_SIZE }
         ensures causes { (d : List Entry) → StandsFor self.old d →
             Gives result (answer_after d frame.now) }
@@ -202,7 +202,7 @@ impl Streams {
         }
     }
 
-    fn apply<'a>(&mut self, frame: &'a RawFrame) -> Result<StreamEvent<'a>, H2Fault>
+    fn apply<'a>(&mut self, frame: &RawFrame<'a>) -> Result<StreamEvent<'a>, H2Fault>
         requires { length frame.now.payload ≤ MAX_FRAME_SIZE }
         ensures answer { Gives result (answer_to self.old frame.now) }
         ensures state { IfOk result (λ a. self.new ≡ step_by self.old frame.now a) }
@@ -228,7 +228,7 @@ impl Streams {
 
     /// Whether the frame may stand here: first the preface's SETTINGS, and a header block without a
     /// gap.
-    fn is_in_turn(&self, frame: &RawFrame) -> bool
+    fn is_in_turn(&self, frame: &RawFrame<'_>) -> bool
         ensures { result ≡ is_in_turn self.now frame.now }
     {
         if !self.begun && (frame.kind != frame_type::SETTINGS || frame.flags & flag::ACK != 0) {

@@ -98,10 +98,11 @@ fn tell_stored<O: Write>(
     let Ok(mut server) = Server::new(alloc, &configs) else {
         return Ok(Status::OutOfMemory);
     };
-    let mut place: u64 = 0;
     let mut events = script.events;
-    while let Some(event) = events.next_event(alloc)? {
-        place = place.saturating_add(1);
+    for place in 1..u64::MAX {
+        let Some(event) = events.next_event(alloc)? else {
+            break;
+        };
         let _ = server.step(&event);
         let (texts, bytes) = server.stored();
         writeln!(output, "stored {place} {texts} {bytes}")?;

@@ -1,5 +1,5 @@
 -- What the outputs of a run print is what each instance prints alone.
-use Rattle.std.proofs.Common.{◌≡◌, ◌∙◌, ◌+◌, ◌-◌, ◌<◌, ◌≤◌, ◌++◌, zero, suc, ℕ, List, [], ◌∷◌, length, map, Some, None, refl, sym, ap, ap₂, subst, arith, append_assoc, append-nil, length-append}
+use Rattle.std.proofs.Common.{◌≡◌, ◌∙◌, ◌+◌, ◌<◌, ◌++◌, zero, suc, ℕ, List, [], ◌∷◌, length, map, Some, None, refl, sym, ap, ap₂, subst, arith, append_assoc}
 use Rattle.std.specs.Prelude.{◌^◌, Result, Ok, Err, IfOk}
 use Rattle.std.specs.declared.alloc.Global.{Global}
 use Rattle.std.specs.declared.vec.Vec.{Vec}
@@ -76,17 +76,3 @@ pub one_more : (configs : List ConfigValue) (all left rest : List EventValue) (e
     → IsSoFar configs all left before → IsSoFar configs all rest after
 one_more configs all left rest e before after first step h =
     (h.0 ++ e ∷ [], step configs h.0 h.1, append_assoc h.0 (e ∷ []) rest ∙ ap (λ es. h.0 ++ es) (sym first) ∙ h.2)
-
--- there is room to count one more
-pub count_below : (configs : List ConfigValue) (all left rest : List EventValue) (e : EventValue) (run : RunValue) → left ≡ e ∷ rest
-    → length all ≤ 2 ^ 63 → IsSoFar configs all left run → run.count < 2 ^ 64 - 1
-count_below configs all left rest e run first few h =
-    let counted = h.1.count in
-    let long : length all ≡ length h.0 + length (e ∷ rest) = ap length (sym h.2) ∙ length-append h.0 left ∙ ap (λ es. length h.0 + length es) first in
-    omega (arith, counted, long, few)
-
--- and at the end
-pub taken_all : (configs : List ConfigValue) (all left : List EventValue) (run : RunValue) → left ≡ [] → IsSoFar configs all left run → HasTaken configs all run
-taken_all configs all left run none h =
-    let same : h.0 ≡ all = sym (append-nil h.0) ∙ ap (λ es. h.0 ++ es) (sym none) ∙ h.2 in
-    subst (λ (es : List EventValue). HasTaken configs es run) same h.1

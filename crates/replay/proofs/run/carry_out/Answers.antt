@@ -1,5 +1,4 @@
-use Rattle.std.proofs.Common.{rules, ◌≡◌, map, ap, sym}
-use Rattle.server_events.specs.Shown.{config_value}
+use Rattle.std.proofs.Common.{rules, ◌≡◌}
 use Rattle.script.specs.ReplayScript.{ReplayScriptValue}
 use Rattle.script.specs.ReplayShown.{replay_script_value}
 use Rattle.replay.proofs.Alone.{lines_are}

@@ -1,3 +1,4 @@
+use decimals::decimal;
 use script::*;
 use std::alloc::{AllocError, Global};
 use std::test::*;

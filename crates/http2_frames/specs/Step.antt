@@ -1,4 +1,4 @@
--- One call of a reader, as the code makes it.
+-- One call of a reader, as the code makes it. For the code alone: no public contract speaks of it.
 use Rattle.std.specs.Prelude.{◌≡◌, ◌≢◌, ◌≤◌, ℕ, ◌+◌, nat_eq, if◌then◌else◌, List, [], ◌∷◌, length, drop, Option, Some, None, Result, Ok, Err}
 use Rattle.std.specs.List.{starts_with}
 use Rattle.http2_frames.specs.declared.error.FrameError.{FrameError}

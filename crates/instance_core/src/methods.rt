@@ -1,6 +1,6 @@
 //! What each method but `Write` answers to the one message of its request.
 
-ghost use Rattle.std.specs.Prelude.{◌≡◌, ◌≤◌, ◌+◌, ◌^◌, ℕ, OnOk, OnErr};
+ghost use Rattle.std.specs.Prelude.{◌≡◌, ◌+◌, ℕ, OnOk, OnErr};
 ghost use Rattle.blob_pool.specs.Slots.{Slots};
 ghost use Rattle.blob_pool.specs.Moves.{Moves};
 ghost use Rattle.instance_view.specs.Shown.{visible_in, holders};
@@ -8,8 +8,8 @@ ghost use Rattle.quota_evict.specs.Kept.{AreKept};
 ghost use Rattle.quota_evict.specs.Within.{Within};
 ghost use Rattle.cas_service.specs.Answers.{Answers, IfAnswered};
 ghost use Rattle.instance_core.specs.Calls.{Calls};
+ghost use Rattle.instance_core.specs.Contents.{AreContentsKept, AreContentsWithin};
 ghost use Rattle.instance_core.specs.State.{most_blobs};
-ghost use Rattle.tree_calls.specs.Complete.{AreWithin};
 ghost use Rattle.instance_core.specs.Methods.{IsPlain, LeavesResults, is_served, reply_to, items_to, request_changes, ShowsAfter, ShowsInPart};
 ghost use Rattle.instance_core.specs.Answer.{reply_with, reply_of_items};
 ghost use Rattle.instance_core.specs.Shown.{Gives, Makes, state_of};
@@ -56,9 +56,7 @@ fn reply_to(
     method: Method,
     message: &[u8],
 ) -> Result<Vec<u8>, CallError>
-    requires quota { settings.now.quota ≤ 2 ^ 40 }
-    requires limit { contents.old.view.limit ≡ most_blobs }
-    requires kept { AreKept settings.now.quota pool.old contents.old.view }
+    requires kept { AreContentsKept settings.now pool.old contents.old }
     requires plain { IsPlain method }
     ensures reply { (moment : ℕ) (calls : Calls) →
         let old = state_of settings.now moment pool.old contents.old calls in
@@ -116,9 +114,7 @@ fn answer_by_message(
     method: Method,
     message: &[u8],
 ) -> Result<Vec<Reply>, AllocError>
-    requires quota { settings.now.quota ≤ 2 ^ 40 }
-    requires limit { contents.old.view.limit ≡ most_blobs }
-    requires kept { AreKept settings.now.quota pool.old contents.old.view }
+    requires kept { AreContentsKept settings.now pool.old contents.old }
     requires plain { IsPlain method }
     ensures replies { (moment : ℕ) (calls : Calls) →
         let old = state_of settings.now moment pool.old contents.old calls in
@@ -152,9 +148,7 @@ fn answer_from_texts(
     method: Method,
     message: &[u8],
 ) -> Result<Vec<Reply>, AllocError>
-    requires quota { settings.now.quota ≤ 2 ^ 40 }
-    requires limit { contents.old.view.limit ≡ most_blobs }
-    requires kept { AreKept settings.now.quota pool.old contents.old.view }
+    requires kept { AreContentsKept settings.now pool.old contents.old }
     requires apart { LeavesResults method }
     ensures replies { (moment : ℕ) (calls : Calls) →
         let old = state_of settings.now moment pool.old contents.old calls in
@@ -208,10 +202,7 @@ pub fn answer_request(
     method: Method,
     message: &[u8],
 ) -> Result<Vec<Reply>, AllocError>
-    requires quota { settings.now.quota ≤ 2 ^ 40 }
-    requires limit { contents.old.view.limit ≡ most_blobs }
-    requires kept { AreKept settings.now.quota pool.old contents.old.view }
-    requires results { AreWithin contents.old.results }
+    requires kept { AreContentsKept settings.now pool.old contents.old }
     ensures replies { (moment : ℕ) (calls : Calls) →
         let old = state_of settings.now moment pool.old contents.old calls in
         Gives pool.new result (reply_of_items call (items_to method old message.now)) }
@@ -221,10 +212,8 @@ pub fn answer_request(
         Makes result (request_changes method old message.now) old new }
     ensures moves { Moves pool.old pool.new (holders contents.old.view)
         (λ k. holders contents.new.view k + holders_given result k) }
-    ensures limit { contents.new.view.limit ≡ most_blobs }
-    ensures within { Within most_blobs settings.now.quota (visible_in pool.new contents.new.view) }
+    ensures within { AreContentsWithin settings.now pool.new contents.new }
     ensures uploads { contents.new.uploads ≡ contents.old.uploads }
-    ensures results { AreWithin contents.new.results }
 {
     match method {
         Method::GetActionResult => answer_get(alloc, settings, contents, pool, call, message),

@@ -7,6 +7,7 @@ ghost use Rattle.instance_view.specs.Shown.{holders};
 ghost use Rattle.quota_evict.specs.Kept.{AreKept};
 ghost use Rattle.tree_calls.specs.Complete.{AreWithin};
 ghost use Rattle.instance_core.specs.Calls.{Calls};
+ghost use Rattle.instance_core.specs.Contents.{AreContentsKept};
 ghost use Rattle.instance_core.specs.State.{most_blobs};
 ghost use Rattle.instance_core.specs.Methods.{items_to, request_changes};
 ghost use Rattle.instance_core.specs.Answer.{reply_of_items};
@@ -30,9 +31,7 @@ pub fn answer_get(
     call: CallId,
     message: &[u8],
 ) -> Result<Vec<Reply>, AllocError>
-    requires limit { contents.old.view.limit ≡ most_blobs }
-    requires kept { AreKept settings.now.quota pool.now contents.old.view }
-    requires results { AreWithin contents.old.results }
+    requires kept { AreContentsKept settings.now pool.now contents.old }
     ensures replies { (moment : ℕ) (calls : Calls) →
         let old = state_of settings.now moment pool.now contents.old calls in
         (p : Slots) → Gives p result

@@ -4,12 +4,9 @@ ghost use Rattle.std.specs.Prelude.{◌≡◌, ◌+◌, ℕ, OnOk, OnErr};
 ghost use Rattle.blob_pool.specs.Slots.{Slots};
 ghost use Rattle.blob_pool.specs.Moves.{Moves};
 ghost use Rattle.instance_view.specs.Shown.{visible_in, holders};
-ghost use Rattle.quota_evict.specs.Kept.{AreKept};
-ghost use Rattle.quota_evict.specs.Within.{Within};
 ghost use Rattle.cas_service.specs.Answers.{Answers, IfAnswered};
 ghost use Rattle.instance_core.specs.Calls.{Calls};
 ghost use Rattle.instance_core.specs.Contents.{AreContentsKept, AreContentsWithin};
-ghost use Rattle.instance_core.specs.State.{most_blobs};
 ghost use Rattle.instance_core.specs.Methods.{IsPlain, LeavesResults, is_served, reply_to, items_to, request_changes, ShowsAfter, ShowsInPart};
 ghost use Rattle.instance_core.specs.Answer.{reply_with, reply_of_items};
 ghost use Rattle.instance_core.specs.Shown.{Gives, Makes, state_of};
@@ -70,8 +67,7 @@ fn reply_to(
         OnErr result (ShowsInPart method message.now old (visible_in pool.new contents.new.view)) }
     ensures moves { Moves pool.old pool.new (holders contents.old.view)
         (holders contents.new.view) }
-    ensures limit { contents.new.view.limit ≡ most_blobs }
-    ensures kept { AreKept settings.now.quota pool.new contents.new.view }
+    ensures kept { AreContentsKept settings.now pool.new contents.new }
     ensures uploads { contents.new.uploads ≡ contents.old.uploads }
     ensures results { contents.new.results ≡ contents.old.results }
 {
@@ -128,8 +124,7 @@ fn answer_by_message(
         OnErr result (ShowsInPart method message.now old (visible_in pool.new contents.new.view)) }
     ensures moves { Moves pool.old pool.new (holders contents.old.view)
         (holders contents.new.view) }
-    ensures limit { contents.new.view.limit ≡ most_blobs }
-    ensures kept { AreKept settings.now.quota pool.new contents.new.view }
+    ensures kept { AreContentsKept settings.now pool.new contents.new }
     ensures uploads { contents.new.uploads ≡ contents.old.uploads }
     ensures results { contents.new.results ≡ contents.old.results }
 {
@@ -161,8 +156,7 @@ fn answer_from_texts(
         OnErr result (ShowsInPart method message.now old (visible_in pool.new contents.new.view)) }
     ensures moves { Moves pool.old pool.new (holders contents.old.view)
         (λ k. holders contents.new.view k + holders_given result k) }
-    ensures limit { contents.new.view.limit ≡ most_blobs }
-    ensures within { Within most_blobs settings.now.quota (visible_in pool.new contents.new.view) }
+    ensures within { AreContentsWithin settings.now pool.new contents.new }
     ensures uploads { contents.new.uploads ≡ contents.old.uploads }
     ensures results { contents.new.results ≡ contents.old.results }
 {

@@ -43,7 +43,12 @@ returns-in-Read-clause-within c =
     let quota = c.args.settings.now.quota in
     let same = read_shown p q c.args.contents.now.view c.answer_read.new.view (holders_given c.answer_read.result) c.answer_read.ensures.moves c.answer_read.ensures.holders c.requires.kept.kept.held.counted in
     let limited = subst (λ n. Within n quota (visible_in p c.args.contents.now.view)) c.requires.kept.limit c.requires.kept.kept.within in
-    subst (Within most_blobs quota) (sym same) (c.answer_read.ensures.within p most_blobs quota limited)
+    record {
+      limit = c.answer_read.ensures.limit ∙ c.requires.kept.limit;
+      texts = subst (Within most_blobs quota) (sym same) (c.answer_read.ensures.within p most_blobs quota limited);
+      uploads = c.requires.kept.uploads;
+      results = c.requires.kept.results;
+    }
 
 pub answer_by_message-requires-clause-plain : goal.answer_by_message-requires-clause-plain
 answer_by_message-requires-clause-plain c = (c.requires.apart, c.in_default.not-Read, c.in_default.not-GetTree)
@@ -80,4 +85,10 @@ returns-in-GetTree-clause-within c =
     let p = c.args.pool.now in
     let quota = c.args.settings.now.quota in
     let kept = c.answer_tree.ensures.kept p quota c.requires.kept.kept in
-    subst (λ n. Within n quota (visible_in p c.answer_tree.new.view)) (c.answer_tree.ensures.limit ∙ c.requires.kept.limit) kept.within
+    let limit = c.answer_tree.ensures.limit ∙ c.requires.kept.limit in
+    record {
+      limit = limit;
+      texts = subst (λ n. Within n quota (visible_in p c.answer_tree.new.view)) limit kept.within;
+      uploads = c.requires.kept.uploads;
+      results = c.requires.kept.results;
+    }

@@ -1,3 +1,4 @@
+use Rattle.std.proofs.Common.{◌∙◌}
 use Rattle.cas_service.specs.FindMissing.{digests_asked, missing_digests, missing_reply}
 use Rattle.cas_service.specs.BatchRead.{digests_to_read, read_reply}
 use Rattle.instance_view.specs.Shown.{visible_in}
@@ -26,7 +27,19 @@ returns-in-BatchReadBlobs-clause-changed c =
     c.requires.kept.limit c.batch_read.ensures.reply (c.batch_read.ensures.used p quota) c.batch_read.ensures.err)
 
 pub returns-in-FindMissingBlobs-clause-kept : goal.returns-in-FindMissingBlobs-clause-kept
-returns-in-FindMissingBlobs-clause-kept c = c.find_missing.ensures.kept c.args.pool.now c.args.settings.now.quota c.requires.kept.kept
+returns-in-FindMissingBlobs-clause-kept c = record {
+  quota = c.requires.kept.quota;
+  limit = c.find_missing.ensures.limit ∙ c.requires.kept.limit;
+  kept = c.find_missing.ensures.kept c.args.pool.now c.args.settings.now.quota c.requires.kept.kept;
+  uploads = c.requires.kept.uploads;
+  results = c.requires.kept.results;
+}
 
 pub returns-in-BatchReadBlobs-clause-kept : goal.returns-in-BatchReadBlobs-clause-kept
-returns-in-BatchReadBlobs-clause-kept c = c.batch_read.ensures.kept c.args.pool.now c.args.settings.now.quota c.requires.kept.kept
+returns-in-BatchReadBlobs-clause-kept c = record {
+  quota = c.requires.kept.quota;
+  limit = c.batch_read.ensures.limit ∙ c.requires.kept.limit;
+  kept = c.batch_read.ensures.kept c.args.pool.now c.args.settings.now.quota c.requires.kept.kept;
+  uploads = c.requires.kept.uploads;
+  results = c.requires.kept.results;
+}

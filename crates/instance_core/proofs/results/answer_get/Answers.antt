@@ -1,4 +1,4 @@
-use Rattle.std.proofs.Common.{◌≡◌, ℕ, [], subst}
+use Rattle.std.proofs.Common.{◌≡◌, ◌∙◌, ℕ, [], subst}
 use Rattle.instance_view.specs.Shown.{visible_in}
 use Rattle.cas_service.specs.Answers.{IfAnswered}
 use Rattle.cas_service.specs.Changes.{visible_after_changes}
@@ -28,13 +28,17 @@ returns-clause-changed c = λ moment calls.
     results_make outcome.result c.settle.result s changes (after_get s.name s.visible s.results message) (visible_in p outcome.new.view) outcome.new.results
     limited left (seen_same outcome.result outcome.new.results s.results p c.args.contents.now.view outcome.new.view outcome.ensures.err) c.settle.ensures.memory
 
-pub returns-clause-results : goal.returns-clause-results
-returns-clause-results c =
+pub returns-clause-kept : goal.returns-clause-kept
+returns-clause-kept c =
     let s = state_of c.args.settings.now 0 c.args.pool.now c.args.contents.now [] in
     let outcome = c.get_action_result-outcome in
     let left = rw c.deref.ensures at outcome.ensures.results in
-    settled_results outcome.result s.results (after_get s.name s.visible s.results c.args.message.now) outcome.new.results left (both_same outcome.result _ _ outcome.ensures.err)
-    c.requires.kept.results (get_stays_within s.name s.visible s.results c.args.message.now c.requires.kept.results)
-
-pub returns-clause-kept : goal.returns-clause-kept
-returns-clause-kept c = c.get_action_result-outcome.ensures.kept c.args.pool.now c.args.settings.now.quota c.requires.kept.kept
+    let results = settled_results outcome.result s.results (after_get s.name s.visible s.results c.args.message.now) outcome.new.results left (both_same outcome.result _ _ outcome.ensures.err)
+    c.requires.kept.results (get_stays_within s.name s.visible s.results c.args.message.now c.requires.kept.results) in
+    record {
+      quota = c.requires.kept.quota;
+      limit = outcome.ensures.limit ∙ c.requires.kept.limit;
+      kept = outcome.ensures.kept c.args.pool.now c.args.settings.now.quota c.requires.kept.kept;
+      uploads = c.requires.kept.uploads;
+      results = results;
+    }

@@ -1,4 +1,4 @@
--- What one entry changes of what is kept.
+-- What one entry changes of what is kept. For the code alone: no public contract speaks of it.
 use Rattle.std.specs.Prelude.{ℕ, ◌==◌, nat_lt, length, if◌then◌else◌, Bool, true, false, not, ◌&&◌, List, [], ◌∷◌, ◌++◌, map, filter, fold, Option, Some, None, Result, Ok, Err, pos, ◌+ℤ◌, ◌-ℤ◌}
 use Rattle.std.specs.Option.{option_map_or}
 use Rattle.http2_flow.specs.Credit.{Credit}

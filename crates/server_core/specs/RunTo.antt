@@ -1,5 +1,4 @@
--- How far the instances of a server and their records have come. For the code alone: no public
--- contract speaks of it.
+-- How far the instances of a server and their records have come.
 use Rattle.std.specs.Prelude.{◌≡◌, ℕ, List, Some}
 use Rattle.std.specs.List.{slice_get}
 use Rattle.served_instance.specs.StandsFor.{ServedState}

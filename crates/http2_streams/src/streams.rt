@@ -10,7 +10,7 @@ ghost use Rattle.http2_headers.specs.HeaderBlock.{new_block};
 ghost use Rattle.http2_streams.specs.History.{Entry, In, Out, last_items, has_failed};
 ghost use Rattle.http2_streams.specs.Sending.{CanSend};
 ghost use Rattle.http2_streams.specs.StandsFor.{StandsFor, InMemory};
-ghost use Rattle.http2_streams.specs.Rules.{answer_after, entries_of, answer_to, no_effect, event_only, cancel_event, reset_frame, window_update, stream_error, is_idle, is_remembered, is_receiving, is_live_at, is_in_turn, on_content, on_data, on_header_list, on_block, on_request, on_trailers, on_reset, on_ping, on_connection_update, on_stream_update, on_settings, stream_event, is_above, setting_fault, settings_fault};
+ghost use Rattle.http2_streams.specs.Rules.{answer_after, entries_of, answer_to, no_effect, event_only, cancel_event, reset_frame, window_update, stream_error, is_idle, is_remembered, is_receiving, is_live_at, is_in_turn, on_content, on_data, on_header_list, on_block, on_request, on_trailers, on_reset, on_ping, on_connection_update, on_stream_update, on_settings, is_above, setting_fault, settings_fault};
 ghost use Rattle.http2_streams.specs.Step.{step_by, after_answer, after_frame_in, after_block, after_header_list, with_headers, after_client_end, after_reset, after_server_end, after_data, after_window_update, without_stream, with_live, new_stream, after_settings, after_resize, size_after_setting};
 
 use crate::event::{Event, StreamEvent};
@@ -657,7 +657,7 @@ fn on_ping<'a>(ack: bool, opaque_data: [u8; 8]) -> StreamEvent<'a>
 }
 
 fn settings_ack<'a>() -> StreamEvent<'a>
-    ensures { result ≡ stream_event (Some (Settings true [])) None None None Event.Nothing }
+    ensures { result ≡ record no_effect { acknowledgement = Some (Settings true []) } }
 {
     StreamEvent {
         acknowledgement: Some(Frame::Settings {

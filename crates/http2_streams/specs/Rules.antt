@@ -23,6 +23,7 @@ use Rattle.http2_headers.specs.declared.header_blocks.HeaderList.{HeaderList}
 use Rattle.http2_headers.specs.Decoding.{list_of_block, list_of_continuation}
 use Rattle.http2_headers.specs.Request.{is_well_formed_request}
 use Rattle.http2_streams.specs.declared.stream.Stream.{Stream}
+use Rattle.http2_streams.specs.declared.streams.TheConstants.{MAX_STREAMS}
 use Rattle.http2_streams.specs.declared.event.Event.{Event}
 use Rattle.http2_streams.specs.declared.event.Event.TheVariants.{Nothing, Request, Content, Trailers, Cancel}
 use Rattle.http2_streams.specs.declared.event.StreamEvent.{StreamEvent}
@@ -113,7 +114,7 @@ on_data v n s end_stream content =
 -- section 5.1.2: at most 100 streams at a time; section 8.1.1: malformed requests
 abbrev pub on_request : Standing → HeaderList → StreamEvent
 on_request v block =
-    if nat_le 100 (length v.live) then stream_error v block.stream RefusedStream
+    if nat_le MAX_STREAMS (length v.live) then stream_error v block.stream RefusedStream
     else if not (is_well_formed_request block.fields) then stream_error v block.stream ProtocolError
     else event_only (Request block.stream block.fields block.end_stream)
 
@@ -148,7 +149,7 @@ setting_fault live s =
     else if s.identifier == MAX_FRAME_SIZE && (nat_lt s.value 16384 || nat_lt 16777215 s.value)
     then Some ProtocolError
     else if s.identifier == INITIAL_WINDOW_SIZE
-        && (nat_le (2 ^ 31) s.value || list_any (is_above s.value) live)
+    && (nat_le (2 ^ 31) s.value || list_any (is_above s.value) live)
     then Some FlowControlError
     else None
 

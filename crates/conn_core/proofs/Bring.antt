@@ -28,7 +28,7 @@ use Rattle.conn_core.specs.Received.{outcome, frame_entries}
 use Rattle.conn_core.specs.Calls.{events, is_call, stream_text, call_events_of, events_of_request, cancels, items_at_once, answer_to_head}
 use Rattle.conn_core.specs.Past.{Past, with_frame, owed_with_items}
 use Rattle.conn_core.specs.StandsFor.{Present, StandsFor, call_on}
-use Rattle.conn_core.specs.Step.{after_frame, HasBrought}
+use Rattle.conn_core.specs.Step.{after_frame, HasBrought, Brings as BringsEvent}
 use Rattle.conn_core.specs.CallSteps.{TakesOn, BeginsCall, without_call, has_call, cancel_if}
 use Rattle.conn_core.proofs.Events.{events_frame}
 use Rattle.conn_core.proofs.Numbers.{or_none, same_number}
@@ -66,9 +66,8 @@ nothing_stands texts v p f h =
 pub nothing_by : (texts : Look) (v : Present) (event : Event) → event ≡ Nothing → (p : Past) (f : RawFrame) → HasBrought texts v p f event → StandsFor texts v (with_frame p f)
 nothing_by texts v event is p f h = nothing_stands texts v p f (subst (λ (x : Event). HasBrought texts v p f x) is h)
 
-pub brings_by : {T E : Type 0} (r : Result T E) (v x : Present) (event brought : Event) → event ≡ brought → OnOk r ((texts : Look) (p : Past) (f : RawFrame) → HasBrought texts v p f brought → StandsFor texts x (with_frame p f)) → OnOk r ((texts : Look) (p : Past) (f : RawFrame) → HasBrought texts v p f event → StandsFor texts x (with_frame p f))
-brings_by (Err e) v x event brought is h = tt
-brings_by (Ok y) v x event brought is h = λ texts p f b. h texts p f (subst (λ (z : Event). HasBrought texts v p f z) is b)
+pub brings_by : {T E : Type 0} (r : Result T E) (v x : Present) (event brought : Event) → event ≡ brought → OnOk r (BringsEvent v brought x) → OnOk r (BringsEvent v event x)
+brings_by r v x event brought is h = subst (λ (z : Event). OnOk r (BringsEvent v z x)) (sym is) h
 
 -- ---- more of a request
 

@@ -1,16 +1,15 @@
 -- What the calls leave that read a frame, by what the code holds.
 use Rattle.std.proofs.Common.{◌≡◌, ◌≢◌, ℕ, ◌<◌, ◌≤◌, List, [], ◌∷◌, ◌++◌, length, refl, ap, ◌∙◌, sym, subst, append_assoc, arith, inl, inr}
-use Rattle.std.specs.Prelude.{Bool, true, false, map, take, ◌+◌, cond, Option, Some, None, Result, Ok, Err, OnOk, OnErr, IfOk, IfErr, IfSome, IfNone, OnSome}
+use Rattle.std.specs.Prelude.{Bool, true, false, map, take, ◌+◌, cond, Option, Some, None, Result, Ok, Err, OnOk, OnErr, IfOk, IfErr, IfSome}
 use Rattle.http2_frames.specs.declared.codes.ErrorCode.{ErrorCode}
 use Rattle.http2_frames.specs.declared.codes.ErrorCode.TheVariants.{EnhanceYourCalm}
 use Rattle.http2_frames.specs.declared.error.FrameError.{FrameError}
-use Rattle.http2_frames.specs.declared.error.FrameError.TheVariants.{Preface, Size, NoMemory}
 use Rattle.http2_frames.specs.declared.frame.RawFrame.{RawFrame}
 use Rattle.http2_frames.specs.declared.frame.Frame.{Frame}
 use Rattle.http2_frames.specs.declared.reader.TheConstants.{CLIENT_PREFACE}
 use Rattle.http2_frames.specs.Reading.{split, split_behind}
 use Rattle.http2_frames.specs.Wire.{Split}
-use Rattle.http2_frames.specs.Reader.{Unread, text_left, split_left, with_more_bytes, frames_in, IsFrame, StandsFor as IsReader}
+use Rattle.http2_frames.specs.Reader.{Unread, text_left, split_left, with_more_bytes, IsFrame, front_of, StandsFor as IsReader}
 use Rattle.http2_headers.specs.declared.fault.H2Fault.{H2Fault}
 use Rattle.http2_headers.specs.declared.fault.H2Fault.TheVariants.{Connection}
 use Rattle.http2_headers.specs.Decoding.{Gives}
@@ -22,14 +21,14 @@ use Rattle.http2_streams.specs.Standing.{Standing}
 use Rattle.http2_streams.specs.StandsFor.{InMemory, StandsFor as AreStreams}
 use Rattle.http2_streams.specs.Rules.{answer_after, control_frames, entries_of, reading_fault}
 use Rattle.grpc_sending.specs.Owed.{OwedItem}
-use Rattle.grpc_sending.specs.StoredSending.{Look, StoredSending, StandsFor as IsSending}
+use Rattle.grpc_sending.specs.StoredSending.{Look, StoredSending, Fit, StandsFor as IsSending}
 use Rattle.grpc_sending.proofs.Histories.{append-nil}
 use Rattle.conn_core.specs.declared.call.Call.{Call}
 use Rattle.conn_core.specs.declared.event.CallEvent.{CallEvent}
 use Rattle.conn_core.specs.Received.{received_raw_frames, goaway_frame}
 use Rattle.conn_core.specs.Past.{Past, with_frame}
-use Rattle.conn_core.specs.StandsFor.{Present, StandsFor, IsAlive, StandsAfterReading, IsNextFrame, unread_length, stream_of as call_stream}
-use Rattle.conn_core.specs.Step.{IsTaking, HasBrought}
+use Rattle.conn_core.specs.StandsFor.{Present, StandsFor, IsAlive, StandsAfterReading, ReadsFrame, IsNextFrame, unread_length, stream_of as call_stream}
+use Rattle.conn_core.specs.Step.{IsTaking, HasBrought, TakesFrame, with_reader}
 use Rattle.conn_core.specs.Putting.{Puts, Fails, IsAnswered, ended_calls}
 use Rattle.conn_core.proofs.Putting.{PutsIf}
 use Rattle.conn_core.proofs.StreamsLaws.{answers_are}
@@ -110,12 +109,6 @@ fault_by texts (Ok y) o v old x u f code is err gives live highest fails = λ p 
 
 -- ---- the bytes
 
-abbrev with_reader : Present → Result Unread FrameError → Present
-with_reader v u = record { reader = u; streams = v.streams; sending = v.sending; calls = v.calls; due = v.due; ended = v.ended }
-
-abbrev Reads : Result Unread FrameError → Result (Option RawFrame) FrameError → Result Unread FrameError → Type 0
-Reads old r new = (preface text : List ℕ) (given : List RawFrame) → IsReader preface old text given → IsReader preface new text (given ++ frames_in r)
-
 alive_of : (texts : Look) (v : Present) (p : Past) → StandsFor texts v p → v.ended ≡ false → IsAlive v p
 alive_of texts v p st alive = st.alive (sym st.ended ∙ alive)
 
@@ -124,44 +117,54 @@ read_ended texts v old is ended p st0 =
     let st : StandsFor texts v p = subst (λ (y : Present). StandsFor texts y p) (sym is) st0 in
     (inl (sym st.ended ∙ ended), st)
 
-pub read_none : (texts : Look) (v old : Present) (u : Result Unread FrameError) (r : Result (Option RawFrame) FrameError) → v ≡ old → v.ended ≡ false → r ≡ Ok None → Reads v.reader r u
-    → IfOk r (λ o. IfNone o ((preface text : List ℕ) (given : List RawFrame) → IsReader preface v.reader text given → split preface text ≡ record { frames = given; end = Ok (text_left u) })) → (p : Past) → StandsFor texts old p → StandsAfterReading texts p false (with_reader v u)
-read_none texts v old u r is alive none reads ends p st0 =
+abbrev ReadAlike : Result Unread FrameError → Result Unread FrameError → Type 0
+ReadAlike old new = (preface text : List ℕ) (given : List RawFrame) → IsReader preface old text given → IsReader preface new text given
+
+-- the reader has looked for a frame, and stands for the same
+looked : (texts : Look) (v : Present) (u : Result Unread FrameError) (p : Past) → ReadAlike v.reader u → StandsFor texts v p → StandsFor texts (with_reader u v) p
+looked texts v u p alike st = record {
+  ended = st.ended;
+  streams = st.streams;
+  sending = st.sending;
+  due = st.due;
+  alive = λ fine.
+      let a = st.alive fine in
+      record { reader = alike CLIENT_PREFACE.now p.text (received_raw_frames p.history) a.reader; calls = a.calls; order = a.order };
+}
+
+pub read_none : (texts : Look) (v old : Present) (u : Result Unread FrameError) (r : Result Bool FrameError) → v ≡ old → v.ended ≡ false → r ≡ Ok false → ReadAlike v.reader u
+    → IfOk r (λ whole. whole ≡ false → (preface text : List ℕ) (given : List RawFrame) → IsReader preface v.reader text given → split preface text ≡ record { frames = given; end = Ok (text_left u) }) → (p : Past) → StandsFor texts old p → StandsAfterReading texts p false (with_reader u v)
+read_none texts v old u r is alive none alike ends p st0 =
     let st : StandsFor texts v p = subst (λ (y : Present). StandsFor texts y p) (sym is) st0 in
     let a = alive_of texts v p st alive in
-    let ends' : (preface text : List ℕ) (given : List RawFrame) → IsReader preface v.reader text given → split preface text ≡ record { frames = given; end = Ok (text_left u) } =
-    subst (λ (z : Result (Option RawFrame) FrameError). IfOk z (λ o. IfNone o ((preface text : List ℕ) (given : List RawFrame) → IsReader preface v.reader text given → split preface text ≡ record { frames = given; end = Ok (text_left u) }))) none ends in
-    let same : IsReader CLIENT_PREFACE.now u p.text (received_raw_frames p.history) = subst (λ (gs : List RawFrame). IsReader CLIENT_PREFACE.now u p.text gs) (ap (λ (z : Result (Option RawFrame) FrameError). received_raw_frames p.history ++ frames_in z) none ∙ append-nil (received_raw_frames p.history)) (reads CLIENT_PREFACE.now p.text (received_raw_frames p.history) a.reader) in (
-      inr (text_left u, ends' CLIENT_PREFACE.now p.text (received_raw_frames p.history) a.reader),
-      record {
-        ended = st.ended;
-        streams = st.streams;
-        sending = st.sending;
-        due = st.due;
-        alive = λ fine. record { reader = same; calls = a.calls; order = a.order };
-      },
+    let ends' : false ≡ false → (preface text : List ℕ) (given : List RawFrame) → IsReader preface v.reader text given → split preface text ≡ record { frames = given; end = Ok (text_left u) } =
+    subst (λ (z : Result Bool FrameError). IfOk z (λ whole. whole ≡ false → (preface text : List ℕ) (given : List RawFrame) → IsReader preface v.reader text given → split preface text ≡ record { frames = given; end = Ok (text_left u) })) none ends in (
+      inr (text_left u, ends' refl CLIENT_PREFACE.now p.text (received_raw_frames p.history) a.reader),
+      looked texts v u p alike st,
     )
+
+pub read_some : (texts : Look) (v old x : Present) (u : Result Unread FrameError) → v ≡ old → ReadAlike v.reader u → ((p : Past) → StandsFor texts (with_reader u v) p → StandsAfterReading texts p true x) → (p : Past) → StandsFor texts old p → StandsAfterReading texts p true x
+read_some texts v old x u is alike take p st0 = take p (looked texts v u p alike (subst (λ (y : Present). StandsFor texts y p) (sym is) st0))
 
 next_is : (p : Past) (f : RawFrame) (u : Result Unread FrameError) → IsReader CLIENT_PREFACE.now u p.text (received_raw_frames p.history ++ f ∷ []) → IsNextFrame p f
 next_is p f u h =
     let now : split CLIENT_PREFACE.now p.text ≡ split_behind (received_raw_frames p.history ++ f ∷ []) (split_left (with_more_bytes u [])) = ap (split CLIENT_PREFACE.now) (sym (append-nil p.text)) ∙ h [] in
     ((split_left (with_more_bytes u [])).frames, ap (λ (s : Split). s.frames) now ∙ append_assoc (received_raw_frames p.history) (f ∷ []) (split_left (with_more_bytes u [])).frames)
 
-pub read_some : (texts : Look) (v old x : Present) (u : Result Unread FrameError) (r : Result (Option RawFrame) FrameError) (f : RawFrame) → v ≡ old → v.ended ≡ false → r ≡ Ok (Some f) → Reads v.reader r u → IfOk r (λ o. IfSome o IsFrame)
-    → ((p : Past) → IsTaking texts (with_reader v u) p f → StandsFor texts x (with_frame p f)) → (p : Past) → StandsFor texts old p → StandsAfterReading texts p true x
-read_some texts v old x u r f is alive some reads frame take p st0 =
-    let st : StandsFor texts v p = subst (λ (y : Present). StandsFor texts y p) (sym is) st0 in
+front_taken : (texts : Look) (v x : Present) (none u : Result Unread FrameError) (f : RawFrame) → v.ended ≡ false → f ≡ front_of v.reader → IsFrame f
+    → ((preface text : List ℕ) (given : List RawFrame) → IsReader preface v.reader text given → IsReader preface u text (given ++ front_of v.reader ∷ []))
+    → TakesFrame (with_reader none v) f x → (p : Past) → StandsFor texts v p → StandsAfterReading texts p true (with_reader u x)
+front_taken texts v x none u f alive front frame passes take p st =
     let a = alive_of texts v p st alive in
-    let reader : IsReader CLIENT_PREFACE.now u p.text (received_raw_frames p.history ++ f ∷ []) = subst (λ (z : Result (Option RawFrame) FrameError). IsReader CLIENT_PREFACE.now u p.text (received_raw_frames p.history ++ frames_in z)) some (reads CLIENT_PREFACE.now p.text (received_raw_frames p.history) a.reader) in
-    let is_frame : IsFrame f = subst (λ (z : Result (Option RawFrame) FrameError). IfOk z (λ o. IfSome o IsFrame)) some frame in (
+    let reader : IsReader CLIENT_PREFACE.now u p.text (received_raw_frames p.history ++ f ∷ []) = subst (λ (g : RawFrame). IsReader CLIENT_PREFACE.now u p.text (received_raw_frames p.history ++ g ∷ [])) (sym front) (passes CLIENT_PREFACE.now p.text (received_raw_frames p.history) a.reader) in (
       sym st.ended ∙ alive,
       inl (
         f,
         next_is p f u reader,
-        take p (record {
+        take u texts p (record {
           ended = alive;
           lives = sym st.ended ∙ alive;
-          short = is_frame.short;
+          short = frame.short;
           reader = reader;
           streams = st.streams;
           sending = st.sending;
@@ -171,29 +174,39 @@ read_some texts v old x u r f is alive some reads frame take p st0 =
       ),
     )
 
-no_memory : (e : FrameError) (code : ErrorCode) → reading_fault e ≡ Some code → e ≢ NoMemory
-no_memory Preface code h = λ no. cc
-no_memory Size code h = λ no. cc
-no_memory NoMemory code h = λ no. cc
+abbrev Passes : Result Unread FrameError → Result Unread FrameError → Type 0
+Passes old new = (preface text : List ℕ) (given : List RawFrame) → IsReader preface old text given → IsReader preface new text (given ++ front_of old ∷ [])
 
-pub read_refused : (texts : Look) (v old x : Present) (u : Result Unread FrameError) (r : Result (Option RawFrame) FrameError) (e : FrameError) (code : ErrorCode) → v ≡ old → v.ended ≡ false → r ≡ Err e → reading_fault e ≡ Some code
-    → IfErr r (λ fault. fault ≢ NoMemory → (preface text : List ℕ) (given : List RawFrame) → IsReader preface v.reader text given → split preface text ≡ record { frames = given; end = Err fault })
-    → Fails (with_reader v u) code None x → (p : Past) → StandsFor texts old p → StandsAfterReading texts p true x
+pub taken_front : {T E : Type 0} (r : Result T E) (v old w x : Present) (none lent u : Result Unread FrameError) (f : RawFrame) → v ≡ old → w ≡ x → v.ended ≡ false → lent ≡ v.reader → f ≡ front_of lent → IsFrame f → Passes lent u
+    → OnOk r (TakesFrame (with_reader none v) f x) → OnOk r (ReadsFrame old true (with_reader u w))
+taken_front (Err e) v old w x none lent u f is same alive lends front frame passes take = tt
+taken_front (Ok y) v old w x none lent u f is same alive lends front frame passes take = λ texts p st.
+    subst (λ (z : Present). StandsAfterReading texts p true (with_reader u z)) (sym same) (front_taken texts v x none u f alive (front ∙ ap front_of lends) frame (subst (λ (z : Result Unread FrameError). Passes z u) lends passes) take p (subst (λ (z : Present). StandsFor texts z p) (sym is) st))
+
+pub fit_meanwhile : (v old w x : Present) → v ≡ old → w ≡ x → ((texts : Look) → Fit texts v.sending.queues → Fit texts x.sending.queues) → (texts : Look) → Fit texts old.sending.queues → Fit texts w.sending.queues
+fit_meanwhile v old w x is same keeps texts h = subst (λ (z : Present). Fit texts z.sending.queues) (sym same) (keeps texts (subst (λ (z : Present). Fit texts z.sending.queues) (sym is) h))
+
+pub read_refused : (texts : Look) (v old x : Present) (u : Result Unread FrameError) (r : Result Bool FrameError) (e : FrameError) (code : ErrorCode) → v ≡ old → v.ended ≡ false → r ≡ Err e → reading_fault e ≡ Some code
+    → IfErr r (λ fault. (preface text : List ℕ) (given : List RawFrame) → IsReader preface v.reader text given → split preface text ≡ record { frames = given; end = Err fault })
+    → Fails (with_reader u v) code None x → (p : Past) → StandsFor texts old p → StandsAfterReading texts p true x
 read_refused texts v old x u r e code is alive err fault refused fails p st0 =
     let st : StandsFor texts v p = subst (λ (y : Present). StandsFor texts y p) (sym is) st0 in
     let a = alive_of texts v p st alive in
-    let refused' : e ≢ NoMemory → (preface text : List ℕ) (given : List RawFrame) → IsReader preface v.reader text given → split preface text ≡ record { frames = given; end = Err e } =
-    subst (λ (z : Result (Option RawFrame) FrameError). IfErr z (λ fault. fault ≢ NoMemory → (preface text : List ℕ) (given : List RawFrame) → IsReader preface v.reader text given → split preface text ≡ record { frames = given; end = Err fault })) err refused in (
+    let refused' : (preface text : List ℕ) (given : List RawFrame) → IsReader preface v.reader text given → split preface text ≡ record { frames = given; end = Err e } =
+    subst (λ (z : Result Bool FrameError). IfErr z (λ fault. (preface text : List ℕ) (given : List RawFrame) → IsReader preface v.reader text given → split preface text ≡ record { frames = given; end = Err fault })) err refused in (
       sym st.ended ∙ alive,
       inr (
         e,
         code,
-        record { read = refused' (no_memory e code fault) CLIENT_PREFACE.now p.text (received_raw_frames p.history) a.reader; fault = fault },
-        read_fault texts (with_reader v u) x p e code (sym st.ended ∙ alive) st.streams st.sending st.due (record { calls = a.calls; order = a.order }) fails,
+        record { read = refused' CLIENT_PREFACE.now p.text (received_raw_frames p.history) a.reader; fault = fault },
+        read_fault texts (with_reader u v) x p e code (sym st.ended ∙ alive) st.streams st.sending st.due (record { calls = a.calls; order = a.order }) fails,
       ),
     )
 
 -- ---- what is left to read
+
+unread_alive : (v : Present) → v.ended ≡ false → unread_length v ≡ 1 + length (text_left v.reader)
+unread_alive v h = ap (λ b. cond b 0 (1 + length (text_left v.reader))) h
 
 unread_left : (x : Present) → unread_length x ≤ 1 + length (text_left x.reader)
 unread_left x = at x.ended refl where
@@ -201,16 +214,5 @@ unread_left x = at x.ended refl where
   at true h = omega arith
   at false h = omega arith
 
-unread_alive : (v : Present) → v.ended ≡ false → unread_length v ≡ 1 + length (text_left v.reader)
-unread_alive v h = ap (λ b. cond b 0 (1 + length (text_left v.reader))) h
-
-pub fewer_frame : (v old x : Present) (u : Result Unread FrameError) (r : Result (Option RawFrame) FrameError) (f : RawFrame) → v ≡ old → v.ended ≡ false → r ≡ Ok (Some f) → IfOk r (λ o. OnSome o (length (text_left u) < length (text_left v.reader))) → x.reader ≡ u → unread_length x < unread_length old
-fewer_frame v old x u r f is alive some shorter same =
-    let less : length (text_left u) < length (text_left v.reader) = subst (λ (z : Result (Option RawFrame) FrameError). IfOk z (λ o. OnSome o (length (text_left u) < length (text_left v.reader)))) some shorter in
-    let left : length (text_left x.reader) ≡ length (text_left u) = ap (λ (z : Result Unread FrameError). length (text_left z)) same in
-    omega (arith, less, left, unread_left x, unread_alive v alive, ap unread_length is)
-
-pub fewer_ended : (v old x : Present) → v ≡ old → v.ended ≡ false → x.ended ≡ true → unread_length x < unread_length old
-fewer_ended v old x is alive ended =
-    let none : unread_length x ≡ 0 = ap (λ b. cond b 0 (1 + length (text_left x.reader))) ended in
-    omega (arith, none, unread_alive v alive, ap unread_length is)
+pub fewer_left : (v old x : Present) (u : Result Unread FrameError) → v ≡ old → v.ended ≡ false → length (text_left u) ≤ length (text_left v.reader) → length (text_left x.reader) < length (text_left u) → unread_length x < unread_length old
+fewer_left v old x u is alive no_longer shorter = omega (arith, no_longer, shorter, unread_left x, unread_alive v alive, ap unread_length is)

@@ -26,7 +26,7 @@ use Rattle.grpc_sending.proofs.Histories.{append-nil}
 use Rattle.conn_core.specs.declared.call.Call.{Call}
 use Rattle.conn_core.specs.declared.event.CallEvent.{CallEvent}
 use Rattle.conn_core.specs.Received.{received_raw_frames}
-use Rattle.conn_core.specs.Calls.{events, begins_call, content_on, stream_text, messages_of}
+use Rattle.conn_core.specs.Calls.{events, begins_call, content_on, messages_of}
 use Rattle.conn_core.specs.Past.{Past, greeting, opening, with_item, with_taken}
 use Rattle.conn_core.specs.StandsFor.{Present, StandsFor, IsAlive, IsCall, call_on, members_of, stream_of as call_stream}
 use Rattle.conn_core.proofs.Events.{events_took, raw_took}

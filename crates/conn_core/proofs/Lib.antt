@@ -17,3 +17,4 @@ pub mod Answered
 pub mod Ends
 pub mod Frames
 mod Looks
+mod Readers

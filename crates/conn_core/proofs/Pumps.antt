@@ -24,7 +24,8 @@ use Rattle.http2_streams.proofs.LiveLaw.{live_falls}
 use Rattle.grpc_sending.specs.Bytes.{untaken_count}
 use Rattle.grpc_sending.specs.Owed.{OwedItem, pieces_left_on}
 use Rattle.grpc_sending.specs.Pump.{part_size, block_frames, reset_after, frames_on, frames_for, next_frames, history_after_puts, history_after_pump}
-use Rattle.grpc_sending.specs.StoredSending.{Look, StoredSending, StandsFor as IsSending}
+use Rattle.grpc_sending.specs.StoredSending.{Look, StoredSending, Fit, IsAtRest, StandsFor as IsSending}
+use Rattle.grpc_sending.proofs.Pumps.{pumped_none}
 use Rattle.grpc_sending.proofs.Histories.{append-nil, sent_more, received_more}
 use Rattle.grpc_sending.proofs.Entries.{failed_before}
 use Rattle.conn_core.specs.Calls.{events, begins_call, is_call}
@@ -155,3 +156,10 @@ pumped_by texts v old streams w is at sending p st0 =
     let b : IsSending texts w (p.history ++ map Out f.0) p.owed = subst (λ (d : List Entry). IsSending texts w d p.owed) f.1 (sending p.history p.owed st.streams st.sending) in
     let c : v.ended ≡ has_failed (p.history ++ map Out f.0) = st.ended ∙ sym (failed_same p.history f.0 f.2) in
     subst (λ (d : List Entry). StandsFor texts (record { reader = v.reader; streams = streams; sending = w; calls = v.calls; due = v.due; ended = v.ended }) (record p { history = d })) (sym f.1) (put_kept texts v streams w p f.0 st a b c)
+
+-- where nothing can be put, the pump changes nothing
+pub rested_by : (texts : Look) (v old : Present) → v ≡ old → IsAtRest v.streams v.sending → Fit texts old.sending.queues → (p : Past) → StandsFor texts old p → StandsFor texts old (with_pumped p)
+rested_by texts v old is rests fit p st =
+    let at : IsAtRest old.streams old.sending = subst (λ (y : Present). IsAtRest y.streams y.sending) is rests in
+    let none : next_frames p.history p.owed ≡ None = at texts fit p.history p.owed st.streams st.sending in
+    subst (λ (d : List Entry). StandsFor texts old (record p { history = d })) (sym (pumped_none p.history p.owed none)) st

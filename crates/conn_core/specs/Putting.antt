@@ -1,13 +1,14 @@
 -- What is put for a frame, and what ends with the connection. For the code alone: no public
 -- contract speaks of them.
-use Rattle.std.specs.Prelude.{◌≡◌, ◌+◌, ◌==◌, ◌||◌, if◌then◌else◌, ℕ, Bool, true, false, List, [], ◌∷◌, ◌++◌, length, map, filter, Option, Some, None, Ok}
+use Rattle.std.specs.Prelude.{◌≡◌, ◌+◌, ◌==◌, ◌||◌, if◌then◌else◌, ℕ, Bool, true, false, List, [], ◌∷◌, ◌++◌, length, map, filter, Option, Some, None, Result, Ok}
 use Rattle.std.specs.List.{list_any, flat_map}
 use Rattle.http2_frames.specs.declared.codes.ErrorCode.{ErrorCode}
+use Rattle.http2_frames.specs.declared.error.FrameError.{FrameError}
 use Rattle.http2_frames.specs.declared.reader.TheConstants.{CLIENT_PREFACE}
 use Rattle.http2_frames.specs.declared.frame.RawFrame.{RawFrame}
 use Rattle.http2_frames.specs.declared.frame.Frame.{Frame}
 use Rattle.http2_frames.specs.declared.frame.Frame.TheVariants.{RstStream, Settings, Ping, WindowUpdate}
-use Rattle.http2_frames.specs.Reader.{StandsFor as IsReader}
+use Rattle.http2_frames.specs.Reader.{Unread, StandsFor as IsReader}
 use Rattle.http2_frames.specs.Writing.{text_of}
 use Rattle.http2_streams.specs.declared.stream.Stream.{Stream}
 use Rattle.http2_streams.specs.declared.event.StreamEvent.{StreamEvent}
@@ -22,7 +23,7 @@ use Rattle.conn_core.specs.declared.event.CallEvent.TheVariants.{Cancel as CallC
 use Rattle.conn_core.specs.Received.{received_raw_frames, frames_to_put, may_put_all, goaway_frame}
 use Rattle.conn_core.specs.Past.{Past, with_frame}
 use Rattle.conn_core.specs.StandsFor.{StandsFor, Present, stream_of}
-use Rattle.conn_core.specs.Step.{AreCalls}
+use Rattle.conn_core.specs.Step.{AreCalls, with_reader}
 
 -- a control frame that answers one
 abbrev pub is_answer : Frame → Bool
@@ -84,5 +85,6 @@ pub record IsAnswered (texts : Look) (v : Present) (p : Past) (f : RawFrame) (a 
 
 abbrev pub Answers : Present → StreamEvent → Present → Type 0
 Answers v a w =
-    (texts : Look) (p : Past) (f : RawFrame) → IsAnswered texts v p f a →
-    StandsFor texts w (with_frame p f)
+    (reader : Result Unread FrameError) (texts : Look) (p : Past) (f : RawFrame) →
+    IsAnswered texts (with_reader reader v) p f a →
+    StandsFor texts (with_reader reader w) (with_frame p f)

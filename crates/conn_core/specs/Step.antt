@@ -1,10 +1,11 @@
 -- The parts of one step through the received bytes. For the code alone: no public contract speaks
 -- of them.
-use Rattle.std.specs.Prelude.{◌≡◌, ◌<◌, ◌≤◌, ◌==◌, ℕ, true, false, List, [], ◌∷◌, ◌++◌, length, map, filter}
+use Rattle.std.specs.Prelude.{◌≡◌, ◌<◌, ◌≤◌, ◌==◌, ℕ, true, false, List, [], ◌∷◌, ◌++◌, length, map, filter, Result}
 use Rattle.std.specs.List.{list_any}
+use Rattle.http2_frames.specs.declared.error.FrameError.{FrameError}
 use Rattle.http2_frames.specs.declared.frame.RawFrame.{RawFrame}
 use Rattle.http2_frames.specs.declared.reader.TheConstants.{CLIENT_PREFACE}
-use Rattle.http2_frames.specs.Reader.{StandsFor as IsReader}
+use Rattle.http2_frames.specs.Reader.{Unread, StandsFor as IsReader}
 use Rattle.http2_streams.specs.declared.event.Event.{Event}
 use Rattle.http2_streams.specs.History.{Entry, live_streams, is_not_closed, has_failed, highest_stream}
 use Rattle.http2_streams.specs.LiveStreams.{IsOnItsStream, live_after}
@@ -62,14 +63,21 @@ pub record HasBrought (texts : Look) (v : Present) (p : Past) (f : RawFrame) (ev
   pub calls : AreCalls v p.history
   pub change : ChangesStreams p.history (after_frame p f) event
 
+-- the reader that lends the frame is apart from what acts on it, which does the same beside each
+abbrev pub with_reader : Result Unread FrameError → Present → Present
+with_reader reader v = record v { reader = reader }
+
 abbrev pub TakesFrame : Present → RawFrame → Present → Type 0
 TakesFrame v f w =
-    (texts : Look) (p : Past) → IsTaking texts v p f → StandsFor texts w (with_frame p f)
+    (reader : Result Unread FrameError) (texts : Look) (p : Past) →
+    IsTaking texts (with_reader reader v) p f →
+    StandsFor texts (with_reader reader w) (with_frame p f)
 
 abbrev pub Brings : Present → Event → Present → Type 0
 Brings v event w =
-    (texts : Look) (p : Past) (f : RawFrame) → HasBrought texts v p f event →
-    StandsFor texts w (with_frame p f)
+    (reader : Result Unread FrameError) (texts : Look) (p : Past) (f : RawFrame) →
+    HasBrought texts (with_reader reader v) p f event →
+    StandsFor texts (with_reader reader w) (with_frame p f)
 
 -- neither what is still to be read nor the streams change
 abbrev pub ChangesCalls : Present → Present → Type 0

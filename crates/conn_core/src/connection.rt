@@ -1,6 +1,7 @@
 //! One connection.
 
 ghost use Rattle.std.specs.Prelude.{◌≡◌, ◌≢◌, ◌≤◌, ◌<◌, ◌-◌, ◌^◌, ◌++◌, ◌∷◌, ◌==◌, [], map, true, false, option_to_list, IsTrue, IfOk, OnOk, OnErr, OnSome, MatchOption, None, Err, length, take, drop};
+ghost use Rattle.http2_frames.specs.Reader.{HasFrame, text_left};
 ghost use Rattle.http2_frames.specs.Writing.{raw_of};
 ghost use Rattle.grpc_sending.specs.Step.{IsControl};
 ghost use Rattle.http2_frames.specs.declared.error.FrameError.{FrameError};
@@ -29,6 +30,7 @@ use http2_streams::{Event, H2Fault, Stream, StreamEvent, Streams};
 use std::alloc::{AllocError, Global};
 use std::collections::VecDeque;
 use std::marker::Model;
+use std::mem;
 
 /// SETTINGS_MAX_CONCURRENT_STREAMS is 100 (RFC 9113 section 6.5.2), as in a payload.
 const MAX_CONCURRENT_STREAMS: &[u8] = b"\x00\x03\x00\x00\x00\x64";
@@ -46,10 +48,13 @@ pub struct Connection {
     due: VecDeque<CallEvent>,
     /// An error of the connection was met.
     ended: bool,
+    /// Nothing changed since the pump found nothing more to put.
+    at_rest: bool,
 }
 
 impl Model for Connection {
-    ghost use Rattle.std.specs.Prelude.{◌≡◌, ◌≤◌, false, length};
+    ghost use Rattle.std.specs.Prelude.{◌≡◌, ◌≤◌, true, false, length};
+    ghost use Rattle.grpc_sending.specs.StoredSending.{IsAtRest};
     ghost use Rattle.conn_core.specs.StandsFor.{Present};
 
     ghost Value = { Present };
@@ -57,7 +62,8 @@ impl Model for Connection {
     ghost view = { λ c. record { reader = c.reader; streams = c.streams; sending = c.sender; calls = c.calls.items; due = c.due.items; ended = c.ended } };
 
     // There is always room for GOAWAY.
-    ghost invariant = { λ c. c.ended ≡ false → length c.sender.pending ≤ 131055 };
+    ghost invariant = { λ c. (c.ended ≡ false → length c.sender.pending ≤ 131055)
+        × (c.at_rest ≡ true → IsAtRest c.streams c.sender) };
 }
 
 impl Connection {
@@ -79,6 +85,7 @@ impl Connection {
             calls: Vec::new(alloc),
             due: VecDeque::new(alloc),
             ended: false,
+            at_rest: false,
         })
     }
 
@@ -116,10 +123,10 @@ impl Connection {
         if self.ended {
             return Ok(false);
         }
-        match self.reader.next() {
-            Ok(None) => Ok(false),
-            Ok(Some(frame)) => {
-                self.take_frame(&frame)?;
+        match self.reader.find() {
+            Ok(false) => Ok(false),
+            Ok(true) => {
+                self.take_front()?;
                 Ok(true)
             }
             Err(FrameError::Preface) => {
@@ -142,18 +149,20 @@ impl Connection {
         ensures rest { self.new ≡ record self.old { sending = self.new.sending } }
         ensures err { OnErr result (self.new ≡ self.old) }
     {
+        self.at_rest = false;
         self.sender.owe_block(&self.streams, stream, block)
     }
 
     /// Owes a message to the stream, where it is live. An error changes nothing.
-    pub fn owe_message(&mut self, stream: u32, message: &[u8]) -> Result<(), AllocError>
-        requires { length message.now < 2 ^ 32 }
-        ensures stands { OnOk result (Owes stream (Message message.now) self.old self.new) }
+    pub fn owe_message(&mut self, stream: u32, message: Vec<u8>) -> Result<(), AllocError>
+        requires { length message.items < 2 ^ 32 }
+        ensures stands { OnOk result (Owes stream (Message message.items) self.old self.new) }
         ensures fit { KeepsFit self.old.sending self.new.sending }
         ensures sources { KeepsSources self.old.sending self.new.sending }
         ensures rest { self.new ≡ record self.old { sending = self.new.sending } }
         ensures err { OnErr result (self.new ≡ self.old) }
     {
+        self.at_rest = false;
         self.sender.owe_message(&self.streams, stream, message)
     }
 
@@ -175,6 +184,7 @@ impl Connection {
         ensures rest { self.new ≡ record self.old { sending = self.new.sending } }
         ensures err { OnErr result (self.new ≡ self.old) }
     {
+        self.at_rest = false;
         self.sender
             .owe_range(&self.streams, stream, source, from, until)
     }
@@ -188,6 +198,7 @@ impl Connection {
         ensures spent { self.new.sending.spent ≡ self.old.sending.spent }
         ensures rest { self.new ≡ record self.old { sending = self.new.sending } }
     {
+        self.at_rest = false;
         self.sender.took(count);
     }
 
@@ -200,7 +211,11 @@ impl Connection {
         ensures rest { self.new ≡ record self.old
             { streams = self.new.streams; sending = self.new.sending } }
     {
+        if self.at_rest {
+            return;
+        }
         self.sender.pump(&mut self.streams, parts);
+        self.at_rest = true;
     }
 
     /// Tells a source whose range is over: it was wholly put, or its stream ended before that. Each
@@ -222,6 +237,7 @@ impl Connection {
         ensures sources { KeepsSources self.old.sending self.new.sending }
         ensures rest { self.new ≡ record self.old { sending = self.new.sending } }
     {
+        self.at_rest = false;
         self.sender.forget_all();
     }
 
@@ -253,7 +269,26 @@ impl Connection {
         pop_live_call(&mut self.calls, self.streams.live())
     }
 
-    fn take_frame(&mut self, frame: &RawFrame) -> Result<(), AllocError>
+    /// Takes the frame at the front of what is still to be read. The reader lends it, and so is
+    /// apart from the rest meanwhile.
+    fn take_front(&mut self) -> Result<(), AllocError>
+        requires alive { self.old.ended ≡ false }
+        requires whole { HasFrame self.old.reader }
+        ensures frame { OnOk result (ReadsFrame self.old true self.new) }
+        ensures shorter { OnOk result (length (text_left self.new.reader)
+            < length (text_left self.old.reader)) }
+        ensures fit { KeepsFit self.old.sending self.new.sending }
+        ensures sources { KeepsSources self.old.sending self.new.sending }
+    {
+        let none = FrameReader::without_preface(*self.calls.allocator());
+        let mut reader = mem::replace(&mut self.reader, none);
+        let outcome = self.take_frame(&reader.frame());
+        reader.pass();
+        self.reader = reader;
+        outcome
+    }
+
+    fn take_frame(&mut self, frame: &RawFrame<'_>) -> Result<(), AllocError>
         requires alive { self.old.ended ≡ false }
         requires short { length frame.now.payload ≤ 16384 }
         ensures stands { OnOk result (TakesFrame self.old frame.now self.new) }
@@ -261,6 +296,7 @@ impl Connection {
         ensures fit { KeepsFit self.old.sending self.new.sending }
         ensures sources { KeepsSources self.old.sending self.new.sending }
     {
+        self.at_rest = false;
         match self.streams.on_frame(frame) {
             Ok(answer) => self.take_answer(answer),
             Err(H2Fault::Connection(code)) => self.fail(code, None),
@@ -352,6 +388,7 @@ impl Connection {
         if !self.sender.has_room(frame) {
             return false;
         }
+        self.at_rest = false;
         self.sender.put_control(frame);
         true
     }
@@ -373,9 +410,11 @@ impl Connection {
                 end_stream,
                 &mut self.due,
             ),
-            Err(fault) => self
-                .sender
-                .owe_block(&self.streams, stream, fault.response()),
+            Err(fault) => {
+                self.at_rest = false;
+                self.sender
+                    .owe_block(&self.streams, stream, fault.response())
+            }
         }
     }
 
@@ -405,6 +444,7 @@ impl Connection {
         ensures fit { KeepsFit self.old.sending self.new.sending }
         ensures sources { KeepsSources self.old.sending self.new.sending }
     {
+        self.at_rest = false;
         self.sender.forget(stream);
         cancel_call(&mut self.calls, stream, &mut self.due)
     }
@@ -419,6 +459,7 @@ impl Connection {
         ensures sources { KeepsSources self.old.sending self.new.sending }
     {
         self.ended = true;
+        self.at_rest = false;
         self.sender
             .put_control(&goaway(self.streams.highest(), code));
         end_calls(&self.calls, self.streams.live(), reset, &mut self.due)?;

@@ -3,3 +3,4 @@ pub mod Splits
 pub mod Steps
 pub mod Grammar
 pub mod MoreBytes
+pub mod Buffers

@@ -1,17 +1,19 @@
 //! Received bytes, cut anywhere, back into messages.
 
-ghost use Rattle.std.specs.Prelude.{◌≡◌, ◌≢◌, ◌↔◌, IsTrue, ◌+◌, ◌++◌, ◌<◌, ◌≤◌, [], drop, length, List, ℕ, Ok, Err, IfOk, IfErr, IfNone, IfSome, OnOk, OnErr, OnSome, IsErrOf, IsOk, Result};
+ghost use Rattle.std.specs.Prelude.{◌≡◌, ◌≢◌, ◌↔◌, IsTrue, ◌+◌, ◌-◌, ◌++◌, ◌<◌, ◌≤◌, [], take, drop, length, List, ℕ, Ok, Err, IfOk, IfErr, IfNone, IfSome, OnOk, OnErr, OnSome, IsErrOf, IsOk, Result};
 ghost use Rattle.grpc_messages.specs.declared.error.MessagesError.{MessagesError};
-ghost use Rattle.grpc_messages.specs.Wire.{end_of_rest, size_of};
-ghost use Rattle.grpc_messages.specs.Reading.{split, whole_at, message_at};
+ghost use Rattle.grpc_messages.specs.Wire.{end_of_rest};
+ghost use Rattle.grpc_messages.specs.Reading.{split, whole_at};
 ghost use Rattle.grpc_messages.specs.Reader.{StandsFor, bytes_left, with_more_bytes, messages_in, split_left};
 ghost use Rattle.grpc_messages.specs.Step.{Takes, ends_at, after_end};
 
 use crate::error::MessagesError;
 use crate::message::Message;
+use arrayvec::ArrayVec;
 use byteorder::{BigEndian, ByteOrder};
 use std::alloc::{AllocError, Global};
 use std::marker::Model;
+use std::mem;
 
 /// The most bytes in a message that is received.
 pub const MESSAGE_LIMIT: usize = 4_194_304;
@@ -19,29 +21,38 @@ pub const MESSAGE_LIMIT: usize = 4_194_304;
 /// The bytes before a message: its flag and its length.
 pub const PREFIX_LENGTH: usize = 5;
 
+/// What may come with the end of a message, as in a frame that begins the next one.
+const SLACK: usize = 16_384;
+
 /// Splits the data of one request into messages, in whatever pieces its bytes come.
 ///
 /// It keeps the bytes that were not given yet: once [`Messages::next`] has answered `None`, less
-/// than one whole message.
+/// than one whole message. The bytes of a message stand apart from those before it, so that the
+/// buffer in which a message has come is what is given, and not a copy of it.
 #[derive(Drop)]
 pub struct Messages {
-    received: Vec<u8>,
-    /// How many of the bytes received were given.
+    /// What has come of the flag and the length before the next message.
+    prefix: ArrayVec<u8, PREFIX_LENGTH>,
+    /// What has come behind them, which is nothing as long as they are not whole.
+    behind: Vec<u8>,
+    /// How many of the bytes behind were given.
     given: usize,
     refusal: Option<MessagesError>,
 }
 
 impl Model for Messages {
-    ghost use Rattle.std.specs.Prelude.{◌≤◌, ◌≢◌, ℕ, List, Result, Some, length, drop};
+    ghost use Rattle.std.specs.Prelude.{◌≡◌, ◌++◌, ◌<◌, ◌≤◌, ◌≢◌, ℕ, List, Result, Some, length, drop};
     ghost use Rattle.grpc_messages.specs.declared.error.MessagesError.{MessagesError};
     ghost use Rattle.grpc_messages.specs.declared.error.MessagesError.TheVariants.{NoMemory};
     ghost use Rattle.grpc_messages.specs.Reader.{left_of};
 
     ghost Value = { Result (List ℕ) MessagesError };
 
-    ghost view = { λ m. left_of (drop m.given m.received.items) m.refusal };
+    ghost view = { λ m. left_of (m.prefix.items ++ drop m.given m.behind.items) m.refusal };
 
-    ghost invariant = { λ m. (m.given ≤ length m.received.items) × (m.refusal ≢ Some NoMemory) };
+    ghost invariant = { λ m. (m.given ≤ length m.behind.items)
+        × (length m.prefix.items < 5 → m.given ≡ length m.behind.items)
+        × (m.refusal ≢ Some NoMemory) };
 }
 
 impl Messages {
@@ -51,7 +62,8 @@ impl Messages {
         ensures stands { StandsFor MESSAGE_LIMIT result [] [] }
     {
         Messages {
-            received: Vec::new(alloc),
+            prefix: ArrayVec::new(),
+            behind: Vec::new(alloc),
             given: 0,
             refusal: None,
         }
@@ -82,7 +94,8 @@ impl Messages {
             return Err(refusal);
         }
         self.discard_given();
-        self.received.extend_from_slice(piece)?;
+        self.make_room(piece.len())?;
+        extend(&mut self.prefix, &mut self.behind, piece)?;
         Ok(())
     }
 
@@ -91,10 +104,21 @@ impl Messages {
     fn discard_given(&mut self)
         ensures { self.new ≡ self.old }
     {
-        if self.given >= self.received.len() - self.given {
-            self.received.drain(..self.given);
+        if self.given >= self.behind.len() - self.given {
+            self.behind.drain(..self.given);
             self.given = 0;
         }
+    }
+
+    /// Asks at once for the room of a message that is not whole with the next `count` bytes.
+    fn make_room(&mut self, count: usize) -> Result<(), AllocError>
+        ensures { self.new ≡ self.old }
+    {
+        let missing = missing(self.prefix.as_slice(), self.behind.len() - self.given);
+        if missing > count {
+            self.behind.reserve(missing + SLACK)?;
+        }
+        Ok(())
     }
 
     /// The next message, or `None` where no further one is whole. A reader that refused repeats its
@@ -137,14 +161,12 @@ impl Messages {
         if let Some(refusal) = self.refusal {
             return Err(refusal);
         }
-        let alloc = *self.received.allocator();
-        let unread = behind_given(&self.received, self.given);
-        match whole_at(unread) {
+        let unread = behind_given(&self.behind, self.given);
+        match whole_at(self.prefix.as_slice(), unread) {
             Ok(None) => Ok(None),
             Ok(Some(size)) => {
-                let message = message_at(alloc, unread, size)?;
-                self.given += PREFIX_LENGTH + size;
-                Ok(Some(message))
+                let bytes = take_front(&mut self.prefix, &mut self.behind, &mut self.given, size)?;
+                Ok(Some(Message::new(bytes)))
             }
             Err(refusal) => {
                 self.refusal = Some(refusal);
@@ -177,7 +199,7 @@ impl Messages {
     pub fn is_empty(&self) -> bool
         ensures { IsTrue result ↔ bytes_left self.now ≡ [] }
     {
-        self.refusal.is_some() || self.given == self.received.len()
+        self.refusal.is_some() || self.prefix.is_empty()
     }
 
     fn finish(&mut self) -> Result<(), MessagesError>
@@ -187,9 +209,9 @@ impl Messages {
         if let Some(refusal) = self.refusal {
             return Err(refusal);
         }
-        let unread = behind_given(&self.received, self.given);
-        let answer = match whole_at(unread) {
-            Ok(None) if unread.is_empty() => Ok(()),
+        let unread = behind_given(&self.behind, self.given);
+        let answer = match whole_at(self.prefix.as_slice(), unread) {
+            Ok(None) if self.prefix.is_empty() => Ok(()),
             Ok(_) => Err(MessagesError::CutOff),
             Err(refusal) => Err(refusal),
         };
@@ -199,41 +221,144 @@ impl Messages {
 }
 
 /// The bytes that were not given yet.
-fn behind_given(received: &[u8], given: usize) -> &[u8]
-    requires { given ≤ length received.now }
-    ensures { result.now ≡ drop given received.now }
+fn behind_given(behind: &[u8], given: usize) -> &[u8]
+    requires { given ≤ length behind.now }
+    ensures { result.now ≡ drop given behind.now }
 {
-    &received[given..]
+    &behind[given..]
 }
 
-/// The length of the whole message at the front, if one is there.
-fn whole_at(bytes: &[u8]) -> Result<Option<usize>, MessagesError>
-    ensures { result ≡ whole_at MESSAGE_LIMIT bytes.now }
+/// How many bytes are missing of the message behind the prefix, of which `come` have come. Of no
+/// message more than [`MESSAGE_LIMIT`] are wanted.
+fn missing(prefix: &[u8], come: usize) -> usize
+    ensures { result ≤ MESSAGE_LIMIT }
 {
-    if bytes.len() < PREFIX_LENGTH {
+    if prefix.len() < PREFIX_LENGTH {
+        return 0;
+    }
+    let size = BigEndian::read_u32(&prefix[1..]) as usize;
+    size.min(MESSAGE_LIMIT).saturating_sub(come)
+}
+
+/// Appends the piece: to the prefix, until that is whole, and else behind it.
+fn extend(
+    prefix: &mut ArrayVec<u8, PREFIX_LENGTH>,
+    behind: &mut Vec<u8>,
+    piece: &[u8],
+) -> Result<(), AllocError>
+    ensures prefix { OnOk result (prefix.new.items
+        ≡ prefix.old.items ++ take (5 - length prefix.old.items) piece.now) }
+    ensures behind { OnOk result (behind.new.items
+        ≡ behind.old.items ++ drop (5 - length prefix.old.items) piece.now) }
+    ensures err { OnErr result ((prefix.new.items ≡ prefix.old.items)
+        × (behind.new.items ≡ behind.old.items)) }
+{
+    let count = piece.len().min(PREFIX_LENGTH - prefix.len());
+    behind.extend_from_slice(&piece[count..])?;
+    append_to_prefix(prefix, &piece[..count]);
+    Ok(())
+}
+
+fn append_to_prefix(prefix: &mut ArrayVec<u8, PREFIX_LENGTH>, bytes: &[u8])
+    requires { length prefix.old.items + length bytes.now ≤ 5 }
+    ensures { prefix.new.items ≡ prefix.old.items ++ bytes.now }
+{
+    prefix.try_extend_from_slice(bytes).unwrap();
+}
+
+/// The length of the whole message behind the prefix, if one is there.
+fn whole_at(prefix: &[u8], behind: &[u8]) -> Result<Option<usize>, MessagesError>
+    requires few { length prefix.now ≤ 5 }
+    requires none { length prefix.now < 5 → behind.now ≡ [] }
+    ensures { result ≡ whole_at MESSAGE_LIMIT (prefix.now ++ behind.now) }
+{
+    if prefix.len() < PREFIX_LENGTH {
         return Ok(None);
     }
-    if bytes[0] != 0 {
+    if prefix[0] != 0 {
         return Err(MessagesError::Compressed);
     }
-    let size = BigEndian::read_u32(&bytes[1..]) as usize;
+    let size = BigEndian::read_u32(&prefix[1..]) as usize;
     if size > MESSAGE_LIMIT {
         return Err(MessagesError::TooLarge);
     }
-    if bytes.len() < PREFIX_LENGTH + size {
+    if behind.len() < size {
         return Ok(None);
     }
     Ok(Some(size))
 }
 
-/// The message at the front, which has `size` bytes.
-fn message_at(alloc: Global, bytes: &[u8], size: usize) -> Result<Message, AllocError>
-    requires size { size ≡ size_of bytes.now }
-    requires whole { 5 + size ≤ length bytes.now }
-    requires short { size ≤ MESSAGE_LIMIT }
-    ensures { IfOk result (λ message. message ≡ message_at bytes.now) }
+/// Takes the message behind the prefix, which has `size` bytes, and begins the next prefix with
+/// what follows it. Where memory is refused nothing is taken.
+fn take_front(
+    prefix: &mut ArrayVec<u8, PREFIX_LENGTH>,
+    behind: &mut Vec<u8>,
+    given: &mut usize,
+    size: usize,
+) -> Result<Vec<u8>, AllocError>
+    requires { given.old + size ≤ length behind.old.items }
+    ensures message { IfOk result (λ message. message.items
+        ≡ take size (drop given.old behind.old.items)) }
+    ensures rest { OnOk result (prefix.new.items ++ drop given.new behind.new.items
+        ≡ drop (given.old + size) behind.old.items) }
+    ensures within { OnOk result (given.new ≤ length behind.new.items) }
+    ensures none { OnOk result (length prefix.new.items < 5 →
+        given.new ≡ length behind.new.items) }
+    ensures err { OnErr result ((prefix.new.items ≡ prefix.old.items)
+        × (behind.new.items ≡ behind.old.items) × (given.new ≡ given.old)) }
 {
-    let mut message = Vec::with_capacity(alloc, size)?;
-    message.extend_from_slice(&bytes[PREFIX_LENGTH..PREFIX_LENGTH + size])?;
-    Ok(Message::new(message))
+    let message = cut_front(behind, given, size)?;
+    begin_prefix(prefix, behind, given);
+    Ok(message)
+}
+
+/// Takes the next `size` bytes. Where nothing was given before them the buffer itself is handed on,
+/// unless more follows them than they are.
+fn cut_front(behind: &mut Vec<u8>, given: &mut usize, size: usize) -> Result<Vec<u8>, AllocError>
+    requires { given.old + size ≤ length behind.old.items }
+    ensures message { IfOk result (λ message. message.items
+        ≡ take size (drop given.old behind.old.items)) }
+    ensures rest { OnOk result (drop given.new behind.new.items
+        ≡ drop (given.old + size) behind.old.items) }
+    ensures within { OnOk result (given.new ≤ length behind.new.items) }
+    ensures err { OnErr result ((behind.new.items ≡ behind.old.items)
+        × (given.new ≡ given.old)) }
+{
+    let end = *given + size;
+    if *given > 0 || behind.len() - end > size {
+        let message = copy_of(*behind.allocator(), &behind[*given..end])?;
+        *given = end;
+        return Ok(message);
+    }
+    let rest = copy_of(*behind.allocator(), &behind[end..])?;
+    let mut message = mem::replace(behind, rest);
+    message.truncate(size);
+    Ok(message)
+}
+
+fn copy_of(alloc: Global, bytes: &[u8]) -> Result<Vec<u8>, AllocError>
+    ensures { IfOk result (λ copy. copy.items ≡ bytes.now) }
+{
+    let mut copy = Vec::with_capacity(alloc, bytes.len())?;
+    copy.extend_from_slice(bytes)?;
+    Ok(copy)
+}
+
+/// Takes the next five bytes, or all that are there, as the prefix. Where nothing is left behind it
+/// the buffer is let go.
+fn begin_prefix(prefix: &mut ArrayVec<u8, PREFIX_LENGTH>, behind: &mut Vec<u8>, given: &mut usize)
+    requires { given.old ≤ length behind.old.items }
+    ensures rest { prefix.new.items ++ drop given.new behind.new.items
+        ≡ drop given.old behind.old.items }
+    ensures within { given.new ≤ length behind.new.items }
+    ensures none { length prefix.new.items < 5 → given.new ≡ length behind.new.items }
+{
+    let count = (behind.len() - *given).min(PREFIX_LENGTH);
+    prefix.clear();
+    append_to_prefix(prefix, &behind[*given..*given + count]);
+    *given += count;
+    if *given == behind.len() {
+        *behind = Vec::new(*behind.allocator());
+        *given = 0;
+    }
 }

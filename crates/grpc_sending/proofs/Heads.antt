@@ -50,6 +50,59 @@ take_few n k xs is = elim (cases_Bool (nat_le n (length xs))) [
 drop-drop : (n m : ℕ) (xs : List ℕ) → drop m (drop n xs) ≡ drop (n + m) xs
 drop-drop n m xs = grind (arith, common_steps)
 
+-- what is left of a list in two parts
+parts_left : (put k : ℕ) (h b : List ℕ) → k ≡ min put (length h) → drop k h ++ drop (put - k) b ≡ drop put (h ++ b)
+parts_left put k h b is = elim (cases_Bool (nat_le put (length h))) [
+  | inl few ↦
+      let le : put ≤ length h = grind (arith, nat_tests) in
+      let same : k ≡ put = omega (arith, is, le) in
+      let none : put - k ≡ put - length h = omega (arith, is, le) in
+      ap (λ m. drop m h ++ drop (put - k) b) same ∙ ap (λ m. drop put h ++ drop m b) none ∙ sym (drop_parts put h b)
+  | inr past ↦
+      let le : length h < put = grind (arith, nat_tests) in
+      let all : k ≡ length h = omega (arith, is, le) in
+      let here : drop k h ≡ drop put h = drop_all k h (omega (arith, all)) ∙ sym (drop_all put h (omega (arith, le))) in
+      ap (λ (t : List ℕ). t ++ drop (put - k) b) here ∙ ap (λ m. drop put h ++ drop (put - m) b) all ∙ sym (drop_parts put h b)
+]
+
+all_left : (k n : ℕ) (xs : List ℕ) → n ≡ length xs → take (n - k) (drop k xs) ≡ drop k xs
+all_left k n xs is = take_all (n - k) (drop k xs) (omega (arith, length-drop k xs, is))
+
+-- .. as slices give it
+pub parts_read : (put k : ℕ) (h b text : List ℕ) → text ≡ b → length h ≡ 5 → k ≡ min put 5 → take (5 - k) (drop k h) ++ take (length text - (put - k)) (drop (put - k) text) ≡ drop put (h ++ b)
+parts_read put k h b text same five is =
+    let short : k ≡ min put (length h) = omega (arith, is, five) in
+    let here : take (5 - k) (drop k h) ≡ drop k h = all_left k 5 h (sym five) in
+    let there : take (length text - (put - k)) (drop (put - k) text) ≡ drop (put - k) text = all_left (put - k) (length text) text refl in
+    ap (λ (t : List ℕ). t ++ take (length text - (put - k)) (drop (put - k) text)) here
+    ∙ ap (λ (t : List ℕ). drop k h ++ t) (there ∙ ap (drop (put - k)) same)
+    ∙ parts_left put k h b short
+
+-- the first n of a list in two parts
+pub parts_first : (n k : ℕ) (h b : List ℕ) → k ≡ min (length h) n → take k h ++ take (n - k) b ≡ take n (h ++ b)
+parts_first n k h b is =
+    let some : n - length h ≡ n - k = omega (arith, is) in
+    sym (take_parts n h b ∙ ap (λ (t : List ℕ). t ++ take (n - length h) b) (take_few n k h is) ∙ ap (λ m. take k h ++ take m b) some)
+
+-- the second part has what the first has not
+pub second_there : (n k : ℕ) (h b whole : List ℕ) → h ++ b ≡ whole → n ≤ length whole → k ≡ min (length h) n → n - k ≤ length b
+second_there n k h b whole is there of_first = omega (arith, ap length is, length-append h b, there, of_first)
+
+-- a DATA frame that is written in three steps, from two parts of a message
+pub message_put : (n k stream : ℕ) (h b whole out x y z : List ℕ) → h ++ b ≡ whole → n ≤ length whole → k ≡ min (length h) n →
+    x ≡ out ++ header_text n DATA 0 stream → y ≡ x ++ take k h → z ≡ y ++ take (n - k) b → z ≡ out ++ text_of (Data stream false (take n whole))
+message_put n k stream h b whole out x y z is there of_first put_head put_first put_second =
+    let first : List ℕ = take k h in
+    let second : List ℕ = take (n - k) b in
+    let header : List ℕ = header_text n DATA 0 stream in
+    let size : length (take n whole) ≡ n = length-take-le n whole there in
+    put_second
+    ∙ ap (λ (t : List ℕ). t ++ second) (put_first ∙ ap (λ (t : List ℕ). t ++ first) put_head)
+    ∙ append_assoc (out ++ header) first second
+    ∙ append_assoc out header (first ++ second)
+    ∙ ap (λ (t : List ℕ). out ++ (header ++ t)) (parts_first n k h b of_first ∙ ap (take n) is)
+    ∙ ap (λ m. out ++ (header_text m DATA 0 stream ++ take n whole)) (sym size)
+
 -- n bytes within a part of a text
 part_within : (c q n from : ℕ) (text : List ℕ) → q + n ≤ c → take n (drop q (take c (drop from text))) ≡ take n (drop (from + q) text)
 part_within c q n from text within =

@@ -24,7 +24,7 @@ use Rattle.grpc_sending.specs.Sources.{count_of, sources_held}
 use Rattle.grpc_sending.specs.Spans.{Span, span_pieces, span_front, span_size, span_after, IsSpan}
 use Rattle.grpc_sending.specs.Owed.{OwedItem, Item, Range, pieces_left_on}
 use Rattle.grpc_sending.specs.Pump.{part_size, first_of, history_after_pump}
-use Rattle.grpc_sending.specs.Step.{Puts, Resets, Finishes}
+use Rattle.grpc_sending.specs.Step.{Puts, Rests, Resets, Finishes}
 use Rattle.grpc_sending.specs.StandsFor.{Sending, IsSending, owed_with_item}
 
 -- the text of each source
@@ -161,6 +161,10 @@ abbrev pub PumpsSending : Look → Standing → StoredSending → StoredSending 
 PumpsSending texts streams v w =
     (d : List Entry) (os : List OwedItem) → AreStreams streams d → StandsFor texts v d os →
     StandsFor texts w (history_after_pump d os) os
+
+-- nothing more can be put, whatever the texts are
+abbrev pub IsAtRest : Standing → StoredSending → Type 0
+IsAtRest streams w = (texts : Look) → Fit texts w.queues → Rests streams (sending_in texts w)
 
 -- what one turn does
 abbrev pub PutsBy : Look → Standing → StoredSending → Standing → StoredSending → Type 0

@@ -10,8 +10,9 @@ ghost use Rattle.grpc_sending.specs.StoredSending.{stored_front};
 ghost use Rattle.grpc_sending.specs.Sources.{source_of};
 
 use crate::range::Cursor;
+use byteorder::{BigEndian, ByteOrder};
 use grpc_calls::ResponseBlock;
-use grpc_messages::write_message;
+use grpc_messages::PREFIX_LENGTH;
 use hpack::Position;
 use std::alloc::{AllocError, Global};
 use std::marker::Model;
@@ -92,43 +93,55 @@ impl<'a> BlockText<'a> {
     }
 }
 
-/// The bytes of a framed message that are still to be put.
+/// The bytes of a framed message that are still to be put: those of its prefix, and the message.
 #[derive(Drop)]
 pub(crate) struct FramedMessage {
-    text: Vec<u8>,
+    prefix: [u8; PREFIX_LENGTH],
+    message: Vec<u8>,
+    /// How many bytes were put, the prefix with them.
     put: usize,
 }
 
 impl Model for FramedMessage {
-    ghost use Rattle.std.specs.Prelude.{ℕ, List, drop, ◌≤◌, length};
+    ghost use Rattle.std.specs.Prelude.{ℕ, List, drop, ◌≡◌, ◌<◌, ◌≤◌, ◌+◌, ◌++◌, ◌^◌, length};
 
     ghost Value = { List ℕ };
 
-    ghost view = { λ m. drop m.put m.text.items };
+    ghost view = { λ m. drop m.put (m.prefix ++ m.message.items) };
 
-    ghost invariant = { λ m. m.put ≤ length m.text.items };
+    ghost invariant = { λ m. (length m.prefix ≡ 5) × (m.put ≤ 5 + length m.message.items)
+        × (5 + length m.message.items < 2 ^ 64) };
 }
 
 impl FramedMessage {
-    pub(crate) fn new(alloc: Global, message: &[u8]) -> Result<FramedMessage, AllocError>
-        requires { length message.now < 2 ^ 32 }
-        ensures { IfOk result (λ m. m ≡ framed_message message.now) }
+    pub(crate) fn new(message: Vec<u8>) -> FramedMessage
+        requires { length message.items < 2 ^ 32 }
+        ensures { result ≡ framed_message message.items }
     {
-        let mut text = Vec::new(alloc);
-        write_message(&mut text, message)?;
-        Ok(FramedMessage { text, put: 0 })
+        let mut size = [0u8; 4];
+        BigEndian::write_u32(&mut size, message.len() as u32);
+        FramedMessage {
+            prefix: [0, size[0], size[1], size[2], size[3]],
+            message,
+            put: 0,
+        }
     }
 
-    pub(crate) fn as_slice(&self) -> &[u8]
-        ensures { result.now ≡ self.now }
+    /// What is left of the prefix, and what is left of the message behind it.
+    pub(crate) fn parts(&self) -> (&[u8], &[u8])
+        ensures { result.0.now ++ result.1.now ≡ self.now }
     {
-        &self.text[self.put..]
+        let of_prefix = self.put.min(PREFIX_LENGTH);
+        (
+            &self.prefix[of_prefix..],
+            &self.message[self.put - of_prefix..],
+        )
     }
 
     pub(crate) fn len(&self) -> usize
         ensures { result ≡ length self.now }
     {
-        self.text.len() - self.put
+        PREFIX_LENGTH + self.message.len() - self.put
     }
 
     /// The first bytes were put.

@@ -10,7 +10,7 @@ ghost use Rattle.grpc_sending.specs.Bytes.{most_untaken};
 ghost use Rattle.grpc_sending.specs.Owed.{OwedItem, Headed, Message, Range};
 ghost use Rattle.grpc_sending.specs.Pump.{history_after_pump, next_frames};
 ghost use Rattle.grpc_sending.specs.StandsFor.{owed_with_item};
-ghost use Rattle.grpc_sending.specs.StoredSending.{Tells, Enters, DropsClosed, DropsAll, Owes, OwesRange, PumpsStreams, PumpsSending, PutsBy, ResetsBy, FinishesBy, KeepsFit, KeepsFitWith, Look, StoredSending, StandsFor, Fit, IsFit, KeepsSources, HoldsMore, HasFew, new_stored_sending, sending_in, stored_on, front_bytes, front_frame};
+ghost use Rattle.grpc_sending.specs.StoredSending.{Tells, Enters, DropsClosed, DropsAll, Owes, OwesRange, IsAtRest, PumpsStreams, PumpsSending, PutsBy, ResetsBy, FinishesBy, KeepsFit, KeepsFitWith, Look, StoredSending, StandsFor, Fit, IsFit, KeepsSources, HoldsMore, HasFew, new_stored_sending, sending_in, stored_on, front_bytes, front_frame};
 ghost use Rattle.grpc_sending.specs.Step.{Puts, Rests, IsControl, Finishes, Resets};
 
 use crate::backlog::Backlog;
@@ -22,7 +22,7 @@ use crate::range::Cursor;
 use crate::turn::{Due, next_due};
 use grpc_calls::ResponseBlock;
 use hpack::Position;
-use http2_frames::{ErrorCode, Frame, Octets, payload_length};
+use http2_frames::{ErrorCode, Frame, payload_length};
 use http2_streams::Streams;
 use std::alloc::{AllocError, Global};
 use std::marker::Model;
@@ -163,10 +163,11 @@ impl Sender {
         &mut self,
         streams: &Streams,
         stream: u32,
-        message: &[u8],
+        message: Vec<u8>,
     ) -> Result<(), AllocError>
-        requires { length message.now < 2 ^ 32 }
-        ensures ok { OnOk result (Owes streams.now stream (Message message.now) self.old self.new) }
+        requires { length message.items < 2 ^ 32 }
+        ensures ok { OnOk result (Owes streams.now stream (Message message.items) self.old
+            self.new) }
         ensures fit { KeepsFit self.old self.new }
         ensures sources { KeepsSources self.old self.new }
         ensures pending { self.new.pending ≡ self.old.pending }
@@ -175,7 +176,7 @@ impl Sender {
         if streams.has_failed() || !streams.is_live(stream) {
             return Ok(());
         }
-        let message = FramedMessage::new(self.backlog.allocator(), message)?;
+        let message = FramedMessage::new(message);
         self.backlog.push(stream, StoredPiece::Framed(message))
     }
 
@@ -216,6 +217,7 @@ impl Sender {
         requires fit { Fit (P.text_of parts.now) self.old.queues }
         ensures streams { PumpsStreams (P.text_of parts.now) streams.old self.old streams.new }
         ensures sending { PumpsSending (P.text_of parts.now) streams.old self.old self.new }
+        ensures rests { IsAtRest streams.new self.new }
         ensures fit { KeepsFit self.old self.new }
         ensures sources { KeepsSources self.old self.new }
 
@@ -234,8 +236,7 @@ impl Sender {
         ensures grows { IsTrue result → ((length self.old.pending < length self.new.pending)
             × (length self.old.pending < 65536)) }
         ensures room { IsTrue result → length self.new.pending ≤ CONTROL_LIMIT }
-        ensures rests { result ≡ false →
-            Rests streams.old (sending_in (P.text_of parts.now) self.old) }
+        ensures rests { result ≡ false → IsAtRest streams.old self.old }
         ensures streams { result ≡ false → streams.new ≡ streams.old }
         ensures same { result ≡ false → self.new ≡ self.old }
         ensures fit { KeepsFit self.old self.new }
@@ -369,23 +370,7 @@ fn put_piece<P: Parts>(
 {
     match piece {
         StoredPiece::Encoded(_) => {}
-        StoredPiece::Framed(message) => put_message(buffer, stream, count, message),
+        StoredPiece::Framed(message) => buffer.put_message(stream, count, message),
         StoredPiece::Ranged(range) => buffer.put_range(stream, count, range, parts),
     }
-}
-
-fn put_message(buffer: &mut OutBuffer, stream: u32, count: usize, message: &FramedMessage)
-    requires there { count ≤ length message.now }
-    requires short { count ≤ 16384 }
-    requires room { length buffer.old + (9 + count) ≤ CAPACITY }
-    ensures bytes { buffer.new ≡ buffer.old
-        ++ text_of (Data stream false (take count message.now)) }
-    ensures size { length buffer.new ≡ length buffer.old + (9 + count) }
-{
-    let frame = Frame::Data {
-        stream,
-        end_stream: false,
-        data: Octets::new(&message.as_slice()[..count]),
-    };
-    buffer.put(&frame);
 }

@@ -1,4 +1,3 @@
-pub mod Taking
 pub mod Fronts
 pub mod Splits
 pub mod Steps

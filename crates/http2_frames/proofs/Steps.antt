@@ -1,19 +1,41 @@
 -- What one call of a reader says of the split of the text that it stands for.
-use Rattle.std.proofs.Common.{◌≡◌, ◌≢◌, ℕ, ◌+◌, ◌<◌, ◌≤◌, ◌⊎◌, inl, inr, Bool, true, false, cond, nat_eq, List, [], ◌∷◌, ◌++◌, length, drop, Option, Some, None, Result, Ok, Err, IfOk, IfErr, IfNone, IsErrOf, refl, sym, ap, subst, ◌∙◌, append_assoc, arith}
+use Rattle.std.proofs.Common.{◌≡◌, ◌≢◌, ℕ, ◌+◌, ◌<◌, ◌≤◌, ◌⊎◌, inl, inr, Bool, true, false, cond, nat_eq, List, [], ◌∷◌, ◌++◌, length, drop, Option, Some, None, Result, Ok, Err, IfOk, IfErr, IfNone, IsErrOf, refl, sym, ap, subst, ◌∙◌, append_assoc, length-drop, IsTrue, arith}
 use Rattle.std.proofs.lemmas.List.{append-nil}
 use Rattle.std.specs.List.{starts_with}
+use Rattle.byteorder.specs.Endian.{big_number}
 use Rattle.http2_frames.specs.declared.error.FrameError.{FrameError}
 use Rattle.http2_frames.specs.declared.error.FrameError.TheVariants.{Preface, Size, NoMemory}
 use Rattle.http2_frames.specs.declared.frame.RawFrame.{RawFrame}
 use Rattle.http2_frames.specs.Wire.{Split}
-use Rattle.http2_frames.specs.Reading.{whole_at, split_behind, rest_only, fault_only, split_frames, split}
-use Rattle.http2_frames.specs.Reader.{Unread, text_left, split_left, with_more_bytes, StandsFor, frames_in}
-use Rattle.http2_frames.specs.Step.{frames_from, after_preface, step_by_front, step_behind_preface, step, Takes, WaitsShortly}
+use Rattle.http2_frames.specs.Reading.{whole_at, frame_at, split_behind, rest_only, fault_only, split_frames, split}
+use Rattle.http2_frames.specs.Reader.{Unread, text_left, split_left, with_more_bytes, StandsFor, HasFrame, front_of}
+use Rattle.http2_frames.specs.Step.{frames_from, after_preface, is_whole, after_look, look_behind_preface, look, behind_front, WaitsShortly}
 use Rattle.http2_frames.proofs.Fronts.{oversized_more, partial_is}
 use Rattle.http2_frames.proofs.Splits.{short, past_more, off_more, split_partial, split_oversized, split_whole_more}
 
 abbrev Reader : Type 0
 Reader = Result Unread FrameError
+
+-- the frames in an answer
+abbrev frames_in : Result (Option RawFrame) FrameError → List RawFrame
+frames_in (Ok None) = []
+frames_in (Ok (Some f)) = f ∷ []
+frames_in (Err e) = []
+
+-- the frame at the front is looked for and passed at once
+abbrev step_by_front : Result (Option ℕ) FrameError → List ℕ → Result (Option RawFrame) FrameError × Reader
+step_by_front (Ok None) bytes = (Ok None, frames_from bytes)
+step_by_front (Ok (Some n)) bytes = (Ok (Some (frame_at bytes)), frames_from (drop (9 + n) bytes))
+step_by_front (Err e) bytes = (Err e, Err e)
+
+-- unless the preface has to come still
+abbrev step_behind_preface : List ℕ → List ℕ → Result (Option RawFrame) FrameError × Reader
+step_behind_preface [] bytes = step_by_front (whole_at bytes) bytes
+step_behind_preface (p ∷ ps) bytes = (Ok None, Ok (record { preface = p ∷ ps; text = bytes }))
+
+abbrev step : Reader → Result (Option RawFrame) FrameError × Reader
+step (Ok u) = step_behind_preface u.preface u.text
+step (Err e) = (Err e, Err e)
 
 abbrev chosen_preface : Bool → Bool → Unread → Reader
 chosen_preface a b u = cond a (frames_from (drop (length u.preface) u.text)) (cond b (Ok u) (Err Preface))
@@ -71,22 +93,13 @@ taken_ends (Ok u) h = at_preface u.preface h where
 behind_both : (gs fs : List RawFrame) (s : Split) → split_behind gs (split_behind fs s) ≡ split_behind (gs ++ fs) s
 behind_both gs fs s = ap (λ (xs : List RawFrame). record { frames = xs; end = s.end }) (sym (append_assoc gs fs s.frames))
 
-behind_none : (gs : List RawFrame) → gs ++ [] ≡ gs
-behind_none gs = append-nil gs
-
 taken_as : (old : Reader) (r : Result (Option RawFrame) FrameError) (new : Reader) → step old ≡ (r, new) → (more : List ℕ) → split_left (with_more_bytes old more) ≡ split_behind (frames_in r) (split_left (with_more_bytes new more))
 taken_as old r new e more = taken_follows old more ∙ ap (λ (x : Result (Option RawFrame) FrameError × Reader). split_behind (frames_in x.0) (split_left (with_more_bytes x.1 more))) e
 
-takes_follows : (old : Reader) (r : Result (Option RawFrame) FrameError) (new : Reader) → Takes old r new → (more : List ℕ) → split_left (with_more_bytes old more) ≡ split_behind (frames_in r) (split_left (with_more_bytes new more))
-takes_follows old (Ok o) new h more = taken_as old (Ok o) new h more
-takes_follows old (Err Preface) new h more = taken_as old (Err Preface) new h more
-takes_follows old (Err Size) new h more = taken_as old (Err Size) new h more
-takes_follows old (Err NoMemory) new h more = ap (λ (v : Reader). split_left (with_more_bytes v more)) (sym h.0)
-
-pub stands_after : (old : Reader) (r : Result (Option RawFrame) FrameError) (new : Reader) → Takes (after_preface old) r new
+stands_after : (old : Reader) (r : Result (Option RawFrame) FrameError) (new : Reader) → step (after_preface old) ≡ (r, new)
     → (p t : List ℕ) (gs : List RawFrame) → StandsFor p old t gs → StandsFor p new t (gs ++ frames_in r)
 stands_after old r new h p t gs stands more =
-    stands more ∙ ap (split_behind gs) (past_follows old more ∙ takes_follows (after_preface old) r new h more) ∙ behind_both gs (frames_in r) (split_left (with_more_bytes new more))
+    stands more ∙ ap (split_behind gs) (past_follows old more ∙ taken_as (after_preface old) r new h more) ∙ behind_both gs (frames_in r) (split_left (with_more_bytes new more))
 
 followed_by_none : (v : Reader) → with_more_bytes v [] ≡ v
 followed_by_none (Ok u) = ap (λ (x : List ℕ). Ok (record { preface = u.preface; text = x })) (append-nil u.text)
@@ -97,7 +110,7 @@ left_now : (v : Reader) (p t : List ℕ) (gs : List RawFrame) → StandsFor p v 
 left_now v p t gs stands =
     ap (split p) (sym (append-nil t)) ∙ stands [] ∙ ap (split_behind gs) (past_follows v [] ∙ ap split_left (followed_by_none (after_preface v)))
 
-pub none_after : (old : Reader) (new : Reader) → Takes (after_preface old) (Ok None) new
+none_after : (old : Reader) (new : Reader) → step (after_preface old) ≡ (Ok None, new)
     → (p t : List ℕ) (gs : List RawFrame) → StandsFor p old t gs → split p t ≡ record { frames = gs; end = Ok (text_left new) }
 none_after old new h p t gs stands =
     let ends = subst (λ (x : Result (Option RawFrame) FrameError × Reader). SaysEnd (after_preface old) x.0 x.1) h (taken_ends (after_preface old) (past_is old)) in
@@ -109,26 +122,76 @@ fault_as old e new h p t gs stands =
     let ends = subst (λ (x : Result (Option RawFrame) FrameError × Reader). SaysEnd (after_preface old) x.0 x.1) h (taken_ends (after_preface old) (past_is old)) in
     left_now old p t gs stands ∙ ap (split_behind gs) ends.0 ∙ ap (λ (xs : List RawFrame). record { frames = xs; end = Err e }) (append-nil gs)
 
-pub fault_after : (old : Reader) (e : FrameError) (new : Reader) → Takes (after_preface old) (Err e) new → e ≢ NoMemory
-    → (p t : List ℕ) (gs : List RawFrame) → StandsFor p old t gs → split p t ≡ record { frames = gs; end = Err e }
-fault_after old Preface new h other p t gs stands = fault_as old Preface new h p t gs stands
-fault_after old Size new h other p t gs stands = fault_as old Size new h p t gs stands
-fault_after old NoMemory new h other p t gs stands = absurd (other refl)
-
 abbrev IsAllGiven : Reader → Reader → Type 0
 IsAllGiven old new = (p t : List ℕ) (gs : List RawFrame) → StandsFor p old t gs → split p t ≡ record { frames = gs; end = Ok (text_left new) }
 
 abbrev IsFaultOf : Reader → FrameError → Type 0
 IsFaultOf old e = (p t : List ℕ) (gs : List RawFrame) → StandsFor p old t gs → split p t ≡ record { frames = gs; end = Err e }
 
-pub all_given : (old : Reader) (r : Result (Option RawFrame) FrameError) (new : Reader) → Takes (after_preface old) r new → IfOk r (λ o. IfNone o (IsAllGiven old new))
-all_given old (Ok None) new h = none_after old new h
-all_given old (Ok (Some f)) new h = tt
-all_given old (Err e) new h = tt
+-- what a look at the front says, as a step
+abbrev Found : Reader → Result Bool FrameError → Type 0
+Found v (Ok true) = HasFrame v
+Found v (Ok false) = step v ≡ (Ok None, v)
+Found v (Err e) = step v ≡ (Err e, Err e)
 
-pub fault_of : (old : Reader) (r : Result (Option RawFrame) FrameError) (new : Reader) → Takes (after_preface old) r new → IfErr r (λ e. e ≢ NoMemory → IsFaultOf old e)
-fault_of old (Ok o) new h = tt
-fault_of old (Err e) new h = fault_after old e new h
+found : (v : Reader) → Found v (look v)
+found (Err e) = refl
+found (Ok u) = at_preface u.preface refl where
+  at_preface : (p : List ℕ) → u.preface ≡ p → Found (Ok u) (look_behind_preface p u.text)
+  at_preface (p ∷ ps) h = ap (λ (q : List ℕ). step_behind_preface q u.text) h ∙ ap (λ (q : List ℕ). (Ok None, Ok (record { preface = q; text = u.text }))) (sym h)
+  at_preface [] h = at_front (whole_at u.text) refl where
+    behind : step (Ok u) ≡ step_by_front (whole_at u.text) u.text
+    behind = ap (λ (q : List ℕ). step_behind_preface q u.text) h
+
+    at_front : (w : Result (Option ℕ) FrameError) → whole_at u.text ≡ w → Found (Ok u) (is_whole w)
+    at_front (Ok None) e = behind ∙ ap (λ (x : Result (Option ℕ) FrameError). step_by_front x u.text) e ∙ ap (λ (q : List ℕ). (Ok None, Ok (record { preface = q; text = u.text }))) (sym h)
+    at_front (Ok (Some n)) e = (h, grind arith, grind arith)
+    at_front (Err d) e = behind ∙ ap (λ (x : Result (Option ℕ) FrameError). step_by_front x u.text) e
+
+found_by : (v : Reader) (r : Result Bool FrameError) → r ≡ look v → Found v r
+found_by v r is = subst (λ (x : Result Bool FrameError). Found v x) (sym is) (found v)
+
+-- ---- the clauses of `find`
+
+follows_preface : (old : Reader) (p t : List ℕ) (gs : List RawFrame) → StandsFor p old t gs → StandsFor p (after_preface old) t gs
+follows_preface old p t gs stands more = stands more ∙ ap (split_behind gs) (past_follows old more)
+
+abbrev StandsAlike : Reader → Reader → Type 0
+StandsAlike old new = (p t : List ℕ) (gs : List RawFrame) → StandsFor p old t gs → StandsFor p new t gs
+
+none_more : (old new : Reader) (r : Result (Option RawFrame) FrameError) → frames_in r ≡ [] → step (after_preface old) ≡ (r, new) → StandsAlike old new
+none_more old new r none h p t gs stands =
+    subst (λ (fs : List RawFrame). StandsFor p new t fs) (ap (λ (fs : List RawFrame). gs ++ fs) none ∙ append-nil gs) (stands_after old r new h p t gs stands)
+
+pub stands_found : (old : Reader) (r : Result Bool FrameError) (new : Reader) → r ≡ look (after_preface old) → new ≡ after_look r (after_preface old) → StandsAlike old new
+stands_found old (Ok whole) new is after p t gs stands = subst (λ (v : Reader). StandsFor p v t gs) (sym after) (follows_preface old p t gs stands)
+stands_found old (Err e) new is after p t gs stands = subst (λ (v : Reader). StandsFor p v t gs) (sym after) (none_more old (Err e) (Err e) refl (found_by (after_preface old) (Err e) is) p t gs stands)
+
+pub whole_found : (old : Reader) (r : Result Bool FrameError) (new : Reader) → r ≡ look (after_preface old) → new ≡ after_look r (after_preface old) → IfOk r (λ whole. IsTrue whole → HasFrame new)
+whole_found old (Ok true) new is after = λ t. subst HasFrame (sym after) (found_by (after_preface old) (Ok true) is)
+whole_found old (Ok false) new is after = λ t. absurd cc
+whole_found old (Err e) new is after = tt
+
+shorter_past : (old : Reader) → length (text_left (after_preface old)) ≤ length (text_left old)
+shorter_past (Err e) = omega arith
+shorter_past (Ok u) = go (starts_with nat_eq u.text u.preface) (starts_with nat_eq u.preface u.text) where
+  go : (a b : Bool) → length (text_left (chosen_preface a b u)) ≤ length u.text
+  go true b = omega (arith, length-drop (length u.preface) u.text)
+  go false true = omega arith
+  go false false = omega arith
+
+pub no_longer : (old : Reader) (r : Result Bool FrameError) (new : Reader) → new ≡ after_look r (after_preface old) → length (text_left new) ≤ length (text_left old)
+no_longer old (Ok whole) new after = omega (arith, shorter_past old, ap (λ (v : Reader). length (text_left v)) after)
+no_longer old (Err e) new after = omega (arith, ap (λ (v : Reader). length (text_left v)) after)
+
+pub all_given : (old : Reader) (r : Result Bool FrameError) (new : Reader) → r ≡ look (after_preface old) → new ≡ after_look r (after_preface old) → IfOk r (λ whole. whole ≡ false → IsAllGiven old new)
+all_given old (Ok true) new is after = λ no. absurd cc
+all_given old (Ok false) new is after = λ no. subst (IsAllGiven old) (sym after) (none_after old (after_preface old) (found_by (after_preface old) (Ok false) is))
+all_given old (Err e) new is after = tt
+
+pub fault_of : (old : Reader) (r : Result Bool FrameError) → r ≡ look (after_preface old) → IfErr r (λ e. IsFaultOf old e)
+fault_of old (Ok whole) is = tt
+fault_of old (Err e) is = fault_as old e (Err e) (found_by (after_preface old) (Err e) is)
 
 kept_at : (v : Reader) → WaitsShortly v → (step v).0 ≡ Ok None → length (text_left (step v).1) < 9 + 16384
 kept_at (Err e) h n = omega arith
@@ -141,22 +204,29 @@ kept_at (Ok u) h n = at_preface u.preface h n where
     at_front (Ok (Some k)) e n = absurd cc
     at_front (Err d) e n = absurd cc
 
-pub kept_after : (old : Reader) (r : Result (Option RawFrame) FrameError) (new : Reader) → WaitsShortly old → Takes old r new → IfOk r (λ o. IfNone o (length (text_left new) < 9 + 16384))
-kept_after old (Ok None) new short h =
-    let less = kept_at old short (ap (λ (x : Result (Option RawFrame) FrameError × Reader). x.0) h) in
-    subst (λ (x : Result (Option RawFrame) FrameError × Reader). length (text_left x.1) < 9 + 16384) h less
-kept_after old (Ok (Some f)) new short h = tt
-kept_after old (Err e) new short h = tt
+pub kept_after : (old : Reader) (r : Result Bool FrameError) (new : Reader) → WaitsShortly old → r ≡ look old → new ≡ after_look r old → IfOk r (λ whole. whole ≡ false → length (text_left new) < 9 + 16384)
+kept_after old (Ok true) new short is after = λ no. absurd cc
+kept_after old (Ok false) new short is after = λ no.
+    let found : step old ≡ (Ok None, old) = found_by old (Ok false) is in
+    let less = kept_at old short (ap (λ (x : Result (Option RawFrame) FrameError × Reader). x.0) found) in
+    subst (λ (v : Reader). length (text_left v) < 9 + 16384) (ap (λ (x : Result (Option RawFrame) FrameError × Reader). x.1) found ∙ sym after) less
+kept_after old (Err e) new short is after = tt
 
-none_in_front : (fs gs : List RawFrame) → fs ++ gs ≡ [] → fs ≡ []
-none_in_front [] gs e = refl
-none_in_front (f ∷ fs) gs e = absurd cc
+-- ---- the clauses of `pass`
 
-pub memory_for : (old : Reader) (r : Result (Option RawFrame) FrameError) (new : Reader) → Takes (after_preface old) r new → IsErrOf r NoMemory → (split_left old).frames ≢ []
-memory_for old (Ok o) new h e none = absurd cc
-memory_for old (Err Preface) new h e none = absurd cc
-memory_for old (Err Size) new h e none = absurd cc
-memory_for old (Err NoMemory) new h e none =
-    let now = past_follows old [] ∙ taken_follows (after_preface old) [] in
-    let same = ap split_left (followed_by_none old) in
-    h.1 (none_in_front _ _ (sym (ap (λ (s : Split). s.frames) (sym same ∙ now)) ∙ none))
+steps : (v : Reader) → HasFrame v → step v ≡ (Ok (Some (front_of v)), behind_front v)
+steps (Err e) has = absurd has
+steps (Ok u) has =
+    let short = has.1 in
+    let fits = has.2 in
+    let whole : whole_at u.text ≡ Ok (Some (big_number 3 u.text)) = grind arith in
+    ap (λ (q : List ℕ). step_behind_preface q u.text) has.0 ∙ ap (λ (x : Result (Option ℕ) FrameError). step_by_front x u.text) whole ∙ ap (λ (q : List ℕ). (Ok (Some (frame_at u.text)), Ok (record { preface = q; text = drop (9 + big_number 3 u.text) u.text }))) (sym has.0)
+
+pub stands_passed : (old new : Reader) → HasFrame old → new ≡ behind_front old → (p t : List ℕ) (gs : List RawFrame) → StandsFor p old t gs → StandsFor p new t (gs ++ front_of old ∷ [])
+stands_passed old new has after p t gs stands more =
+    stands more ∙ ap (split_behind gs) (taken_as old (Ok (Some (front_of old))) (behind_front old) (steps old has) more) ∙ behind_both gs (front_of old ∷ []) (split_left (with_more_bytes (behind_front old) more))
+    ∙ ap (λ (v : Reader). split_behind (gs ++ front_of old ∷ []) (split_left (with_more_bytes v more))) (sym after)
+
+pub less_is_left : (old new : Reader) → HasFrame old → new ≡ behind_front old → length (text_left new) < length (text_left old)
+less_is_left (Err e) new has after = absurd has
+less_is_left (Ok u) new has after = let fits = has.2 in omega (arith, length-drop (9 + big_number 3 u.text) u.text, ap (λ (v : Reader). length (text_left v)) after)

@@ -1,9 +1,10 @@
 -- What a reader of frames holds, and what that stands for.
-use Rattle.std.specs.Prelude.{◌≡◌, ℕ, ◌<◌, ◌≤◌, ◌^◌, List, [], ◌∷◌, ◌++◌, length, Option, Some, None, Result, Ok, Err}
+use Rattle.std.specs.Prelude.{◌≡◌, ℕ, ◌+◌, ◌<◌, ◌≤◌, ◌^◌, List, [], ◌∷◌, ◌++◌, length, Option, Some, None, Result, Ok, Err}
+use Rattle.byteorder.specs.Endian.{big_number}
 use Rattle.http2_frames.specs.declared.error.FrameError.{FrameError}
 use Rattle.http2_frames.specs.declared.frame.RawFrame.{RawFrame}
 use Rattle.http2_frames.specs.Wire.{Split}
-use Rattle.http2_frames.specs.Reading.{split, split_behind, fault_only}
+use Rattle.http2_frames.specs.Reading.{frame_at, split, split_behind, fault_only}
 
 -- what a reader has not given yet: the preface, where it has to come still, and bytes
 pub record Unread : Type 0 where
@@ -33,11 +34,16 @@ StandsFor preface reader text given =
     (more : List ℕ) → split preface (text ++ more)
     ≡ split_behind given (split_left (with_more_bytes reader more))
 
--- the frames in an answer
-abbrev pub frames_in : Result (Option RawFrame) FrameError → List RawFrame
-frames_in (Ok None) = []
-frames_in (Ok (Some f)) = f ∷ []
-frames_in (Err e) = []
+-- the preface has come, and the bytes at the front are a whole frame
+abbrev pub HasFrame : Result Unread FrameError → Type 0
+HasFrame (Ok u) =
+    (u.preface ≡ []) × (big_number 3 u.text ≤ 16384) × (9 + big_number 3 u.text ≤ length u.text)
+HasFrame (Err e) = ⊥
+
+-- that frame
+abbrev pub front_of : Result Unread FrameError → RawFrame
+front_of (Ok u) = frame_at u.text
+front_of (Err e) = frame_at []
 
 -- a frame as it can stand on the wire
 pub record IsFrame (f : RawFrame) : Type 0 where

@@ -1,11 +1,11 @@
 -- One call of a reader, as the code makes it.
-use Rattle.std.specs.Prelude.{◌≡◌, ◌≢◌, ◌≤◌, ℕ, ◌+◌, nat_eq, if◌then◌else◌, List, [], ◌∷◌, length, drop, Option, Some, None, Result, Ok, Err}
+use Rattle.std.specs.Prelude.{◌≢◌, ◌≤◌, ℕ, ◌+◌, Bool, true, false, nat_eq, if◌then◌else◌, List, [], ◌∷◌, length, drop, Option, Some, None, Result, Ok, Err}
 use Rattle.std.specs.List.{starts_with}
+use Rattle.byteorder.specs.Endian.{big_number}
 use Rattle.http2_frames.specs.declared.error.FrameError.{FrameError}
-use Rattle.http2_frames.specs.declared.error.FrameError.TheVariants.{Preface, Size, NoMemory}
-use Rattle.http2_frames.specs.declared.frame.RawFrame.{RawFrame}
-use Rattle.http2_frames.specs.Reading.{whole_at, frame_at}
-use Rattle.http2_frames.specs.Reader.{Unread, frames_in}
+use Rattle.http2_frames.specs.declared.error.FrameError.TheVariants.{Preface}
+use Rattle.http2_frames.specs.Reading.{whole_at}
+use Rattle.http2_frames.specs.Reader.{Unread}
 
 abbrev pub frames_from : List ℕ → Result Unread FrameError
 frames_from bytes = Ok (record { preface = []; text = bytes })
@@ -18,30 +18,31 @@ after_preface (Ok u) =
     else Err Preface
 after_preface (Err e) = Err e
 
-abbrev pub step_by_front : Result (Option ℕ) FrameError → List ℕ →
-    Result (Option RawFrame) FrameError × Result Unread FrameError
-step_by_front (Ok None) bytes = (Ok None, frames_from bytes)
-step_by_front (Ok (Some n)) bytes = (Ok (Some (frame_at bytes)), frames_from (drop (9 + n) bytes))
-step_by_front (Err e) bytes = (Err e, Err e)
+abbrev pub is_whole : Result (Option ℕ) FrameError → Result Bool FrameError
+is_whole (Ok None) = Ok false
+is_whole (Ok (Some n)) = Ok true
+is_whole (Err e) = Err e
 
--- the frame at the front, unless the preface has to come still
-abbrev pub step_behind_preface : List ℕ → List ℕ →
-    Result (Option RawFrame) FrameError × Result Unread FrameError
-step_behind_preface [] bytes = step_by_front (whole_at bytes) bytes
-step_behind_preface (p ∷ ps) bytes = (Ok None, Ok (record { preface = p ∷ ps; text = bytes }))
+-- a fault is there for good
+abbrev pub after_look : Result Bool FrameError → Result Unread FrameError →
+    Result Unread FrameError
+after_look (Ok whole) old = old
+after_look (Err e) old = Err e
 
-abbrev pub step : Result Unread FrameError →
-    Result (Option RawFrame) FrameError × Result Unread FrameError
-step (Ok u) = step_behind_preface u.preface u.text
-step (Err e) = (Err e, Err e)
+-- whether a whole frame is at the front, unless the preface has to come still
+abbrev pub look_behind_preface : List ℕ → List ℕ → Result Bool FrameError
+look_behind_preface [] bytes = is_whole (whole_at bytes)
+look_behind_preface (p ∷ ps) bytes = Ok false
 
--- the answer and what is held then are those of the definition, or memory was refused for a frame
-abbrev pub Takes : Result Unread FrameError → Result (Option RawFrame) FrameError →
-    Result Unread FrameError → Type 0
-Takes old (Ok o) new = step old ≡ (Ok o, new)
-Takes old (Err Preface) new = step old ≡ (Err Preface, new)
-Takes old (Err Size) new = step old ≡ (Err Size, new)
-Takes old (Err NoMemory) new = (new ≡ old) × (frames_in (step old).0 ≢ [])
+abbrev pub look : Result Unread FrameError → Result Bool FrameError
+look (Ok u) = look_behind_preface u.preface u.text
+look (Err e) = Err e
+
+-- the bytes behind the frame at the front
+abbrev pub behind_front : Result Unread FrameError → Result Unread FrameError
+behind_front (Ok u) =
+    Ok (record { preface = u.preface; text = drop (9 + big_number 3 u.text) u.text })
+behind_front (Err e) = Err e
 
 -- what waits for its preface is no longer than that
 abbrev pub WaitsShortly : Result Unread FrameError → Type 0

@@ -1,17 +1,17 @@
 //! Frames: as they stand on the wire, and what they say.
 
-use crate::octets::{Octets, Payload};
+use crate::octets::Octets;
 use crate::settings::SettingsList;
 
 /// A frame as it stands on the wire (RFC 9113, section 4.1), without its length, which is that of
-/// the payload, and without the reserved bit.
+/// the payload, and without the reserved bit. The payload stays where it was received.
 #[derive(Drop)]
-pub struct RawFrame {
+pub struct RawFrame<'a> {
     pub kind: u8,
     pub flags: u8,
     /// Below 2^31.
     pub stream: u32,
-    pub payload: Payload,
+    pub payload: Octets<'a>,
 }
 
 /// What a frame says (RFC 9113, section 6), without its padding and its priority fields.

@@ -10,19 +10,19 @@ use crate::octets::Octets;
 use crate::settings::SettingsList;
 use byteorder::{BigEndian, ByteOrder};
 
-fn has_flag(frame: &RawFrame, bit: u8) -> bool
+fn has_flag(frame: &RawFrame<'_>, bit: u8) -> bool
     ensures { result ≡ has_flag frame.now bit }
 {
     frame.flags & bit != 0
 }
 
-fn may_be_padded(frame: &RawFrame) -> bool
+fn may_be_padded(frame: &RawFrame<'_>) -> bool
     ensures { result ≡ may_be_padded frame.now }
 {
     frame.kind == frame_type::DATA || frame.kind == frame_type::HEADERS
 }
 
-fn is_misaddressed(frame: &RawFrame) -> bool
+fn is_misaddressed(frame: &RawFrame<'_>) -> bool
     ensures { result ≡ is_misaddressed frame.now }
 {
     match frame.kind {
@@ -37,7 +37,7 @@ fn is_misaddressed(frame: &RawFrame) -> bool
 }
 
 /// How many bytes stand before what may be padded.
-fn lead(frame: &RawFrame) -> usize
+fn lead(frame: &RawFrame<'_>) -> usize
     ensures { result ≡ lead_length frame.now }
 {
     let pad_length = if has_flag(frame, flag::PADDED) { 1 } else { 0 };
@@ -47,7 +47,7 @@ fn lead(frame: &RawFrame) -> usize
     pad_length
 }
 
-fn is_missized(frame: &RawFrame) -> bool
+fn is_missized(frame: &RawFrame<'_>) -> bool
     ensures { result ≡ is_missized frame.now }
 {
     let length = frame.payload.len();
@@ -62,7 +62,7 @@ fn is_missized(frame: &RawFrame) -> bool
     }
 }
 
-fn pad_length(frame: &RawFrame) -> usize
+fn pad_length(frame: &RawFrame<'_>) -> usize
     requires { lead_length frame.now ≤ length frame.now.payload }
     ensures { result ≡ pad_length frame.now }
 {
@@ -72,7 +72,7 @@ fn pad_length(frame: &RawFrame) -> usize
     0
 }
 
-fn is_overpadded(frame: &RawFrame) -> bool
+fn is_overpadded(frame: &RawFrame<'_>) -> bool
     requires { is_missized frame.now ≡ false }
     ensures { result ≡ is_overpadded frame.now }
 {
@@ -81,7 +81,7 @@ fn is_overpadded(frame: &RawFrame) -> bool
 
 /// What the frame says, or the fault of the connection that it is: the first by its stream number,
 /// its length and its padding, in this order.
-pub fn interpret(frame: &RawFrame) -> Result<Frame<'_>, ErrorCode>
+pub fn interpret<'a>(frame: &RawFrame<'a>) -> Result<Frame<'a>, ErrorCode>
     ensures { result ≡ frame_of frame.now }
 {
     if is_misaddressed(frame) {
@@ -96,7 +96,7 @@ pub fn interpret(frame: &RawFrame) -> Result<Frame<'_>, ErrorCode>
     Ok(content(frame))
 }
 
-fn content(frame: &RawFrame) -> Frame<'_>
+fn content<'a>(frame: &RawFrame<'a>) -> Frame<'a>
     requires sized { is_missized frame.now ≡ false }
     requires padded { is_overpadded frame.now ≡ false }
     ensures { result ≡ content_of frame.now }
@@ -155,7 +155,7 @@ fn content(frame: &RawFrame) -> Frame<'_>
     }
 }
 
-fn unpadded(frame: &RawFrame) -> &[u8]
+fn unpadded<'a>(frame: &RawFrame<'a>) -> &'a [u8]
     requires sized { lead_length frame.now ≤ length frame.now.payload }
     requires padded { pad_length frame.now ≤ length frame.now.payload - lead_length frame.now }
     ensures { result.now ≡ unpadded_content frame.now }

@@ -20,7 +20,7 @@ pub use laws::{
     a_text_divides_in_one_way, constants_are_the_standard, more_bytes_add_frames,
     padding_surrounds_the_content, written_frames_are_read_again,
 };
-pub use octets::{Octets, Payload};
+pub use octets::Octets;
 pub use reader::{CLIENT_PREFACE, FrameReader, HEADER_LENGTH, MAX_FRAME_SIZE};
 pub use settings::{Setting, SettingsList};
 pub use writer::{payload_length, put_frame, put_header, write_frame};

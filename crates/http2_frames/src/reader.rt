@@ -1,19 +1,19 @@
 //! Received bytes, cut anywhere, back into frames.
 
-ghost use Rattle.std.specs.Prelude.{◌≡◌, ◌≢◌, ◌+◌, ◌++◌, ◌∷◌, [], ◌<◌, ◌≤◌, ◌↔◌, length, List, ℕ, Ok, Err, IfOk, IfSome, OnSome, IfNone, OnOk, OnErr, IfErr, IsErrOf, nat_eq, drop};
+ghost use Rattle.std.specs.Prelude.{◌≡◌, ◌≢◌, ◌+◌, ◌++◌, ◌∷◌, [], ◌<◌, ◌≤◌, ◌↔◌, length, List, ℕ, Ok, Err, IfOk, OnOk, OnErr, IfErr, IsTrue, false, nat_eq, drop};
 ghost use Rattle.std.specs.List.{starts_with};
 ghost use Rattle.byteorder.specs.Endian.{big_number};
 ghost use Rattle.http2_frames.specs.declared.frame.RawFrame.{RawFrame};
 ghost use Rattle.http2_frames.specs.declared.error.FrameError.{FrameError};
 ghost use Rattle.http2_frames.specs.Reading.{split, whole_at, frame_at};
-ghost use Rattle.http2_frames.specs.Reader.{StandsFor, IsFrame, with_more_bytes, frames_in, text_left, split_left};
-ghost use Rattle.http2_frames.specs.Step.{after_preface, Takes, WaitsShortly};
+ghost use Rattle.http2_frames.specs.Reader.{StandsFor, IsFrame, HasFrame, front_of, with_more_bytes, text_left};
+ghost use Rattle.http2_frames.specs.Step.{after_preface, after_look, behind_front, is_whole, look, WaitsShortly};
 
 use crate::error::FrameError;
 use crate::frame::RawFrame;
-use crate::octets::Payload;
+use crate::octets::Octets;
 use byteorder::{BigEndian, ByteOrder};
-use std::alloc::{AllocError, Global};
+use std::alloc::Global;
 use std::marker::Model;
 
 /// What a client sends before its first frame (RFC 9113, section 3.4).
@@ -76,9 +76,10 @@ impl FrameReader {
         }
     }
 
-    /// Takes the next piece of what is received, of any length. Its frames are then asked for by
-    /// [`FrameReader::next`] until it answers `None`, so that no more than an unfinished frame is
-    /// kept. Where memory was refused the piece counts as not received.
+    /// Takes the next piece of what is received, of any length. Its frames are then read, each by
+    /// [`FrameReader::find`], [`FrameReader::frame`] and [`FrameReader::pass`], until none is whole,
+    /// so that no more than an unfinished frame is kept. Where memory was refused the piece counts
+    /// as not received.
     pub fn feed(&mut self, piece: &[u8]) -> Result<(), FrameError>
         ensures stands { OnOk result ((preface text : List ℕ) (given : List RawFrame) →
             StandsFor preface self.old text given →
@@ -100,39 +101,54 @@ impl FrameReader {
         Ok(())
     }
 
-    /// The next frame, or `None` where no further one is whole. A preface or a length that is
-    /// refused (RFC 9113, sections 3.4 and 4.2) is refused again by each later call; where memory
-    /// was refused the frame is still to come.
-    pub fn next(&mut self) -> Result<Option<RawFrame>, FrameError>
+    /// Says whether a further frame is whole, which is then the one at the front. A preface or a
+    /// length that is refused (RFC 9113, sections 3.4 and 4.2) is refused again by each later call.
+    /// This takes no memory.
+    pub fn find(&mut self) -> Result<bool, FrameError>
         ensures stands { (preface text : List ℕ) (given : List RawFrame) →
-            StandsFor preface self.old text given →
-            StandsFor preface self.new text (given ++ frames_in result) }
-        ensures frame { IfOk result (λ frame. IfSome frame IsFrame) }
-        ensures shorter { IfOk result (λ frame. OnSome frame
-            (length (text_left self.new) < length (text_left self.old))) }
+            StandsFor preface self.old text given → StandsFor preface self.new text given }
+        ensures whole { IfOk result (λ whole. IsTrue whole → HasFrame self.new) }
+        ensures no_longer { length (text_left self.new) ≤ length (text_left self.old) }
 
         // At the end all frames of the text were given, and less than a frame is kept.
-        ensures none { IfOk result (λ frame. IfNone frame
-            ((preface text : List ℕ) (given : List RawFrame) →
-            StandsFor preface self.old text given →
-            split preface text ≡ record { frames = given; end = Ok (text_left self.new) })) }
-        ensures kept { IfOk result (λ frame. IfNone frame
-            (length (text_left self.new) < 9 + 16384)) }
-
-        // A fault stands where the frames end, and is there for good.
-        ensures refused { IfErr result (λ fault. fault ≢ FrameError.NoMemory →
+        ensures none { IfOk result (λ whole. whole ≡ false →
             (preface text : List ℕ) (given : List RawFrame) →
             StandsFor preface self.old text given →
+            split preface text ≡ record { frames = given; end = Ok (text_left self.new) }) }
+        ensures kept { IfOk result (λ whole. whole ≡ false →
+            length (text_left self.new) < 9 + 16384) }
+
+        // A fault stands where the frames end, and is there for good.
+        ensures refused { IfErr result (λ fault. (preface text : List ℕ) (given : List RawFrame) →
+            StandsFor preface self.old text given →
             split preface text ≡ record { frames = given; end = Err fault }) }
-        ensures lasts { IfErr result (λ fault. fault ≢ FrameError.NoMemory → self.new ≡ Err fault) }
+        ensures lasts { IfErr result (λ fault. self.new ≡ Err fault) }
         ensures repeats { (fault : FrameError) → self.old ≡ Err fault →
             (result ≡ Err fault) × (self.new ≡ Err fault) }
-
-        // Memory is asked for only where a frame is whole.
-        ensures memory { IsErrOf result FrameError.NoMemory → (split_left self.old).frames ≢ [] }
+        ensures memory { IfErr result (λ fault. fault ≢ FrameError.NoMemory) }
     {
         self.pass_preface();
-        self.take()
+        self.look()
+    }
+
+    /// The frame at the front, which is whole. Its payload stays in the reader.
+    pub fn frame(&self) -> RawFrame<'_>
+        requires { HasFrame self.now }
+        ensures front { result ≡ front_of self.now }
+        ensures frame { IsFrame result }
+    {
+        frame_at(unread(&self.received, self.read))
+    }
+
+    /// Passes the frame at the front, which is whole: it was given.
+    pub fn pass(&mut self)
+        requires { HasFrame self.old }
+        ensures stands { (preface text : List ℕ) (given : List RawFrame) →
+            StandsFor preface self.old text given →
+            StandsFor preface self.new text (given ++ front_of self.old ∷ []) }
+        ensures shorter { length (text_left self.new) < length (text_left self.old) }
+    {
+        self.pass_front();
     }
 
     fn pass_preface(&mut self)
@@ -151,30 +167,32 @@ impl FrameReader {
         }
     }
 
-    fn take(&mut self) -> Result<Option<RawFrame>, FrameError>
-        ensures takes { Takes self.old result self.new }
-        ensures frame { IfOk result (λ frame. IfSome frame IsFrame) }
+    fn look(&mut self) -> Result<bool, FrameError>
+        ensures answer { result ≡ look self.old }
+        ensures after { self.new ≡ after_look result self.old }
+        ensures memory { IfErr result (λ fault. fault ≢ FrameError.NoMemory) }
     {
         if let Some(fault) = self.fault {
             return Err(fault);
         }
         if !self.preface.is_empty() {
-            return Ok(None);
+            return Ok(false);
         }
-        let alloc = *self.received.allocator();
-        let unread = unread(&self.received, self.read);
-        match whole_at(unread) {
-            Ok(None) => Ok(None),
-            Ok(Some(length)) => {
-                let frame = frame_at(alloc, unread, length)?;
-                self.read += HEADER_LENGTH + length;
-                Ok(Some(frame))
-            }
+        match is_whole(unread(&self.received, self.read)) {
+            Ok(whole) => Ok(whole),
             Err(fault) => {
                 self.fault = Some(fault);
                 Err(fault)
             }
         }
+    }
+
+    fn pass_front(&mut self)
+        requires { HasFrame self.old }
+        ensures { self.new ≡ behind_front self.old }
+    {
+        let length = payload_length(unread(&self.received, self.read));
+        self.read += HEADER_LENGTH + length;
     }
 }
 
@@ -199,37 +217,41 @@ fn unread(received: &[u8], read: usize) -> &[u8]
     &received[read..]
 }
 
-/// The payload length of the whole frame at the front, if one is there.
-fn whole_at(bytes: &[u8]) -> Result<Option<usize>, FrameError>
-    ensures { result ≡ whole_at bytes.now }
+/// The length of the payload, by the first bytes of a frame.
+fn payload_length(bytes: &[u8]) -> usize
+    requires { 3 ≤ length bytes.now }
+    ensures { result ≡ big_number 3 bytes.now }
+{
+    BigEndian::read_u24(bytes) as usize
+}
+
+/// Whether a whole frame is at the front.
+fn is_whole(bytes: &[u8]) -> Result<bool, FrameError>
+    ensures whole { result ≡ is_whole (whole_at bytes.now) }
+    ensures size { IfErr result (λ fault. fault ≡ FrameError.Size) }
 {
     if bytes.len() < HEADER_LENGTH {
-        return Ok(None);
+        return Ok(false);
     }
-    let length = BigEndian::read_u24(bytes) as usize;
+    let length = payload_length(bytes);
     if length > MAX_FRAME_SIZE {
         return Err(FrameError::Size);
     }
-    if bytes.len() < HEADER_LENGTH + length {
-        return Ok(None);
-    }
-    Ok(Some(length))
+    Ok(bytes.len() >= HEADER_LENGTH + length)
 }
 
-/// The frame at the front, whose payload has `size` bytes.
-fn frame_at(alloc: Global, bytes: &[u8], size: usize) -> Result<RawFrame, AllocError>
-    requires size { size ≡ big_number 3 bytes.now }
-    requires short { size ≤ 16384 }
-    requires whole { 9 + size ≤ length bytes.now }
-    ensures value { IfOk result (λ frame. frame ≡ frame_at bytes.now) }
-    ensures frame { IfOk result IsFrame }
+/// The frame at the front.
+fn frame_at(bytes: &[u8]) -> RawFrame<'_>
+    requires short { big_number 3 bytes.now ≤ 16384 }
+    requires whole { 9 + big_number 3 bytes.now ≤ length bytes.now }
+    ensures value { result ≡ frame_at bytes.now }
+    ensures frame { IsFrame result }
 {
-    let mut payload = Vec::with_capacity(alloc, size)?;
-    payload.extend_from_slice(&bytes[HEADER_LENGTH..HEADER_LENGTH + size])?;
-    Ok(RawFrame {
+    let end = HEADER_LENGTH + payload_length(bytes);
+    RawFrame {
         kind: bytes[3],
         flags: bytes[4],
         stream: BigEndian::read_u32(&bytes[5..]) % (1 << 31),
-        payload: Payload::new(payload),
-    })
+        payload: Octets::new(&bytes[HEADER_LENGTH..end]),
+    }
 }

@@ -15,7 +15,7 @@ ghost use Rattle.http2_streams.specs.Step.{step_by, after_answer, after_frame_in
 
 use crate::event::{Event, StreamEvent};
 use crate::live;
-use crate::stream::Stream;
+use crate::stream::{Side, Stream};
 use http2_flow::{FlowError, INITIAL_SIZE, MAX_SIZE, Window};
 use http2_frames::{
     ErrorCode, Frame, MAX_FRAME_SIZE, Octets, RawFrame, Setting, SettingsList, flag, frame_type,
@@ -80,7 +80,7 @@ impl Streams {
 
     /// Takes a frame of the client. What it causes follows from all that passed on the connection
     /// before.
-    pub fn on_frame<'a>(&mut self, frame: &'a RawFrame) -> Result<StreamEvent<'a>, H2Fault>
+    pub fn on_frame<'a>(&mut self, frame: &RawFrame<'a>) -> Result<StreamEvent<'a>, H2Fault>
         requires { length frame.now.payload ≤ MAX_FRAME_SIZE }
         ensures causes { (d : List Entry) → StandsFor self.old d →
             Gives result (answer_after d frame.now) }
@@ -200,11 +200,11 @@ impl Streams {
         ensures { self.new ≡ after_server_end self.old stream end_stream }
     {
         if end_stream {
-            live::end_by_server(&mut self.live, stream);
+            live::end_by(&mut self.live, Side::Server, stream);
         }
     }
 
-    fn apply<'a>(&mut self, frame: &'a RawFrame) -> Result<StreamEvent<'a>, H2Fault>
+    fn apply<'a>(&mut self, frame: &RawFrame<'a>) -> Result<StreamEvent<'a>, H2Fault>
         requires { length frame.now.payload ≤ MAX_FRAME_SIZE }
         ensures answer { Gives result (answer_to self.old frame.now) }
         ensures state { IfOk result (λ a. self.new ≡ step_by self.old frame.now a) }
@@ -230,7 +230,7 @@ impl Streams {
 
     /// Whether the frame may stand here: first the preface's SETTINGS, and a header block without a
     /// gap.
-    fn is_in_turn(&self, frame: &RawFrame) -> bool
+    fn is_in_turn(&self, frame: &RawFrame<'_>) -> bool
         ensures { result ≡ is_in_turn self.now frame.now }
     {
         if !self.begun && (frame.kind != frame_type::SETTINGS || frame.flags & flag::ACK != 0) {
@@ -341,7 +341,7 @@ impl Streams {
                 update(stream, length)
             };
             if end_stream {
-                live::end_by_client(&mut self.live, stream);
+                live::end_by(&mut self.live, Side::Client, stream);
             }
             return Ok(StreamEvent {
                 connection_update,
@@ -493,7 +493,7 @@ impl Streams {
         if !end_stream {
             return self.stream_error(stream, ErrorCode::ProtocolError);
         }
-        live::end_by_client(&mut self.live, stream);
+        live::end_by(&mut self.live, Side::Client, stream);
         brings(Event::Trailers { stream })
     }
 

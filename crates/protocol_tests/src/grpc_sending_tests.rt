@@ -21,9 +21,10 @@ fn receive(alloc: Global, streams: &mut Streams, bytes: &[u8]) -> Result<(), Fai
     let mut reader = FrameReader::without_preface(alloc);
     reader.feed(bytes).ok().ok_or("memory")?;
     for _ in 0..9 {
-        match reader.next() {
-            Ok(Some(frame)) => {
-                let _ = streams.on_frame(&frame);
+        match reader.find() {
+            Ok(true) => {
+                let _ = streams.on_frame(&reader.frame());
+                reader.pass();
             }
             _ => break,
         }
@@ -55,10 +56,10 @@ fn owe_message(
     streams: &Streams,
     sender: &mut Sender,
     stream: u32,
-    message: &[u8],
+    message: Vec<u8>,
 ) -> Result<(), AllocError>
     requires fit { (texts : Look) → Fit texts sender.old.queues }
-    requires short { length message.now < 2 ^ 32 }
+    requires short { length message.items < 2 ^ 32 }
     ensures { (texts : Look) → Fit texts sender.new.queues }
 {
     sender.owe_message(streams, stream, message)
@@ -80,14 +81,15 @@ fn pump(streams: &mut Streams, sender: &mut Sender)
 }
 
 /// Owes a response on stream 1, and a message on a stream that is not there.
-fn owe_response(streams: &Streams, sender: &mut Sender) -> Result<(), AllocError>
+fn owe_response(alloc: Global, streams: &Streams, sender: &mut Sender) -> Result<(), AllocError>
     requires { (texts : Look) → Fit texts sender.old.queues }
     ensures { (texts : Look) → Fit texts sender.new.queues }
 {
     owe_block(streams, sender, ResponseBlock::Head)?;
-    owe_message(streams, sender, 1, b"abc")?;
+    owe_message(streams, sender, 1, Vec::from_slice(alloc, b"abc")?)?;
     owe_block(streams, sender, ResponseBlock::Trailers(Status::Success))?;
-    owe_message(streams, sender, 3, b"to no stream")
+    let message = Vec::from_slice(alloc, b"to no stream")?;
+    owe_message(streams, sender, 3, message)
 }
 
 /// Whether these bytes wait, which are all taken.
@@ -99,10 +101,14 @@ fn gives(sender: &mut Sender, wanted: &[u8]) -> bool {
     sender.pending().is_empty()
 }
 
-fn sends_response(streams: &mut Streams, sender: &mut Sender) -> Result<bool, AllocError>
+fn sends_response(
+    alloc: Global,
+    streams: &mut Streams,
+    sender: &mut Sender,
+) -> Result<bool, AllocError>
     requires { (texts : Look) → Fit texts sender.old.queues }
 {
-    owe_response(streams, sender)?;
+    owe_response(alloc, streams, sender)?;
     pump(streams, sender);
     Ok(gives(sender, RESPONSE) && streams.live().is_empty())
 }
@@ -111,7 +117,7 @@ fn sends_response(streams: &mut Streams, sender: &mut Sender) -> Result<bool, Al
 fn a_whole_response(rt: HostRuntime) -> Result<(), Fail> {
     let mut streams = with_request(rt.alloc(), ENDED)?;
     let mut sender = Sender::new(rt.alloc())?;
-    let passed = sends_response(&mut streams, &mut sender);
+    let passed = sends_response(rt.alloc(), &mut streams, &mut sender);
     drop(sender);
     drop(streams);
     assert!(rt; passed?);
@@ -143,8 +149,12 @@ fn a_response_before_the_end(rt: HostRuntime) -> Result<(), Fail> {
 
 /// The length of the next frame's payload.
 fn next_length(reader: &mut FrameReader) -> Option<usize> {
-    match reader.next() {
-        Ok(Some(frame)) => Some(frame.payload.len()),
+    match reader.find() {
+        Ok(true) => {
+            let length = reader.frame().payload.len();
+            reader.pass();
+            Some(length)
+        }
         _ => None,
     }
 }
@@ -169,7 +179,7 @@ fn owe_large(alloc: Global, streams: &Streams, sender: &mut Sender) -> Result<()
     ensures { (texts : Look) → Fit texts sender.new.queues }
 {
     let message = vec![in alloc; 7u8; 100_000]?;
-    owe_message(streams, sender, 1, &message)?;
+    owe_message(streams, sender, 1, message)?;
     let end = Status::Refused(Refusal::BlobNotFound);
     owe_block(streams, sender, ResponseBlock::Trailers(end))
 }

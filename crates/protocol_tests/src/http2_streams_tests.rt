@@ -17,7 +17,7 @@ enum Brought {
     Fault,
 }
 
-fn brings(streams: &mut Streams, frame: &RawFrame) -> Brought
+fn brings(streams: &mut Streams, frame: &RawFrame<'_>) -> Brought
     requires { length frame.now.payload ≤ MAX_FRAME_SIZE }
 {
     match streams.on_frame(frame) {
@@ -34,8 +34,11 @@ fn brings(streams: &mut Streams, frame: &RawFrame) -> Brought
 fn receives(alloc: Global, streams: &mut Streams, bytes: &[u8]) -> Result<Brought, Fail> {
     let mut reader = FrameReader::without_preface(alloc);
     reader.feed(bytes).ok().ok_or("the frame was not taken")?;
-    let frame = reader.next().ok().ok_or("no frame")?.ok_or("half a frame")?;
-    Ok(brings(streams, &frame))
+    let brought = match reader.find() {
+        Ok(true) => Some(brings(streams, &reader.frame())),
+        _ => None,
+    };
+    Ok(brought.ok_or("no whole frame")?)
 }
 
 /// A request on stream 1 that goes on, and one on stream 3 that has ended.

@@ -1,7 +1,7 @@
 //! A client on the one connection of a server that has one instance.
 
 use grpc_messages::{Message as Reply, Messages};
-use http2_frames::{FrameReader, MAX_FRAME_SIZE, RawFrame};
+use http2_frames::{FrameReader, MAX_FRAME_SIZE};
 use server_core::Server;
 use server_events::{Configs, Event, InstanceConfig, What};
 use std::alloc::{AllocError, Global};
@@ -118,10 +118,6 @@ impl Client {
         Ok(())
     }
 
-    fn next_frame(&mut self) -> io::Result<Option<RawFrame>> {
-        self.received.next().map_err(|_| fault())
-    }
-
     /// What the frames that came say of the stream.
     fn answer(&mut self, alloc: Global, stream: u32) -> io::Result<Answer> {
         let mut answer = Answer {
@@ -130,15 +126,19 @@ impl Client {
         };
         let mut data = Messages::new(alloc);
         for _ in 0..u32::MAX {
-            let Some(frame) = self.next_frame()? else {
-                break;
-            };
+            match self.received.find() {
+                Ok(true) => {}
+                Ok(false) => break,
+                Err(_) => return Err(fault()),
+            }
+            let frame = self.received.frame();
             if frame.stream == stream && frame.kind == HEADERS {
-                answer.trailers = frame.payload.into_vec();
+                answer.trailers = Vec::from_slice(alloc, frame.payload.as_slice())?;
             } else if frame.stream == stream && frame.kind == DATA {
                 data.feed(frame.payload.as_slice()).map_err(|_| fault())?;
                 take_whole(&mut data, &mut answer.messages)?;
             }
+            self.received.pass();
         }
         Ok(answer)
     }

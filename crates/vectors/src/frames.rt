@@ -34,7 +34,7 @@ fn fits(frame: &Frame<'_>) -> bool
 }
 
 /// Writes a frame, and what it says, or its error.
-fn show_frame(alloc: Global, frame: &RawFrame, out: &mut Vec<u8>) -> io::Result<()> {
+fn show_frame(alloc: Global, frame: &RawFrame<'_>, out: &mut Vec<u8>) -> io::Result<()> {
     write!(
         out,
         "frame {} {} {} ",
@@ -63,9 +63,12 @@ fn show_frames(
     out: &mut Vec<u8>,
 ) -> io::Result<()> {
     for _ in 0..=most {
-        match reader.next() {
-            Ok(Some(frame)) => show_frame(alloc, &frame, out)?,
-            Ok(None) => {
+        match reader.find() {
+            Ok(true) => {
+                show_frame(alloc, &reader.frame(), out)?;
+                reader.pass();
+            }
+            Ok(false) => {
                 writeln!(out, "wait")?;
                 break;
             }

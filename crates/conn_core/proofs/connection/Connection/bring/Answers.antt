@@ -1,11 +1,12 @@
 use Rattle.std.proofs.Common.{ap, sym, ◌∙◌, List, ℕ}
 use Rattle.http2_streams.specs.declared.event.Event.TheVariants.{Request, Content, Trailers, Cancel}
+use Rattle.conn_core.specs.Step.{with_reader}
 use Rattle.conn_core.proofs.Bring.{brings_by}
 use Rattle.conn_core.proofs.Bring.{nothing_by}
 use Rattle.conn_core.proofs.connection.Connection.bring.Goals as goal
 
 pub returns-in-Nothing-clause-stands : goal.returns-in-Nothing-clause-stands
-returns-in-Nothing-clause-stands c = λ texts. nothing_by texts c.args.self.now c.args.event c.in-Nothing.is
+returns-in-Nothing-clause-stands c = λ reader texts. nothing_by texts (with_reader reader c.args.self.now) c.args.event c.in-Nothing.is
 
 pub returns-in-Request-clause-stands : goal.returns-in-Request-clause-stands
 returns-in-Request-clause-stands c = brings_by c.begin.result c.args.self.now c.begin.new.self c.args.event (Request c.in-Request.stream c.in-Request.fields c.in-Request.end_stream) c.in-Request.is c.begin.ensures.stands

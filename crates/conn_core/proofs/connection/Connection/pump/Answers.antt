@@ -1,4 +1,4 @@
-use Rattle.conn_core.proofs.Pumps.{pumped_by}
+use Rattle.conn_core.proofs.Pumps.{pumped_by, rested_by}
 use Rattle.conn_core.proofs.Looks.{fit_by, fit_same}
 use Rattle.conn_core.proofs.connection.Connection.pump.Goals as goal
 
@@ -10,3 +10,6 @@ pump-requires g c = record { fit = fit_same (record { reader = c.self.inside.rea
 
 pub returns-clause-fit : goal.returns-clause-fit
 returns-clause-fit g c = fit_by (record { reader = c.self.inside.reader; streams = c.self.inside.streams; sending = c.self.inside.sender; calls = c.self.inside.calls.items; due = c.self.inside.due.items; ended = c.self.inside.ended }) c.args.self.now c.pump.new.self.queues c.self.view_is c.pump.ensures.fit
+
+pub returns-then-self-clause-stands : goal.returns-then-self-clause-stands
+returns-then-self-clause-stands g c = rested_by (g.P.Parts.text_of c.args.parts.now) (record { reader = c.self.inside.reader; streams = c.self.inside.streams; sending = c.self.inside.sender; calls = c.self.inside.calls.items; due = c.self.inside.due.items; ended = c.self.inside.ended }) c.args.self.now c.self.view_is (c.self.invariant.1 c.if-self.true) c.requires.fit

@@ -1,12 +1,15 @@
+use Rattle.http2_frames.specs.declared.codes.ErrorCode.TheVariants.{EnhanceYourCalm}
+use Rattle.http2_streams.specs.Rules.{control_frames}
+use Rattle.conn_core.specs.Step.{with_reader}
 use Rattle.conn_core.proofs.Frames.{cut_by, brought_by}
-use Rattle.conn_core.proofs.Looks.{for_each, for_one}
+use Rattle.conn_core.proofs.Readers.{for_all, for_this, puts_beside, fails_beside}
 use Rattle.conn_core.proofs.connection.Connection.take_answer.Goals as goal
 
 pub returns-then-not-put_all-clause-stands : goal.returns-then-not-put_all-clause-stands
-returns-then-not-put_all-clause-stands c = for_each _ c.fail.result (λ texts. cut_by texts c.fail.result c.args.self.now c.put_all.new.self c.fail.new.self c.args.answer c.named.result c.put_all.result c.if-not-put_all.true c.put_all.ensures.puts c.named.ensures c.fail.ensures.fails)
+returns-then-not-put_all-clause-stands c = for_all _ c.fail.result (λ reader texts. cut_by texts c.fail.result (with_reader reader c.args.self.now) (with_reader reader c.put_all.new.self) (with_reader reader c.fail.new.self) c.args.answer c.named.result c.put_all.result c.if-not-put_all.true (puts_beside reader c.args.self.now c.put_all.new.self (control_frames c.args.answer) c.put_all.result c.put_all.ensures.puts) c.named.ensures (fails_beside reader c.fail.result c.put_all.new.self c.fail.new.self EnhanceYourCalm c.named.result c.fail.ensures.fails))
 
 pub returns-clause-stands : goal.returns-clause-stands
-returns-clause-stands c = for_each _ c.bring.result (λ texts. brought_by texts c.bring.result c.args.self.now c.put_all.new.self c.bring.new.self c.args.answer c.put_all.result c.if-not-put_all.false c.put_all.ensures.puts (for_one _ c.bring.result c.bring.ensures.stands texts))
+returns-clause-stands c = for_all _ c.bring.result (λ reader texts. brought_by texts c.bring.result (with_reader reader c.args.self.now) (with_reader reader c.put_all.new.self) (with_reader reader c.bring.new.self) c.args.answer c.put_all.result c.if-not-put_all.false (puts_beside reader c.args.self.now c.put_all.new.self (control_frames c.args.answer) c.put_all.result c.put_all.ensures.puts) (for_this _ c.bring.result c.bring.ensures.stands reader texts))
 
 pub returns-then-not-put_all-clause-fit : goal.returns-then-not-put_all-clause-fit
 returns-then-not-put_all-clause-fit c = λ texts h. c.fail.ensures.fit texts (c.put_all.ensures.fit texts h)

@@ -1,6 +1,6 @@
 use Rattle.std.proofs.Common.{ap, ◌∙◌}
 use Rattle.grpc_sending.specs.StoredSending.{sending_in}
-use Rattle.grpc_sending.proofs.Pumping.{pumping_more, pumping_streams, pumping_sending, pumping_by}
+use Rattle.grpc_sending.proofs.Pumping.{pumping_more, pumping_streams, pumping_sending, pumping_by, rests_same}
 use Rattle.grpc_sending.proofs.sender.Sender.pump.Goals as goal
 
 pub turns-preserved : goal.turns-preserved
@@ -8,12 +8,12 @@ turns-preserved g c = (pumping_more c.args.streams.now c.turns.streams c.put_nex
 
 pub returns-clause-streams : goal.returns-clause-streams
 returns-clause-streams g c =
-    let p = pumping_by c.args.streams.now c.turns.streams c.put_next.new.streams (sending_in (g.P.Parts.text_of c.args.parts.now) c.args.self.now) (sending_in (g.P.Parts.text_of c.args.parts.now) c.turns.self) (sending_in (g.P.Parts.text_of c.args.parts.now) c.put_next.new.self) c.turns.invariant.0 (c.put_next.ensures.rests c.turns-test.false) (c.put_next.ensures.streams c.turns-test.false) (ap (sending_in (g.P.Parts.text_of c.args.parts.now)) (c.put_next.ensures.same c.turns-test.false)) in
+    let p = pumping_by c.args.streams.now c.turns.streams c.put_next.new.streams (sending_in (g.P.Parts.text_of c.args.parts.now) c.args.self.now) (sending_in (g.P.Parts.text_of c.args.parts.now) c.turns.self) (sending_in (g.P.Parts.text_of c.args.parts.now) c.put_next.new.self) c.turns.invariant.0 (c.put_next.ensures.rests c.turns-test.false (g.P.Parts.text_of c.args.parts.now) (c.turns.invariant.1 (g.P.Parts.text_of c.args.parts.now) c.requires.fit)) (c.put_next.ensures.streams c.turns-test.false) (ap (sending_in (g.P.Parts.text_of c.args.parts.now)) (c.put_next.ensures.same c.turns-test.false)) in
     pumping_streams c.args.streams.now c.put_next.new.streams (sending_in (g.P.Parts.text_of c.args.parts.now) c.args.self.now) (sending_in (g.P.Parts.text_of c.args.parts.now) c.put_next.new.self) p.0 p.1
 
 pub returns-clause-sending : goal.returns-clause-sending
 returns-clause-sending g c =
-    let p = pumping_by c.args.streams.now c.turns.streams c.put_next.new.streams (sending_in (g.P.Parts.text_of c.args.parts.now) c.args.self.now) (sending_in (g.P.Parts.text_of c.args.parts.now) c.turns.self) (sending_in (g.P.Parts.text_of c.args.parts.now) c.put_next.new.self) c.turns.invariant.0 (c.put_next.ensures.rests c.turns-test.false) (c.put_next.ensures.streams c.turns-test.false) (ap (sending_in (g.P.Parts.text_of c.args.parts.now)) (c.put_next.ensures.same c.turns-test.false)) in
+    let p = pumping_by c.args.streams.now c.turns.streams c.put_next.new.streams (sending_in (g.P.Parts.text_of c.args.parts.now) c.args.self.now) (sending_in (g.P.Parts.text_of c.args.parts.now) c.turns.self) (sending_in (g.P.Parts.text_of c.args.parts.now) c.put_next.new.self) c.turns.invariant.0 (c.put_next.ensures.rests c.turns-test.false (g.P.Parts.text_of c.args.parts.now) (c.turns.invariant.1 (g.P.Parts.text_of c.args.parts.now) c.requires.fit)) (c.put_next.ensures.streams c.turns-test.false) (ap (sending_in (g.P.Parts.text_of c.args.parts.now)) (c.put_next.ensures.same c.turns-test.false)) in
     pumping_sending c.args.streams.now c.put_next.new.streams (sending_in (g.P.Parts.text_of c.args.parts.now) c.args.self.now) (sending_in (g.P.Parts.text_of c.args.parts.now) c.put_next.new.self) p.0 p.1
 
 pub put_next-requires : goal.put_next-requires
@@ -24,3 +24,6 @@ returns-clause-fit g c = λ texts h. c.put_next.ensures.fit texts (c.turns.invar
 
 pub returns-clause-sources : goal.returns-clause-sources
 returns-clause-sources g c = λ k. c.put_next.ensures.sources k ∙ c.turns.invariant.2 k
+
+pub returns-clause-rests : goal.returns-clause-rests
+returns-clause-rests g c = rests_same c.turns.streams c.put_next.new.streams c.turns.self c.put_next.new.self (c.put_next.ensures.rests c.turns-test.false) (c.put_next.ensures.streams c.turns-test.false) (c.put_next.ensures.same c.turns-test.false)

@@ -65,21 +65,19 @@ put_content-requires-clause-there g c =
 
 pub returns-in-None-clause-rests : goal.returns-in-None-clause-rests
 returns-in-None-clause-rests g c =
-    let fit : Fit (g.P.Parts.text_of c.args.parts.now) c.self.inside.backlog.queues = subst (λ (x : StoredSending). Fit (g.P.Parts.text_of c.args.parts.now) x.queues) (sym c.self.view_is) c.requires.fit in
     let turn : next_due c.self.inside.backlog.queues (window_left c.args.streams.now.connection_window) c.args.streams.now.live ≡ None =
     sym (c.next_due.ensures ∙ ap (λ (qs : List StoredQueue). next_due qs (window_left c.args.streams.now.connection_window) c.args.streams.now.live) c.queues.ensures) ∙ c.in-None.is in
     let alive : c.args.streams.now.failed ≡ false = sym c.has_failed.ensures ∙ c.if-has_failed.false in
     let room : length c.self.inside.buffer < 65536 = omega (arith, c.if-len-ge-PUMP_LIMIT.false, c.len.ensures) in
-    λ no'. rests_undue (g.P.Parts.text_of c.args.parts.now) c.args.streams.now (record { pending = c.self.inside.buffer; position = c.self.inside.position; queues = c.self.inside.backlog.queues; spent = c.self.inside.backlog.spent }) c.args.self.now c.self.view_is alive room fit turn
+    λ no' texts fit. rests_undue texts c.args.streams.now (record { pending = c.self.inside.buffer; position = c.self.inside.position; queues = c.self.inside.backlog.queues; spent = c.self.inside.backlog.spent }) c.args.self.now c.self.view_is alive room (subst (λ (x : StoredSending). Fit texts x.queues) (sym c.self.view_is) fit) turn
 
 pub returns-then-not-can_send-clause-rests : goal.returns-then-not-can_send-clause-rests
 returns-then-not-can_send-clause-rests g c =
-    let fit : Fit (g.P.Parts.text_of c.args.parts.now) c.self.inside.backlog.queues = subst (λ (x : StoredSending). Fit (g.P.Parts.text_of c.args.parts.now) x.queues) (sym c.self.view_is) c.requires.fit in
     let turn : next_due c.self.inside.backlog.queues (window_left c.args.streams.now.connection_window) c.args.streams.now.live ≡ Some (Gives c.in-Some-Gives.stream c.in-Some-Gives.count) =
     sym (c.next_due.ensures ∙ ap (λ (qs : List StoredQueue). next_due qs (window_left c.args.streams.now.connection_window) c.args.streams.now.live) c.queues.ensures) ∙ c.in-Some-Gives.is ∙ ap Some c.in-Some-Gives.field-0-is in
     let alive : c.args.streams.now.failed ≡ false = sym c.has_failed.ensures ∙ c.if-has_failed.false in
     let lacking : CanSend c.args.streams.now c.in-Some-Gives.stream c.in-Some-Gives.count → ⊥ = λ can. true≢false (sym (c.can_send.ensures.1 can) ∙ c.if-not-can_send.true) in
-    λ no'. rests_given (g.P.Parts.text_of c.args.parts.now) c.args.streams.now (record { pending = c.self.inside.buffer; position = c.self.inside.position; queues = c.self.inside.backlog.queues; spent = c.self.inside.backlog.spent }) c.args.self.now c.in-Some-Gives.stream c.in-Some-Gives.count c.self.view_is alive fit turn lacking
+    λ no' texts fit. rests_given texts c.args.streams.now (record { pending = c.self.inside.buffer; position = c.self.inside.position; queues = c.self.inside.backlog.queues; spent = c.self.inside.backlog.spent }) c.args.self.now c.in-Some-Gives.stream c.in-Some-Gives.count c.self.view_is alive (subst (λ (x : StoredSending). Fit texts x.queues) (sym c.self.view_is) fit) turn lacking
 
 pub returns-then-is_last-clause-puts : goal.returns-then-is_last-clause-puts
 returns-then-is_last-clause-puts g c =

@@ -1,10 +1,10 @@
-//! Carries out the scripts of standard input one by one, and writes what becomes of each: the stored cases of
-//! `unary` and `replay`, with what they have to write beside them.
+//! Carries out the scripts of standard input one by one, and writes what becomes of each: the
+//! stored cases of `unary` and `replay`, with what they have to write beside them.
 //!
-//! A line `# unary NAME`, `# replay NAME` or `# stored NAME` begins a case. The lines below it, up to the next such
-//! line, are its script, which ends without a newline: one that ends with a newline has an empty line as its last.
-//! `stored` takes a script of `replay`, and tells after each event how many texts the server holds, and how many bytes
-//! these have together.
+//! A line `# unary NAME`, `# replay NAME` or `# stored NAME` begins a case. The lines below it, up
+//! to the next such line, are its script, which ends without a newline: one that ends with a
+//! newline has an empty line as its last. `stored` takes a script of `replay`, and tells after each
+//! event how many texts the server holds, and how many bytes these have together.
 #![tactic(auto)]
 
 use program_status::{Status, read_all};

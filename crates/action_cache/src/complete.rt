@@ -218,8 +218,8 @@ fn name_output_files(
     Ok(Some(named))
 }
 
-/// The digests of all blobs that a result names: its files, its trees, each followed by its files, what it printed.
-/// `None` where it or a tree cannot be read, or a blob is not there.
+/// The digests of all blobs that a result names: its files, its trees, each followed by its files,
+/// what it printed. `None` where it or a tree cannot be read, or a blob is not there.
 pub fn blobs_of(
     alloc: Global,
     view: &View,

@@ -1,5 +1,5 @@
-//! `Read`, `Write` and `QueryWriteStatus` of `google.bytestream.ByteStream` (bytestream.proto), from a message's bytes
-//! to what is owed for it.
+//! `Read`, `Write` and `QueryWriteStatus` of `google.bytestream.ByteStream` (bytestream.proto),
+//! from a message's bytes to what is owed for it.
 //!
 //! An answer, and what becomes of an instance's texts and unfinished uploads, are functions of the
 //! instance's own name, quota, texts and uploads and of the message alone.

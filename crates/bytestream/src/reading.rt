@@ -165,9 +165,9 @@ fn find(view: &mut View, digest: &Digest) -> Option<Seen>
     found
 }
 
-/// Begins a `Read`: the range of the blob that the message asks for, which is used. The refusals come in this order:
-/// the message does not read, its name is none, its instance is not `own`, its limit is negative, there is no such
-/// blob, its offset is outside the blob.
+/// Begins a `Read`: the range of the blob that the message asks for, which is used. The refusals
+/// come in this order: the message does not read, its name is none, its instance is not `own`, its
+/// limit is negative, there is no such blob, its offset is outside the blob.
 pub fn read(
     alloc: Global,
     own: &str,

@@ -1,5 +1,5 @@
-//! Names, uploads and calls of byte streams, as tables and scenarios: tests of `resource_names`, `uploads` and
-//! `bytestream`.
+//! Names, uploads and calls of byte streams, as tables and scenarios: tests of `resource_names`,
+//! `uploads` and `bytestream`.
 #![tactic(auto)]
 
 #[cfg(test)]

@@ -154,7 +154,7 @@ pub(crate) fn take_more(
 }
 
 /// A call begins. Where there are more calls than live streams, those on closed streams are dropped
-/// first, so there is never more than one call too many.
+/// first, so that right after it there is at most one call too many.
 pub(crate) fn begin_call(
     calls: &mut Vec<Call>,
     live: &[Stream],

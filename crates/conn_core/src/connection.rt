@@ -382,6 +382,7 @@ impl Connection {
         ensures fit { KeepsFit self.old.sending self.new.sending }
         ensures sources { KeepsSources self.old.sending self.new.sending }
     {
+        // `http2_streams` answers by no other frames: the test tells the prover so.
         if !is_answer(frame) {
             return true;
         }

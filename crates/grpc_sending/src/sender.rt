@@ -88,6 +88,7 @@ impl Sender {
         ensures { IsTrue result ↔ ((length self.now.pending +
             (9 + length (raw_of frame.now).payload)) ≤ CONTROL_LIMIT) }
     {
+        // Behind a GOAWAY more than CONTROL_LIMIT may be pending: then nothing has room.
         9 + payload_length(frame) <= CONTROL_LIMIT - self.buffer.len().min(CONTROL_LIMIT)
     }
 
@@ -267,6 +268,7 @@ impl Sender {
                 true
             }
             Some(Due::Gives { stream, count }) => {
+                // `next_due` gives no more than the windows allow: the test tells the prover so.
                 if !streams.can_send(stream, count as u32) {
                     return false;
                 }
@@ -328,7 +330,8 @@ fn no_error(stream: u32) -> Frame<'static>
     }
 }
 
-/// Puts bytes of what comes first on the stream.
+/// Puts bytes of what comes first on the stream. There are so many (`there`): the cases without
+/// bytes, here and in `put_piece`, are not met.
 fn put_content<P: Parts>(
     buffer: &mut OutBuffer,
     queues: &[StoredQueue],

@@ -26,6 +26,7 @@ fn read_update(bytes: &[u8]) -> Result<(u32, &[u8]), HpackError>
     requires { spec.begins_update bytes.now ≡ true }
     ensures { Gives (λ x. (x.0, x.1.now)) result (update_at bytes.now) }
 {
+    // An update is not empty: the pattern alone wants the case.
     let [first, rest @ ..] = bytes else {
         return Err(HpackError::SizeUpdate);
     };

@@ -39,8 +39,8 @@ impl Decoder {
         }
     }
 
-    /// The fields of the next block. After a refusal, for want of memory too, each later block is refused by
-    /// `Failed`.
+    /// The fields of the next block. After a refusal, for want of memory too, each later block is
+    /// refused by `Failed`.
     ///
     /// # Errors
     /// The first fault of the block from left to right: see `HpackError`.

@@ -1,4 +1,4 @@
--- What a reader of bits has still to give.
+-- What a reader of bits has still to give. For the code alone: no public contract speaks of it.
 use Rattle.std.specs.Prelude.{ℕ, List, [], ◌++◌, Option, Some, None, Result, Ok, Err, take, replicate}
 use Rattle.hpack_huffman.specs.declared.HuffmanError.{HuffmanError}
 use Rattle.hpack_huffman.specs.declared.reader.BitReader.{BitReader}

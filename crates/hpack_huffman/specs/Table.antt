@@ -1,5 +1,5 @@
 -- What a decoder's table has to say for it to have the codes. These are tests, so that the checker
--- computes them.
+-- computes them. For the code alone: no public contract speaks of it.
 use Rattle.std.specs.Prelude.{◌≡◌, ◌≢◌, ℕ, zero, suc, ◌+◌, ◌-◌, ◌*◌, ◌/◌, ◌^◌, ◌==◌, ◌<◌, ◌≤◌, nat_lt, nat_le, Bool, true, ◌&&◌, List, [], ◌∷◌, ◌++◌, slice_index}
 use Rattle.hpack_huffman.specs.declared.code.Codes.{Codes}
 use Rattle.hpack_huffman.specs.declared.code.TheConstants.{SYMBOLS, EOS}

@@ -26,7 +26,7 @@ use Rattle.http2_streams.specs.declared.event.Event.TheVariants.{Nothing}
 use Rattle.http2_streams.specs.declared.event.StreamEvent.{StreamEvent}
 use Rattle.http2_streams.specs.History.{Entry, In, Out, blocks_after, blocks_with, frame_in, frame_out, received_frames, sent_frames, has_failed, is_goaway, highest_stream}
 use Rattle.http2_streams.specs.Standing.{Standing, standing}
-use Rattle.http2_streams.specs.Rules.{is_idle, is_receiving, is_remembered, is_live_at, window_update, stream_error, no_effect, stream_event, on_data, on_header_list, on_block, on_request, on_trailers, on_settings, settings_fault, on_ping, on_reset, on_connection_update, on_stream_update, overflows, may_grow, on_content, is_in_turn, on_frame_of, on_raw_frame, answer_to, answer_after, control_frames, frames_put, entries_of}
+use Rattle.http2_streams.specs.Rules.{is_idle, is_receiving, is_remembered, is_live_at, window_update, stream_error, event_only, no_effect, on_data, on_header_list, on_block, on_request, on_trailers, on_settings, settings_fault, on_ping, on_reset, on_connection_update, on_stream_update, overflows, may_grow, on_content, is_in_turn, on_frame_of, on_raw_frame, answer_to, answer_after, control_frames, frames_put, entries_of}
 use Rattle.http2_streams.specs.StandsFor.{IsUntouched, IsAt, StandsFor, InMemory}
 use Rattle.http2_streams.specs.Step.{after_frame_in, after_frame_out, after_block, after_header_list, with_headers, after_client_end, after_answer, after_begin, after_content, step_by}
 use Rattle.http2_streams.proofs.Lists.{append-nil}
@@ -118,7 +118,7 @@ quiet_ping ack o = record { goes_on = refl; unreset = λ t. refl; unended = λ t
 quiet_update : (s n : ℕ) → IsQuietOption (window_update s n)
 quiet_update s n = split IsQuietOption (n == 0) None (Some (WindowUpdate s n)) (λ _. tt) (λ _. quiet_window s n)
 
-lawful_event : (h : ℕ) (e : Event) → IsLawful h (stream_event None None None None e)
+lawful_event : (h : ℕ) (e : Event) → IsLawful h (event_only e)
 lawful_event h e = record { acknowledgement = tt; connection_update = tt; stream_update = tt; reset = tt }
 
 lawful_error : (h : ℕ) (v : Standing) (s : ℕ) (code : ErrorCode) → s ≤ h → IsLawful h (stream_error v s code)
@@ -170,7 +170,7 @@ given_lawful v w (Err code) = tt
 given_lawful v w (Ok None) = lawful_event w.highest Nothing
 given_lawful v w (Ok (Some block)) = block_lawful v (after_block w block.stream block.end_stream).highest block (block_below w block.stream block.end_stream)
 
-fault_lawful : (h : ℕ) (o : Option ErrorCode) → OkThen (IsLawful h) (option_map_or Err o (Ok (stream_event (Some (Settings true [])) None None None Nothing)))
+fault_lawful : (h : ℕ) (o : Option ErrorCode) → OkThen (IsLawful h) (option_map_or Err o (Ok (record no_effect { acknowledgement = Some (Settings true []) })))
 fault_lawful h None = record { acknowledgement = quiet_settings true []; connection_update = tt; stream_update = tt; reset = tt }
 fault_lawful h (Some code) = tt
 

@@ -15,6 +15,7 @@ use Rattle.http2_frames.specs.declared.frame.Frame.{Frame}
 use Rattle.http2_frames.specs.declared.frame.Frame.TheVariants.{Data, Headers, RstStream, Settings, GoAway, WindowUpdate, Continuation}
 use Rattle.http2_frames.specs.Frames.{frame_of}
 use Rattle.http2_headers.specs.HeaderBlock.{HeaderBlock, new_block, with_continuation}
+use Rattle.http2_streams.specs.declared.streams.TheConstants.{MAX_REMEMBERED}
 
 pub data Entry : Type 0 where
   -- a frame that was received
@@ -159,10 +160,10 @@ stream_reset_by _ = None
 abbrev pub last_items : {A : Type 0} → ℕ → List A → List A
 last_items n xs = drop (length xs - n) xs
 
--- the last 128 streams that the server reset, on which frames may still be on their way (section
+-- the last streams that the server reset, on which frames may still be on their way (section
 -- 5.4.2)
 abbrev pub remembered_streams : List Entry → List ℕ
-remembered_streams d = last_items 128 (filter_map stream_reset_by (sent_frames d))
+remembered_streams d = last_items MAX_REMEMBERED (filter_map stream_reset_by (sent_frames d))
 
 -- ---- flow control (section 6.9)
 

@@ -23,6 +23,7 @@ use Rattle.http2_headers.specs.declared.header_blocks.HeaderList.{HeaderList}
 use Rattle.http2_headers.specs.Decoding.{list_of_block, list_of_continuation}
 use Rattle.http2_headers.specs.Request.{is_well_formed_request}
 use Rattle.http2_streams.specs.declared.stream.Stream.{Stream}
+use Rattle.http2_streams.specs.declared.streams.TheConstants.{MAX_STREAMS}
 use Rattle.http2_streams.specs.declared.event.Event.{Event}
 use Rattle.http2_streams.specs.declared.event.Event.TheVariants.{Nothing, Request, Content, Trailers, Cancel}
 use Rattle.http2_streams.specs.declared.event.StreamEvent.{StreamEvent}
@@ -54,22 +55,18 @@ is_idle v s = nat_lt v.highest s || (s % 2 == 0 && not (s == 0))
 
 -- ---- answers
 
--- the control frames that are put for a frame, in this order, and what the frame brings
-abbrev pub stream_event : Option Frame → Option Frame → Option Frame → Option Frame → Event →
-    StreamEvent
-stream_event acknowledgement connection_update stream_update reset event = record {
-  acknowledgement = acknowledgement;
-  connection_update = connection_update;
-  stream_update = stream_update;
-  reset = reset;
-  event = event;
+-- no control frame is put for a frame, and it brings nothing
+abbrev pub no_effect : StreamEvent
+no_effect = record {
+  acknowledgement = None;
+  connection_update = None;
+  stream_update = None;
+  reset = None;
+  event = Nothing;
 }
 
 abbrev pub event_only : Event → StreamEvent
-event_only event = stream_event None None None None event
-
-abbrev pub no_effect : StreamEvent
-no_effect = event_only Nothing
+event_only event = record no_effect { event = event }
 
 -- a live stream that ends before both sides ended it
 abbrev pub cancel_event : Standing → ℕ → Event
@@ -80,7 +77,8 @@ reset_frame s code = Some (RstStream s (code_number code))
 
 -- a stream error (section 5.4.2)
 abbrev pub stream_error : Standing → ℕ → ErrorCode → StreamEvent
-stream_error v s code = stream_event None None None (reset_frame s code) (cancel_event v s)
+stream_error v s code =
+    record no_effect { reset = reset_frame s code; event = cancel_event v s }
 
 -- ---- DATA (section 6.1)
 
@@ -88,19 +86,35 @@ stream_error v s code = stream_event None None None (reset_frame s code) (cancel
 abbrev pub window_update : ℕ → ℕ → Option Frame
 window_update s n = if n == 0 then None else Some (WindowUpdate s n)
 
+-- on a stream on which the client may still send
+abbrev pub content_received : ℕ → ℕ → Bool → List ℕ → StreamEvent
+content_received n s end_stream content = record no_effect {
+  connection_update = window_update 0 n;
+  stream_update = if end_stream then None else window_update s n;
+  event = Content s content end_stream;
+}
+
+-- on a stream on which it may send no more
+abbrev pub content_refused : Standing → ℕ → ℕ → StreamEvent
+content_refused v n s = record no_effect {
+  connection_update = window_update 0 n;
+  reset = reset_frame s StreamClosed;
+  event = cancel_event v s;
+}
+
 abbrev pub on_data : Standing → ℕ → ℕ → Bool → List ℕ → Result StreamEvent ErrorCode
 on_data v n s end_stream content =
     if is_idle v s then Err ProtocolError
-    else if is_receiving v s then Ok (stream_event None (window_update 0 n) (if end_stream then None else window_update s n) None (Content s content end_stream))
-    else if is_remembered v s then Ok (stream_event None (window_update 0 n) None None Nothing)
-    else Ok (stream_event None (window_update 0 n) None (reset_frame s StreamClosed) (cancel_event v s))
+    else if is_receiving v s then Ok (content_received n s end_stream content)
+    else if is_remembered v s then Ok (record no_effect { connection_update = window_update 0 n })
+    else Ok (content_refused v n s)
 
 -- ---- HEADERS and CONTINUATION (sections 6.2 and 6.10)
 
 -- section 5.1.2: at most 100 streams at a time; section 8.1.1: malformed requests
 abbrev pub on_request : Standing → HeaderList → StreamEvent
 on_request v block =
-    if nat_le 100 (length v.live) then stream_error v block.stream RefusedStream
+    if nat_le MAX_STREAMS (length v.live) then stream_error v block.stream RefusedStream
     else if not (is_well_formed_request block.fields) then stream_error v block.stream ProtocolError
     else event_only (Request block.stream block.fields block.end_stream)
 
@@ -132,8 +146,11 @@ is_above size x = not (lt_z (pos size +ℤ x.window.change) (pos (2 ^ 31)))
 abbrev pub setting_fault : List Stream → Setting → Option ErrorCode
 setting_fault live s =
     if s.identifier == ENABLE_PUSH && nat_lt 1 s.value then Some ProtocolError
-    else if s.identifier == MAX_FRAME_SIZE && (nat_lt s.value 16384 || nat_lt 16777215 s.value) then Some ProtocolError
-    else if s.identifier == INITIAL_WINDOW_SIZE && (nat_le (2 ^ 31) s.value || list_any (is_above s.value) live) then Some FlowControlError
+    else if s.identifier == MAX_FRAME_SIZE && (nat_lt s.value 16384 || nat_lt 16777215 s.value)
+    then Some ProtocolError
+    else if s.identifier == INITIAL_WINDOW_SIZE
+    && (nat_le (2 ^ 31) s.value || list_any (is_above s.value) live)
+    then Some FlowControlError
     else None
 
 -- the first, in the order of the settings
@@ -144,13 +161,15 @@ settings_fault live (s ∷ ss) = option_map_or Some (setting_fault live s) (sett
 abbrev pub on_settings : Standing → Bool → List Setting → Result StreamEvent ErrorCode
 on_settings v ack settings =
     if ack then Ok no_effect
-    else option_map_or Err (settings_fault v.live settings) (Ok (stream_event (Some (Settings true [])) None None None Nothing))
+    else option_map_or Err (settings_fault v.live settings)
+    (Ok (record no_effect { acknowledgement = Some (Settings true []) }))
 
 -- ---- PING (section 6.7), RST_STREAM (section 6.4), WINDOW_UPDATE (section 6.9)
 
 abbrev pub on_ping : Bool → List ℕ → StreamEvent
 on_ping ack opaque_data =
-    if ack then no_effect else stream_event (Some (Ping true opaque_data)) None None None Nothing
+    if ack then no_effect
+    else record no_effect { acknowledgement = Some (Ping true opaque_data) }
 
 abbrev pub on_reset : Standing → ℕ → Result StreamEvent ErrorCode
 on_reset v s = if is_idle v s then Err ProtocolError else Ok (event_only (cancel_event v s))

@@ -1,4 +1,4 @@
--- What one entry changes of what is kept.
+-- What one entry changes of what is kept. For the code alone: no public contract speaks of it.
 use Rattle.std.specs.Prelude.{ℕ, ◌==◌, nat_lt, length, if◌then◌else◌, Bool, true, false, not, ◌&&◌, List, [], ◌∷◌, ◌++◌, map, filter, fold, Option, Some, None, Result, Ok, Err, pos, ◌+ℤ◌, ◌-ℤ◌}
 use Rattle.std.specs.Option.{option_map_or}
 use Rattle.http2_flow.specs.Credit.{Credit}
@@ -19,6 +19,7 @@ use Rattle.http2_streams.specs.declared.event.StreamEvent.{StreamEvent}
 use Rattle.http2_streams.specs.History.{last_items}
 use Rattle.http2_streams.specs.Standing.{Standing}
 use Rattle.http2_streams.specs.Rules.{is_receiving}
+use Rattle.http2_streams.specs.declared.streams.TheConstants.{MAX_REMEMBERED}
 
 abbrev pub without_stream : ℕ → List Stream → List Stream
 without_stream s xs = filter (λ x. not (x.number == s)) xs
@@ -116,7 +117,10 @@ after_frame_in v _ = v
 -- ---- put
 
 abbrev pub after_reset : Standing → ℕ → Standing
-after_reset v s = record v { live = without_stream s v.live; remembered = last_items 128 (v.remembered ++ s ∷ []) }
+after_reset v s = record v {
+  live = without_stream s v.live;
+  remembered = last_items MAX_REMEMBERED (v.remembered ++ s ∷ []);
+}
 
 abbrev pub after_server_end : Standing → ℕ → Bool → Standing
 after_server_end v s end_stream =

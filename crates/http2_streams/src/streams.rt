@@ -10,7 +10,7 @@ ghost use Rattle.http2_headers.specs.HeaderBlock.{new_block};
 ghost use Rattle.http2_streams.specs.History.{Entry, In, Out, last_items, has_failed};
 ghost use Rattle.http2_streams.specs.Sending.{CanSend};
 ghost use Rattle.http2_streams.specs.StandsFor.{StandsFor, InMemory};
-ghost use Rattle.http2_streams.specs.Rules.{answer_after, entries_of, answer_to, no_effect, event_only, cancel_event, reset_frame, window_update, stream_error, is_idle, is_remembered, is_receiving, is_live_at, is_in_turn, on_content, on_data, on_header_list, on_block, on_request, on_trailers, on_reset, on_ping, on_connection_update, on_stream_update, on_settings, stream_event, is_above, setting_fault, settings_fault};
+ghost use Rattle.http2_streams.specs.Rules.{answer_after, entries_of, answer_to, no_effect, event_only, cancel_event, reset_frame, window_update, stream_error, is_idle, is_remembered, is_receiving, is_live_at, is_in_turn, on_content, on_data, on_header_list, on_block, on_request, on_trailers, on_reset, on_ping, on_connection_update, on_stream_update, on_settings, is_above, setting_fault, settings_fault};
 ghost use Rattle.http2_streams.specs.Step.{step_by, after_answer, after_frame_in, after_block, after_header_list, with_headers, after_client_end, after_reset, after_server_end, after_data, after_window_update, without_stream, with_live, new_stream, after_settings, after_resize, size_after_setting};
 
 use crate::event::{Event, StreamEvent};
@@ -49,13 +49,15 @@ pub struct Streams {
 impl Model for Streams {
     ghost use Rattle.std.specs.Prelude.{◌<◌, ◌≤◌, ◌^◌, length, vec_capacity};
     ghost use Rattle.http2_streams.specs.Standing.{Standing};
+    ghost use Rattle.http2_streams.specs.declared.streams.TheConstants.{MAX_STREAMS, MAX_REMEMBERED};
 
     ghost Value = { Standing };
 
     ghost view = { λ s. record { failed = s.failed; begun = s.begun; highest = s.highest; live = s.live.items; remembered = s.remembered.items; initial_window_size = s.initial_window_size; connection_window = s.connection_window; unfinished = s.headers.unfinished; table = s.headers.table } };
 
-    ghost invariant = { λ s. (length s.live.items ≤ 100) × (100 ≤ vec_capacity s.live)
-        × (length s.remembered.items ≤ 128) × (128 ≤ vec_capacity s.remembered)
+    ghost invariant = { λ s. (length s.live.items ≤ MAX_STREAMS) × (MAX_STREAMS ≤ vec_capacity s.live)
+        × (length s.remembered.items ≤ MAX_REMEMBERED)
+        × (MAX_REMEMBERED ≤ vec_capacity s.remembered)
         × (s.initial_window_size < 2 ^ 31) };
 }
 
@@ -467,7 +469,7 @@ impl Streams {
 
     /// Adds a live stream.
     fn open(&mut self, stream: u32, end_stream: bool)
-        requires { length self.old.live < 100 }
+        requires { length self.old.live < MAX_STREAMS }
         ensures { self.new ≡ with_live self.old
             (self.old.live ++ new_stream self.old.initial_window_size stream end_stream ∷ []) }
     {
@@ -589,11 +591,12 @@ const PROTOCOL_ERROR: H2Fault = H2Fault::Connection(ErrorCode::ProtocolError);
 
 /// Takes the place of the oldest where there is no room.
 fn remember(remembered: &mut Vec<u32>, stream: u32)
-    requires room { 128 ≤ vec_capacity remembered.old }
-    requires few { length remembered.old.items ≤ 128 }
-    ensures list { remembered.new.items ≡ last_items 128 (remembered.old.items ++ stream ∷ []) }
-    ensures few { length remembered.new.items ≤ 128 }
-    ensures room { 128 ≤ vec_capacity remembered.new }
+    requires room { MAX_REMEMBERED ≤ vec_capacity remembered.old }
+    requires few { length remembered.old.items ≤ MAX_REMEMBERED }
+    ensures list { remembered.new.items ≡ last_items MAX_REMEMBERED
+        (remembered.old.items ++ stream ∷ []) }
+    ensures few { length remembered.new.items ≤ MAX_REMEMBERED }
+    ensures room { MAX_REMEMBERED ≤ vec_capacity remembered.new }
 {
     if remembered.len() >= MAX_REMEMBERED {
         let _ = remembered.remove(0);
@@ -657,7 +660,7 @@ fn on_ping<'a>(ack: bool, opaque_data: [u8; 8]) -> StreamEvent<'a>
 }
 
 fn settings_ack<'a>() -> StreamEvent<'a>
-    ensures { result ≡ stream_event (Some (Settings true [])) None None None Event.Nothing }
+    ensures { result ≡ record no_effect { acknowledgement = Some (Settings true []) } }
 {
     StreamEvent {
         acknowledgement: Some(Frame::Settings {

@@ -1,4 +1,5 @@
--- What the readers of fields keep while they go over the records.
+-- What the readers of fields keep while they go over the records. For the code alone: no public
+-- contract speaks of it.
 use Rattle.std.specs.Prelude.{ℕ, ℤ, List, [], ◌∷◌, ◌++◌, length, map, Option, Some, None, Result, Ok, unwrap_or}
 use Rattle.std.specs.List.{concat}
 use Rattle.protobuf_wire.specs.declared.field.WireError.{WireError}

@@ -1,5 +1,5 @@
-//! Texts of a pool, put in and read back, alone and by instances side by side: tests of `paged_text`, `blob_pool`,
-//! `instance_view` and `quota_evict`.
+//! Texts of a pool, put in and read back, alone and by instances side by side: tests of
+//! `paged_text`, `blob_pool`, `instance_view` and `quota_evict`.
 #![tactic(auto)]
 
 #[cfg(test)]

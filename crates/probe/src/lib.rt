@@ -153,10 +153,10 @@ fn run<C: Clock, R: Read, W: Write, O: Write>(
     }
 }
 
-/// Sends the bytes of a request to a peer that does not let reads and writes wait, and writes the first
-/// `want` bytes that come back in lower-case hexadecimal, with a newline. Where they do not come in
-/// that many turns, nothing is written. A turn in which nothing moves takes a millisecond. A fault is told in one
-/// line on `errors`.
+/// Sends the bytes of a request to a peer that does not let reads and writes wait, and writes the
+/// first `want` bytes that come back in lower-case hexadecimal, with a newline. Where they do not
+/// come in that many turns, nothing is written. A turn in which nothing moves takes a millisecond.
+/// A fault is told in one line on `errors`.
 pub fn probe<C: Clock, R: Read, W: Write, O: Write, E: Write>(
     clock: &C,
     alloc: Global,

@@ -1,5 +1,5 @@
-//! Resource names of byte streams (remote_execution.proto, "ContentAddressableStorage"; bytestream.proto,
-//! `resource_name`): which blob of which instance a `Read` or a `Write` names.
+//! Resource names of byte streams (remote_execution.proto, "ContentAddressableStorage";
+//! bytestream.proto, `resource_name`): which blob of which instance a `Read` or a `Write` names.
 //!
 //! A name is cut at its slashes into segments. Nothing here takes memory.
 #![tactic(auto)]

@@ -168,9 +168,9 @@ impl Serving {
 /// written. A connection is closed where its client is gone or its socket failed, and where an
 /// error of it was met and the client was sent all that waited.
 ///
-/// `served`: a connection is accepted under a number that no open one of its instance has, and what is written to one is
-/// each time what its instance alone, by its own events, has waiting on it then. No fault of a socket ends the turns. An
-/// error is want of memory.
+/// `served`: a connection is accepted under a number that no open one of its instance has, and what
+/// is written to one is each time what its instance alone, by its own events, has waiting on it
+/// then. No fault of a socket ends the turns. An error is want of memory.
 pub fn serve<S: Sockets>(
     alloc: Global,
     configs: &Configs,

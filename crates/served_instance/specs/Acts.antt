@@ -1,4 +1,5 @@
--- What each part of the code does, in terms of what it keeps and of what that stands for.
+-- What each part of the code does, in terms of what it keeps and of what that stands for. For the
+-- code alone: no public contract speaks of it.
 use Rattle.std.specs.Prelude.{◌≡◌, ◌<◌, ℕ, ◌==◌, if◌then◌else◌, Bool, IsTrue, List, [], ◌∷◌, length, map, Option, Some, None, option_map, OnSome}
 use Rattle.std.specs.Option.{option_map_or}
 use Rattle.conn_core.specs.declared.event.CallEvent.{CallEvent}

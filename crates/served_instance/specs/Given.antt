@@ -1,5 +1,5 @@
 -- What the items of replies owe with the texts of their ranges, and what becomes of the sources
--- that they hold.
+-- that they hold. For the code alone: no public contract speaks of it.
 use Rattle.std.specs.Prelude.{◌≡◌, ◌+◌, ◌≤◌, ◌<◌, ◌^◌, ℕ, List, length, map}
 use Rattle.std.specs.List.{AllByRecursion}
 use Rattle.blob_pool.specs.Slots.{Slots}

@@ -1,10 +1,10 @@
 -- One instance by itself: what each event makes of it and of its connections. Nothing else is read.
 -- To be read from the last definitions up: `after_event` is what an event does that is not refused
--- (Refusals.antt says which are), `effect_of` has a case for each kind of event, and `all_sent_bytes` is what
--- was put. A connection's `Past` (conn_core, Past.antt) is all bytes that were received on it; its
--- history, that is all frames received and put and all takings of bytes, in order; the items of
--- responses that its streams were ever owed; and the events of calls that are due. `with_frame`,
--- `with_fault`, `with_taken` and `with_pumped` say what one step adds to it.
+-- (Refusals.antt says which are), `effect_of` has a case for each kind of event, and
+-- `all_sent_bytes` is what was put. A connection's `Past` (conn_core, Past.antt) is all bytes that
+-- were received on it; its history, that is all frames received and put and all takings of bytes,
+-- in order; the items of responses that its streams were ever owed; and the events of calls that
+-- are due. `with_frame`, `with_fault`, `with_taken` and `with_pumped` say what one step adds to it.
 use Rattle.std.specs.Prelude.{ℕ, Bool, if◌then◌else◌, true, List, [], ◌∷◌, ◌++◌, length, map, drop, Option, Some, None, Result, Ok, Err}
 use Rattle.std.specs.Option.{option_map_or}
 use Rattle.http2_frames.specs.declared.reader.TheConstants.{CLIENT_PREFACE}

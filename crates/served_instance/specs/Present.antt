@@ -1,4 +1,4 @@
--- Which events are refused, by what is kept.
+-- Which events are refused, by what is kept. For the code alone: no public contract speaks of it.
 use Rattle.std.specs.Prelude.{ℕ, ◌≤◌, ◌==◌, Bool, nat_le, nat_lt, if◌then◌else◌, List, length, Option, Some, None}
 use Rattle.std.specs.Option.{is_some, option_map_or}
 use Rattle.conn_core.specs.StandsFor.{Present}

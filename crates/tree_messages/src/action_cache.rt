@@ -10,8 +10,8 @@ use message_fields::{
 use reapi_messages::Digest;
 use std::alloc::{AllocError, Global};
 
-/// `build.bazel.remote.execution.v2.GetActionResultRequest`. The fields that ask for inlined outputs
-/// are skipped.
+/// `build.bazel.remote.execution.v2.GetActionResultRequest`. The fields that ask for inlined
+/// outputs are skipped.
 #[derive(Clone, Copy)]
 pub struct GetActionResultRequest<'a> {
     pub instance_name: &'a str,

@@ -97,8 +97,8 @@ fn run<I: Read, O: Write>(alloc: Global, input: &mut I, output: &mut O) -> Statu
     }
 }
 
-/// Reads a script of calls, carries it out, and writes a line for each command. A fault is told in one line on
-/// `errors`. Where a line is bad, nothing is carried out.
+/// Reads a script of calls, carries it out, and writes a line for each command. A fault is told in
+/// one line on `errors`. Where a line is bad, nothing is carried out.
 pub fn unary<I: Read, O: Write, E: Write>(
     alloc: Global,
     input: &mut I,

@@ -4,7 +4,7 @@ use crate::one_byte::OneByte;
 use conn_core::*;
 use grpc_calls::{Method, ResponseBlock, Status};
 use rpc::Refusal;
-use std::alloc::AllocError;
+use std::alloc::{AllocError, Global};
 use std::test::*;
 
 const PREFACE: &[u8] = b"PRI * HTTP/2.0\r\n\r\nSM\r\n\r\n\x00\x00\x00\x04\x00\x00\x00\x00\x00";
@@ -62,11 +62,11 @@ fn owe_block(connection: &mut Connection, block: ResponseBlock) -> Result<(), Al
     connection.owe_block(1, block)
 }
 
-fn owe_message(connection: &mut Connection) -> Result<(), AllocError>
+fn owe_message(alloc: Global, connection: &mut Connection) -> Result<(), AllocError>
     requires { (texts : Look) → Fit texts connection.old.sending.queues }
     ensures { (texts : Look) → Fit texts connection.new.sending.queues }
 {
-    connection.owe_message(1, MESSAGE)
+    connection.owe_message(1, Vec::from_slice(alloc, MESSAGE)?)
 }
 
 fn feed(connection: &mut Connection, piece: &[u8]) -> Result<(), AllocError>
@@ -98,12 +98,12 @@ fn pump(connection: &mut Connection)
 }
 
 /// Owes the answer to the call.
-fn answer(connection: &mut Connection) -> Result<(), AllocError>
+fn answer(alloc: Global, connection: &mut Connection) -> Result<(), AllocError>
     requires { (texts : Look) → Fit texts connection.old.sending.queues }
     ensures { (texts : Look) → Fit texts connection.new.sending.queues }
 {
     owe_block(connection, ResponseBlock::Head)?;
-    owe_message(connection)?;
+    owe_message(alloc, connection)?;
     owe_block(connection, ResponseBlock::Trailers(Status::Success))
 }
 
@@ -166,7 +166,7 @@ fn call_and_answer(connection: &mut Connection, all: &mut Vec<u8>) -> Result<(),
     ensures { (texts : Look) → Fit texts connection.new.sending.queues }
 {
     receive_all(connection, &[PREFACE, HEADERS, DATA, MESSAGE], all)?;
-    answer(connection)?;
+    answer(*all.allocator(), connection)?;
     pump(connection);
     Ok(())
 }

@@ -56,10 +56,10 @@ fn owe_message(
     streams: &Streams,
     sender: &mut Sender,
     stream: u32,
-    message: &[u8],
+    message: Vec<u8>,
 ) -> Result<(), AllocError>
     requires fit { (texts : Look) → Fit texts sender.old.queues }
-    requires short { length message.now < 2 ^ 32 }
+    requires short { length message.items < 2 ^ 32 }
     ensures { (texts : Look) → Fit texts sender.new.queues }
 {
     sender.owe_message(streams, stream, message)
@@ -81,14 +81,15 @@ fn pump(streams: &mut Streams, sender: &mut Sender)
 }
 
 /// Owes a response on stream 1, and a message on a stream that is not there.
-fn owe_response(streams: &Streams, sender: &mut Sender) -> Result<(), AllocError>
+fn owe_response(alloc: Global, streams: &Streams, sender: &mut Sender) -> Result<(), AllocError>
     requires { (texts : Look) → Fit texts sender.old.queues }
     ensures { (texts : Look) → Fit texts sender.new.queues }
 {
     owe_block(streams, sender, ResponseBlock::Head)?;
-    owe_message(streams, sender, 1, b"abc")?;
+    owe_message(streams, sender, 1, Vec::from_slice(alloc, b"abc")?)?;
     owe_block(streams, sender, ResponseBlock::Trailers(Status::Success))?;
-    owe_message(streams, sender, 3, b"to no stream")
+    let message = Vec::from_slice(alloc, b"to no stream")?;
+    owe_message(streams, sender, 3, message)
 }
 
 /// Whether these bytes wait, which are all taken.
@@ -100,10 +101,14 @@ fn gives(sender: &mut Sender, wanted: &[u8]) -> bool {
     sender.pending().is_empty()
 }
 
-fn sends_response(streams: &mut Streams, sender: &mut Sender) -> Result<bool, AllocError>
+fn sends_response(
+    alloc: Global,
+    streams: &mut Streams,
+    sender: &mut Sender,
+) -> Result<bool, AllocError>
     requires { (texts : Look) → Fit texts sender.old.queues }
 {
-    owe_response(streams, sender)?;
+    owe_response(alloc, streams, sender)?;
     pump(streams, sender);
     Ok(gives(sender, RESPONSE) && streams.live().is_empty())
 }
@@ -112,7 +117,7 @@ fn sends_response(streams: &mut Streams, sender: &mut Sender) -> Result<bool, Al
 fn a_whole_response(rt: HostRuntime) -> Result<(), Fail> {
     let mut streams = with_request(rt.alloc(), ENDED)?;
     let mut sender = Sender::new(rt.alloc())?;
-    let passed = sends_response(&mut streams, &mut sender);
+    let passed = sends_response(rt.alloc(), &mut streams, &mut sender);
     drop(sender);
     drop(streams);
     assert!(rt; passed?);
@@ -174,7 +179,7 @@ fn owe_large(alloc: Global, streams: &Streams, sender: &mut Sender) -> Result<()
     ensures { (texts : Look) → Fit texts sender.new.queues }
 {
     let message = vec![in alloc; 7u8; 100_000]?;
-    owe_message(streams, sender, 1, &message)?;
+    owe_message(streams, sender, 1, message)?;
     let end = Status::Refused(Refusal::BlobNotFound);
     owe_block(streams, sender, ResponseBlock::Trailers(end))
 }

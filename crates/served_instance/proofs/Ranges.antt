@@ -2,18 +2,15 @@
 use Rattle.std.proofs.Common.{◌≡◌, refl, sym, ap, ◌∙◌, subst, zero, suc, ◌+◌, ◌*◌, ◌^◌, ◌<◌, ◌≤◌, arith, get_or, inl, inr}
 use Rattle.std.proofs.Math.ListN.{set}
 use Rattle.std.proofs.lemmas.Bool.{cases_Bool}
-use Rattle.std.proofs.lemmas.Bool.Decides.{nat_tests}
-use Rattle.std.specs.Prelude.{ℕ, true, ◌==◌, cond, List, [], ◌∷◌, ◌++◌, map, length, position, Some}
+use Rattle.std.specs.Prelude.{ℕ, ◌==◌, List, [], ◌∷◌, ◌++◌, map, length, position, Some}
 use Rattle.std.specs.List.{flat_map, AllByRecursion}
 use Rattle.grpc_sending.specs.declared.piece.StoredPiece.{StoredPiece}
 use Rattle.grpc_sending.specs.declared.piece.StoredPiece.TheVariants.{Encoded, Framed, Ranged}
 use Rattle.grpc_sending.specs.declared.queue.StoredQueue.{StoredQueue}
-use Rattle.grpc_sending.specs.Pieces.{Piece, Block, Part, Queue, most_read}
-use Rattle.grpc_sending.specs.Spans.{span_pieces}
+use Rattle.grpc_sending.specs.Pieces.{Piece, Block, Part, Queue}
 use Rattle.grpc_sending.specs.Sources.{count_of, sources_in, sources_held}
 use Rattle.grpc_sending.specs.StandsFor.{IsSending}
 use Rattle.grpc_sending.specs.StoredSending.{Look, StoredSending, AgreeOn, KeepsFit, Fit, AreFit as ArePiecesFit, stored_on, pieces_in, queue_in, sources_of}
-use Rattle.grpc_sending.proofs.Sources.{sum_append}
 use Rattle.grpc_sending.proofs.Agreeing.{count_append, agree_left, agree_right, same_shown, stands_agreed, fit_agreed}
 use Rattle.conn_core.specs.Past.{Past}
 use Rattle.conn_core.specs.StandsFor.{Present, StandsFor as IsConnection}

@@ -1,7 +1,6 @@
 -- Connections take the ranges of replies, and those that none takes are released.
-use Rattle.std.proofs.Common.{◌≡◌, refl, sym, ap, ◌∙◌, subst, zero, suc, ◌+◌, ◌-◌, ◌<◌, ◌≤◌, arith, get_or, take, drop}
+use Rattle.std.proofs.Common.{◌≡◌, refl, sym, ap, ◌∙◌, subst, zero, suc, ◌+◌, ◌≤◌, arith, get_or}
 use Rattle.std.proofs.Math.ListN.{set}
-use Rattle.std.proofs.lemmas.List.{take_all}
 use Rattle.std.specs.Prelude.{ℕ, false, List, [], ◌∷◌, map, length, position, Some, Result, Ok, Err, OnOk}
 use Rattle.std.specs.Result.{is_err}
 use Rattle.std.specs.List.{AllByRecursion}
@@ -31,46 +30,43 @@ moves_both p q r a b m n = record {
   texts = λ k few. n.texts k (omega (arith, few, m.counts k)) ∙ m.texts k (omega (arith, few));
 }
 
-pub items_released : (p q r : Slots) (items : List ReplyItem) (d : ReplyItem) → 1 ≤ length items → Moves p q (item_holders (get_or items 0 d)) no_holders → Moves q r (items_holders (take (length items - 1) (drop 1 items))) no_holders → Moves p r (items_holders items) no_holders
-items_released p q r [] d some m n = absurd (omega arith)
-items_released p q r (item ∷ items) d some m n =
-    let all : take (length (item ∷ items) - 1) items ≡ items = take_all (length (item ∷ items) - 1) items (omega arith) in
-    moves_both p q r (item_holders item) (items_holders items) m (subst (λ (xs : List ReplyItem). Moves q r (items_holders xs) no_holders) all n)
+pub items_released : (p q r : Slots) (items rest : List ReplyItem) (item : ReplyItem) → items ≡ item ∷ rest → Moves p q (item_holders item) no_holders → Moves q r (items_holders rest) no_holders → Moves p r (items_holders items) no_holders
+items_released p q r items rest item is m n =
+    subst (λ (xs : List ReplyItem). Moves p r (items_holders xs) no_holders) (sym is) (moves_both p q r (item_holders item) (items_holders rest) m n)
 
-pub replies_released : (p q r : Slots) (rs : List Reply) (d : Reply) → 1 ≤ length rs → Moves p q (items_holders (get_or rs 0 d).items.items) no_holders → Moves q r (replies_holders (take (length rs - 1) (drop 1 rs))) no_holders → Moves p r (replies_holders rs) no_holders
-replies_released p q r [] d some m n = absurd (omega arith)
-replies_released p q r (x ∷ rs) d some m n =
-    let all : take (length (x ∷ rs) - 1) rs ≡ rs = take_all (length (x ∷ rs) - 1) rs (omega arith) in
-    moves_both p q r (items_holders x.items.items) (replies_holders rs) m (subst (λ (xs : List Reply). Moves q r (replies_holders xs) no_holders) all n)
+pub replies_released : (p q r : Slots) (rs rest : List Reply) (x : Reply) → rs ≡ x ∷ rest → Moves p q (items_holders x.items.items) no_holders → Moves q r (replies_holders rest) no_holders → Moves p r (replies_holders rs) no_holders
+replies_released p q r rs rest x is m n =
+    subst (λ (xs : List Reply). Moves p r (replies_holders xs) no_holders) (sym is) (moves_both p q r (items_holders x.items.items) (replies_holders rest) m n)
 
 -- what is left is held
-pub items_left : (p q : Slots) (items : List ReplyItem) (d : ReplyItem) → 1 ≤ length items → ((k : ℕ) → items_holders items k ≤ count_at p k) → ((k : ℕ) → count_at p k ≤ count_at q k + item_holders (get_or items 0 d) k) →
-    (k : ℕ) → items_holders (take (length items - 1) (drop 1 items)) k ≤ count_at q k
-items_left p q [] d some held less = absurd (omega arith)
-items_left p q (item ∷ items) d some held less = λ k.
-    let all : take (length (item ∷ items) - 1) items ≡ items = take_all (length (item ∷ items) - 1) items (omega arith) in
-    let same : items_holders (take (length (item ∷ items) - 1) items) k ≡ items_holders items k = ap (λ (xs : List ReplyItem). items_holders xs k) all in
+pub items_left : (p q : Slots) (items rest : List ReplyItem) (item : ReplyItem) → items ≡ item ∷ rest → ((k : ℕ) → items_holders items k ≤ count_at p k) → ((k : ℕ) → count_at p k ≤ count_at q k + item_holders item k) →
+    (k : ℕ) → items_holders rest k ≤ count_at q k
+items_left p q items rest item is held less = λ k.
+    let same : items_holders items k ≡ item_holders item k + items_holders rest k = ap (λ (xs : List ReplyItem). items_holders xs k) is in
     omega (arith, same, held k, less k)
 
-pub replies_left : (p q : Slots) (rs : List Reply) (d : Reply) → 1 ≤ length rs → ((k : ℕ) → replies_holders rs k ≤ count_at p k) → ((k : ℕ) → count_at p k ≤ count_at q k + items_holders (get_or rs 0 d).items.items k) →
-    (k : ℕ) → replies_holders (take (length rs - 1) (drop 1 rs)) k ≤ count_at q k
-replies_left p q [] d some held less = absurd (omega arith)
-replies_left p q (x ∷ rs) d some held less = λ k.
-    let all : take (length (x ∷ rs) - 1) rs ≡ rs = take_all (length (x ∷ rs) - 1) rs (omega arith) in
-    let same : replies_holders (take (length (x ∷ rs) - 1) rs) k ≡ replies_holders rs k = ap (λ (xs : List Reply). replies_holders xs k) all in
+pub replies_left : (p q : Slots) (rs rest : List Reply) (x : Reply) → rs ≡ x ∷ rest → ((k : ℕ) → replies_holders rs k ≤ count_at p k) → ((k : ℕ) → count_at p k ≤ count_at q k + items_holders x.items.items k) →
+    (k : ℕ) → replies_holders rest k ≤ count_at q k
+replies_left p q rs rest x is held less = λ k.
+    let same : replies_holders rs k ≡ items_holders x.items.items k + replies_holders rest k = ap (λ (xs : List Reply). replies_holders xs k) is in
     omega (arith, same, held k, less k)
 
-pub rest_owed : (items : List ReplyItem) → AllByRecursion CanBeOwed items → AllByRecursion CanBeOwed (take (length items - 1) (drop 1 items))
-rest_owed [] h = tt
-rest_owed (item ∷ items) h =
-    let all : take (length (item ∷ items) - 1) items ≡ items = take_all (length (item ∷ items) - 1) items (omega arith) in
-    subst (λ (xs : List ReplyItem). AllByRecursion CanBeOwed xs) (sym all) h.1
+-- those of the first are held
+pub item_held : (p : Slots) (items rest : List ReplyItem) (item : ReplyItem) → items ≡ item ∷ rest → ((k : ℕ) → items_holders items k ≤ count_at p k) → (k : ℕ) → item_holders item k ≤ count_at p k
+item_held p items rest item is held = λ k.
+    let same : items_holders items k ≡ item_holders item k + items_holders rest k = ap (λ (xs : List ReplyItem). items_holders xs k) is in
+    omega (arith, same, held k)
 
-pub rest_replies_owed : (rs : List Reply) → AllByRecursion ReplyCanBeOwed rs → AllByRecursion ReplyCanBeOwed (take (length rs - 1) (drop 1 rs))
-rest_replies_owed [] h = tt
-rest_replies_owed (x ∷ rs) h =
-    let all : take (length (x ∷ rs) - 1) rs ≡ rs = take_all (length (x ∷ rs) - 1) rs (omega arith) in
-    subst (λ (xs : List Reply). AllByRecursion ReplyCanBeOwed xs) (sym all) h.1
+pub reply_held : (p : Slots) (rs rest : List Reply) (x : Reply) → rs ≡ x ∷ rest → ((k : ℕ) → replies_holders rs k ≤ count_at p k) → (k : ℕ) → items_holders x.items.items k ≤ count_at p k
+reply_held p rs rest x is held = λ k.
+    let same : replies_holders rs k ≡ items_holders x.items.items k + replies_holders rest k = ap (λ (xs : List Reply). replies_holders xs k) is in
+    omega (arith, same, held k)
+
+pub items_owed : (items rest : List ReplyItem) (item : ReplyItem) → items ≡ item ∷ rest → AllByRecursion CanBeOwed items → CanBeOwed item × AllByRecursion CanBeOwed rest
+items_owed items rest item is h = subst (λ (xs : List ReplyItem). AllByRecursion CanBeOwed xs) is h
+
+pub replies_owed : (rs rest : List Reply) (x : Reply) → rs ≡ x ∷ rest → AllByRecursion ReplyCanBeOwed rs → ReplyCanBeOwed x × AllByRecursion ReplyCanBeOwed rest
+replies_owed rs rest x is h = subst (λ (xs : List Reply). AllByRecursion ReplyCanBeOwed xs) is h
 
 -- ---- one connection
 
@@ -118,17 +114,15 @@ takes_both g h IsGood IsFine p q r u v w a b = record {
 }
 
 -- an item is taken, and then those behind it
-pub takes_more : (items : List ReplyItem) (d : ReplyItem) (p q r : Slots) (u v w : Present) → 1 ≤ length items → TakesRanges (item_holders (get_or items 0 d)) (EndsWithin (get_or items 0 d)) p u q v →
-    TakesRanges (items_holders (take (length items - 1) (drop 1 items))) (ItemsEndWithin (take (length items - 1) (drop 1 items))) q v r w → TakesRanges (items_holders items) (ItemsEndWithin items) p u r w
-takes_more [] d p q r u v w some a b = absurd (omega arith)
-takes_more (item ∷ items) d p q r u v w some a b =
-    let all : take (length (item ∷ items) - 1) items ≡ items = take_all (length (item ∷ items) - 1) items (omega arith) in
-    takes_both (item_holders item) (items_holders items) (EndsWithin item) (ItemsEndWithin items) p q r u v w a
-    (subst (λ (xs : List ReplyItem). TakesRanges (items_holders xs) (ItemsEndWithin xs) q v r w) all b)
+pub takes_more : (items rest : List ReplyItem) (item : ReplyItem) (p q r : Slots) (u v w : Present) → items ≡ item ∷ rest → TakesRanges (item_holders item) (EndsWithin item) p u q v →
+    TakesRanges (items_holders rest) (ItemsEndWithin rest) q v r w → TakesRanges (items_holders items) (ItemsEndWithin items) p u r w
+takes_more items rest item p q r u v w is a b =
+    subst (λ (xs : List ReplyItem). TakesRanges (items_holders xs) (ItemsEndWithin xs) p u r w) (sym is)
+    (takes_both (item_holders item) (items_holders rest) (EndsWithin item) (ItemsEndWithin rest) p q r u v w a b)
 
-pub takes_end : (items : List ReplyItem) (p : Slots) (v : Present) → length items < 1 → TakesRanges (items_holders items) (ItemsEndWithin items) p v p v
-takes_end [] p v none = takes_none (items_holders []) (ItemsEndWithin []) p v v (λ k. refl) (record { sources = λ k. refl; fit = λ texts h. h })
-takes_end (item ∷ items) p v none = absurd (omega arith)
+pub takes_end : (items : List ReplyItem) (p : Slots) (v : Present) → items ≡ [] → TakesRanges (items_holders items) (ItemsEndWithin items) p v p v
+takes_end items p v is = subst (λ (xs : List ReplyItem). TakesRanges (items_holders xs) (ItemsEndWithin xs) p v p v) (sym is)
+    (takes_none (items_holders []) (ItemsEndWithin []) p v v (λ k. refl) (record { sources = λ k. refl; fit = λ texts h. h }))
 
 -- ---- all connections
 
@@ -162,17 +156,15 @@ take_both g h IsGood IsFine p q r us vs ws a b = record {
   moves = moves_both p q r a.gone b.gone a.moves b.moves;
 }
 
-pub take_more : (rs : List Reply) (d : Reply) (p q r : Slots) (us vs ws : List ServedConnection) → 1 ≤ length rs → TakeRanges (items_holders (get_or rs 0 d).items.items) (ReplyEndsWithin (get_or rs 0 d)) p us q vs →
-    TakeRanges (replies_holders (take (length rs - 1) (drop 1 rs))) (RepliesEndWithin (take (length rs - 1) (drop 1 rs))) q vs r ws → TakeRanges (replies_holders rs) (RepliesEndWithin rs) p us r ws
-take_more [] d p q r us vs ws some a b = absurd (omega arith)
-take_more (x ∷ rs) d p q r us vs ws some a b =
-    let all : take (length (x ∷ rs) - 1) rs ≡ rs = take_all (length (x ∷ rs) - 1) rs (omega arith) in
-    take_both (items_holders x.items.items) (replies_holders rs) (ReplyEndsWithin x) (RepliesEndWithin rs) p q r us vs ws a
-    (subst (λ (xs : List Reply). TakeRanges (replies_holders xs) (RepliesEndWithin xs) q vs r ws) all b)
+pub take_more : (rs rest : List Reply) (x : Reply) (p q r : Slots) (us vs ws : List ServedConnection) → rs ≡ x ∷ rest → TakeRanges (items_holders x.items.items) (ReplyEndsWithin x) p us q vs →
+    TakeRanges (replies_holders rest) (RepliesEndWithin rest) q vs r ws → TakeRanges (replies_holders rs) (RepliesEndWithin rs) p us r ws
+take_more rs rest x p q r us vs ws is a b =
+    subst (λ (xs : List Reply). TakeRanges (replies_holders xs) (RepliesEndWithin xs) p us r ws) (sym is)
+    (take_both (items_holders x.items.items) (replies_holders rest) (ReplyEndsWithin x) (RepliesEndWithin rest) p q r us vs ws a b)
 
-pub take_end : (rs : List Reply) (p : Slots) (vs : List ServedConnection) → length rs < 1 → TakeRanges (replies_holders rs) (RepliesEndWithin rs) p vs p vs
-take_end [] p vs none = take_none (replies_holders []) (RepliesEndWithin []) p vs (λ k. refl)
-take_end (x ∷ rs) p vs none = absurd (omega arith)
+pub take_end : (rs : List Reply) (p : Slots) (vs : List ServedConnection) → rs ≡ [] → TakeRanges (replies_holders rs) (RepliesEndWithin rs) p vs p vs
+take_end rs p vs is = subst (λ (xs : List Reply). TakeRanges (replies_holders xs) (RepliesEndWithin xs) p vs p vs) (sym is)
+    (take_none (replies_holders []) (RepliesEndWithin []) p vs (λ k. refl))
 
 -- ---- one connection among others
 

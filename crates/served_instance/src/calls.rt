@@ -39,7 +39,7 @@ fn happen(
     ensures kept { IsKept pool.new (slots_of instance.new connections.new) }
 {
     let replies = instance.call_event(alloc, pool, event)?;
-    give_all(pool, connections, &replies)
+    give_all(pool, connections, replies)
 }
 
 /// What is due on the connection happens.

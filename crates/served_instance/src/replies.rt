@@ -24,6 +24,7 @@ use conn_core::{CallEvent as Seen, Connection};
 use grpc_calls::{ResponseBlock, Status};
 use instance_core::{CallEvent, CallId, GivenRange, Reply, ReplyItem};
 use std::alloc::AllocError;
+use std::collections::VecDeque;
 
 /// An event of a call on this connection, as the instance takes it.
 pub(crate) fn call_event_on(connection: u32, event: Seen) -> CallEvent
@@ -47,56 +48,48 @@ pub(crate) fn call_event_on(connection: u32, event: Seen) -> CallEvent
 pub(crate) fn give_all(
     pool: &mut Pool,
     connections: &mut [OpenConnection],
-    replies: &[Reply],
+    replies: Vec<Reply>,
 ) -> Result<(), AllocError>
-    requires owed { AllByRecursion ReplyCanBeOwed replies.now }
-    requires counted { (k : ℕ) → replies_holders replies.now k ≤ count_at pool.old k }
+    requires owed { AllByRecursion ReplyCanBeOwed replies.items }
+    requires counted { (k : ℕ) → replies_holders replies.items k ≤ count_at pool.old k }
     ensures given { OnOk result ((texts : Look) (l : Lone)
         → AreServed texts (map connection_shown connections.old) (open_ones l.connections)
         → AreServed texts (map connection_shown connections.new)
-        (open_ones (after_replies (map (reply_by texts) replies.now) l).connections)) }
+        (open_ones (after_replies (map (reply_by texts) replies.items) l).connections)) }
     ensures rest { OnOk result (Keeps connections.old connections.new) }
-    ensures takes { TakeRanges (replies_holders replies.now) (RepliesEndWithin replies.now)
+    ensures takes { TakeRanges (replies_holders replies.items) (RepliesEndWithin replies.items)
         pool.old (map connection_shown connections.old) pool.new
         (map connection_shown connections.new) }
 {
-    let mut left = replies;
-    'replies: while let [first, rest @ ..] = left {
+    let mut left = VecDeque::from(replies);
+    'replies: while let Some(first) = left.pop_front() {
         if let Err(refused) = give(pool, connections, first) {
-            release_replies(pool, rest);
+            release_replies(pool, left);
             return Err(refused);
         }
-        left = rest;
     }
     Ok(())
 }
 
 /// Owes the items of the reply to the stream of its call, where its connection is open, and else
 /// releases its ranges.
-fn give(
-    pool: &mut Pool,
-    connections: &mut [OpenConnection],
-    reply: &Reply,
-) -> Result<(), AllocError>
-    requires owed { ReplyCanBeOwed reply.now }
-    requires counted { (k : ℕ) → items_holders reply.now.items.items k ≤ count_at pool.old k }
-    ensures given { OnOk result (Changed reply.now.call.connection connections.old connections.new
-        (Owes (with_owed reply.now.call.stream reply.now.items.items))) }
-    ensures takes { TakeRanges (items_holders reply.now.items.items) (ReplyEndsWithin reply.now)
+fn give(pool: &mut Pool, connections: &mut [OpenConnection], reply: Reply) -> Result<(), AllocError>
+    requires owed { ReplyCanBeOwed reply }
+    requires counted { (k : ℕ) → items_holders reply.items.items k ≤ count_at pool.old k }
+    ensures given { OnOk result (Changed reply.call.connection connections.old connections.new
+        (Owes (with_owed reply.call.stream reply.items.items))) }
+    ensures takes { TakeRanges (items_holders reply.items.items) (ReplyEndsWithin reply)
         pool.old (map connection_shown connections.old) pool.new
         (map connection_shown connections.new) }
 {
-    match find(connections, reply.call.connection) {
+    let call = reply.call;
+    let items = VecDeque::from(reply.items);
+    match find(connections, call.connection) {
         None => {
-            release_items(pool, &reply.items);
+            release_items(pool, items);
             Ok(())
         }
-        Some(place) => owe(
-            pool,
-            &mut connections[place].connection,
-            reply.call.stream,
-            &reply.items,
-        ),
+        Some(place) => owe(pool, &mut connections[place].connection, call.stream, items),
     }
 }
 
@@ -106,21 +99,20 @@ fn owe(
     pool: &mut Pool,
     connection: &mut Connection,
     stream: u32,
-    items: &[ReplyItem],
+    items: VecDeque<ReplyItem>,
 ) -> Result<(), AllocError>
-    requires owed { AllByRecursion CanBeOwed items.now }
-    requires counted { (k : ℕ) → items_holders items.now k ≤ count_at pool.old k }
-    ensures owes { OnOk result (Owes (with_owed stream items.now) connection.old connection.new) }
-    ensures takes { TakesRanges (items_holders items.now) (ItemsEndWithin items.now)
+    requires owed { AllByRecursion CanBeOwed items.items }
+    requires counted { (k : ℕ) → items_holders items.items k ≤ count_at pool.old k }
+    ensures owes { OnOk result (Owes (with_owed stream items.items) connection.old connection.new) }
+    ensures takes { TakesRanges (items_holders items.items) (ItemsEndWithin items.items)
         pool.old connection.old pool.new connection.new }
 {
     let mut left = items;
-    'items: while let [first, rest @ ..] = left {
+    'items: while let Some(first) = left.pop_front() {
         if let Err(refused) = owe_item(pool, connection, stream, first) {
-            release_items(pool, rest);
+            release_items(pool, left);
             return Err(refused);
         }
-        left = rest;
     }
     Ok(())
 }
@@ -130,25 +122,25 @@ fn owe_item(
     pool: &mut Pool,
     connection: &mut Connection,
     stream: u32,
-    item: &ReplyItem,
+    item: ReplyItem,
 ) -> Result<(), AllocError>
-    requires owed { CanBeOwed item.now }
-    requires counted { (k : ℕ) → item_holders item.now k ≤ count_at pool.old k }
+    requires owed { CanBeOwed item }
+    requires counted { (k : ℕ) → item_holders item k ≤ count_at pool.old k }
     ensures owes { OnOk result (Owes
-        (λ texts p. with_item p stream (item_of (item_by texts item.now)))
+        (λ texts p. with_item p stream (item_of (item_by texts item)))
         connection.old connection.new) }
-    ensures takes { TakesRanges (item_holders item.now) (EndsWithin item.now)
+    ensures takes { TakesRanges (item_holders item) (EndsWithin item)
         pool.old connection.old pool.new connection.new }
 {
     match item {
         ReplyItem::Begins => connection.owe_block(stream, ResponseBlock::Head),
         ReplyItem::Says(bytes) => connection.owe_message(stream, bytes),
-        ReplyItem::Gives(range) => owe_range(pool, connection, stream, range),
+        ReplyItem::Gives(range) => owe_range(pool, connection, stream, &range),
         ReplyItem::Ends => {
             connection.owe_block(stream, ResponseBlock::Trailers(Status::Success))
         }
         ReplyItem::Refuses(refusal) => {
-            connection.owe_block(stream, ResponseBlock::TrailersOnly(*refusal))
+            connection.owe_block(stream, ResponseBlock::TrailersOnly(refusal))
         }
     }
 }
@@ -177,26 +169,24 @@ fn owe_range(
 }
 
 /// Releases the ranges of the replies.
-fn release_replies(pool: &mut Pool, replies: &[Reply])
-    requires { (k : ℕ) → replies_holders replies.now k ≤ count_at pool.old k }
-    ensures { Moves pool.old pool.new (replies_holders replies.now) no_holders }
+fn release_replies(pool: &mut Pool, replies: VecDeque<Reply>)
+    requires { (k : ℕ) → replies_holders replies.items k ≤ count_at pool.old k }
+    ensures { Moves pool.old pool.new (replies_holders replies.items) no_holders }
 {
     let mut left = replies;
-    'replies: while let [first, rest @ ..] = left {
-        release_items(pool, &first.items);
-        left = rest;
+    'replies: while let Some(first) = left.pop_front() {
+        release_items(pool, VecDeque::from(first.items));
     }
 }
 
 /// Releases the ranges among the items.
-fn release_items(pool: &mut Pool, items: &[ReplyItem])
-    requires { (k : ℕ) → items_holders items.now k ≤ count_at pool.old k }
-    ensures { Moves pool.old pool.new (items_holders items.now) no_holders }
+fn release_items(pool: &mut Pool, items: VecDeque<ReplyItem>)
+    requires { (k : ℕ) → items_holders items.items k ≤ count_at pool.old k }
+    ensures { Moves pool.old pool.new (items_holders items.items) no_holders }
 {
     let mut left = items;
-    'items: while let [first, rest @ ..] = left {
-        release_item(pool, first);
-        left = rest;
+    'items: while let Some(first) = left.pop_front() {
+        release_item(pool, &first);
     }
 }
 

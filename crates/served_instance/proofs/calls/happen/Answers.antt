@@ -1,13 +1,9 @@
-use Rattle.std.proofs.Common.{◌+◌, ◌∙◌, sym, ap, subst, List, map, arith, refl}
-use Rattle.std.specs.List.{AllByRecursion}
+use Rattle.std.proofs.Common.{map, arith, refl}
 use Rattle.std.proofs.lemmas.List.{length-map}
-use Rattle.blob_pool.specs.Moves.{Moves, no_holders}
-use Rattle.instance_core.specs.declared.event.Reply.{Reply}
+use Rattle.blob_pool.specs.Moves.{no_holders}
 use Rattle.instance_core.specs.Given.{replies_holders}
-use Rattle.instance_core.specs.Replies.{IsShortReply}
-use Rattle.instance_core.specs.Shown.{event_shown, reply_shown}
-use Rattle.instance_core.specs.Slots.{holders_of as holders_of_instance}
-use Rattle.served_instance.specs.Given.{ReplyCanBeOwed, RepliesEndWithin}
+use Rattle.instance_core.specs.Shown.{event_shown}
+use Rattle.served_instance.specs.Given.{RepliesEndWithin}
 use Rattle.served_instance.specs.Shown.{connection_shown}
 use Rattle.served_instance.specs.Acts.{slots_of}
 use Rattle.served_instance.proofs.Kept.{few_connections, instance_kept}
@@ -39,22 +35,22 @@ returns-in_err-replies-clause-kept c =
 
 pub give_all-requires-clause-owed : goal.give_all-requires-clause-owed
 give_all-requires-clause-owed c =
-    subst (λ (rs : List Reply). AllByRecursion ReplyCanBeOwed rs) (sym c.deref.ensures.value) (replies_owed c.call_event.new.pool c.in_ok-replies.replies.items c.in_ok-replies.ensures.short)
+    replies_owed c.call_event.new.pool c.in_ok-replies.replies.items c.in_ok-replies.ensures.short
 
 pub returns-clause-happened : goal.returns-clause-happened
 returns-clause-happened c =
     let q = c.call_event.new.pool in
     let os = c.args.connections.now in
     let ns = c.give_all.new.connections in
-    let answered = answers_given c.args.pool.now q c.give_all.new.pool c.args.instance.now c.call_event.new.self os ns c.deref.result.now c.in_ok-replies.replies.items c.deref.ensures.value c.requires.kept c.in_ok-replies.ensures.moves c.give_all.ensures.takes c.call_event.ensures.within c.in_ok-replies.ensures.short in
-    happens c.give_all.result c.args.pool.now q c.give_all.new.pool c.args.instance.now c.call_event.new.self os ns (event_shown c.args.event) c.deref.result.now answered
-    (ap (map (reply_shown q)) c.deref.ensures.value ∙ c.in_ok-replies.ensures.replies) c.in_ok-replies.ensures.changed c.give_all.ensures.given
+    let answered = answers_given c.args.pool.now q c.give_all.new.pool c.args.instance.now c.call_event.new.self os ns c.in_ok-replies.replies.items c.in_ok-replies.replies.items refl c.requires.kept c.in_ok-replies.ensures.moves c.give_all.ensures.takes c.call_event.ensures.within c.in_ok-replies.ensures.short in
+    happens c.give_all.result c.args.pool.now q c.give_all.new.pool c.args.instance.now c.call_event.new.self os ns (event_shown c.args.event) c.in_ok-replies.replies.items answered
+    c.in_ok-replies.ensures.replies c.in_ok-replies.ensures.changed c.give_all.ensures.given
 
 pub returns-clause-kept : goal.returns-clause-kept
 returns-clause-kept c =
     let p = c.args.pool.now in
     let os = c.args.connections.now in
     let ns = c.give_all.new.connections in
-    answered_kept (replies_holders c.deref.result.now) (RepliesEndWithin c.deref.result.now) p c.call_event.new.pool c.give_all.new.pool c.args.instance.now c.call_event.new.self (map connection_shown os) (map connection_shown ns)
-    (answers_given p c.call_event.new.pool c.give_all.new.pool c.args.instance.now c.call_event.new.self os ns c.deref.result.now c.in_ok-replies.replies.items c.deref.ensures.value c.requires.kept c.in_ok-replies.ensures.moves c.give_all.ensures.takes c.call_event.ensures.within c.in_ok-replies.ensures.short)
+    answered_kept (replies_holders c.in_ok-replies.replies.items) (RepliesEndWithin c.in_ok-replies.replies.items) p c.call_event.new.pool c.give_all.new.pool c.args.instance.now c.call_event.new.self (map connection_shown os) (map connection_shown ns)
+    (answers_given p c.call_event.new.pool c.give_all.new.pool c.args.instance.now c.call_event.new.self os ns c.in_ok-replies.replies.items c.in_ok-replies.replies.items refl c.requires.kept c.in_ok-replies.ensures.moves c.give_all.ensures.takes c.call_event.ensures.within c.in_ok-replies.ensures.short)
     (omega (arith, c.give_all.auto.connections, few_connections p (slots_of c.args.instance.now os) c.requires.kept, length-map os connection_shown, length-map ns connection_shown))

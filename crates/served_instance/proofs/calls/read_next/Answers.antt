@@ -1,11 +1,9 @@
-use Rattle.std.proofs.Common.{◌≡◌, refl, subst, map}
+use Rattle.std.proofs.Common.{◌≡◌, subst, map}
 use Rattle.std.specs.Prelude.{Bool, None}
 use Rattle.blob_pool.specs.Slots.{text_at}
-use Rattle.blob_pool.proofs.Moves.{moves_trans}
 use Rattle.instance_core.specs.Slots.{state_in}
-use Rattle.served_instance.specs.Acts.{Changed, ReadsFrame, present_at, slots_of}
+use Rattle.served_instance.specs.Acts.{Changed, ReadsFrame, present_at}
 use Rattle.served_instance.specs.Shown.{connection_shown}
-use Rattle.served_instance.specs.Slots.{holders_of}
 use Rattle.served_instance.proofs.Kept.{alike_moves}
 use Rattle.served_instance.proofs.Leads.{read_leads, read_done, done_leads, read_fewer}
 use Rattle.served_instance.proofs.Writes.{alike_after, moves_after}

@@ -13,12 +13,12 @@ use Rattle.served_instance.proofs.replies.give_all.Given as goal
 -- what is left is given behind what was, and its ranges are held
 abbrev pub invariant-replies : goal.invariant-replies
 invariant-replies l = record {
-  given : (ns : List OpenConnection) → AreGiven l.left l.connections ns → AreGiven l.replies l.fn.connections ns;
+  given : (ns : List OpenConnection) → AreGiven l.left.items l.connections ns → AreGiven l.fn.replies.items l.fn.connections ns;
   rest : Keeps l.fn.connections l.connections;
-  takes : (r : Slots) (ws : List ServedConnection) → TakeRanges (replies_holders l.left) (RepliesEndWithin l.left) l.pool (map connection_shown l.connections) r ws → TakeRanges (replies_holders l.replies) (RepliesEndWithin l.replies) l.fn.pool (map connection_shown l.fn.connections) r ws;
-  counted : (k : ℕ) → replies_holders l.left k ≤ count_at l.pool k;
-  owed : AllByRecursion ReplyCanBeOwed l.left;
+  takes : (r : Slots) (ws : List ServedConnection) → TakeRanges (replies_holders l.left.items) (RepliesEndWithin l.left.items) l.pool (map connection_shown l.connections) r ws → TakeRanges (replies_holders l.fn.replies.items) (RepliesEndWithin l.fn.replies.items) l.fn.pool (map connection_shown l.fn.connections) r ws;
+  counted : (k : ℕ) → replies_holders l.left.items k ≤ count_at l.pool k;
+  owed : AllByRecursion ReplyCanBeOwed l.left.items;
 }
 
 abbrev pub decreases-replies : goal.decreases-replies
-decreases-replies l = length l.left
+decreases-replies l = length l.left.items

@@ -6,9 +6,9 @@ use Rattle.served_instance.proofs.replies.release_items.Given as goal
 
 abbrev pub invariant-items : goal.invariant-items
 invariant-items l = record {
-  moves : (r : Slots) → Moves l.pool r (items_holders l.left) no_holders → Moves l.fn.pool r (items_holders l.items) no_holders;
-  counted : (k : ℕ) → items_holders l.left k ≤ count_at l.pool k;
+  moves : (r : Slots) → Moves l.pool r (items_holders l.left.items) no_holders → Moves l.fn.pool r (items_holders l.fn.items.items) no_holders;
+  counted : (k : ℕ) → items_holders l.left.items k ≤ count_at l.pool k;
 }
 
 abbrev pub decreases-items : goal.decreases-items
-decreases-items l = length l.left
+decreases-items l = length l.left.items

@@ -5,9 +5,7 @@ use Rattle.served_instance.specs.Shown.{connection_shown}
 use Rattle.server_events.specs.Shown.{event_value}
 use Rattle.served_instance.specs.declared.refusal.EventRefusal.TheVariants.{NoSuchInstance, NoMemory}
 use Rattle.served_instance.specs.Present.{refusal_by}
-use Rattle.instance_core.specs.Slots.{state_in}
 use Rattle.served_instance.specs.Lone.{lone_at_moment, effect_of}
-use Rattle.served_instance.specs.StandsFor.{StandsFor}
 use Rattle.served_instance.specs.Slots.{ServedSlots, served_state_in, IsKept}
 use Rattle.served_instance.proofs.Refuses.{no_reason, refused_outcome, kept_at_refusal, stands_accepted, settled_accepted, accepted_what, not_elsewhere, not_for_memory}
 use Rattle.served_instance.proofs.Serves.{pump_settles}

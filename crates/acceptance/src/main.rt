@@ -99,9 +99,10 @@ fn tell_stored<O: Write>(
         return Ok(Status::OutOfMemory);
     };
     let mut place: u64 = 0;
-    for event in &script.events {
+    let mut events = script.events;
+    while let Some(event) = events.next_event(alloc)? {
         place = place.saturating_add(1);
-        let _ = server.step(event);
+        let _ = server.step(&event);
         let (texts, bytes) = server.stored();
         writeln!(output, "stored {place} {texts} {bytes}")?;
     }

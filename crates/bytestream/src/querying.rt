@@ -68,7 +68,5 @@ pub fn query(
 {
     let key = query_asked(alloc, own, message)?;
     let status = status(view, uploads, &key)?;
-    let mut reply = Vec::new(alloc);
-    status.encode_into(&mut reply)?;
-    Ok(reply)
+    Ok(status.encode(alloc)?)
 }

@@ -111,9 +111,7 @@ fn reply_of(alloc: Global, committed: u64) -> Result<Vec<u8>, AllocError>
     let response = WriteResponse {
         committed_size: committed as i64,
     };
-    let mut reply = Vec::new(alloc);
-    response.encode_into(&mut reply)?;
-    Ok(reply)
+    response.encode(alloc)
 }
 
 /// The reply to a request that ends without its last piece: how many bytes of its upload are there,

@@ -47,9 +47,7 @@ fn message_of(alloc: Global, case: &ReadCase) -> Result<Vec<u8>, AllocError> {
         read_offset: case.offset,
         read_limit: case.limit,
     };
-    let mut message = Vec::new(alloc);
-    request.encode_into(&mut message)?;
-    Ok(message)
+    request.encode(alloc)
 }
 
 /// Whether the source's text has these bytes from where the source begins to the end of a page, and

@@ -72,9 +72,7 @@ fn message_of(alloc: Global, case: &WriteCase) -> Result<Vec<u8>, AllocError> {
         finish_write: case.is_last,
         content: case.bytes,
     };
-    let mut message = Vec::new(alloc);
-    request.encode_into(&mut message)?;
-    Ok(message)
+    request.encode(alloc)
 }
 
 /// Whether `QueryWriteStatus` answers this for a name.
@@ -86,8 +84,7 @@ fn has_status(
     status: Answer<'_>,
 ) -> Result<bool, AllocError> {
     let request = QueryWriteStatusRequest { resource_name };
-    let mut message = Vec::new(alloc);
-    request.encode_into(&mut message)?;
+    let message = request.encode(alloc)?;
     match query(alloc, OWN, view, uploads, &message) {
         Ok(reply) => Ok(Answer::Replies(&reply) == status),
         Err(error) => Ok(refused(error) == status),

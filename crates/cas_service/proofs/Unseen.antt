@@ -33,13 +33,13 @@ missing_sent visible (a ∷ as') h = go (is_missing visible a.digest) refl (miss
   go true is ih = let first = head_same h in rw is (cc)
   go false is ih = rw is ih
 
-pub reply_is : (visible : List Blob) (asked : List Asked) (old new : List ℕ) (ds : List DigestValue) → map digest_as_sent asked ≡ map digest_value (map asked_digest asked)
-    → ds ≡ map digest_as_sent (filter (is_unseen visible) asked) → old ≡ [] → new ≡ old ++ text_for find_missing_blobs_response_records (record { missing_blob_digests = ds })
-    → new ≡ missing_reply (missing_digests visible (map asked_digest asked))
-reply_is visible asked old new ds written found empty encoded =
+pub reply_is : (visible : List Blob) (asked : List Asked) (reply : List ℕ) (ds : List DigestValue) → map digest_as_sent asked ≡ map digest_value (map asked_digest asked)
+    → ds ≡ map digest_as_sent (filter (is_unseen visible) asked) → reply ≡ text_for find_missing_blobs_response_records (record { missing_blob_digests = ds })
+    → reply ≡ missing_reply (missing_digests visible (map asked_digest asked))
+reply_is visible asked reply ds written found encoded =
     let is : ds ≡ map digest_value (missing_digests visible (map asked_digest asked)) = found ∙ missing_sent visible asked written in
     let of_digests : List DigestValue → List ℕ = λ vs. text_for find_missing_blobs_response_records (record { missing_blob_digests = vs }) in
-    encoded ∙ ap (λ (front : List ℕ). front ++ of_digests ds) empty ∙ ap of_digests is
+    encoded ∙ ap of_digests is
 
 -- which digests are missing is told by the entries alone, whatever their texts
 seen_anywhere : (p q : Slots) (v : ViewValue) (d : Digest) → is_some (visible_text d (visible_in p v)) ≡ is_some (visible_text d (visible_in q v))

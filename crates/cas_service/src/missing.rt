@@ -54,7 +54,7 @@ fn missing<'a>(
     ensures { IfOk result (λ missing. map digest_shown missing.items
         ≡ map digest_as_sent (filter (is_unseen (visible_in [] view.now)) asked.now)) }
 {
-    let mut missing = Vec::new(alloc);
+    let mut missing = Vec::with_capacity(alloc, asked.len())?;
     let mut left = asked;
     'digests: while let [first, rest @ ..] = left {
         if !is_there(view, &first.digest) {
@@ -76,9 +76,7 @@ fn reply_to(alloc: Global, view: &View, asked: &[Asked<'_>]) -> Result<Vec<u8>, 
     let response = FindMissingBlobsResponse {
         missing_blob_digests,
     };
-    let mut reply = Vec::new(alloc);
-    response.encode_into(&mut reply)?;
-    Ok(reply)
+    response.encode(alloc)
 }
 
 /// Answers `FindMissingBlobs`: the digests of the request that the instance `own` has not, in order

@@ -1,22 +1,22 @@
-ghost use Rattle.std.specs.Prelude.{◌≡◌, ◌≤◌, ℕ, List, map, OnOk, OnErr, IfOk};
+ghost use Rattle.std.specs.Prelude.{◌≡◌, ◌≤◌, ℕ, List, map, OnOk, OnErr, IfOk, IfSome};
 ghost use Rattle.reapi_messages.specs.Batches.{read_blob_response_shown};
 ghost use Rattle.instance_view.specs.Visible.{visible_text};
 ghost use Rattle.blob_pool.specs.Slots.{Slots, count_at};
-ghost use Rattle.instance_view.specs.Shown.{visible_in, holders};
+ghost use Rattle.instance_view.specs.Shown.{visible_in, holders, holders_seen, text_seen};
 ghost use Rattle.quota_evict.specs.Kept.{AreKept};
 ghost use Rattle.cas_service.specs.Answers.{Answers};
 ghost use Rattle.cas_service.specs.Changes.{visible_after_changes};
 ghost use Rattle.cas_service.specs.Requests.{digest_value, batch_size_check};
 ghost use Rattle.cas_service.specs.BatchRead.{digests_to_read, stated_size, read_response, read_reply, batch_read_reply, batch_read_changes};
-ghost use Rattle.cas_service.specs.Shown.{asked_digest, digest_as_sent, asked_of, text_found, response_of, AreFound};
+ghost use Rattle.cas_service.specs.Shown.{asked_digest, digest_as_sent, asked_of, bytes_found, text_found, response_of, AreFound};
 
 use crate::error::CallError;
 use crate::requests::{
     Asked, MOST_BATCH_BYTES, check_function, check_instance, read_digests, use_all,
 };
 use crate::statuses::{ok_status, refused_status};
-use blob_pool::Pool;
-use instance_view::{View, copy_of};
+use blob_pool::{Pool, keep};
+use instance_view::{Seen, View, copy_of};
 use reapi_messages::{BatchReadBlobsRequest, BatchReadBlobsResponse, Message, ReadBlobResponse};
 use rpc::Refusal;
 use std::alloc::{AllocError, Global};
@@ -57,18 +57,55 @@ fn read_request<'a>(
     Ok(asked)
 }
 
-/// A digest that is asked for, and a copy of its text where there is one.
+/// A text of the pool: where it lies in one page, or a copy of several.
+#[derive(Drop)]
+pub enum FoundText<'a> {
+    Page(&'a [u8]),
+    Copy(Vec<u8>),
+}
+
+/// A digest that is asked for, and its text where there is one.
 #[derive(Drop)]
 pub struct Found<'a> {
     pub asked: Asked<'a>,
-    pub text: Option<Vec<u8>>,
+    pub text: Option<FoundText<'a>>,
+}
+
+/// Where a text lies, if it is in one page.
+#[tactic(auto, using(crate::proofs::Pages::whole_page))]
+fn page_of(pool: &Pool, seen: Seen) -> Option<&[u8]>
+    requires { (k : ℕ) → holders_seen seen k ≤ count_at pool.now k }
+    ensures { IfSome result (λ page. page.now ≡ text_seen pool.now seen) }
+{
+    let Seen::Text(kept) = seen else {
+        return Some(&[]);
+    };
+    let hold = pool.back(kept);
+    let length = pool.length(&hold);
+    let page = pool.part(&hold, 0, u32::MAX);
+    let _ = keep(hold);
+    if page.len() as u64 == length {
+        Some(page)
+    } else {
+        None
+    }
+}
+
+fn text_of<'a>(alloc: Global, pool: &'a Pool, seen: Seen) -> Result<FoundText<'a>, AllocError>
+    requires { (k : ℕ) → holders_seen seen k ≤ count_at pool.now k }
+    ensures { IfOk result (λ text. bytes_found text ≡ text_seen pool.now seen) }
+{
+    match page_of(pool, seen) {
+        Some(page) => Ok(FoundText::Page(page)),
+        None => Ok(FoundText::Copy(copy_of(alloc, pool, seen)?)),
+    }
 }
 
 /// What there is of a digest.
 fn find<'a>(
     alloc: Global,
     view: &View,
-    pool: &Pool,
+    pool: &'a Pool,
     asked: &Asked<'a>,
 ) -> Result<Found<'a>, AllocError>
     requires { (k : ℕ) → holders view.now k ≤ count_at pool.now k }
@@ -77,7 +114,7 @@ fn find<'a>(
         ≡ visible_text asked.now.digest (visible_in pool.now view.now)) }
 {
     let text = match view.get(&asked.digest) {
-        Some(seen) => Some(copy_of(alloc, pool, seen)?),
+        Some(seen) => Some(text_of(alloc, pool, seen)?),
         None => None,
     };
     Ok(Found {
@@ -90,13 +127,13 @@ fn find<'a>(
 fn find_all<'a>(
     alloc: Global,
     view: &View,
-    pool: &Pool,
+    pool: &'a Pool,
     asked: &[Asked<'a>],
 ) -> Result<Vec<Found<'a>>, AllocError>
     requires { (k : ℕ) → holders view.now k ≤ count_at pool.now k }
     ensures { IfOk result (λ found. AreFound (visible_in pool.now view.now) asked.now found.items) }
 {
-    let mut found = Vec::new(alloc);
+    let mut found = Vec::with_capacity(alloc, asked.len())?;
     let mut left = asked;
     'digests: while let [first, rest @ ..] = left {
         let one = find(alloc, view, pool, first)?;
@@ -104,6 +141,15 @@ fn find_all<'a>(
         left = rest;
     }
     Ok(found)
+}
+
+fn bytes_of<'a>(text: &'a FoundText<'a>) -> &'a [u8]
+    ensures { result.now ≡ bytes_found text.now }
+{
+    match text {
+        FoundText::Page(page) => page,
+        FoundText::Copy(bytes) => bytes.as_slice(),
+    }
 }
 
 /// The text of a digest, or that there is none.
@@ -115,7 +161,7 @@ fn response_to<'a>(alloc: Global, found: &'a Found<'a>) -> ReadBlobResponse<'a>
     match &found.text {
         Some(text) => ReadBlobResponse {
             digest: Some(found.asked.sent),
-            content: text.as_slice(),
+            content: bytes_of(text),
             status: Some(ok_status(alloc)),
         },
         None => ReadBlobResponse {
@@ -136,7 +182,7 @@ fn responses_to<'a>(
     ensures { IfOk result (λ responses. map read_blob_response_shown responses.items
         ≡ map response_of found.now) }
 {
-    let mut responses = Vec::new(alloc);
+    let mut responses = Vec::with_capacity(alloc, found.len())?;
     let mut left = found;
     'digests: while let [first, rest @ ..] = left {
         responses.push(response_to(alloc, first))?;
@@ -146,11 +192,11 @@ fn responses_to<'a>(
 }
 
 /// The message that gives each text.
-fn reply_to(
+fn reply_to<'a>(
     alloc: Global,
     view: &View,
-    pool: &Pool,
-    asked: &[Asked<'_>],
+    pool: &'a Pool,
+    asked: &[Asked<'a>],
 ) -> Result<Vec<u8>, AllocError>
     requires held { (k : ℕ) → holders view.now k ≤ count_at pool.now k }
     requires written { map digest_as_sent asked.now
@@ -161,9 +207,7 @@ fn reply_to(
     let found = find_all(alloc, view, pool, asked)?;
     let responses = responses_to(alloc, &found)?;
     let response = BatchReadBlobsResponse { responses };
-    let mut reply = Vec::new(alloc);
-    response.encode_into(&mut reply)?;
-    Ok(reply)
+    response.encode(alloc)
 }
 
 /// Answers `BatchReadBlobs`: the text of each digest of the request, or `NOT_FOUND` for one that

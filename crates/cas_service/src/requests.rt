@@ -70,7 +70,7 @@ pub fn read_digests<'a>(
     ensures written { IfOk result (λ asked. map digest_as_sent asked.items
         ≡ map digest_value (map asked_digest asked.items)) }
 {
-    let mut asked = Vec::new(alloc);
+    let mut asked = Vec::with_capacity(alloc, digests.len())?;
     let mut left = digests;
     'digests: while let [first, rest @ ..] = left {
         let digest = read_digest(first)?;

@@ -139,7 +139,7 @@ fn judge_all<'a>(
         (λ judged. map verdict judged.items
         ≡ map (storage_digest quota) (map judged_request judged.items)) }
 {
-    let mut judged = Vec::new(alloc);
+    let mut judged = Vec::with_capacity(alloc, requests.len())?;
     let mut left = requests;
     'blobs: while let [first, rest @ ..] = left {
         let verdict = judge(quota, first);
@@ -173,7 +173,7 @@ fn responses_to<'a>(
     ensures { IfOk result (λ responses. map update_blob_response_shown responses.items
         ≡ map (update_response quota) (map judged_request judged.now)) }
 {
-    let mut responses = Vec::new(alloc);
+    let mut responses = Vec::with_capacity(alloc, judged.len())?;
     let mut left = judged;
     'blobs: while let [first, rest @ ..] = left {
         responses.push(UpdateBlobResponse {
@@ -194,9 +194,7 @@ fn reply_to(alloc: Global, quota: u64, judged: &[Judged<'_>]) -> Result<Vec<u8>,
 {
     let responses = responses_to(alloc, quota, judged)?;
     let response = BatchUpdateBlobsResponse { responses };
-    let mut reply = Vec::new(alloc);
-    response.encode_into(&mut reply)?;
-    Ok(reply)
+    response.encode(alloc)
 }
 
 /// Stores bytes that the quota allows.

@@ -1,2 +1,3 @@
+mod Commands
 mod Matched
 mod Faults

@@ -46,14 +46,14 @@ abbrev pub instances : Rule
 instances =
     record (new_rule (codes "NAME:PORT:QUOTA:SLOTS")) { required = true; action = Some Append }
 
-abbrev pub unary_command : Shape
-unary_command = (with_rule (new_app (codes "unary")) file).top
-
-abbrev pub replay_command : Shape
-replay_command = (with_rule (new_app (codes "replay")) file).top
+-- a command that carries out the script of a file
+abbrev pub script_command : Text → Shape
+script_command name = (with_rule (new_app name) file).top
 
 abbrev pub probe_command : Shape
-probe_command = (with_rule (with_rule (with_rule (with_rule (new_app (codes "probe")) port) send) want) turns).top
+probe_command =
+    (with_rule (with_rule (with_rule (with_rule (new_app (codes "probe")) port) send) want)
+    turns).top
 
 abbrev pub serve_command : Shape
 serve_command =
@@ -65,7 +65,10 @@ with_version a = record a { top = record a.top { has_version = true } }
 
 -- the program, its version and its four commands
 abbrev pub command_line : App
-command_line = with_subcommand (with_subcommand (with_subcommand (with_subcommand (with_version (new_app (codes "remoted"))) unary_command) replay_command) probe_command) serve_command
+command_line =
+    with_subcommand (with_subcommand (with_subcommand (with_subcommand
+    (with_version (new_app (codes "remoted"))) (script_command (codes "unary")))
+    (script_command (codes "replay"))) probe_command) serve_command
 
 -- ---- what is asked for
 
@@ -88,7 +91,8 @@ is_decimal digits =
 abbrev pub number_below : ℕ → Text → Option ℕ
 number_below bound text =
     let digits = without_leading_plus text in
-    if is_decimal digits && nat_lt (digits_value 10 digits) bound then Some (digits_value 10 digits) else None
+    if is_decimal digits && nat_lt (digits_value 10 digits) bound
+    then Some (digits_value 10 digits) else None
 
 -- the number below 2^64 that was given under a name
 abbrev pub number_of : Text → List Row → Option ℕ
@@ -108,13 +112,16 @@ probe_of given =
 abbrev pub serve_of : List Row → Option TaskValue
 serve_of given =
     option_and_then (λ work. option_and_then (λ turns.
-    option_map (λ instances. serve work turns instances) (all_of (codes "NAME:PORT:QUOTA:SLOTS") given))
+    option_map (λ instances. serve work turns instances)
+    (all_of (codes "NAME:PORT:QUOTA:SLOTS") given))
     (number_of (codes "turns") given)) (first_of (codes "work") given)
 
 abbrev pub file_or_probe_by : Text → List Row → Option TaskValue
 file_or_probe_by name given =
-    if bytes_eq name (codes "unary") then option_map (λ file. unary (Some file)) (first_of (codes "FILE") given)
-    else (if bytes_eq name (codes "replay") then option_map (λ file. replay file) (first_of (codes "FILE") given)
+    if bytes_eq name (codes "unary")
+    then option_map (λ file. unary (Some file)) (first_of (codes "FILE") given)
+    else (if bytes_eq name (codes "replay")
+    then option_map (λ file. replay file) (first_of (codes "FILE") given)
     else probe_of given)
 
 -- what a command of this name asks for, with what was given to it

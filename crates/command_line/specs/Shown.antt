@@ -1,8 +1,11 @@
 -- Tasks and faults as clauses see them.
-use Rattle.std.specs.Prelude.{◌≡◌, ◌≢◌, ◌⊎◌, ⊤, List, [], map, option_map, Option, None}
-use Rattle.clap.specs.Words.{Text, kind_of, subcommand_of}
+use Rattle.std.specs.Prelude.{◌≡◌, ◌≢◌, ◌⊎◌, ⊤, false, List, [], map, option_map, Option, None}
+use Rattle.clap.specs.Words.{App, Rule, Shape, Text, app_of, kind_of, rule_of, shape_of, subcommand_of}
 use Rattle.clap.specs.Faults.{fault_of}
 use Rattle.clap.specs.Kinds.{IsAmong}
+use Rattle.clap.specs.declared.builder.arg.Arg.{Arg}
+use Rattle.clap.specs.declared.builder.command.Command.{Command}
+use Rattle.clap.specs.declared.builder.command.Command.TheViews.{out-Command as fields_of}
 use Rattle.clap.specs.declared.error.Error.{Error}
 use Rattle.clap.specs.declared.error.kind.ErrorKind.TheVariants.{MissingRequiredArgument, OutOfMemory}
 use Rattle.command_line.specs.declared.Task.{Task}
@@ -18,6 +21,18 @@ task_value (task.Serve work turns instances) =
     serve work.now turns (map (λ word. word.now) instances.items)
 task_value (task.Probe port send want turns) = probe port send.now want turns
 
+-- an argument with this rule, which is for its own command alone
+abbrev pub HasRule : Rule → Arg → Type 0
+HasRule rule argument = (rule_of argument ≡ rule) × (argument.global ≡ false)
+
+-- a command that is this one, whose arguments are for it alone
+abbrev pub HasApp : App → Command → Type 0
+HasApp app command = (app_of command ≡ app) × ((fields_of command).has_globals ≡ false)
+
+-- a command of this shape, whose arguments are for it alone
+abbrev pub HasShape : Shape → Command → Type 0
+HasShape shape command = (shape_of command ≡ shape) × ((fields_of command).has_globals ≡ false)
+
 -- what the words of a command line ask for
 abbrev pub task_asked : List Text → Option TaskValue
 task_asked words = task_of (subcommand_of command_line words)
@@ -31,7 +46,8 @@ HasNoFault words = fault_of command_line words ≡ []
 abbrev pub IsFaultOf : List Text → CommandLineError → Type 0
 IsFaultOf words NoMemory = ⊤
 IsFaultOf words (Answered error) =
-    IsAmong (kind_of error) (fault_of command_line words) ⊎ ((kind_of error ≡ MissingRequiredArgument) × (task_asked words ≡ None))
+    IsAmong (kind_of error) (fault_of command_line words)
+    ⊎ ((kind_of error ≡ MissingRequiredArgument) × (task_asked words ≡ None))
 
 -- an error of `clap` as the crate's own: it is kept, but for want of memory
 abbrev pub IsFrom : Error → CommandLineError → Type 0

@@ -1,12 +1,11 @@
 //! The command line of `remoted`.
 #![tactic(auto)]
 
-ghost use Rattle.std.specs.Prelude.{◌≡◌, ◌≢◌, ◌⊎◌, ℕ, List, Some, None, false, map, string_bytes, IfOk, IfErr, option_map};
-ghost use Rattle.clap.specs.Words.{all_of, app_of, first_of, found_of, kind_of, rows_of, rule_of, shape_of, subcommand_rows_of};
-ghost use Rattle.clap.specs.declared.builder.command.Command.TheViews.{out-Command as fields_of};
+ghost use Rattle.std.specs.Prelude.{◌≡◌, ◌≢◌, ◌⊎◌, ℕ, List, Some, None, map, string_bytes, IfOk, IfErr, option_map};
+ghost use Rattle.clap.specs.Words.{all_of, app_of, first_of, found_of, kind_of, new_app, rows_of, subcommand_rows_of};
 ghost use Rattle.clap.specs.declared.error.kind.ErrorKind.TheVariants.{DisplayHelp, DisplayVersion};
-ghost use Rattle.command_line.specs.CommandLine.{command_line, file, long_option, number_of, port, send, want, turns, unary_command, replay_command, probe_command, probe_of, work, instances, serve_command, serve_of, file_or_probe_by, task_by, task_of};
-ghost use Rattle.command_line.specs.Shown.{task_value, task_asked, HasNoFault, IsFaultOf, IsFrom};
+ghost use Rattle.command_line.specs.CommandLine.{command_line, file, long_option, number_of, port, send, want, turns, script_command, probe_command, probe_of, work, instances, serve_command, serve_of, file_or_probe_by, task_by, task_of};
+ghost use Rattle.command_line.specs.Shown.{task_value, task_asked, HasApp, HasNoFault, HasRule, HasShape, IsFaultOf, IsFrom};
 
 use clap::error::ErrorKind;
 use clap::{Arg, ArgAction, ArgMatches, Command, Error, value_parser};
@@ -14,6 +13,23 @@ use std::alloc::{AllocError, Global};
 
 /// The name of the words for instances.
 const INSTANCES: &str = "NAME:PORT:QUOTA:SLOTS";
+
+const UNARY_ABOUT: &str =
+    "Carry out a script of calls on instances of its own, without connections";
+
+const UNARY_LINES: &str =
+    "The script: lines `instance NAME QUOTA`, `put NAME HEX` and `call NAME METHOD HEX`";
+
+const REPLAY_ABOUT: &str =
+    "Carry out a script of events on a server of its own, and print what it sends";
+
+const REPLAY_LINES: &str =
+    "The script: lines `instance NAME QUOTA SLOTS`, and then one line for each event";
+
+const PROBE_ABOUT: &str =
+    "Send a file's bytes to a server, and print the first bytes that come back";
+
+const SERVE_ABOUT: &str = "Serve instances on ports of 127.0.0.1";
 
 /// What the program is asked for.
 #[derive(Drop)]
@@ -44,115 +60,28 @@ pub enum Task<'a> {
     },
 }
 
-fn file<'a>(alloc: Global, help: &'a str) -> Arg<'a>
-    ensures rule { rule_of result ≡ file }
-    ensures local { result.global ≡ false }
+fn file<'a>(alloc: Global, lines: &'a str) -> Arg<'a>
+    ensures { HasRule file result }
 {
     Arg::new(alloc, "FILE")
-        .help(help)
+        .help(lines)
         .required(true)
         .action(ArgAction::Set)
 }
 
-fn long_option<'a>(alloc: Global, name: &'a str, value: &'a str) -> Arg<'a>
-    ensures rule { rule_of result ≡ long_option name.entry.now }
-    ensures local { result.global ≡ false }
+/// An option `--NAME VALUE`.
+fn long_option<'a>(alloc: Global, name: &'a str, value: &'a str, help: &'a str) -> Arg<'a>
+    ensures { HasRule (long_option name.entry.now) result }
 {
     Arg::new(alloc, name)
         .long(name)
         .value_name(value)
+        .help(help)
         .action(ArgAction::Set)
 }
 
-fn unary<'a>(alloc: Global) -> Result<Command<'a>, AllocError>
-    ensures shape { IfOk result (λ c. shape_of c ≡ unary_command) }
-    ensures local { IfOk result (λ c. (fields_of c).has_globals ≡ false) }
-{
-    let file = file(
-        alloc,
-        "The script: lines `instance NAME QUOTA`, `put NAME HEX` and `call NAME METHOD HEX`",
-    );
-    Command::new(alloc, "unary")
-        .about("Carry out a script of calls on instances of its own, without connections")
-        .arg(file)
-}
-
-fn replay<'a>(alloc: Global) -> Result<Command<'a>, AllocError>
-    ensures shape { IfOk result (λ c. shape_of c ≡ replay_command) }
-    ensures local { IfOk result (λ c. (fields_of c).has_globals ≡ false) }
-{
-    let file = file(
-        alloc,
-        "The script: lines `instance NAME QUOTA SLOTS`, and then one line for each event",
-    );
-    Command::new(alloc, "replay")
-        .about("Carry out a script of events on a server of its own, and print what it sends")
-        .arg(file)
-}
-
-fn port<'a>(alloc: Global) -> Arg<'a>
-    ensures rule { rule_of result ≡ port }
-    ensures local { result.global ≡ false }
-{
-    long_option(alloc, "port", "P")
-        .help("The port of 127.0.0.1 to connect to")
-        .required(true)
-        .value_parser(value_parser!(u16).range(1..))
-}
-
-fn send<'a>(alloc: Global) -> Arg<'a>
-    ensures rule { rule_of result ≡ send }
-    ensures local { result.global ≡ false }
-{
-    long_option(alloc, "send", "FILE")
-        .help("The file whose bytes are sent")
-        .required(true)
-}
-
-fn want<'a>(alloc: Global) -> Arg<'a>
-    ensures rule { rule_of result ≡ want }
-    ensures local { result.global ≡ false }
-{
-    long_option(alloc, "want", "N")
-        .help("How many bytes to wait for")
-        .required(true)
-        .value_parser(value_parser!(u64).range(..=i64::MAX))
-}
-
-fn turns<'a>(alloc: Global) -> Arg<'a>
-    ensures rule { rule_of result ≡ turns }
-    ensures local { result.global ≡ false }
-{
-    long_option(alloc, "turns", "T")
-        .help("How many turns to take at most")
-        .value_parser(value_parser!(u64).range(..=i64::MAX))
-        .default_value("1000000000")
-}
-
-fn probe<'a>(alloc: Global) -> Result<Command<'a>, AllocError>
-    ensures shape { IfOk result (λ c. shape_of c ≡ probe_command) }
-    ensures local { IfOk result (λ c. (fields_of c).has_globals ≡ false) }
-{
-    Command::new(alloc, "probe")
-        .about("Send a file's bytes to a server, and print the first bytes that come back")
-        .arg(port(alloc))?
-        .arg(send(alloc))?
-        .arg(want(alloc))?
-        .arg(turns(alloc))
-}
-
-fn work<'a>(alloc: Global) -> Arg<'a>
-    ensures rule { rule_of result ≡ work }
-    ensures local { result.global ≡ false }
-{
-    long_option(alloc, "work", "DIR")
-        .help("The folder for the work of actions; it is made if it is not there")
-        .required(true)
-}
-
 fn instances<'a>(alloc: Global) -> Arg<'a>
-    ensures rule { rule_of result ≡ instances }
-    ensures local { result.global ≡ false }
+    ensures { HasRule instances result }
 {
     Arg::new(alloc, INSTANCES)
         .help(
@@ -162,12 +91,76 @@ fn instances<'a>(alloc: Global) -> Arg<'a>
         .action(ArgAction::Append)
 }
 
-fn serve<'a>(alloc: Global) -> Result<Command<'a>, AllocError>
-    ensures shape { IfOk result (λ c. shape_of c ≡ serve_command) }
-    ensures local { IfOk result (λ c. (fields_of c).has_globals ≡ false) }
+fn send<'a>(alloc: Global) -> Arg<'a>
+    ensures { HasRule send result }
 {
-    Command::new(alloc, "serve")
-        .about("Serve instances on ports of 127.0.0.1")
+    long_option(alloc, "send", "FILE", "The file whose bytes are sent").required(true)
+}
+
+fn work<'a>(alloc: Global) -> Arg<'a>
+    ensures { HasRule work result }
+{
+    let help = "The folder for the work of actions; it is made if it is not there";
+    long_option(alloc, "work", "DIR", help).required(true)
+}
+
+fn port<'a>(alloc: Global) -> Arg<'a>
+    ensures { HasRule port result }
+{
+    long_option(alloc, "port", "P", "The port of 127.0.0.1 to connect to")
+        .required(true)
+        .value_parser(value_parser!(u16).range(1..))
+}
+
+fn turns<'a>(alloc: Global) -> Arg<'a>
+    ensures { HasRule turns result }
+{
+    long_option(alloc, "turns", "T", "How many turns to take at most")
+        .value_parser(value_parser!(u64).range(..=i64::MAX))
+        .default_value("1000000000")
+}
+
+fn want<'a>(alloc: Global) -> Arg<'a>
+    ensures { HasRule want result }
+{
+    long_option(alloc, "want", "N", "How many bytes to wait for")
+        .required(true)
+        .value_parser(value_parser!(u64).range(..=i64::MAX))
+}
+
+/// A command that has no arguments yet.
+fn described<'a>(alloc: Global, name: &'a str, about: &'a str) -> Command<'a>
+    ensures { HasApp (new_app name.entry.now) result }
+{
+    Command::new(alloc, name).about(about)
+}
+
+/// A command that carries out the script of a file.
+fn script_command<'a>(
+    alloc: Global,
+    name: &'a str,
+    about: &'a str,
+    lines: &'a str,
+) -> Result<Command<'a>, AllocError>
+    ensures { IfOk result (HasShape (script_command name.entry.now)) }
+{
+    described(alloc, name, about).arg(file(alloc, lines))
+}
+
+fn probe<'a>(alloc: Global) -> Result<Command<'a>, AllocError>
+    ensures { IfOk result (HasShape probe_command) }
+{
+    described(alloc, "probe", PROBE_ABOUT)
+        .arg(port(alloc))?
+        .arg(send(alloc))?
+        .arg(want(alloc))?
+        .arg(turns(alloc))
+}
+
+fn serve<'a>(alloc: Global) -> Result<Command<'a>, AllocError>
+    ensures { IfOk result (HasShape serve_command) }
+{
+    described(alloc, "serve", SERVE_ABOUT)
         .arg(work(alloc))?
         .arg(turns(alloc))?
         .arg(instances(alloc))
@@ -181,8 +174,8 @@ fn command<'a>(alloc: Global) -> Result<Command<'a>, AllocError>
         .about(
             "A remote build cache for Bazel. Without a command it carries out the script on standard input",
         )
-        .subcommand(unary(alloc)?)?
-        .subcommand(replay(alloc)?)?
+        .subcommand(script_command(alloc, "unary", UNARY_ABOUT, UNARY_LINES)?)?
+        .subcommand(script_command(alloc, "replay", REPLAY_ABOUT, REPLAY_LINES)?)?
         .subcommand(probe(alloc)?)?
         .subcommand(serve(alloc)?)
 }

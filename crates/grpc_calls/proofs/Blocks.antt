@@ -33,24 +33,31 @@ pub never_ok : (r : Refusal) → (0 < code_of r) × (code_of r < 17)
 never_ok UnknownMethod = (omega arith, omega arith)
 never_ok _ = (omega arith, omega arith)
 
-refused_small : (r : Refusal) → total_size (fields_of (TrailersOnly r)) ≤ list_limit
-unfolding digits
-refused_small UnknownMethod = omega arith
-refused_small _ = omega arith
+-- what bounds a block: the size of its fields, and the length of its text
+abbrev Fits : ResponseBlock → Type 0
+Fits block = (total_size (fields_of block) ≤ list_limit) × (length (block_text First (fields_of block)) ≤ 128)
 
-trailed_small : (r : Refusal) → total_size (fields_of (Trailers (Refused r))) ≤ list_limit
-unfolding digits
-trailed_small UnknownMethod = omega arith
-trailed_small _ = omega arith
+refused_fits : (r : Refusal) → Fits (TrailersOnly r)
+unfolding digits name_index static_table integer_text groups groups_in
+refused_fits UnknownMethod = (omega arith, omega arith)
+refused_fits _ = (omega arith, omega arith)
+
+trailed_fits : (r : Refusal) → Fits (Trailers (Refused r))
+unfolding digits name_index static_table integer_text groups groups_in
+trailed_fits UnknownMethod = (omega arith, omega arith)
+trailed_fits _ = (omega arith, omega arith)
+
+block_fits : (block : ResponseBlock) → Fits block
+unfolding digits name_index static_table integer_text groups groups_in
+block_fits Head = (omega arith, omega arith)
+block_fits (Trailers Success) = (omega arith, omega arith)
+block_fits (Trailers (Refused r)) = trailed_fits r
+block_fits (TrailersOnly r) = refused_fits r
+block_fits MethodNotAllowed = (omega arith, omega arith)
+block_fits UnsupportedMediaType = (omega arith, omega arith)
 
 pub fields_small : (block : ResponseBlock) → total_size (fields_of block) ≤ list_limit
-unfolding digits
-fields_small Head = omega arith
-fields_small (Trailers Success) = omega arith
-fields_small (Trailers (Refused r)) = trailed_small r
-fields_small (TrailersOnly r) = refused_small r
-fields_small MethodNotAllowed = omega arith
-fields_small UnsupportedMediaType = omega arith
+fields_small block = (block_fits block).0
 
 pub read_first : (table : Table) (block : ResponseBlock) → block_of table (block_text First (fields_of block)) ≡ Ok (fields_of block, record { maximum = 0; entries = [] })
 read_first table block = first_read table (fields_of block) (fields_small block)
@@ -58,28 +65,9 @@ read_first table block = first_read table (fields_of block) (fields_small block)
 pub read_later : (table : Table) (block : ResponseBlock) → block_of table (block_text Later (fields_of block)) ≡ Ok (fields_of block, table)
 read_later table block = later_read table (fields_of block) (fields_small block)
 
-refused_short : (r : Refusal) → length (block_text First (fields_of (TrailersOnly r))) ≤ 128
-unfolding digits name_index static_table integer_text groups groups_in
-refused_short UnknownMethod = omega arith
-refused_short _ = omega arith
-
-trailed_short : (r : Refusal) → length (block_text First (fields_of (Trailers (Refused r)))) ≤ 128
-unfolding digits name_index static_table integer_text groups groups_in
-trailed_short UnknownMethod = omega arith
-trailed_short _ = omega arith
-
-first_short : (block : ResponseBlock) → length (block_text First (fields_of block)) ≤ 128
-unfolding digits name_index static_table integer_text groups groups_in
-first_short Head = omega arith
-first_short (Trailers Success) = omega arith
-first_short (Trailers (Refused r)) = trailed_short r
-first_short (TrailersOnly r) = refused_short r
-first_short MethodNotAllowed = omega arith
-first_short UnsupportedMediaType = omega arith
-
 later_shorter : (hs : List Header) → length (block_text First hs) ≤ 128 → length (block_text Later hs) ≤ 128
 later_shorter hs h = omega arith
 
 pub short : (position : Position) (block : ResponseBlock) → length (block_text position (fields_of block)) ≤ 128
-short First block = first_short block
-short Later block = later_shorter (fields_of block) (first_short block)
+short First block = (block_fits block).1
+short Later block = later_shorter (fields_of block) (block_fits block).1

@@ -120,43 +120,44 @@ same_front (Err e) = refl
 positive : (front : List ℕ) (rest : List ℕ) → 0 < length front → 0 < length (front ++ rest)
 positive front rest some = omega (arith, length-append front rest)
 
+-- the first of some fields, read from the front of their bytes and what follows these
+record IsFirst (table : Table) (bytes rest : List ℕ) (x : Header) (xs : List Header) (after : Table) : Type 0 where
+  others : List ℕ
+  between : Table
+  read : field_at table bytes ≡ Ok (x, between, others ++ rest)
+  some : 0 < length bytes
+  later : AreFields others between xs after
+
+first_field : (front rest : List ℕ) (table : Table) (x : Header) (xs : List Header) (after : Table) → AreFields front table (x ∷ xs) after → IsFirst table (front ++ rest) rest x xs after
+first_field front rest table x xs after h =
+    let whole : front ++ rest ≡ h.0 ++ (h.1 ++ rest) = ap (λ (y : List ℕ). y ++ rest) h.3 ∙ append_assoc h.0 h.1 rest in
+    let read : field_at table (front ++ rest) ≡ Ok (x, h.2, h.1 ++ rest) = ap (field_at table) whole ∙ field_again table h.0 (h.1 ++ rest) x h.2 h.4 in
+    let shorter = field_shrinks table (front ++ rest) (x, h.2, h.1 ++ rest) read in
+    record { others = h.1; between = h.2; read = read; some = omega arith; later = h.5 }
+
 -- fields within the room are read, and what follows is then read as it would be
 fields_follow : (front rest : List ℕ) (table : Table) (hs : List Header) (after : Table) (room : ℕ) → AreFields front table hs after → total_size hs ≤ room → fields_of room table (front ++ rest) ≡ after_front hs (fields_of (room - total_size hs) after rest)
 fields_follow front rest table [] after room h le =
     let same : room - 0 ≡ room = omega arith in
     ap (λ (y : List ℕ). fields_of room table (y ++ rest)) h.0 ∙ rw (same, h.1) (sym (same_front (fields_of room table rest)))
 fields_follow front rest table (x ∷ xs) after room h le =
-    let one = h.0 in
-    let others = h.1 in
-    let between = h.2 in
-    let whole : front ++ rest ≡ one ++ (others ++ rest) = ap (λ (y : List ℕ). y ++ rest) h.3 ∙ append_assoc one others rest in
-    let read = field_again table one (others ++ rest) x between h.4 in
-    let some = some_read table (one ++ (others ++ rest)) (x, between, others ++ rest) read in
+    let f = first_field front rest table x xs after h in
     let fits : ltb room (size_of x) ≡ false = le-ltb room (size_of x) (omega arith) in
-    let deeper = fields_follow others rest between xs after (room - size_of x) h.5 (omega arith) in
+    let deeper = fields_follow f.others rest f.between xs after (room - size_of x) f.later (omega arith) in
     let less : room - size_of x - total_size xs ≡ room - (size_of x + total_size xs) = omega arith in
-    ap (fields_of room table) whole ∙ fields_go room table (one ++ (others ++ rest)) some ∙ rw (read, fits, deeper, less) (joined x xs (fields_of (room - (size_of x + total_size xs)) after rest))
-  where
-    some_read : (table : Table) (bytes : List ℕ) (x : Header × Table × List ℕ) → field_at table bytes ≡ Ok x → 0 < length bytes
-    some_read table bytes x e = let shorter = field_shrinks table bytes x e in omega arith
+    fields_go room table (front ++ rest) f.some ∙ rw (f.read, fits, deeper, less) (joined x xs (fields_of (room - (size_of x + total_size xs)) after rest))
 
 -- fields that are more than the room are refused, whatever follows
 fields_pass : (front rest : List ℕ) (table : Table) (hs : List Header) (after : Table) (room : ℕ) → AreFields front table hs after → room < total_size hs → fields_of room table (front ++ rest) ≡ Err ListTooLarge
 fields_pass front rest table [] after room h over = absurd (omega arith)
 fields_pass front rest table (x ∷ xs) after room h over =
-    let one = h.0 in
-    let others = h.1 in
-    let between = h.2 in
-    let whole : front ++ rest ≡ one ++ (others ++ rest) = ap (λ (y : List ℕ). y ++ rest) h.3 ∙ append_assoc one others rest in
-    let read = field_again table one (others ++ rest) x between h.4 in
-    let shorter = field_shrinks table (one ++ (others ++ rest)) (x, between, others ++ rest) read in
-    let some : 0 < length (one ++ (others ++ rest)) = omega arith in
-    let first : fields_of room table (front ++ rest) ≡ cond (ltb room (size_of x)) (Err ListTooLarge) (put_first x (fields_of (room - size_of x) between (others ++ rest))) = ap (fields_of room table) whole ∙ fields_go room table (one ++ (others ++ rest)) some ∙ rw read refl in
+    let f = first_field front rest table x xs after h in
+    let first : fields_of room table (front ++ rest) ≡ cond (ltb room (size_of x)) (Err ListTooLarge) (put_first x (fields_of (room - size_of x) f.between (f.others ++ rest))) = fields_go room table (front ++ rest) f.some ∙ rw f.read refl in
     elim (cases_lt room (size_of x)) [
       | inl lt ↦ let test : ltb room (size_of x) ≡ true = lt-ltb room (size_of x) lt in first ∙ rw test refl
       | inr ge ↦
           let test : ltb room (size_of x) ≡ false = le-ltb room (size_of x) ge in
-          let deeper = fields_pass others rest between xs after (room - size_of x) h.5 (omega arith) in
+          let deeper = fields_pass f.others rest f.between xs after (room - size_of x) f.later (omega arith) in
           first ∙ rw (test, deeper) refl
     ]
 

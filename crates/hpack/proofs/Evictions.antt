@@ -1,5 +1,5 @@
 -- Dropping the last entry of too many changes nothing of the longest front that fits.
-use Rattle.std.proofs.Common.{◌≡◌, ℕ, ◌+◌, ◌-◌, ◌<◌, ◌≤◌, true, false, leb, List, [], ◌∷◌, ◌++◌, refl, sym, ap, arith, inl, inr}
+use Rattle.std.proofs.Common.{◌≡◌, ℕ, ◌+◌, ◌-◌, ◌<◌, ◌≤◌, true, false, leb, List, [], ◌∷◌, ◌++◌, refl, sym, ap, ◌∙◌, arith, inl, inr}
 use Rattle.std.proofs.lemmas.Bool.{cases_lt, lt-leb, le-leb}
 use Rattle.hpack.specs.Header.{Header, size_of, total_size}
 use Rattle.hpack.specs.Table.{longest_front, IsLongestFront}
@@ -7,6 +7,9 @@ use Rattle.hpack.specs.Table.{longest_front, IsLongestFront}
 pub total_size-push : (xs : List Header) (y : Header) → total_size (xs ++ y ∷ []) ≡ total_size xs + size_of y
 total_size-push [] y = omega arith
 total_size-push (x ∷ xs) y = let s = total_size-push xs y in omega arith
+
+pub total_dropped : (all rest : List Header) (oldest : Header) → all ≡ rest ++ oldest ∷ [] → total_size all ≡ total_size rest + size_of oldest
+total_dropped all rest oldest drops = ap total_size drops ∙ total_size-push rest oldest
 
 pub longest_all : (xs : List Header) (room : ℕ) → total_size xs ≤ room → longest_front room xs ≡ xs
 longest_all [] room h = refl

@@ -24,7 +24,8 @@ use Rattle.http2_streams.specs.declared.event.StreamEvent.{StreamEvent}
 use Rattle.http2_streams.specs.History.{Blocks, blocks_after, blocks_with, stream_of}
 use Rattle.http2_streams.specs.Standing.{Standing}
 use Rattle.http2_streams.specs.Rules.{number_is, is_live_at, is_idle, receives, is_receiving, is_remembered, cancel_event, stream_error, no_effect, on_data, on_header_list, on_block, on_request, on_trailers, on_settings, settings_fault, on_ping, on_reset, on_connection_update, on_stream_update, overflows, may_grow, on_content}
-use Rattle.http2_streams.specs.Step.{without_stream, after_client_end, with_client_end, stream_after_grant, stream_after_resize, new_stream, after_block, after_header_list, with_headers, after_frame_in, after_answer, size_after_setting}
+use Rattle.http2_streams.specs.declared.stream.Side.TheVariants.{Client}
+use Rattle.http2_streams.specs.Step.{without_stream, after_client_end, with_end, stream_after_grant, stream_after_resize, new_stream, after_block, after_header_list, with_headers, after_frame_in, after_answer, size_after_setting}
 use Rattle.http2_streams.proofs.Lists.{map-map, map-append}
 use Rattle.http2_streams.proofs.StreamLists.{without_granted, without_fresh}
 use Rattle.http2_streams.proofs.Sides.{blocks_in, top, std_of, in-blocks}
@@ -75,7 +76,7 @@ none_without : (s : ℕ) (xs : List Stream) → list_any (number_is s) xs ≡ fa
 none_without s [] h = refl
 none_without s (x ∷ xs) h = grind (arith, none_without s xs)
 
-marked_numbers : (s : ℕ) (xs : List Stream) → numbers_of (map (with_client_end s) xs) ≡ numbers_of xs
+marked_numbers : (s : ℕ) (xs : List Stream) → numbers_of (map (with_end Client s) xs) ≡ numbers_of xs
 marked_numbers s [] = refl
 marked_numbers s (x ∷ xs) = elim (cases_Bool (x.number == s)) [
   | inl same ↦ rw same (ap (λ ys. x.number ∷ ys) (marked_numbers s xs))

@@ -11,7 +11,8 @@ use Rattle.http2_frames.specs.declared.frame.Frame.{Frame}
 use Rattle.http2_frames.specs.declared.frame.Frame.TheVariants.{Data, Headers, RstStream}
 use Rattle.http2_streams.specs.declared.stream.Stream.{Stream}
 use Rattle.http2_streams.specs.History.{rising_numbers, resets, ends, data_length, data_length_on, increment_for, is_goaway, stream_reset_by, last_items}
-use Rattle.http2_streams.specs.Step.{streams_after_server_end, after_server_end, with_server_end, stream_after_spending, credit_after_spending, after_data, after_reset}
+use Rattle.http2_streams.specs.declared.stream.Side.TheVariants.{Server}
+use Rattle.http2_streams.specs.Step.{streams_after_end, after_server_end, with_end, stream_after_spending, credit_after_spending, after_data, after_reset}
 use Rattle.http2_streams.proofs.Lists.{map_rising_agree, any-push, append-nil, filter-map, filter-filter, map-map}
 use Rattle.http2_streams.proofs.Bools.{eq_sym, or_false, or_true, reset_alive, ended_alive'}
 use Rattle.http2_streams.proofs.Sides.{numbers, reset_in, ended_c, ended_s, alive, size, granted_in, spent_in, stream_by, at, streams_in, connection, std_of, top, Idle, sum-push, out-reset, kept_streams, changed_streams}
@@ -154,7 +155,7 @@ spent_more rs ss s n t = elim (cases_Bool (t == s)) [
 ]
 
 -- the same stream where the server ends s
-marked_more : (s t : ℕ) (c e : Bool) (i g p : ℕ) (x : Stream) → stream_by t c e i g p ≡ x → stream_by t c (e || (s == t)) i g p ≡ with_server_end s x
+marked_more : (s t : ℕ) (c e : Bool) (i g p : ℕ) (x : Stream) → stream_by t c e i g p ≡ x → stream_by t c (e || (s == t)) i g p ≡ with_end Server s x
 marked_more s t c e i g p x is = rw (← is) (elim (cases_Bool (t == s)) [
   | inl same ↦ rw (eq_sym s t, same) (ap (λ b. stream_by t c b i g p) (or_true e))
   | inr others ↦ rw (eq_sym s t, others) (ap (λ b. stream_by t c b i g p) (or_false e))
@@ -191,11 +192,11 @@ data_is_put rs ss s true bytes =
     let f = Data s true bytes in
     let n = length bytes in
     put_by rs ss f _ _ _ refl
-    (streams_put rs ss f (λ t. with_server_end s (stream_after_spending s n (at rs ss t))) (λ t. alive rs ss t && not (t == s && ended_c rs t))
+    (streams_put rs ss f (λ t. with_end Server s (stream_after_spending s n (at rs ss t))) (λ t. alive rs ss t && not (t == s && ended_c rs t))
     (λ t. at_put rs ss f t ∙ marked_more s t (ended_c rs t) (ended_s ss t) (size rs) (granted_in rs t) (spent_in ss t + cond (s == t) n 0) (stream_after_spending s n (at rs ss t)) (spent_more rs ss s n t))
     (λ t. alive_put rs ss f t ∙ lives_more rs ss s t)
-    ∙ sym (kept_by (λ t. stream_after_spending s n (at rs ss t)) (alive rs ss) (with_server_end s) (λ x. not (x.number == s && x.ended_by_client)) (rising_numbers 0 (numbers rs)))
-    ∙ ap (λ xs. streams_after_server_end s xs) (sym (changed_streams rs ss (stream_after_spending s n) (rising_numbers 0 (numbers rs)))))
+    ∙ sym (kept_by (λ t. stream_after_spending s n (at rs ss t)) (alive rs ss) (with_end Server s) (λ x. not (x.number == s && x.ended_by_client)) (rising_numbers 0 (numbers rs)))
+    ∙ ap (λ xs. streams_after_end Server s xs) (sym (changed_streams rs ss (stream_after_spending s n) (rising_numbers 0 (numbers rs)))))
     (remembered_put ss f refl)
     (data_connection rs ss s true bytes)
 
@@ -207,9 +208,9 @@ headers_is_put rs ss s false end_headers fragment = quiet_put rs ss (Headers s f
 headers_is_put rs ss s true end_headers fragment =
     let f = Headers s true end_headers fragment in
     put_by rs ss f _ _ _ refl
-    (streams_put rs ss f (λ t. with_server_end s (at rs ss t)) (λ t. alive rs ss t && not (t == s && ended_c rs t))
+    (streams_put rs ss f (λ t. with_end Server s (at rs ss t)) (λ t. alive rs ss t && not (t == s && ended_c rs t))
     (λ t. at_put rs ss f t ∙ marked_more s t (ended_c rs t) (ended_s ss t) (size rs) (granted_in rs t) (spent_in ss t + 0) (at rs ss t) (same_at rs ss t))
     (λ t. alive_put rs ss f t ∙ lives_more rs ss s t)
-    ∙ sym (kept_by (at rs ss) (alive rs ss) (with_server_end s) (λ x. not (x.number == s && x.ended_by_client)) (rising_numbers 0 (numbers rs))))
+    ∙ sym (kept_by (at rs ss) (alive rs ss) (with_end Server s) (λ x. not (x.number == s && x.ended_by_client)) (rising_numbers 0 (numbers rs))))
     (remembered_put ss f refl)
     (connection_put rs ss f refl)

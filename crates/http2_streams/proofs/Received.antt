@@ -16,7 +16,8 @@ use Rattle.http2_frames.specs.declared.settings.Setting.{Setting}
 use Rattle.http2_streams.specs.declared.stream.Stream.{Stream}
 use Rattle.http2_streams.specs.History.{Blocks, blocks_after, stream_of, rising_numbers, resets, data_ends, size_after, size_set, increment_for, data_length, table_after_block}
 use Rattle.http2_streams.specs.Rules.{receives, is_receiving}
-use Rattle.http2_streams.specs.Step.{without_stream, streams_after_client_end, after_client_end, with_client_end, stream_after_grant, stream_after_resize, after_frame_in, after_begin, with_live, after_resize, size_after_setting, after_window_update}
+use Rattle.http2_streams.specs.declared.stream.Side.TheVariants.{Client}
+use Rattle.http2_streams.specs.Step.{without_stream, streams_after_end, after_client_end, with_end, stream_after_grant, stream_after_resize, after_frame_in, after_begin, with_live, after_resize, size_after_setting, after_window_update}
 use Rattle.http2_streams.proofs.Lists.{Agree, map_rising_agree}
 use Rattle.http2_streams.proofs.Bools.{eq_sym, or_false, or_true, ended_alive, reset_alive, not_false, not_true, or_parts}
 use Rattle.http2_streams.proofs.Sides.{blocks_in, numbers, top, reset_in, ended_c, ended_s, alive, size, granted_in, spent_in, stream_by, at, streams_in, connection, std_of, Idle, sum-push, in-blocks, in-reset, in-ended, in-size, begun_after, kept_streams, changed_streams, kept_and_changed}
@@ -110,7 +111,7 @@ reset_taken rs ss s code =
 -- ---- END_STREAM of the client
 
 -- no stream is open to the client under the number
-pub unmarked : (s : ℕ) (x : Stream) → receives s x ≡ false → (x.ended_by_client && x.ended_by_server) ≡ false → (with_client_end s x ≡ x) × (not (x.number == s && x.ended_by_server) ≡ true)
+pub unmarked : (s : ℕ) (x : Stream) → receives s x ≡ false → (x.ended_by_client && x.ended_by_server) ≡ false → (with_end Client s x ≡ x) × (not (x.number == s && x.ended_by_server) ≡ true)
 unmarked s x shut sound = elim (cases_Bool (x.number == s)) [
   | inl same ↦
       let ended : x.ended_by_client ≡ true = not_false x.ended_by_client (rw same at shut) in
@@ -122,7 +123,7 @@ unmarked s x shut sound = elim (cases_Bool (x.number == s)) [
 alive_sound : (rs ss : List Frame) (t : ℕ) → alive rs ss t ≡ true → (ended_c rs t && ended_s ss t) ≡ false
 alive_sound rs ss t h = not_true (ended_c rs t && ended_s ss t) (and_parts (not (reset_in rs ss t)) (not (ended_c rs t && ended_s ss t)) h).1
 
-pub none_ended : (rs ss : List Frame) (s : ℕ) (xs : List ℕ) → list_any (receives s) (map (at rs ss) (filter (alive rs ss) xs)) ≡ false → streams_after_client_end s (map (at rs ss) (filter (alive rs ss) xs)) ≡ map (at rs ss) (filter (alive rs ss) xs)
+pub none_ended : (rs ss : List Frame) (s : ℕ) (xs : List ℕ) → list_any (receives s) (map (at rs ss) (filter (alive rs ss) xs)) ≡ false → streams_after_end Client s (map (at rs ss) (filter (alive rs ss) xs)) ≡ map (at rs ss) (filter (alive rs ss) xs)
 none_ended rs ss s [] h = refl
 none_ended rs ss s (x ∷ xs) h = elim (cases_Bool (alive rs ss x)) [
   | inl lives ↦
@@ -137,35 +138,35 @@ none_ended rs ss s (x ∷ xs) h = elim (cases_Bool (alive rs ss x)) [
 ]
 
 -- the streams where the client's END_STREAM on s is one more
-pub marked_streams : (rs ss : List Frame) (s : ℕ) (xs : List ℕ) → streams_after_client_end s (map (at rs ss) (filter (alive rs ss) xs)) ≡ map (λ t. with_client_end s (at rs ss t)) (filter (λ t. not (reset_in rs ss t) && not ((ended_c rs t || (s == t)) && ended_s ss t)) xs)
+pub marked_streams : (rs ss : List Frame) (s : ℕ) (xs : List ℕ) → streams_after_end Client s (map (at rs ss) (filter (alive rs ss) xs)) ≡ map (λ t. with_end Client s (at rs ss t)) (filter (λ t. not (reset_in rs ss t) && not ((ended_c rs t || (s == t)) && ended_s ss t)) xs)
 marked_streams rs ss s xs =
-    kept_and_changed rs ss (with_client_end s) (λ x. not (x.number == s && x.ended_by_server)) xs
-    ∙ ap (map (λ t. with_client_end s (at rs ss t))) (filter_agree _ _ (λ t. sym (ap (λ b. not (reset_in rs ss t) && not ((ended_c rs t || b) && ended_s ss t)) (eq_sym s t) ∙ ended_alive (reset_in rs ss t) (ended_c rs t) (ended_s ss t) (t == s))) xs)
+    kept_and_changed rs ss (with_end Client s) (λ x. not (x.number == s && x.ended_by_server)) xs
+    ∙ ap (map (λ t. with_end Client s (at rs ss t))) (filter_agree _ _ (λ t. sym (ap (λ b. not (reset_in rs ss t) && not ((ended_c rs t || b) && ended_s ss t)) (eq_sym s t) ∙ ended_alive (reset_in rs ss t) (ended_c rs t) (ended_s ss t) (t == s))) xs)
 
-pub marked : (rs ss : List Frame) (s t : ℕ) → stream_by t (ended_c rs t || (s == t)) (ended_s ss t) (size rs) (granted_in rs t) (spent_in ss t) ≡ with_client_end s (at rs ss t)
+pub marked : (rs ss : List Frame) (s t : ℕ) → stream_by t (ended_c rs t || (s == t)) (ended_s ss t) (size rs) (granted_in rs t) (spent_in ss t) ≡ with_end Client s (at rs ss t)
 marked rs ss s t = elim (cases_Bool (t == s)) [
   | inl same ↦ rw (eq_sym s t, same) (ap (λ b. stream_by t b (ended_s ss t) (size rs) (granted_in rs t) (spent_in ss t)) (or_true (ended_c rs t)))
   | inr others ↦ rw (eq_sym s t, others) (ap (λ b. stream_by t b (ended_s ss t) (size rs) (granted_in rs t) (spent_in ss t)) (or_false (ended_c rs t)))
 ]
 
 -- DATA
-data_end_taken : (rs ss : List Frame) (s : ℕ) (bytes : List ℕ) → std_of (rs ++ Data s true bytes ∷ []) ss ≡ after_begin (with_live (std_of rs ss) (streams_after_client_end s (streams_in rs ss)))
+data_end_taken : (rs ss : List Frame) (s : ℕ) (bytes : List ℕ) → std_of (rs ++ Data s true bytes ∷ []) ss ≡ after_begin (with_live (std_of rs ss) (streams_after_end Client s (streams_in rs ss)))
 data_end_taken rs ss s bytes =
     let g = Data s true bytes in
     let none : IsNoBlock g = λ bs. refl in
-    let each : (t : ℕ) → at (rs ++ g ∷ []) ss t ≡ with_client_end s (at rs ss t) = λ t.
+    let each : (t : ℕ) → at (rs ++ g ∷ []) ss t ≡ with_end Client s (at rs ss t) = λ t.
     let n : granted_in rs t + 0 ≡ granted_in rs t = omega arith in
     at_taken rs ss g t none ∙ ap (λ m. stream_by t (ended_c rs t || (s == t)) (ended_s ss t) (size rs) m (spent_in ss t)) n ∙ marked rs ss s t in
     let lives : (t : ℕ) → alive (rs ++ g ∷ []) ss t ≡ (not (reset_in rs ss t) && not ((ended_c rs t || (s == t)) && ended_s ss t)) = λ t.
     alive_taken rs ss g t none ∙ ap (λ b. not b && not ((ended_c rs t || (s == t)) && ended_s ss t)) (or_false (reset_in rs ss t)) in
     taken rs ss g _ _ _ none
-    (streams_taken rs ss g (λ t. with_client_end s (at rs ss t)) _ none (λ t _ _. each t) (λ t _ _. lives t)
+    (streams_taken rs ss g (λ t. with_end Client s (at rs ss t)) _ none (λ t _ _. each t) (λ t _ _. lives t)
     ∙ sym (marked_streams rs ss s (rising_numbers 0 (numbers rs))))
     (in-size rs g)
     (connection_taken rs ss g refl)
 
 -- ending what is not open changes nothing
-pub client_ends_always : (rs ss : List Frame) (s : ℕ) → with_live (std_of rs ss) (streams_after_client_end s (streams_in rs ss)) ≡ after_client_end (std_of rs ss) s true
+pub client_ends_always : (rs ss : List Frame) (s : ℕ) → with_live (std_of rs ss) (streams_after_end Client s (streams_in rs ss)) ≡ after_client_end (std_of rs ss) s true
 client_ends_always rs ss s = elim (cases_Bool (is_receiving (std_of rs ss) s)) [
   | inl open_to ↦ rw open_to refl
   | inr shut ↦ rw shut (ap (λ xs. with_live (std_of rs ss) xs) (none_ended rs ss s (rising_numbers 0 (numbers rs)) shut))

@@ -12,6 +12,8 @@ use Rattle.http2_frames.specs.Frames.{frame_of}
 use Rattle.http2_headers.specs.HeaderBlock.{new_block}
 use Rattle.http2_headers.specs.declared.header_blocks.HeaderList.{HeaderList}
 use Rattle.http2_headers.specs.Decoding.{HeaderState, list_of_block, state_after_block, list_of_continuation, state_after_continuation}
+use Rattle.http2_streams.specs.declared.stream.Side.{Side}
+use Rattle.http2_streams.specs.declared.stream.Side.TheVariants.{Client, Server}
 use Rattle.http2_streams.specs.declared.stream.Stream.{Stream}
 use Rattle.http2_streams.specs.declared.event.StreamEvent.{StreamEvent}
 use Rattle.http2_streams.specs.History.{last_items}
@@ -21,20 +23,22 @@ use Rattle.http2_streams.specs.Rules.{is_receiving}
 abbrev pub without_stream : ℕ → List Stream → List Stream
 without_stream s xs = filter (λ x. not (x.number == s)) xs
 
-abbrev pub with_client_end : ℕ → Stream → Stream
-with_client_end s x = if x.number == s then record x { ended_by_client = true } else x
+abbrev pub other : Side → Side
+other Client = Server
+other Server = Client
 
-abbrev pub with_server_end : ℕ → Stream → Stream
-with_server_end s x = if x.number == s then record x { ended_by_server = true } else x
+abbrev pub is_ended_by : Side → Stream → Bool
+is_ended_by Client x = x.ended_by_client
+is_ended_by Server x = x.ended_by_server
+
+abbrev pub with_end : Side → ℕ → Stream → Stream
+with_end Client s x = if x.number == s then record x { ended_by_client = true } else x
+with_end Server s x = if x.number == s then record x { ended_by_server = true } else x
 
 -- a stream that the other side ended before is closed then
-abbrev pub streams_after_client_end : ℕ → List Stream → List Stream
-streams_after_client_end s xs =
-    map (with_client_end s) (filter (λ x. not (x.number == s && x.ended_by_server)) xs)
-
-abbrev pub streams_after_server_end : ℕ → List Stream → List Stream
-streams_after_server_end s xs =
-    map (with_server_end s) (filter (λ x. not (x.number == s && x.ended_by_client)) xs)
+abbrev pub streams_after_end : Side → ℕ → List Stream → List Stream
+streams_after_end side s xs =
+    map (with_end side s) (filter (λ x. not (x.number == s && is_ended_by (other side) x)) xs)
 
 abbrev pub credit_after_grant : ℕ → Credit → Credit
 credit_after_grant n w = record w { change = w.change +ℤ pos n }
@@ -69,7 +73,7 @@ with_live v xs = record v { live = xs }
 
 abbrev pub after_client_end : Standing → ℕ → Bool → Standing
 after_client_end v s end_stream =
-    if end_stream && is_receiving v s then with_live v (streams_after_client_end s v.live) else v
+    if end_stream && is_receiving v s then with_live v (streams_after_end Client s v.live) else v
 
 abbrev pub after_block : Standing → ℕ → Bool → Standing
 after_block v s end_stream =
@@ -116,7 +120,7 @@ after_reset v s = record v { live = without_stream s v.live; remembered = last_i
 
 abbrev pub after_server_end : Standing → ℕ → Bool → Standing
 after_server_end v s end_stream =
-    if end_stream then with_live v (streams_after_server_end s v.live) else v
+    if end_stream then with_live v (streams_after_end Server s v.live) else v
 
 abbrev pub after_data : Standing → ℕ → ℕ → Standing
 after_data v s n = record v { live = map (stream_after_spending s n) v.live; connection_window = credit_after_spending n v.connection_window }

@@ -3,10 +3,10 @@
 ghost use Rattle.std.specs.Prelude.{◌≡◌, ◌≢◌, ◌<◌, ◌^◌, ◌≤◌, ◌==◌, ◌&&◌, not, true, false, filter, length, map, vec_capacity};
 ghost use Rattle.std.specs.List.{list_any};
 ghost use Rattle.http2_streams.specs.Rules.{number_is, receives, overflows, is_above};
-ghost use Rattle.http2_streams.specs.Step.{without_stream, streams_after_client_end, streams_after_server_end, with_client_end, with_server_end, stream_after_grant, stream_after_spending, stream_after_resize};
+ghost use Rattle.http2_streams.specs.Step.{without_stream, is_ended_by, streams_after_end, with_end, stream_after_grant, stream_after_spending, stream_after_resize};
 ghost use Rattle.http2_streams.specs.Sending.{lacks};
 
-use crate::stream::Stream;
+use crate::stream::{Side, Stream};
 
 pub(crate) fn is_live(live: &[Stream], number: u32) -> bool
     ensures { result ≡ list_any (number_is number) live.now }
@@ -43,55 +43,30 @@ pub(crate) fn remove(live: &mut Vec<Stream>, number: u32)
     live.retain(|stream| stream.number != number);
 }
 
-pub(crate) fn end_by_client(live: &mut Vec<Stream>, number: u32)
-    ensures list { live.new.items ≡ streams_after_client_end number live.old.items }
+/// Closes a stream that the other side has ended, or notes that a side ends it.
+pub(crate) fn end_by(live: &mut Vec<Stream>, side: Side, number: u32)
+    ensures list { live.new.items ≡ streams_after_end side number live.old.items }
     ensures few { length live.new.items ≤ length live.old.items }
     ensures room { vec_capacity live.new ≡ vec_capacity live.old }
 {
-    remove_ended_by_server(live, number);
-    mark_client(live, number);
+    remove_ended(live, side.other(), number);
+    mark_ended(live, side, number);
 }
 
-fn remove_ended_by_server(live: &mut Vec<Stream>, number: u32)
+fn remove_ended(live: &mut Vec<Stream>, side: Side, number: u32)
     ensures list { live.new.items ≡ filter
-        (λ x. not (x.number == number && x.ended_by_server)) live.old.items }
+        (λ x. not (x.number == number && is_ended_by side x)) live.old.items }
     ensures few { length live.new.items ≤ length live.old.items }
     ensures room { vec_capacity live.new ≡ vec_capacity live.old }
 {
-    live.retain(|stream| !(stream.number == number && stream.ended_by_server));
+    live.retain(|stream| !stream.is_ended(side, number));
 }
 
-fn mark_client(live: &mut [Stream], number: u32)
-    ensures { live.new ≡ map (with_client_end number) live.old }
+fn mark_ended(live: &mut [Stream], side: Side, number: u32)
+    ensures { live.new ≡ map (with_end side number) live.old }
 {
     for stream in live.iter_mut() {
-        stream.end_by_client(number);
-    }
-}
-
-pub(crate) fn end_by_server(live: &mut Vec<Stream>, number: u32)
-    ensures list { live.new.items ≡ streams_after_server_end number live.old.items }
-    ensures few { length live.new.items ≤ length live.old.items }
-    ensures room { vec_capacity live.new ≡ vec_capacity live.old }
-{
-    remove_ended_by_client(live, number);
-    mark_server(live, number);
-}
-
-fn remove_ended_by_client(live: &mut Vec<Stream>, number: u32)
-    ensures list { live.new.items ≡ filter
-        (λ x. not (x.number == number && x.ended_by_client)) live.old.items }
-    ensures few { length live.new.items ≤ length live.old.items }
-    ensures room { vec_capacity live.new ≡ vec_capacity live.old }
-{
-    live.retain(|stream| !(stream.number == number && stream.ended_by_client));
-}
-
-fn mark_server(live: &mut [Stream], number: u32)
-    ensures { live.new ≡ map (with_server_end number) live.old }
-{
-    for stream in live.iter_mut() {
-        stream.end_by_server(number);
+        stream.end_by(side, number);
     }
 }
 

@@ -1,12 +1,30 @@
 //! One live stream.
 
-ghost use Rattle.std.specs.Prelude.{◌≡◌, ◌≢◌, ◌<◌, ◌^◌, true, false, pos, ◌≤ℤ◌};
+ghost use Rattle.std.specs.Prelude.{◌≡◌, ◌≢◌, ◌<◌, ◌^◌, ◌==◌, ◌&&◌, true, false, pos, ◌≤ℤ◌};
 ghost use Rattle.http2_flow.specs.Credit.{window_left};
 ghost use Rattle.http2_streams.specs.Rules.{number_is, receives, overflows, is_above, may_grow};
 ghost use Rattle.http2_streams.specs.Sending.{lacks};
-ghost use Rattle.http2_streams.specs.Step.{with_client_end, with_server_end, stream_after_grant, stream_after_spending, stream_after_resize};
+ghost use Rattle.http2_streams.specs.Step.{is_ended_by, other, with_end, stream_after_grant, stream_after_spending, stream_after_resize};
 
 use http2_flow::{MAX_SIZE, Window};
+
+/// Who ends a stream by END_STREAM (RFC 9113 section 5.1).
+#[derive(Clone, Copy, PartialEq, Eq)]
+pub(crate) enum Side {
+    Client,
+    Server,
+}
+
+impl Side {
+    pub(crate) fn other(self) -> Side
+        ensures { result ≡ other self }
+    {
+        match self {
+            Side::Client => Side::Server,
+            Side::Server => Side::Client,
+        }
+    }
+}
 
 /// A stream that is open or half-closed (RFC 9113 section 5.1).
 #[derive(Drop)]
@@ -41,19 +59,30 @@ impl Stream {
         !self.window.can_shift(initial_size)
     }
 
-    pub(crate) fn end_by_client(&mut self, number: u32)
-        ensures { self.new ≡ with_client_end number self.old }
+    fn is_ended_by(&self, side: Side) -> bool
+        ensures { result ≡ is_ended_by side self.now }
     {
-        if self.number == number {
-            self.ended_by_client = true;
+        match side {
+            Side::Client => self.ended_by_client,
+            Side::Server => self.ended_by_server,
         }
     }
 
-    pub(crate) fn end_by_server(&mut self, number: u32)
-        ensures { self.new ≡ with_server_end number self.old }
+    /// Whether it is the stream of this number, and a side has ended it.
+    pub(crate) fn is_ended(&self, side: Side, number: u32) -> bool
+        ensures { result ≡ (self.now.number == number && is_ended_by side self.now) }
+    {
+        self.number == number && self.is_ended_by(side)
+    }
+
+    pub(crate) fn end_by(&mut self, side: Side, number: u32)
+        ensures { self.new ≡ with_end side number self.old }
     {
         if self.number == number {
-            self.ended_by_server = true;
+            match side {
+                Side::Client => self.ended_by_client = true,
+                Side::Server => self.ended_by_server = true,
+            }
         }
     }
 

@@ -15,7 +15,7 @@ ghost use Rattle.http2_streams.specs.Step.{step_by, after_answer, after_frame_in
 
 use crate::event::{Event, StreamEvent};
 use crate::live;
-use crate::stream::Stream;
+use crate::stream::{Side, Stream};
 use http2_flow::{FlowError, INITIAL_SIZE, MAX_SIZE, Window};
 use http2_frames::{
     ErrorCode, Frame, MAX_FRAME_SIZE, Octets, RawFrame, Setting, SettingsList, flag, frame_type,
@@ -198,7 +198,7 @@ impl Streams {
         ensures { self.new ≡ after_server_end self.old stream end_stream }
     {
         if end_stream {
-            live::end_by_server(&mut self.live, stream);
+            live::end_by(&mut self.live, Side::Server, stream);
         }
     }
 
@@ -339,7 +339,7 @@ impl Streams {
                 update(stream, length)
             };
             if end_stream {
-                live::end_by_client(&mut self.live, stream);
+                live::end_by(&mut self.live, Side::Client, stream);
             }
             return Ok(StreamEvent {
                 connection_update,
@@ -491,7 +491,7 @@ impl Streams {
         if !end_stream {
             return self.stream_error(stream, ErrorCode::ProtocolError);
         }
-        live::end_by_client(&mut self.live, stream);
+        live::end_by(&mut self.live, Side::Client, stream);
         brings(Event::Trailers { stream })
     }
 

@@ -46,12 +46,12 @@ pub fn place_asked(page_token: &str, count: usize) -> Option<usize>
 }
 
 /// How many bytes the record of a directory takes.
-fn record_length(alloc: Global, directory: &[u8]) -> Result<usize, AllocError>
+fn record_length(directory: &[u8]) -> Result<usize, AllocError>
     ensures { IfOk result (λ count. count ≡ length (records_text (message_field 1 directory.now))) }
 {
-    let mut record = Writer::new(alloc);
-    record.message(1, directory)?;
-    Ok(record.as_bytes().len())
+    let mut measure = Writer::measuring();
+    measure.message(1, directory)?;
+    measure.measured()
 }
 
 /// The response that has the directories of a page.
@@ -71,9 +71,7 @@ fn response(
         directories,
         next_page_token,
     };
-    let mut message = Vec::new(alloc);
-    response.encode_into(&mut message)?;
-    Ok(message)
+    response.encode(alloc)
 }
 
 /// The response that has the directories of a page, behind which others begin at a place.
@@ -148,7 +146,7 @@ pub fn pages(
     let mut place = place;
     let mut left = directories;
     'directories: while let [first, rest @ ..] = left {
-        let more = record_length(alloc, first)?;
+        let more = record_length(first)?;
         let total = bytes_with(size, page.len(), bytes, more);
         page = page_for(alloc, &mut pages, page, total.is_some(), place)?;
         page.push(first.as_slice())?;

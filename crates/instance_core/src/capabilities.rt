@@ -67,9 +67,7 @@ fn capabilities_message(alloc: Global, slots: u32) -> Result<Vec<u8>, AllocError
     ensures { IfOk result (λ reply. reply.items ≡ capabilities_message slots) }
 {
     let offered = capabilities(alloc, slots)?;
-    let mut reply = Vec::new(alloc);
-    offered.encode_into(&mut reply)?;
-    Ok(reply)
+    offered.encode(alloc)
 }
 
 /// The request has to read as one, and to name the own instance.

@@ -1,5 +1,6 @@
 pub mod Lists
 pub mod Texts
+pub mod Loops
 pub mod Submessages
 pub mod Places
 pub mod ReadAgain

@@ -1,5 +1,5 @@
 -- A list of answers, of which some were given before.
-use Rattle.std.proofs.Common.{◌≡◌, List, [], ◌∷◌, ◌++◌, Result, Ok, Err, refl, sym, ap, append_assoc}
+use Rattle.std.proofs.Common.{◌≡◌, ℕ, ◌+◌, List, [], ◌∷◌, ◌++◌, length, Result, Ok, Err, refl, sym, ap, append_assoc, arith}
 use Rattle.protobuf_wire.specs.Results.{◌>>=◌}
 use Rattle.message_fields.specs.declared.error.MessageError.{MessageError}
 use Rattle.message_fields.specs.Fields.{last_or}
@@ -24,3 +24,11 @@ pub last_after_next : {B : Type 0} (last y : B) (rest : Result (List B) MessageE
 unfolding last_or
 last_after_next last y (Ok ys) = refl
 last_after_next last y (Err e) = refl
+
+-- how many were given, and then the rest
+abbrev pub counted : {B E : Type 0} → ℕ → Result (List B) E → Result ℕ E
+counted count rest = rest >>= λ ys. Ok (count + length ys)
+
+pub counted_next : {B E : Type 0} (count : ℕ) (y : B) (rest : Result (List B) E) → counted count (rest >>= λ ys. Ok (y ∷ ys)) ≡ counted (count + 1) rest
+counted_next count y (Ok ys) = ap (λ n. Ok n) (omega arith)
+counted_next count y (Err e) = refl

@@ -1,5 +1,5 @@
 -- An embedded message means its payloads joined, which is what the records of each of them, joined, mean.
-use Rattle.std.proofs.Common.{◌≡◌, ℕ, List, [], ◌∷◌, ◌++◌, Option, Some, None, Result, Ok, Err, refl, sym, ap, ◌∙◌, append_assoc}
+use Rattle.std.proofs.Common.{◌≡◌, ℕ, List, [], ◌∷◌, ◌++◌, length, Option, Some, None, Result, Ok, Err, refl, sym, ap, ◌∙◌, append_assoc, arith}
 use Rattle.std.specs.List.{concat}
 use Rattle.std.proofs.lemmas.List.{append-nil}
 use Rattle.protobuf_wire.specs.declared.field.WireError.{WireError}
@@ -9,8 +9,8 @@ use Rattle.protobuf_wire.specs.Reading.{records_of}
 use Rattle.protobuf_wire.proofs.Texts.{reads_spelled, spells_read, spells_joined}
 use Rattle.message_fields.specs.declared.error.MessageError.{MessageError}
 use Rattle.message_fields.specs.Answers.{of_wire}
-use Rattle.message_fields.specs.Fields.{records_in, value_of_text, each_of, joined_value, payloads, embedded_value}
-use Rattle.message_fields.specs.Joining.{joined_records, optional_value, embedded_value_by_records}
+use Rattle.message_fields.specs.Fields.{records_in, value_of_text, each_of, joined_value, payloads, embedded_value, octets, last_or}
+use Rattle.message_fields.specs.Joining.{joined_records, optional_value, value_of_one, embedded_value_by_records}
 
 lifted_ok : (r : Result (List Record) WireError) (rs : List Record) → of_wire r ≡ Ok rs → r ≡ Ok rs
 lifted_ok (Ok x) rs e = cc
@@ -49,3 +49,32 @@ module _ {V : Type 0} (value_of : List Record → Result V MessageError) where
 
   pub embedded_is_joined : (field : ℕ) (rs : List Record) → embedded_value value_of field rs ≡ embedded_value_by_records value_of field rs
   embedded_is_joined field rs = from_none (payloads field rs)
+
+  -- ---- where there is at most one payload
+
+  abbrev Embeds : List (List ℕ) → Result (Option V) MessageError → Type 0
+  Embeds ps meaning = (each_of records_in ps >>= λ _. joined_value value_of ps) ≡ meaning
+
+  from_one : (p : List ℕ) → Embeds (p ∷ []) (some_of p)
+  unfolding each_of
+  from_one p = ap (λ (u : List ℕ). each_of records_in (p ∷ []) >>= λ _. some_of u) (append-nil p) ∙ go (records_in p) where
+    go : (r : Result (List Record) MessageError) → ((r >>= λ y. Ok (y ∷ [])) >>= λ _. ((r >>= value_of) >>= λ v. Ok (Some v))) ≡ ((r >>= value_of) >>= λ v. Ok (Some v))
+    go (Err d) = refl
+    go (Ok rs) = refl
+
+  at_most_one : (ps : List (List ℕ)) → length ps ≡ 1 → Embeds ps (some_of (last_or [] ps))
+  unfolding last_or
+  at_most_one [] e = absurd (omega arith)
+  at_most_one (p ∷ []) e = from_one p
+  at_most_one (p ∷ q ∷ ps) e = absurd (omega arith)
+
+  none_at_all : (ps : List (List ℕ)) → length ps ≡ 0 → Embeds ps (Ok None)
+  unfolding each_of
+  none_at_all [] e = refl
+  none_at_all (p ∷ ps) e = absurd (omega arith)
+
+  pub embedded_never : (field : ℕ) (rs : List Record) → length (payloads field rs) ≡ 0 → embedded_value value_of field rs ≡ Ok None
+  embedded_never field rs e = none_at_all (payloads field rs) e
+
+  pub embedded_once : (field : ℕ) (rs : List Record) → length (payloads field rs) ≡ 1 → embedded_value value_of field rs ≡ value_of_one value_of (octets field rs)
+  embedded_once field rs e = at_most_one (payloads field rs) e

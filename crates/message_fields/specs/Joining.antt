@@ -1,10 +1,16 @@
 -- What the readers of fields keep while they go over the records.
-use Rattle.std.specs.Prelude.{ℕ, ℤ, List, [], ◌∷◌, ◌++◌, map, Option, Some, None, Result, Ok, unwrap_or}
+use Rattle.std.specs.Prelude.{ℕ, ℤ, List, [], ◌∷◌, ◌++◌, length, map, Option, Some, None, Result, Ok, unwrap_or}
 use Rattle.std.specs.List.{concat}
+use Rattle.protobuf_wire.specs.declared.field.WireError.{WireError}
 use Rattle.protobuf_wire.specs.Results.{◌>>=◌}
+use Rattle.protobuf_wire.specs.Reading.{records_of}
 use Rattle.protobuf_wire.specs.Record.{Record}
 use Rattle.message_fields.specs.declared.error.MessageError.{MessageError}
-use Rattle.message_fields.specs.Fields.{records_in, payloads, int32_of, joined_payloads}
+use Rattle.message_fields.specs.Fields.{records_in, value_of_text, payloads, int32_of, joined_payloads}
+
+-- how many records a text spells
+abbrev pub record_count : List ℕ → Result ℕ WireError
+record_count text = records_of text >>= λ rs. Ok (length rs)
 
 -- the records so far, and those of one more payload
 abbrev pub with_records : Option (List Record) → List ℕ → Result (List Record) MessageError
@@ -14,6 +20,11 @@ unfoldable pub joined_records : Option (List Record) → List (List ℕ) →
     Result (Option (List Record)) MessageError
 joined_records so_far [] = Ok so_far
 joined_records so_far (b ∷ bs) = with_records so_far b >>= λ rs. joined_records (Some rs) bs
+
+-- the value of a message that is set by one payload
+abbrev pub value_of_one : {V : Type 0} → (List Record → Result V MessageError) → List ℕ →
+    Result (Option V) MessageError
+value_of_one value_of payload = value_of_text value_of payload >>= λ v. Ok (Some v)
 
 abbrev pub optional_value : {V : Type 0} → (List Record → Result V MessageError) →
     Option (List Record) → Result (Option V) MessageError

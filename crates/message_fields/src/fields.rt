@@ -2,25 +2,71 @@
 //!
 //! Unknown fields, and records of a known field with another wire type, are skipped.
 
-ghost use Rattle.std.specs.Prelude.{◌≡◌, ◌≢◌, ℕ, List, [], Result, Ok, Err, Option, None, Some, map, option_map, length, ◌++◌, ◌∷◌, IfOk};
+ghost use Rattle.std.specs.Prelude.{◌≡◌, ◌≢◌, ℕ, List, [], Result, Ok, Err, Option, None, Some, map, option_map, length, take, ◌≤◌, ◌++◌, ◌∷◌, IfOk, IfErr, IfSome};
 ghost use Rattle.std.specs.Option.{option_copied};
-ghost use Rattle.protobuf_wire.specs.Reading.{numbers_of};
+ghost use Rattle.protobuf_wire.specs.Results.{Gives};
+ghost use Rattle.protobuf_wire.specs.Reading.{numbers_of, records_of};
 ghost use Rattle.protobuf_wire.specs.Shown.{record_shown};
 ghost use Rattle.message_fields.specs.declared.error.MessageError.TheVariants.{NoMemory};
 ghost use Rattle.message_fields.specs.Answers.{Means, of_wire};
 ghost use Rattle.message_fields.specs.Fields.{records_in, number_in, payload_in, numbers, payloads, last_or, utf8, repeated_string, repeated_octets, string, octets, int64, int32, int32_of, flag, repeated_enum, record_numbers, bytes_as_sent};
-ghost use Rattle.message_fields.specs.Joining.{with_records, joined_records, with_numbers, payloads_after};
+ghost use Rattle.message_fields.specs.Joining.{record_count, with_records, joined_records, with_numbers, payloads_after};
 
 use crate::error::MessageError;
-use protobuf_wire::{Content, Field, PackedReader, Reader};
+use protobuf_wire::{Content, Field, PackedReader, Reader, WireError};
 use std::alloc::{AllocError, Global};
 
-/// The records that a text spells.
+/// The most records of a message that are read into no vector.
+pub(crate) const FEW: usize = 4;
+
+/// A place for a record.
+pub(crate) const BLANK: Field<'static> = Field {
+    number: 1,
+    content: Content::Varint(0),
+};
+
+/// The records of a text, in the first places, and how many there are; or `None` where there are
+/// more than places.
+pub(crate) fn read_few<'a>(
+    text: &'a [u8],
+    few: &mut [Field<'a>],
+) -> Result<Option<usize>, WireError>
+    ensures few { IfOk result (λ count. IfSome count (λ n. (n ≤ length few.new)
+        × (records_of text.now ≡ Ok (map record_shown (take n few.new))))) }
+    ensures fault { IfErr result (λ fault. records_of text.now ≡ Err fault) }
+{
+    let mut count = 0;
+    let mut reader = Reader::new(text);
+    while let Some(field) = reader.next()? {
+        if count >= few.len() {
+            return Ok(None);
+        }
+        few[count] = field;
+        count += 1;
+    }
+    Ok(Some(count))
+}
+
+/// How many records a text spells.
+#[tactic(auto, using(crate::proofs::Lists::counted_next))]
+fn record_count(text: &[u8]) -> Result<usize, WireError>
+    ensures { Gives (λ n. n) result (record_count text.now) }
+{
+    let mut count = 0;
+    let mut reader = Reader::new(text);
+    while let Some(_field) = reader.next()? {
+        count += 1;
+    }
+    Ok(count)
+}
+
+/// The records that a text spells, in a vector that is made with the room for them.
 #[tactic(auto, unfolding(crate::specs::Fields::records_in))]
 pub fn fields_of<'a>(alloc: Global, text: &'a [u8]) -> Result<Vec<Field<'a>>, MessageError>
     ensures { Means (λ v. map record_shown v.items) result (records_in text.now) }
 {
-    let mut fields = Vec::new(alloc);
+    let count = record_count(text)?;
+    let mut fields = Vec::with_capacity(alloc, count)?;
     let mut reader = Reader::new(text);
     while let Some(field) = reader.next()? {
         fields.push(field)?;
@@ -45,6 +91,22 @@ pub fn payload_of<'a>(entry: &Field<'a>, field: u32) -> Option<&'a [u8]>
         Content::Bytes(payload) if entry.number == field => Some(payload),
         _ => None,
     }
+}
+
+/// How many payloads a field has.
+#[tactic(auto, unfolding(crate::specs::Fields::payloads))]
+pub(crate) fn payload_count(records: &[Field<'_>], field: u32) -> usize
+    ensures { result ≡ length (payloads field (map record_shown records.now)) }
+{
+    let mut count = 0;
+    let mut left = records;
+    'records: while let [record, rest @ ..] = left {
+        if payload_of(record, field).is_some() {
+            count += 1;
+        }
+        left = rest;
+    }
+    count
 }
 
 #[tactic(auto, unfolding(crate::specs::Fields::numbers, crate::specs::Fields::last_or))]
@@ -142,7 +204,7 @@ pub fn repeated_string<'a>(
     ensures { Means (λ v. map (λ s. s.now) v.items) result
         (repeated_string field (map record_shown records.now)) }
 {
-    let mut texts = Vec::new(alloc);
+    let mut texts = Vec::with_capacity(alloc, payload_count(records, field))?;
     let mut left = records;
     'records: while let [record, rest @ ..] = left {
         if let Some(payload) = payload_of(record, field) {
@@ -163,7 +225,7 @@ pub fn repeated_octets<'a>(
     ensures { IfOk result (λ v. map (λ b. b.now) v.items
         ≡ repeated_octets field (map record_shown records.now)) }
 {
-    let mut all = Vec::new(alloc);
+    let mut all = Vec::with_capacity(alloc, payload_count(records, field))?;
     let mut left = records;
     'records: while let [record, rest @ ..] = left {
         if let Some(payload) = payload_of(record, field) {

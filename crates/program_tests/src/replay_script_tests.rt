@@ -2,6 +2,7 @@
 
 use script::replay::*;
 use server_events::{Event, Outcome, OutputFile, What};
+use std::alloc::Global;
 use std::test::*;
 
 fn is_file(file: &OutputFile, path: &str, content: &[u8]) -> bool {
@@ -47,9 +48,13 @@ fn is_failure(event: &Event) -> bool {
     }
 }
 
-fn are_outcomes(events: &[Event]) -> bool {
-    match events {
-        [first, second] => is_exit(first) && is_failure(second),
+fn are_outcomes(alloc: Global, events: &mut EventReader) -> bool {
+    match (
+        events.next_event(alloc),
+        events.next_event(alloc),
+        events.next_event(alloc),
+    ) {
+        (Ok(Some(first)), Ok(Some(second)), Ok(None)) => is_exit(&first) && is_failure(&second),
         _ => false,
     }
 }
@@ -58,8 +63,8 @@ fn are_outcomes(events: &[Event]) -> bool {
 fn outcomes(rt: HostRuntime) -> Result<(), Fail> {
     let text = b"exit 9 0 18446744073709551615 -2147483648 - 6f75 a/b=61 x=y=- =0000\nfail 9 0 3\n";
     let script = parse(rt.alloc(), text).ok().ok_or("a script")?;
-    let passed = are_outcomes(&script.events);
-    drop(script);
+    let mut events = script.events;
+    let passed = are_outcomes(rt.alloc(), &mut events);
     assert!(rt; passed);
     Ok(())
 }

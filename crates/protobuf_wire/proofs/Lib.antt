@@ -7,3 +7,4 @@ pub mod Texts
 pub mod Steps
 pub mod Refusals
 pub mod Fronts
+pub mod Written

@@ -1,5 +1,5 @@
 -- The canonical writing.
-use Rattle.std.specs.Prelude.{◌≡◌, ℕ, zero, suc, ◌+◌, ◌*◌, ◌/◌, ◌%◌, ◌^◌, ◌<◌, List, [], ◌∷◌, ◌++◌, length, nat_lt, ◌==◌, if◌then◌else◌}
+use Rattle.std.specs.Prelude.{◌≡◌, ℕ, zero, suc, ◌+◌, ◌-◌, ◌*◌, ◌/◌, ◌%◌, ◌^◌, ◌<◌, List, [], ◌∷◌, ◌++◌, length, nat_lt, ◌==◌, if◌then◌else◌}
 use Rattle.std.specs.List.{flat_map}
 use Rattle.protobuf_wire.specs.Record.{Value, Number, Eight, Payload, Four, Record}
 use Rattle.protobuf_wire.specs.Spelling.{wire_type}
@@ -46,6 +46,37 @@ bytes_field number bytes = if length bytes == 0 then [] else message_field numbe
 -- numbers in one record, or nothing where there are none
 abbrev pub packed_field : ℕ → List ℕ → List Record
 packed_field number ns = bytes_field number (packed_text ns)
+
+-- what stands before the payload in a record of a payload
+abbrev pub payload_head : ℕ → ℕ → List ℕ
+payload_head number count = varint (8 * number + 2) ++ varint count
+
+-- ---- what a writer has written
+
+-- a text; or nothing, where lengths alone are taken from a room of bytes
+pub data Written : Type 0 where
+  Text : List ℕ → Written
+  Room : ℕ → Written
+
+unfoldable pub followed_by : Written → List ℕ → Written
+followed_by (Text before) more = Text (before ++ more)
+followed_by (Room left) more = Room (left - length more)
+
+abbrev pub followed_by_records : Written → List Record → Written
+followed_by_records before rs = followed_by before (records_text rs)
+
+-- the room of a writer that measures
+abbrev pub whole_room : ℕ
+whole_room = 2 ^ 64 - 1
+
+-- the bytes that were written
+abbrev pub written_text : Written → List ℕ
+written_text (Text t) = t
+written_text (Room left) = []
+
+abbrev pub IsText : Written → Type 0
+IsText (Text t) = Unit {0}
+IsText (Room left) = ⊥
 
 -- ---- what can be written
 

@@ -158,8 +158,7 @@ fn is_written_again(alloc: Global) -> Result<bool, AllocError> {
     let Ok(decoded) = Size::decode(alloc, b"\x08\x09") else {
         return Ok(false);
     };
-    let mut out = Vec::new(alloc);
-    decoded.encode_into(&mut out)?;
+    let out = decoded.encode(alloc)?;
     Ok(out.as_slice() == b"\x08\x09".as_slice())
 }
 

@@ -1,4 +1,5 @@
 pub mod Texts
+pub mod Steps
 pub mod DigestsAgain
 pub mod FindMissingAgain
 pub mod StatusesAgain

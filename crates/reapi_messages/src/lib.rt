@@ -2,7 +2,7 @@
 //! read and written.
 //!
 //! Every message is a type with a `Message` impl. `decode` gives the meaning of a text, and
-//! `encode_into` adds the canonical text. Strings and bytes borrow from the text that was read.
+//! `encode` the canonical text. Strings and bytes borrow from the text that was read.
 //! Fields have the names of the proto files, but for `data`, which is `content` here. Fields that a
 //! type does not name are skipped.
 #![tactic(auto)]

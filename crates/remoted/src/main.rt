@@ -14,30 +14,29 @@ use std::net::{Ipv4Addr, SocketAddr, TcpStream};
 use std::process::ExitCode;
 use unary::unary;
 
-/// Carries out the script of calls of a file.
-fn unary_of_file<O: Write, E: Write>(
-    rt: &HostRuntime,
-    file: &str,
-    output: &mut O,
-    errors: &mut E,
-) -> io::Result<Status> {
-    match read_file(rt, file, errors)? {
-        Some(script) => Ok(unary(rt.alloc(), &mut script.as_slice(), output, errors)),
-        None => Ok(Status::Failed),
-    }
+/// What the lines of a script say.
+#[derive(Clone, Copy)]
+enum Script {
+    Calls,
+    Events,
 }
 
-/// Carries out the script of events of a file.
-fn replay_of_file<O: Write, E: Write>(
+/// Carries out the script of a file.
+fn carry_out_file<O: Write, E: Write>(
     rt: &HostRuntime,
+    script: Script,
     file: &str,
     output: &mut O,
     errors: &mut E,
 ) -> io::Result<Status> {
-    match read_file(rt, file, errors)? {
-        Some(script) => Ok(replay(rt.alloc(), &mut script.as_slice(), output, errors)),
-        None => Ok(Status::Failed),
-    }
+    let Some(text) = read_file(rt, file, errors)? else {
+        return Ok(Status::Failed);
+    };
+    let mut input = text.as_slice();
+    Ok(match script {
+        Script::Calls => unary(rt.alloc(), &mut input, output, errors),
+        Script::Events => replay(rt.alloc(), &mut input, output, errors),
+    })
 }
 
 /// Sends a request to a port of this host, and shows what comes back.
@@ -92,9 +91,11 @@ fn perform<O: Write, E: Write>(
     errors: &mut E,
 ) -> io::Result<u8> {
     let status = match task {
-        Task::Unary { file: Some(file) } => unary_of_file(rt, file, output, errors)?,
+        Task::Unary { file: Some(file) } => {
+            carry_out_file(rt, Script::Calls, file, output, errors)?
+        }
         Task::Unary { file: None } => unary(rt.alloc(), &mut rt.stdin(), output, errors),
-        Task::Replay { file } => replay_of_file(rt, file, output, errors)?,
+        Task::Replay { file } => carry_out_file(rt, Script::Events, file, output, errors)?,
         Task::Probe {
             port,
             send,

@@ -1,19 +1,17 @@
 -- What the outputs of a run print is what each instance prints alone.
-use Rattle.std.proofs.Common.{◌≡◌, ◌∙◌, ◌+◌, ◌<◌, ◌≤◌, ◌++◌, zero, suc, ℕ, List, [], ◌∷◌, length, map, Some, None, refl, sym, ap, ap₂, subst, arith}
+use Rattle.std.proofs.Common.{◌≡◌, ◌∙◌, ◌+◌, ◌-◌, ◌<◌, ◌≤◌, ◌++◌, zero, suc, ℕ, List, [], ◌∷◌, length, map, Some, None, refl, sym, ap, ap₂, subst, arith, append_assoc, append-nil, length-append}
 use Rattle.std.specs.Prelude.{◌^◌, Result, Ok, Err, IfOk}
 use Rattle.std.specs.declared.alloc.Global.{Global}
 use Rattle.std.specs.declared.vec.Vec.{Vec}
-use Rattle.run_record.specs.Outputs.{InstanceOutputValue}
-use Rattle.run_record.specs.Shown.{instance_output_shown}
-use Rattle.run_record.specs.declared.outputs.InstanceOutput.{InstanceOutput}
-use Rattle.script.specs.ReplayShown.{replay_script_value}
-use Rattle.script.specs.declared.replay.parser.ReplayScript.{ReplayScript}
+use Rattle.server_core.specs.Outputs.{InstanceOutputValue}
+use Rattle.server_core.specs.Shown.{instance_output_shown}
+use Rattle.server_core.specs.declared.outputs.InstanceOutput.{InstanceOutput}
+use Rattle.script.specs.ReplayScript.{ReplayScriptValue}
+use Rattle.server_core.specs.RunSoFar.{HasTaken, RunValue}
 use Rattle.server_core.specs.LoneOutput.{config_at, lone_output, strays}
 use Rattle.server_core.specs.Shown.{output_at}
 use Rattle.server_events.specs.Configs.{ConfigValue, config_fault}
 use Rattle.server_events.specs.Events.{EventValue, own_events}
-use Rattle.server_events.specs.Shown.{config_value, event_value}
-use Rattle.server_events.specs.declared.event.Event.{Event}
 use Rattle.server_events.proofs.FaultLemmas.{none_is_good}
 use Rattle.replay.specs.Printed.{lone_lines, output_lines, printed_text, stray_lines}
 use Rattle.replay.specs.Outputs.{outputs_lines}
@@ -46,28 +44,49 @@ all_alone configs events outputs count each =
     (λ i config at. let zeroth : 0 + i ≡ i = omega arith in each i config at ∙ ap (λ (j : ℕ). Some (lone_output config (own_events j events))) (sym zeroth))
 
 -- what the outputs of a script's run print
-pub printed_is : (script : ReplayScript) (configs : List ConfigValue) (events : List Event) (outputs : List InstanceOutput) (others : List ℕ)
-    → length outputs ≡ length configs
-    → ((i : ℕ) (config : ConfigValue) → config_at i configs ≡ Some config → output_at i outputs ≡ Some (lone_output config (own_events i (map event_value events))))
-    → others ≡ strays configs (map event_value events)
-    → configs ≡ map config_value script.configs.items → events ≡ script.events.items
-    → outputs_lines 0 (map instance_output_shown outputs) ++ stray_lines others ≡ printed_text (replay_script_value script)
-printed_is script configs events outputs others count each stray same_configs same_events =
-    ap₂ (λ (xs ys : List ℕ). xs ++ ys) (all_alone configs (map event_value events) outputs count each) (ap stray_lines stray)
-    ∙ ap₂ (λ (cs : List ConfigValue) (es : List Event). lone_lines 0 cs (map event_value es) ++ stray_lines (strays cs (map event_value es))) same_configs same_events
+pub printed_is : (script : ReplayScriptValue) (outputs : List InstanceOutput) (others : List ℕ)
+    → length outputs ≡ length script.configs
+    → ((i : ℕ) (config : ConfigValue) → config_at i script.configs ≡ Some config → output_at i outputs ≡ Some (lone_output config (own_events i script.events)))
+    → others ≡ strays script.configs script.events
+    → outputs_lines 0 (map instance_output_shown outputs) ++ stray_lines others ≡ printed_text script
+printed_is script outputs others count each stray =
+    ap₂ (λ (xs ys : List ℕ). xs ++ ys) (all_alone script.configs script.events outputs count each) (ap stray_lines stray)
 
 -- a server has few instances
 pub few : (configs : List ConfigValue) → config_fault configs ≡ None → length configs < 2 ^ 32
 few configs good = let limit = ((none_is_good configs).0 good).few in omega (arith, limit)
 
 -- the same of lines that were made, if they were
-pub lines_are : {E : Type 0} (r : Result (Vec ℕ Global) E) (script : ReplayScript) (configs : List ConfigValue) (events : List Event) (outputs : List InstanceOutput) (others : List ℕ)
-    → length outputs ≡ length configs
-    → ((i : ℕ) (config : ConfigValue) → config_at i configs ≡ Some config → output_at i outputs ≡ Some (lone_output config (own_events i (map event_value events))))
-    → others ≡ strays configs (map event_value events)
-    → configs ≡ map config_value script.configs.items → events ≡ script.events.items
+pub lines_are : {E : Type 0} (r : Result (Vec ℕ Global) E) (script : ReplayScriptValue) (outputs : List InstanceOutput) (others : List ℕ)
+    → length outputs ≡ length script.configs
+    → ((i : ℕ) (config : ConfigValue) → config_at i script.configs ≡ Some config → output_at i outputs ≡ Some (lone_output config (own_events i script.events)))
+    → others ≡ strays script.configs script.events
     → IfOk r (λ text. text.items ≡ outputs_lines 0 (map instance_output_shown outputs) ++ stray_lines others)
-    → IfOk r (λ text. text.items ≡ printed_text (replay_script_value script))
-lines_are (Err e) script configs events outputs others count each stray same_configs same_events made = tt
-lines_are (Ok text) script configs events outputs others count each stray same_configs same_events made =
-    made ∙ printed_is script configs events outputs others count each stray same_configs same_events
+    → IfOk r (λ text. text.items ≡ printed_text script)
+lines_are (Err e) script outputs others count each stray made = tt
+lines_are (Ok text) script outputs others count each stray made =
+    made ∙ printed_is script outputs others count each stray
+
+-- the events of a run so far, and those that are left, are all
+abbrev pub IsSoFar : List ConfigValue → List EventValue → List EventValue → RunValue → Type 0
+IsSoFar configs all left run = (done : List EventValue) × HasTaken configs done run × (done ++ left ≡ all)
+
+pub one_more : (configs : List ConfigValue) (all left rest : List EventValue) (e : EventValue) (before after : RunValue) → left ≡ e ∷ rest
+    → ((cs : List ConfigValue) (es : List EventValue) → HasTaken cs es before → HasTaken cs (es ++ e ∷ []) after)
+    → IsSoFar configs all left before → IsSoFar configs all rest after
+one_more configs all left rest e before after first step h =
+    (h.0 ++ e ∷ [], step configs h.0 h.1, append_assoc h.0 (e ∷ []) rest ∙ ap (λ es. h.0 ++ es) (sym first) ∙ h.2)
+
+-- there is room to count one more
+pub count_below : (configs : List ConfigValue) (all left rest : List EventValue) (e : EventValue) (run : RunValue) → left ≡ e ∷ rest
+    → length all ≤ 2 ^ 63 → IsSoFar configs all left run → run.count < 2 ^ 64 - 1
+count_below configs all left rest e run first few h =
+    let counted = h.1.count in
+    let long : length all ≡ length h.0 + length (e ∷ rest) = ap length (sym h.2) ∙ length-append h.0 left ∙ ap (λ es. length h.0 + length es) first in
+    omega (arith, counted, long, few)
+
+-- and at the end
+pub taken_all : (configs : List ConfigValue) (all left : List EventValue) (run : RunValue) → left ≡ [] → IsSoFar configs all left run → HasTaken configs all run
+taken_all configs all left run none h =
+    let same : h.0 ≡ all = sym (append-nil h.0) ∙ ap (λ es. h.0 ++ es) (sym none) ∙ h.2 in
+    subst (λ (es : List EventValue). HasTaken configs es run) same h.1

@@ -1,6 +1,6 @@
 -- What outputs print.
 use Rattle.std.specs.Prelude.{ℕ, ◌+◌, List, [], ◌∷◌, ◌++◌, map}
-use Rattle.run_record.specs.Outputs.{InstanceOutputValue}
+use Rattle.server_core.specs.Outputs.{InstanceOutputValue}
 use Rattle.replay.specs.Printed.{output_lines}
 
 -- what outputs of instances print, of which the first has this number

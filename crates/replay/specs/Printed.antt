@@ -3,7 +3,7 @@
 use Rattle.std.specs.Prelude.{ℕ, ◌+◌, List, [], ◌∷◌, ◌++◌, Result, Ok, Err}
 use Rattle.served_instance.specs.declared.refusal.EventRefusal.{EventRefusal}
 use Rattle.served_instance.specs.Codes.{code_of}
-use Rattle.run_record.specs.Outputs.{InstanceOutputValue}
+use Rattle.server_core.specs.Outputs.{InstanceOutputValue}
 use Rattle.server_core.specs.LoneOutput.{lone_output, strays}
 use Rattle.server_events.specs.Configs.{ConfigValue}
 use Rattle.server_events.specs.Events.{EventValue, own_events}

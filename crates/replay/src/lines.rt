@@ -1,12 +1,11 @@
 //! The lines of a run.
 ghost use Rattle.std.specs.Prelude.{◌≡◌, ◌≤◌, ◌<◌, ◌^◌, ◌++◌, length, vec_len, map, OnOk, IfOk};
-ghost use Rattle.run_record.specs.Shown.{sent_shown, refused_shown, instance_output_shown};
+ghost use Rattle.server_core.specs.Shown.{sent_shown, refused_shown, instance_output_shown};
 ghost use Rattle.replay.specs.Printed.{sent_lines, refusal_lines, output_lines, stray_lines};
 ghost use Rattle.replay.specs.Outputs.{outputs_lines};
 
-use run_record::{InstanceOutput, RefusedEvent, SentBytes};
 use script::replay_lines::{write_refusal, write_sent, write_stray};
-use server_core::Outputs;
+use server_core::{InstanceOutput, Outputs, RefusedEvent, SentBytes};
 use std::alloc::{AllocError, Global};
 
 fn write_all_sent(text: &mut Vec<u8>, instance: u32, sent: &[SentBytes]) -> Result<(), AllocError>

@@ -1,5 +1,5 @@
 //! A script, from its text to the status.
-ghost use Rattle.std.specs.Prelude.{◌≡◌, ◌≢◌, Ok, None, map, IfOk, IfErr, IfSome};
+ghost use Rattle.std.specs.Prelude.{◌≡◌, ◌≢◌, ◌≤◌, ◌^◌, ℕ, length, Ok, None, Some, map, IfOk, IfErr, IfSome};
 ghost use Rattle.std.specs.Io.KnownBytes.{Appends};
 ghost use Rattle.program_status.specs.Status.{fault_line};
 ghost use Rattle.program_status.specs.declared.Status.TheVariants.{Failed};
@@ -7,25 +7,48 @@ ghost use Rattle.replay.specs.Printed.{printed_text, text_printed_by};
 ghost use Rattle.replay.specs.Outcome.{IsOutcome};
 ghost use Rattle.script.specs.Faults.{IsFaultOf};
 ghost use Rattle.script.specs.ReplayShown.{replay_script_value};
-ghost use Rattle.server_events.specs.Configs.{config_fault};
+ghost use Rattle.server_core.specs.LoneOutput.{config_at, lone_output, strays};
+ghost use Rattle.server_core.specs.Shown.{output_at};
+ghost use Rattle.server_events.specs.Configs.{ConfigValue, config_fault};
+ghost use Rattle.server_events.specs.Events.{own_events};
 ghost use Rattle.server_events.specs.Shown.{config_value};
 
 use crate::lines::lines;
 use program_status::{Status, read_all};
 use script::ScriptFault;
-use script::replay::{ReplayScript, parse};
-use server_core::run;
+use script::replay::{EventReader, ReplayScript, parse};
+use server_core::{Outputs, ServerRun};
 use server_events::Configs;
 use std::alloc::{AllocError, Global};
 use std::io::{Read, Write};
 
+/// Runs a server through the events that are read.
+fn run(alloc: Global, configs: &Configs, mut events: EventReader) -> Result<Outputs, AllocError>
+    requires few { length events.entry ≤ 2 ^ 63 }
+    ensures alone { IfOk result (λ outputs. (i : ℕ) (config : ConfigValue)
+        → config_at i configs.now ≡ Some config
+        → output_at i outputs.instances.items
+        ≡ Some (lone_output config (own_events i events.entry))) }
+    ensures count { IfOk result (λ outputs. length outputs.instances.items
+        ≡ length configs.now) }
+    ensures strays { IfOk result (λ outputs. outputs.strays.items
+        ≡ strays configs.now events.entry) }
+{
+    let mut run = ServerRun::new(alloc, configs)?;
+    'events: while let Some(event) = events.next_event(alloc)? {
+        run = run.step(&event)?;
+    }
+    run.outputs(alloc)
+}
+
 /// Runs a script, and gives what it prints.
 fn carry_out(alloc: Global, script: ReplayScript) -> Result<Vec<u8>, AllocError>
-    requires { config_fault (map config_value script.configs.items) ≡ None }
-    ensures { IfOk result (λ text. text.items ≡ printed_text (replay_script_value script)) }
+    requires configs { config_fault (map config_value script.entry.configs.items) ≡ None }
+    requires few { length script.entry.events ≤ 2 ^ 63 }
+    ensures { IfOk result (λ text. text.items ≡ printed_text (replay_script_value script.entry)) }
 {
     let configs = Configs::new(script.configs).unwrap();
-    let outputs = run(alloc, &configs, &script.events)?;
+    let outputs = run(alloc, &configs, script.events)?;
     lines(alloc, &outputs)
 }
 

@@ -30,12 +30,20 @@ record IsHashText (text bytes : List ℕ) : Type 0 where
   bytes_are : IsBytes bytes
   clean : HasNoSlash text
 
-lower_clean : (text : List ℕ) → list_all is_lower_hex_digit text ≡ true → HasNoSlash text
-lower_clean [] h = tt
-lower_clean (byte ∷ text) h =
-    let parts = and_parts (is_lower_hex_digit byte) (list_all is_lower_hex_digit text) h in
-    let digit = parts.0 in
-    (grind (arith, nat_tests), lower_clean text parts.1)
+-- where no slash passes a test, a byte that does is none
+no_slash : (test : ℕ → Bool) → test 47 ≡ false → (byte : ℕ) → test byte ≡ true → (byte == 47) ≡ false
+no_slash test none byte passes = go (byte == 47) refl where
+  go : (b : Bool) → (byte == 47) ≡ b → b ≡ false
+  go false is = refl
+  go true is =
+      let same : byte ≡ 47 = grind (arith, nat_tests) in
+      sym passes ∙ ap test same ∙ none
+
+clean_of : (test : ℕ → Bool) → test 47 ≡ false → (text : List ℕ) → list_all test text ≡ true → HasNoSlash text
+clean_of test none [] h = tt
+clean_of test none (byte ∷ text) h =
+    let parts = and_parts (test byte) (list_all test text) h in
+    (no_slash test none byte parts.0, clean_of test none text parts.1)
 
 hash_found : (text bytes : List ℕ) → hash_in text ≡ Some bytes → IsHashText text bytes
 hash_found text bytes h = go (list_all is_lower_hex_digit text) (decode_sized text 32) refl refl h where
@@ -49,7 +57,7 @@ hash_found text bytes h = go (list_all is_lower_hex_digit text) (decode_sized te
       let digits = decode_sized-ok text 32 bytes sized in
       let read = decode_of-ok text bytes (sym (decode_sized-twice text 32 digits) ∙ sized) in
       let twice : length text ≡ 2 * length bytes = read.2 in
-      record { text_is = written.hash_is; size = omega arith; bytes_are = read.3; clean = lower_clean text lower }
+      record { text_is = written.hash_is; size = omega arith; bytes_are = read.3; clean = clean_of is_lower_hex_digit refl text lower }
   go true (Err e') lower is e = cc
   go false r lower is e = cc
 
@@ -71,13 +79,6 @@ record IsSizeText (text : List ℕ) (size : ℕ) : Type 0 where
   text_is : text ≡ decimal size
   most : size < 2 ^ 63
   clean : HasNoSlash text
-
-digits_clean : (text : List ℕ) → list_all is_decimal_digit text ≡ true → HasNoSlash text
-digits_clean [] h = tt
-digits_clean (byte ∷ text) h =
-    let parts = and_parts (is_decimal_digit byte) (list_all is_decimal_digit text) h in
-    let digit = parts.0 in
-    (grind (arith, nat_tests), digits_clean text parts.1)
 
 own : IsNumeralModel (AllDigits 10) (digits_value 10)
 own = numerals_by_value (AllDigits 10) tells_digits
@@ -102,7 +103,7 @@ size_found text size h = go (is_numeral text) (nat_lt (digits_value 10 text) (2 
       let below : digits_value 10 text < 2 ^ 63 = grind (arith, nat_tests) in
       let digits = numeral_digits text numeral in
       let written : decimal (digits_value 10 text) ≡ text = decimal-digits_value own text (AllDigits-from_list_all text digits.1) digits.0 (leading text numeral) (omega arith) in
-      record { text_is = sym written ∙ ap decimal same; most = rw (← same) below; clean = digits_clean text digits.1 }
+      record { text_is = sym written ∙ ap decimal same; most = rw (← same) below; clean = clean_of is_decimal_digit refl text digits.1 }
   go true false numeral fits e = cc
   go false b numeral fits e = cc
 

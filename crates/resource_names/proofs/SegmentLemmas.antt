@@ -65,25 +65,35 @@ get-front : (front rest : List ℕ) (byte : ℕ) → get_or (front ++ byte ∷ r
 get-front [] rest byte = refl
 get-front (first ∷ front) rest byte = get-front front rest byte
 
+-- a text with a slash before what is left of it: what stands before that slash
+record HasFront (text front rest : List ℕ) (start : ℕ) : Type 0 where
+  whole : text ≡ front ++ 47 ∷ rest
+  place : start - 1 ≡ length front
+  within : start - 1 ≤ length text
+
+has_front : (text rest first : List ℕ) (firsts : List (List ℕ)) (start : ℕ) → segments_of text ≡ (first ∷ firsts) ++ segments_of rest
+    → start ≡ length text - length rest → HasFront text (join_with_byte 47 (first ∷ firsts)) rest start
+has_front text rest first firsts start h is =
+    let front = join_with_byte 47 (first ∷ firsts) in
+    let whole : text ≡ front ++ 47 ∷ rest = rest-after text rest first firsts h in
+    let e = ap length whole in
+    let n = length-append front (47 ∷ rest) in
+    record { whole = whole; place = omega arith; within = omega arith }
+
+some_passed : (text rest : List ℕ) (start : ℕ) → segments_of text ≡ segments_of rest → start ≡ length text - length rest → (start ≡ 0 → ⊥) → ⊥
+some_passed text rest start h is some = let e = ap length (rest-alone text rest h) in some (omega arith)
+
 -- otherwise the segments passed, joined, are what stands before the last slash before it
 pub joined_segments-some : (text rest : List ℕ) (passed : List (List ℕ)) (start : ℕ) → segments_of text ≡ passed ++ segments_of rest
     → start ≡ length text - length rest → (start ≡ 0 → ⊥) → joined_segments passed ≡ Some (take (start - 1) text)
-joined_segments-some text rest [] start h is some = let e = ap length (rest-alone text rest h) in absurd (some (omega arith))
+joined_segments-some text rest [] start h is some = absurd (some_passed text rest start h is some)
 joined_segments-some text rest (first ∷ firsts) start h is some =
-    let front = join_with_byte 47 (first ∷ firsts) in
-    let whole : text ≡ front ++ 47 ∷ rest = rest-after text rest first firsts h in
-    let e = ap length whole in
-    let n = length-append front (47 ∷ rest) in
-    let place : start - 1 ≡ length front = omega arith in
-    ap Some (sym (rw (place, whole) (take-front front (47 ∷ rest))))
+    let f = has_front text rest first firsts start h is in
+    ap Some (sym (rw (f.place, f.whole) (take-front (join_with_byte 47 (first ∷ firsts)) (47 ∷ rest))))
 
 pub slash-before : (text rest : List ℕ) (passed : List (List ℕ)) (start : ℕ) → segments_of text ≡ passed ++ segments_of rest
     → start ≡ length text - length rest → (start ≡ 0 → ⊥) → (start - 1 ≤ length text) × (get_or text (start - 1) 0 ≡ 47)
-slash-before text rest [] start h is some = let e = ap length (rest-alone text rest h) in absurd (some (omega arith))
+slash-before text rest [] start h is some = absurd (some_passed text rest start h is some)
 slash-before text rest (first ∷ firsts) start h is some =
-    let front = join_with_byte 47 (first ∷ firsts) in
-    let whole : text ≡ front ++ 47 ∷ rest = rest-after text rest first firsts h in
-    let e = ap length whole in
-    let n = length-append front (47 ∷ rest) in
-    let place : start - 1 ≡ length front = omega arith in
-    (omega arith, rw (place, whole) (get-front front rest 47))
+    let f = has_front text rest first firsts start h is in
+    (f.within, rw (f.place, f.whole) (get-front (join_with_byte 47 (first ∷ firsts)) rest 47))

@@ -35,14 +35,14 @@ use Rattle.served_instance.specs.Connections.{LoneConnection, is_open_at, open_a
 use Rattle.served_instance.specs.Calls.{call_event_on, items_of, with_items}
 use Rattle.served_instance.specs.Lone.{Lone, after_replies, after_call_event, after_call_events, due_at, without_due, after_frame_on, is_over, after_frames_on, after_fault_on, after_end_on, unread_frames, after_reading_on, after_bytes_on, after_opening, after_closing, effect_of, after_pump, lone_at_moment, after_event, new_lone}
 use Rattle.served_instance.specs.Refusals.{refusal_of, after_event_unless, lone_step}
-use Rattle.run_record.specs.Runs.{Run, run_step}
+use Rattle.server_core.specs.Runs.{Run, run_step}
 use Rattle.client_reading.specs.Answerable.{IsAnswerableStream, CanGoOn}
 use Rattle.client_reading.specs.Changes.{IsReceivable, IsPast}
 use Rattle.client_reading.proofs.Answerable.{calls_answerable, requests_answerable}
 use Rattle.client_reading.proofs.Choices.{choose, all_append, all_by}
 use Rattle.client_reading.proofs.Pasts.{frames_received}
-use Rattle.run_limits.proofs.Brought.{IsShortCall, short_on, frame_short}
-use Rattle.run_reading.specs.Connections.{HasPast, ArePasts}
+use Rattle.server_core.proofs.Brought.{IsShortCall, short_on, frame_short}
+use Rattle.run_reading.proofs.Connections.{HasPast, ArePasts}
 use Rattle.run_reading.specs.Happenings.{Happening, MomentCame, TimePassed, place_of, call_happenings, due_happenings, answer_happenings, request_happenings, frame_happenings, happenings_of_frames, fault_happenings, end_happenings, reading_happenings, happenings_of_bytes, close_happenings, happenings_by, happenings_unless, step_happenings, happenings}
 use Rattle.run_reading.specs.Replies.{GivenItems, given_items_at, state_after_happening, given_items_from}
 use Rattle.run_reading.proofs.Lifts.{frame_made, fault_made, acted_made, pumped_made, bytes_made, all_drop}

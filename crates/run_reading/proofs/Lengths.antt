@@ -7,18 +7,16 @@ use Rattle.std.proofs.lemmas.Bool.Decides.{nat_tests}
 use Rattle.grpc_sending.specs.Owed.{OwedItem, Item, Headed, Message, Range, item_on, items_owed_on}
 use Rattle.grpc_sending.specs.Pieces.{most_read, length_text, read_message}
 use Rattle.conn_core.proofs.Numbers.{same_number}
-use Rattle.instance_core.specs.Calls.{tick}
 use Rattle.instance_core.specs.Replies.{ReplyItemValue, begins, says, gives, ends, refuses, ReplyValue, IsShortItem as IsShortReplyItem, IsShortReply}
-use Rattle.instance_core.specs.Answer.{answer, state_after}
-use Rattle.instance_core.specs.State.{InstanceState, WithinLimits, at_moment}
+use Rattle.instance_core.specs.Answer.{answer}
+use Rattle.instance_core.specs.State.{InstanceState, WithinLimits}
 use Rattle.instance_core.proofs.Events.{replies_short}
 use Rattle.served_instance.specs.Calls.{item_of, items_of}
 use Rattle.client_reading.specs.Responses.{WholeMessage, IsWithin, messages_cut, read_messages, IsItemWithin, IsTakable}
 use Rattle.client_reading.proofs.Choices.{choose, all_append}
-use Rattle.run_limits.proofs.Calls.{after_keeps}
-use Rattle.run_reading.specs.Happenings.{Happening, MomentCame, TimePassed, RequestAnswered, CallEventCame}
+use Rattle.run_reading.specs.Happenings.{Happening}
 use Rattle.run_reading.specs.Replies.{GivenItems, items_of_reply, given_items_from, items_given, items_on, longest_message}
-use Rattle.run_reading.proofs.Named.{IsShortItem, IsShortHappening, moment_within}
+use Rattle.run_reading.proofs.Named.{IsShortItem, IsShortHappening, all_given}
 
 at_most : (n m : ℕ) → n < 2 ^ 32 → 2 ^ 32 ≡ suc m → n ≤ m
 at_most n m small is = omega (arith, is, small)
@@ -84,13 +82,7 @@ replies_within place [] h = tt
 replies_within place (r ∷ rs) h = (reply_items_within r.items h.0, replies_within place rs h.1)
 
 pub given_within : (s : InstanceState) (hs : List Happening) → AllByRecursion IsShortHappening hs → WithinLimits s → AreWithin (given_items_from s hs)
-given_within s [] short w = tt
-given_within s (MomentCame moment ∷ hs) short w = given_within (at_moment moment s) hs short.1 (moment_within moment s w)
-given_within s (TimePassed ∷ hs) short w = given_within (state_after s tick) hs short.1 (after_keeps s tick tt w)
-given_within s (RequestAnswered place stream item ∷ hs) short w = ((item_within item short.0, tt), given_within s hs short.1 w)
-given_within s (CallEventCame place event ∷ hs) short w =
-    all_append IsGivenWithin (map (items_of_reply place) (answer s event).replies) (given_items_from (state_after s event) hs)
-    (replies_within place (answer s event).replies (replies_short s event w)) (given_within (state_after s event) hs short.1 (after_keeps s event short.0 w))
+given_within s hs short w = all_given (IsItemWithin longest_message) item_within (λ place t event v. replies_within place (answer t event).replies (replies_short t event v)) s hs short w
 
 pub items_within : (place s : ℕ) (gs : List GivenItems) → AreWithin gs → AllByRecursion (IsItemWithin longest_message) (items_on place s gs)
 items_within place s [] h = tt

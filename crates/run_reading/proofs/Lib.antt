@@ -1,3 +1,4 @@
+mod Connections
 pub mod Lifts
 pub mod Owes
 pub mod Answers

@@ -25,7 +25,7 @@ use Rattle.client_reading.specs.Changes.{IsReceivable, IsPast, BytesReceived, Fr
 use Rattle.client_reading.proofs.Choices.{choose, all_append, all_by}
 use Rattle.client_reading.proofs.Pasts.{first_past, next_past, past_read, frames_received}
 use Rattle.client_reading.specs.Reads.{Reads}
-use Rattle.run_reading.specs.Connections.{ArePasts}
+use Rattle.run_reading.proofs.Connections.{ArePasts}
 
 abbrev Keeps : (Past → Past) → Type 0
 Keeps step = (p : Past) → IsPast p → IsPast (step p)

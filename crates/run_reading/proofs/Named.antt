@@ -38,8 +38,8 @@ use Rattle.instance_core.specs.Calls.{ProgressValue, waits, has, writes, CallVal
 use Rattle.instance_core.specs.State.{InstanceState, WithinLimits, most_blobs, at_moment}
 use Rattle.served_instance.specs.Calls.{item_of, items_of as items_owed}
 use Rattle.client_reading.proofs.Choices.{all_append}
-use Rattle.run_limits.proofs.Calls.{after_keeps}
-use Rattle.run_reading.specs.Replies.{items_of_reply, given_items_from}
+use Rattle.server_core.proofs.Calls.{after_keeps}
+use Rattle.run_reading.specs.Replies.{GivenItems, items_of_reply, given_items_from}
 use Rattle.run_reading.specs.Happenings.{Happening, MomentCame, TimePassed, RequestAnswered, CallEventCame}
 use Rattle.run_reading.specs.Named.{Answering, answerings, Request, whole_request, request_at, bytes_from, IsNamedRange, AreNamed, IsNamedBatch, IsNamedTreePage, IsNamedItem, ServesNamed, IsNamedGift, GivesNamed}
 
@@ -295,11 +295,17 @@ request_gift (Headed block) h = tt
 request_gift (Message bytes) h = tt
 request_gift (Range digest text from count) h = absurd h
 
+-- what holds of each item that is given within the limits, holds of all
+pub all_given : (P : Item → Type 0) → ((item : Item) → IsShortItem item → P item)
+    → ((place : ℕ) (t : InstanceState) (event : CallEventValue) → WithinLimits t → AllByRecursion (λ (g : GivenItems). AllByRecursion P g.items) (map (items_of_reply place) (answer t event).replies))
+    → (s : InstanceState) (hs : List Happening) → AllByRecursion IsShortHappening hs → WithinLimits s → AllByRecursion (λ (g : GivenItems). AllByRecursion P g.items) (given_items_from s hs)
+all_given P one replies s [] short w = tt
+all_given P one replies s (MomentCame moment ∷ hs) short w = all_given P one replies (at_moment moment s) hs short.1 (moment_within moment s w)
+all_given P one replies s (TimePassed ∷ hs) short w = all_given P one replies (state_after s tick) hs short.1 (after_keeps s tick tt w)
+all_given P one replies s (RequestAnswered place stream item ∷ hs) short w = ((one item short.0, tt), all_given P one replies s hs short.1 w)
+all_given P one replies s (CallEventCame place event ∷ hs) short w =
+    all_append (λ (g : GivenItems). AllByRecursion P g.items) (map (items_of_reply place) (answer s event).replies) (given_items_from (state_after s event) hs)
+    (replies place s event w) (all_given P one replies (state_after s event) hs short.1 (after_keeps s event short.0 w))
+
 pub all_gifts : (s : InstanceState) (hs : List Happening) → AllByRecursion IsShortHappening hs → WithinLimits s → AllByRecursion GivesNamed (given_items_from s hs)
-all_gifts s [] short w = tt
-all_gifts s (MomentCame moment ∷ hs) short w = all_gifts (at_moment moment s) hs short.1 (moment_within moment s w)
-all_gifts s (TimePassed ∷ hs) short w = all_gifts (state_after s tick) hs short.1 (after_keeps s tick tt w)
-all_gifts s (RequestAnswered place stream item ∷ hs) short w = ((request_gift item short.0, tt), all_gifts s hs short.1 w)
-all_gifts s (CallEventCame place event ∷ hs) short w =
-    all_append GivesNamed (map (items_of_reply place) (answer s event).replies) (given_items_from (state_after s event) hs)
-    (replies_gifts s (request_at s event) place (answer s event).replies (serves_named s event w)) (all_gifts (state_after s event) hs short.1 (after_keeps s event short.0 w))
+all_gifts s hs short w = all_given IsNamedGift request_gift (λ place t event v. replies_gifts t (request_at t event) place (answer t event).replies (serves_named t event v)) s hs short w

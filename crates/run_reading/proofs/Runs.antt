@@ -5,13 +5,13 @@ use Rattle.std.specs.List.{AllByRecursion}
 use Rattle.server_events.specs.Configs.{ConfigValue}
 use Rattle.server_events.specs.Events.{EventValue}
 use Rattle.served_instance.specs.Connections.{LoneConnection}
-use Rattle.run_record.specs.Runs.{new_run, run_of}
-use Rattle.run_limits.proofs.Runs.{run_within}
+use Rattle.server_core.specs.Runs.{new_run, run_of}
+use Rattle.server_core.proofs.Limits.{run_within}
 use Rattle.grpc_sending.specs.Owed.{Item}
 use Rattle.client_reading.specs.Responses.{IsItemWithin, IsTakable, IsBeginning, stream_parts, response_of}
 use Rattle.client_reading.specs.Reads.{Reads}
 use Rattle.client_reading.proofs.Pasts.{past_read}
-use Rattle.run_reading.specs.Connections.{HasPast}
+use Rattle.run_reading.proofs.Connections.{HasPast}
 use Rattle.run_reading.specs.Replies.{GivenItems, state_after_happening, items_on, longest_message, ReadsText, AreRead, new_instance_of, run_happenings, run_given_items}
 use Rattle.run_reading.specs.Named.{ServesNamed, run_answerings, GivesNamed}
 use Rattle.run_reading.proofs.Owes.{OwedFrom}

@@ -31,7 +31,7 @@ use Rattle.served_instance.specs.Connections.{LoneConnection, is_open_at, open_a
 use Rattle.served_instance.specs.Calls.{call_event_on, items_of, with_items}
 use Rattle.served_instance.specs.Lone.{Lone, after_replies, after_call_event, after_call_events, due_at, without_due, after_due_on, after_frame_on, is_over, after_frames_on, after_fault_on, after_end_on, unread_frames, after_reading_on, after_bytes_on, effect_of, lone_at_moment}
 use Rattle.served_instance.specs.Refusals.{refusal_of, after_event_unless}
-use Rattle.run_record.specs.Runs.{Run, run_step}
+use Rattle.server_core.specs.Runs.{Run, run_step}
 use Rattle.client_reading.proofs.Choices.{choose, all_append}
 use Rattle.client_reading.proofs.Nexts.{pump_keeps}
 use Rattle.run_reading.specs.Replies.{ReadsText}

@@ -1,4 +1,3 @@
-pub mod Connections
 pub mod Happenings
 pub mod Replies
 pub mod Named

@@ -19,7 +19,7 @@ use Rattle.server_events.specs.Events.{EventValue}
 use Rattle.served_instance.specs.Connections.{LoneConnection}
 use Rattle.served_instance.specs.Calls.{items_of}
 use Rattle.served_instance.specs.Lone.{new_lone}
-use Rattle.run_record.specs.Runs.{run_of}
+use Rattle.server_core.specs.Runs.{run_of}
 use Rattle.client_reading.specs.Changes.{IsPast}
 use Rattle.client_reading.specs.Responses.{stream_parts, response_of, IsBeginning}
 use Rattle.client_reading.specs.Reads.{Reads}

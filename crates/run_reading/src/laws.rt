@@ -1,11 +1,12 @@
 //! What holds of every run of an instance by itself.
 
-ghost use Rattle.std.specs.Prelude.{◌≡◌, ◌≤◌, ◌^◌, List, map};
+ghost use Rattle.std.specs.Prelude.{◌≡◌, ◌≤◌, List, map};
 ghost use Rattle.std.specs.List.{AllByRecursion};
 ghost use Rattle.server_events.specs.Configs.{ConfigValue};
 ghost use Rattle.server_events.specs.Events.{EventValue};
+ghost use Rattle.server_events.specs.Instance.{quota_limit};
 ghost use Rattle.served_instance.specs.Lone.{sent_bytes_on};
-ghost use Rattle.run_record.specs.Runs.{run_of};
+ghost use Rattle.server_core.specs.Runs.{run_of};
 ghost use Rattle.server_core.specs.LoneOutput.{lone_output};
 ghost use Rattle.run_reading.specs.Replies.{run_connections, run_given_items, run_state, AreRead};
 ghost use Rattle.run_reading.specs.Named.{run_answerings, ServesNamed, GivesNamed};
@@ -16,7 +17,7 @@ ghost use Rattle.run_reading.specs.Named.{run_answerings, ServesNamed, GivesName
 pub fn replies_are_read()
     ensures sent { (config : ConfigValue) (events : List EventValue)
         → (lone_output config events).sent ≡ map sent_bytes_on (run_connections config events) }
-    ensures read { (config : ConfigValue) (events : List EventValue) → config.quota ≤ 2 ^ 40
+    ensures read { (config : ConfigValue) (events : List EventValue) → config.quota ≤ quota_limit
         → AreRead 0 (run_given_items config events) (run_connections config events) }
 {}
 
@@ -37,8 +38,8 @@ pub fn replies_are_the_instances()
 /// tree's list names. A reply to GetActionResult is the result that the instance itself has of the
 /// action, and each blob that it names is there (remote_execution.proto).
 pub fn blobs_served_are_named()
-    ensures answers { (config : ConfigValue) (events : List EventValue) → config.quota ≤ 2 ^ 40
+    ensures answers { (config : ConfigValue) (events : List EventValue) → config.quota ≤ quota_limit
         → AllByRecursion ServesNamed (run_answerings config events) }
-    ensures streams { (config : ConfigValue) (events : List EventValue) → config.quota ≤ 2 ^ 40
+    ensures streams { (config : ConfigValue) (events : List EventValue) → config.quota ≤ quota_limit
         → AllByRecursion GivesNamed (run_given_items config events) }
 {}

@@ -1,7 +1,9 @@
 pub mod ConfigLemmas
+pub mod EntryLemmas
 pub mod EventForms
 pub mod FileForms
 pub mod FirstLemmas
+pub mod HeadLemmas
 pub mod HexadecimalLemmas
 pub mod LineLemmas
 pub mod NumberForms

@@ -1,5 +1,5 @@
 -- Each good line leaves good instances, and commands for them.
-use Rattle.std.proofs.Common.{◌≡◌, ◌≢◌, ℕ, ◌<◌, ◌≤◌, ◌==◌, Bool, true, false, ◌&&◌, cond, List, [], ◌∷◌, ◌++◌, length, map, vec_len, get_or, Option, Some, None, Ok, codes, sym, ◌∙◌, arith}
+use Rattle.std.proofs.Common.{◌≡◌, ◌≢◌, ℕ, ◌<◌, ◌≤◌, ◌==◌, Bool, true, false, ◌&&◌, cond, List, [], ◌∷◌, ◌++◌, length, map, vec_len, get_or, Option, Some, None, Ok, codes, ap, sym, ◌∙◌, arith}
 use Rattle.std.proofs.lemmas.Bool.{and_parts}
 use Rattle.std.proofs.lemmas.Bool.Decides.{nat_tests}
 use Rattle.std.proofs.lemmas.List.{get_or-map, length-map, length_push}
@@ -10,8 +10,12 @@ use Rattle.std.proofs.lemmas.Slice.Eq.{bytes_eq-Decides}
 use Rattle.std.specs.List.{All, position_or_len}
 use Rattle.std.specs.Prelude.{nat_lt, nat_le, is_none, option_map, option_and_then}
 use Rattle.std.specs.Str.{bytes_eq}
-use Rattle.script.specs.declared.unary.command.UnaryScript.{UnaryScript}
-use Rattle.script.specs.UnaryShown.{unary_script_value, command_value}
+use Rattle.std.specs.declared.alloc.Global.{Global}
+use Rattle.std.specs.declared.vec.Vec.{Vec}
+use Rattle.script.specs.declared.unary.command.Instance.{Instance}
+use Rattle.script.specs.declared.unary.parser.UnaryLines.{UnaryLines}
+use Rattle.script.specs.UnaryShown.{command_value, entry_value, instance_value}
+use Rattle.script.specs.UnaryLinesRead.{lines_value}
 use Rattle.script.specs.Hexadecimal.{bytes_of_hex}
 use Rattle.decimals.specs.Number.{decimal_of}
 use Rattle.script.specs.Parts.{words_of, lines_of}
@@ -180,13 +184,15 @@ pub IsWellFormed-unary_script_of : (text : List ℕ) (script : UnaryScriptValue)
 IsWellFormed-unary_script_of text script read =
     IsWellFormed-Leads empty_unary_script script (lines_of text) IsWellFormed-empty_unary_script (Leads-from_Ok after_unary_line 1 empty_unary_script script (lines_of text) read)
 
--- the same of a script as its types show it
-pub KnowsInstances-shown : (script : UnaryScript) → KnowsInstances (unary_script_value script)
-    → All (λ command. instance_place (command_value command) < vec_len script.instances) script.commands.items
-KnowsInstances-shown script h k d lt =
-    let within : k < length (map command_value script.commands.items) = rw length-map lt in
+-- the same of commands and instances as their types show them
+pub KnowsInstances-read : (lines : UnaryLines) (instances : Vec Instance Global) → map instance_value instances.items ≡ map entry_value lines.quotas.entries
+    → KnowsInstances (lines_value lines) → All (λ command. instance_place (command_value command) < vec_len instances) lines.commands.items
+KnowsInstances-read lines instances same h k d lt =
+    let commands = lines.commands.items in
+    let within : k < length (map command_value commands) = rw length-map lt in
     let shown = h k (command_value d) within in
-    let same = get_or-map command_value script.commands.items k d (command_value d) lt in
-    let known = rw (same, length-map) at shown in
-    let counted = script.instances.ok in
-    omega (arith, known, counted)
+    let here = get_or-map command_value commands k d (command_value d) lt in
+    let many : length instances.items ≡ length (map entry_value lines.quotas.entries) = sym (length-map instances.items instance_value) ∙ ap length same in
+    let known = rw here at shown in
+    let counted = instances.ok in
+    omega (arith, known, many, counted)

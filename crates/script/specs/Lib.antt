@@ -1,14 +1,17 @@
 pub mod Arguments
+pub mod EventLines
 pub mod Faults
 pub mod FirstBadLine
 pub mod Hexadecimal
 pub mod Method
 pub mod Parts
 pub mod ReplayEvents
+pub mod ReplayHead
 pub mod ReplayLines
 pub mod ReplayScript
 pub mod ReplayShown
 pub mod ResultLines
 pub mod UnaryLines
+pub mod UnaryLinesRead
 pub mod UnaryScript
 pub mod UnaryShown

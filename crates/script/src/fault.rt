@@ -1,5 +1,6 @@
 //! Why a script was not read.
 ghost use Rattle.std.specs.Prelude.{◌≡◌};
+ghost use Rattle.script.specs.declared.fault.ScriptFault.{ScriptFault};
 ghost use Rattle.script.specs.declared.fault.LineFault.TheVariants.{NoMemory};
 
 use std::alloc::{AllocError, AllocFailed};
@@ -11,6 +12,14 @@ pub enum ScriptFault {
     BadLine(u64),
     /// Memory for the script was refused.
     NoMemory,
+}
+
+impl From<AllocError> for ScriptFault {
+    ghost from_gives = { λ _ e. e ≡ ScriptFault.NoMemory };
+
+    fn from(_refused: AllocError) -> ScriptFault {
+        ScriptFault::NoMemory
+    }
 }
 
 /// Why a line was not read.

@@ -61,8 +61,8 @@ pub fn words(line: &[u8]) -> Parts<'_>
     }
 }
 
-// What stands before the first separator, and what follows it where there is one.
-fn first_part(text: &[u8], separator: u8) -> (&[u8], Option<&[u8]>)
+/// What stands before the first separator, and what follows it where there is one.
+pub(crate) fn first_part(text: &[u8], separator: u8) -> (&[u8], Option<&[u8]>)
     ensures { parts_of separator text.now ≡ result.0.now ∷ parts_left separator result.1 }
 {
     match text.iter().position(|byte| *byte == separator) {

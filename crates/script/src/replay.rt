@@ -20,5 +20,7 @@ mod event;
 pub mod laws;
 mod output;
 mod parser;
+mod reader;
 
 pub use crate::replay::parser::{ReplayScript, parse};
+pub use crate::replay::reader::EventReader;

@@ -8,7 +8,7 @@ use Rattle.std.proofs.lemmas.List.Sums.{fold_push}
 use Rattle.std.proofs.lemmas.Option.{none-some, same_Some}
 use Rattle.server_events.specs.Configs.{ConfigValue}
 use Rattle.server_events.specs.Events.{EventValue, tick}
-use Rattle.run_record.specs.Runs.{Run, run_of, run_step}
+use Rattle.server_core.specs.Runs.{Run, run_of, run_step}
 use Rattle.served_instance.specs.Lone.{Lone}
 use Rattle.served_instance.specs.Refusals.{lone_step}
 use Rattle.serve.specs.SocketEvents.{SocketEvent, PortEvent, clock, port, what_of, moment_after, moment_of, events_for, events_from, events_of, lone_of}

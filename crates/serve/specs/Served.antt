@@ -68,6 +68,21 @@ abbrev pub IsAfter : {A E : Type 0} → Result A E → List ConfigValue → Opti
 IsAfter (Ok x) configs happened vs m = IsServing configs happened vs m
 IsAfter (Err e) configs happened vs m = WasServed configs happened
 
+-- whatever instances a server served by what had happened, it serves by what has happened now
+abbrev pub KeepsServing : {A E : Type 0} → Result A E →
+    Option (List SocketEvent) → List ServedState → ℕ →
+    Option (List SocketEvent) → List ServedState → ℕ → Type 0
+KeepsServing result old vs m new ws n =
+    (configs : List ConfigValue) → IsServing configs old vs m → IsAfter result configs new ws n
+
+-- the same of so many instances at most
+abbrev pub KeepsServingAtMost : {A E : Type 0} → ℕ → Result A E →
+    Option (List SocketEvent) → List ServedState → ℕ →
+    Option (List SocketEvent) → List ServedState → ℕ → Type 0
+KeepsServingAtMost most result old vs m new ws n =
+    (configs : List ConfigValue) → length configs ≤ most →
+    IsServing configs old vs m → IsAfter result configs new ws n
+
 -- an instance takes an event, and no other changes
 pub record Takes (e : EventValue) (vs ws : List ServedState) : Type 0 where
   pub own : (l : Lone) → StandsAt e.instance vs l → StandsAt e.instance ws (lone_step e l)

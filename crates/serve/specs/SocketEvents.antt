@@ -4,7 +4,7 @@ use Rattle.std.specs.Option.{option_map}
 use Rattle.server_events.specs.Configs.{ConfigValue}
 use Rattle.server_events.specs.Events.{EventValue, WhatValue, opened, received, took, closed, tick}
 use Rattle.served_instance.specs.Lone.{Lone}
-use Rattle.run_record.specs.Runs.{run_of}
+use Rattle.server_core.specs.Runs.{run_of}
 use Rattle.serve.specs.declared.sockets.Socket.{Socket}
 
 -- at a port a connection was accepted under a number; these bytes were read from it; these were

@@ -1,9 +1,8 @@
 //! What is moved between one connection's socket and the server.
 
-ghost use Rattle.std.specs.Prelude.{◌≡◌, List, OnOk, Ok, Err, true};
-ghost use Rattle.server_events.specs.Configs.{ConfigValue};
+ghost use Rattle.std.specs.Prelude.{◌≡◌, OnOk, Ok, Err, true};
 ghost use Rattle.server_events.specs.Shown.{what_value};
-ghost use Rattle.serve.specs.Served.{Takes, IsServing, IsAfter};
+ghost use Rattle.serve.specs.Served.{Takes, KeepsServing};
 
 use crate::sockets::{Socket, Sockets, is_not_ready};
 use served_instance::EventRefusal;
@@ -53,9 +52,9 @@ fn receive<S: Sockets>(
     socket: Socket,
     room: &mut [u8],
 ) -> Result<Tried, AllocError>
-    ensures serving { (configs : List ConfigValue)
-        → IsServing configs (S.happened sockets.old) server.old.instances moment
-        → IsAfter result configs (S.happened sockets.new) server.new.instances moment }
+    ensures serving { KeepsServing result
+        (S.happened sockets.old) server.old.instances moment
+        (S.happened sockets.new) server.new.instances moment }
 {
     match sockets.read(socket, room) {
         Ok(count) => {
@@ -81,9 +80,9 @@ fn send<S: Sockets>(
     moment: u64,
     socket: Socket,
 ) -> Result<Tried, AllocError>
-    ensures serving { (configs : List ConfigValue)
-        → IsServing configs (S.happened sockets.old) server.old.instances moment
-        → IsAfter result configs (S.happened sockets.new) server.new.instances moment }
+    ensures serving { KeepsServing result
+        (S.happened sockets.old) server.old.instances moment
+        (S.happened sockets.new) server.new.instances moment }
 {
     let bytes = match server.pending(socket.instance, socket.connection) {
         Some(bytes) if !bytes.is_empty() => bytes,
@@ -123,9 +122,9 @@ pub(crate) fn close<S: Sockets>(
     moment: u64,
     socket: Socket,
 ) -> Result<(), AllocError>
-    ensures serving { (configs : List ConfigValue)
-        → IsServing configs (S.happened sockets.old) server.old.instances moment
-        → IsAfter result configs (S.happened sockets.new) server.new.instances moment }
+    ensures serving { KeepsServing result
+        (S.happened sockets.old) server.old.instances moment
+        (S.happened sockets.new) server.new.instances moment }
 {
     sockets.close(socket);
     tell(
@@ -147,9 +146,9 @@ pub(crate) fn exchange<S: Sockets>(
     socket: Socket,
     room: &mut [u8],
 ) -> Result<Tried, AllocError>
-    ensures serving { (configs : List ConfigValue)
-        → IsServing configs (S.happened sockets.old) server.old.instances moment
-        → IsAfter result configs (S.happened sockets.new) server.new.instances moment }
+    ensures serving { KeepsServing result
+        (S.happened sockets.old) server.old.instances moment
+        (S.happened sockets.new) server.new.instances moment }
 {
     let received = receive(alloc, server, sockets, moment, socket, room)?;
     let sent = send(server, sockets, moment, socket)?;

@@ -1,8 +1,7 @@
 //! The turns.
 
-ghost use Rattle.std.specs.Prelude.{◌≡◌, ◌≤◌, List, ℕ, [], length, Some, IfSome, IfOk, OnOk, Ok, Err};
-ghost use Rattle.server_events.specs.Configs.{ConfigValue};
-ghost use Rattle.serve.specs.Served.{IsServing, IsAfter, WasServed};
+ghost use Rattle.std.specs.Prelude.{◌≡◌, ℕ, [], length, Some, IfSome, IfOk, OnOk, Ok, Err};
+ghost use Rattle.serve.specs.Served.{IsServing, KeepsServing, KeepsServingAtMost, WasServed};
 
 use crate::exchange::{Tried, close, exchange, tell};
 use crate::sockets::{Socket, Sockets};
@@ -51,10 +50,8 @@ impl Serving {
     /// Tells the time, tries each port, but only once a millisecond, and tries each connection. It
     /// says whether anything moved.
     fn turn<S: Sockets>(&mut self, sockets: &mut S) -> Result<bool, AllocError>
-        ensures serving { (configs : List ConfigValue)
-            → length configs ≤ self.old.instances
-            → IsServing configs (S.happened sockets.old) self.old.server.instances self.old.moment
-            → IsAfter result configs
+        ensures serving { KeepsServingAtMost self.old.instances result
+            (S.happened sockets.old) self.old.server.instances self.old.moment
             (S.happened sockets.new) self.new.server.instances self.new.moment }
         ensures instances { OnOk result (self.new.instances ≡ self.old.instances) }
     {
@@ -70,10 +67,8 @@ impl Serving {
 
     /// Time goes on for each instance.
     fn tick<S: Sockets>(&mut self, sockets: &mut S) -> Result<(), AllocError>
-        ensures serving { (configs : List ConfigValue)
-            → length configs ≤ self.old.instances
-            → IsServing configs (S.happened sockets.old) self.old.server.instances self.old.moment
-            → IsAfter result configs
+        ensures serving { KeepsServingAtMost self.old.instances result
+            (S.happened sockets.old) self.old.server.instances self.old.moment
             (S.happened sockets.new) self.new.server.instances self.new.moment }
         ensures instances { OnOk result (self.new.instances ≡ self.old.instances) }
     {
@@ -86,9 +81,8 @@ impl Serving {
 
     /// Opens the next connection that waits, for each instance, and says whether there was any.
     fn open_all<S: Sockets>(&mut self, sockets: &mut S) -> Result<bool, AllocError>
-        ensures serving { (configs : List ConfigValue)
-            → IsServing configs (S.happened sockets.old) self.old.server.instances self.old.moment
-            → IsAfter result configs
+        ensures serving { KeepsServing result
+            (S.happened sockets.old) self.old.server.instances self.old.moment
             (S.happened sockets.new) self.new.server.instances self.new.moment }
         ensures instances { OnOk result (self.new.instances ≡ self.old.instances) }
     {
@@ -104,9 +98,8 @@ impl Serving {
     /// Opens the next connection that waits at an instance's port, or closes it at once where the
     /// instance has as many as it may have. It says whether there was any.
     fn open<S: Sockets>(&mut self, sockets: &mut S, instance: u32) -> Result<bool, AllocError>
-        ensures serving { (configs : List ConfigValue)
-            → IsServing configs (S.happened sockets.old) self.old.server.instances self.old.moment
-            → IsAfter result configs
+        ensures serving { KeepsServing result
+            (S.happened sockets.old) self.old.server.instances self.old.moment
             (S.happened sockets.new) self.new.server.instances self.new.moment }
         ensures instances { OnOk result (self.new.instances ≡ self.old.instances) }
     {
@@ -140,9 +133,8 @@ impl Serving {
     /// Receives and sends on each connection, and lets go of those that are over. It says whether
     /// anything moved.
     fn exchange_all<S: Sockets>(&mut self, sockets: &mut S) -> Result<bool, AllocError>
-        ensures serving { (configs : List ConfigValue)
-            → IsServing configs (S.happened sockets.old) self.old.server.instances self.old.moment
-            → IsAfter result configs
+        ensures serving { KeepsServing result
+            (S.happened sockets.old) self.old.server.instances self.old.moment
             (S.happened sockets.new) self.new.server.instances self.new.moment }
         ensures instances { OnOk result (self.new.instances ≡ self.old.instances) }
     {

@@ -21,8 +21,8 @@ use Rattle.served_instance.specs.Ranges.{sources_at, range_holders, AreFit, Have
 use Rattle.grpc_sending.proofs.Agreeing.{count_append}
 use Rattle.served_instance.proofs.Ranges.{fit_none}
 use Rattle.server_core.specs.Shared.{all_in, all_holders, HasRanges, IsServer}
-use Rattle.run_record.specs.Runs.{new_run}
-use Rattle.run_record.specs.StandsFor.{RecordValue, StandsFor as IsRecord}
+use Rattle.server_core.specs.Runs.{new_run}
+use Rattle.server_core.specs.Records.{RecordValue, StandsFor as IsRecord}
 use Rattle.server_core.specs.LoneOutput.{config_at}
 use Rattle.server_core.specs.RunTo.{IsNotedAt}
 use Rattle.server_core.specs.StandsFor.{StandsAt}

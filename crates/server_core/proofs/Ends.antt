@@ -3,11 +3,11 @@ use Rattle.std.proofs.Common.{◌≡◌, ℕ, List, [], ◌∷◌, ◌++◌, len
 use Rattle.std.specs.Prelude.{Option, Some, None}
 use Rattle.std.specs.Option.{option_map}
 use Rattle.std.specs.List.{slice_get}
-use Rattle.run_record.specs.declared.outputs.InstanceOutput.{InstanceOutput}
-use Rattle.run_record.specs.Outputs.{InstanceOutputValue}
-use Rattle.run_record.specs.Runs.{Run, output_of_run}
-use Rattle.run_record.specs.Shown.{instance_output_shown}
-use Rattle.run_record.specs.StandsFor.{RecordValue, StandsFor as IsRecord}
+use Rattle.server_core.specs.declared.outputs.InstanceOutput.{InstanceOutput}
+use Rattle.server_core.specs.Outputs.{InstanceOutputValue}
+use Rattle.server_core.specs.Runs.{Run, output_of_run}
+use Rattle.server_core.specs.Shown.{instance_output_shown}
+use Rattle.server_core.specs.Records.{RecordValue, StandsFor as IsRecord}
 use Rattle.server_core.specs.Shown.{output_at}
 use Rattle.server_core.specs.RunTo.{IsNotedAt}
 use Rattle.server_core.proofs.Lists.{get-append, get-last, get-pushed}

@@ -12,8 +12,8 @@ use Rattle.served_instance.specs.Refusals.{refusal_of, lone_step, IsOutcome}
 use Rattle.served_instance.specs.StandsFor.{ServedState, StandsFor as IsServed}
 use Rattle.served_instance.specs.Slots.{ServedSlots, served_state_in, HasConnections}
 use Rattle.blob_pool.specs.Slots.{Slots}
-use Rattle.run_record.specs.Runs.{Run, run_step}
-use Rattle.run_record.specs.StandsFor.{RecordValue, StandsFor as IsRecord}
+use Rattle.server_core.specs.Runs.{Run, run_step}
+use Rattle.server_core.specs.Records.{RecordValue, StandsFor as IsRecord}
 use Rattle.server_core.specs.LoneOutput.{stray_at}
 use Rattle.server_core.specs.RunTo.{IsNotedAt, HasRun}
 use Rattle.server_core.specs.StandsFor.{StandsAt, instance_at}

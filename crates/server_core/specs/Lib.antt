@@ -1,6 +1,12 @@
+pub mod Outputs
+pub mod Runs
 pub mod LoneOutput
-pub mod RunTo
+pub mod Named
+pub mod Notes
 pub mod Shown
+pub mod Records
+pub mod RunTo
+pub mod RunSoFar
 pub mod StandsFor
 pub mod Shared
 pub mod Stored

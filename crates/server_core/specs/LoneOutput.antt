@@ -1,15 +1,16 @@
--- What each instance of a server gives: the run of that instance by itself, over its own events alone.
--- `own_events` (server_events, Events.antt) are the events that name an instance, in order. `run_of` (run_record,
--- Runs.antt) begins with an instance that nothing has happened to, and takes these events one after another by
--- `lone_step` (served_instance, Refusals.antt): a refused event changes nothing, any other does what Lone.antt of
--- served_instance says. `output_of_run` is what the run gives: the bytes that were put on each connection, in order of
--- opening, and which events were refused, and why.
+-- What each instance of a server gives: the run of that instance by itself, over its own events
+-- alone. `own_events` (server_events, Events.antt) are the events that name an instance, in order.
+-- `run_of` (Runs.antt) begins with an instance that nothing has happened to, and takes these events
+-- one after another by `lone_step` (served_instance, Refusals.antt): a refused event changes nothing,
+-- any other does what Lone.antt of served_instance says. `output_of_run` is what the run gives: the
+-- bytes that were put on each connection, in order of opening, and which events were refused, and
+-- why.
 use Rattle.std.specs.Prelude.{ℕ, ◌+◌, nat_lt, if◌then◌else◌, List, [], ◌∷◌, ◌++◌, length, Option}
 use Rattle.std.specs.List.{slice_get}
 use Rattle.server_events.specs.Configs.{ConfigValue}
 use Rattle.server_events.specs.Events.{EventValue}
-use Rattle.run_record.specs.Outputs.{InstanceOutputValue}
-use Rattle.run_record.specs.Runs.{run_of, output_of_run}
+use Rattle.server_core.specs.Outputs.{InstanceOutputValue}
+use Rattle.server_core.specs.Runs.{run_of, output_of_run}
 
 abbrev pub config_at : ℕ → List ConfigValue → Option ConfigValue
 config_at i configs = slice_get configs i

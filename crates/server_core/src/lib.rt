@@ -1,10 +1,15 @@
-//! A build server of many instances, each of which gives what it would give alone.
+//! A build server of many instances, each of which gives what it would give alone; whole runs of it,
+//! and the record of what each instance's run gives.
 #![tactic(auto)]
 
 mod laws;
+mod outputs;
+mod record;
 mod server;
 mod whole_run;
 
-pub use laws::equal_events_give_equal_outputs;
+pub use laws::{a_run_keeps_its_limits, calls_store_named_texts, equal_events_give_equal_outputs};
+pub use outputs::{InstanceOutput, RefusedEvent, SentBytes};
+pub use record::InstanceRecord;
 pub use server::Server;
-pub use whole_run::{Outputs, run};
+pub use whole_run::{Outputs, ServerRun, run};

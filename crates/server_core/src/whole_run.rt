@@ -1,22 +1,25 @@
-//! A whole run.
+//! A whole run, event by event and at once.
 
-ghost use Rattle.std.specs.Prelude.{◌≡◌, ◌+◌, ◌<◌, ◌==◌, ◌++◌, ℕ, List, All, Some, length, map, IfOk, OnOk, Bool, false, if◌then◌else◌};
+ghost use Rattle.std.specs.Prelude.{◌≡◌, ◌+◌, ◌-◌, ◌^◌, ◌<◌, ◌==◌, ◌++◌, ℕ, List, [], ◌∷◌, All, Some, length, map, IfOk, OnOk, Bool, false, if◌then◌else◌};
 ghost use Rattle.server_events.specs.Configs.{ConfigValue};
 ghost use Rattle.server_events.specs.Events.{EventValue, own_events};
 ghost use Rattle.server_events.specs.Shown.{event_value};
 ghost use Rattle.instance_core.specs.State.{WithinLimits};
-ghost use Rattle.run_record.specs.Runs.{Run, new_run, run_of, run_step, output_of_run};
+ghost use Rattle.server_core.specs.Runs.{Run, new_run, run_of, run_step, output_of_run};
 ghost use Rattle.server_core.specs.LoneOutput.{config_at, lone_output, strays, stray_at};
 ghost use Rattle.server_core.specs.Shown.{output_at};
 ghost use Rattle.server_core.specs.RunTo.{IsNotedAt, HasRun};
+ghost use Rattle.server_core.specs.RunSoFar.{HasTaken};
 
+use crate::laws::a_run_keeps_its_limits;
+use crate::outputs::InstanceOutput;
+use crate::record::InstanceRecord;
 use crate::server::Server;
-use run_limits::a_run_keeps_its_limits;
-use run_record::{InstanceOutput, InstanceRecord};
 use served_instance::EventRefusal;
 use server_events::laws::the_fault_is_the_first;
 use server_events::{Configs, Event};
 use std::alloc::{AllocError, Global};
+use std::marker::Model;
 
 /// What a run gave.
 #[derive(Drop)]
@@ -25,6 +28,85 @@ pub struct Outputs {
     pub instances: Vec<InstanceOutput>,
     /// The places of the events that name no instance, among all events and counted from 1.
     pub strays: Vec<u64>,
+}
+
+/// A run of a server so far: the server, what it put and what it refused. It ends when memory is
+/// refused.
+#[derive(Drop)]
+pub struct ServerRun {
+    server: Server,
+    records: Vec<InstanceRecord>,
+    strays: Vec<u64>,
+    count: u64,
+}
+
+impl Model for ServerRun {
+    ghost use Rattle.server_core.specs.RunSoFar.{RunValue, IsRunning};
+
+    ghost Value = { RunValue };
+
+    ghost view = { λ r. record
+        { server = r.server; records = r.records.items; strays = r.strays.items; count = r.count } };
+
+    ghost invariant = { λ r. IsRunning (record
+        { server = r.server; records = r.records.items; strays = r.strays.items; count = r.count }) };
+}
+
+impl ServerRun {
+    /// A run to which nothing has happened, with an instance for each configuration.
+    pub fn new(alloc: Global, configs: &Configs) -> Result<ServerRun, AllocError>
+        ensures { IfOk result (HasTaken configs.now []) }
+    {
+        let server = Server::new(alloc, configs)?;
+        let records = new_records(alloc, configs.instances().len())?;
+        Ok(ServerRun {
+            server,
+            records,
+            strays: Vec::new(alloc),
+            count: 0,
+        })
+    }
+
+    /// The run after one more event.
+    pub fn step(self, event: &Event) -> Result<ServerRun, AllocError>
+        requires room { self.count < 2 ^ 64 - 1 }
+        ensures { IfOk result (λ run. (configs : List ConfigValue) (events : List EventValue)
+            → HasTaken configs events self
+            → HasTaken configs (events ++ event_value event.now ∷ []) run) }
+    {
+        let count = self.count + 1;
+        let mut server = self.server;
+        let mut records = self.records;
+        let mut strays = self.strays;
+        step_and_note(&mut server, &mut records, &mut strays, event, count)?;
+        Ok(ServerRun {
+            server,
+            records,
+            strays,
+            count,
+        })
+    }
+
+    /// What the run gave. Each instance gives the very bytes on its connections, and the refusals,
+    /// that it would give alone.
+    pub fn outputs(self, alloc: Global) -> Result<Outputs, AllocError>
+        ensures alone { IfOk result (λ outputs. (configs : List ConfigValue)
+            (events : List EventValue) → HasTaken configs events self
+            → (i : ℕ) (config : ConfigValue) → config_at i configs ≡ Some config
+            → output_at i outputs.instances.items
+            ≡ Some (lone_output config (own_events i events))) }
+        ensures count { IfOk result (λ outputs. (configs : List ConfigValue)
+            (events : List EventValue) → HasTaken configs events self
+            → length outputs.instances.items ≡ length configs) }
+        ensures strays { IfOk result (λ outputs. (configs : List ConfigValue)
+            (events : List EventValue) → HasTaken configs events self
+            → outputs.strays.items ≡ strays configs events) }
+    {
+        Ok(Outputs {
+            instances: outputs_of(alloc, self.records)?,
+            strays: self.strays,
+        })
+    }
 }
 
 /// Runs a server through events. Each instance gives the very bytes on its connections, and the
@@ -42,18 +124,11 @@ pub fn run(alloc: Global, configs: &Configs, events: &[Event]) -> Result<Outputs
         ≡ strays configs.now (map event_value events.now)) }
 {
     limits_are_kept(configs);
-    let mut server = Server::new(alloc, configs)?;
-    let mut records = new_records(alloc, configs.instances().len())?;
-    let mut strays = Vec::new(alloc);
-    let mut place = 0;
+    let mut run = ServerRun::new(alloc, configs)?;
     for event in events {
-        place += 1;
-        step_and_note(&mut server, &mut records, &mut strays, event, place)?;
+        run = run.step(event)?;
     }
-    Ok(Outputs {
-        instances: outputs_of(alloc, records)?,
-        strays,
-    })
+    run.outputs(alloc)
 }
 
 /// Instances with these configurations keep their limits.

@@ -1,8 +1,7 @@
 //! What instances give alone.
 
 use crate::fake::{Client, Fake};
-use run_record::SentBytes;
-use server_core::{Outputs, run};
+use server_core::{Outputs, SentBytes, run};
 use server_events::{Configs, InstanceConfig};
 use std::alloc::Global;
 use std::io::{self, ErrorKind};

@@ -45,7 +45,7 @@ fn put_directory<'a>(
     if let Some(link) = link {
         directory.symlinks.push(link)?;
     }
-    directory.encode_into(text)
+    text.extend_from_slice(&directory.encode(alloc)?)
 }
 
 /// The directory that has one symbolic link `l`, to the number.

@@ -22,9 +22,7 @@ pub fn batch_update(alloc: Global, blobs: &[Blob]) -> Result<Vec<u8>, AllocError
         requests,
         digest_function: 0,
     };
-    let mut text = Vec::new(alloc);
-    request.encode_into(&mut text)?;
-    Ok(text)
+    request.encode(alloc)
 }
 
 pub fn get_tree<'a>(
@@ -40,9 +38,7 @@ pub fn get_tree<'a>(
         page_token,
         digest_function: 0,
     };
-    let mut text = Vec::new(alloc);
-    request.encode_into(&mut text)?;
-    Ok(text)
+    request.encode(alloc)
 }
 
 /// A result whose `stdout_raw` is this output.
@@ -56,9 +52,7 @@ fn result_of(alloc: Global, output: &[u8]) -> Result<Vec<u8>, AllocError> {
         stderr_raw: b"",
         stderr_digest: None,
     };
-    let mut text = Vec::new(alloc);
-    result.encode_into(&mut text)?;
-    Ok(text)
+    result.encode(alloc)
 }
 
 pub fn update_result(alloc: Global, action: &Blob, output: &[u8]) -> Result<Vec<u8>, AllocError> {
@@ -68,9 +62,7 @@ pub fn update_result(alloc: Global, action: &Blob, output: &[u8]) -> Result<Vec<
         action_result: Some(result_of(alloc, output)?),
         digest_function: 0,
     };
-    let mut text = Vec::new(alloc);
-    request.encode_into(&mut text)?;
-    Ok(text)
+    request.encode(alloc)
 }
 
 pub fn get_result(alloc: Global, action: &Blob) -> Result<Vec<u8>, AllocError> {
@@ -79,7 +71,5 @@ pub fn get_result(alloc: Global, action: &Blob) -> Result<Vec<u8>, AllocError> {
         action_digest: action.digest(),
         digest_function: 0,
     };
-    let mut text = Vec::new(alloc);
-    request.encode_into(&mut text)?;
-    Ok(text)
+    request.encode(alloc)
 }

@@ -45,9 +45,7 @@ fn directory_text<'a>(
         directories,
         symlinks,
     };
-    let mut text = Vec::new(alloc);
-    directory.encode_into(&mut text)?;
-    Ok(text)
+    directory.encode(alloc)
 }
 
 fn file<'a>(name: &'a str, digest: messages::Digest<'a>) -> FileNode<'a> {

@@ -90,9 +90,7 @@ fn directory_text<'a>(
         directories: directory_nodes(alloc, directories, digest)?,
         symlinks: link_nodes(alloc, links)?,
     };
-    let mut text = Vec::new(alloc);
-    directory.encode_into(&mut text)?;
-    Ok(text)
+    directory.encode(alloc)
 }
 
 /// Stores a directory with symbolic links of these names, and directories of these names and one

@@ -82,19 +82,23 @@ length_with_there k u (v ∷ us) some = go (same_upload k v.0) refl (length_with
   go true is ih some = rw is (omega arith)
   go false is ih some = let shorter = ih (rw is at some) in rw is (omega (arith, shorter))
 
-pub bytes_without : (k : KeyValue) (us : UploadList) → total_length (without_upload k us) ≤ total_length us
-bytes_without k [] = omega arith
-bytes_without k (v ∷ us) = go (same_upload k v.0) refl (bytes_without k us) where
-  go : (s : Bool) → same_upload k v.0 ≡ s → total_length (without_upload k us) ≤ total_length us → total_length (without_upload k (v ∷ us)) ≤ total_length (v ∷ us)
-  go true is ih = rw is (omega arith)
-  go false is ih = rw is (omega (arith, ih))
+-- a size of lists, which grows with each upload
+record IsSize (size : UploadList → ℕ) : Type 0 where
+  skipped : (v : KeyValue × UploadValue) (us : UploadList) → size us ≤ size (v ∷ us)
+  kept : (v : KeyValue × UploadValue) (us vs : UploadList) → size us ≤ size vs → size (v ∷ us) ≤ size (v ∷ vs)
 
-pub length_without : (k : KeyValue) (us : UploadList) → length (without_upload k us) ≤ length us
-length_without k [] = omega arith
-length_without k (v ∷ us) = go (same_upload k v.0) refl (length_without k us) where
-  go : (s : Bool) → same_upload k v.0 ≡ s → length (without_upload k us) ≤ length us → length (without_upload k (v ∷ us)) ≤ length (v ∷ us)
-  go true is ih = rw is (omega arith)
-  go false is ih = rw is (omega (arith, ih))
+by_length : IsSize length
+by_length = record { skipped = λ v us. omega arith; kept = λ v us vs less. omega (arith, less) }
+
+by_bytes : IsSize total_length
+by_bytes = record { skipped = λ v us. omega arith; kept = λ v us vs less. omega (arith, less) }
+
+size_without : (size : UploadList → ℕ) → IsSize size → (k : KeyValue) (us : UploadList) → size (without_upload k us) ≤ size us
+size_without size is k [] = omega arith
+size_without size is k (v ∷ us) = go (same_upload k v.0) refl (size_without size is k us) where
+  go : (s : Bool) → same_upload k v.0 ≡ s → size (without_upload k us) ≤ size us → size (without_upload k (v ∷ us)) ≤ size (v ∷ us)
+  go true here less = rw here (is.skipped v us)
+  go false here less = rw here (is.kept v (without_upload k us) us less)
 
 pub text-short : (k : KeyValue) (us : UploadList) → length (text_so_far k us) ≤ total_length us
 text-short k [] = omega arith
@@ -103,32 +107,25 @@ text-short k (v ∷ us) = go (same_upload k v.0) refl (text-short k us) where
   go true is ih = rw is (omega arith)
   go false is ih = rw is (omega (arith, ih))
 
-bytes_filter : (test : (KeyValue × UploadValue) → Bool) (us : UploadList) → total_length (filter test us) ≤ total_length us
-bytes_filter test [] = omega arith
-bytes_filter test (v ∷ us) = go (test v) refl (bytes_filter test us) where
-  go : (s : Bool) → test v ≡ s → total_length (filter test us) ≤ total_length us → total_length (filter test (v ∷ us)) ≤ total_length (v ∷ us)
-  go true is ih = rw is (omega (arith, ih))
-  go false is ih = rw is (omega (arith, ih))
-
-length_filter : (test : (KeyValue × UploadValue) → Bool) (us : UploadList) → length (filter test us) ≤ length us
-length_filter test [] = omega arith
-length_filter test (v ∷ us) = go (test v) refl (length_filter test us) where
-  go : (s : Bool) → test v ≡ s → length (filter test us) ≤ length us → length (filter test (v ∷ us)) ≤ length (v ∷ us)
-  go true is ih = rw is (omega (arith, ih))
-  go false is ih = rw is (omega (arith, ih))
+size_filter : (size : UploadList → ℕ) → IsSize size → (test : (KeyValue × UploadValue) → Bool) (us : UploadList) → size (filter test us) ≤ size us
+size_filter size is test [] = omega arith
+size_filter size is test (v ∷ us) = go (test v) refl (size_filter size is test us) where
+  go : (s : Bool) → test v ≡ s → size (filter test us) ≤ size us → size (filter test (v ∷ us)) ≤ size (v ∷ us)
+  go true passes less = rw passes (is.kept v (filter test us) us less)
+  go false passes less = rw passes (let more = is.skipped v us in omega (arith, less))
 
 -- ---- within the limits
 
 pub within_unexpired : (quota moment : ℕ) (us : UploadList) → WithinLimits quota us → WithinLimits quota (uploads_at moment us)
 within_unexpired quota moment us h = record {
-  bytes = let b = bytes_filter (is_recent moment) us in let q = h.bytes in omega arith;
-  count = let n = length_filter (is_recent moment) us in let q = h.count in omega arith;
+  bytes = let b = size_filter total_length by_bytes (is_recent moment) us in let q = h.bytes in omega arith;
+  count = let n = size_filter length by_length (is_recent moment) us in let q = h.count in omega arith;
 }
 
 pub within_without : (quota : ℕ) (k : KeyValue) (us : UploadList) → WithinLimits quota us → WithinLimits quota (without_upload k us)
 within_without quota k us h = record {
-  bytes = let b = bytes_without k us in let q = h.bytes in omega arith;
-  count = let n = length_without k us in let q = h.count in omega arith;
+  bytes = let b = size_without total_length by_bytes k us in let q = h.bytes in omega arith;
+  count = let n = size_without length by_length k us in let q = h.count in omega arith;
 }
 
 abbrev piece_tests : Bool → Bool → Bool → Result Unit UploadError

@@ -103,34 +103,6 @@ fn add(upload: &mut Upload, moment: u64, bytes: &[u8]) -> Result<(), AllocError>
     Ok(())
 }
 
-/// Adds bytes to an upload that is there.
-fn extend(
-    table: &mut Table,
-    alloc: Global,
-    moment: u64,
-    key: &UploadKey,
-    bytes: &[u8],
-) -> Result<(), AllocError>
-    requires there { IsSome (upload_at (key_shown key.now) (map entry_shown table.old.entries)) }
-    requires fits { Fits (key_shown key.now) bytes.now (map entry_shown table.old.entries) }
-    requires whole { AreWhole table.old.entries }
-    ensures ok { OnOk result (map entry_shown table.new.entries
-        ≡ with_upload (key_shown key.now)
-        (record {
-          text = text_so_far (key_shown key.now) (map entry_shown table.old.entries)
-              ++ bytes.now;
-          written = moment;
-        }) (map entry_shown table.old.entries)) }
-    ensures err { OnErr result (map entry_shown table.new.entries
-        ≡ map entry_shown table.old.entries) }
-    ensures whole { AreWhole table.new.entries }
-{
-    let mut upload = exchange(table, key, Upload::empty(alloc));
-    let added = add(&mut upload, moment, bytes);
-    let _empty = exchange(table, key, upload);
-    added
-}
-
 /// Adds bytes to an upload, which begins with them where it is not there.
 fn write(
     table: &mut Table,
@@ -152,12 +124,15 @@ fn write(
         ≡ map entry_shown table.old.entries) }
     ensures whole { AreWhole table.new.entries }
 {
-    if find(table, key).is_some() {
-        return extend(table, alloc, moment, key, bytes);
+    if find(table, key).is_none() {
+        let mut upload = Upload::empty(alloc);
+        add(&mut upload, moment, bytes)?;
+        return put(table, key, upload);
     }
-    let mut upload = Upload::empty(alloc);
-    add(&mut upload, moment, bytes)?;
-    put(table, key, upload)
+    let mut upload = exchange(table, key, Upload::empty(alloc));
+    let added = add(&mut upload, moment, bytes);
+    let _empty = exchange(table, key, upload);
+    added
 }
 
 /// Carries out what a piece was answered.

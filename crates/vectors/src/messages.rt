@@ -16,8 +16,7 @@ fn encoded_again<'a, M: Message<'a>>(
 ) -> io::Result<()> {
     match M::decode(alloc, text) {
         Ok(message) => {
-            let mut again = Vec::new(alloc);
-            message.encode_into(&mut again)?;
+            let again = message.encode(alloc)?;
             show(out, b"", &again)?;
         }
         Err(MessageError::Wire(fault)) => write!(out, "{}", word_of(fault))?,

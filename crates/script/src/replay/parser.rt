@@ -1,32 +1,35 @@
 //! A text as a script.
-ghost use Rattle.std.specs.Prelude.{◌≡◌, map, Some, None, Ok, Err, IfOk, IfErr, OnOk};
+ghost use Rattle.std.specs.Prelude.{◌≡◌, ◌≤◌, ◌+◌, length, map, Some, None, Ok, Err, IfOk, IfErr, OnOk};
 ghost use Rattle.server_events.specs.Configs.{config_fault};
 ghost use Rattle.server_events.specs.Shown.{config_value};
-ghost use Rattle.script.specs.ReplayScript.{replay_script_of, after_replay_line, config, config_if_good, config_of, may_follow};
+ghost use Rattle.script.specs.ReplayHead.{after_head_line};
+ghost use Rattle.script.specs.ReplayScript.{replay_script_of, config, config_if_good, config_of, may_follow};
 ghost use Rattle.script.specs.Faults.{IsFaultOf};
-ghost use Rattle.script.specs.ReplayShown.{replay_script_value};
+ghost use Rattle.script.specs.ReplayShown.{head_value, replay_script_value};
 
 use crate::arguments::{number, three};
 use crate::fault::{LineFault, ScriptFault};
 use crate::reader::{FromLines, read_lines};
 use crate::replay::event::read_event;
+use crate::replay::reader::EventReader;
 use crate::{Parts, words};
 use decimals::decimal;
-use server_events::{Event, INSTANCE_LIMIT, InstanceConfig, own_fault};
+use server_events::{INSTANCE_LIMIT, InstanceConfig, own_fault};
 use std::alloc::Global;
 use std::str;
 
-/// The instances that a script configures, and what happens to them, in order.
+/// The instances that a script configures, and what happens to them, in order. The events are read
+/// from the text once more, one at a time.
 #[derive(Drop)]
-pub struct ReplayScript {
+pub struct ReplayScript<'a> {
     pub configs: Vec<InstanceConfig>,
-    pub events: Vec<Event>,
+    pub events: EventReader<'a>,
 }
 
 /// The script that a text writes, or the number of its first bad line: one that has no form,
 /// configures an instance after an event, or configures an instance that may not follow those
 /// before it.
-pub fn parse(alloc: Global, text: &[u8]) -> Result<ReplayScript, ScriptFault>
+pub fn parse(alloc: Global, text: &[u8]) -> Result<ReplayScript<'_>, ScriptFault>
     ensures script { IfOk result (λ script.
         replay_script_of text.now ≡ Ok (replay_script_value script)) }
     ensures bad_line { IfErr result (IsFaultOf (replay_script_of text.now)) }
@@ -34,23 +37,35 @@ pub fn parse(alloc: Global, text: &[u8]) -> Result<ReplayScript, ScriptFault>
     // A server may have the instances.
     ensures configs { IfOk result (λ script. config_fault (map config_value script.configs.items)
         ≡ None) }
+    // A line has one event at most.
+    ensures few { IfOk result (λ script. length script.events ≤ length text.now + 1) }
 {
-    let mut script = ReplayScript {
+    let mut head = ReplayHead {
         configs: Vec::new(alloc),
-        events: Vec::new(alloc),
+        has_events: false,
     };
-    read_lines(alloc, &mut script, text)?;
-    Ok(script)
+    read_lines(alloc, &mut head, text)?;
+    Ok(ReplayScript {
+        configs: head.configs,
+        events: EventReader::new(text),
+    })
 }
 
-impl FromLines for ReplayScript {
-    ghost use Rattle.script.specs.ReplayScript.{ReplayScriptValue};
+// The instances of the lines so far, and whether there was an event among them.
+#[derive(Drop)]
+pub(crate) struct ReplayHead {
+    pub(crate) configs: Vec<InstanceConfig>,
+    pub(crate) has_events: bool,
+}
 
-    ghost Value = { ReplayScriptValue };
+impl FromLines for ReplayHead {
+    ghost use Rattle.script.specs.ReplayHead.{ReplayHeadValue};
 
-    ghost value_of = { replay_script_value };
+    ghost Value = { ReplayHeadValue };
 
-    ghost after_line = { after_replay_line };
+    ghost value_of = { head_value };
+
+    ghost after_line = { after_head_line };
 
     fn read_line(&mut self, alloc: Global, line: &[u8]) -> Result<(), LineFault> {
         add_line(alloc, self, line)
@@ -58,11 +73,11 @@ impl FromLines for ReplayScript {
 }
 
 // Adds what one more line says.
-fn add_line(alloc: Global, script: &mut ReplayScript, line: &[u8]) -> Result<(), LineFault>
-    ensures read { OnOk result (after_replay_line (replay_script_value script.old) line.now
-        ≡ Some (replay_script_value script.new)) }
+fn add_line(alloc: Global, head: &mut ReplayHead, line: &[u8]) -> Result<(), LineFault>
+    ensures read { OnOk result (after_head_line (head_value head.old) line.now
+        ≡ Some (head_value head.new)) }
     ensures bad { result ≡ Err LineFault.Bad →
-        after_replay_line (replay_script_value script.old) line.now ≡ None }
+        after_head_line (head_value head.old) line.now ≡ None }
 {
     if line.is_empty() {
         return Ok(());
@@ -70,14 +85,14 @@ fn add_line(alloc: Global, script: &mut ReplayScript, line: &[u8]) -> Result<(),
     let mut words = words(line);
     let kind = words.next().ok_or(LineFault::Bad)?;
     if kind == b"instance".as_slice() {
-        if !script.events.is_empty() {
+        if head.has_events {
             return Err(LineFault::Bad);
         }
-        let config = read_config(alloc, &script.configs, words)?;
-        script.configs.push(config)?;
+        let config = read_config(alloc, &head.configs, words)?;
+        head.configs.push(config)?;
     } else {
-        let event = read_event(alloc, kind, words)?;
-        script.events.push(event)?;
+        read_event(alloc, kind, words)?;
+        head.has_events = true;
     }
     Ok(())
 }

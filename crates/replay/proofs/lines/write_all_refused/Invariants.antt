@@ -1,5 +1,5 @@
 use Rattle.std.proofs.Common.{◌≡◌, ◌++◌, length, map}
-use Rattle.run_record.specs.Shown.{refused_shown}
+use Rattle.server_core.specs.Shown.{refused_shown}
 use Rattle.replay.specs.Printed.{refusal_lines}
 use Rattle.replay.proofs.lines.write_all_refused.Given as goal
 

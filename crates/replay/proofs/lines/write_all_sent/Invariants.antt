@@ -1,5 +1,5 @@
 use Rattle.std.proofs.Common.{◌≡◌, ◌++◌, length, map}
-use Rattle.run_record.specs.Shown.{sent_shown}
+use Rattle.server_core.specs.Shown.{sent_shown}
 use Rattle.replay.specs.Printed.{sent_lines}
 use Rattle.replay.proofs.lines.write_all_sent.Given as goal
 

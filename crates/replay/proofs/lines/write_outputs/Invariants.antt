@@ -1,5 +1,5 @@
 use Rattle.std.proofs.Common.{◌≡◌, ◌++◌, length, map, ◌+◌}
-use Rattle.run_record.specs.Shown.{instance_output_shown}
+use Rattle.server_core.specs.Shown.{instance_output_shown}
 use Rattle.replay.specs.Outputs.{outputs_lines}
 use Rattle.replay.proofs.lines.write_outputs.Given as goal
 

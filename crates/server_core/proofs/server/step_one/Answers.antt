@@ -1,10 +1,8 @@
-use Rattle.std.proofs.Common.{◌≡◌, ◌<◌, ◌≤◌, length, get_or, arith}
-use Rattle.std.specs.Prelude.{Some}
-use Rattle.std.specs.List.{slice_get}
+use Rattle.std.proofs.Common.{◌<◌, length, get_or, arith}
 use Rattle.std.proofs.lemmas.Grind.{common_steps}
 use Rattle.std.proofs.lemmas.Option.{slice_get-get_or}
 use Rattle.std.proofs.lemmas.Result.{on_ok_weaker}
-use Rattle.server_core.proofs.Others.{kept_at, others_after, server_after, stands_here, stands_after, nobody_there, refused_after}
+use Rattle.server_core.proofs.Others.{kept_at, others_after, server_after, stands_here, stands_after, refused_after}
 use Rattle.server_core.proofs.server.step_one.Goals as goal
 
 pub step-requires : goal.step-requires

@@ -1,7 +1,7 @@
 use Rattle.std.proofs.Common.{ap, ◌∙◌, ◌+◌, ◌<◌, length}
 use Rattle.std.proofs.lemmas.List.{length_push}
 use Rattle.std.proofs.lemmas.List.Elements.{All-push, All-same}
-use Rattle.run_record.specs.StandsFor.{RecordValue}
+use Rattle.server_core.specs.Records.{RecordValue}
 use Rattle.server_core.proofs.Begins.{begun_more, none_counted}
 use Rattle.server_core.proofs.whole_run.new_records.Goals as goal
 

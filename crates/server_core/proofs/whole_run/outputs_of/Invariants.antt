@@ -1,6 +1,6 @@
 use Rattle.std.proofs.Common.{◌≡◌, ℕ, length}
 use Rattle.std.specs.Prelude.{Some}
-use Rattle.run_record.specs.Runs.{Run, output_of_run}
+use Rattle.server_core.specs.Runs.{Run, output_of_run}
 use Rattle.server_core.specs.Shown.{output_at}
 use Rattle.server_core.specs.RunTo.{IsNotedAt}
 use Rattle.server_core.proofs.whole_run.outputs_of.Given as goal

@@ -1,5 +1,4 @@
 use Rattle.std.proofs.Common.{◌≡◌, map, ap, sym, ◌∙◌}
-use Rattle.uploads.specs.declared.error.UploadError.TheVariants.{NoMemory}
 use Rattle.uploads.specs.Uploads.{UploadValue}
 use Rattle.uploads.specs.Shown.{key_shown, upload_shown, entry_shown}
 use Rattle.uploads.proofs.ListLemmas.{there_with, forgotten, put_back, within_without, within_same}
@@ -32,24 +31,17 @@ returns-in-Ok-clause-within c =
 
 pub returns-in-Err-clause-answer : goal.returns-in-Err-clause-answer
 returns-in-Err-clause-answer c =
-    let memory : c.into.result ≡ NoMemory =
-    c.into.ensures
-    ∙ refused_for_memory c.args.quota (key_shown c.args.key.now) (upload_shown c.exchange-upload.result) (map entry_shown c.args.table.now.entries) c.in-Err.error c.is_named.new.upload.draft.text _
-    c.exchange-upload.ensures.old (ap (λ (u : UploadValue). u.text) c.is_named.ensures.shown) c.requires.within.bytes c.in-Err.ensures.too_large in
-    rw memory tt
+    rw (refused_for_memory c.args.quota (key_shown c.args.key.now) (upload_shown c.exchange-upload.result) (map entry_shown c.args.table.now.entries) c.in-Err.error c.into.result c.is_named.new.upload.draft.text _
+    c.into.ensures c.exchange-upload.ensures.old (ap (λ (u : UploadValue). u.text) c.is_named.ensures.shown) c.requires.within.bytes c.in-Err.ensures.too_large) tt
 
 pub returns-in-Err-clause-uploads : goal.returns-in-Err-clause-uploads
 returns-in-Err-clause-uploads c =
-    let memory : c.into.result ≡ NoMemory =
-    c.into.ensures
-    ∙ refused_for_memory c.args.quota (key_shown c.args.key.now) (upload_shown c.exchange-upload.result) (map entry_shown c.args.table.now.entries) c.in-Err.error c.is_named.new.upload.draft.text _
-    c.exchange-upload.ensures.old (ap (λ (u : UploadValue). u.text) c.is_named.ensures.shown) c.requires.within.bytes c.in-Err.ensures.too_large in
-    let back =
-    put_back (key_shown c.args.key.now) _ (upload_shown c.exchange-upload.result) _ (map entry_shown c.args.table.now.entries) _ (map entry_shown c.exchange-empty.new.table.entries)
+    rw (refused_for_memory c.args.quota (key_shown c.args.key.now) (upload_shown c.exchange-upload.result) (map entry_shown c.args.table.now.entries) c.in-Err.error c.into.result c.is_named.new.upload.draft.text _
+    c.into.ensures c.exchange-upload.ensures.old (ap (λ (u : UploadValue). u.text) c.is_named.ensures.shown) c.requires.within.bytes c.in-Err.ensures.too_large)
+    (put_back (key_shown c.args.key.now) _ (upload_shown c.exchange-upload.result) _ (map entry_shown c.args.table.now.entries) _ (map entry_shown c.exchange-empty.new.table.entries)
     c.exchange-upload.ensures.new c.exchange-upload.ensures.old
     (same_back c.in-Err.draft.text (upload_shown c.is_named.new.upload) (upload_shown c.exchange-upload.result) c.in-Err.ensures.back c.is_named.ensures.shown)
-    c.exchange-empty.ensures.new in
-    rw memory back
+    c.exchange-empty.ensures.new)
 
 pub returns-in-Err-clause-within : goal.returns-in-Err-clause-within
 returns-in-Err-clause-within c =

@@ -1,12 +1,14 @@
-use Rattle.std.proofs.Common.{rules, tests, sym, ◌∙◌}
-use Rattle.std.proofs.lemmas.Iterator.{YieldsList-from_slice}
-use Rattle.std.proofs.lemmas.Iterator.Search.{position_from_yields_List}
-use Rattle.std.specs.Str.{bytes_eq}
-use Rattle.script.specs.UnaryShown.{instance_value}
-use Rattle.script.proofs.PlaceLemmas.{position-map}
+use Rattle.std.proofs.Common.{ap, ◌∙◌, map, sym}
+use Rattle.script.specs.UnaryScript.{place_of}
+use Rattle.script.specs.UnaryShown.{entry_value}
+use Rattle.script.proofs.EntryLemmas.{place_of-entries, place_of-no_text}
 use Rattle.script.proofs.unary.parser.place.Goals as goal
 
-pub returns : goal.returns
-returns c =
-    position_from_yields_List (λ instance. bytes_eq (instance_value instance).name c.args.name.now) _ _ _ c.position.ensures.ran (YieldsList-from_slice c.args.known.now c.iter.ensures.rest) (λ x b q k. search (rules, tests))
-    ∙ sym (position-map (λ instance. bytes_eq instance.name c.args.name.now) instance_value c.args.known.now)
+pub returns-in-Ok : goal.returns-in-Ok
+returns-in-Ok c =
+    let known = c.args.known.now.entries in
+    c.get_index_of.ensures.index ∙ place_of-entries known c.in-Ok.name.now
+    ∙ ap (place_of (map entry_value known)) c.in-Ok.ensures.cases.0
+
+pub returns-in-Err : goal.returns-in-Err
+returns-in-Err c = sym (place_of-no_text c.args.known.now.entries c.args.name.now c.in-Err.ensures.cases.0)

@@ -1,5 +1,0 @@
-mod Growth
-mod Changes
-mod Fronts
-mod Noted
-mod Places

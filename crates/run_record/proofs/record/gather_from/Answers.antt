@@ -1,7 +1,0 @@
-use Rattle.std.specs.Prelude.{map}
-use Rattle.run_record.specs.Shown.{sent_shown}
-use Rattle.run_record.proofs.Places.{none_gathered}
-use Rattle.run_record.proofs.record.gather_from.Goals as goal
-
-pub returns-in-None : goal.returns-in-None
-returns-in-None c = λ l served. none_gathered l c.args.connection.now (map sent_shown c.args.sent.now.items) (c.in-None.ensures.bytes l served)

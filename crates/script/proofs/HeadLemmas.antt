@@ -1,0 +1,188 @@
+-- A script that is read without keeping its events is the same script.
+use Rattle.std.proofs.Common.{◌≡◌, ℕ, ◌+◌, ◌≤◌, ◌==◌, Bool, true, false, cond, not, List, [], ◌∷◌, ◌++◌, length, Option, Some, None, Ok, Err, codes, refl, sym, ap, ap₂, ◌∙◌, arith, append_assoc, append-nil, length-append}
+use Rattle.std.specs.Prelude.{Bool, Result, option_map, option_and_then}
+use Rattle.std.proofs.lemmas.Bool.Decides.{nat_tests}
+use Rattle.std.proofs.lemmas.List.{length_push}
+use Rattle.std.proofs.lemmas.Slice.Eq.{bytes_eq-Decides}
+use Rattle.std.specs.Option.{option_map_or, option_to_list}
+use Rattle.std.specs.Result.{result_map_both}
+use Rattle.std.specs.Str.{bytes_eq}
+use Rattle.decimals.specs.Number.{decimal_of}
+use Rattle.server_events.specs.Configs.{ConfigValue}
+use Rattle.server_events.specs.Events.{EventValue}
+use Rattle.script.specs.declared.fault.ScriptFault.{ScriptFault}
+use Rattle.script.specs.declared.fault.ScriptFault.TheVariants.{BadLine, NoMemory}
+use Rattle.script.specs.Arguments.{number_of}
+use Rattle.script.specs.EventLines.{event_of_line, event_of_words, events_of_lines, events_of_text}
+use Rattle.script.specs.Faults.{IsFaultOf}
+use Rattle.script.specs.FirstBadLine.{Leads, after_lines}
+use Rattle.script.specs.Parts.{lines_of, words_of}
+use Rattle.script.specs.ReplayEvents.{event_at, event_of, what_of}
+use Rattle.script.specs.ReplayHead.{ReplayHeadValue, after_head_line, after_head_words, head_of, head_with_config, head_with_event}
+use Rattle.script.specs.ReplayScript.{ReplayScriptValue, after_replay_line, after_replay_words, config_of, empty_replay_script, replay_script_of, with_config, with_event}
+use Rattle.script.proofs.FirstLemmas.{Leads-from_Ok}
+use Rattle.script.proofs.LineLemmas.{length-lines_of}
+use Rattle.script.proofs.Somes.{mapped}
+
+-- ---- one more line
+
+not_empty : (es : List EventValue) (e : EventValue) → (length (es ++ e ∷ []) == 0) ≡ false
+not_empty es e =
+    let longer = length_push es e in
+    grind (arith, nat_tests)
+
+with_event-head : (s : ReplayScriptValue) (e : EventValue) → head_of (with_event s e) ≡ head_with_event (head_of s) e
+with_event-head s e = ap (λ (b : Bool). head_with_none s (not b)) (not_empty s.events e)
+  where
+    head_with_none : ReplayScriptValue → Bool → ReplayHeadValue
+    head_with_none s b = record { configs = s.configs; has_events = b }
+
+configured : (s : ReplayScriptValue) (o : Option ConfigValue) → option_map head_of (option_map (with_config s) o) ≡ option_map (head_with_config (head_of s)) o
+configured s None = refl
+configured s (Some c) = refl
+
+happened : (s : ReplayScriptValue) (o : Option EventValue) → option_map head_of (option_map (with_event s) o) ≡ option_map (head_with_event (head_of s)) o
+happened s None = refl
+happened s (Some e) = ap Some (with_event-head s e)
+
+by_kind : (configures early : Bool) (s : ReplayScriptValue) (c : Option ConfigValue) (e : Option EventValue)
+    → option_map head_of (cond configures (cond early (option_map (with_config s) c) None) (option_map (with_event s) e))
+    ≡ cond configures (cond (not early) None (option_map (head_with_config (head_of s)) c)) (option_map (head_with_event (head_of s)) e)
+by_kind true true s c e = configured s c
+by_kind true false s c e = refl
+by_kind false early s c e = happened s e
+
+head_of-after_words : (s : ReplayScriptValue) (words : List (List ℕ)) → option_map head_of (after_replay_words s words) ≡ after_head_words (head_of s) words
+head_of-after_words s [] = refl
+head_of-after_words s (kind ∷ arguments) =
+    by_kind (bytes_eq kind (codes "instance")) (length s.events == 0) s (config_of s.configs arguments) (event_of kind arguments)
+
+head_of-after_line : (s : ReplayScriptValue) (line : List ℕ) → option_map head_of (after_replay_line s line) ≡ after_head_line (head_of s) line
+head_of-after_line s [] = refl
+head_of-after_line s (byte ∷ line) = head_of-after_words s (words_of (byte ∷ line))
+
+-- ---- all lines
+
+head_of-lines : (number : ℕ) (s : ReplayScriptValue) (lines : List (List ℕ))
+    → result_map_both head_of (λ n. n) (after_lines after_replay_line number s lines) ≡ after_lines after_head_line number (head_of s) lines
+head_of-lines number s [] = refl
+head_of-lines number s (line ∷ lines) =
+    go (λ next. head_of-lines (number + 1) next lines) (after_replay_line s line) refl
+  where
+    step : (r : Option ReplayScriptValue) → ((next : ReplayScriptValue) → result_map_both head_of (λ n. n) (after_lines after_replay_line (number + 1) next lines) ≡ after_lines after_head_line (number + 1) (head_of next) lines)
+        → result_map_both head_of (λ n. n) (option_map_or (λ next. after_lines after_replay_line (number + 1) next lines) r (Err number))
+        ≡ option_map_or (λ next. after_lines after_head_line (number + 1) next lines) (option_map head_of r) (Err number)
+    step None later = refl
+    step (Some next) later = later next
+
+    go : ((next : ReplayScriptValue) → result_map_both head_of (λ n. n) (after_lines after_replay_line (number + 1) next lines) ≡ after_lines after_head_line (number + 1) (head_of next) lines)
+        → (r : Option ReplayScriptValue) → after_replay_line s line ≡ r
+        → result_map_both head_of (λ n. n) (after_lines after_replay_line number s (line ∷ lines)) ≡ after_lines after_head_line number (head_of s) (line ∷ lines)
+    go later r e =
+        step (after_replay_line s line) later
+        ∙ ap (λ o. option_map_or (λ next. after_lines after_head_line (number + 1) next lines) o (Err number)) (head_of-after_line s line)
+
+-- ---- the events
+
+-- a line that configures an instance is no event
+no_event : (arguments : List (List ℕ)) → event_of (codes "instance") arguments ≡ None
+no_event [] = refl
+no_event (moment ∷ []) = refl
+no_event (moment ∷ instance ∷ arguments) = go (decimal_of moment) (number_of instance)
+  where
+    go : (at number : Option ℕ) → option_and_then (λ m. option_and_then (λ i. option_map (event_at m i) (what_of (codes "instance") arguments)) number) at ≡ None
+    go None number = refl
+    go (Some m) None = refl
+    go (Some m) (Some i) = refl
+
+one_more : (s t : ReplayScriptValue) (o : Option EventValue) → option_map (with_event s) o ≡ Some t → t.events ≡ s.events ++ option_to_list o
+one_more s t None h = cc
+one_more s t (Some e) h = let same : with_event s e ≡ t = cc in ap (λ (x : ReplayScriptValue). x.events) (sym same)
+
+after_kind : (configures early : Bool) (s t : ReplayScriptValue) (c : Option ConfigValue) (e : Option EventValue) → (configures ≡ true → e ≡ None)
+    → cond configures (cond early (option_map (with_config s) c) None) (option_map (with_event s) e) ≡ Some t
+    → t.events ≡ s.events ++ option_to_list e
+after_kind true true s t c e none h =
+    let made = mapped (with_config s) c t h in
+    ap (λ (x : ReplayScriptValue). x.events) (sym made.2) ∙ sym (append-nil s.events) ∙ ap (λ o. s.events ++ option_to_list o) (sym (none refl))
+after_kind true false s t c e none h = cc
+after_kind false early s t c e none h = one_more s t e h
+
+events-after_words : (s t : ReplayScriptValue) (words : List (List ℕ)) → after_replay_words s words ≡ Some t → t.events ≡ s.events ++ option_to_list (event_of_words words)
+events-after_words s t [] h = cc
+events-after_words s t (kind ∷ arguments) h =
+    after_kind (bytes_eq kind (codes "instance")) (length s.events == 0) s t (config_of s.configs arguments) (event_of kind arguments)
+    (λ e. ap (λ k. event_of k arguments) ((bytes_eq-Decides kind (codes "instance")).0 e) ∙ no_event arguments) h
+
+events-after_line : (s t : ReplayScriptValue) (line : List ℕ) → after_replay_line s line ≡ Some t → t.events ≡ s.events ++ option_to_list (event_of_line line)
+events-after_line s t [] h =
+    let same : s ≡ t = cc in
+    ap (λ (x : ReplayScriptValue). x.events) (sym same) ∙ sym (append-nil s.events)
+events-after_line s t (byte ∷ line) h = events-after_words s t (words_of (byte ∷ line)) h
+
+events-Leads : (s t : ReplayScriptValue) (lines : List (List ℕ)) → Leads after_replay_line s lines t → t.events ≡ s.events ++ events_of_lines lines
+events-Leads s t [] h = ap (λ (x : ReplayScriptValue). x.events) (sym h) ∙ sym (append-nil s.events)
+events-Leads s t (line ∷ lines) h =
+    events-Leads h.0 t lines h.2
+    ∙ ap (λ es. es ++ events_of_lines lines) (events-after_line s h.0 line h.1)
+    ∙ append_assoc s.events (option_to_list (event_of_line line)) (events_of_lines lines)
+
+-- ---- whole texts
+
+script_with : List ConfigValue → List EventValue → ReplayScriptValue
+script_with configs events = record { configs = configs; events = events }
+
+-- the script of a text, of which the lines were read without keeping events
+pub replay_script_of-head : (text : List ℕ) (head : ReplayHeadValue) → after_lines after_head_line 1 (head_of empty_replay_script) (lines_of text) ≡ Ok head
+    → replay_script_of text ≡ Ok (record { configs = head.configs; events = events_of_text text })
+unfolding script_with
+replay_script_of-head text head h = go (replay_script_of text) refl
+  where
+    go : (r : Result ReplayScriptValue ℕ) → replay_script_of text ≡ r → replay_script_of text ≡ Ok (script_with head.configs (events_of_text text))
+    go (Ok s) e =
+        let image : Ok (head_of s) ≡ Ok head = ap (result_map_both head_of (λ n. n)) (sym e) ∙ head_of-lines 1 empty_replay_script (lines_of text) ∙ h in
+        let same : head_of s ≡ head = cc in
+        let events = events-Leads empty_replay_script s (lines_of text) (Leads-from_Ok after_replay_line 1 empty_replay_script s (lines_of text) e) in
+        e ∙ ap Ok (ap₂ script_with (ap (λ (x : ReplayHeadValue). x.configs) same) events)
+    go (Err n) e =
+        let image : Err n ≡ Ok head = ap (result_map_both head_of (λ n. n)) (sym e) ∙ head_of-lines 1 empty_replay_script (lines_of text) ∙ h in
+        cc
+
+bad_line-head : (text : List ℕ) (number : ℕ) → after_lines after_head_line 1 (head_of empty_replay_script) (lines_of text) ≡ Err number
+    → replay_script_of text ≡ Err number
+bad_line-head text number h = go (replay_script_of text) refl
+  where
+    go : (r : Result ReplayScriptValue ℕ) → replay_script_of text ≡ r → replay_script_of text ≡ Err number
+    go (Ok s) e =
+        let image : Ok (head_of s) ≡ Err number = ap (result_map_both head_of (λ n. n)) (sym e) ∙ head_of-lines 1 empty_replay_script (lines_of text) ∙ h in
+        cc
+    go (Err n) e =
+        let image : Err n ≡ Err number = ap (result_map_both head_of (λ n. n)) (sym e) ∙ head_of-lines 1 empty_replay_script (lines_of text) ∙ h in
+        let same : n ≡ number = cc in
+        e ∙ ap Err same
+
+-- and its fault
+pub IsFaultOf-head : (text : List ℕ) (fault : ScriptFault) → IsFaultOf (after_lines after_head_line 1 (head_of empty_replay_script) (lines_of text)) fault
+    → IsFaultOf (replay_script_of text) fault
+IsFaultOf-head text (BadLine number) h = bad_line-head text number h
+IsFaultOf-head text NoMemory h = tt
+
+-- ---- how many events
+
+at_most_one : (o : Option EventValue) → length (option_to_list o) ≤ 1
+at_most_one None = omega arith
+at_most_one (Some e) = omega arith
+
+length-events_of_lines : (lines : List (List ℕ)) → length (events_of_lines lines) ≤ length lines
+length-events_of_lines [] = omega arith
+length-events_of_lines (line ∷ lines) =
+    let one = at_most_one (event_of_line line) in
+    let rest = length-events_of_lines lines in
+    let all = length-append (option_to_list (event_of_line line)) (events_of_lines lines) in
+    omega (arith, one, rest, all)
+
+pub length-events_of_text : (text : List ℕ) → length (events_of_text text) ≤ length text + 1
+length-events_of_text text =
+    let events = length-events_of_lines (lines_of text) in
+    let lines = length-lines_of text in
+    omega (arith, events, lines)

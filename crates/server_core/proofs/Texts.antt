@@ -1,0 +1,87 @@
+-- What calls store is named by its digest, so that the texts keep their limits.
+use Rattle.std.proofs.Common.{◌≡◌, ◌<◌, ℕ, Bool, true, false, cond, nat_lt, List, [], ◌∷◌, ◌++◌, length, map, Result, Ok, Err, refl, subst}
+use Rattle.std.specs.List.{AllByRecursion}
+use Rattle.reapi_messages.specs.Results.{◌>>=◌}
+use Rattle.reapi_messages.specs.Batches.{UpdateBlobRequestValue}
+use Rattle.rpc.specs.declared.method.Method.{Method}
+use Rattle.rpc.specs.declared.method.Method.TheVariants.{FindMissingBlobs, BatchUpdateBlobs, BatchReadBlobs, GetTree, GetActionResult, Read}
+use Rattle.rpc.specs.declared.refusal.Refusal.{Refusal}
+use Rattle.rpc.specs.declared.refusal.Refusal.TheVariants.{DigestDoesNotMatch, QuotaExceeded}
+use Rattle.digest.specs.declared.Digest.{Digest}
+use Rattle.digest.specs.Naming.{Names, same_digest, digest_of}
+use Rattle.digest.proofs.Same.{same_names}
+use Rattle.instance_view.specs.Visible.{Blob}
+use Rattle.quota_evict.specs.Within.{Within}
+use Rattle.quota_evict.proofs.Limits.{used_within, admitted_within}
+use Rattle.cas_service.specs.Changes.{Change, Use, Store, visible_after_change, uses}
+use Rattle.cas_service.specs.FindMissing.{digests_asked}
+use Rattle.cas_service.specs.BatchRead.{digests_to_read}
+use Rattle.cas_service.specs.BatchUpdate.{compressor_check, digest_or_refusal, naming_check, quota_check, storage_digest, stores, stores_of_result, store_of, blobs_sent}
+use Rattle.action_cache.specs.Answering.{blobs_used}
+use Rattle.tree_calls.specs.Asking.{tree_asked, action_asked}
+use Rattle.tree_calls.specs.GetTree.{texts_seen, directories_used}
+use Rattle.instance_core.specs.State.{InstanceState}
+use Rattle.instance_core.specs.Methods.{use_asked, text_changes}
+use Rattle.bytestream.specs.declared.reading.ReadAsked.{ReadAsked}
+use Rattle.bytestream.specs.Reading.{read_asked}
+use Rattle.server_core.specs.Named.{StoresNamedText}
+
+pub all_append : {X : Type 0} (P : X → Type 0) (xs ys : List X) → AllByRecursion P xs → AllByRecursion P ys → AllByRecursion P (xs ++ ys)
+all_append P [] ys a b = b
+all_append P (x ∷ xs) ys a b = (a.0, all_append P xs ys a.1 b)
+
+abbrev accepted : Result Unit Refusal
+accepted = Ok tt
+
+stored_named : (quota : ℕ) (r : UpdateBlobRequestValue) (d : Digest) → storage_digest quota r ≡ Ok d → Names d r.content
+unfolding storage_digest
+stored_named quota r d h = go (compressor_check r.compressor) (digest_or_refusal r.digest) h where
+  last : (e : Digest) (n q : Bool) → same_digest e (digest_of r.content) ≡ n
+      → (cond n accepted (Err DigestDoesNotMatch) >>= λ _. cond q (Err QuotaExceeded) accepted >>= λ _. Ok e) ≡ Ok d → Names d r.content
+  last e true false n h =
+      let equal : e ≡ d = cc in
+      subst (λ (x : Digest). Names x r.content) equal (same_names e r.content n)
+  last e true true n h = absurd (cc)
+  last e false q n h = absurd (cc)
+
+  go : (c : Result Unit Refusal) (s : Result Digest Refusal) → (c >>= λ _. s >>= λ e. naming_check e r.content >>= λ _. quota_check quota r.content >>= λ _. Ok e) ≡ Ok d → Names d r.content
+  go (Ok u) (Ok e) h = last e (same_digest e (digest_of r.content)) (nat_lt quota (length r.content)) refl h
+  go (Ok u) (Err x) h = absurd (cc)
+  go (Err x) s h = absurd (cc)
+
+one_named : (quota : ℕ) (r : UpdateBlobRequestValue) (u : Result Digest Refusal) → storage_digest quota r ≡ u → AllByRecursion StoresNamedText (store_of r.content u)
+one_named quota r (Ok d) is = (stored_named quota r d is, tt)
+one_named quota r (Err refusal) is = tt
+
+stores_named : (quota : ℕ) (rs : List UpdateBlobRequestValue) → AllByRecursion StoresNamedText (stores quota rs)
+stores_named quota [] = tt
+stores_named quota (r ∷ rs) = all_append StoresNamedText (store_of r.content (storage_digest quota r)) (stores quota rs) (one_named quota r (storage_digest quota r) refl) (stores_named quota rs)
+
+result_named : (quota : ℕ) (r : Result (List UpdateBlobRequestValue) Refusal) → AllByRecursion StoresNamedText (stores_of_result quota r)
+result_named quota (Ok rs) = stores_named quota rs
+result_named quota (Err refusal) = tt
+
+all_uses : (ds : List Digest) → AllByRecursion StoresNamedText (map Use ds)
+all_uses [] = tt
+all_uses (d ∷ ds) = (tt, all_uses ds)
+
+uses_named : (r : Result (List Digest) Refusal) → AllByRecursion StoresNamedText (uses r)
+uses_named (Ok ds) = all_uses ds
+uses_named (Err refusal) = tt
+
+use_named : (r : Result ReadAsked Refusal) → AllByRecursion StoresNamedText (use_asked r)
+use_named (Ok asked) = (tt, tt)
+use_named (Err refusal) = tt
+
+pub changes_named : (method : Method) (s : InstanceState) (message : List ℕ) → AllByRecursion StoresNamedText (text_changes method s message)
+changes_named FindMissingBlobs s message = uses_named (digests_asked s.name message)
+changes_named BatchUpdateBlobs s message = result_named s.quota (blobs_sent s.name message)
+changes_named BatchReadBlobs s message = uses_named (digests_to_read s.name message)
+changes_named GetTree s message = uses_named (tree_asked s.name message >>= directories_used s.visible)
+changes_named GetActionResult s message = uses_named (action_asked s.name message >>= λ action. Ok (blobs_used (texts_seen s.visible) action s.results))
+changes_named Read s message = use_named (read_asked s.name message)
+changes_named _ s message = tt
+
+pub change_within : (limit quota : ℕ) (c : Change) (bs : List Blob) → 0 < limit → StoresNamedText c → Within limit quota bs → Within limit quota (visible_after_change limit quota c bs)
+change_within limit quota (Use d) bs some named w = used_within limit quota d bs w
+change_within limit quota (Store d text) bs some named w = admitted_within limit quota d text bs some named w

@@ -1,0 +1,145 @@
+-- What a message of a Write leaves keeps the limits of an instance.
+use Rattle.std.proofs.Common.{◌≡◌, ◌<◌, ◌^◌, ℕ, Bool, true, false, cond, List, Result, Ok, Err, refl, subst, arith}
+use Rattle.std.specs.Prelude.{is_some}
+use Rattle.reapi_messages.specs.Results.{◌>>=◌}
+use Rattle.reapi_messages.specs.Fields.{value_of_text}
+use Rattle.reapi_messages.specs.ByteStream.{WriteRequestValue, write_request_of}
+use Rattle.rpc.specs.declared.refusal.Refusal.{Refusal}
+use Rattle.digest.specs.Naming.{Names, same_digest, digest_of}
+use Rattle.digest.proofs.Same.{same_names}
+use Rattle.instance_view.specs.Visible.{visible_text}
+use Rattle.quota_evict.specs.Within.{Within}
+use Rattle.quota_evict.proofs.Limits.{used_within, admitted_within}
+use Rattle.cas_service.specs.Requests.{message_or_refusal, instance_check}
+use Rattle.resource_names.specs.declared.name.NameError.{NameError}
+use Rattle.resource_names.specs.Names.{WriteNameValue, write_name}
+use Rattle.uploads.specs.declared.error.UploadError.{UploadError}
+use Rattle.uploads.specs.declared.error.UploadError.TheVariants.{Offset, Hash as WrongHash, Size as WrongSize, TooMany, OverQuota, NoMemory}
+use Rattle.uploads.specs.Uploads.{KeyValue, UploadList, text_so_far, WithinLimits}
+use Rattle.uploads.specs.Writing.{call_answer, finish_answer, after_piece, Answers}
+use Rattle.uploads.proofs.ListLemmas.{within_without, within_call}
+use Rattle.bytestream.specs.Refusals.{name_or_refusal}
+use Rattle.bytestream.specs.Querying.{key_of_name}
+use Rattle.bytestream.specs.Writing as Writing
+use Rattle.bytestream.specs.Writing.{OpenWriteValue, PartValue, WrittenValue, WriteState, FirstAsked, first_asked, next_asked, part_outcome, part_answer, after_last_part, after_end, after_taking, after_part, reply_first, first_part_answer, first_answer, after_first_part, after_first_asked, after_first, after_next_asked, after_next}
+use Rattle.server_core.proofs.Names.{name_below}
+use Rattle.instance_core.specs.State.{InstanceState, most_blobs}
+use Rattle.instance_core.specs.Writes.{write_state, with_piece, with_part, first_outcome}
+
+-- texts and uploads within their limits
+pub record IsWithin (quota : ℕ) (w : WriteState) : Type 0 where
+  pub texts : Within most_blobs quota w.visible
+  pub uploads : WithinLimits quota w.uploads
+
+-- ---- a piece
+
+meaning : (r m : Result Unit UploadError) → r ≡ m → Answers r m
+meaning (Ok u) m is = is
+meaning (Err NoMemory) m is = tt
+meaning (Err Offset) m is = is
+meaning (Err WrongSize) m is = is
+meaning (Err WrongHash) m is = is
+meaning (Err TooMany) m is = is
+meaning (Err OverQuota) m is = is
+
+taken_within : (first : Bool) (quota moment : ℕ) (part : PartValue) (us : UploadList) (r : Result Unit UploadError) → r ≡ part_outcome first quota part us → WithinLimits quota us → WithinLimits quota (after_piece moment part.key part.piece r us)
+taken_within first quota moment part us r is w = within_call first quota moment part.key part.piece us r w (meaning r (call_answer first quota part.key part.piece us) is)
+
+-- ---- the end of an upload
+
+pub finish_names : (key : KeyValue) (us : UploadList) (u : Unit {0}) → Ok u ≡ finish_answer key us → Names key.digest (text_so_far key us)
+finish_names key us u is = go (same_digest key.digest (digest_of (text_so_far key us))) refl is where
+  go : (b : Bool) → same_digest key.digest (digest_of (text_so_far key us)) ≡ b → Ok u ≡ cond b (Ok tt) (Err WrongHash) → Names key.digest (text_so_far key us)
+  go true test is = same_names key.digest (text_so_far key us) test
+  go false test is = cc
+
+finished_within : (quota : ℕ) (key : KeyValue) (w : WriteState) (r : Result Unit UploadError) → r ≡ finish_answer key w.uploads → IsWithin quota w → IsWithin quota (after_last_part most_blobs quota key r w)
+finished_within quota key w (Ok u) is h = record {
+  texts = admitted_within most_blobs quota key.digest (text_so_far key w.uploads) w.visible (omega arith) (finish_names key w.uploads u is) h.texts;
+  uploads = within_without quota key w.uploads h.uploads;
+}
+finished_within quota key w (Err e) is h = record { texts = h.texts; uploads = within_without quota key w.uploads h.uploads }
+
+end_within : (quota : ℕ) (part : PartValue) (w : WriteState) → IsWithin quota w → IsWithin quota (after_end most_blobs quota part w)
+end_within quota part w h = go part.is_last where
+  go : (last : Bool) → IsWithin quota (cond last (after_last_part most_blobs quota part.key (finish_answer part.key w.uploads) w) w)
+  go true = finished_within quota part.key w (finish_answer part.key w.uploads) refl h
+  go false = h
+
+part_within : (first : Bool) (quota moment : ℕ) (part : PartValue) (w : WriteState) (r : Result Unit UploadError) → r ≡ part_outcome first quota part w.uploads → IsWithin quota w → IsWithin quota (after_taking most_blobs quota moment part r w)
+part_within first quota moment part w (Ok u) is h =
+    let taken : WriteState = record w { uploads = after_piece moment part.key part.piece (Ok u) w.uploads } in
+    end_within quota part taken (record { texts = h.texts; uploads = taken_within first quota moment part w.uploads (Ok u) is h.uploads })
+part_within first quota moment part w (Err e) is h = record { texts = h.texts; uploads = taken_within first quota moment part w.uploads (Err e) is h.uploads }
+
+-- ---- a message
+
+first_part_within : (quota moment : ℕ) (asked : FirstAsked) (w : WriteState) → IsWithin quota w → IsWithin quota (after_first_part most_blobs quota moment asked w)
+first_part_within quota moment asked w h = go (is_some (visible_text asked.part.key.digest w.visible)) refl where
+  go : (b : Bool) → is_some (visible_text asked.part.key.digest w.visible) ≡ b → IsWithin quota (after_first_part most_blobs quota moment asked w)
+  go true is = rw is (record { texts = used_within most_blobs quota asked.part.key.digest w.visible h.texts; uploads = h.uploads })
+  go false is = rw is (part_within true quota moment asked.part w (part_outcome true quota asked.part w.uploads) refl h)
+
+pub first_within : (own : List ℕ) (quota moment : ℕ) (message : List ℕ) (w : WriteState) → IsWithin quota w → IsWithin quota (after_first own most_blobs quota moment message w)
+first_within own quota moment message w h = go (first_asked own message) where
+  go : (r : Result FirstAsked Refusal) → IsWithin quota (after_first_asked most_blobs quota moment r w)
+  go (Ok asked) = first_part_within quota moment asked w h
+  go (Err refusal) = h
+
+pub next_within : (call : OpenWriteValue) (quota moment : ℕ) (message : List ℕ) (w : WriteState) → IsWithin quota w → IsWithin quota (after_next call most_blobs quota moment message w)
+next_within call quota moment message w h = go (next_asked call message) where
+  go : (r : Result PartValue Refusal) → IsWithin quota (after_next_asked most_blobs quota moment r w)
+  go (Ok part) = part_within false quota moment part w (part_outcome false quota part w.uploads) refl h
+  go (Err refusal) = h
+
+-- a piece that was taken, before its upload ends
+pub piece_within : (first : Bool) (s : InstanceState) (asked : Result PartValue Refusal) → IsWithin s.quota (write_state s) → IsWithin s.quota (with_part first s asked)
+piece_within first s (Ok part) h = go (part_outcome first s.quota part s.uploads) refl where
+  go : (r : Result Unit UploadError) → r ≡ part_outcome first s.quota part s.uploads → IsWithin s.quota (with_piece s.moment part r (write_state s))
+  go (Ok u) is = record { texts = h.texts; uploads = taken_within first s.quota s.moment part s.uploads (Ok u) is h.uploads }
+  go (Err e) is = h
+piece_within first s (Err refusal) h = h
+
+-- ---- the size of an upload
+
+abbrev IsBelow : FirstAsked → Type 0
+IsBelow asked = asked.part.key.digest.size < 2 ^ 63
+
+abbrev asked_of : WriteRequestValue → WriteNameValue → FirstAsked
+asked_of request name = record {
+  name = request.resource_name;
+  part = record { key = key_of_name name; piece = record { offset = request.write_offset; bytes = request.content }; is_last = request.finish_write };
+}
+
+asked_below : (own message : List ℕ) (asked : FirstAsked) → first_asked own message ≡ Ok asked → IsBelow asked
+unfolding first_asked
+asked_below own message asked is = go (message_or_refusal (value_of_text write_request_of message)) is where
+  owned : (request : WriteRequestValue) (name : WriteNameValue) (o : Result Unit Refusal) → name.digest.size < 2 ^ 63 → (o >>= λ _. Ok (asked_of request name)) ≡ Ok asked → IsBelow asked
+  owned request name (Ok _) below is = let same : asked_of request name ≡ asked = cc in subst IsBelow same below
+  owned request name (Err e) below is = absurd (cc)
+
+  with_name : (request : WriteRequestValue) (n : Result WriteNameValue NameError) → write_name request.resource_name ≡ n
+      → (name_or_refusal n >>= λ name. instance_check own name.instance >>= λ _. Ok (asked_of request name)) ≡ Ok asked → IsBelow asked
+  with_name request (Ok name) at is = owned request name (instance_check own name.instance) (name_below request.resource_name name at) is
+  with_name request (Err e) at is = absurd (cc)
+
+  go : (r : Result WriteRequestValue Refusal) → (r >>= λ request. name_or_refusal (write_name request.resource_name) >>= λ name. instance_check own name.instance >>= λ _. Ok (asked_of request name)) ≡ Ok asked → IsBelow asked
+  go (Ok request) is = with_name request (write_name request.resource_name) refl is
+  go (Err e) is = absurd (cc)
+
+-- a Write that goes on writes an upload whose size can be told
+pub goes_below : (s : InstanceState) (message : List ℕ) (write : OpenWriteValue) → first_outcome s message ≡ Ok (Writing.Goes write) → write.key.digest.size < 2 ^ 63
+goes_below s message write is = go (first_asked s.name message) refl is where
+  answer : (asked : FirstAsked) (seen_now : Bool) (c : Result Bool Refusal) → first_asked s.name message ≡ Ok asked
+      → cond seen_now (Ok (reply_first asked true)) (c >>= λ complete. Ok (reply_first asked complete)) ≡ Ok (Writing.Goes write) → write.key.digest.size < 2 ^ 63
+  answer asked true c at is = absurd (cc)
+  answer asked false (Ok true) at is = absurd (cc)
+  answer asked false (Ok false) at is =
+      let kept : OpenWriteValue = record { name = asked.name; key = asked.part.key } in
+      let same : kept ≡ write = cc in
+      subst (λ (w : OpenWriteValue). w.key.digest.size < 2 ^ 63) same (asked_below s.name message asked at)
+  answer asked false (Err e) at is = absurd (cc)
+
+  go : (r : Result FirstAsked Refusal) → first_asked s.name message ≡ r → (r >>= λ asked. first_part_answer s.quota s.moment asked (write_state s)) ≡ Ok (Writing.Goes write) → write.key.digest.size < 2 ^ 63
+  go (Ok asked) at is = answer asked (is_some (visible_text asked.part.key.digest s.visible)) (part_answer true s.quota s.moment asked.part s.uploads) at is
+  go (Err refusal) at is = absurd (cc)

@@ -1,0 +1,44 @@
+-- What an event changes of what is noted of a run.
+use Rattle.std.specs.Prelude.{ℕ, zero, suc, ◌==◌, ◌-◌, if◌then◌else◌, not, List, [], ◌∷◌, ◌++◌, map, filter, drop, length, fold}
+use Rattle.std.specs.Option.{option_map_or}
+use Rattle.grpc_sending.specs.Bytes.{pending_bytes}
+use Rattle.server_events.specs.Events.{WhatValue, opened, took, closed}
+use Rattle.served_instance.specs.Connections.{open_at}
+use Rattle.served_instance.specs.Lone.{Lone}
+use Rattle.server_core.specs.declared.record.OpenRecord.{OpenRecord}
+
+-- so many more bytes were taken on the connection of this number
+abbrev pub record_after_taking : ℕ → ℕ → OpenRecord → OpenRecord
+record_after_taking c n o = if o.number == c then record o { untaken = o.untaken - n } else o
+
+-- which connections are open after an event, and how many bytes that were noted are not taken;
+-- before it there were so many connections
+abbrev pub open_records_after : WhatValue → ℕ → List OpenRecord → List OpenRecord
+open_records_after (opened c) count os =
+    os ++ record { number = c; place = count; untaken = 0 } ∷ []
+open_records_after (took c n) count os = map (record_after_taking c n) os
+open_records_after (closed c) count os = filter (λ o. not (o.number == c)) os
+open_records_after _ count os = os
+
+abbrev pub sent_bytes_after : WhatValue → List (ℕ × List ℕ) → List (ℕ × List ℕ)
+sent_bytes_after (opened c) ss = ss ++ (c, []) ∷ []
+sent_bytes_after _ ss = ss
+
+-- more bytes at a place
+abbrev pub with_more_at : ℕ → List ℕ → List (ℕ × List ℕ) → List (ℕ × List ℕ)
+with_more_at place more [] = []
+with_more_at zero more (s ∷ ss) = (s.0, s.1 ++ more) ∷ ss
+with_more_at (suc place) more (s ∷ ss) = s ∷ with_more_at place more ss
+
+abbrev pub pending_bytes_on : Lone → ℕ → List ℕ
+pending_bytes_on l c = option_map_or (λ p. pending_bytes p.history) (open_at c l.connections) []
+
+-- what an open connection's pending bytes have behind those that were noted
+abbrev pub sent_bytes_with : Lone → List (ℕ × List ℕ) → OpenRecord → List (ℕ × List ℕ)
+sent_bytes_with l ss o = with_more_at o.place (drop o.untaken (pending_bytes_on l o.number)) ss
+
+abbrev pub sent_bytes_with_all : Lone → List OpenRecord → List (ℕ × List ℕ) → List (ℕ × List ℕ)
+sent_bytes_with_all l os ss = fold (sent_bytes_with l) ss os
+
+abbrev pub record_after_noting : Lone → OpenRecord → OpenRecord
+record_after_noting l o = record o { untaken = length (pending_bytes_on l o.number) }

@@ -1,0 +1,244 @@
+//! What is noted of the run of one instance.
+
+ghost use Rattle.std.specs.Prelude.{◌≡◌, ◌≢◌, ◌<◌, ◌+◌, ◌-◌, ◌^◌, ◌==◌, not, map, filter, length, drop, Result, Err, IfOk, OnOk, OnErr};
+ghost use Rattle.server_events.specs.Configs.{ConfigValue};
+ghost use Rattle.server_events.specs.Shown.{event_value, what_value};
+ghost use Rattle.served_instance.specs.Lone.{Lone};
+ghost use Rattle.served_instance.specs.Refusals.{refusal_of, lone_step, IsOutcome};
+ghost use Rattle.served_instance.specs.Slots.{HasConnections};
+ghost use Rattle.server_core.specs.Runs.{Run, new_run, run_step, output_of_run};
+ghost use Rattle.server_core.specs.Shown.{sent_shown, instance_output_shown};
+ghost use Rattle.server_core.specs.Notes.{record_after_taking, open_records_after, sent_bytes_after, with_more_at, sent_bytes_with, sent_bytes_with_all, record_after_noting};
+ghost use Rattle.server_core.specs.Records.{StandsFor};
+
+use crate::outputs::{InstanceOutput, RefusedEvent, SentBytes};
+use served_instance::{EventRefusal, ServedInstance};
+use server_events::{Event, What};
+use std::alloc::{AllocError, Global};
+use std::marker::Model;
+
+/// An open connection: its place in `sent`, and how many of the bytes there were not taken.
+#[derive(Clone, Copy)]
+pub(crate) struct OpenRecord {
+    pub(crate) number: u32,
+    pub(crate) place: usize,
+    pub(crate) untaken: usize,
+}
+
+/// What is noted of an instance's run.
+#[derive(Drop)]
+pub struct InstanceRecord {
+    /// How many events there were.
+    count: u64,
+    refusals: Vec<RefusedEvent>,
+    /// Of all connections, in order of opening.
+    sent: Vec<SentBytes>,
+    /// The open connections, in order of opening.
+    live: Vec<OpenRecord>,
+}
+
+impl Model for InstanceRecord {
+    ghost use Rattle.std.specs.Prelude.{map};
+    ghost use Rattle.server_core.specs.Shown.{sent_shown, refused_shown};
+    ghost use Rattle.server_core.specs.Records.{RecordValue};
+
+    ghost Value = { RecordValue };
+
+    ghost view = { λ r. record {
+      count = r.count;
+      refusals = map refused_shown r.refusals.items;
+      sent = map sent_shown
+          r.sent.items;
+      live = r.live.items;
+    } };
+}
+
+impl InstanceRecord {
+    /// Nothing was noted yet.
+    pub fn new(alloc: Global) -> InstanceRecord
+        ensures { (config : ConfigValue) → StandsFor result (new_run config) }
+    {
+        InstanceRecord {
+            count: 0,
+            refusals: Vec::new(alloc),
+            sent: Vec::new(alloc),
+            live: Vec::new(alloc),
+        }
+    }
+
+    /// Notes an event that the instance took or refused, and the bytes that it put. The instance is
+    /// as the event left it. Where memory is refused the event is counted, no refusal is noted, and
+    /// of the bytes some may be: the record stands for no run any more, and is to be dropped.
+    pub fn note(
+        &mut self,
+        instance: &ServedInstance,
+        event: &Event,
+        outcome: Result<(), EventRefusal>,
+    ) -> Result<(), AllocError>
+        requires memory { outcome ≢ Err EventRefusal.NoMemory }
+        requires room { self.old.count < 2 ^ 64 - 1 }
+        ensures stands { OnOk result ((r : Run) → StandsFor self.old r
+            → IsOutcome outcome (refusal_of (event_value event.now) r.lone)
+            → HasConnections instance.now (lone_step (event_value event.now) r.lone)
+            → StandsFor self.new (run_step r (event_value event.now))) }
+        ensures count { self.new.count ≡ self.old.count + 1 }
+        ensures err { OnErr result (self.new.refusals ≡ self.old.refusals) }
+    {
+        self.count += 1;
+        match outcome {
+            Err(refusal) => {
+                let place = self.count;
+                self.refusals.push(RefusedEvent { place, refusal })?;
+                Ok(())
+            }
+            Ok(()) => {
+                follow(&mut self.sent, &mut self.live, &event.what)?;
+                gather(&mut self.sent, &self.live, instance)?;
+                count_untaken(&mut self.live, instance);
+                Ok(())
+            }
+        }
+    }
+
+    /// What was noted.
+    pub fn output(self) -> InstanceOutput
+        ensures { (r : Run) → StandsFor self r → instance_output_shown result ≡ output_of_run r }
+    {
+        InstanceOutput {
+            sent: self.sent,
+            refusals: self.refusals,
+        }
+    }
+}
+
+/// Follows which connections are open, and how many bytes were taken.
+fn follow(
+    sent: &mut Vec<SentBytes>,
+    live: &mut Vec<OpenRecord>,
+    what: &What,
+) -> Result<(), AllocError>
+    ensures sent { OnOk result (map sent_shown sent.new.items
+        ≡ sent_bytes_after (what_value what.now) (map sent_shown sent.old.items)) }
+    ensures live { OnOk result (live.new.items ≡ open_records_after (what_value what.now)
+        (length (map sent_shown sent.old.items)) live.old.items) }
+{
+    match what {
+        What::Open(number) => {
+            let place = sent.len();
+            let bytes = Vec::new(*sent.allocator());
+            sent.push(SentBytes {
+                connection: *number,
+                bytes,
+            })?;
+            live.push(OpenRecord {
+                number: *number,
+                place,
+                untaken: 0,
+            })?;
+            Ok(())
+        }
+        What::Took(number, count) => {
+            take(live, *number, *count as usize);
+            Ok(())
+        }
+        What::Closed(number) => {
+            close(live, *number);
+            Ok(())
+        }
+        What::Bytes(..) | What::Tick | What::Outcome(..) => Ok(()),
+    }
+}
+
+/// So many more bytes were taken on the connection of this number.
+fn take(live: &mut [OpenRecord], number: u32, count: usize)
+    ensures { live.new ≡ map (record_after_taking number count) live.old }
+{
+    for connection in live.iter_mut() {
+        take_from(connection, number, count);
+    }
+}
+
+/// So many more bytes were taken, if the connection has this number.
+fn take_from(connection: &mut OpenRecord, number: u32, count: usize)
+    ensures { connection.new ≡ record_after_taking number count connection.old }
+{
+    if connection.number == number {
+        connection.untaken = connection.untaken.saturating_sub(count);
+    }
+}
+
+/// The connection of this number is open no more.
+fn close(live: &mut Vec<OpenRecord>, number: u32)
+    ensures { live.new.items ≡ filter (λ o. not (o.number == number)) live.old.items }
+{
+    live.retain(|connection| connection.number != number);
+}
+
+/// Appends what was put on each open connection since the last event.
+fn gather(
+    sent: &mut Vec<SentBytes>,
+    live: &[OpenRecord],
+    instance: &ServedInstance,
+) -> Result<(), AllocError>
+    ensures { OnOk result ((l : Lone) → HasConnections instance.now l
+        → map sent_shown sent.new.items
+        ≡ sent_bytes_with_all l live.now (map sent_shown sent.old.items)) }
+{
+    for connection in live {
+        gather_from(sent, connection, instance)?;
+    }
+    Ok(())
+}
+
+/// Appends what was put on an open connection since the last event. In a record of a run no more is
+/// untaken than is pending.
+fn gather_from(
+    sent: &mut Vec<SentBytes>,
+    connection: &OpenRecord,
+    instance: &ServedInstance,
+) -> Result<(), AllocError>
+    ensures { OnOk result ((l : Lone) → HasConnections instance.now l
+        → map sent_shown sent.new.items ≡ sent_bytes_with l (map sent_shown sent.old.items)
+        connection.now) }
+{
+    match instance.pending(connection.number) {
+        None => Ok(()),
+        Some(pending) => append(
+            sent,
+            connection.place,
+            &pending[connection.untaken.min(pending.len())..],
+        ),
+    }
+}
+
+/// More bytes of the connection at this place. In a record of a run each open connection has its
+/// place in `sent`.
+fn append(sent: &mut Vec<SentBytes>, place: usize, more: &[u8]) -> Result<(), AllocError>
+    ensures { OnOk result (map sent_shown sent.new.items
+        ≡ with_more_at place more.now (map sent_shown sent.old.items)) }
+{
+    if place < sent.len() {
+        sent[place].bytes.extend_from_slice(more)?;
+    }
+    Ok(())
+}
+
+/// Counts on each open connection the bytes that were not taken.
+fn count_untaken(live: &mut [OpenRecord], instance: &ServedInstance)
+    ensures { (l : Lone) → HasConnections instance.now l →
+        live.new ≡ map (record_after_noting l) live.old }
+{
+    for connection in live.iter_mut() {
+        count_on(connection, instance);
+    }
+}
+
+/// Counts the bytes of an open connection that were not taken.
+fn count_on(connection: &mut OpenRecord, instance: &ServedInstance)
+    ensures { (l : Lone) → HasConnections instance.now l
+        → connection.new ≡ record_after_noting l connection.old }
+{
+    connection.untaken = instance
+        .pending(connection.number)
+        .map_or(0, |pending| pending.len());
+}

@@ -16,6 +16,7 @@ pub mod Filling
 pub mod Spans
 pub mod Sources
 pub mod Heads
+pub mod Sorted
 pub mod Keeping
 pub mod Agreeing
 mod Wire

@@ -1,14 +1,12 @@
 -- Sources move from what waits to those that are spent, and none is lost.
-use Rattle.std.proofs.Common.{◌≡◌, ℕ, zero, suc, ◌+◌, ◌≤◌, ◌<◌, List, [], ◌∷◌, ◌++◌, length, take, drop, refl, ap, ◌∙◌, sym, subst, arith, inl, inr, get_or, length-append, length-take, length-drop}
-use Rattle.std.proofs.lemmas.List.{length-map}
+use Rattle.std.proofs.Common.{◌≡◌, ℕ, zero, suc, ◌+◌, ◌≤◌, ◌<◌, List, [], ◌∷◌, ◌++◌, length, refl, ap, ◌∙◌, sym, arith, get_or, length-append}
 use Rattle.std.proofs.Math.ListN.{set}
-use Rattle.std.specs.Prelude.{not, ◌==◌, map, filter, slice_index_or, slice_set, Result, Ok, Err, OnOk, OnErr}
-use Rattle.std.proofs.lemmas.Bool.{cases_Bool}
+use Rattle.std.specs.Prelude.{slice_index_or, slice_set, Result, Ok, Err, OnOk, OnErr}
 use Rattle.std.proofs.lemmas.Grind.{flat_map-append}
 use Rattle.grpc_sending.specs.declared.piece.StoredPiece.{StoredPiece}
 use Rattle.grpc_sending.specs.declared.queue.StoredQueue.{StoredQueue}
 use Rattle.grpc_sending.specs.Sources.{sum_over, AreSame, source_of, sources_in, sources_held, Waiting, sources_waiting}
-use Rattle.grpc_sending.specs.StoredSending.{with_piece, cleared_at}
+use Rattle.grpc_sending.specs.StoredSending.{with_piece}
 
 pub sum_append : (f : ℕ → ℕ) (ms ns : List ℕ) → sum_over f (ms ++ ns) ≡ sum_over f ms + sum_over f ns
 sum_append f [] ns = omega arith
@@ -30,9 +28,6 @@ same_first ps qs p old new is put f =
     omega (arith, a, b, c, d)
 
 -- ---- one queue among others
-
-pub long_at : (f : StoredQueue → StoredQueue) (xs ys : List StoredQueue) (i : ℕ) → i < length xs → ys ≡ map f (take i xs) ++ drop i xs → i < length ys
-long_at f xs ys i lt is = omega (arith, lt, ap length is, length-append (map f (take i xs)) (drop i xs), length-map (take i xs) f, length-take i xs, length-drop i xs)
 
 held_set : (f : ℕ → ℕ) (qs : List StoredQueue) (i : ℕ) (q d : StoredQueue) → i < length qs →
     sum_over f (sources_held (set qs i q)) + sum_over f (sources_in (get_or qs i d).pieces) ≡ sum_over f (sources_held qs) + sum_over f (sources_in q.pieces)
@@ -83,27 +78,6 @@ room_of os ns first old room room' same fits more =
 pub same_more : (a b c : List ℕ) → AreSame a b → AreSame b c → AreSame a c
 same_more a b c g h f = h f ∙ g f
 
--- ---- a stream that is forgotten
-
-pub cleared_filter : (s : ℕ) (qs : List StoredQueue) → filter (λ q. not (q.stream == s)) (map (cleared_at s) qs) ≡ filter (λ (q : StoredQueue). not (q.stream == s)) qs
-cleared_filter s [] = refl
-cleared_filter s (q ∷ qs) = elim (cases_Bool (q.stream == s)) [
-  | inl at ↦ rw (at, at) (cleared_filter s qs)
-  | inr off ↦ rw (off, off) (ap (λ (xs : List StoredQueue). q ∷ xs) (cleared_filter s qs))
-]
-
-cleared_held : (s : ℕ) (qs : List StoredQueue) → sources_held (filter (λ (q : StoredQueue). not (q.stream == s)) qs) ≡ sources_held (map (cleared_at s) qs)
-cleared_held s [] = refl
-cleared_held s (q ∷ qs) = elim (cases_Bool (q.stream == s)) [
-  | inl at ↦ rw at (cleared_held s qs)
-  | inr off ↦ rw off (ap (λ (xs : List ℕ). sources_in q.pieces ++ xs) (cleared_held s qs))
-]
-
-pub same_forgotten : (s : ℕ) (qs ms rs : List StoredQueue) (old new : List ℕ) → ms ≡ map (cleared_at s) qs → rs ≡ filter (λ (q : StoredQueue). not (q.stream == s)) ms → AreSame (sources_held qs ++ old) (sources_held ms ++ new) → AreSame (sources_held qs ++ old) (sources_held rs ++ new)
-same_forgotten s qs ms rs old new cleared kept same =
-    let e : sources_held rs ≡ sources_held ms = ap sources_held (kept ∙ ap (λ (xs : List StoredQueue). filter (λ (q : StoredQueue). not (q.stream == s)) xs) cleared ∙ cleared_filter s qs) ∙ cleared_held s qs ∙ ap sources_held (sym cleared) in
-    subst (λ (ns : List ℕ). AreSame (sources_held qs ++ old) (ns ++ new)) (sym e) same
-
 -- ---- all of them
 
 pub same_last : (os qs rs : List StoredQueue) (q : StoredQueue) (first old new : List ℕ) → qs ≡ rs ++ q ∷ [] → AreSame (sources_held os ++ first) (sources_held qs ++ old) → AreSame (sources_in q.pieces ++ old) new → AreSame (sources_held os ++ first) (sources_held rs ++ new)
@@ -140,16 +114,6 @@ pushed_sources (Ok x) qs rs i n p lt size h = λ f.
     let c : sum_over f (source_of p ++ sources_held qs) ≡ sum_over f (source_of p) + sum_over f (sources_held qs) = sum_append f (source_of p) (sources_held qs) in
     let e : sum_over f (sources_held rs) ≡ sum_over f (sources_held (set qs i (with_piece p (get_or qs i d)))) = ap (λ (xs : List StoredQueue). sum_over f (sources_held xs)) (h d) in
     omega (arith, a, b, c, e)
-
-pub pushed_new_sources : (qs rs : List StoredQueue) (s : ℕ) (p : StoredPiece) (old ps : List StoredPiece) → old ≡ [] → ps ≡ old ++ p ∷ [] → rs ≡ qs ++ record { stream = s; pieces = ps } ∷ [] → AreSame (source_of p ++ sources_held qs) (sources_held rs)
-pushed_new_sources qs rs s p old ps none pieces new f =
-    let one : ps ≡ p ∷ [] = pieces ∙ ap (λ (xs : List StoredPiece). xs ++ p ∷ []) none in
-    let a : sources_held rs ≡ sources_held qs ++ (sources_in ps ++ []) = ap sources_held new ∙ flat_map-append (λ (x : StoredQueue). sources_in x.pieces) qs (record { stream = s; pieces = ps } ∷ []) in
-    let b : sum_over f (sources_held qs ++ (sources_in ps ++ [])) ≡ sum_over f (sources_held qs) + sum_over f (sources_in ps ++ []) = sum_append f (sources_held qs) (sources_in ps ++ []) in
-    let c : sum_over f (sources_in ps ++ []) ≡ sum_over f (sources_in ps) + 0 = sum_append f (sources_in ps) [] in
-    let e : sum_over f (sources_in ps) ≡ sum_over f (source_of p) + 0 = ap (λ (xs : List StoredPiece). sum_over f (sources_in xs)) one ∙ sum_append f (source_of p) [] in
-    let g : sum_over f (source_of p ++ sources_held qs) ≡ sum_over f (source_of p) + sum_over f (sources_held qs) = sum_append f (source_of p) (sources_held qs) in
-    omega (arith, ap (sum_over f) a, b, c, e, g)
 
 -- ---- the same by what the code holds
 

@@ -10,3 +10,4 @@ pub mod Spans
 pub mod StandsFor
 pub mod Step
 pub mod Wire
+pub mod SortedQueues

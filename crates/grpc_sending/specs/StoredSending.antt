@@ -15,7 +15,7 @@ use Rattle.digest.specs.declared.Digest.{Digest}
 use Rattle.grpc_sending.specs.declared.piece.StoredPiece.{StoredPiece}
 use Rattle.grpc_sending.specs.declared.piece.StoredPiece.TheVariants.{Encoded, Framed, Ranged}
 use Rattle.grpc_sending.specs.declared.queue.Removal.{Removal}
-use Rattle.grpc_sending.specs.declared.queue.Removal.TheVariants.{FirstPiece, FrontBytes, AllPieces}
+use Rattle.grpc_sending.specs.declared.queue.Removal.TheVariants.{FirstPiece, FrontBytes}
 use Rattle.grpc_sending.specs.declared.queue.StoredQueue.{StoredQueue}
 use Rattle.grpc_sending.specs.declared.turn.Due.{Due}
 use Rattle.grpc_sending.specs.declared.turn.Due.TheVariants.{Opens, Gives}
@@ -201,10 +201,6 @@ abbrev pub first_at : ℕ → List StoredQueue → ℕ
 first_at s [] = 0
 first_at s (q ∷ qs) = if q.stream == s then 0 else suc (first_at s qs)
 
--- nothing is to be put any more on stream s
-abbrev pub cleared_at : ℕ → StoredQueue → StoredQueue
-cleared_at s q = if q.stream == s then record q { pieces = [] } else q
-
 abbrev pub with_piece : StoredPiece → StoredQueue → StoredQueue
 with_piece p q = record q { pieces = q.pieces ++ p ∷ [] }
 
@@ -231,7 +227,6 @@ stored_front_at s n q = if q.stream == s then record q { pieces = stored_front n
 abbrev pub pieces_left : Removal → List StoredPiece → List StoredPiece
 pieces_left FirstPiece ps = drop 1 ps
 pieces_left (FrontBytes n) ps = stored_front n ps
-pieces_left AllPieces ps = []
 
 abbrev pub left_at : Removal → ℕ → StoredQueue → StoredQueue
 left_at removal s q =

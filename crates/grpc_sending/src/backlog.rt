@@ -2,6 +2,7 @@
 
 ghost use Rattle.std.specs.Prelude.{◌≡◌, ◌≤◌, ◌<◌, ◌==◌, ◌^◌, ◌++◌, ◌∷◌, [], ℕ, List, None, OnOk, OnErr, MatchOption, length, map, filter, not, if◌then◌else◌, vec_capacity};
 ghost use Rattle.grpc_sending.specs.StoredSending.{Appends, Tells, stored_first_at, stored_front_at};
+ghost use Rattle.grpc_sending.specs.SortedQueues.{AreSorted};
 ghost use Rattle.grpc_sending.specs.Sources.{AreSame, source_of, sources_waiting};
 ghost use Rattle.grpc_sending.specs.declared.piece.StoredPiece.TheVariants.{Ranged};
 
@@ -15,6 +16,7 @@ use std::marker::Model;
 /// spent, and is told once for it. No call but `push`, `push_range` and `spend` takes memory.
 #[derive(Drop)]
 pub(crate) struct Backlog {
+    /// In rising order of their streams.
     queues: Vec<StoredQueue>,
     /// The sources of ranges that are over, which were not told yet.
     spent: Vec<usize>,
@@ -25,6 +27,7 @@ pub(crate) struct Backlog {
 
 impl Model for Backlog {
     ghost use Rattle.std.specs.Prelude.{◌≤◌, ◌+◌, length, vec_capacity};
+    ghost use Rattle.grpc_sending.specs.SortedQueues.{AreSorted};
     ghost use Rattle.grpc_sending.specs.Sources.{Waiting, HasRoom};
 
     ghost Value = { Waiting };
@@ -32,7 +35,7 @@ impl Model for Backlog {
     ghost view = { λ b. record { queues = b.queues.items; spent = b.spent.items } };
 
     ghost invariant = { λ b. HasRoom b.queues.items b.spent.items b.sources
-        × (b.sources ≤ vec_capacity b.spent) };
+        × (b.sources ≤ vec_capacity b.spent) × AreSorted b.queues.items };
 }
 
 impl Backlog {
@@ -51,7 +54,8 @@ impl Backlog {
     }
 
     pub(crate) fn queues(&self) -> &[StoredQueue]
-        ensures { result.now ≡ self.now.queues }
+        ensures list { result.now ≡ self.now.queues }
+        ensures sorted { AreSorted result.now }
     {
         &self.queues
     }

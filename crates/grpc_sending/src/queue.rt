@@ -1,7 +1,9 @@
 //! What is still to be put on each stream.
 
-ghost use Rattle.std.specs.Prelude.{◌≡◌, ◌≤◌, ◌<◌, ◌==◌, ◌+◌, ◌++◌, ◌∷◌, [], ℕ, List, IfOk, OnOk, OnErr, MatchOption, length, drop, map, filter, not, slice_set, slice_index_or, if◌then◌else◌, vec_capacity};
-ghost use Rattle.grpc_sending.specs.StoredSending.{Appends, stored_on, stored_front, pieces_left, left_at, first_at, with_piece};
+ghost use Rattle.std.specs.Prelude.{◌≡◌, ◌≤◌, ◌<◌, ◌==◌, ◌+◌, ◌++◌, ◌∷◌, [], ℕ, List, IfOk, IfErr, OnOk, OnErr, MatchOption, length, drop, map, filter, not, slice_set, slice_index_or, if◌then◌else◌, vec_capacity};
+ghost use Rattle.grpc_sending.specs.StoredSending.{Appends, stored_on, stored_front, pieces_left, left_at, with_piece};
+ghost use Rattle.grpc_sending.specs.SortedQueues.{AreSorted, IsAt, IsGapFor};
+ghost use Rattle.std.specs.List.Sorted.{IsSearchInRange};
 ghost use Rattle.grpc_sending.specs.Sources.{Spends, SpendsOf, HasRoom, HasRoomOf, Takes, source_of};
 ghost use Rattle.grpc_sending.specs.declared.piece.StoredPiece.{StoredPiece};
 ghost use Rattle.grpc_sending.specs.declared.queue.StoredQueue.{StoredQueue};
@@ -18,8 +20,6 @@ pub(crate) enum Removal {
     FirstPiece,
     /// So many bytes of the first, which were put.
     FrontBytes(usize),
-    /// All of them: nothing is to be put any more.
-    AllPieces,
 }
 
 /// Pieces in the order in which they are put.
@@ -95,7 +95,6 @@ impl Pieces {
         match removal {
             Removal::FirstPiece => spend_first(&mut self.pieces, spent),
             Removal::FrontBytes(count) => self.take_off(count, spent),
-            Removal::AllPieces => self.clear(spent),
         }
     }
 }
@@ -129,6 +128,16 @@ pub(crate) struct StoredQueue {
     pub(crate) pieces: Pieces,
 }
 
+/// The place of the stream's queue, or the place where it would stand.
+fn find(queues: &[StoredQueue], stream: u32) -> Result<usize, usize>
+    requires sorted { AreSorted queues.now }
+    ensures found { IfOk result (IsAt stream queues.now) }
+    ensures absent { IfErr result (IsGapFor stream queues.now) }
+    ensures bound { IsSearchInRange result (length queues.now) }
+{
+    queues.binary_search_by_key(&stream, |queue| queue.stream)
+}
+
 /// Removes pieces of the stream.
 pub(crate) fn remove_on(
     queues: &mut Vec<StoredQueue>,
@@ -136,34 +145,29 @@ pub(crate) fn remove_on(
     removal: Removal,
     spent: &mut Vec<usize>,
 )
+    requires sorted { AreSorted queues.old.items }
     requires room { HasRoom queues.old.items spent.old.items (vec_capacity spent.old) }
     ensures queues { queues.new.items ≡ map (left_at removal stream) queues.old.items }
     ensures sources { Spends queues.old.items spent.old.items queues.new.items spent.new.items }
     ensures capacity { vec_capacity spent.old ≤ vec_capacity spent.new }
 {
-    remove_each(queues, stream, removal, spent);
-}
-
-fn remove_each(queues: &mut [StoredQueue], stream: u32, removal: Removal, spent: &mut Vec<usize>)
-    requires room { HasRoom queues.old spent.old.items (vec_capacity spent.old) }
-    ensures queues { queues.new ≡ map (left_at removal stream) queues.old }
-    ensures sources { Spends queues.old spent.old.items queues.new spent.new.items }
-    ensures capacity { vec_capacity spent.old ≤ vec_capacity spent.new }
-{
-    for queue in queues.iter_mut() {
-        queue.remove(stream, removal, spent);
+    if let Ok(place) = find(queues, stream) {
+        queues[place].pieces.remove(removal, spent);
     }
 }
 
 /// Nothing more is to be put on the stream.
 pub(crate) fn forget(queues: &mut Vec<StoredQueue>, stream: u32, spent: &mut Vec<usize>)
+    requires sorted { AreSorted queues.old.items }
     requires room { HasRoom queues.old.items spent.old.items (vec_capacity spent.old) }
     ensures queues { queues.new.items ≡ filter (λ q. not (q.stream == stream)) queues.old.items }
     ensures sources { Spends queues.old.items spent.old.items queues.new.items spent.new.items }
     ensures capacity { vec_capacity spent.old ≤ vec_capacity spent.new }
 {
-    remove_on(queues, stream, Removal::AllPieces, spent);
-    queues.retain(|queue| queue.stream != stream);
+    if let Ok(place) = find(queues, stream) {
+        let mut pieces = queues.remove(place).pieces;
+        pieces.clear(spent);
+    }
 }
 
 /// Nothing more is to be put on any stream.
@@ -179,48 +183,25 @@ pub(crate) fn forget_all(queues: &mut Vec<StoredQueue>, spent: &mut Vec<usize>)
     }
 }
 
-impl StoredQueue {
-    fn remove(&mut self, stream: u32, removal: Removal, spent: &mut Vec<usize>)
-        requires room { HasRoomOf self.old.pieces spent.old.items (vec_capacity spent.old) }
-        ensures queue { self.new ≡ left_at removal stream self.old }
-        ensures sources { SpendsOf self.old.pieces spent.old.items self.new.pieces spent.new.items }
-        ensures capacity { vec_capacity spent.old ≤ vec_capacity spent.new }
-    {
-        if self.stream == stream {
-            self.pieces.remove(removal, spent);
-        }
+/// What is still to be put on the stream.
+pub(crate) fn pieces_on(queues: &[StoredQueue], stream: u32) -> Option<&Pieces>
+    requires sorted { AreSorted queues.now }
+    ensures { MatchOption result (stored_on stream queues.now ≡ [])
+        (λ pieces. pieces.now ≡ stored_on stream queues.now) }
+{
+    match find(queues, stream) {
+        Ok(place) => Some(&queues[place].pieces),
+        Err(_) => None,
     }
 }
 
 /// What is to be put first on the stream.
 pub(crate) fn first_on(queues: &[StoredQueue], stream: u32) -> Option<&StoredPiece>
+    requires sorted { AreSorted queues.now }
     ensures { MatchOption result (stored_on stream queues.now ≡ [])
         (λ p. stored_on stream queues.now ≡ p.now ∷ drop 1 (stored_on stream queues.now)) }
 {
-    let mut left = queues;
-    'queues: while let [queue, rest @ ..] = left {
-        if queue.stream == stream {
-            return queue.pieces.first();
-        }
-        left = rest;
-    }
-    None
-}
-
-/// The place of the stream's queue, or the number of all queues.
-fn first_at(queues: &[StoredQueue], stream: u32) -> usize
-    ensures { result ≡ first_at stream queues.now }
-{
-    let mut left = queues;
-    let mut place = 0;
-    'queues: while let [queue, rest @ ..] = left {
-        if queue.stream == stream {
-            return place;
-        }
-        place += 1;
-        left = rest;
-    }
-    place
+    pieces_on(queues, stream)?.first()
 }
 
 /// Appends a piece to what is to be put on the stream.
@@ -229,18 +210,21 @@ pub(crate) fn push(
     stream: u32,
     piece: StoredPiece,
 ) -> Result<(), AllocError>
+    requires sorted { AreSorted queues.old.items }
     ensures ok { OnOk result (Appends stream piece queues.old.items queues.new.items) }
     ensures sources { OnOk result (Takes (source_of piece) queues.old.items queues.new.items) }
+    ensures sorted { AreSorted queues.new.items }
     ensures err { OnErr result (queues.new.items ≡ queues.old.items) }
 {
-    let place = first_at(queues, stream);
-    if place < queues.len() {
-        return push_at(queues, place, piece);
+    match find(queues, stream) {
+        Ok(place) => push_at(queues, place, piece),
+        Err(place) => {
+            let mut pieces = Pieces::new(*queues.allocator());
+            pieces.push(piece)?;
+            queues.insert(place, StoredQueue { stream, pieces })?;
+            Ok(())
+        }
     }
-    let mut pieces = Pieces::new(*queues.allocator());
-    pieces.push(piece)?;
-    queues.push(StoredQueue { stream, pieces })?;
-    Ok(())
 }
 
 fn push_at(
@@ -248,10 +232,12 @@ fn push_at(
     place: usize,
     piece: StoredPiece,
 ) -> Result<(), AllocError>
-    requires { place < length queues.old.items }
+    requires place { place < length queues.old.items }
+    requires sorted { AreSorted queues.old.items }
     ensures ok { OnOk result ((q : StoredQueue) →
         queues.new.items ≡ slice_set queues.old.items place
         (with_piece piece (slice_index_or queues.old.items place q))) }
+    ensures sorted { AreSorted queues.new.items }
     ensures err { OnErr result (queues.new.items ≡ queues.old.items) }
 {
     queues[place].pieces.push(piece)

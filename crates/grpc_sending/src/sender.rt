@@ -11,6 +11,7 @@ ghost use Rattle.grpc_sending.specs.Owed.{OwedItem, Headed, Message, Range};
 ghost use Rattle.grpc_sending.specs.Pump.{history_after_pump, next_frames};
 ghost use Rattle.grpc_sending.specs.StandsFor.{owed_with_item};
 ghost use Rattle.grpc_sending.specs.StoredSending.{Tells, Enters, DropsClosed, DropsAll, Owes, OwesRange, IsAtRest, PumpsStreams, PumpsSending, PutsBy, ResetsBy, FinishesBy, KeepsFit, KeepsFitWith, Look, StoredSending, StandsFor, Fit, IsFit, KeepsSources, HoldsMore, HasFew, new_stored_sending, sending_in, stored_on, front_bytes, front_frame};
+ghost use Rattle.grpc_sending.specs.SortedQueues.{AreSorted};
 ghost use Rattle.grpc_sending.specs.Step.{Puts, Rests, IsControl, Finishes, Resets};
 
 use crate::backlog::Backlog;
@@ -335,6 +336,7 @@ fn put_content<P: Parts>(
     count: usize,
     parts: &P,
 )
+    requires sorted { AreSorted queues.now }
     requires some { 0 < count }
     requires fit { Fit (P.text_of parts.now) queues.now }
     requires there { count ≤ length (front_bytes (P.text_of parts.now)

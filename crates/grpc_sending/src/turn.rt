@@ -4,9 +4,10 @@ ghost use Rattle.std.specs.Prelude.{◌≡◌, ◌≤◌, length};
 ghost use Rattle.http2_flow.specs.Credit.{window_left};
 ghost use Rattle.grpc_sending.specs.Pump.{part_size};
 ghost use Rattle.grpc_sending.specs.StoredSending.{count_due, due_of, due_on, next_due};
+ghost use Rattle.grpc_sending.specs.SortedQueues.{AreSorted};
 
 use crate::piece::{BlockText, StoredPiece};
-use crate::queue::{Pieces, StoredQueue};
+use crate::queue::{Pieces, StoredQueue, pieces_on};
 use http2_streams::{Stream, Streams};
 
 /// The largest payload of a DATA frame, which every client takes (RFC 9113 section 4.2).
@@ -70,16 +71,13 @@ fn due_of<'a>(connection_window: i64, stream: &Stream, pieces: &'a Pieces) -> Op
 }
 
 fn due_on<'a>(queues: &'a [StoredQueue], connection_window: i64, stream: &Stream) -> Option<Due<'a>>
+    requires sorted { AreSorted queues.now }
     ensures { result ≡ due_on queues.now connection_window stream.now }
 {
-    let mut left = queues;
-    'queues: while let [queue, rest @ ..] = left {
-        if queue.stream == stream.number {
-            return due_of(connection_window, stream, &queue.pieces);
-        }
-        left = rest;
+    match pieces_on(queues, stream.number) {
+        None => None,
+        Some(pieces) => due_of(connection_window, stream, pieces),
     }
-    None
 }
 
 fn first_turn<'a>(
@@ -87,6 +85,7 @@ fn first_turn<'a>(
     connection_window: i64,
     live: &[Stream],
 ) -> Option<Due<'a>>
+    requires sorted { AreSorted queues.now }
     ensures { result ≡ next_due queues.now connection_window live.now }
 {
     let mut left = live;
@@ -102,6 +101,7 @@ fn first_turn<'a>(
 
 /// The turn of the first of the live streams that has one.
 pub(crate) fn next_due<'a>(queues: &'a [StoredQueue], streams: &Streams) -> Option<Due<'a>>
+    requires sorted { AreSorted queues.now }
     ensures { result ≡ next_due queues.now
         (window_left streams.now.connection_window) streams.now.live }
 {

@@ -17,42 +17,42 @@ pub on_headers_put-requires : goal.on_headers_put-requires
 on_headers_put-requires g c =
     let fit : Fit (g.P.Parts.text_of c.args.parts.now) c.self.inside.backlog.queues = subst (λ (x : StoredSending). Fit (g.P.Parts.text_of c.args.parts.now) x.queues) (sym c.self.view_is) c.requires.fit in
     let turn : next_due c.self.inside.backlog.queues (window_left c.args.streams.now.connection_window) c.args.streams.now.live ≡ Some (Opens c.in-Some-Opens.stream c.in-Some-Opens.block c.in-Some-Opens.ended_by_client) =
-    sym (c.next_due.ensures ∙ ap (λ (qs : List StoredQueue). next_due qs (window_left c.args.streams.now.connection_window) c.args.streams.now.live) c.queues.ensures) ∙ c.in-Some-Opens.is ∙ ap Some c.in-Some-Opens.field-0-is in
+    sym (c.next_due.ensures ∙ ap (λ (qs : List StoredQueue). next_due qs (window_left c.args.streams.now.connection_window) c.args.streams.now.live) c.queues.ensures.list) ∙ c.in-Some-Opens.is ∙ ap Some c.in-Some-Opens.field-0-is in
     opens_lives (g.P.Parts.text_of c.args.parts.now) c.self.inside.backlog.queues (window_left c.args.streams.now.connection_window) c.args.streams.now.live c.in-Some-Opens.stream c.in-Some-Opens.block c.in-Some-Opens.ended_by_client fit turn
 
 pub overflow_cast-count : goal.overflow_cast-count
 overflow_cast-count g c =
     let fit : Fit (g.P.Parts.text_of c.args.parts.now) c.self.inside.backlog.queues = subst (λ (x : StoredSending). Fit (g.P.Parts.text_of c.args.parts.now) x.queues) (sym c.self.view_is) c.requires.fit in
     let turn : next_due c.self.inside.backlog.queues (window_left c.args.streams.now.connection_window) c.args.streams.now.live ≡ Some (Gives c.in-Some-Gives.stream c.in-Some-Gives.count) =
-    sym (c.next_due.ensures ∙ ap (λ (qs : List StoredQueue). next_due qs (window_left c.args.streams.now.connection_window) c.args.streams.now.live) c.queues.ensures) ∙ c.in-Some-Gives.is ∙ ap Some c.in-Some-Gives.field-0-is in
+    sym (c.next_due.ensures ∙ ap (λ (qs : List StoredQueue). next_due qs (window_left c.args.streams.now.connection_window) c.args.streams.now.live) c.queues.ensures.list) ∙ c.in-Some-Gives.is ∙ ap Some c.in-Some-Gives.field-0-is in
     omega (arith, (given (g.P.Parts.text_of c.args.parts.now) c.self.inside.backlog.queues (window_left c.args.streams.now.connection_window) c.args.streams.now.live c.in-Some-Gives.stream c.in-Some-Gives.count fit turn).short)
 
 pub overflow_cast-count-in-Some-Gives : goal.overflow_cast-count-in-Some-Gives
 overflow_cast-count-in-Some-Gives g c =
     let fit : Fit (g.P.Parts.text_of c.args.parts.now) c.self.inside.backlog.queues = subst (λ (x : StoredSending). Fit (g.P.Parts.text_of c.args.parts.now) x.queues) (sym c.self.view_is) c.requires.fit in
     let turn : next_due c.self.inside.backlog.queues (window_left c.args.streams.now.connection_window) c.args.streams.now.live ≡ Some (Gives c.in-Some-Gives.stream c.in-Some-Gives.count) =
-    sym (c.next_due.ensures ∙ ap (λ (qs : List StoredQueue). next_due qs (window_left c.args.streams.now.connection_window) c.args.streams.now.live) c.queues.ensures) ∙ c.in-Some-Gives.is ∙ ap Some c.in-Some-Gives.field-0-is in
+    sym (c.next_due.ensures ∙ ap (λ (qs : List StoredQueue). next_due qs (window_left c.args.streams.now.connection_window) c.args.streams.now.live) c.queues.ensures.list) ∙ c.in-Some-Gives.is ∙ ap Some c.in-Some-Gives.field-0-is in
     omega (arith, (given (g.P.Parts.text_of c.args.parts.now) c.self.inside.backlog.queues (window_left c.args.streams.now.connection_window) c.args.streams.now.live c.in-Some-Gives.stream c.in-Some-Gives.count fit turn).short)
 
 pub put_content-requires-clause-some : goal.put_content-requires-clause-some
 put_content-requires-clause-some g c =
     let fit : Fit (g.P.Parts.text_of c.args.parts.now) c.self.inside.backlog.queues = subst (λ (x : StoredSending). Fit (g.P.Parts.text_of c.args.parts.now) x.queues) (sym c.self.view_is) c.requires.fit in
     let turn : next_due c.self.inside.backlog.queues (window_left c.args.streams.now.connection_window) c.args.streams.now.live ≡ Some (Gives c.in-Some-Gives.stream c.in-Some-Gives.count) =
-    sym (c.next_due.ensures ∙ ap (λ (qs : List StoredQueue). next_due qs (window_left c.args.streams.now.connection_window) c.args.streams.now.live) c.queues.ensures) ∙ c.in-Some-Gives.is ∙ ap Some c.in-Some-Gives.field-0-is in
+    sym (c.next_due.ensures ∙ ap (λ (qs : List StoredQueue). next_due qs (window_left c.args.streams.now.connection_window) c.args.streams.now.live) c.queues.ensures.list) ∙ c.in-Some-Gives.is ∙ ap Some c.in-Some-Gives.field-0-is in
     (given (g.P.Parts.text_of c.args.parts.now) c.self.inside.backlog.queues (window_left c.args.streams.now.connection_window) c.args.streams.now.live c.in-Some-Gives.stream c.in-Some-Gives.count fit turn).some
 
 pub put_content-requires-clause-short : goal.put_content-requires-clause-short
 put_content-requires-clause-short g c =
     let fit : Fit (g.P.Parts.text_of c.args.parts.now) c.self.inside.backlog.queues = subst (λ (x : StoredSending). Fit (g.P.Parts.text_of c.args.parts.now) x.queues) (sym c.self.view_is) c.requires.fit in
     let turn : next_due c.self.inside.backlog.queues (window_left c.args.streams.now.connection_window) c.args.streams.now.live ≡ Some (Gives c.in-Some-Gives.stream c.in-Some-Gives.count) =
-    sym (c.next_due.ensures ∙ ap (λ (qs : List StoredQueue). next_due qs (window_left c.args.streams.now.connection_window) c.args.streams.now.live) c.queues.ensures) ∙ c.in-Some-Gives.is ∙ ap Some c.in-Some-Gives.field-0-is in
+    sym (c.next_due.ensures ∙ ap (λ (qs : List StoredQueue). next_due qs (window_left c.args.streams.now.connection_window) c.args.streams.now.live) c.queues.ensures.list) ∙ c.in-Some-Gives.is ∙ ap Some c.in-Some-Gives.field-0-is in
     (given (g.P.Parts.text_of c.args.parts.now) c.self.inside.backlog.queues (window_left c.args.streams.now.connection_window) c.args.streams.now.live c.in-Some-Gives.stream c.in-Some-Gives.count fit turn).short
 
 pub put_content-requires-clause-room : goal.put_content-requires-clause-room
 put_content-requires-clause-room g c =
     let fit : Fit (g.P.Parts.text_of c.args.parts.now) c.self.inside.backlog.queues = subst (λ (x : StoredSending). Fit (g.P.Parts.text_of c.args.parts.now) x.queues) (sym c.self.view_is) c.requires.fit in
     let turn : next_due c.self.inside.backlog.queues (window_left c.args.streams.now.connection_window) c.args.streams.now.live ≡ Some (Gives c.in-Some-Gives.stream c.in-Some-Gives.count) =
-    sym (c.next_due.ensures ∙ ap (λ (qs : List StoredQueue). next_due qs (window_left c.args.streams.now.connection_window) c.args.streams.now.live) c.queues.ensures) ∙ c.in-Some-Gives.is ∙ ap Some c.in-Some-Gives.field-0-is in
+    sym (c.next_due.ensures ∙ ap (λ (qs : List StoredQueue). next_due qs (window_left c.args.streams.now.connection_window) c.args.streams.now.live) c.queues.ensures.list) ∙ c.in-Some-Gives.is ∙ ap Some c.in-Some-Gives.field-0-is in
     let room : length c.self.inside.buffer < 65536 = omega (arith, c.if-len-ge-PUMP_LIMIT.false, c.len.ensures) in
     omega (arith, (given (g.P.Parts.text_of c.args.parts.now) c.self.inside.backlog.queues (window_left c.args.streams.now.connection_window) c.args.streams.now.live c.in-Some-Gives.stream c.in-Some-Gives.count fit turn).short, room)
 
@@ -60,13 +60,13 @@ pub put_content-requires-clause-there : goal.put_content-requires-clause-there
 put_content-requires-clause-there g c =
     let fit : Fit (g.P.Parts.text_of c.args.parts.now) c.self.inside.backlog.queues = subst (λ (x : StoredSending). Fit (g.P.Parts.text_of c.args.parts.now) x.queues) (sym c.self.view_is) c.requires.fit in
     let turn : next_due c.self.inside.backlog.queues (window_left c.args.streams.now.connection_window) c.args.streams.now.live ≡ Some (Gives c.in-Some-Gives.stream c.in-Some-Gives.count) =
-    sym (c.next_due.ensures ∙ ap (λ (qs : List StoredQueue). next_due qs (window_left c.args.streams.now.connection_window) c.args.streams.now.live) c.queues.ensures) ∙ c.in-Some-Gives.is ∙ ap Some c.in-Some-Gives.field-0-is in
-    subst (λ (qs : List StoredQueue). c.in-Some-Gives.count ≤ length (front_bytes (g.P.Parts.text_of c.args.parts.now) (stored_on c.in-Some-Gives.stream qs))) (sym c.queues-in-Some-Gives.ensures) (given (g.P.Parts.text_of c.args.parts.now) c.self.inside.backlog.queues (window_left c.args.streams.now.connection_window) c.args.streams.now.live c.in-Some-Gives.stream c.in-Some-Gives.count fit turn).there
+    sym (c.next_due.ensures ∙ ap (λ (qs : List StoredQueue). next_due qs (window_left c.args.streams.now.connection_window) c.args.streams.now.live) c.queues.ensures.list) ∙ c.in-Some-Gives.is ∙ ap Some c.in-Some-Gives.field-0-is in
+    subst (λ (qs : List StoredQueue). c.in-Some-Gives.count ≤ length (front_bytes (g.P.Parts.text_of c.args.parts.now) (stored_on c.in-Some-Gives.stream qs))) (sym c.queues-in-Some-Gives.ensures.list) (given (g.P.Parts.text_of c.args.parts.now) c.self.inside.backlog.queues (window_left c.args.streams.now.connection_window) c.args.streams.now.live c.in-Some-Gives.stream c.in-Some-Gives.count fit turn).there
 
 pub returns-in-None-clause-rests : goal.returns-in-None-clause-rests
 returns-in-None-clause-rests g c =
     let turn : next_due c.self.inside.backlog.queues (window_left c.args.streams.now.connection_window) c.args.streams.now.live ≡ None =
-    sym (c.next_due.ensures ∙ ap (λ (qs : List StoredQueue). next_due qs (window_left c.args.streams.now.connection_window) c.args.streams.now.live) c.queues.ensures) ∙ c.in-None.is in
+    sym (c.next_due.ensures ∙ ap (λ (qs : List StoredQueue). next_due qs (window_left c.args.streams.now.connection_window) c.args.streams.now.live) c.queues.ensures.list) ∙ c.in-None.is in
     let alive : c.args.streams.now.failed ≡ false = sym c.has_failed.ensures ∙ c.if-has_failed.false in
     let room : length c.self.inside.buffer < 65536 = omega (arith, c.if-len-ge-PUMP_LIMIT.false, c.len.ensures) in
     λ no' texts fit. rests_undue texts c.args.streams.now (record { pending = c.self.inside.buffer; position = c.self.inside.position; queues = c.self.inside.backlog.queues; spent = c.self.inside.backlog.spent }) c.args.self.now c.self.view_is alive room (subst (λ (x : StoredSending). Fit texts x.queues) (sym c.self.view_is) fit) turn
@@ -74,7 +74,7 @@ returns-in-None-clause-rests g c =
 pub returns-then-not-can_send-clause-rests : goal.returns-then-not-can_send-clause-rests
 returns-then-not-can_send-clause-rests g c =
     let turn : next_due c.self.inside.backlog.queues (window_left c.args.streams.now.connection_window) c.args.streams.now.live ≡ Some (Gives c.in-Some-Gives.stream c.in-Some-Gives.count) =
-    sym (c.next_due.ensures ∙ ap (λ (qs : List StoredQueue). next_due qs (window_left c.args.streams.now.connection_window) c.args.streams.now.live) c.queues.ensures) ∙ c.in-Some-Gives.is ∙ ap Some c.in-Some-Gives.field-0-is in
+    sym (c.next_due.ensures ∙ ap (λ (qs : List StoredQueue). next_due qs (window_left c.args.streams.now.connection_window) c.args.streams.now.live) c.queues.ensures.list) ∙ c.in-Some-Gives.is ∙ ap Some c.in-Some-Gives.field-0-is in
     let alive : c.args.streams.now.failed ≡ false = sym c.has_failed.ensures ∙ c.if-has_failed.false in
     let lacking : CanSend c.args.streams.now c.in-Some-Gives.stream c.in-Some-Gives.count → ⊥ = λ can. true≢false (sym (c.can_send.ensures.1 can) ∙ c.if-not-can_send.true) in
     λ no' texts fit. rests_given texts c.args.streams.now (record { pending = c.self.inside.buffer; position = c.self.inside.position; queues = c.self.inside.backlog.queues; spent = c.self.inside.backlog.spent }) c.args.self.now c.in-Some-Gives.stream c.in-Some-Gives.count c.self.view_is alive (subst (λ (x : StoredSending). Fit texts x.queues) (sym c.self.view_is) fit) turn lacking
@@ -83,7 +83,7 @@ pub returns-then-is_last-clause-puts : goal.returns-then-is_last-clause-puts
 returns-then-is_last-clause-puts g c =
     let fit : Fit (g.P.Parts.text_of c.args.parts.now) c.self.inside.backlog.queues = subst (λ (x : StoredSending). Fit (g.P.Parts.text_of c.args.parts.now) x.queues) (sym c.self.view_is) c.requires.fit in
     let turn : next_due c.self.inside.backlog.queues (window_left c.args.streams.now.connection_window) c.args.streams.now.live ≡ Some (Opens c.in-Some-Opens.stream c.in-Some-Opens.block c.in-Some-Opens.ended_by_client) =
-    sym (c.next_due.ensures ∙ ap (λ (qs : List StoredQueue). next_due qs (window_left c.args.streams.now.connection_window) c.args.streams.now.live) c.queues.ensures) ∙ c.in-Some-Opens.is ∙ ap Some c.in-Some-Opens.field-0-is in
+    sym (c.next_due.ensures ∙ ap (λ (qs : List StoredQueue). next_due qs (window_left c.args.streams.now.connection_window) c.args.streams.now.live) c.queues.ensures.list) ∙ c.in-Some-Opens.is ∙ ap Some c.in-Some-Opens.field-0-is in
     let alive : c.args.streams.now.failed ≡ false = sym c.has_failed.ensures ∙ c.if-has_failed.false in
     let room : length c.self.inside.buffer < 65536 = omega (arith, c.if-len-ge-PUMP_LIMIT.false, c.len.ensures) in
     let h : HasOpened (record { pending = c.self.inside.buffer; position = c.self.inside.position; queues = c.self.inside.backlog.queues; spent = c.self.inside.backlog.spent }) c.in-Some-Opens.stream c.in-Some-Opens.block c.is_last-is_last.result c.as_slice.result.now c.put_block.new.self c.remove_first.new.self.queues = record { ends = c.is_last-is_last.ensures; encoded = c.as_slice.ensures.text; put = c.put_block.ensures.bytes; queues = c.remove_first.ensures.queues } in
@@ -93,7 +93,7 @@ pub returns-else-is_last-clause-puts : goal.returns-else-is_last-clause-puts
 returns-else-is_last-clause-puts g c =
     let fit : Fit (g.P.Parts.text_of c.args.parts.now) c.self.inside.backlog.queues = subst (λ (x : StoredSending). Fit (g.P.Parts.text_of c.args.parts.now) x.queues) (sym c.self.view_is) c.requires.fit in
     let turn : next_due c.self.inside.backlog.queues (window_left c.args.streams.now.connection_window) c.args.streams.now.live ≡ Some (Opens c.in-Some-Opens.stream c.in-Some-Opens.block c.in-Some-Opens.ended_by_client) =
-    sym (c.next_due.ensures ∙ ap (λ (qs : List StoredQueue). next_due qs (window_left c.args.streams.now.connection_window) c.args.streams.now.live) c.queues.ensures) ∙ c.in-Some-Opens.is ∙ ap Some c.in-Some-Opens.field-0-is in
+    sym (c.next_due.ensures ∙ ap (λ (qs : List StoredQueue). next_due qs (window_left c.args.streams.now.connection_window) c.args.streams.now.live) c.queues.ensures.list) ∙ c.in-Some-Opens.is ∙ ap Some c.in-Some-Opens.field-0-is in
     let alive : c.args.streams.now.failed ≡ false = sym c.has_failed.ensures ∙ c.if-has_failed.false in
     let room : length c.self.inside.buffer < 65536 = omega (arith, c.if-len-ge-PUMP_LIMIT.false, c.len.ensures) in
     let h : HasOpened (record { pending = c.self.inside.buffer; position = c.self.inside.position; queues = c.self.inside.backlog.queues; spent = c.self.inside.backlog.spent }) c.in-Some-Opens.stream c.in-Some-Opens.block c.is_last-is_last.result c.as_slice.result.now c.put_block.new.self c.remove_first.new.self.queues = record { ends = c.is_last-is_last.ensures; encoded = c.as_slice.ensures.text; put = c.put_block.ensures.bytes; queues = c.remove_first.ensures.queues } in
@@ -103,18 +103,18 @@ pub returns-else-not-can_send-clause-puts : goal.returns-else-not-can_send-claus
 returns-else-not-can_send-clause-puts g c =
     let fit : Fit (g.P.Parts.text_of c.args.parts.now) c.self.inside.backlog.queues = subst (λ (x : StoredSending). Fit (g.P.Parts.text_of c.args.parts.now) x.queues) (sym c.self.view_is) c.requires.fit in
     let turn : next_due c.self.inside.backlog.queues (window_left c.args.streams.now.connection_window) c.args.streams.now.live ≡ Some (Gives c.in-Some-Gives.stream c.in-Some-Gives.count) =
-    sym (c.next_due.ensures ∙ ap (λ (qs : List StoredQueue). next_due qs (window_left c.args.streams.now.connection_window) c.args.streams.now.live) c.queues.ensures) ∙ c.in-Some-Gives.is ∙ ap Some c.in-Some-Gives.field-0-is in
+    sym (c.next_due.ensures ∙ ap (λ (qs : List StoredQueue). next_due qs (window_left c.args.streams.now.connection_window) c.args.streams.now.live) c.queues.ensures.list) ∙ c.in-Some-Gives.is ∙ ap Some c.in-Some-Gives.field-0-is in
     let alive : c.args.streams.now.failed ≡ false = sym c.has_failed.ensures ∙ c.if-has_failed.false in
     let room : length c.self.inside.buffer < 65536 = omega (arith, c.if-len-ge-PUMP_LIMIT.false, c.len.ensures) in
     λ yes'.
-    let bytes = c.put_content.ensures.bytes ∙ ap (λ (qs : List StoredQueue). c.self.inside.buffer ++ text_of (Data c.in-Some-Gives.stream false (take c.in-Some-Gives.count (front_bytes (g.P.Parts.text_of c.args.parts.now) (stored_on c.in-Some-Gives.stream qs))))) c.queues-in-Some-Gives.ensures in
+    let bytes = c.put_content.ensures.bytes ∙ ap (λ (qs : List StoredQueue). c.self.inside.buffer ++ text_of (Data c.in-Some-Gives.stream false (take c.in-Some-Gives.count (front_bytes (g.P.Parts.text_of c.args.parts.now) (stored_on c.in-Some-Gives.stream qs))))) c.queues-in-Some-Gives.ensures.list in
     puts_given (g.P.Parts.text_of c.args.parts.now) c.args.streams.now c.on_data_put.new.self (record { pending = c.self.inside.buffer; position = c.self.inside.position; queues = c.self.inside.backlog.queues; spent = c.self.inside.backlog.spent }) c.args.self.now c.in-Some-Gives.stream c.in-Some-Gives.count c.put_content.new.buffer c.take_off.new.self.queues c.self.view_is alive room fit turn c.on_data_put.ensures.stands bytes c.take_off.ensures.queues
 
 pub returns-else-not-can_send-clause-room : goal.returns-else-not-can_send-clause-room
 returns-else-not-can_send-clause-room g c =
     let fit : Fit (g.P.Parts.text_of c.args.parts.now) c.self.inside.backlog.queues = subst (λ (x : StoredSending). Fit (g.P.Parts.text_of c.args.parts.now) x.queues) (sym c.self.view_is) c.requires.fit in
     let turn : next_due c.self.inside.backlog.queues (window_left c.args.streams.now.connection_window) c.args.streams.now.live ≡ Some (Gives c.in-Some-Gives.stream c.in-Some-Gives.count) =
-    sym (c.next_due.ensures ∙ ap (λ (qs : List StoredQueue). next_due qs (window_left c.args.streams.now.connection_window) c.args.streams.now.live) c.queues.ensures) ∙ c.in-Some-Gives.is ∙ ap Some c.in-Some-Gives.field-0-is in
+    sym (c.next_due.ensures ∙ ap (λ (qs : List StoredQueue). next_due qs (window_left c.args.streams.now.connection_window) c.args.streams.now.live) c.queues.ensures.list) ∙ c.in-Some-Gives.is ∙ ap Some c.in-Some-Gives.field-0-is in
     λ yes'. omega (arith, c.put_content.ensures.size, (given (g.P.Parts.text_of c.args.parts.now) c.self.inside.backlog.queues (window_left c.args.streams.now.connection_window) c.args.streams.now.live c.in-Some-Gives.stream c.in-Some-Gives.count fit turn).short, c.if-len-ge-PUMP_LIMIT.false, c.len.ensures)
 
 pub returns-then-is_last-clause-fit : goal.returns-then-is_last-clause-fit
@@ -138,4 +138,4 @@ returns-else-not-can_send-clause-sources g c = keeps_by (record { pending = c.se
 pub put_content-requires-clause-fit : goal.put_content-requires-clause-fit
 put_content-requires-clause-fit g c =
     let fit : Fit (g.P.Parts.text_of c.args.parts.now) c.self.inside.backlog.queues = subst (λ (x : StoredSending). Fit (g.P.Parts.text_of c.args.parts.now) x.queues) (sym c.self.view_is) c.requires.fit in
-    subst (λ (qs : List StoredQueue). Fit (g.P.Parts.text_of c.args.parts.now) qs) (sym c.queues-in-Some-Gives.ensures) fit
+    subst (λ (qs : List StoredQueue). Fit (g.P.Parts.text_of c.args.parts.now) qs) (sym c.queues-in-Some-Gives.ensures.list) fit

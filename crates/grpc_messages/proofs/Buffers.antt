@@ -1,10 +1,9 @@
 -- What the prefix and the bytes behind it, kept apart, are together.
-use Rattle.std.proofs.Common.{◌≡◌, ◌≤◌, ◌<◌, ◌+◌, ◌-◌, ◌∙◌, ℕ, List, [], ◌∷◌, ◌++◌, length, take, drop, IsTrue, Bool, false, true, nat_eq, nat_lt, Option, Some, None, Result, Ok, Err, refl, ap, sym, arith, append_assoc, length-append, length-drop, eq-eqb}
+use Rattle.std.proofs.Common.{◌≡◌, ◌≤◌, ◌<◌, ◌+◌, ◌-◌, ◌∙◌, ℕ, List, [], ◌∷◌, ◌++◌, length, take, drop, IsTrue, Bool, false, true, nat_eq, nat_lt, Option, Some, None, Result, Ok, refl, ap, sym, arith, append_assoc, length-append, length-drop, eq-eqb}
 use Rattle.std.specs.Option.{is_some}
 use Rattle.std.proofs.lemmas.Bool.{eqb-true}
-use Rattle.std.proofs.lemmas.List.{take-append-drop, drop-drop, drop-append-le, drop_all, drop_at, nil_from_length, append-nil}
+use Rattle.std.proofs.lemmas.List.{take-append-drop, drop-drop, drop-append-le, drop_all, drop_at, append-nil}
 use Rattle.grpc_messages.specs.declared.error.MessagesError.{MessagesError}
-use Rattle.grpc_messages.specs.Wire.{size_of}
 use Rattle.grpc_messages.specs.Reading.{whole_at, message_at}
 use Rattle.grpc_messages.specs.Reader.{left_of, bytes_left, with_more_bytes}
 use Rattle.grpc_messages.specs.Step.{step_by_front, step}

@@ -1,4 +1,4 @@
-use Rattle.std.proofs.Common.{◌∙◌, sym}
+use Rattle.std.proofs.Common.{◌∙◌}
 use Rattle.grpc_messages.proofs.Buffers.{appended}
 use Rattle.grpc_messages.proofs.reader.Messages.append.Goals as goal
 

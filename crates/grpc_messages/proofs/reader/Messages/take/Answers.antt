@@ -1,4 +1,4 @@
-use Rattle.std.proofs.Common.{◌≡◌, ◌≤◌, ◌+◌, ◌++◌, ◌∙◌, ap, sym, List, ℕ, Some, None, Ok, length, drop, take, arith}
+use Rattle.std.proofs.Common.{◌≡◌, ◌≤◌, ◌+◌, ◌++◌, Some, Ok, length, drop, take, arith}
 use Rattle.std.proofs.lemmas.Grind.{common_steps}
 use Rattle.grpc_messages.specs.declared.reader.TheConstants.{MESSAGE_LIMIT}
 use Rattle.grpc_messages.specs.Reading.{whole_at}

@@ -1,5 +1,5 @@
-use Rattle.std.proofs.Common.{◌≡◌, ◌∙◌, ap}
-use Rattle.http2_frames.specs.Step.{look, after_look, after_preface}
+use Rattle.std.proofs.Common.{◌∙◌, ap}
+use Rattle.http2_frames.specs.Step.{look, after_look}
 use Rattle.http2_frames.proofs.Steps.{stands_found, whole_found, no_longer, all_given, fault_of, kept_after}
 use Rattle.http2_frames.proofs.reader.FrameReader.find.Goals as goal
 

@@ -1,5 +1,5 @@
 -- The digests that are missing, as they were sent.
-use Rattle.std.proofs.Common.{◌≡◌, ℕ, Bool, true, false, List, [], ◌∷◌, ◌++◌, map, refl, sym, ap, ◌∙◌}
+use Rattle.std.proofs.Common.{◌≡◌, ℕ, Bool, true, false, List, [], ◌∷◌, map, refl, sym, ap, ◌∙◌}
 use Rattle.std.specs.List.{filter}
 use Rattle.reapi_messages.specs.Digests.{DigestValue}
 use Rattle.reapi_messages.specs.Parts.{text_for}

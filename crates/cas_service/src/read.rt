@@ -1,7 +1,7 @@
-ghost use Rattle.std.specs.Prelude.{◌≡◌, ◌≤◌, ℕ, List, map, OnOk, OnErr, IfOk, IfSome};
+ghost use Rattle.std.specs.Prelude.{◌≡◌, ◌≤◌, ◌<◌, ℕ, List, map, OnOk, OnErr, IfOk, IfSome};
 ghost use Rattle.reapi_messages.specs.Batches.{read_blob_response_shown};
 ghost use Rattle.instance_view.specs.Visible.{visible_text};
-ghost use Rattle.blob_pool.specs.Slots.{Slots, count_at};
+ghost use Rattle.blob_pool.specs.Slots.{Slots, count_at, text_at};
 ghost use Rattle.instance_view.specs.Shown.{visible_in, holders, holders_seen, text_seen};
 ghost use Rattle.quota_evict.specs.Kept.{AreKept};
 ghost use Rattle.cas_service.specs.Answers.{Answers};
@@ -15,7 +15,7 @@ use crate::requests::{
     Asked, MOST_BATCH_BYTES, check_function, check_instance, read_digests, use_all,
 };
 use crate::statuses::{ok_status, refused_status};
-use blob_pool::{Pool, keep};
+use blob_pool::{Kept, Pool, keep};
 use instance_view::{Seen, View, copy_of};
 use reapi_messages::{BatchReadBlobsRequest, BatchReadBlobsResponse, Message, ReadBlobResponse};
 use rpc::Refusal;
@@ -72,14 +72,10 @@ pub struct Found<'a> {
 }
 
 /// Where a text lies, if it is in one page.
-#[tactic(auto, using(crate::proofs::Pages::whole_page))]
-fn page_of(pool: &Pool, seen: Seen) -> Option<&[u8]>
-    requires { (k : ℕ) → holders_seen seen k ≤ count_at pool.now k }
-    ensures { IfSome result (λ page. page.now ≡ text_seen pool.now seen) }
+fn page_of(pool: &Pool, kept: Kept) -> Option<&[u8]>
+    requires { 0 < count_at pool.now kept }
+    ensures { IfSome result (λ page. page.now ≡ text_at pool.now kept) }
 {
-    let Seen::Text(kept) = seen else {
-        return Some(&[]);
-    };
     let hold = pool.back(kept);
     let length = pool.length(&hold);
     let page = pool.part(&hold, 0, u32::MAX);
@@ -95,10 +91,12 @@ fn text_of<'a>(alloc: Global, pool: &'a Pool, seen: Seen) -> Result<FoundText<'a
     requires { (k : ℕ) → holders_seen seen k ≤ count_at pool.now k }
     ensures { IfOk result (λ text. bytes_found text ≡ text_seen pool.now seen) }
 {
-    match page_of(pool, seen) {
-        Some(page) => Ok(FoundText::Page(page)),
-        None => Ok(FoundText::Copy(copy_of(alloc, pool, seen)?)),
+    if let Seen::Text(kept) = seen {
+        if let Some(page) = page_of(pool, kept) {
+            return Ok(FoundText::Page(page));
+        }
     }
+    Ok(FoundText::Copy(copy_of(alloc, pool, seen)?))
 }
 
 /// What there is of a digest.

@@ -1,5 +1,6 @@
 pub mod Calls
 pub mod State
+pub mod Contents
 pub mod Slots
 pub mod Capabilities
 pub mod Methods

@@ -77,7 +77,8 @@ text_changes _ s message = []
 -- the texts that are seen once a message was carried out, or a part of it for want of memory
 abbrev pub ShowsAfter : Method → List ℕ → InstanceState → List Blob → Type 0
 ShowsAfter method message s visible =
-    visible ≡ Texts.visible_after_changes most_blobs s.quota (text_changes method s message) s.visible
+    visible ≡
+    Texts.visible_after_changes most_blobs s.quota (text_changes method s message) s.visible
 
 abbrev pub ShowsInPart : Method → List ℕ → InstanceState → List Blob → Type 0
 ShowsInPart method message s visible =

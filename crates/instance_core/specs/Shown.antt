@@ -61,12 +61,16 @@ abbrev pub outcome_shown : Result (Vec ℕ Global) Refusal → Result (List ℕ)
 outcome_shown (Ok bytes) = Ok bytes.items
 outcome_shown (Err refusal) = Err refusal
 
+-- what comes of an event of a call: replies, or want of memory
+abbrev pub CallResult : Type 0
+CallResult = Result (Vec Reply Global) AllocError
+
 -- these replies are given, with the texts that their ranges find in a pool
-abbrev pub Gives : Slots → Result (Vec Reply Global) AllocError → List ReplyValue → Type 0
+abbrev pub Gives : Slots → CallResult → List ReplyValue → Type 0
 Gives p result rs = IfOk result (λ replies. map (reply_shown p) replies.items ≡ rs)
 
 -- each reply that is given is short
-abbrev pub GivesShort : Slots → Result (Vec Reply Global) AllocError → Type 0
+abbrev pub GivesShort : Slots → CallResult → Type 0
 GivesShort p result =
     IfOk result (λ replies. AllByRecursion IsShortReply (map (reply_shown p) replies.items))
 
@@ -74,21 +78,29 @@ abbrev pub with_calls : Calls → InstanceState → InstanceState
 with_calls calls s = record s { calls = calls }
 
 -- the answer's changes are made, where it changes calls alone
-abbrev pub ChangesCalls : Result (Vec Reply Global) AllocError → Answer → Calls → Calls → Type 0
+abbrev pub ChangesCalls : CallResult → Answer → Calls → Calls → Type 0
 ChangesCalls result a old new =
     (s : InstanceState) →
     OnOk result (with_calls new s ≡ state_after_changes a.changes (with_calls old s))
 
 -- what an instance is configured as, and what it keeps
 abbrev pub slots_of : Settings → ℕ → Contents → Calls → InstanceSlots
-slots_of settings moment contents calls =
-    record { name = string_bytes settings.name; quota = settings.quota; slots = settings.slots; moment = moment; view = contents.view; uploads = contents.uploads; results = contents.results; calls = calls }
+slots_of settings moment contents calls = record {
+  name = string_bytes settings.name;
+  quota = settings.quota;
+  slots = settings.slots;
+  moment = moment;
+  view = contents.view;
+  uploads = contents.uploads;
+  results = contents.results;
+  calls = calls;
+}
 
 -- the state of an instance that is configured so, with contents whose texts stand in a pool
 abbrev pub state_of : Settings → ℕ → Slots → Contents → Calls → InstanceState
 state_of settings moment p contents calls = state_in p (slots_of settings moment contents calls)
 
 -- the changes are made, and for want of memory a front of them
-pub record Makes (result : Result (Vec Reply Global) AllocError) (changes : List Change) (old new : InstanceState) : Type 0 where
+pub record Makes (result : CallResult) (changes : List Change) (old new : InstanceState) : Type 0 where
   pub whole : OnOk result (new ≡ state_after_changes changes old)
   pub memory : OnErr result (MadeInPart changes old new)

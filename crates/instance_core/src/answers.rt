@@ -1,15 +1,11 @@
 //! What an instance answers to each event of a call.
 
-ghost use Rattle.std.specs.Prelude.{◌≡◌, ◌≤◌, ◌+◌, ◌^◌, ℕ, OnErr};
+ghost use Rattle.std.specs.Prelude.{◌≡◌, ◌+◌, ℕ, OnErr};
 ghost use Rattle.blob_pool.specs.Slots.{Slots};
 ghost use Rattle.blob_pool.specs.Moves.{Moves};
-ghost use Rattle.instance_view.specs.Shown.{visible_in, holders};
-ghost use Rattle.quota_evict.specs.Kept.{AreKept};
-ghost use Rattle.quota_evict.specs.Within.{Within};
-ghost use Rattle.uploads.specs.Uploads.{WithinLimits};
-ghost use Rattle.tree_calls.specs.Complete.{AreWithin};
+ghost use Rattle.instance_view.specs.Shown.{holders};
 ghost use Rattle.instance_core.specs.Calls.{call_at, IsShortRequest, AreInCourse};
-ghost use Rattle.instance_core.specs.State.{most_blobs};
+ghost use Rattle.instance_core.specs.Contents.{AreContentsKept, AreContentsWithin};
 ghost use Rattle.instance_core.specs.Answer.{head_answer, message_answer, fault_answer, request_end_answer};
 ghost use Rattle.instance_core.specs.Shown.{Gives, ChangesCalls, Makes, state_of};
 ghost use Rattle.instance_core.specs.Given.{holders_given};
@@ -63,10 +59,7 @@ pub fn on_message(
     message: Vec<u8>,
 ) -> Result<Vec<Reply>, AllocError>
     requires request { IsShortRequest message.items }
-    requires quota { settings.now.quota ≤ 2 ^ 40 }
-    requires limit { contents.old.view.limit ≡ most_blobs }
-    requires kept { AreKept settings.now.quota pool.old contents.old.view }
-    requires uploads { WithinLimits settings.now.quota contents.old.uploads }
+    requires kept { AreContentsKept settings.now pool.old contents.old }
     ensures replies { let old = state_of settings.now moment pool.old contents.old calls.old in
         let answer = message_answer old id message.items (call_at id calls.old) in
         (p : Slots) → Gives p result answer.replies }
@@ -76,9 +69,7 @@ pub fn on_message(
         Makes result (message_answer old id message.items (call_at id calls.old)).changes old new }
     ensures moves { Moves pool.old pool.new (holders contents.old.view)
         (holders contents.new.view) }
-    ensures limit { contents.new.view.limit ≡ most_blobs }
-    ensures within { Within most_blobs settings.now.quota (visible_in pool.new contents.new.view) }
-    ensures uploads { WithinLimits settings.now.quota contents.new.uploads }
+    ensures within { AreContentsWithin settings.now pool.new contents.new }
     ensures results { contents.new.results ≡ contents.old.results }
     ensures calls { AreInCourse calls.new }
 {
@@ -145,11 +136,7 @@ pub fn on_end(
     calls: &mut Calls,
     id: CallId,
 ) -> Result<Vec<Reply>, AllocError>
-    requires quota { settings.now.quota ≤ 2 ^ 40 }
-    requires limit { contents.old.view.limit ≡ most_blobs }
-    requires kept { AreKept settings.now.quota pool.old contents.old.view }
-    requires uploads { WithinLimits settings.now.quota contents.old.uploads }
-    requires results { AreWithin contents.old.results }
+    requires kept { AreContentsKept settings.now pool.old contents.old }
     ensures replies { (moment : ℕ) →
         let old = state_of settings.now moment pool.old contents.old calls.old in
         Gives pool.new result (request_end_answer old id (call_at id calls.old)).replies }
@@ -159,10 +146,7 @@ pub fn on_end(
         Makes result (request_end_answer old id (call_at id calls.old)).changes old new }
     ensures moves { Moves pool.old pool.new (holders contents.old.view)
         (λ k. holders contents.new.view k + holders_given result k) }
-    ensures limit { contents.new.view.limit ≡ most_blobs }
-    ensures within { Within most_blobs settings.now.quota (visible_in pool.new contents.new.view) }
-    ensures uploads { WithinLimits settings.now.quota contents.new.uploads }
-    ensures results { AreWithin contents.new.results }
+    ensures within { AreContentsWithin settings.now pool.new contents.new }
     ensures calls { AreInCourse calls.new }
 {
     let Some(call) = calls.find(id) else {

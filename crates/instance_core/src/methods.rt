@@ -1,15 +1,12 @@
 //! What each method but `Write` answers to the one message of its request.
 
-ghost use Rattle.std.specs.Prelude.{◌≡◌, ◌≤◌, ◌+◌, ◌^◌, ℕ, OnOk, OnErr};
+ghost use Rattle.std.specs.Prelude.{◌≡◌, ◌+◌, ℕ, OnOk, OnErr};
 ghost use Rattle.blob_pool.specs.Slots.{Slots};
 ghost use Rattle.blob_pool.specs.Moves.{Moves};
 ghost use Rattle.instance_view.specs.Shown.{visible_in, holders};
-ghost use Rattle.quota_evict.specs.Kept.{AreKept};
-ghost use Rattle.quota_evict.specs.Within.{Within};
 ghost use Rattle.cas_service.specs.Answers.{Answers, IfAnswered};
 ghost use Rattle.instance_core.specs.Calls.{Calls};
-ghost use Rattle.instance_core.specs.State.{most_blobs};
-ghost use Rattle.tree_calls.specs.Complete.{AreWithin};
+ghost use Rattle.instance_core.specs.Contents.{AreContentsKept, AreContentsWithin};
 ghost use Rattle.instance_core.specs.Methods.{IsPlain, LeavesResults, is_served, reply_to, items_to, request_changes, ShowsAfter, ShowsInPart};
 ghost use Rattle.instance_core.specs.Answer.{reply_with, reply_of_items};
 ghost use Rattle.instance_core.specs.Shown.{Gives, Makes, state_of};
@@ -56,9 +53,7 @@ fn reply_to(
     method: Method,
     message: &[u8],
 ) -> Result<Vec<u8>, CallError>
-    requires quota { settings.now.quota ≤ 2 ^ 40 }
-    requires limit { contents.old.view.limit ≡ most_blobs }
-    requires kept { AreKept settings.now.quota pool.old contents.old.view }
+    requires kept { AreContentsKept settings.now pool.old contents.old }
     requires plain { IsPlain method }
     ensures reply { (moment : ℕ) (calls : Calls) →
         let old = state_of settings.now moment pool.old contents.old calls in
@@ -72,8 +67,7 @@ fn reply_to(
         OnErr result (ShowsInPart method message.now old (visible_in pool.new contents.new.view)) }
     ensures moves { Moves pool.old pool.new (holders contents.old.view)
         (holders contents.new.view) }
-    ensures limit { contents.new.view.limit ≡ most_blobs }
-    ensures kept { AreKept settings.now.quota pool.new contents.new.view }
+    ensures kept { AreContentsKept settings.now pool.new contents.new }
     ensures uploads { contents.new.uploads ≡ contents.old.uploads }
     ensures results { contents.new.results ≡ contents.old.results }
 {
@@ -116,9 +110,7 @@ fn answer_by_message(
     method: Method,
     message: &[u8],
 ) -> Result<Vec<Reply>, AllocError>
-    requires quota { settings.now.quota ≤ 2 ^ 40 }
-    requires limit { contents.old.view.limit ≡ most_blobs }
-    requires kept { AreKept settings.now.quota pool.old contents.old.view }
+    requires kept { AreContentsKept settings.now pool.old contents.old }
     requires plain { IsPlain method }
     ensures replies { (moment : ℕ) (calls : Calls) →
         let old = state_of settings.now moment pool.old contents.old calls in
@@ -132,8 +124,7 @@ fn answer_by_message(
         OnErr result (ShowsInPart method message.now old (visible_in pool.new contents.new.view)) }
     ensures moves { Moves pool.old pool.new (holders contents.old.view)
         (holders contents.new.view) }
-    ensures limit { contents.new.view.limit ≡ most_blobs }
-    ensures kept { AreKept settings.now.quota pool.new contents.new.view }
+    ensures kept { AreContentsKept settings.now pool.new contents.new }
     ensures uploads { contents.new.uploads ≡ contents.old.uploads }
     ensures results { contents.new.results ≡ contents.old.results }
 {
@@ -152,9 +143,7 @@ fn answer_from_texts(
     method: Method,
     message: &[u8],
 ) -> Result<Vec<Reply>, AllocError>
-    requires quota { settings.now.quota ≤ 2 ^ 40 }
-    requires limit { contents.old.view.limit ≡ most_blobs }
-    requires kept { AreKept settings.now.quota pool.old contents.old.view }
+    requires kept { AreContentsKept settings.now pool.old contents.old }
     requires apart { LeavesResults method }
     ensures replies { (moment : ℕ) (calls : Calls) →
         let old = state_of settings.now moment pool.old contents.old calls in
@@ -167,8 +156,7 @@ fn answer_from_texts(
         OnErr result (ShowsInPart method message.now old (visible_in pool.new contents.new.view)) }
     ensures moves { Moves pool.old pool.new (holders contents.old.view)
         (λ k. holders contents.new.view k + holders_given result k) }
-    ensures limit { contents.new.view.limit ≡ most_blobs }
-    ensures within { Within most_blobs settings.now.quota (visible_in pool.new contents.new.view) }
+    ensures within { AreContentsWithin settings.now pool.new contents.new }
     ensures uploads { contents.new.uploads ≡ contents.old.uploads }
     ensures results { contents.new.results ≡ contents.old.results }
 {
@@ -208,10 +196,7 @@ pub fn answer_request(
     method: Method,
     message: &[u8],
 ) -> Result<Vec<Reply>, AllocError>
-    requires quota { settings.now.quota ≤ 2 ^ 40 }
-    requires limit { contents.old.view.limit ≡ most_blobs }
-    requires kept { AreKept settings.now.quota pool.old contents.old.view }
-    requires results { AreWithin contents.old.results }
+    requires kept { AreContentsKept settings.now pool.old contents.old }
     ensures replies { (moment : ℕ) (calls : Calls) →
         let old = state_of settings.now moment pool.old contents.old calls in
         Gives pool.new result (reply_of_items call (items_to method old message.now)) }
@@ -221,10 +206,8 @@ pub fn answer_request(
         Makes result (request_changes method old message.now) old new }
     ensures moves { Moves pool.old pool.new (holders contents.old.view)
         (λ k. holders contents.new.view k + holders_given result k) }
-    ensures limit { contents.new.view.limit ≡ most_blobs }
-    ensures within { Within most_blobs settings.now.quota (visible_in pool.new contents.new.view) }
+    ensures within { AreContentsWithin settings.now pool.new contents.new }
     ensures uploads { contents.new.uploads ≡ contents.old.uploads }
-    ensures results { AreWithin contents.new.results }
 {
     match method {
         Method::GetActionResult => answer_get(alloc, settings, contents, pool, call, message),

@@ -4,10 +4,9 @@ ghost use Rattle.std.specs.Prelude.{◌≡◌, ℕ};
 ghost use Rattle.blob_pool.specs.Slots.{Slots};
 ghost use Rattle.rpc.specs.declared.method.Method.TheVariants.{GetActionResult, UpdateActionResult};
 ghost use Rattle.instance_view.specs.Shown.{holders};
-ghost use Rattle.quota_evict.specs.Kept.{AreKept};
 ghost use Rattle.tree_calls.specs.Complete.{AreWithin};
 ghost use Rattle.instance_core.specs.Calls.{Calls};
-ghost use Rattle.instance_core.specs.State.{most_blobs};
+ghost use Rattle.instance_core.specs.Contents.{AreContentsKept};
 ghost use Rattle.instance_core.specs.Methods.{items_to, request_changes};
 ghost use Rattle.instance_core.specs.Answer.{reply_of_items};
 ghost use Rattle.instance_core.specs.Shown.{Gives, Makes, state_of};
@@ -30,9 +29,7 @@ pub fn answer_get(
     call: CallId,
     message: &[u8],
 ) -> Result<Vec<Reply>, AllocError>
-    requires limit { contents.old.view.limit ≡ most_blobs }
-    requires kept { AreKept settings.now.quota pool.now contents.old.view }
-    requires results { AreWithin contents.old.results }
+    requires kept { AreContentsKept settings.now pool.now contents.old }
     ensures replies { (moment : ℕ) (calls : Calls) →
         let old = state_of settings.now moment pool.now contents.old calls in
         (p : Slots) → Gives p result
@@ -43,10 +40,8 @@ pub fn answer_get(
         let new = state_of settings.now moment pool.now contents.new calls in
         Makes result (request_changes GetActionResult old message.now) old new }
     ensures holders { (k : ℕ) → holders contents.new.view k ≡ holders contents.old.view k }
-    ensures limit { contents.new.view.limit ≡ most_blobs }
-    ensures kept { AreKept settings.now.quota pool.now contents.new.view }
+    ensures kept { AreContentsKept settings.now pool.now contents.new }
     ensures uploads { contents.new.uploads ≡ contents.old.uploads }
-    ensures results { AreWithin contents.new.results }
 {
     let outcome = get_action_result(
         alloc,

@@ -1,19 +1,16 @@
 //! What the messages of a `Write` are answered.
 
-ghost use Rattle.std.specs.Prelude.{◌≡◌, ◌≤◌, ◌<◌, ◌^◌, ℕ, List, [], Option, option_map, Result, OnOk, OnErr};
+ghost use Rattle.std.specs.Prelude.{◌≡◌, ◌<◌, ◌^◌, ℕ, List, [], Option, option_map, Result, OnOk, OnErr};
 ghost use Rattle.blob_pool.specs.Slots.{Slots};
 ghost use Rattle.blob_pool.specs.Moves.{Moves};
 ghost use Rattle.rpc.specs.declared.method.Method.TheVariants.{Write};
 ghost use Rattle.rpc.specs.declared.refusal.Refusal.{Refusal};
-ghost use Rattle.instance_view.specs.Shown.{visible_in, holders};
-ghost use Rattle.quota_evict.specs.Kept.{AreKept};
-ghost use Rattle.quota_evict.specs.Within.{Within};
-ghost use Rattle.uploads.specs.Uploads.{WithinLimits};
+ghost use Rattle.instance_view.specs.Shown.{holders};
 ghost use Rattle.cas_service.specs.Answers.{Answers, IfNoMemory};
 ghost use Rattle.bytestream.specs.Writing.{WrittenValue};
 ghost use Rattle.bytestream.specs.Shown.{open_write_shown, written_shown, IfGoes};
 ghost use Rattle.instance_core.specs.Calls.{without_call, AreInCourse};
-ghost use Rattle.instance_core.specs.State.{most_blobs};
+ghost use Rattle.instance_core.specs.Contents.{AreContentsKept, AreContentsWithin};
 ghost use Rattle.instance_core.specs.Answer.{final_answer, first_write_answer, next_write_answer, first_message_answer};
 ghost use Rattle.instance_core.specs.Shown.{Gives, ChangesCalls, Makes, state_of, outcome_shown};
 ghost use Rattle.instance_core.specs.Given.{holders_given};
@@ -122,10 +119,7 @@ pub fn on_first_part(
     id: CallId,
     message: &[u8],
 ) -> Result<Vec<Reply>, AllocError>
-    requires quota { settings.now.quota ≤ 2 ^ 40 }
-    requires limit { contents.old.view.limit ≡ most_blobs }
-    requires kept { AreKept settings.now.quota pool.old contents.old.view }
-    requires uploads { WithinLimits settings.now.quota contents.old.uploads }
+    requires kept { AreContentsKept settings.now pool.old contents.old }
     requires calls { AreInCourse calls.old }
     ensures replies { let old = state_of settings.now moment pool.old contents.old calls.old in
         (p : Slots) → Gives p result (first_message_answer old id Write message.now).replies }
@@ -135,9 +129,7 @@ pub fn on_first_part(
         Makes result (first_message_answer old id Write message.now).changes old new }
     ensures moves { Moves pool.old pool.new (holders contents.old.view)
         (holders contents.new.view) }
-    ensures limit { contents.new.view.limit ≡ most_blobs }
-    ensures within { Within most_blobs settings.now.quota (visible_in pool.new contents.new.view) }
-    ensures uploads { WithinLimits settings.now.quota contents.new.uploads }
+    ensures within { AreContentsWithin settings.now pool.new contents.new }
     ensures results { contents.new.results ≡ contents.old.results }
     ensures calls { AreInCourse calls.new }
 {

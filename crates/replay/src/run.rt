@@ -24,7 +24,7 @@ use std::io::{Read, Write};
 
 /// Runs a server through the events that are read.
 fn run(alloc: Global, configs: &Configs, mut events: EventReader) -> Result<Outputs, AllocError>
-    requires few { length events.entry ≤ 2 ^ 63 }
+    requires few { length events ≤ 2 ^ 63 }
     ensures alone { IfOk result (λ outputs. (i : ℕ) (config : ConfigValue)
         → config_at i configs.now ≡ Some config
         → output_at i outputs.instances.items
@@ -43,8 +43,8 @@ fn run(alloc: Global, configs: &Configs, mut events: EventReader) -> Result<Outp
 
 /// Runs a script, and gives what it prints.
 fn carry_out(alloc: Global, script: ReplayScript) -> Result<Vec<u8>, AllocError>
-    requires configs { config_fault (map config_value script.entry.configs.items) ≡ None }
-    requires few { length script.entry.events ≤ 2 ^ 63 }
+    requires configs { config_fault (map config_value script.configs.items) ≡ None }
+    requires few { length script.events ≤ 2 ^ 63 }
     ensures { IfOk result (λ text. text.items ≡ printed_text (replay_script_value script.entry)) }
 {
     let configs = Configs::new(script.configs).unwrap();

@@ -42,5 +42,5 @@ returns-in-Writes-clause-changed c =
     let message = c.deref-in-Writes.result.now in
     rw (← there, ← c.deref-in-Writes.ensures.value)
     (next_done c.write_next-outcome.result c.settle_next.result c.args.pool.now c.write_next-outcome.new.pool c.args.contents.now.view c.write_next-outcome.new.view s c.args.id write message
-    c.args.contents.now.view.limit c.write_next-outcome.new.uploads c.settle_next.new.calls c.requires.limit refl c.write_next-outcome.ensures.visible c.write_next-outcome.ensures.uploads c.write_next-outcome.ensures.memory
+    c.args.contents.now.view.limit c.write_next-outcome.new.uploads c.settle_next.new.calls c.requires.kept.limit refl c.write_next-outcome.ensures.visible c.write_next-outcome.ensures.uploads c.write_next-outcome.ensures.memory
     c.settle_next.ensures.memory (c.settle_next.ensures.changed (next_outcome s write message) c.write_next-outcome.ensures.answer) c.settle_next.ensures.err)

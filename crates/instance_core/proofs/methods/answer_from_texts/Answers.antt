@@ -14,7 +14,7 @@ use Rattle.instance_core.proofs.Ranges.{read_shown, room_kept, items_plain}
 use Rattle.instance_core.proofs.methods.answer_from_texts.Goals as goal
 
 pub answer_read-requires-clause-room : goal.answer_read-requires-clause-room
-answer_read-requires-clause-room c = room_kept c.args.settings.now.quota c.args.pool.now c.args.contents.now.view c.requires.kept c.requires.limit
+answer_read-requires-clause-room c = room_kept c.args.settings.now.quota c.args.pool.now c.args.contents.now.view c.requires.kept.kept c.requires.kept.limit
 
 pub returns-in-Read-clause-changed : goal.returns-in-Read-clause-changed
 returns-in-Read-clause-changed c = λ moment calls.
@@ -22,7 +22,7 @@ returns-in-Read-clause-changed c = λ moment calls.
     let q = c.answer_read.new.pool in
     let old = visible_in p c.args.contents.now.view in
     let asked = use_asked (read_asked c.deref.result.now c.args.message.now) in
-    let same = read_shown p q c.args.contents.now.view c.answer_read.new.view (holders_given c.answer_read.result) c.answer_read.ensures.moves c.answer_read.ensures.holders c.requires.kept.held.counted in
+    let same = read_shown p q c.args.contents.now.view c.answer_read.new.view (holders_given c.answer_read.result) c.answer_read.ensures.moves c.answer_read.ensures.holders c.requires.kept.kept.held.counted in
     rw (c.in-Read.is, ← c.deref.ensures)
     (subst (λ (bs : List Blob). OnOk c.answer_read.result (bs ≡ visible_after_changes most_blobs c.args.settings.now.quota asked old)) (sym same) (c.answer_read.ensures.changed p most_blobs c.args.settings.now.quota))
 
@@ -32,7 +32,7 @@ returns-in-Read-clause-memory c = λ moment calls.
     let q = c.answer_read.new.pool in
     let old = visible_in p c.args.contents.now.view in
     let asked = use_asked (read_asked c.deref.result.now c.args.message.now) in
-    let same = read_shown p q c.args.contents.now.view c.answer_read.new.view (holders_given c.answer_read.result) c.answer_read.ensures.moves c.answer_read.ensures.holders c.requires.kept.held.counted in
+    let same = read_shown p q c.args.contents.now.view c.answer_read.new.view (holders_given c.answer_read.result) c.answer_read.ensures.moves c.answer_read.ensures.holders c.requires.kept.kept.held.counted in
     rw (c.in-Read.is, ← c.deref.ensures)
     (subst (λ (bs : List Blob). OnErr c.answer_read.result (MadeInPart most_blobs c.args.settings.now.quota asked old bs)) (sym same) (c.answer_read.ensures.memory p most_blobs c.args.settings.now.quota))
 
@@ -41,9 +41,14 @@ returns-in-Read-clause-within c =
     let p = c.args.pool.now in
     let q = c.answer_read.new.pool in
     let quota = c.args.settings.now.quota in
-    let same = read_shown p q c.args.contents.now.view c.answer_read.new.view (holders_given c.answer_read.result) c.answer_read.ensures.moves c.answer_read.ensures.holders c.requires.kept.held.counted in
-    let limited = subst (λ n. Within n quota (visible_in p c.args.contents.now.view)) c.requires.limit c.requires.kept.within in
-    subst (Within most_blobs quota) (sym same) (c.answer_read.ensures.within p most_blobs quota limited)
+    let same = read_shown p q c.args.contents.now.view c.answer_read.new.view (holders_given c.answer_read.result) c.answer_read.ensures.moves c.answer_read.ensures.holders c.requires.kept.kept.held.counted in
+    let limited = subst (λ n. Within n quota (visible_in p c.args.contents.now.view)) c.requires.kept.limit c.requires.kept.kept.within in
+    record {
+      limit = c.answer_read.ensures.limit ∙ c.requires.kept.limit;
+      texts = subst (Within most_blobs quota) (sym same) (c.answer_read.ensures.within p most_blobs quota limited);
+      uploads = c.requires.kept.uploads;
+      results = c.requires.kept.results;
+    }
 
 pub answer_by_message-requires-clause-plain : goal.answer_by_message-requires-clause-plain
 answer_by_message-requires-clause-plain c = (c.requires.apart, c.in_default.not-Read, c.in_default.not-GetTree)
@@ -64,7 +69,7 @@ returns-in-GetTree-clause-changed c = λ moment calls.
     let changes = get_tree_changes c.deref-in-GetTree.result.now old c.args.message.now in
     let quota = c.args.settings.now.quota in
     rw (c.in-GetTree.is, ← c.deref-in-GetTree.ensures)
-    (subst (λ (n : ℕ). OnOk c.answer_tree.result (visible_in p c.answer_tree.new.view ≡ visible_after_changes n quota changes old)) c.requires.limit (c.answer_tree.ensures.changed p quota))
+    (subst (λ (n : ℕ). OnOk c.answer_tree.result (visible_in p c.answer_tree.new.view ≡ visible_after_changes n quota changes old)) c.requires.kept.limit (c.answer_tree.ensures.changed p quota))
 
 pub returns-in-GetTree-clause-memory : goal.returns-in-GetTree-clause-memory
 returns-in-GetTree-clause-memory c = λ moment calls.
@@ -73,11 +78,17 @@ returns-in-GetTree-clause-memory c = λ moment calls.
     let changes = get_tree_changes c.deref-in-GetTree.result.now old c.args.message.now in
     let quota = c.args.settings.now.quota in
     rw (c.in-GetTree.is, ← c.deref-in-GetTree.ensures)
-    (subst (λ (n : ℕ). OnErr c.answer_tree.result (MadeInPart n quota changes old (visible_in p c.answer_tree.new.view))) c.requires.limit (c.answer_tree.ensures.memory p quota))
+    (subst (λ (n : ℕ). OnErr c.answer_tree.result (MadeInPart n quota changes old (visible_in p c.answer_tree.new.view))) c.requires.kept.limit (c.answer_tree.ensures.memory p quota))
 
 pub returns-in-GetTree-clause-within : goal.returns-in-GetTree-clause-within
 returns-in-GetTree-clause-within c =
     let p = c.args.pool.now in
     let quota = c.args.settings.now.quota in
-    let kept = c.answer_tree.ensures.kept p quota c.requires.kept in
-    subst (λ n. Within n quota (visible_in p c.answer_tree.new.view)) (c.answer_tree.ensures.limit ∙ c.requires.limit) kept.within
+    let kept = c.answer_tree.ensures.kept p quota c.requires.kept.kept in
+    let limit = c.answer_tree.ensures.limit ∙ c.requires.kept.limit in
+    record {
+      limit = limit;
+      texts = subst (λ n. Within n quota (visible_in p c.answer_tree.new.view)) limit kept.within;
+      uploads = c.requires.kept.uploads;
+      results = c.requires.kept.results;
+    }

@@ -1,4 +1,4 @@
-use Rattle.std.proofs.Common.{◌≡◌, ℕ, [], subst}
+use Rattle.std.proofs.Common.{◌≡◌, ◌∙◌, ℕ, [], subst}
 use Rattle.instance_view.specs.Shown.{visible_in}
 use Rattle.cas_service.specs.Answers.{IfAnswered}
 use Rattle.cas_service.specs.Changes.{visible_after_changes}
@@ -23,18 +23,22 @@ returns-clause-changed c = λ moment calls.
     let outcome = c.get_action_result-outcome in
     let changes = get_action_result_changes s.name s.visible s.results message in
     let used = rw c.deref.ensures at outcome.ensures.used p s.quota in
-    let limited = subst (λ (n : ℕ). IfAnswered outcome.result (visible_in p outcome.new.view ≡ visible_after_changes n s.quota changes s.visible)) c.requires.limit used in
+    let limited = subst (λ (n : ℕ). IfAnswered outcome.result (visible_in p outcome.new.view ≡ visible_after_changes n s.quota changes s.visible)) c.requires.kept.limit used in
     let left = rw c.deref.ensures at outcome.ensures.results in
     results_make outcome.result c.settle.result s changes (after_get s.name s.visible s.results message) (visible_in p outcome.new.view) outcome.new.results
     limited left (seen_same outcome.result outcome.new.results s.results p c.args.contents.now.view outcome.new.view outcome.ensures.err) c.settle.ensures.memory
 
-pub returns-clause-results : goal.returns-clause-results
-returns-clause-results c =
+pub returns-clause-kept : goal.returns-clause-kept
+returns-clause-kept c =
     let s = state_of c.args.settings.now 0 c.args.pool.now c.args.contents.now [] in
     let outcome = c.get_action_result-outcome in
     let left = rw c.deref.ensures at outcome.ensures.results in
-    settled_results outcome.result s.results (after_get s.name s.visible s.results c.args.message.now) outcome.new.results left (both_same outcome.result _ _ outcome.ensures.err)
-    c.requires.results (get_stays_within s.name s.visible s.results c.args.message.now c.requires.results)
-
-pub returns-clause-kept : goal.returns-clause-kept
-returns-clause-kept c = c.get_action_result-outcome.ensures.kept c.args.pool.now c.args.settings.now.quota c.requires.kept
+    let results = settled_results outcome.result s.results (after_get s.name s.visible s.results c.args.message.now) outcome.new.results left (both_same outcome.result _ _ outcome.ensures.err)
+    c.requires.kept.results (get_stays_within s.name s.visible s.results c.args.message.now c.requires.kept.results) in
+    record {
+      quota = c.requires.kept.quota;
+      limit = outcome.ensures.limit ∙ c.requires.kept.limit;
+      kept = outcome.ensures.kept c.args.pool.now c.args.settings.now.quota c.requires.kept.kept;
+      uploads = c.requires.kept.uploads;
+      results = results;
+    }

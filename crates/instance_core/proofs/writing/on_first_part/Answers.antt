@@ -19,5 +19,5 @@ returns-clause-changed c =
     let uploads = rw c.deref.ensures at c.write_first-written.ensures.uploads in
     let memory = rw c.deref.ensures at c.write_first-written.ensures.memory in
     first_done c.write_first-written.result c.settle_first.result c.args.pool.now c.write_first-written.new.pool c.args.contents.now.view c.write_first-written.new.view s c.args.id c.args.message.now
-    c.args.contents.now.view.limit c.write_first-written.new.uploads c.settle_first.new.calls c.requires.limit refl visible uploads memory c.settle_first.ensures.memory
+    c.args.contents.now.view.limit c.write_first-written.new.uploads c.settle_first.new.calls c.requires.kept.limit refl visible uploads memory c.settle_first.ensures.memory
     (c.settle_first.ensures.changed (first_outcome s c.args.message.now) answer) c.settle_first.ensures.err

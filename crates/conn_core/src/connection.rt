@@ -59,7 +59,14 @@ impl Model for Connection {
 
     ghost Value = { Present };
 
-    ghost view = { λ c. record { reader = c.reader; streams = c.streams; sending = c.sender; calls = c.calls.items; due = c.due.items; ended = c.ended } };
+    ghost view = { λ c. record {
+      reader = c.reader;
+      streams = c.streams;
+      sending = c.sender;
+      calls = c.calls.items;
+      due = c.due.items;
+      ended = c.ended;
+    } };
 
     // There is always room for GOAWAY.
     ghost invariant = { λ c. (c.ended ≡ false → length c.sender.pending ≤ 131055)
@@ -166,9 +173,10 @@ impl Connection {
         self.sender.owe_message(&self.streams, stream, message)
     }
 
-    /// Owes the bytes from a place until another of a source's text to the stream, where it is live: as messages
-    /// ReadResponse, each with 65,536 of them and the last with the rest. The source is held from then on until
-    /// `spent` tells it, once; where nothing is to be put that is at once. An error changes nothing.
+    /// Owes the bytes from a place until another of a source's text to the stream, where it is
+    /// live: as messages ReadResponse, each with 65,536 of them and the last with the rest. The
+    /// source is held from then on until `spent` tells it, once; where nothing is to be put that is
+    /// at once. An error changes nothing.
     pub fn owe_range(
         &mut self,
         stream: u32,

@@ -43,5 +43,6 @@ pub record IsSending (v : Sending) (d : List Entry) (os : List OwedItem) : Type 
 abbrev pub owed_with_item : List Entry → List OwedItem → ℕ → Item → List OwedItem
 owed_with_item d os s item =
     if has_failed d then os
-    else if list_any (λ t. t == s) (live_streams d) then os ++ record { stream = s; item = item } ∷ []
+    else if list_any (λ t. t == s) (live_streams d)
+    then os ++ record { stream = s; item = item } ∷ []
     else os

@@ -49,7 +49,8 @@ without_front_at s n q = if q.stream == s then record q { pieces = without_front
 -- the next frames were put
 abbrev pub Puts : Standing → Sending → Standing → Sending → Type 0
 Puts v w v' w' = (d : List Entry) (os : List OwedItem) → AreStreams v d → IsSending w d os →
-    (fs : List Frame) × (next_frames d os ≡ Some fs) × AreStreams v' (d ++ map Out fs) × IsSending w' (d ++ map Out fs) os
+    (fs : List Frame) × (next_frames d os ≡ Some fs) × AreStreams v' (d ++ map Out fs)
+    × IsSending w' (d ++ map Out fs) os
 
 -- nothing more can be put
 abbrev pub Rests : Standing → Sending → Type 0
@@ -74,4 +75,5 @@ abbrev pub Finishes : Standing → Sending → ℕ → Bool → Standing → Sen
 Finishes v w s ended_by_client v' w' =
     (d : List Entry) (os : List OwedItem) → s ≤ v.highest →
     (ended_by_client ≡ true → is_not_closed d s ≡ false) → AreStreams v d → IsSending w d os →
-    AreStreams v' (d ++ map Out (reset_after s (not ended_by_client))) × IsSending w' (d ++ map Out (reset_after s (not ended_by_client))) os
+    AreStreams v' (d ++ map Out (reset_after s (not ended_by_client)))
+    × IsSending w' (d ++ map Out (reset_after s (not ended_by_client))) os

@@ -49,7 +49,12 @@ impl Model for Sender {
 
     ghost Value = { StoredSending };
 
-    ghost view = { λ s. record { pending = s.buffer; position = s.position; queues = s.backlog.queues; spent = s.backlog.spent } };
+    ghost view = { λ s. record {
+      pending = s.buffer;
+      position = s.position;
+      queues = s.backlog.queues;
+      spent = s.backlog.spent;
+    } };
 }
 
 impl Sender {
@@ -182,9 +187,10 @@ impl Sender {
         self.backlog.push(stream, StoredPiece::Framed(message))
     }
 
-    /// Owes the bytes from a place until another of a source's text to the stream, where it is live: as messages
-    /// ReadResponse, each with 65,536 of them and the last with the rest. The source is held from then on until
-    /// `spent` tells it, once; where nothing is to be put that is at once. An error changes nothing.
+    /// Owes the bytes from a place until another of a source's text to the stream, where it is
+    /// live: as messages ReadResponse, each with 65,536 of them and the last with the rest. The
+    /// source is held from then on until `spent` tells it, once; where nothing is to be put that is
+    /// at once. An error changes nothing.
     pub fn owe_range(
         &mut self,
         streams: &Streams,

@@ -1,13 +1,12 @@
 //! The messages of a call in the data of its stream (gRPC over HTTP2, Length-Prefixed-Message):
-//! a reader that splits the received bytes into messages, however they were cut, and the framing
-//! of a message that is sent.
+//! a reader that splits the received bytes into messages, however they were cut. Who sends a message
+//! puts its prefix before it.
 #![tactic(auto)]
 
 mod error;
 mod laws;
 mod message;
 mod reader;
-mod writer;
 
 pub use error::MessagesError;
 pub use laws::{
@@ -15,4 +14,3 @@ pub use laws::{
 };
 pub use message::Message;
 pub use reader::{MESSAGE_LIMIT, Messages, PREFIX_LENGTH};
-pub use writer::write_message;

@@ -67,8 +67,8 @@ fn text_length(pair: Option<(Digest, Vec<u8>)>) -> usize
 /// Puts a pair first, in the place of an earlier one, and says how long the earlier one's bytes
 /// were.
 fn put(cache: &mut Cache, digest: Digest, text: Vec<u8>) -> Result<usize, AllocError>
-    requires cap { cache.old.cap ≡ 10001 }
-    requires length { length cache.old.entries ≤ 10000 }
+    requires cap { cache.old.cap ≡ CAPACITY }
+    requires length { length cache.old.entries ≤ MOST_RESULTS }
     ensures put { OnOk result (map result_shown cache.new.entries ≡ (digest, text.items)
         ∷ remove_entry (same_digest digest) (map result_shown cache.old.entries)) }
     ensures dropped { IfOk result (λ dropped.
@@ -95,9 +95,9 @@ fn pop(cache: &mut Cache) -> usize
 
 /// Whether there are more results, or bytes, than the limits allow.
 fn is_over(cache: &Cache, bytes: u64) -> bool
-    ensures over { result ≡ true → (10000 < length cache.now.entries) ⊎ (67108864 < bytes) }
-    ensures few { result ≡ false → length cache.now.entries ≤ 10000 }
-    ensures short { result ≡ false → bytes ≤ 67108864 }
+    ensures over { result ≡ true → (MOST_RESULTS < length cache.now.entries) ⊎ (MOST_RESULT_BYTES < bytes) }
+    ensures few { result ≡ false → length cache.now.entries ≤ MOST_RESULTS }
+    ensures short { result ≡ false → bytes ≤ MOST_RESULT_BYTES }
 {
     cache.len() > MOST_RESULTS || bytes > MOST_RESULT_BYTES
 }
@@ -106,10 +106,10 @@ fn is_over(cache: &Cache, bytes: u64) -> bool
 fn trim(cache: &mut Cache, bytes: &mut u64)
     requires bytes { bytes.old ≡ total_length (map result_shown cache.old.entries) }
     ensures entries { map result_shown cache.new.entries
-        ≡ front_within 10000 67108864 (map result_shown cache.old.entries) }
+        ≡ front_within MOST_RESULTS MOST_RESULT_BYTES (map result_shown cache.old.entries) }
     ensures bytes { bytes.new ≡ total_length (map result_shown cache.new.entries) }
-    ensures few { length cache.new.entries ≤ 10000 }
-    ensures short { bytes.new ≤ 67108864 }
+    ensures few { length cache.new.entries ≤ MOST_RESULTS }
+    ensures short { bytes.new ≤ MOST_RESULT_BYTES }
     ensures cap { cache.new.cap ≡ cache.old.cap }
 {
     'results: while is_over(cache, *bytes) {
@@ -125,17 +125,17 @@ fn store(
     text: Vec<u8>,
 ) -> Result<(), AllocError>
     requires bytes { bytes.old ≡ total_length (map result_shown cache.old.entries) }
-    requires cap { cache.old.cap ≡ 10001 }
-    requires few { length cache.old.entries ≤ 10000 }
-    requires short { bytes.old ≤ 67108864 }
-    requires fits { length text.items ≤ 67108864 }
+    requires cap { cache.old.cap ≡ CAPACITY }
+    requires few { length cache.old.entries ≤ MOST_RESULTS }
+    requires short { bytes.old ≤ MOST_RESULT_BYTES }
+    requires fits { length text.items ≤ MOST_RESULT_BYTES }
     ensures entries { OnOk result (map result_shown cache.new.entries
-        ≡ front_within 10000 67108864
+        ≡ front_within MOST_RESULTS MOST_RESULT_BYTES
         ((digest, text.items)
         ∷ remove_entry (same_digest digest) (map result_shown cache.old.entries))) }
     ensures bytes { bytes.new ≡ total_length (map result_shown cache.new.entries) }
-    ensures few { length cache.new.entries ≤ 10000 }
-    ensures short { bytes.new ≤ 67108864 }
+    ensures few { length cache.new.entries ≤ MOST_RESULTS }
+    ensures short { bytes.new ≤ MOST_RESULT_BYTES }
     ensures cap { cache.new.cap ≡ cache.old.cap }
     ensures err { OnErr result (map result_shown cache.new.entries
         ≡ map result_shown cache.old.entries) }
@@ -157,6 +157,7 @@ pub struct Results {
 
 impl Model for Results {
     ghost use Rattle.std.specs.Prelude.{◌≡◌, ◌≤◌, List, length, map};
+    ghost use Rattle.action_cache.specs.declared.results.TheConstants.{MOST_RESULTS, MOST_RESULT_BYTES, CAPACITY};
     ghost use Rattle.instance_view.specs.Visible.{Blob, total_length};
     ghost use Rattle.action_cache.specs.Results.{result_shown};
 
@@ -165,8 +166,8 @@ impl Model for Results {
     ghost view = { λ r. map result_shown r.cache.entries };
 
     ghost invariant = { λ r. (r.bytes ≡ total_length (map result_shown r.cache.entries))
-        × (r.cache.cap ≡ 10001)
-        × (length r.cache.entries ≤ 10000) × (r.bytes ≤ 67108864) };
+        × (r.cache.cap ≡ CAPACITY)
+        × (length r.cache.entries ≤ MOST_RESULTS) × (r.bytes ≤ MOST_RESULT_BYTES) };
 }
 
 impl Results {

@@ -3,6 +3,7 @@ ghost use Rattle.digest.specs.Naming.{Names};
 ghost use Rattle.paged_text.specs.Pages.{part_of};
 ghost use Rattle.blob_pool.specs.Slots.{text_at, count_at, held_text_at, IsShared, texts_stored, bytes_stored};
 ghost use Rattle.blob_pool.specs.Moves.{Moves, HasRoom, no_holders, one_at};
+ghost use Rattle.paged_text.specs.declared.text.TheConstants.{PAGE_BYTES};
 
 use crate::draft::Draft;
 use crate::hold::{Hold, Kept, keep};
@@ -157,7 +158,7 @@ impl Pool {
     /// bytes. It takes no memory.
     pub fn part(&self, hold: &Hold, from: u64, most: u32) -> &[u8]
         requires { 0 < count_at self.now hold.now }
-        ensures { result.now ≡ part_of 65536 (text_at self.now hold.now) from most }
+        ensures { result.now ≡ part_of PAGE_BYTES (text_at self.now hold.now) from most }
     {
         text(&self.slots, hold.slot()).part(from, most)
     }

@@ -8,6 +8,7 @@ ghost use Rattle.uploads.specs.Shown.{key_shown};
 ghost use Rattle.bytestream.specs.Writing as writing;
 ghost use Rattle.bytestream.specs.Writing.{state_of, same_name, write_reply, unfinished_reply, first_answer, next_answer, after_first, after_next, IsFirstOldOrTaken, IsNextOldOrTaken};
 ghost use Rattle.bytestream.specs.Shown.{part_shown, first_part_shown, open_write_shown, written_shown, IfGoes};
+ghost use Rattle.quota_evict.specs.Kept.{quota_limit};
 
 use crate::names::write_name;
 use crate::part::{Part, take_part};
@@ -144,7 +145,7 @@ pub fn write_first(
     uploads: &mut Uploads,
     message: &[u8],
 ) -> Result<Written, CallError>
-    requires quota { quota ≤ 2 ^ 40 }
+    requires quota { quota ≤ quota_limit }
     requires kept { AreKept quota pool.old view.old }
     requires within { WithinLimits quota uploads.old }
     ensures answer { Answers written_shown result
@@ -198,7 +199,7 @@ pub fn write_next(
     call: &OpenWrite,
     message: &[u8],
 ) -> Result<Option<Vec<u8>>, CallError>
-    requires quota { quota ≤ 2 ^ 40 }
+    requires quota { quota ≤ quota_limit }
     requires named { (open_write_shown call.now).key.digest.size < 2 ^ 63 }
     requires kept { AreKept quota pool.old view.old }
     requires within { WithinLimits quota uploads.old }

@@ -8,6 +8,7 @@ use Rattle.http2_streams.specs.Rules.{reading_fault}
 use Rattle.grpc_sending.specs.Owed.{Item}
 use Rattle.conn_core.specs.declared.event.CallEvent.{CallEvent}
 use Rattle.conn_core.specs.Past.{Past, opening, with_frame, with_fault, with_item, with_taken, with_pumped}
+use Rattle.http2_frames.specs.declared.reader.TheConstants.{MAX_FRAME_SIZE}
 
 pub data Change : Type 0 where
   -- bytes were received
@@ -36,7 +37,7 @@ past_after_change p (EventsGiven left) = record p { due = left }
 
 -- a frame as it can be read: section 4.2 for its length, section 4.1 for its stream
 abbrev pub IsReceivable : RawFrame → Type 0
-IsReceivable f = (length f.payload ≤ 16384) × (f.stream < 2 ^ 31)
+IsReceivable f = (length f.payload ≤ MAX_FRAME_SIZE) × (f.stream < 2 ^ 31)
 
 -- what a change supposes: frames are frames, and an error is that of its fault
 abbrev pub IsChange : Change → Type 0

@@ -16,6 +16,7 @@ use Rattle.http2_streams.specs.declared.event.StreamEvent.{StreamEvent}
 use Rattle.http2_streams.specs.History.{Entry, In, Unreadable, Out, highest_stream, has_failed}
 use Rattle.http2_streams.specs.Rules.{answer_after, control_frames}
 use Rattle.grpc_sending.specs.Bytes.{untaken_count}
+use Rattle.grpc_sending.specs.declared.sender.TheConstants.{CONTROL_LIMIT}
 
 abbrev pub raw_in : Entry → Option RawFrame
 raw_in (In f) = Some f
@@ -27,7 +28,7 @@ received_raw_frames d = filter_map raw_in d
 
 -- a control frame other than GOAWAY is put where the untaken bytes stay at 131,055 or fewer
 abbrev pub may_put : ℕ → Frame → Bool
-may_put n f = nat_le (n + length (text_of f)) 131055
+may_put n f = nat_le (n + length (text_of f)) CONTROL_LIMIT
 
 -- those that are put before the first that is not
 abbrev pub frames_to_put : ℕ → List Frame → List Frame

@@ -15,6 +15,7 @@ use Rattle.conn_core.specs.Received.{received_raw_frames, outcome, frame_entries
 use Rattle.conn_core.specs.Calls.{is_call, stream_text}
 use Rattle.conn_core.specs.Past.{Past, with_frame}
 use Rattle.conn_core.specs.StandsFor.{StandsFor, Present, IsCall, call_on, members_of, stream_of}
+use Rattle.http2_frames.specs.declared.reader.TheConstants.{MAX_FRAME_SIZE}
 
 -- what is kept of the calls, by the history before the frame
 pub record AreCalls (v : Present) (d : List Entry) : Type 0 where
@@ -26,7 +27,7 @@ pub record AreCalls (v : Present) (d : List Entry) : Type 0 where
 pub record IsTaking (texts : Look) (v : Present) (p : Past) (f : RawFrame) : Type 0 where
   pub ended : v.ended ≡ false
   pub lives : has_failed p.history ≡ false
-  pub short : length f.payload ≤ 16384
+  pub short : length f.payload ≤ MAX_FRAME_SIZE
   pub reader : IsReader CLIENT_PREFACE.now v.reader p.text (received_raw_frames p.history ++ f ∷ [])
   pub streams : AreStreams v.streams p.history
   pub sending : IsSending texts v.sending p.history p.owed

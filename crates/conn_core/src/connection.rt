@@ -17,6 +17,8 @@ ghost use Rattle.http2_streams.specs.Rules.{control_frames};
 ghost use Rattle.http2_streams.specs.LiveStreams.{stream_of_event};
 ghost use Rattle.http2_frames.specs.declared.frame.RawFrame.{RawFrame};
 ghost use Rattle.http2_streams.specs.declared.event.Event.TheVariants.{Request, Content, Trailers, Cancel};
+ghost use Rattle.http2_frames.specs.declared.reader.TheConstants.{MAX_FRAME_SIZE};
+ghost use Rattle.grpc_sending.specs.declared.sender.TheConstants.{CONTROL_LIMIT};
 
 use crate::call::{Call, begin_call, cancel_call, is_live, pop_live_call, take_more};
 use crate::event::CallEvent;
@@ -54,6 +56,7 @@ pub struct Connection {
 
 impl Model for Connection {
     ghost use Rattle.std.specs.Prelude.{◌≡◌, ◌≤◌, true, false, length};
+    ghost use Rattle.grpc_sending.specs.declared.sender.TheConstants.{CONTROL_LIMIT};
     ghost use Rattle.grpc_sending.specs.StoredSending.{IsAtRest};
     ghost use Rattle.conn_core.specs.StandsFor.{Present};
 
@@ -69,7 +72,7 @@ impl Model for Connection {
     } };
 
     // There is always room for GOAWAY.
-    ghost invariant = { λ c. (c.ended ≡ false → length c.sender.pending ≤ 131055)
+    ghost invariant = { λ c. (c.ended ≡ false → length c.sender.pending ≤ CONTROL_LIMIT)
         × (c.at_rest ≡ true → IsAtRest c.streams c.sender) };
 }
 
@@ -298,7 +301,7 @@ impl Connection {
 
     fn take_frame(&mut self, frame: &RawFrame<'_>) -> Result<(), AllocError>
         requires alive { self.old.ended ≡ false }
-        requires short { length frame.now.payload ≤ 16384 }
+        requires short { length frame.now.payload ≤ MAX_FRAME_SIZE }
         ensures stands { OnOk result (TakesFrame self.old frame.now self.new) }
         ensures reader { OnOk result (self.new.reader ≡ self.old.reader) }
         ensures fit { KeepsFit self.old.sending self.new.sending }
@@ -544,7 +547,7 @@ fn named(event: &Event<'_>) -> Option<u32>
 fn is_answer(frame: &Frame<'_>) -> bool
     ensures answer { result ≡ is_answer frame.now }
     ensures control { IsTrue result → IsControl frame.now }
-    ensures short { IsTrue result → length (raw_of frame.now).payload ≤ 16384 }
+    ensures short { IsTrue result → length (raw_of frame.now).payload ≤ MAX_FRAME_SIZE }
 {
     match frame {
         Frame::WindowUpdate { .. } | Frame::RstStream { .. } => true,

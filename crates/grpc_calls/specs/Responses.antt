@@ -64,3 +64,7 @@ abbrev pub response_to : HeadFault → ResponseBlock
 response_to BadMethod = MethodNotAllowed
 response_to BadContentType = UnsupportedMediaType
 response_to BadPath = TrailersOnly UnknownMethod
+
+-- no block of a response is longer, at whatever place of its connection
+abbrev pub longest_block : ℕ
+longest_block = 128

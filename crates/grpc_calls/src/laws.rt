@@ -15,6 +15,7 @@ ghost use Rattle.grpc_calls.specs.declared.response.ResponseBlock.{ResponseBlock
 ghost use Rattle.rpc.specs.Methods.{path_of, method_at};
 ghost use Rattle.grpc_calls.specs.Requests.{IsCall, IsPost, IsGrpc, HasPathOf, head_of};
 ghost use Rattle.grpc_calls.specs.Responses.{fields_of, percent_encoding};
+ghost use Rattle.grpc_calls.specs.Responses.{longest_block};
 
 /// A request calls a method exactly where its head is answered with it, and each fault comes
 /// exactly where it stands and none before it.
@@ -45,7 +46,7 @@ pub fn response_blocks_are_read_back()
 /// A block fits in one frame.
 pub fn response_blocks_are_short()
     ensures { (position : Position) (block : ResponseBlock) →
-        length (block_text position (fields_of block)) ≤ 128 }
+        length (block_text position (fields_of block)) ≤ longest_block }
 {}
 
 /// The texts of refusals are written as they are.

@@ -8,6 +8,7 @@ ghost use Rattle.grpc_messages.specs.Writing.{framed_message};
 ghost use Rattle.grpc_sending.specs.declared.piece.StoredPiece.{StoredPiece};
 ghost use Rattle.grpc_sending.specs.StoredSending.{stored_front};
 ghost use Rattle.grpc_sending.specs.Sources.{source_of};
+ghost use Rattle.grpc_calls.specs.Responses.{longest_block};
 
 use crate::range::Cursor;
 use byteorder::{BigEndian, ByteOrder};
@@ -87,7 +88,7 @@ impl<'a> BlockText<'a> {
 
     pub(crate) fn as_slice(&self) -> &'a [u8]
         ensures text { result.now ≡ block_text Later (fields_of self.now) }
-        ensures short { length result.now ≤ 128 }
+        ensures short { length result.now ≤ longest_block }
     {
         self.text
     }

@@ -3,6 +3,7 @@
 ghost use Rattle.std.specs.Prelude.{◌≡◌, ◌≤◌, ◌∷◌, [], true, false, length, take, drop};
 ghost use Rattle.grpc_sending.specs.Pieces.{length_text};
 ghost use Rattle.grpc_sending.specs.Spans.{read_head, span_count, span_size, span_after};
+ghost use Rattle.grpc_sending.specs.Pieces.{most_read};
 
 use byteorder::{BigEndian, ByteOrder};
 use std::marker::Model;
@@ -33,7 +34,7 @@ impl Model for ReadHead {
 
 impl ReadHead {
     fn new(count: u32) -> ReadHead
-        requires { count ≤ 65536 }
+        requires { count ≤ most_read }
         ensures { result ≡ read_head count }
     {
         let mut size = [0u8; 4];
@@ -77,7 +78,7 @@ fn length_size(count: u32) -> u32
 
 /// A length as a varint, and behind it zeros.
 fn length_text(count: u32) -> [u8; 3]
-    requires { count ≤ 65536 }
+    requires { count ≤ most_read }
     ensures { take (length (length_text count)) result ≡ length_text count }
 {
     if count < 128 {
@@ -112,22 +113,22 @@ impl Model for Cursor {
 impl Cursor {
     /// How many bytes of a text the first message has.
     fn count(&self) -> u32
-        ensures is { result ≡ span_count 65536 self.now }
-        ensures short { result ≤ 65536 }
+        ensures is { result ≡ span_count most_read self.now }
+        ensures short { result ≤ most_read }
     {
         self.until.saturating_sub(self.from).min(MOST_READ) as u32
     }
 
     /// What stands before them.
     pub(crate) fn head(&self) -> ReadHead
-        ensures { result ≡ read_head (span_count 65536 self.now) }
+        ensures { result ≡ read_head (span_count most_read self.now) }
     {
         ReadHead::new(self.count())
     }
 
     /// How many bytes of the first message are left.
     pub(crate) fn size(&self) -> usize
-        ensures is { result ≡ span_size 65536 self.now }
+        ensures is { result ≡ span_size most_read self.now }
         ensures short { result ≤ 65545 }
     {
         let count = self.count();
@@ -137,8 +138,8 @@ impl Cursor {
 
     /// So many bytes of the first message were put. Says whether they were the last of the range.
     pub(crate) fn take_off(&mut self, count: usize) -> bool
-        ensures whole { result ≡ true → span_after 65536 count self.old ≡ [] }
-        ensures part { result ≡ false → span_after 65536 count self.old ≡ self.new ∷ [] }
+        ensures whole { result ≡ true → span_after most_read count self.old ≡ [] }
+        ensures part { result ≡ false → span_after most_read count self.old ≡ self.new ∷ [] }
         ensures source { self.new.source ≡ self.old.source }
     {
         if count < self.size() {

@@ -13,6 +13,7 @@ ghost use Rattle.grpc_sending.specs.StandsFor.{owed_with_item};
 ghost use Rattle.grpc_sending.specs.StoredSending.{Tells, Enters, DropsClosed, DropsAll, Owes, OwesRange, IsAtRest, PumpsStreams, PumpsSending, PutsBy, ResetsBy, FinishesBy, KeepsFit, KeepsFitWith, Look, StoredSending, StandsFor, Fit, IsFit, KeepsSources, HoldsMore, HasFew, new_stored_sending, sending_in, stored_on, front_bytes, front_frame};
 ghost use Rattle.grpc_sending.specs.SortedQueues.{AreSorted};
 ghost use Rattle.grpc_sending.specs.Step.{Puts, Rests, IsControl, Finishes, Resets};
+ghost use Rattle.http2_frames.specs.declared.reader.TheConstants.{MAX_FRAME_SIZE};
 
 use crate::backlog::Backlog;
 use crate::buffer::{CAPACITY, OutBuffer};
@@ -89,7 +90,7 @@ impl Sender {
 
     /// Whether a control frame other than GOAWAY may be put.
     pub fn has_room(&self, frame: &Frame<'_>) -> bool
-        requires { length (raw_of frame.now).payload ≤ 16384 }
+        requires { length (raw_of frame.now).payload ≤ MAX_FRAME_SIZE }
         ensures { IsTrue result ↔ ((length self.now.pending +
             (9 + length (raw_of frame.now).payload)) ≤ CONTROL_LIMIT) }
     {
@@ -100,7 +101,7 @@ impl Sender {
     /// Puts a control frame.
     pub fn put_control(&mut self, frame: &Frame<'_>)
         requires control { IsControl frame.now }
-        requires short { length (raw_of frame.now).payload ≤ 16384 }
+        requires short { length (raw_of frame.now).payload ≤ MAX_FRAME_SIZE }
         requires room { (length self.old.pending + (9 + length (raw_of frame.now).payload))
             ≤ CAPACITY }
         ensures stands { Enters self.old (Out frame.now) self.new }
@@ -242,7 +243,7 @@ impl Sender {
         ensures puts { IsTrue result → PutsBy
             (P.text_of parts.now) streams.old self.old streams.new self.new }
         ensures grows { IsTrue result → ((length self.old.pending < length self.new.pending)
-            × (length self.old.pending < 65536)) }
+            × (length self.old.pending < PUMP_LIMIT)) }
         ensures room { IsTrue result → length self.new.pending ≤ CONTROL_LIMIT }
         ensures rests { result ≡ false → IsAtRest streams.old self.old }
         ensures streams { result ≡ false → streams.new ≡ streams.old }
@@ -350,7 +351,7 @@ fn put_content<P: Parts>(
     requires fit { Fit (P.text_of parts.now) queues.now }
     requires there { count ≤ length (front_bytes (P.text_of parts.now)
         (stored_on stream queues.now)) }
-    requires short { count ≤ 16384 }
+    requires short { count ≤ MAX_FRAME_SIZE }
     requires room { length buffer.old + (9 + count) ≤ CAPACITY }
     ensures bytes { buffer.new ≡ buffer.old
         ++ front_frame (P.text_of parts.now) stream count (stored_on stream queues.now) }
@@ -373,7 +374,7 @@ fn put_piece<P: Parts>(
     requires some { 0 < count }
     requires fit { IsFit (P.text_of parts.now) piece.now }
     requires there { count ≤ length (front_bytes (P.text_of parts.now) (piece.now ∷ [])) }
-    requires short { count ≤ 16384 }
+    requires short { count ≤ MAX_FRAME_SIZE }
     requires room { length buffer.old + (9 + count) ≤ CAPACITY }
     ensures bytes { buffer.new ≡ buffer.old
         ++ front_frame (P.text_of parts.now) stream count (piece.now ∷ []) }

@@ -5,6 +5,7 @@ use Rattle.http2_frames.specs.declared.error.FrameError.{FrameError}
 use Rattle.http2_frames.specs.declared.frame.RawFrame.{RawFrame}
 use Rattle.http2_frames.specs.Wire.{Split}
 use Rattle.http2_frames.specs.Reading.{frame_at, split, split_behind, fault_only}
+use Rattle.http2_frames.specs.declared.reader.TheConstants.{MAX_FRAME_SIZE}
 
 -- what a reader has not given yet: the preface, where it has to come still, and bytes
 pub record Unread : Type 0 where
@@ -37,7 +38,7 @@ StandsFor preface reader text given =
 -- the preface has come, and the bytes at the front are a whole frame
 abbrev pub HasFrame : Result Unread FrameError → Type 0
 HasFrame (Ok u) =
-    (u.preface ≡ []) × (big_number 3 u.text ≤ 16384) × (9 + big_number 3 u.text ≤ length u.text)
+    (u.preface ≡ []) × (big_number 3 u.text ≤ MAX_FRAME_SIZE) × (9 + big_number 3 u.text ≤ length u.text)
 HasFrame (Err e) = ⊥
 
 -- that frame
@@ -50,4 +51,4 @@ pub record IsFrame (f : RawFrame) : Type 0 where
   pub kind : f.kind < 2 ^ 8
   pub flags : f.flags < 2 ^ 8
   pub stream : f.stream < 2 ^ 31
-  pub short : length f.payload ≤ 16384
+  pub short : length f.payload ≤ MAX_FRAME_SIZE

@@ -6,12 +6,13 @@ use Rattle.http2_frames.specs.declared.error.FrameError.{FrameError}
 use Rattle.http2_frames.specs.declared.error.FrameError.TheVariants.{Preface, Size}
 use Rattle.http2_frames.specs.declared.frame.RawFrame.{RawFrame}
 use Rattle.http2_frames.specs.Wire.{Split}
+use Rattle.http2_frames.specs.declared.reader.TheConstants.{MAX_FRAME_SIZE}
 
 -- the payload length of the whole frame at the front, if one is there
 abbrev pub whole_at : List ℕ → Result (Option ℕ) FrameError
 whole_at bytes =
     if nat_lt (length bytes) 9 then Ok None
-    else if nat_lt 16384 (big_number 3 bytes) then Err Size
+    else if nat_lt MAX_FRAME_SIZE (big_number 3 bytes) then Err Size
     else if nat_lt (length bytes) (9 + big_number 3 bytes) then Ok None
     else Ok (Some (big_number 3 bytes))
 

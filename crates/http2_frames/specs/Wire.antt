@@ -5,6 +5,7 @@ use Rattle.byteorder.specs.Endian.{big_number}
 use Rattle.http2_frames.specs.declared.error.FrameError.{FrameError}
 use Rattle.http2_frames.specs.declared.error.FrameError.TheVariants.{Preface, Size}
 use Rattle.http2_frames.specs.declared.frame.RawFrame.{RawFrame}
+use Rattle.http2_frames.specs.declared.reader.TheConstants.{MAX_FRAME_SIZE}
 
 -- 24 bits of length, 8 of type, 8 of flags, a reserved bit, 31 of stream number, and the payload
 pub record IsFrameText (text : List ℕ) (f : RawFrame) : Type 0 where
@@ -17,7 +18,7 @@ pub record IsFrameText (text : List ℕ) (f : RawFrame) : Type 0 where
   -- the reserved bit is ignored
   pub stream : big_number 4 number % 2 ^ 31 ≡ f.stream
   -- no more than the initial value of SETTINGS_MAX_FRAME_SIZE (section 4.2)
-  pub short : length f.payload ≤ 16384
+  pub short : length f.payload ≤ MAX_FRAME_SIZE
 
 -- one frame after another, and nothing else
 abbrev pub Spells : List ℕ → List RawFrame → Type 0
@@ -34,9 +35,9 @@ pub record Split : Type 0 where
 -- less than a whole frame, or the head of a frame that is too long
 abbrev pub IsEnd : List ℕ → Result (List ℕ) FrameError → Type 0
 IsEnd bytes (Ok rest) =
-    (bytes ≡ rest) × ((length bytes < 9) ⊎ (big_number 3 bytes ≤ 16384)
+    (bytes ≡ rest) × ((length bytes < 9) ⊎ (big_number 3 bytes ≤ MAX_FRAME_SIZE)
     × (length bytes < 9 + big_number 3 bytes))
-IsEnd bytes (Err e) = (e ≡ Size) × (9 ≤ length bytes) × (16384 < big_number 3 bytes)
+IsEnd bytes (Err e) = (e ≡ Size) × (9 ≤ length bytes) × (MAX_FRAME_SIZE < big_number 3 bytes)
 
 -- the text is these frames, and then its end
 pub record IsInFrames (text : List ℕ) (s : Split) : Type 0 where

@@ -10,6 +10,7 @@ use Rattle.http2_frames.specs.declared.frame.Frame.{Frame}
 use Rattle.http2_frames.specs.declared.frame.Frame.TheVariants.{Data, Headers, Priority, RstStream, Settings, PushPromise, Ping, GoAway, WindowUpdate, Continuation, Unknown}
 use Rattle.http2_frames.specs.declared.settings.Setting.{Setting}
 use Rattle.http2_frames.specs.Settings.{settings_text}
+use Rattle.http2_frames.specs.declared.reader.TheConstants.{MAX_FRAME_SIZE}
 
 -- section 4.1: the length, the type, the flags and the stream number, in nine bytes
 abbrev pub header_text : ℕ → ℕ → ℕ → ℕ → List ℕ
@@ -68,17 +69,17 @@ IsStream s = (0 < s) × (s < 2 ^ 31)
 
 -- a frame that keeps the rules of its type
 abbrev pub IsWritable : Frame → Type 0
-IsWritable (Data s end_stream bytes) = IsStream s × (length bytes ≤ 16384)
-IsWritable (Headers s end_stream end_headers fragment) = IsStream s × (length fragment ≤ 16384)
+IsWritable (Data s end_stream bytes) = IsStream s × (length bytes ≤ MAX_FRAME_SIZE)
+IsWritable (Headers s end_stream end_headers fragment) = IsStream s × (length fragment ≤ MAX_FRAME_SIZE)
 IsWritable (Priority s priority) = IsStream s × (length priority ≡ 5)
 IsWritable (RstStream s error_code) = IsStream s × (error_code < 2 ^ 32)
 IsWritable (Settings ack settings) =
-    AllByRecursion IsSetting settings × (6 * length settings ≤ 16384) × (ack ≡ true → settings ≡ [])
-IsWritable (PushPromise flags s payload) = (s < 2 ^ 31) × (length payload ≤ 16384)
+    AllByRecursion IsSetting settings × (6 * length settings ≤ MAX_FRAME_SIZE) × (ack ≡ true → settings ≡ [])
+IsWritable (PushPromise flags s payload) = (s < 2 ^ 31) × (length payload ≤ MAX_FRAME_SIZE)
 IsWritable (Ping ack opaque_data) = length opaque_data ≡ 8
 IsWritable (GoAway last_stream error_code debug_data) =
-    (last_stream < 2 ^ 31) × (error_code < 2 ^ 32) × (8 + length debug_data ≤ 16384)
+    (last_stream < 2 ^ 31) × (error_code < 2 ^ 32) × (8 + length debug_data ≤ MAX_FRAME_SIZE)
 IsWritable (WindowUpdate s increment) = (s < 2 ^ 31) × (increment < 2 ^ 31)
-IsWritable (Continuation s end_headers fragment) = IsStream s × (length fragment ≤ 16384)
+IsWritable (Continuation s end_headers fragment) = IsStream s × (length fragment ≤ MAX_FRAME_SIZE)
 IsWritable (Unknown kind flags s payload) =
-    (CONTINUATION < kind) × (s < 2 ^ 31) × (length payload ≤ 16384)
+    (CONTINUATION < kind) × (s < 2 ^ 31) × (length payload ≤ MAX_FRAME_SIZE)

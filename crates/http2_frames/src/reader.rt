@@ -116,7 +116,7 @@ impl FrameReader {
             StandsFor preface self.old text given →
             split preface text ≡ record { frames = given; end = Ok (text_left self.new) }) }
         ensures kept { IfOk result (λ whole. whole ≡ false →
-            length (text_left self.new) < 9 + 16384) }
+            length (text_left self.new) < 9 + MAX_FRAME_SIZE) }
 
         // A fault stands where the frames end, and is there for good.
         ensures refused { IfErr result (λ fault. (preface text : List ℕ) (given : List RawFrame) →
@@ -242,7 +242,7 @@ fn is_whole(bytes: &[u8]) -> Result<bool, FrameError>
 
 /// The frame at the front.
 fn frame_at(bytes: &[u8]) -> RawFrame<'_>
-    requires short { big_number 3 bytes.now ≤ 16384 }
+    requires short { big_number 3 bytes.now ≤ MAX_FRAME_SIZE }
     requires whole { 9 + big_number 3 bytes.now ≤ length bytes.now }
     ensures value { result ≡ frame_at bytes.now }
     ensures frame { IsFrame result }

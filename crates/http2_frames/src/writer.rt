@@ -15,7 +15,7 @@ use std::alloc::AllocError;
 /// no memory is asked for.
 pub fn put_header(out: &mut Vec<u8>, size: usize, kind: u8, flags: u8, stream: u32)
     requires room { vec_len out.old + 9 ≤ vec_capacity out.old }
-    requires short { size ≤ 16384 }
+    requires short { size ≤ MAX_FRAME_SIZE }
     ensures items { out.new.items ≡ out.old.items ++ header_text size kind flags stream }
     ensures capacity { vec_capacity out.old ≤ vec_capacity out.new }
 {
@@ -36,7 +36,7 @@ fn set_if(is: bool, flag: u8) -> u8
 
 fn put(out: &mut Vec<u8>, kind: u8, flags: u8, stream: u32, payload: &[u8])
     requires room { vec_len out.old + (9 + length payload.now) ≤ vec_capacity out.old }
-    requires short { length payload.now ≤ 16384 }
+    requires short { length payload.now ≤ MAX_FRAME_SIZE }
     ensures items { out.new.items ≡ out.old.items
         ++ (header_text (length payload.now) kind flags stream ++ payload.now) }
     ensures capacity { vec_capacity out.old ≤ vec_capacity out.new }
@@ -72,7 +72,7 @@ fn put_numbers(out: &mut Vec<u8>, last_stream: u32, error_code: u32)
 
 fn put_go_away(out: &mut Vec<u8>, last_stream: u32, error_code: u32, debug_data: &[u8])
     requires room { vec_len out.old + (17 + length debug_data.now) ≤ vec_capacity out.old }
-    requires short { 8 + length debug_data.now ≤ 16384 }
+    requires short { 8 + length debug_data.now ≤ MAX_FRAME_SIZE }
     ensures items { out.new.items ≡ out.old.items
         ++ text_of (Frame.GoAway last_stream error_code debug_data.now) }
     ensures capacity { vec_capacity out.old ≤ vec_capacity out.new }
@@ -90,7 +90,7 @@ fn length_of(bytes: &[u8]) -> usize
 
 /// The number of bytes in the frame's payload.
 pub fn payload_length(frame: &Frame<'_>) -> usize
-    requires { length (raw_of frame.now).payload ≤ 16384 }
+    requires { length (raw_of frame.now).payload ≤ MAX_FRAME_SIZE }
     ensures { result ≡ length (raw_of frame.now).payload }
 {
     match frame {
@@ -109,7 +109,7 @@ pub fn payload_length(frame: &Frame<'_>) -> usize
 pub fn put_frame(out: &mut Vec<u8>, frame: &Frame<'_>)
     requires room { vec_len out.old + (9 + length (raw_of frame.now).payload)
         ≤ vec_capacity out.old }
-    requires short { length (raw_of frame.now).payload ≤ 16384 }
+    requires short { length (raw_of frame.now).payload ≤ MAX_FRAME_SIZE }
     ensures items { out.new.items ≡ out.old.items ++ text_of frame.now }
     ensures capacity { vec_capacity out.old ≤ vec_capacity out.new }
 {
@@ -212,7 +212,7 @@ pub fn put_frame(out: &mut Vec<u8>, frame: &Frame<'_>)
 
 /// Appends the frame, or leaves the bytes as they were.
 pub fn write_frame(out: &mut Vec<u8>, frame: &Frame<'_>) -> Result<(), AllocError>
-    requires { length (raw_of frame.now).payload ≤ 16384 }
+    requires { length (raw_of frame.now).payload ≤ MAX_FRAME_SIZE }
     ensures ok { OnOk result (out.new.items ≡ out.old.items ++ text_of frame.now) }
     ensures err { OnErr result (out.new.items ≡ out.old.items) }
 {

@@ -1,6 +1,7 @@
 -- Header blocks (RFC 9113 section 4.3): the fragments of one HEADERS frame and the CONTINUATION
 -- frames after it.
 use Rattle.std.specs.Prelude.{ℕ, ◌+◌, ◌||◌, ◌++◌, nat_lt, Bool, List, length}
+use Rattle.http2_headers.specs.declared.header_blocks.TheConstants.{MAX_BLOCK, MAX_CONTINUATIONS}
 
 pub record HeaderBlock : Type 0 where
   pub stream : ℕ
@@ -21,4 +22,4 @@ with_continuation fragment b =
 
 -- more than the server takes: section 10.5.1 leaves the limits to it
 abbrev pub is_excessive : HeaderBlock → Bool
-is_excessive b = nat_lt 32 b.continuations || nat_lt 65536 (length b.fragment)
+is_excessive b = nat_lt MAX_CONTINUATIONS b.continuations || nat_lt MAX_BLOCK (length b.fragment)

@@ -3,6 +3,7 @@ use Rattle.std.specs.Prelude.{◌≤◌, length, Option, Some, None}
 use Rattle.hpack.specs.Table.{Table}
 use Rattle.http2_headers.specs.declared.header_blocks.Fragments.{Fragments}
 use Rattle.http2_headers.specs.HeaderBlock.{HeaderBlock}
+use Rattle.http2_headers.specs.declared.header_blocks.TheConstants.{MAX_BLOCK, MAX_CONTINUATIONS}
 
 abbrev pub block_shown : Fragments → HeaderBlock
 block_shown f = record {
@@ -19,4 +20,4 @@ table_shown (Some t) = t
 -- what is kept of a block is no more than is taken
 abbrev pub IsBounded : Option HeaderBlock → Type 0
 IsBounded None = Unit {0}
-IsBounded (Some b) = (b.continuations ≤ 32) × (length b.fragment ≤ 65536)
+IsBounded (Some b) = (b.continuations ≤ MAX_CONTINUATIONS) × (length b.fragment ≤ MAX_BLOCK)

@@ -102,10 +102,10 @@ fn list_along(
 ) -> Result<(), GetTreeError>
     requires held { (k : ℕ) → holders view.now k ≤ count_at pool.now k }
     requires others { AreNone (texts_of pool.now view.now) listing.old.others.keys }
-    ensures ok { OnOk result (listed_along 10000
+    ensures ok { OnOk result (listed_along MOST_DIRECTORIES
         (texts_of pool.now view.now) listing.old.listed.keys 0 ≡ Ok listing.new.listed.keys) }
     ensures err { IfErr result (λ e. Fails e
-        (listed_along 10000 (texts_of pool.now view.now) listing.old.listed.keys 0)) }
+        (listed_along MOST_DIRECTORIES (texts_of pool.now view.now) listing.old.listed.keys 0)) }
 {
     let mut place = 0;
     'directories: while let Some(directory) = listing.listed.get_index(place) {

@@ -9,6 +9,7 @@ use Rattle.quota_evict.specs.Within.{Within}
 use Rattle.uploads.specs.Uploads.{UploadList, WithinLimits as WithinUploads}
 use Rattle.tree_calls.specs.Complete.{AreWithin}
 use Rattle.instance_core.specs.Calls.{Calls, same_call, KeepShort}
+use Rattle.quota_evict.specs.Kept.{quota_limit}
 
 pub record InstanceState : Type 0 where
   pub name : List ℕ
@@ -42,7 +43,7 @@ most_blobs = 65536
 
 -- the limits that an instance keeps
 pub record WithinLimits (s : InstanceState) : Type 0 where
-  pub quota : s.quota ≤ 2 ^ 40
+  pub quota : s.quota ≤ quota_limit
   pub texts : Within most_blobs s.quota s.visible
   pub uploads : WithinUploads s.quota s.uploads
   pub results : AreWithin s.results

@@ -10,3 +10,7 @@ use Rattle.quota_evict.specs.Within.{Within}
 pub record AreKept (quota : ℕ) (p : Slots) (v : ViewValue) : Type 0 where
   pub held : AreHeld p (holders v)
   pub within : Within v.limit quota (visible_in p v)
+
+-- no quota is larger, in bytes
+abbrev pub quota_limit : ℕ
+quota_limit = 2 ^ 40

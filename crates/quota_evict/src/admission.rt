@@ -11,6 +11,7 @@ ghost use Rattle.quota_evict.specs.Admission.{visible_after_admission, longest_f
 ghost use Rattle.quota_evict.specs.Within.{Within};
 ghost use Rattle.quota_evict.specs.Kept.{AreKept};
 ghost use Rattle.quota_evict.specs.declared.admission.AdmitError.TheVariants.{TooLarge, NoMemory};
+ghost use Rattle.quota_evict.specs.Kept.{quota_limit};
 
 use blob_pool::{Draft, Pool};
 use digest::Digest;
@@ -72,7 +73,7 @@ fn store(
     digest: &Digest,
     draft: Draft,
 ) -> Result<(), Draft>
-    requires quota { quota ≤ 2 ^ 40 }
+    requires quota { quota ≤ quota_limit }
     requires kept { AreKept quota pool.old view.old }
     requires named { Names digest.now draft.text }
     requires absent { (p : Slots) → visible_text digest.now (visible_in p view.old) ≡ None }
@@ -102,7 +103,7 @@ pub fn admit_draft(
     digest: &Digest,
     draft: Draft,
 ) -> Result<(), (AdmitError, Draft)>
-    requires quota { quota ≤ 2 ^ 40 }
+    requires quota { quota ≤ quota_limit }
     requires kept { AreKept quota pool.old view.old }
     requires named { Names digest.now draft.text }
     ensures ok { OnOk result (visible_in pool.new view.new
@@ -140,7 +141,7 @@ pub fn admit(
     digest: &Digest,
     bytes: &[u8],
 ) -> Result<(), AdmitError>
-    requires quota { quota ≤ 2 ^ 40 }
+    requires quota { quota ≤ quota_limit }
     requires kept { AreKept quota pool.old view.old }
     requires named { Names digest.now bytes.now }
     ensures ok { OnOk result (visible_in pool.new view.new

@@ -18,6 +18,7 @@ ghost use Rattle.instance_core.specs.Slots.{state_in};
 ghost use Rattle.served_instance.specs.Slots.{served_state_in, holders_of, IsKept, HasConnections};
 ghost use Rattle.blob_pool.specs.Slots.{Slots, text_at, count_at};
 ghost use Rattle.blob_pool.specs.Moves.{Moves, no_holders};
+ghost use Rattle.quota_evict.specs.Kept.{quota_limit};
 
 use crate::calls::{close, receive};
 use crate::open_connection::{OpenConnection, connection_at, take};
@@ -44,6 +45,7 @@ pub struct ServedInstance {
 
 impl Model for ServedInstance {
     ghost use Rattle.std.specs.Prelude.{◌≤◌, map, length};
+    ghost use Rattle.served_instance.specs.declared.instance.TheConstants.{CONNECTION_LIMIT};
     ghost use Rattle.served_instance.specs.Slots.{ServedSlots};
     ghost use Rattle.served_instance.specs.Shown.{connection_shown};
 
@@ -52,13 +54,13 @@ impl Model for ServedInstance {
     ghost view = { λ s.
         record { instance = s.instance; connections = map connection_shown s.connections.items } };
 
-    ghost invariant = { λ s. length s.connections.items ≤ 64 };
+    ghost invariant = { λ s. length s.connections.items ≤ CONNECTION_LIMIT };
 }
 
 impl ServedInstance {
     /// An instance that nothing has happened to.
     pub fn new(alloc: Global, config: &InstanceConfig) -> Result<ServedInstance, AllocError>
-        requires quota { config.now.quota ≤ 2 ^ 40 }
+        requires quota { config.now.quota ≤ quota_limit }
         ensures stands { (p : Slots) → IfOk result (λ served. StandsFor (served_state_in p served)
             (new_lone (string_bytes config.now.name) config.now.quota config.now.slots)) }
         ensures within { (p : Slots) → IfOk result (λ served. IsWithin (served_state_in p served)) }
@@ -209,10 +211,10 @@ fn act(
 
 /// The connection opens.
 fn open(alloc: Global, connections: &mut Vec<OpenConnection>, number: u32) -> Result<(), AllocError>
-    requires few { length connections.old.items < 64 }
+    requires few { length connections.old.items < CONNECTION_LIMIT }
     ensures opened { OnOk result ((s : InstanceState)
         → Acts s connections.old.items s connections.new.items (after_opening number)) }
-    ensures few { length connections.new.items ≤ 64 }
+    ensures few { length connections.new.items ≤ CONNECTION_LIMIT }
     ensures holds { HoldAlike connections.old.items connections.new.items }
 {
     let connection = Connection::new(alloc)?;

@@ -72,7 +72,7 @@ fn walk_along(
 ) -> Result<Vec<PlanNode>, TreeFault>
     requires { (k : ℕ) → holders view.now k ≤ count_at pool.now k }
     ensures { Answers (λ nodes. nodes_shown nodes.items) result
-        (walk_along 10000 (texts_of pool.now view.now) (reverse (nodes_shown todo.items)) []) }
+        (walk_along MOST_NODES (texts_of pool.now view.now) (reverse (nodes_shown todo.items)) []) }
 {
     let mut todo = todo;
     let mut met = Vec::new(alloc);

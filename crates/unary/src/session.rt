@@ -4,6 +4,7 @@ ghost use Rattle.script.specs.UnaryShown.{instance_value, command_value};
 ghost use Rattle.script.specs.UnaryLines.{instance_place};
 ghost use Rattle.rpc.specs.declared.refusal.Refusal.{Refusal};
 ghost use Rattle.unary.specs.Session.{new_store, reply_to, ok_line, status_line, line_of, store_after, store_of, stores_after};
+ghost use Rattle.quota_evict.specs.Kept.{quota_limit};
 
 use crate::store::Store;
 use cas_service::CallError;
@@ -14,7 +15,7 @@ use std::alloc::{AllocError, Global};
 
 /// The instances of a script, with no texts yet.
 pub fn open_all(alloc: Global, instances: &[Instance]) -> Result<Vec<Store>, AllocError>
-    requires { All (λ instance. instance.quota ≤ 2 ^ 40) instances.now }
+    requires { All (λ instance. instance.quota ≤ quota_limit) instances.now }
     ensures { IfOk result (λ stores. stores.items
         ≡ map new_store (map instance_value instances.now)) }
 {

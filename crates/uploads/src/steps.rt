@@ -10,6 +10,7 @@ ghost use Rattle.uploads.specs.Uploads.{total_length, upload_at, with_upload, te
 ghost use Rattle.uploads.specs.Writing as writing;
 ghost use Rattle.uploads.specs.Writing.{Answers, Fits, piece_answer, call_answer, finish_answer, after_piece, after_finish, may_begin};
 ghost use Rattle.uploads.specs.Shown.{key_shown, upload_shown, entry_shown, piece_shown, IsWhole, AreWhole};
+ghost use Rattle.quota_evict.specs.Kept.{quota_limit};
 
 use crate::error::UploadError;
 use crate::key::UploadKey;
@@ -68,7 +69,7 @@ fn check_piece(
     key: &UploadKey,
     piece: &Piece<'_>,
 ) -> Result<(), UploadError>
-    requires quota { quota ≤ 2 ^ 40 }
+    requires quota { quota ≤ quota_limit }
     requires within { WithinLimits quota (map entry_shown table.now.entries) }
     ensures { result ≡ piece_answer quota (key_shown key.now) (piece_shown piece.now)
         (map entry_shown table.now.entries) }
@@ -174,7 +175,7 @@ fn check(
     key: &UploadKey,
     piece: &Piece<'_>,
 ) -> Result<(), UploadError>
-    requires quota { quota ≤ 2 ^ 40 }
+    requires quota { quota ≤ quota_limit }
     requires within { WithinLimits quota (map entry_shown table.now.entries) }
     ensures { result ≡ call_answer first quota (key_shown key.now) (piece_shown piece.now)
         (map entry_shown table.now.entries) }
@@ -201,7 +202,7 @@ pub fn take_piece(
     key: &UploadKey,
     piece: &Piece<'_>,
 ) -> Result<(), UploadError>
-    requires quota { quota ≤ 2 ^ 40 }
+    requires quota { quota ≤ quota_limit }
     requires within { WithinLimits quota (map entry_shown table.old.entries) }
     requires whole { AreWhole table.old.entries }
     ensures answer { Answers result (call_answer first quota (key_shown key.now)
@@ -232,7 +233,7 @@ pub fn finish(
     pool: &mut Pool,
     key: &UploadKey,
 ) -> Result<(), UploadError>
-    requires quota { quota ≤ 2 ^ 40 }
+    requires quota { quota ≤ quota_limit }
     requires kept { AreKept quota pool.old view.old }
     requires within { WithinLimits quota (map entry_shown table.old.entries) }
     requires there { IsSome (upload_at (key_shown key.now) (map entry_shown table.old.entries)) }

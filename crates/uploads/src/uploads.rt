@@ -6,6 +6,7 @@ ghost use Rattle.quota_evict.specs.Kept.{AreKept};
 ghost use Rattle.uploads.specs.Uploads.{upload_at, text_so_far, uploads_at, WithinLimits};
 ghost use Rattle.uploads.specs.Writing.{Answers, call_answer, finish_answer, after_piece, after_finish};
 ghost use Rattle.uploads.specs.Shown.{key_shown, piece_shown};
+ghost use Rattle.quota_evict.specs.Kept.{quota_limit};
 
 use crate::error::UploadError;
 use crate::key::UploadKey;
@@ -68,7 +69,7 @@ impl Uploads {
         key: &UploadKey,
         piece: &Piece<'_>,
     ) -> Result<(), UploadError>
-        requires quota { quota ≤ 2 ^ 40 }
+        requires quota { quota ≤ quota_limit }
         requires within { WithinLimits quota self.old }
         ensures answer { Answers result (call_answer first quota (key_shown key.now)
             (piece_shown piece.now) self.old) }
@@ -90,7 +91,7 @@ impl Uploads {
         pool: &mut Pool,
         key: &UploadKey,
     ) -> Result<(), UploadError>
-        requires quota { quota ≤ 2 ^ 40 }
+        requires quota { quota ≤ quota_limit }
         requires kept { AreKept quota pool.old view.old }
         requires within { WithinLimits quota self.old }
         requires there { IsSome (upload_at (key_shown key.now) self.old) }

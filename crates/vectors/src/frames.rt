@@ -16,7 +16,7 @@ fn length_of(bytes: &[u8]) -> usize
 
 /// Whether the frame has no more than 16,384 bytes of payload when it is written.
 fn fits(frame: &Frame<'_>) -> bool
-    ensures { result ≡ true → length (raw_of frame.now).payload ≤ 16384 }
+    ensures { result ≡ true → length (raw_of frame.now).payload ≤ MAX_FRAME_SIZE }
 {
     match frame {
         Frame::Data { data, .. } => data.len() <= MAX_FRAME_SIZE,

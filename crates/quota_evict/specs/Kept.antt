@@ -1,5 +1,5 @@
 -- How an instance and the pool fit together.
-use Rattle.std.specs.Prelude.{ℕ}
+use Rattle.std.specs.Prelude.{ℕ, ◌^◌}
 use Rattle.blob_pool.specs.Slots.{Slots}
 use Rattle.blob_pool.specs.Moves.{AreHeld}
 use Rattle.instance_view.specs.Shown.{ViewValue, visible_in, holders}

@@ -5,6 +5,7 @@ ghost use Rattle.reapi_messages.specs.Results.{Gives};
 ghost use Rattle.resource_names.specs.Names as names;
 ghost use Rattle.resource_names.specs.Shown.{read_name_shown, write_name_shown};
 ghost use Rattle.bytestream.specs.Refusals.{name_or_refusal, name_refusal};
+ghost use Rattle.resource_names.specs.declared.parse.TheConstants.{MOST_UUID};
 
 use resource_names::{NameError, ReadName, WriteName, parse_read, parse_write};
 use rpc::Refusal;
@@ -33,7 +34,7 @@ pub(crate) fn read_name(text: &str) -> Result<ReadName<'_>, Refusal>
 pub(crate) fn write_name(text: &str) -> Result<WriteName<'_>, Refusal>
     ensures name { Gives write_name_shown result (name_or_refusal (names.write_name text.now)) }
     ensures most { IfOk result (λ name. name.digest.size < 2 ^ 63) }
-    ensures uuid { IfOk result (λ name. length name.uuid.now ≤ 128) }
+    ensures uuid { IfOk result (λ name. length name.uuid.now ≤ MOST_UUID) }
 {
     match parse_write(text) {
         Ok(name) => Ok(name),

@@ -9,6 +9,7 @@ ghost use Rattle.bytestream.specs.Writing as writing;
 ghost use Rattle.bytestream.specs.Writing.{state_of, same_name, write_reply, unfinished_reply, first_answer, next_answer, after_first, after_next, IsFirstOldOrTaken, IsNextOldOrTaken};
 ghost use Rattle.bytestream.specs.Shown.{part_shown, first_part_shown, open_write_shown, written_shown, IfGoes};
 ghost use Rattle.quota_evict.specs.Kept.{quota_limit};
+ghost use Rattle.resource_names.specs.declared.parse.TheConstants.{MOST_UUID};
 
 use crate::names::write_name;
 use crate::part::{Part, take_part};
@@ -54,7 +55,7 @@ pub struct FirstPart<'a> {
 fn first_asked<'a>(alloc: Global, own: &str, message: &'a [u8]) -> Result<FirstPart<'a>, CallError>
     ensures asked { Answers first_part_shown result (writing.first_asked own.now message.now) }
     ensures most { IfOk result (λ first. first.digest.size < 2 ^ 63) }
-    ensures uuid { IfOk result (λ first. length first.uuid.now ≤ 128) }
+    ensures uuid { IfOk result (λ first. length first.uuid.now ≤ MOST_UUID) }
 {
     let request = WriteRequest::decode(alloc, message)?;
     let name = write_name(request.resource_name)?;

@@ -4,6 +4,7 @@ ghost use Rattle.std.specs.Prelude.{ℕ, List};
 ghost use Rattle.std.specs.List.{AllByRecursion};
 ghost use Rattle.http2_frames.specs.Reading.{split};
 ghost use Rattle.http2_frames.specs.declared.frame.RawFrame.{RawFrame};
+ghost use Rattle.grpc_sending.specs.Pieces.{most_read};
 ghost use Rattle.conn_core.specs.Past.{Past, opening, with_frame};
 ghost use Rattle.client_reading.specs.Answerable.{CanGoOn, AreAnswerableCalls, AnswersOnStreams};
 ghost use Rattle.client_reading.specs.Changes.{Change, past_after_change, IsReceivable, IsChange, IsPast};
@@ -35,7 +36,7 @@ pub fn what_a_client_reads()
 /// The messages that are read of a range bring all its bytes, in order: each is a ReadResponse
 /// whose data are 1 to 65,536 of them (bytestream.proto).
 pub fn ranges_bring_their_bytes()
-    ensures { (bytes : List ℕ) → BringBytes 65536 bytes (read_messages bytes) }
+    ensures { (bytes : List ℕ) → BringBytes most_read bytes (read_messages bytes) }
 {}
 
 /// What a frame brings to calls is on streams that are live after it, and so is a request that is

@@ -13,12 +13,13 @@ pub struct Message {
 
 impl Model for Message {
     ghost use Rattle.std.specs.Prelude.{◌≤◌, ℕ, List, length};
+    ghost use Rattle.grpc_messages.specs.declared.reader.TheConstants.{MESSAGE_LIMIT};
 
     ghost Value = { List ℕ };
 
     ghost view = { λ m. m.bytes.items };
 
-    ghost invariant = { λ m. length m.bytes.items ≤ 4194304 };
+    ghost invariant = { λ m. length m.bytes.items ≤ MESSAGE_LIMIT };
 }
 
 impl Message {

@@ -12,7 +12,7 @@ use crate::size::size;
 use digest::Digest;
 
 /// The most bytes of a uuid.
-const MOST_UUID: usize = 128;
+pub const MOST_UUID: usize = 128;
 
 /// The next segment, and what follows it.
 fn next_segment(left: Option<&str>) -> Result<(&str, Option<&str>), NameError>
@@ -104,7 +104,7 @@ fn upload<'a>(instance: &'a str, left: Option<&'a str>) -> Result<WriteName<'a>,
     ensures name { Gives write_name_shown result
         (upload_named instance.now (segments_left left.entry)) }
     ensures most { IfOk result (λ name. name.digest.size < 2 ^ 63) }
-    ensures uuid { IfOk result (λ name. length name.uuid.now ≤ 128) }
+    ensures uuid { IfOk result (λ name. length name.uuid.now ≤ MOST_UUID) }
 {
     let (uuid, left) = next_segment(left)?;
     let (place, left) = next_segment(left)?;
@@ -127,7 +127,7 @@ fn upload<'a>(instance: &'a str, left: Option<&'a str>) -> Result<WriteName<'a>,
 pub fn parse_write(text: &str) -> Result<WriteName<'_>, NameError>
     ensures name { Gives write_name_shown result (write_name text.now) }
     ensures most { IfOk result (λ name. name.digest.size < 2 ^ 63) }
-    ensures uuid { IfOk result (λ name. length name.uuid.now ≤ 128) }
+    ensures uuid { IfOk result (λ name. length name.uuid.now ≤ MOST_UUID) }
 {
     let division = divide(text, Divider::Uploads).ok_or(NameError::Form)?;
     check_uncompressed_upload(division.after)?;

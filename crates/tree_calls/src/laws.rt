@@ -6,6 +6,7 @@ ghost use Rattle.digest.specs.declared.Digest.{Digest};
 ghost use Rattle.instance_view.specs.Visible.{Blob};
 ghost use Rattle.quota_evict.specs.Within.{Within};
 ghost use Rattle.input_tree.specs.Listing.{Lookup, tree_list};
+ghost use Rattle.input_tree.specs.declared.listing.TheConstants.{MOST_DIRECTORIES};
 ghost use Rattle.tree_calls.specs.GetTree.{get_tree_replies};
 ghost use Rattle.tree_calls.specs.Results.{after_get, after_update, get_action_result_reply, update_action_result_reply};
 ghost use Rattle.tree_calls.specs.Lists.{IsWholeTree};
@@ -19,7 +20,7 @@ pub fn tree_lists_are_whole()
     ensures whole { (look : Lookup) (root : Digest) (listed : List Digest) →
         tree_list look root ≡ Ok listed → IsWholeTree look root listed }
     ensures few { (look : Lookup) (root : Digest) (listed : List Digest) →
-        tree_list look root ≡ Ok listed → length listed ≤ 10000 }
+        tree_list look root ≡ Ok listed → length listed ≤ MOST_DIRECTORIES }
 {}
 
 /// The messages that answer `GetTree` are pages of the directories that the request's tree lists,

@@ -5,7 +5,7 @@ use arrayvec::ArrayString;
 use digest::Digest;
 
 /// The most bytes of a uuid.
-const MOST_UUID: usize = 128;
+pub const MOST_UUID: usize = 128;
 
 /// What names an upload.
 #[derive(Clone, Copy, PartialEq, Eq, Hash)]
@@ -15,9 +15,9 @@ pub struct UploadKey {
 }
 
 impl UploadKey {
-    /// The upload of a uuid, of at most 128 bytes, that is to have this digest.
+    /// The upload of a uuid, of at most [`MOST_UUID`] bytes, that is to have this digest.
     pub fn new(uuid: &str, digest: Digest) -> UploadKey
-        requires { length uuid.now ≤ 128 }
+        requires { length uuid.now ≤ MOST_UUID }
         ensures { key_shown result ≡ record { uuid = uuid.now; digest = digest } }
     {
         let uuid = ArrayString::from(uuid).unwrap();

@@ -12,7 +12,8 @@ use Rattle.http2_streams.specs.declared.event.Event.TheVariants.{Nothing, Reques
 use Rattle.http2_streams.specs.declared.event.StreamEvent.{StreamEvent}
 use Rattle.http2_streams.specs.History.{Entry, live_streams, has_failed, is_ended_by_server}
 use Rattle.http2_streams.specs.LiveStreams.{has_stream, IsOnItsStream, live_after_end, live_after, other_streams}
-use Rattle.http2_streams.specs.Rules.{answer_after, control_frames, entries_of}
+use Rattle.http2_streams.specs.Rules.{answer_after}
+use Rattle.http2_streams.specs.Entries.{control_frames, entries_of}
 use Rattle.http2_streams.proofs.EventLaw.{event_on_stream, live_after_frame, stays_whole}
 use Rattle.http2_streams.proofs.LiveLaw.{listed_is_live}
 use Rattle.http2_streams.specs.Standing.{standing}

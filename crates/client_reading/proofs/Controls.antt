@@ -15,7 +15,8 @@ use Rattle.http2_frames.specs.Writing.{text_of}
 use Rattle.http2_streams.specs.declared.event.StreamEvent.{StreamEvent}
 use Rattle.http2_streams.specs.History.{Entry, In, Unreadable, Out, Took, sent_frames, frame_out, highest_stream, has_failed, is_ended_by_client}
 use Rattle.http2_streams.specs.Standing.{standing}
-use Rattle.http2_streams.specs.Rules.{reading_fault, answer_after, control_frames}
+use Rattle.http2_streams.specs.Rules.{reading_fault, answer_after}
+use Rattle.http2_streams.specs.Entries.{control_frames}
 use Rattle.http2_streams.specs.ControlAnswers.{IsAnswer}
 use Rattle.http2_streams.proofs.ControlLaw.{answers_are_control}
 use Rattle.grpc_calls.specs.Responses.{fields_of, is_last}

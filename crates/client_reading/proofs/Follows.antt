@@ -23,9 +23,8 @@ use Rattle.grpc_calls.proofs.Blocks.{read_first, read_later}
 use Rattle.grpc_sending.specs.Pieces.{Piece}
 use Rattle.grpc_sending.specs.Pieces.{Block, Part}
 use Rattle.grpc_sending.specs.Bytes.{position}
-use Rattle.grpc_sending.specs.Owed.{OwedItem, Item, item_on, items_owed_on, pieces_of, pieces_after_frame, pieces_after_frames, pieces_left_on}
+use Rattle.grpc_sending.specs.Owed.{OwedItem, Item, item_on, items_owed_on, pieces_of, pieces_after_frame, pieces_after_frames, pieces_left_on, owed_with_item}
 use Rattle.grpc_sending.specs.Pump.{reset_after}
-use Rattle.grpc_sending.specs.StandsFor.{owed_with_item}
 use Rattle.conn_core.specs.Past.{Past, opening, owed_with_items}
 use Rattle.conn_core.specs.Calls.{items_at_once}
 use Rattle.conn_core.specs.Received.{outcome, fault_frames, frame_entries, fault_entries}

@@ -15,7 +15,8 @@ use Rattle.http2_frames.specs.Codes.{code_number}
 use Rattle.http2_streams.specs.declared.event.StreamEvent.{StreamEvent}
 use Rattle.http2_streams.specs.History.{Entry, In, Unreadable, Out, Took, live_streams, highest_stream, has_failed, is_goaway, is_ended_by_client}
 use Rattle.http2_streams.specs.LiveStreams.{has_stream}
-use Rattle.http2_streams.specs.Rules.{number_is, is_live_at, answer_after, control_frames, entries_of}
+use Rattle.http2_streams.specs.Rules.{number_is, is_live_at, answer_after}
+use Rattle.http2_streams.specs.Entries.{control_frames, entries_of}
 use Rattle.http2_streams.specs.Standing.{Standing, standing, stream_at}
 use Rattle.http2_streams.specs.StandsFor.{StandsFor}
 use Rattle.http2_streams.specs.Step.{after_reset, after_server_end, after_data}

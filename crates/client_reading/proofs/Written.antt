@@ -16,7 +16,8 @@ use Rattle.http2_frames.specs.Frames.{frame_of}
 use Rattle.http2_frames.proofs.Again.{again, texts_again}
 use Rattle.http2_streams.specs.declared.event.StreamEvent.{StreamEvent}
 use Rattle.http2_streams.specs.History.{Entry, In, Unreadable, Out, Took, sent_frames, frame_out, highest_stream, has_failed, window, connection_window, is_ended_by_client}
-use Rattle.http2_streams.specs.Rules.{answer_after, control_frames}
+use Rattle.http2_streams.specs.Rules.{answer_after}
+use Rattle.http2_streams.specs.Entries.{control_frames}
 use Rattle.grpc_calls.specs.Responses.{is_last}
 use Rattle.grpc_calls.proofs.Blocks.{short}
 use Rattle.grpc_sending.specs.Pieces.{Piece}

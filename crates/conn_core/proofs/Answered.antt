@@ -15,7 +15,8 @@ use Rattle.http2_streams.specs.declared.event.StreamEvent.{StreamEvent}
 use Rattle.http2_streams.specs.History.{Entry, In, Out, sent_frames, frame_out, has_failed, is_goaway, is_not_closed, opened_streams, highest_stream}
 use Rattle.http2_streams.specs.Standing.{Standing, standing}
 use Rattle.http2_streams.specs.StandsFor.{StandsFor as AreStreams}
-use Rattle.http2_streams.specs.Rules.{answer_after, control_frames, frames_put, entries_of}
+use Rattle.http2_streams.specs.Rules.{answer_after}
+use Rattle.http2_streams.specs.Entries.{control_frames, frames_put, entries_of}
 use Rattle.grpc_sending.specs.Bytes.{untaken_count}
 use Rattle.grpc_sending.specs.StoredSending.{Look, sending_in, StoredSending, StandsFor as IsSending}
 use Rattle.grpc_sending.proofs.Histories.{append-nil}

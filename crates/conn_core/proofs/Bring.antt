@@ -18,8 +18,7 @@ use Rattle.grpc_calls.specs.declared.request.HeadFault.{HeadFault}
 use Rattle.grpc_calls.specs.declared.response.ResponseBlock.{ResponseBlock}
 use Rattle.grpc_calls.specs.Requests.{head_of}
 use Rattle.grpc_calls.specs.Responses.{response_to}
-use Rattle.grpc_sending.specs.Owed.{OwedItem, Headed}
-use Rattle.grpc_sending.specs.StandsFor.{owed_with_item}
+use Rattle.grpc_sending.specs.Owed.{OwedItem, Headed, owed_with_item}
 use Rattle.grpc_sending.specs.StoredSending.{Look, StoredSending, StandsFor as IsSending}
 use Rattle.grpc_sending.proofs.Histories.{append-nil}
 use Rattle.conn_core.specs.declared.call.Call.{Call}

@@ -18,7 +18,8 @@ use Rattle.http2_streams.specs.declared.stream.Stream.{Stream}
 use Rattle.http2_streams.specs.History.{Entry, In, Unreadable, Out, sent_frames, has_failed, is_goaway, live_streams, highest_stream, is_ended_by_server, blocks_after, no_blocks, stream_of}
 use Rattle.http2_streams.specs.Standing.{Standing}
 use Rattle.http2_streams.specs.StandsFor.{StandsFor as AreStreams}
-use Rattle.http2_streams.specs.Rules.{number_is, answer_after, control_frames, entries_of}
+use Rattle.http2_streams.specs.Rules.{number_is, answer_after}
+use Rattle.http2_streams.specs.Entries.{control_frames, entries_of}
 use Rattle.grpc_sending.specs.Bytes.{untaken_count}
 use Rattle.grpc_sending.specs.StoredSending.{Look, sending_in, StandsFor as IsSending}
 use Rattle.grpc_sending.proofs.Histories.{received_more, sent_more}

@@ -19,7 +19,8 @@ use Rattle.http2_streams.specs.History.{Entry, Out, has_failed}
 use Rattle.http2_streams.specs.LiveStreams.{stream_of_event}
 use Rattle.http2_streams.specs.Standing.{Standing}
 use Rattle.http2_streams.specs.StandsFor.{InMemory, StandsFor as AreStreams}
-use Rattle.http2_streams.specs.Rules.{answer_after, control_frames, entries_of, reading_fault}
+use Rattle.http2_streams.specs.Rules.{answer_after, reading_fault}
+use Rattle.http2_streams.specs.Entries.{control_frames, entries_of}
 use Rattle.grpc_sending.specs.Owed.{OwedItem}
 use Rattle.grpc_sending.specs.StoredSending.{Look, StoredSending, Fit, StandsFor as IsSending}
 use Rattle.grpc_sending.proofs.Histories.{append-nil}

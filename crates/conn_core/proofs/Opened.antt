@@ -11,7 +11,8 @@ use Rattle.http2_streams.specs.declared.event.Event.{Event}
 use Rattle.http2_streams.specs.declared.event.Event.TheVariants.{Nothing, Request, Content, Trailers, Cancel}
 use Rattle.http2_streams.specs.declared.event.StreamEvent.{StreamEvent}
 use Rattle.http2_streams.specs.History.{Entry, In, Unreadable, Out, Took, opened_streams, highest_stream, live_streams, is_not_closed}
-use Rattle.http2_streams.specs.Rules.{answer_after, control_frames}
+use Rattle.http2_streams.specs.Rules.{answer_after}
+use Rattle.http2_streams.specs.Entries.{control_frames}
 use Rattle.grpc_calls.specs.Requests.{head_of}
 use Rattle.grpc_sending.specs.Bytes.{untaken_count}
 use Rattle.conn_core.specs.Received.{outcome, outcome_of, may_put_all}

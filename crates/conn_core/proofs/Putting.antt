@@ -10,7 +10,7 @@ use Rattle.http2_frames.specs.declared.frame.Frame.{Frame}
 use Rattle.http2_frames.specs.Writing.{text_of, raw_of}
 use Rattle.http2_streams.specs.History.{Entry, Out}
 use Rattle.http2_streams.specs.declared.event.StreamEvent.{StreamEvent}
-use Rattle.http2_streams.specs.Rules.{control_frames}
+use Rattle.http2_streams.specs.Entries.{control_frames}
 use Rattle.grpc_sending.specs.Owed.{OwedItem}
 use Rattle.grpc_sending.specs.StoredSending.{Look, StoredSending, StandsFor as IsSending}
 use Rattle.grpc_sending.proofs.Histories.{append-nil, text_length}

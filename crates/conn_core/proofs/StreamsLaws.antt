@@ -18,7 +18,8 @@ use Rattle.http2_streams.specs.declared.event.Event.TheVariants.{Request}
 use Rattle.http2_streams.specs.declared.event.StreamEvent.{StreamEvent}
 use Rattle.http2_streams.specs.History.{Entry, In, frame_in, received_frames, Blocks, blocks_after, no_blocks, blocks, stream_of, rising_numbers, live_streams, is_not_closed, opened_streams, highest_stream}
 use Rattle.http2_streams.specs.Standing.{standing}
-use Rattle.http2_streams.specs.Rules.{answer_after, control_frames}
+use Rattle.http2_streams.specs.Rules.{answer_after}
+use Rattle.http2_streams.specs.Entries.{control_frames}
 use Rattle.http2_streams.specs.LiveStreams.{IsOnItsStream}
 use Rattle.http2_streams.specs.ControlAnswers.{IsAnswer}
 use Rattle.http2_streams.proofs.EventLaw.{event_on_stream, request_is_highest}

@@ -6,8 +6,7 @@ use Rattle.http2_frames.specs.declared.frame.RawFrame.{RawFrame}
 use Rattle.http2_frames.specs.declared.frame.Frame.TheVariants.{Settings}
 use Rattle.http2_frames.specs.declared.codes.setting.TheConstants.{MAX_CONCURRENT_STREAMS}
 use Rattle.http2_streams.specs.History.{Entry, Out, Took}
-use Rattle.grpc_sending.specs.Owed.{OwedItem, Item}
-use Rattle.grpc_sending.specs.StandsFor.{owed_with_item}
+use Rattle.grpc_sending.specs.Owed.{OwedItem, Item, owed_with_item}
 use Rattle.grpc_sending.specs.Pump.{history_after_pump}
 use Rattle.conn_core.specs.declared.event.CallEvent.{CallEvent}
 use Rattle.conn_core.specs.Received.{outcome, frame_entries, fault_entries}

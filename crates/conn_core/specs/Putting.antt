@@ -14,7 +14,8 @@ use Rattle.http2_streams.specs.declared.stream.Stream.{Stream}
 use Rattle.http2_streams.specs.declared.event.StreamEvent.{StreamEvent}
 use Rattle.http2_streams.specs.History.{Entry, Out, has_failed}
 use Rattle.http2_streams.specs.Standing.{Standing}
-use Rattle.http2_streams.specs.Rules.{number_is, answer_after, entries_of}
+use Rattle.http2_streams.specs.Rules.{number_is, answer_after}
+use Rattle.http2_streams.specs.Entries.{entries_of}
 use Rattle.http2_streams.specs.StandsFor.{StandsFor as AreStreams}
 use Rattle.grpc_sending.specs.Owed.{OwedItem}
 use Rattle.grpc_sending.specs.StoredSending.{Look, StandsFor as IsSending}

@@ -14,7 +14,8 @@ use Rattle.http2_streams.specs.declared.event.Event.{Event}
 use Rattle.http2_streams.specs.declared.event.Event.TheVariants.{Nothing}
 use Rattle.http2_streams.specs.declared.event.StreamEvent.{StreamEvent}
 use Rattle.http2_streams.specs.History.{Entry, In, Unreadable, Out, highest_stream, has_failed}
-use Rattle.http2_streams.specs.Rules.{answer_after, control_frames}
+use Rattle.http2_streams.specs.Rules.{answer_after}
+use Rattle.http2_streams.specs.Entries.{control_frames}
 use Rattle.grpc_sending.specs.Bytes.{untaken_count}
 use Rattle.grpc_sending.specs.declared.sender.TheConstants.{CONTROL_LIMIT}
 

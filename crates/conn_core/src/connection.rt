@@ -13,7 +13,7 @@ ghost use Rattle.conn_core.specs.StandsFor.{StandsFor, Becomes, Owes, OwesRange,
 ghost use Rattle.conn_core.specs.Step.{TakesFrame, Brings, ChangesCalls};
 ghost use Rattle.conn_core.specs.Received.{goaway_frame};
 ghost use Rattle.conn_core.specs.Putting.{Puts, Fails, Answers, is_answer, are_answers, is_ending, ended_calls};
-ghost use Rattle.http2_streams.specs.Rules.{control_frames};
+ghost use Rattle.http2_streams.specs.Entries.{control_frames};
 ghost use Rattle.http2_streams.specs.LiveStreams.{stream_of_event};
 ghost use Rattle.http2_frames.specs.declared.frame.RawFrame.{RawFrame};
 ghost use Rattle.http2_streams.specs.declared.event.Event.TheVariants.{Request, Content, Trailers, Cancel};

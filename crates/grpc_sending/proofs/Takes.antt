@@ -20,8 +20,8 @@ use Rattle.http2_streams.specs.Rules.{number_is}
 use Rattle.grpc_sending.specs.Pieces.{Piece, most_read, read_pieces}
 use Rattle.grpc_sending.specs.Pieces.{Queue}
 use Rattle.grpc_sending.specs.Bytes.{bytes_put, count_taken, count_taken_by, is_headers}
-use Rattle.grpc_sending.specs.Owed.{OwedItem, Item, Range, without_front, item_on, items_owed_on, pieces_of, pieces_after_frames}
-use Rattle.grpc_sending.specs.StandsFor.{Sending, IsSending, pieces_on, owed_with_item}
+use Rattle.grpc_sending.specs.Owed.{OwedItem, Item, Range, without_front, item_on, items_owed_on, pieces_of, pieces_after_frames, owed_with_item}
+use Rattle.grpc_sending.specs.StandsFor.{Sending, IsSending, pieces_on}
 use Rattle.grpc_sending.specs.Step.{IsControl}
 use Rattle.grpc_sending.proofs.Histories.{append-nil}
 use Rattle.grpc_sending.proofs.Entries.{stands_put, control_on}

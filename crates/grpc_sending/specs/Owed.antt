@@ -1,9 +1,9 @@
 -- What is owed to the streams of a connection, and how much of it was put.
-use Rattle.std.specs.Prelude.{ℕ, ◌==◌, nat_lt, if◌then◌else◌, List, [], ◌∷◌, length, fold, take, drop}
-use Rattle.std.specs.List.{flat_map}
+use Rattle.std.specs.Prelude.{ℕ, ◌==◌, nat_lt, if◌then◌else◌, List, [], ◌∷◌, ◌++◌, length, fold, take, drop}
+use Rattle.std.specs.List.{flat_map, list_any}
 use Rattle.http2_frames.specs.declared.frame.Frame.{Frame}
 use Rattle.http2_frames.specs.declared.frame.Frame.TheVariants.{Data, Headers}
-use Rattle.http2_streams.specs.History.{Entry, sent_frames}
+use Rattle.http2_streams.specs.History.{Entry, sent_frames, live_streams, has_failed}
 use Rattle.digest.specs.declared.Digest.{Digest}
 use Rattle.grpc_messages.specs.Writing.{framed_message}
 use Rattle.grpc_calls.specs.declared.response.ResponseBlock.{ResponseBlock}
@@ -28,6 +28,14 @@ item_on s o = if o.stream == s then o.item ∷ [] else []
 -- all items that a stream was ever given, in order
 abbrev pub items_owed_on : ℕ → List OwedItem → List Item
 items_owed_on s os = flat_map (item_on s) os
+
+-- an item is owed to a live stream; to any other nothing is
+abbrev pub owed_with_item : List Entry → List OwedItem → ℕ → Item → List OwedItem
+owed_with_item d os s item =
+    if has_failed d then os
+    else if list_any (λ t. t == s) (live_streams d)
+    then os ++ record { stream = s; item = item } ∷ []
+    else os
 
 -- an item as it is to be put: a header block, the bytes of a message with its prefix, or those of
 -- each message of a range

@@ -1,13 +1,13 @@
 -- What is kept for sending stands for a history and for all that was ever owed.
 use Rattle.std.specs.Prelude.{◌≡◌, ◌≤◌, ◌==◌, ℕ, true, false, List, [], ◌∷◌, ◌++◌, length, if◌then◌else◌}
-use Rattle.std.specs.List.{flat_map, list_any}
+use Rattle.std.specs.List.{flat_map}
 use Rattle.hpack.specs.declared.encoder.Position.{Position}
 use Rattle.hpack.specs.declared.encoder.Position.TheVariants.{First}
-use Rattle.http2_streams.specs.History.{Entry, sent_frames, live_streams, is_not_closed, has_failed}
+use Rattle.http2_streams.specs.History.{Entry, sent_frames, is_not_closed, has_failed}
 use Rattle.grpc_sending.specs.Pieces.{Piece}
 use Rattle.grpc_sending.specs.Pieces.{Queue}
 use Rattle.grpc_sending.specs.Bytes.{bytes_put, count_taken, pending_bytes, position}
-use Rattle.grpc_sending.specs.Owed.{OwedItem, Item, pieces_of, items_owed_on, pieces_after_frames}
+use Rattle.grpc_sending.specs.Owed.{OwedItem, pieces_of, items_owed_on, pieces_after_frames}
 
 pub record Sending : Type 0 where
   -- the bytes that were put and not taken
@@ -38,11 +38,3 @@ pub record IsSending (v : Sending) (d : List Entry) (os : List OwedItem) : Type 
   pub taken : count_taken d ≤ length (bytes_put d)
   pub position : v.position ≡ position d
   pub queues : has_failed d ≡ false → (s : ℕ) → is_not_closed d s ≡ true → IsQueue d os v.queues s
-
--- an item is owed to a live stream; to any other nothing is
-abbrev pub owed_with_item : List Entry → List OwedItem → ℕ → Item → List OwedItem
-owed_with_item d os s item =
-    if has_failed d then os
-    else if list_any (λ t. t == s) (live_streams d)
-    then os ++ record { stream = s; item = item } ∷ []
-    else os

@@ -22,10 +22,10 @@ use Rattle.grpc_sending.specs.declared.turn.Due.TheVariants.{Opens, Gives}
 use Rattle.grpc_sending.specs.Pieces.{Piece, Block, Part, Queue, most_read}
 use Rattle.grpc_sending.specs.Sources.{count_of, sources_held}
 use Rattle.grpc_sending.specs.Spans.{Span, span_pieces, span_front, span_size, span_after, IsSpan}
-use Rattle.grpc_sending.specs.Owed.{OwedItem, Item, Range, pieces_left_on}
+use Rattle.grpc_sending.specs.Owed.{OwedItem, Item, Range, pieces_left_on, owed_with_item}
 use Rattle.grpc_sending.specs.Pump.{part_size, first_of, history_after_pump}
 use Rattle.grpc_sending.specs.Step.{Puts, Rests, Resets, Finishes}
-use Rattle.grpc_sending.specs.StandsFor.{Sending, IsSending, owed_with_item}
+use Rattle.grpc_sending.specs.StandsFor.{Sending, IsSending}
 
 -- the text of each source
 abbrev pub Look : Type 0

@@ -7,9 +7,8 @@ ghost use Rattle.http2_streams.specs.History.{Entry, Out, Took, is_not_closed, h
 ghost use Rattle.digest.specs.declared.Digest.{Digest};
 ghost use Rattle.http2_streams.specs.StandsFor.{StandsFor as AreStreams};
 ghost use Rattle.grpc_sending.specs.Bytes.{most_untaken};
-ghost use Rattle.grpc_sending.specs.Owed.{OwedItem, Headed, Message, Range};
+ghost use Rattle.grpc_sending.specs.Owed.{OwedItem, Headed, Message, Range, owed_with_item};
 ghost use Rattle.grpc_sending.specs.Pump.{history_after_pump, next_frames};
-ghost use Rattle.grpc_sending.specs.StandsFor.{owed_with_item};
 ghost use Rattle.grpc_sending.specs.StoredSending.{Tells, Enters, DropsClosed, DropsAll, Owes, OwesRange, IsAtRest, PumpsStreams, PumpsSending, PutsBy, ResetsBy, FinishesBy, KeepsFit, KeepsFitWith, Look, StoredSending, StandsFor, Fit, IsFit, KeepsSources, HoldsMore, HasFew, new_stored_sending, sending_in, stored_on, front_bytes, front_frame};
 ghost use Rattle.grpc_sending.specs.SortedQueues.{AreSorted};
 ghost use Rattle.grpc_sending.specs.Step.{Puts, Rests, IsControl, Finishes, Resets};

@@ -21,7 +21,8 @@ use Rattle.http2_streams.specs.declared.event.Event.{Event}
 use Rattle.http2_streams.specs.declared.event.Event.TheVariants.{Nothing}
 use Rattle.http2_streams.specs.declared.event.StreamEvent.{StreamEvent}
 use Rattle.http2_streams.specs.Standing.{Standing}
-use Rattle.http2_streams.specs.Rules.{is_idle, is_live_at, is_receiving, is_remembered, window_update, event_only, no_effect, stream_error, on_data, on_header_list, on_request, on_trailers, on_settings, settings_fault, on_ping, on_connection_update, on_stream_update, overflows, may_grow, on_content, on_frame_of, is_in_turn, answer_to, control_frames}
+use Rattle.http2_streams.specs.Rules.{is_idle, is_live_at, is_receiving, is_remembered, window_update, event_only, no_effect, stream_error, on_data, on_header_list, on_request, on_trailers, on_settings, settings_fault, on_ping, on_connection_update, on_stream_update, overflows, may_grow, on_content, on_frame_of, is_in_turn, answer_to}
+use Rattle.http2_streams.specs.Entries.{control_frames}
 use Rattle.http2_streams.specs.ControlAnswers.{IsAnswer}
 use Rattle.http2_streams.proofs.Bools.{not_false, or_parts}
 use Rattle.http2_streams.proofs.Law.{OkThen, split}

@@ -18,7 +18,8 @@ use Rattle.http2_streams.specs.declared.event.Event.TheVariants.{Nothing, Reques
 use Rattle.http2_streams.specs.declared.event.StreamEvent.{StreamEvent}
 use Rattle.http2_streams.specs.History.{Entry, In, Out, frame_in, is_goaway, received_frames, sent_frames, has_failed, highest_stream, live_streams, is_ended_by_server}
 use Rattle.http2_streams.specs.Standing.{Standing, standing, stream_at}
-use Rattle.http2_streams.specs.Rules.{number_is, no_effect, on_content, on_frame_of, is_in_turn, on_raw_frame, answer_after, control_frames, frames_put, entries_of}
+use Rattle.http2_streams.specs.Rules.{number_is, no_effect, on_content, on_frame_of, is_in_turn, on_raw_frame, answer_after}
+use Rattle.http2_streams.specs.Entries.{control_frames, frames_put, entries_of}
 use Rattle.http2_streams.specs.Step.{after_content, step_by, after_frame_in}
 use Rattle.http2_streams.specs.StandsFor.{StandsFor}
 use Rattle.http2_streams.specs.LiveStreams.{stream_of_event, has_stream, IsOnItsStream, other_streams, live_after_end, live_after}

@@ -26,7 +26,8 @@ use Rattle.http2_streams.specs.declared.event.Event.TheVariants.{Nothing}
 use Rattle.http2_streams.specs.declared.event.StreamEvent.{StreamEvent}
 use Rattle.http2_streams.specs.History.{Entry, In, Out, blocks_after, blocks_with, frame_in, frame_out, received_frames, sent_frames, has_failed, is_goaway, highest_stream}
 use Rattle.http2_streams.specs.Standing.{Standing, standing}
-use Rattle.http2_streams.specs.Rules.{is_idle, is_receiving, is_remembered, is_live_at, window_update, stream_error, event_only, no_effect, on_data, on_header_list, on_block, on_request, on_trailers, on_settings, settings_fault, on_ping, on_reset, on_connection_update, on_stream_update, overflows, may_grow, on_content, is_in_turn, on_frame_of, on_raw_frame, answer_to, answer_after, control_frames, frames_put, entries_of}
+use Rattle.http2_streams.specs.Rules.{is_idle, is_receiving, is_remembered, is_live_at, window_update, stream_error, event_only, no_effect, on_data, on_header_list, on_block, on_request, on_trailers, on_settings, settings_fault, on_ping, on_reset, on_connection_update, on_stream_update, overflows, may_grow, on_content, is_in_turn, on_frame_of, on_raw_frame, answer_to, answer_after}
+use Rattle.http2_streams.specs.Entries.{control_frames, frames_put, entries_of}
 use Rattle.http2_streams.specs.StandsFor.{IsUntouched, IsAt, StandsFor, InMemory}
 use Rattle.http2_streams.specs.Step.{after_frame_in, after_frame_out, after_block, after_header_list, with_headers, after_client_end, after_answer, after_begin, after_content, step_by}
 use Rattle.http2_streams.proofs.Lists.{append-nil}

@@ -1,8 +1,8 @@
 -- What a received frame causes, by what the history comes to. Sections are those of RFC 9113. The
 -- tests stand in the order in which they are made.
-use Rattle.std.specs.Prelude.{ℕ, ◌%◌, ◌^◌, ◌==◌, nat_lt, nat_le, if◌then◌else◌, Bool, true, not, ◌&&◌, ◌||◌, List, [], ◌∷◌, ◌++◌, length, map, Option, Some, None, Result, Ok, Err, pos, ◌+ℤ◌}
+use Rattle.std.specs.Prelude.{ℕ, ◌%◌, ◌^◌, ◌==◌, nat_lt, nat_le, if◌then◌else◌, Bool, true, not, ◌&&◌, ◌||◌, List, [], ◌∷◌, length, Option, Some, None, Result, Ok, Err, pos, ◌+ℤ◌}
 use Rattle.std.specs.List.{list_any}
-use Rattle.std.specs.Option.{option_map_or, option_to_list}
+use Rattle.std.specs.Option.{option_map_or}
 use Rattle.std.specs.Int.Signed.{lt_z}
 use Rattle.http2_flow.specs.Credit.{Credit, window_left}
 use Rattle.http2_frames.specs.declared.codes.frame_type.TheConstants.{SETTINGS, CONTINUATION}
@@ -27,7 +27,7 @@ use Rattle.http2_streams.specs.declared.streams.TheConstants.{MAX_STREAMS}
 use Rattle.http2_streams.specs.declared.event.Event.{Event}
 use Rattle.http2_streams.specs.declared.event.Event.TheVariants.{Nothing, Request, Content, Trailers, Cancel}
 use Rattle.http2_streams.specs.declared.event.StreamEvent.{StreamEvent}
-use Rattle.http2_streams.specs.History.{Entry, In, Out}
+use Rattle.http2_streams.specs.History.{Entry}
 use Rattle.http2_streams.specs.Standing.{Standing, standing}
 
 -- ---- what is known of a stream number
@@ -248,23 +248,3 @@ abbrev pub reading_fault : FrameError → Option ErrorCode
 reading_fault Preface = Some ProtocolError
 reading_fault Size = Some FrameSizeError
 reading_fault NoMemory = None
-
--- ---- what goes into the history
-
-abbrev pub control_frames : StreamEvent → List Frame
-control_frames a =
-    option_to_list a.acknowledgement
-    ++ (option_to_list a.connection_update
-    ++ (option_to_list a.stream_update ++ option_to_list a.reset))
-
--- GOAWAY names the highest stream number that was opened (section 6.8)
-abbrev pub goaway_of : Standing → ErrorCode → Frame
-goaway_of v code = GoAway v.highest (code_number code) []
-
-abbrev pub frames_put : Standing → Result StreamEvent ErrorCode → List Frame
-frames_put v (Ok a) = control_frames a
-frames_put v (Err code) = goaway_of v code ∷ []
-
--- a frame, and what is put for it
-abbrev pub entries_of : List Entry → RawFrame → List Entry
-entries_of d f = In f ∷ map Out (frames_put (standing d) (answer_after d f))

@@ -1,28 +1,32 @@
 //! The streams of one connection.
 
-ghost use Rattle.std.specs.Prelude.{◌≡◌, ◌≢◌, ◌<◌, ◌≤◌, ◌^◌, ◌++◌, ◌∷◌, List, [], length, Bool, true, false, map, Option, Some, None, Ok, Err, IfOk, OnOk, OnErr, IsSome, IfSome, IfErr, fold, vec_capacity, ℕ, IsTrue, ◌↔◌, ◌==◌, if◌then◌else◌};
-ghost use Rattle.std.specs.List.{list_any};
+ghost use Rattle.std.specs.Prelude.{◌≡◌, ◌<◌, ◌≤◌, ◌^◌, ◌++◌, ◌∷◌, List, [], length, Bool, true, IfOk, OnErr, ℕ, IsTrue, ◌↔◌};
 ghost use Rattle.http2_flow.specs.Credit.{window_left};
-ghost use Rattle.http2_frames.specs.declared.frame.Frame.{Frame};
-ghost use Rattle.http2_frames.specs.declared.frame.Frame.TheVariants.{Data, Headers, RstStream, Settings, GoAway, WindowUpdate, Continuation};
-ghost use Rattle.http2_headers.specs.Decoding.{Gives, list_of_block, state_after_block, list_of_continuation, state_after_continuation};
-ghost use Rattle.http2_headers.specs.HeaderBlock.{new_block};
-ghost use Rattle.http2_streams.specs.History.{Entry, In, Out, last_items, has_failed};
+ghost use Rattle.http2_frames.specs.declared.frame.Frame.TheVariants.{Data, Headers, RstStream};
+ghost use Rattle.http2_headers.specs.Decoding.{Gives};
+ghost use Rattle.http2_streams.specs.History.{Entry, Out, has_failed};
 ghost use Rattle.http2_streams.specs.Sending.{CanSend};
 ghost use Rattle.http2_streams.specs.StandsFor.{StandsFor, InMemory};
-ghost use Rattle.http2_streams.specs.Rules.{answer_after, entries_of, answer_to, no_effect, event_only, cancel_event, reset_frame, window_update, stream_error, is_idle, is_remembered, is_receiving, is_live_at, is_in_turn, on_content, on_data, on_header_list, on_block, on_request, on_trailers, on_reset, on_ping, on_connection_update, on_stream_update, on_settings, is_above, setting_fault, settings_fault};
-ghost use Rattle.http2_streams.specs.Step.{step_by, after_answer, after_frame_in, after_block, after_header_list, with_headers, after_client_end, after_reset, after_server_end, after_data, after_window_update, without_stream, with_live, new_stream, after_settings, after_resize, size_after_setting};
+ghost use Rattle.http2_streams.specs.Rules.{answer_after, answer_to, is_idle, is_live_at, is_in_turn, on_content};
+ghost use Rattle.http2_streams.specs.Entries.{entries_of};
+ghost use Rattle.http2_streams.specs.Step.{step_by, after_answer, after_frame_in, after_server_end, after_data};
 
-use crate::event::{Event, StreamEvent};
+mod answers;
+mod data;
+mod header_lists;
+mod resets;
+mod settings;
+mod window_updates;
+
+use crate::event::StreamEvent;
 use crate::live;
 use crate::stream::{Side, Stream};
-use http2_flow::{FlowError, INITIAL_SIZE, MAX_SIZE, Window};
-use http2_frames::{
-    ErrorCode, Frame, MAX_FRAME_SIZE, Octets, RawFrame, Setting, SettingsList, flag, frame_type,
-    interpret, setting,
-};
-use http2_headers::{H2Fault, HeaderBlocks, HeaderList};
+use crate::streams::answers::{PROTOCOL_ERROR, nothing, on_ping};
+use http2_flow::{INITIAL_SIZE, Window};
+use http2_frames::{Frame, MAX_FRAME_SIZE, RawFrame, flag, frame_type, interpret};
+use http2_headers::{H2Fault, HeaderBlocks};
 use std::alloc::{AllocError, Global};
+use std::collections::VecDeque;
 use std::marker::Model;
 
 /// The most live streams (SETTINGS_MAX_CONCURRENT_STREAMS, RFC 9113 section 5.1.2).
@@ -40,14 +44,15 @@ pub struct Streams {
     begun: bool,
     highest: u32,
     live: Vec<Stream>,
-    remembered: Vec<u32>,
+    remembered: VecDeque<u32>,
     initial_window_size: u32,
     connection_window: Window,
     headers: HeaderBlocks,
 }
 
 impl Model for Streams {
-    ghost use Rattle.std.specs.Prelude.{◌<◌, ◌≤◌, ◌^◌, length, vec_capacity};
+    ghost use Rattle.std.specs.Prelude.{◌≡◌, ◌<◌, ◌≤◌, ◌^◌, length, vec_capacity};
+    ghost use Rattle.std.specs.VecDeque.{deque_len, deque_capacity};
     ghost use Rattle.http2_streams.specs.Standing.{Standing};
     ghost use Rattle.http2_streams.specs.declared.streams.TheConstants.{MAX_STREAMS, MAX_REMEMBERED};
 
@@ -56,8 +61,9 @@ impl Model for Streams {
     ghost view = { λ s. record { failed = s.failed; begun = s.begun; highest = s.highest; live = s.live.items; remembered = s.remembered.items; initial_window_size = s.initial_window_size; connection_window = s.connection_window; unfinished = s.headers.unfinished; table = s.headers.table } };
 
     ghost invariant = { λ s. (length s.live.items ≤ MAX_STREAMS) × (MAX_STREAMS ≤ vec_capacity s.live)
-        × (length s.remembered.items ≤ MAX_REMEMBERED)
-        × (MAX_REMEMBERED ≤ vec_capacity s.remembered)
+        × (deque_len s.remembered ≡ length s.remembered.items)
+        × (deque_len s.remembered ≤ MAX_REMEMBERED)
+        × (MAX_REMEMBERED ≤ deque_capacity s.remembered)
         × (s.initial_window_size < 2 ^ 31) };
 }
 
@@ -71,7 +77,7 @@ impl Streams {
             begun: false,
             highest: 0,
             live: Vec::with_capacity(alloc, MAX_STREAMS)?,
-            remembered: Vec::with_capacity(alloc, MAX_REMEMBERED)?,
+            remembered: VecDeque::with_capacity(alloc, MAX_REMEMBERED)?,
             initial_window_size: INITIAL_SIZE,
             connection_window: Window::new(INITIAL_SIZE),
             headers: HeaderBlocks::new(alloc),
@@ -242,6 +248,12 @@ impl Streams {
         }
     }
 
+    fn is_idle(&self, stream: u32) -> bool
+        ensures { result ≡ is_idle self.now stream }
+    {
+        stream > self.highest || (stream % 2 == 0 && stream != 0)
+    }
+
     fn on_content<'a>(&mut self, length: u32, frame: Frame<'a>) -> Result<StreamEvent<'a>, H2Fault>
         requires { length < 2 ^ 31 }
         ensures answer { Gives result (on_content self.old length frame.entry) }
@@ -274,435 +286,5 @@ impl Streams {
             Frame::Settings { ack, settings } => self.on_settings(ack, settings),
             Frame::Priority { .. } | Frame::GoAway { .. } | Frame::Unknown { .. } => Ok(nothing()),
         }
-    }
-
-    fn is_idle(&self, stream: u32) -> bool
-        ensures { result ≡ is_idle self.now stream }
-    {
-        stream > self.highest || (stream % 2 == 0 && stream != 0)
-    }
-
-    fn is_remembered(&self, stream: u32) -> bool
-        ensures { result ≡ is_remembered self.now stream }
-    {
-        self.remembered.iter().any(|number| *number == stream)
-    }
-
-    /// The event that the stream ends before its time, where it is live.
-    fn cancelled<'a>(&self, stream: u32) -> Event<'a>
-        ensures { result ≡ cancel_event self.now stream }
-    {
-        if live::is_live(&self.live, stream) {
-            return Event::Cancel { stream };
-        }
-        Event::Nothing
-    }
-
-    /// Ends the stream by the server's RST_STREAM, and remembers it.
-    fn reset(&mut self, stream: u32)
-        ensures { self.new ≡ after_reset self.old stream }
-    {
-        live::remove(&mut self.live, stream);
-        remember(&mut self.remembered, stream);
-    }
-
-    fn stream_error<'a>(&mut self, stream: u32, code: ErrorCode) -> StreamEvent<'a>
-        ensures answer { result ≡ stream_error self.old stream code }
-        ensures state { self.new ≡ after_reset self.old stream }
-    {
-        let event = self.cancelled(stream);
-        self.reset(stream);
-        StreamEvent {
-            reset: reset_frame(stream, code),
-            ..brings(event)
-        }
-    }
-
-    fn on_data<'a>(
-        &mut self,
-        length: u32,
-        stream: u32,
-        end_stream: bool,
-        content: Octets<'a>,
-    ) -> Result<StreamEvent<'a>, H2Fault>
-        ensures answer { Gives result (on_data self.old length stream end_stream content.entry) }
-        ensures state { IfOk result (λ a. self.new
-            ≡ after_answer a (after_client_end self.old stream end_stream)) }
-        ensures err { OnErr result (self.new ≡ self.old) }
-    {
-        if self.is_idle(stream) {
-            return Err(PROTOCOL_ERROR);
-        }
-        let connection_update = update(0, length);
-        if live::is_receiving(&self.live, stream) {
-            let stream_update = if end_stream {
-                None
-            } else {
-                update(stream, length)
-            };
-            if end_stream {
-                live::end_by(&mut self.live, Side::Client, stream);
-            }
-            return Ok(StreamEvent {
-                connection_update,
-                stream_update,
-                ..brings(Event::Content {
-                    stream,
-                    content,
-                    end_stream,
-                })
-            });
-        }
-        if self.is_remembered(stream) {
-            return Ok(StreamEvent {
-                connection_update,
-                ..nothing()
-            });
-        }
-        let event = self.cancelled(stream);
-        self.reset(stream);
-        Ok(StreamEvent {
-            connection_update,
-            reset: reset_frame(stream, ErrorCode::StreamClosed),
-            ..brings(event)
-        })
-    }
-
-    fn on_headers<'a>(
-        &mut self,
-        stream: u32,
-        end_stream: bool,
-        end_headers: bool,
-        fragment: &[u8],
-    ) -> Result<StreamEvent<'a>, H2Fault>
-        ensures answer { Gives result (on_header_list self.old
-            (list_of_block self.old.table end_headers (new_block stream end_stream fragment.now))) }
-        ensures state { IfOk result (λ a. self.new
-            ≡ after_answer a (after_header_list
-            (with_headers self.old
-            (state_after_block self.old.table end_headers
-            (new_block stream end_stream fragment.now)))
-            (list_of_block self.old.table end_headers
-            (new_block stream end_stream fragment.now)))) }
-        ensures live { OnErr result (self.new.live ≡ self.old.live) }
-        ensures highest { OnErr result (self.new.highest ≡ self.old.highest) }
-    {
-        match self
-            .headers
-            .begin(stream, end_stream, end_headers, fragment)?
-        {
-            Some(block) => self.on_block(block),
-            None => Ok(nothing()),
-        }
-    }
-
-    fn on_continuation<'a>(
-        &mut self,
-        end_headers: bool,
-        fragment: &[u8],
-    ) -> Result<StreamEvent<'a>, H2Fault>
-        ensures answer { Gives result (on_header_list self.old
-            (list_of_continuation self.old.table self.old.unfinished end_headers fragment.now)) }
-        ensures state { IfOk result (λ a. self.new
-            ≡ after_answer a (after_header_list
-            (with_headers self.old
-            (state_after_continuation self.old.table self.old.unfinished end_headers fragment.now))
-            (list_of_continuation self.old.table self.old.unfinished end_headers fragment.now))) }
-        ensures live { OnErr result (self.new.live ≡ self.old.live) }
-        ensures highest { OnErr result (self.new.highest ≡ self.old.highest) }
-    {
-        match self.headers.go_on(end_headers, fragment)? {
-            Some(block) => self.on_block(block),
-            None => Ok(nothing()),
-        }
-    }
-
-    /// Takes a whole header block, which was decoded whatever becomes of its stream.
-    fn on_block<'a>(&mut self, block: HeaderList) -> Result<StreamEvent<'a>, H2Fault>
-        ensures answer { Gives result (on_block self.old block) }
-        ensures state { IfOk result (λ a. self.new
-            ≡ after_answer a (after_block self.old block.stream block.end_stream)) }
-        ensures live { OnErr result (self.new.live ≡ self.old.live) }
-        ensures highest { OnErr result (self.new.highest ≡ self.old.highest) }
-    {
-        if block.stream % 2 == 0 {
-            return Err(PROTOCOL_ERROR);
-        }
-        if block.stream > self.highest {
-            return Ok(self.on_request(block));
-        }
-        if live::is_receiving(&self.live, block.stream) {
-            return Ok(self.on_trailers(block.stream, block.end_stream));
-        }
-        if self.is_remembered(block.stream) {
-            return Ok(nothing());
-        }
-        Err(H2Fault::Connection(ErrorCode::StreamClosed))
-    }
-
-    #[tactic(auto, using(crate::proofs::StreamLists::without_fresh))]
-    fn on_request<'a>(&mut self, block: HeaderList) -> StreamEvent<'a>
-        requires { self.old.highest < block.stream }
-        ensures answer { result ≡ on_request self.old block }
-        ensures state { self.new ≡ after_answer result
-            (after_block self.old block.stream block.end_stream) }
-    {
-        let HeaderList {
-            stream,
-            end_stream,
-            fields,
-        } = block;
-        self.highest = stream;
-        if self.live.len() >= MAX_STREAMS {
-            return self.stream_error(stream, ErrorCode::RefusedStream);
-        }
-        if !http2_headers::is_well_formed_request(fields.as_slice()) {
-            return self.stream_error(stream, ErrorCode::ProtocolError);
-        }
-        self.open(stream, end_stream);
-        brings(Event::Request {
-            stream,
-            fields,
-            end_stream,
-        })
-    }
-
-    /// Adds a live stream.
-    fn open(&mut self, stream: u32, end_stream: bool)
-        requires { length self.old.live < MAX_STREAMS }
-        ensures { self.new ≡ with_live self.old
-            (self.old.live ++ new_stream self.old.initial_window_size stream end_stream ∷ []) }
-    {
-        let window = Window::new(self.initial_window_size);
-        self.live
-            .push(Stream {
-                number: stream,
-                ended_by_client: end_stream,
-                ended_by_server: false,
-                window,
-            })
-            .unwrap();
-    }
-
-    fn on_trailers<'a>(&mut self, stream: u32, end_stream: bool) -> StreamEvent<'a>
-        requires { is_receiving self.old stream ≡ true }
-        ensures answer { result ≡ on_trailers self.old stream end_stream }
-        ensures state { self.new ≡ after_answer result
-            (after_client_end self.old stream end_stream) }
-    {
-        if !end_stream {
-            return self.stream_error(stream, ErrorCode::ProtocolError);
-        }
-        live::end_by(&mut self.live, Side::Client, stream);
-        brings(Event::Trailers { stream })
-    }
-
-    fn on_reset<'a>(&mut self, stream: u32) -> Result<StreamEvent<'a>, H2Fault>
-        ensures answer { Gives result (on_reset self.old stream) }
-        ensures state { IfOk result (λ a. self.new
-            ≡ after_answer a (with_live self.old (without_stream stream self.old.live))) }
-        ensures err { OnErr result (self.new ≡ self.old) }
-    {
-        if self.is_idle(stream) {
-            return Err(PROTOCOL_ERROR);
-        }
-        let event = self.cancelled(stream);
-        live::remove(&mut self.live, stream);
-        Ok(brings(event))
-    }
-
-    fn on_settings<'a>(
-        &mut self,
-        ack: bool,
-        settings: SettingsList<'a>,
-    ) -> Result<StreamEvent<'a>, H2Fault>
-        ensures answer { Gives result (on_settings self.old ack settings.entry) }
-        ensures state { IfOk result (λ a. self.new
-            ≡ after_answer a (if ack then self.old else after_settings self.old settings.entry)) }
-        ensures err { OnErr result (self.new ≡ self.old) }
-    {
-        if ack {
-            return Ok(nothing());
-        }
-        match read_settings(&self.live, settings) {
-            Ok(Some(initial_window_size)) => self.resize(initial_window_size),
-            Ok(None) => {}
-            Err(code) => return Err(H2Fault::Connection(code)),
-        }
-        Ok(settings_ack())
-    }
-
-    /// Sets the initial size of all streams' windows.
-    fn resize(&mut self, initial_window_size: u32)
-        requires small { initial_window_size < 2 ^ 31 }
-        requires within { list_any (is_above initial_window_size) self.old.live ≡ false }
-        ensures { self.new ≡ after_resize self.old initial_window_size }
-    {
-        live::resize(&mut self.live, initial_window_size);
-        self.initial_window_size = initial_window_size;
-    }
-
-    #[tactic(auto, using(crate::proofs::StreamLists::none_granted, crate::proofs::StreamLists::without_granted))]
-    fn on_window_update<'a>(
-        &mut self,
-        stream: u32,
-        increment: u32,
-    ) -> Result<StreamEvent<'a>, H2Fault>
-        ensures answer { Gives result (if stream == 0 then on_connection_update self.old increment
-            else on_stream_update self.old stream increment) }
-        ensures state { IfOk result (λ a. self.new
-            ≡ after_answer a (after_window_update self.old stream increment)) }
-        ensures err { OnErr result (self.new ≡ self.old) }
-    {
-        if stream == 0 {
-            return self.on_connection_update(increment);
-        }
-        if self.is_idle(stream) {
-            return Err(PROTOCOL_ERROR);
-        }
-        if !live::is_live(&self.live, stream) {
-            return Ok(nothing());
-        }
-        if increment == 0 {
-            return Ok(self.stream_error(stream, ErrorCode::ProtocolError));
-        }
-        if live::overflows(&self.live, stream, increment) {
-            return Ok(self.stream_error(stream, ErrorCode::FlowControlError));
-        }
-        live::grant(&mut self.live, stream, increment);
-        Ok(nothing())
-    }
-
-    fn on_connection_update<'a>(&mut self, increment: u32) -> Result<StreamEvent<'a>, H2Fault>
-        ensures answer { Gives result (on_connection_update self.old increment) }
-        ensures state { IfOk result (λ a. self.new
-            ≡ after_answer a (after_window_update self.old 0 increment)) }
-        ensures err { OnErr result (self.new ≡ self.old) }
-    {
-        match self.connection_window.grant(increment) {
-            Ok(()) => Ok(nothing()),
-            Err(FlowError::Zero) => Err(PROTOCOL_ERROR),
-            Err(_) => Err(H2Fault::Connection(ErrorCode::FlowControlError)),
-        }
-    }
-}
-
-const PROTOCOL_ERROR: H2Fault = H2Fault::Connection(ErrorCode::ProtocolError);
-
-/// Takes the place of the oldest where there is no room.
-fn remember(remembered: &mut Vec<u32>, stream: u32)
-    requires room { MAX_REMEMBERED ≤ vec_capacity remembered.old }
-    requires few { length remembered.old.items ≤ MAX_REMEMBERED }
-    ensures list { remembered.new.items ≡ last_items MAX_REMEMBERED
-        (remembered.old.items ++ stream ∷ []) }
-    ensures few { length remembered.new.items ≤ MAX_REMEMBERED }
-    ensures room { MAX_REMEMBERED ≤ vec_capacity remembered.new }
-{
-    if remembered.len() >= MAX_REMEMBERED {
-        let _ = remembered.remove(0);
-    }
-    remembered.push(stream).unwrap();
-}
-
-fn nothing<'a>() -> StreamEvent<'a>
-    ensures { result ≡ no_effect }
-{
-    brings(Event::Nothing)
-}
-
-fn brings<'a>(event: Event<'a>) -> StreamEvent<'a>
-    ensures { result ≡ event_only event.entry }
-{
-    StreamEvent {
-        acknowledgement: None,
-        connection_update: None,
-        stream_update: None,
-        reset: None,
-        event,
-    }
-}
-
-fn reset_frame<'a>(stream: u32, code: ErrorCode) -> Option<Frame<'a>>
-    ensures { result ≡ reset_frame stream code }
-{
-    Some(Frame::RstStream {
-        stream,
-        error_code: code.number(),
-    })
-}
-
-/// The WINDOW_UPDATE that gives back received bytes.
-fn update<'a>(stream: u32, length: u32) -> Option<Frame<'a>>
-    ensures { result ≡ window_update stream length }
-{
-    if length == 0 {
-        return None;
-    }
-    Some(Frame::WindowUpdate {
-        stream,
-        increment: length,
-    })
-}
-
-fn on_ping<'a>(ack: bool, opaque_data: [u8; 8]) -> StreamEvent<'a>
-    ensures { result ≡ on_ping ack opaque_data }
-{
-    if ack {
-        return nothing();
-    }
-    StreamEvent {
-        acknowledgement: Some(Frame::Ping {
-            ack: true,
-            opaque_data,
-        }),
-        ..nothing()
-    }
-}
-
-fn settings_ack<'a>() -> StreamEvent<'a>
-    ensures { result ≡ record no_effect { acknowledgement = Some (Settings true []) } }
-{
-    StreamEvent {
-        acknowledgement: Some(Frame::Settings {
-            ack: true,
-            settings: SettingsList::new(&[]),
-        }),
-        ..nothing()
-    }
-}
-
-/// The last initial window size among the settings, if there is one and no setting is a fault.
-fn read_settings(live: &[Stream], mut settings: SettingsList<'_>) -> Result<Option<u32>, ErrorCode>
-    ensures fault { IfErr result (λ code. settings_fault live.now settings.entry ≡ Some code) }
-    ensures faultless { OnOk result (settings_fault live.now settings.entry ≡ None) }
-    ensures size { IfOk result (λ size. size ≡ fold size_after_setting None settings.entry) }
-    ensures fits { IfOk result (λ size. IfSome size
-        (λ n. (n < 2 ^ 31) × (list_any (is_above n) live.now ≡ false))) }
-{
-    let mut size = None;
-    while let Some(setting) = settings.pop_first() {
-        if let Some(code) = setting_fault(live, setting) {
-            return Err(code);
-        }
-        if setting.identifier == setting::INITIAL_WINDOW_SIZE {
-            size = Some(setting.value);
-        }
-    }
-    Ok(size)
-}
-
-fn setting_fault(live: &[Stream], setting: Setting) -> Option<ErrorCode>
-    ensures { result ≡ setting_fault live.now setting }
-{
-    let value = setting.value;
-    match setting.identifier {
-        setting::ENABLE_PUSH if value > 1 => Some(ErrorCode::ProtocolError),
-        setting::MAX_FRAME_SIZE if value < 16_384 || value > 16_777_215 => {
-            Some(ErrorCode::ProtocolError)
-        }
-        setting::INITIAL_WINDOW_SIZE if value > MAX_SIZE || live::is_above_limit(live, value) => {
-            Some(ErrorCode::FlowControlError)
-        }
-        _ => None,
     }
 }

@@ -17,8 +17,7 @@ use Rattle.http2_streams.specs.Rules.{reading_fault}
 use Rattle.rpc.specs.declared.method.Method.{Method}
 use Rattle.grpc_calls.specs.declared.request.HeadFault.{HeadFault}
 use Rattle.grpc_calls.specs.Requests.{head_of}
-use Rattle.grpc_sending.specs.Owed.{OwedItem, Item, items_owed_on}
-use Rattle.grpc_sending.specs.StandsFor.{owed_with_item}
+use Rattle.grpc_sending.specs.Owed.{OwedItem, Item, items_owed_on, owed_with_item}
 use Rattle.grpc_sending.proofs.Histories.{append-nil}
 use Rattle.conn_core.specs.declared.event.CallEvent.{CallEvent}
 use Rattle.conn_core.specs.declared.event.CallEvent.TheVariants as Seen

@@ -1,5 +1,5 @@
 use Rattle.http2_frames.specs.declared.codes.ErrorCode.TheVariants.{EnhanceYourCalm}
-use Rattle.http2_streams.specs.Rules.{control_frames}
+use Rattle.http2_streams.specs.Entries.{control_frames}
 use Rattle.conn_core.specs.Step.{with_reader}
 use Rattle.conn_core.proofs.Frames.{cut_by, brought_by}
 use Rattle.conn_core.proofs.Readers.{for_all, for_this, puts_beside, fails_beside}

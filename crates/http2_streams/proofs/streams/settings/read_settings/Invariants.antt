@@ -3,7 +3,7 @@ use Rattle.std.specs.Prelude.{fold, IfSome}
 use Rattle.std.specs.List.{list_any}
 use Rattle.http2_streams.specs.Rules.{is_above, settings_fault}
 use Rattle.http2_streams.specs.Step.{size_after_setting}
-use Rattle.http2_streams.proofs.streams.read_settings.Given as goal
+use Rattle.http2_streams.proofs.streams.settings.read_settings.Given as goal
 
 abbrev pub decreases-loop-setting : goal.decreases-loop-setting
 decreases-loop-setting l = length l.settings

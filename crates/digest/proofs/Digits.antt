@@ -10,11 +10,11 @@ use Rattle.hex.proofs.Pairs.{decode_pairs-ok_pair, cons_byte}
 use Rattle.digest.specs.Text.{is_lower_hex_digit}
 
 -- a test of each number below n, which computes
-abbrev all_below : (ℕ → Bool) → ℕ → Bool
+abbrev pub all_below : (ℕ → Bool) → ℕ → Bool
 all_below test zero = true
 all_below test (suc n) = test n && all_below test n
 
-all_below-at : (test : ℕ → Bool) (n k : ℕ) → all_below test n ≡ true → k < n → test k ≡ true
+pub all_below-at : (test : ℕ → Bool) (n k : ℕ) → all_below test n ≡ true → k < n → test k ≡ true
 all_below-at test zero k h lt = absurd (omega arith)
 all_below-at test (suc n) k h lt = go (test n) refl h (λ rest below. all_below-at test n k rest below) where
   go : (t : Bool) → test n ≡ t → (t && all_below test n) ≡ true → (all_below test n ≡ true → k < n → test k ≡ true) → test k ≡ true
@@ -25,7 +25,7 @@ all_below-at test (suc n) k h lt = go (test n) refl h (λ rest below. all_below-
   go false e h ih = cc
 
 -- the value of a digit, and the digit of that value
-abbrev value : ℕ → ℕ
+abbrev pub value : ℕ → ℕ
 value c = unwrap_or (hex_digit_value c) 99
 
 abbrev writes_itself : ℕ → Bool
@@ -56,6 +56,9 @@ digit_is c h = let test : writes_itself c ≡ true = all_below-at writes_itself 
   go true true small digit both = record { small = grind (arith, nat_tests); digit = grind (arith, nat_tests) }
   go true false small digit both = cc
   go false d small digit both = cc
+
+pub lower_small_value : (c : ℕ) → is_lower_hex_digit c ≡ true → value c < 16
+lower_small_value c h = let digit = digit_is c h in digit.small
 
 -- two digits write the byte that they are read as
 record IsPair (high low : ℕ) (i : ℕ) : Type 0 where

@@ -1,3 +1,5 @@
 mod Digits
+mod DigitTable
+mod Decoding
 pub mod Writings
 pub mod Same

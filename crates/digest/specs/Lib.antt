@@ -1,3 +1,4 @@
 pub mod Naming
 pub mod Text
+pub mod Digits
 pub mod Hashing

@@ -3,10 +3,9 @@
 
 ghost use Rattle.std.specs.Prelude.{◌≡◌, ◌↔◌, ◌<◌, ◌^◌, ◌++◌, ℕ, List, [], length, IsTrue, IfSome, IsNone};
 ghost use Rattle.digest.specs.Naming.{Names, digest_of, is_digest_of, is_empty_digest, same_digest};
-ghost use Rattle.std.specs.List.{list_all};
 ghost use Rattle.hex.specs.Hex.{IsBytes};
-ghost use Rattle.digest.specs.Text as text;
 ghost use Rattle.digest.specs.Text.{IsWritten, digest_in, hash_in, unsigned_of};
+ghost use Rattle.digest.specs.Digits.{AreDigitValues, lower_digit_value, lower_pair};
 ghost use Rattle.digest.specs.Hashing.{Holds};
 
 use sha2::{Digest as Hash, Sha256};
@@ -51,31 +50,64 @@ impl Digest {
     }
 }
 
-fn is_lower_digit(c: u8) -> bool
-    ensures { result ≡ text.is_lower_hex_digit c }
+/// The value of each byte as a lower-case hexadecimal digit, or 255.
+const DIGIT_VALUES: [u8; 256] = [
+    255, 255, 255, 255, 255, 255, 255, 255, 255, 255, 255, 255, 255, 255, 255, 255, 255, 255, 255,
+    255, 255, 255, 255, 255, 255, 255, 255, 255, 255, 255, 255, 255, 255, 255, 255, 255, 255, 255,
+    255, 255, 255, 255, 255, 255, 255, 255, 255, 255, 0, 1, 2, 3, 4, 5, 6, 7, 8, 9, 255, 255, 255,
+    255, 255, 255, 255, 255, 255, 255, 255, 255, 255, 255, 255, 255, 255, 255, 255, 255, 255, 255,
+    255, 255, 255, 255, 255, 255, 255, 255, 255, 255, 255, 255, 255, 255, 255, 255, 255, 10, 11,
+    12, 13, 14, 15, 255, 255, 255, 255, 255, 255, 255, 255, 255, 255, 255, 255, 255, 255, 255, 255,
+    255, 255, 255, 255, 255, 255, 255, 255, 255, 255, 255, 255, 255, 255, 255, 255, 255, 255, 255,
+    255, 255, 255, 255, 255, 255, 255, 255, 255, 255, 255, 255, 255, 255, 255, 255, 255, 255, 255,
+    255, 255, 255, 255, 255, 255, 255, 255, 255, 255, 255, 255, 255, 255, 255, 255, 255, 255, 255,
+    255, 255, 255, 255, 255, 255, 255, 255, 255, 255, 255, 255, 255, 255, 255, 255, 255, 255, 255,
+    255, 255, 255, 255, 255, 255, 255, 255, 255, 255, 255, 255, 255, 255, 255, 255, 255, 255, 255,
+    255, 255, 255, 255, 255, 255, 255, 255, 255, 255, 255, 255, 255, 255, 255, 255, 255, 255, 255,
+    255, 255, 255, 255, 255, 255, 255, 255, 255, 255, 255, 255, 255, 255, 255, 255, 255, 255, 255,
+    255, 255, 255, 255,
+];
+
+// The table is an argument so that no proof has its numbers before it.
+fn digit_by(values: &[u8; 256], digit: u8) -> Option<u8>
+    requires { AreDigitValues values.now }
+    ensures value { result ≡ lower_digit_value digit }
+    ensures small { IfSome result (λ value. value < 16) }
 {
-    (b'0' <= c && c <= b'9') || (b'a' <= c && c <= b'f')
+    let value = values[digit as usize];
+    if value < 16 { Some(value) } else { None }
 }
 
-/// Whether the bytes are lower-case hexadecimal digits.
-fn are_lower_digits(bytes: &[u8]) -> bool
-    ensures { result ≡ list_all text.is_lower_hex_digit bytes.now }
+/// The value of a lower-case hexadecimal digit.
+fn digit_value(digit: u8) -> Option<u8>
+    ensures value { result ≡ lower_digit_value digit }
+    ensures small { IfSome result (λ value. value < 16) }
 {
-    bytes.iter().all(|c| is_lower_digit(*c))
+    digit_by(&DIGIT_VALUES, digit)
+}
+
+/// The byte that two lower-case hexadecimal digits write.
+fn byte_of(high: u8, low: u8) -> Option<u8>
+    ensures { result ≡ lower_pair high low }
+{
+    let high = digit_value(high)?;
+    let low = digit_value(low)?;
+    Some(high * 16 + low)
 }
 
 /// The bytes that 64 lower-case hexadecimal digits write.
 fn hash(digits: &str) -> Option<[u8; 32]>
     ensures { result ≡ hash_in digits.now }
 {
-    if !are_lower_digits(digits.as_bytes()) {
+    let digits = digits.as_bytes();
+    if digits.len() != 64 {
         return None;
     }
     let mut bytes = [0u8; 32];
-    match hex::decode_to_slice(digits, &mut bytes) {
-        Ok(()) => Some(bytes),
-        Err(_) => None,
+    'bytes: for i in 0..32 {
+        bytes[i] = byte_of(digits[2 * i], digits[2 * i + 1])?;
     }
+    Some(bytes)
 }
 
 fn unsigned(size: i64) -> Option<u64>

@@ -1,6 +1,7 @@
 -- A loop that writes one item after another, where the list of the items that come is as the code
 -- takes its first.
 use Rattle.std.proofs.Common.{◌≡◌, ℕ, ◌-◌, ◌<◌, List, [], ◌∷◌, ◌++◌, length, take, drop, slice_index_or, map, refl, sym, ap, ◌∙◌, arith}
+use Rattle.std.specs.List.{flat_map}
 use Rattle.std.proofs.Math.Seq.{take-length}
 use Rattle.std.proofs.lemmas.List.Concat.{flat_map-cons}
 use Rattle.protobuf_wire.specs.Writing.{Written, followed_by, varint, packed_text, records_text, message_field}
@@ -52,3 +53,14 @@ module _ {A : Type 0} (number : A → ℕ) where
 
   pub all_numbers : (all now : Written) (left : List A) → length left < 1 → followed_by now (numbers_text left) ≡ all → now ≡ all
   all_numbers all now left short h = all_written numbers_text number_text refl first_number all now left short h
+
+-- pieces of a payload
+module _ {A : Type 0} (piece : A → List ℕ) where
+  abbrev pieces_text : List A → List ℕ
+  pieces_text xs = flat_map piece xs
+
+  pub next_piece : (all now next : Written) (left : List A) (default : A) → 0 < length left → followed_by now (pieces_text left) ≡ all → next ≡ followed_by now (piece (slice_index_or left 0 default)) → followed_by next (pieces_text (take (length left - 1) (drop 1 left))) ≡ all
+  next_piece all now next left default some h is = next_written pieces_text piece refl (flat_map-cons piece) all now next left default some h is
+
+  pub all_pieces : (all now : Written) (left : List A) → length left < 1 → followed_by now (pieces_text left) ≡ all → now ≡ all
+  all_pieces all now left short h = all_written pieces_text piece refl (flat_map-cons piece) all now left short h

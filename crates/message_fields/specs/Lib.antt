@@ -10,3 +10,4 @@ pub mod Fields
 pub mod Parts
 pub mod Again
 pub mod Joining
+pub mod Pieces

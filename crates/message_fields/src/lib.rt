@@ -6,6 +6,7 @@ mod fields;
 mod laws;
 mod message;
 mod parts;
+mod pieces;
 
 pub use error::MessageError;
 pub use fields::{
@@ -18,4 +19,5 @@ pub use parts::{
     put_flag, put_int32, put_int64, put_octets, put_repeated_enum, put_repeated_octets,
     put_repeated_string, put_sent, put_string,
 };
+pub use pieces::{Pieces, put_pieces};
 pub use protobuf_wire::{Content, Field, WireError, Writer};

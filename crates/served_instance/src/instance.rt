@@ -129,8 +129,8 @@ impl ServedInstance {
         }
     }
 
-    /// The same, of a connection that most likely stands at this place among the open ones, in
-    /// order of opening: then no other is looked at.
+    /// The bytes that were put on an open connection and not taken. Where it stands at this place
+    /// among the open ones, in order of opening, no other is looked at.
     pub fn pending_near(&self, place: usize, connection: u32) -> Option<&[u8]>
         ensures bytes { (l : Lone) → HasConnections self.now l → AreApart l.connections
             → option_map (λ bytes. bytes.now) result
@@ -139,7 +139,7 @@ impl ServedInstance {
     {
         match connection_near(&self.connections, place, connection) {
             None => None,
-            Some(kept) => Some(kept.pending()),
+            Some(found) => Some(found.pending()),
         }
     }
 

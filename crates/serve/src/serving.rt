@@ -12,6 +12,24 @@ use std::alloc::{AllocError, Global};
 /// The most bytes that are read from a connection in a turn.
 const READ_LIMIT: usize = 16_384;
 
+/// For how many milliseconds after something moved on a connection it is tried in each turn.
+const BUSY_TIME: u64 = 20;
+
+/// An open connection, and the moments when something moved on it last and when it was tried last.
+#[derive(Clone, Copy)]
+struct OpenSocket {
+    socket: Socket,
+    moved: u64,
+    tried: u64,
+}
+
+impl OpenSocket {
+    /// Whether it is to be tried now: where nothing moved on it for long, once a millisecond.
+    fn is_due(&self, moment: u64) -> bool {
+        moment.saturating_sub(self.moved) <= BUSY_TIME || moment != self.tried
+    }
+}
+
 /// A server, and its open connections.
 #[derive(Drop)]
 struct Serving {
@@ -23,7 +41,7 @@ struct Serving {
     /// When the ports were tried last.
     tried: Option<u64>,
     /// In order of opening.
-    connections: Vec<Socket>,
+    connections: Vec<OpenSocket>,
     /// The number that is tried for the next connection.
     next: u32,
     room: Vec<u8>,
@@ -47,8 +65,8 @@ impl Serving {
         })
     }
 
-    /// Tells the time, tries each port, but only once a millisecond, and tries each connection. It
-    /// says whether anything moved.
+    /// Tells the time, tries each port, but only once a millisecond, and tries each connection that
+    /// is due. It says whether anything moved.
     fn turn<S: Sockets>(&mut self, sockets: &mut S) -> Result<bool, AllocError>
         ensures serving { KeepsServingAtMost self.old.instances result
             (S.happened sockets.old) self.old.server.instances self.old.moment
@@ -123,15 +141,19 @@ impl Serving {
             instance,
             What::Open(connection),
         )? {
-            self.connections.push(socket)?;
+            self.connections.push(OpenSocket {
+                socket,
+                moved: self.moment,
+                tried: self.moment,
+            })?;
         } else {
             close(&mut self.server, sockets, self.moment, socket)?;
         }
         Ok(true)
     }
 
-    /// Receives and sends on each connection, and lets go of those that are over. It says whether
-    /// anything moved.
+    /// Receives and sends on each connection that is due, and lets go of those that are over. It
+    /// says whether anything moved.
     fn exchange_all<S: Sockets>(&mut self, sockets: &mut S) -> Result<bool, AllocError>
         ensures serving { KeepsServing result
             (S.happened sockets.old) self.old.server.instances self.old.moment
@@ -142,7 +164,11 @@ impl Serving {
         let mut moved = false;
         let mut at = 0;
         while at < self.connections.len() {
-            let socket = self.connections[at];
+            if !self.connections[at].is_due(self.moment) {
+                at += 1;
+                continue;
+            }
+            let socket = self.connections[at].socket;
             let (server, room) = (&mut self.server, &mut self.room);
             match exchange(alloc, server, sockets, self.moment, socket, room)? {
                 Tried::Over => {
@@ -150,10 +176,14 @@ impl Serving {
                     moved = true;
                 }
                 Tried::Moved => {
+                    self.connections[at].moved = self.moment;
                     at += 1;
                     moved = true;
                 }
-                Tried::NotReady => at += 1,
+                Tried::NotReady => {
+                    self.connections[at].tried = self.moment;
+                    at += 1;
+                }
             }
         }
         Ok(moved)
@@ -165,7 +195,8 @@ impl Serving {
 ///
 /// In each turn the time is told to each instance; at each port one connection is accepted, once a
 /// millisecond at most; of each connection at most 16,384 bytes are read, and what waits on it is
-/// written. A connection is closed where its client is gone or its socket failed, and where an
+/// written. A connection on which nothing moved for 20 milliseconds is tried once a millisecond,
+/// until something moves on it again. A connection is closed where its client is gone or its socket failed, and where an
 /// error of it was met and the client was sent all that waited.
 ///
 /// `served`: a connection is accepted under a number that no open one of its instance has, and what

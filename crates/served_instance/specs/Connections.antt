@@ -1,6 +1,6 @@
 -- The connections of an instance, by their numbers. A number may be used again when its connection
 -- is closed.
-use Rattle.std.specs.Prelude.{ℕ, ◌==◌, ◌&&◌, if◌then◌else◌, Bool, false, List, [], ◌∷◌, map, filter, Option, Some, None}
+use Rattle.std.specs.Prelude.{◌≡◌, ℕ, ◌==◌, ◌&&◌, if◌then◌else◌, Bool, true, false, List, [], ◌∷◌, map, filter, Option, Some, None}
 use Rattle.conn_core.specs.Past.{Past}
 
 -- a connection that was opened: its number, all that passed on it, and whether it is open still
@@ -23,6 +23,11 @@ is_open_at c k = k.is_open && k.number == c
 abbrev pub open_at : ℕ → List LoneConnection → Option Past
 open_at c [] = None
 open_at c (k ∷ ks) = if is_open_at c k then Some k.past else open_at c ks
+
+-- no two open connections have one number
+abbrev pub AreApart : List LoneConnection → Type 0
+AreApart [] = Unit {0}
+AreApart (k ∷ ks) = (k.is_open ≡ true → open_at k.number ks ≡ None) × AreApart ks
 
 -- a step of the open connection of this number
 abbrev pub at_open : ℕ → (Past → Past) → List LoneConnection → List LoneConnection

@@ -5,7 +5,7 @@ ghost use Rattle.server_events.specs.Shown.{event_value, what_value};
 ghost use Rattle.grpc_sending.specs.Bytes.{most_untaken, pending_bytes};
 ghost use Rattle.http2_streams.specs.History.{has_failed};
 ghost use Rattle.conn_core.specs.Past.{Past, with_pumped};
-ghost use Rattle.served_instance.specs.Connections.{LoneConnection, open_at, open_ones, at_all_open};
+ghost use Rattle.served_instance.specs.Connections.{LoneConnection, AreApart, open_at, open_ones, at_all_open};
 ghost use Rattle.served_instance.specs.Lone.{Lone, new_lone, effect_of, after_opening, after_pump};
 ghost use Rattle.served_instance.specs.Refusals.{NeedsNoMemory, refusal_of, lone_step, IsOutcome};
 ghost use Rattle.served_instance.specs.StandsFor.{StandsFor, IsWithin, AreServed, AreSettled};
@@ -21,7 +21,7 @@ ghost use Rattle.blob_pool.specs.Moves.{Moves, no_holders};
 ghost use Rattle.quota_evict.specs.Kept.{quota_limit};
 
 use crate::calls::{close, receive};
-use crate::open_connection::{OpenConnection, connection_at, take};
+use crate::open_connection::{OpenConnection, connection_at, connection_near, take};
 use crate::pool_parts::PoolParts;
 use crate::refusal::EventRefusal;
 use crate::release::release_all;
@@ -126,6 +126,20 @@ impl ServedInstance {
         match connection_at(&self.connections, connection) {
             None => None,
             Some(kept) => Some(kept.pending()),
+        }
+    }
+
+    /// The bytes that were put on an open connection and not taken. Where it stands at this place
+    /// among the open ones, in order of opening, no other is looked at.
+    pub fn pending_near(&self, place: usize, connection: u32) -> Option<&[u8]>
+        ensures bytes { (l : Lone) → HasConnections self.now l → AreApart l.connections
+            → option_map (λ bytes. bytes.now) result
+            ≡ option_map (λ p. pending_bytes p.history) (open_at connection l.connections) }
+        ensures room { IfSome result (λ bytes. length bytes.now ≤ most_untaken) }
+    {
+        match connection_near(&self.connections, place, connection) {
+            None => None,
+            Some(found) => Some(found.pending()),
         }
     }
 

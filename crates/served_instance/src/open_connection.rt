@@ -1,12 +1,14 @@
 //! The open connections of an instance, by their numbers.
 
-ghost use Rattle.std.specs.Prelude.{◌≡◌, ◌++◌, ◌<◌, ◌≤◌, false, None, map, option_map, position, IfOk, OnOk, length};
+ghost use Rattle.std.specs.Prelude.{◌≡◌, ◌++◌, ◌<◌, ◌≤◌, List, false, None, map, option_map, position, IfOk, OnOk, length};
 ghost use Rattle.std.specs.Option.{option_map_or};
+ghost use Rattle.grpc_sending.specs.StoredSending.{Look};
 ghost use Rattle.conn_core.specs.Past.{Past, with_taken};
 ghost use Rattle.served_instance.specs.Acts.{Changed, Takes, Pops, ReadsFrame, present_at, HoldAlike};
 ghost use Rattle.served_instance.specs.Shown.{connection_shown};
 ghost use Rattle.served_instance.specs.Present.{is_numbered, CanTake};
-ghost use Rattle.served_instance.specs.StandsFor.{connection_at};
+ghost use Rattle.served_instance.specs.Connections.{LoneConnection, AreApart, open_ones};
+ghost use Rattle.served_instance.specs.StandsFor.{AreServed, connection_at};
 
 use conn_core::{CallEvent, Connection};
 use std::alloc::AllocError;
@@ -37,6 +39,23 @@ pub(crate) fn connection_at<'a>(
         None => None,
         Some(place) => Some(&connections[place].connection),
     }
+}
+
+/// The connection of this number, which stands at this place unless one before it was closed.
+pub(crate) fn connection_near<'a>(
+    connections: &'a [OpenConnection],
+    place: usize,
+    number: u32,
+) -> Option<&'a Connection>
+    ensures { (texts : Look) (ks : List LoneConnection)
+        → AreServed texts (map connection_shown connections.now) (open_ones ks) → AreApart ks
+        → option_map (λ connection. connection.now) result
+        ≡ connection_at number (map connection_shown connections.now) }
+{
+    if place < connections.len() && connections[place].number == number {
+        return Some(&connections[place].connection);
+    }
+    connection_at(connections, number)
 }
 
 /// Takes bytes that were received on the connection.

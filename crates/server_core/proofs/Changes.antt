@@ -9,10 +9,10 @@ use Rattle.http2_streams.specs.History.{Entry, Took}
 use Rattle.grpc_sending.specs.Bytes.{bytes_put, count_taken, count_taken_by, untaken_count}
 use Rattle.conn_core.specs.Past.{opening, with_taken}
 use Rattle.server_events.specs.Events.{WhatValue, opened, received, took, closed, tick, ended}
-use Rattle.served_instance.specs.Connections.{LoneConnection, is_open_at, open_at, at_open, with_closed}
+use Rattle.served_instance.specs.Connections.{LoneConnection, AreApart, is_open_at, open_at, at_open, with_closed}
 use Rattle.served_instance.specs.Lone.{sent_bytes_on}
 use Rattle.server_core.specs.declared.record.OpenRecord.{OpenRecord}
-use Rattle.server_core.specs.Records.{open_record, open_from, AreApart}
+use Rattle.server_core.specs.Records.{open_record, open_from}
 use Rattle.server_core.specs.Notes.{record_after_taking, open_records_after, sent_bytes_after}
 use Rattle.server_core.proofs.Growth.{HasGrown, AreGrown, at_is_open, connections_after}
 

@@ -14,10 +14,10 @@ use Rattle.grpc_sending.specs.Bytes.{bytes_put, count_taken, pending_bytes, unta
 use Rattle.grpc_sending.proofs.Histories.{append-nil}
 use Rattle.conn_core.specs.Past.{Past, opening, with_taken}
 use Rattle.server_events.specs.Events.{WhatValue, opened, received, took, closed, tick, ended}
-use Rattle.served_instance.specs.Connections.{LoneConnection, is_open_at, open_at, at_open, with_closed, open_ones}
+use Rattle.served_instance.specs.Connections.{LoneConnection, AreApart, is_open_at, open_at, at_open, with_closed, open_ones}
 use Rattle.served_instance.specs.Lone.{Lone, sent_bytes_on}
 use Rattle.server_core.specs.declared.record.OpenRecord.{OpenRecord}
-use Rattle.server_core.specs.Records.{open_record, open_from, IsTakenFrom, AreApart}
+use Rattle.server_core.specs.Records.{open_record, open_from, IsTakenFrom}
 use Rattle.server_core.specs.Notes.{sent_bytes_after, with_more_at, pending_bytes_on, sent_bytes_with, sent_bytes_with_all, record_after_noting}
 use Rattle.server_core.proofs.Growth.{HasGrown, AreGrown, at_is_open, connections_after}
 use Rattle.server_core.proofs.Changes.{pick_true, pick_false, none_at, known_value, known_from, new_at, took_more, taken_grown, both_true, second_true, second_false}

@@ -9,12 +9,12 @@ use Rattle.conn_core.specs.Past.{Past}
 use Rattle.server_events.specs.Events.{EventValue, WhatValue, opened, received, took, closed, tick, ended}
 use Rattle.served_instance.specs.declared.refusal.EventRefusal.{EventRefusal}
 use Rattle.served_instance.specs.declared.refusal.EventRefusal.TheVariants.{NoSuchConnection, ConnectionExists, TimeWentBack, TookTooMuch}
-use Rattle.served_instance.specs.Connections.{LoneConnection, open_at}
+use Rattle.served_instance.specs.Connections.{LoneConnection, AreApart, open_at}
 use Rattle.served_instance.specs.Lone.{Lone, sent_bytes_on, after_event}
 use Rattle.served_instance.specs.Refusals.{refusal_of, refusal_of_what, after_event_unless, lone_step}
 use Rattle.server_core.specs.Runs.{Run, refusals_at, run_step}
 use Rattle.server_core.specs.declared.record.OpenRecord.{OpenRecord}
-use Rattle.server_core.specs.Records.{RecordValue, StandsFor, AreApart}
+use Rattle.server_core.specs.Records.{RecordValue, StandsFor}
 use Rattle.server_core.specs.Notes.{open_records_after, sent_bytes_after, sent_bytes_with_all, record_after_noting}
 use Rattle.server_core.proofs.Growth.{AreGrown, connections_after, accepted_more}
 use Rattle.server_core.proofs.Changes.{known_from, known_after, known_grown}
@@ -56,6 +56,15 @@ length_sent : (ks : List LoneConnection) → length (map sent_bytes_on ks) ≡ l
 length_sent [] = refl
 length_sent (k ∷ ks) = ap suc (length_sent ks)
 
+pub noted_apart : (v : RecordValue) (r : Run) (e : EventValue) → StandsFor v r → refusal_of e r.lone ≡ None → AreApart (lone_step e r.lone).connections
+noted_apart v r e st none =
+    let ks = r.lone.connections in
+    let k1 = connections_after e.what ks in
+    let m : Lone = lone_step e r.lone in
+    let step : m ≡ after_event e r.lone = ap (after_event_unless e r.lone) none in
+    let grown : AreGrown k1 m.connections = subst (λ (n : Lone). AreGrown k1 n.connections) (sym step) (accepted_more e r.lone) in
+    apart_grown k1 m.connections grown (apart_after e.what ks (may e r.lone none) st.apart)
+
 pub noted : (v : RecordValue) (r : Run) (e : EventValue) (ss : List (ℕ × List ℕ)) (os : List OpenRecord) → StandsFor v r → refusal_of e r.lone ≡ None → ss ≡ sent_bytes_with_all (lone_step e r.lone) (open_records_after e.what (length v.sent) v.live) (sent_bytes_after e.what v.sent) → os ≡ map (record_after_noting (lone_step e r.lone)) (open_records_after e.what (length v.sent) v.live) → StandsFor (record { count = v.count + 1; refusals = v.refusals; sent = ss; live = os }) (run_step r e)
 noted v r e ss os st none ss_is os_is =
     let ks = r.lone.connections in
@@ -66,7 +75,7 @@ noted v r e ss os st none ss_is os_is =
     let grown : AreGrown k1 m.connections = subst (λ (n : Lone). AreGrown k1 n.connections) (sym step) (accepted_more e r.lone) in
     let can : May e.what ks = may e r.lone none in
     let fronts : AreFronts s1 m.connections = fronts_grown s1 k1 m.connections (fronts_after e.what ks (all_within ks st.taken) can) grown in
-    let apart : AreApart m.connections = apart_grown k1 m.connections grown (apart_after e.what ks can st.apart) in
+    let apart : AreApart m.connections = noted_apart v r e st none in
     let sent : sent_bytes_after e.what v.sent ≡ s1 = ap (sent_bytes_after e.what) st.sent in
     let size : length v.sent ≡ length ks = ap length st.sent ∙ length_sent ks in
     let known : open_records_after e.what (length v.sent) v.live ≡ known_from 0 s1 m.connections =

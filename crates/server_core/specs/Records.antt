@@ -1,9 +1,9 @@
 -- What is noted of an instance's run stands for the run.
-use Rattle.std.specs.Prelude.{◌≡◌, ◌≤◌, ◌+◌, ℕ, if◌then◌else◌, true, List, [], ◌∷◌, length, None}
+use Rattle.std.specs.Prelude.{◌≡◌, ◌≤◌, ◌+◌, ℕ, if◌then◌else◌, List, [], ◌∷◌, length}
 use Rattle.std.specs.List.{AllByRecursion}
 use Rattle.grpc_sending.specs.Bytes.{bytes_put, count_taken, untaken_count}
 use Rattle.served_instance.specs.declared.refusal.EventRefusal.{EventRefusal}
-use Rattle.served_instance.specs.Connections.{LoneConnection, open_ones, open_at}
+use Rattle.served_instance.specs.Connections.{LoneConnection, AreApart, open_ones}
 use Rattle.served_instance.specs.Lone.{all_sent_bytes}
 use Rattle.server_core.specs.declared.record.OpenRecord.{OpenRecord}
 use Rattle.server_core.specs.Runs.{Run}
@@ -27,11 +27,6 @@ open_from place (k ∷ ks) =
 -- no more was taken than was put
 abbrev pub IsTakenFrom : LoneConnection → Type 0
 IsTakenFrom k = count_taken k.past.history ≤ length (bytes_put k.past.history)
-
--- no two open connections have one number
-abbrev pub AreApart : List LoneConnection → Type 0
-AreApart [] = Unit {0}
-AreApart (k ∷ ks) = (k.is_open ≡ true → open_at k.number ks ≡ None) × AreApart ks
 
 pub record StandsFor (v : RecordValue) (r : Run) : Type 0 where
   pub count : v.count ≡ r.count

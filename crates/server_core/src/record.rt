@@ -3,6 +3,7 @@
 ghost use Rattle.std.specs.Prelude.{◌≡◌, ◌≢◌, ◌<◌, ◌+◌, ◌-◌, ◌^◌, ◌==◌, not, map, filter, length, drop, Result, Err, IfOk, OnOk, OnErr};
 ghost use Rattle.server_events.specs.Configs.{ConfigValue};
 ghost use Rattle.server_events.specs.Shown.{event_value, what_value};
+ghost use Rattle.served_instance.specs.Connections.{AreApart};
 ghost use Rattle.served_instance.specs.Lone.{Lone};
 ghost use Rattle.served_instance.specs.Refusals.{refusal_of, lone_step, IsOutcome};
 ghost use Rattle.served_instance.specs.Slots.{HasConnections};
@@ -180,28 +181,32 @@ fn gather(
     live: &[OpenRecord],
     instance: &ServedInstance,
 ) -> Result<(), AllocError>
-    ensures { OnOk result ((l : Lone) → HasConnections instance.now l
+    ensures { OnOk result ((l : Lone) → HasConnections instance.now l → AreApart l.connections
         → map sent_shown sent.new.items
         ≡ sent_bytes_with_all l live.now (map sent_shown sent.old.items)) }
 {
+    let mut at: usize = 0;
     for connection in live {
-        gather_from(sent, connection, instance)?;
+        gather_from(sent, connection, at, instance)?;
+        at = at.saturating_add(1);
     }
     Ok(())
 }
 
 /// Appends what was put on an open connection since the last event. In a record of a run no more is
-/// untaken than is pending.
+/// untaken than is pending, and the record's open connections are those of the instance, in their
+/// order.
 fn gather_from(
     sent: &mut Vec<SentBytes>,
     connection: &OpenRecord,
+    at: usize,
     instance: &ServedInstance,
 ) -> Result<(), AllocError>
-    ensures { OnOk result ((l : Lone) → HasConnections instance.now l
+    ensures { OnOk result ((l : Lone) → HasConnections instance.now l → AreApart l.connections
         → map sent_shown sent.new.items ≡ sent_bytes_with l (map sent_shown sent.old.items)
         connection.now) }
 {
-    match instance.pending(connection.number) {
+    match instance.pending_near(at, connection.number) {
         None => Ok(()),
         Some(pending) => append(
             sent,
@@ -225,20 +230,22 @@ fn append(sent: &mut Vec<SentBytes>, place: usize, more: &[u8]) -> Result<(), Al
 
 /// Counts on each open connection the bytes that were not taken.
 fn count_untaken(live: &mut [OpenRecord], instance: &ServedInstance)
-    ensures { (l : Lone) → HasConnections instance.now l →
-        live.new ≡ map (record_after_noting l) live.old }
+    ensures { (l : Lone) → HasConnections instance.now l → AreApart l.connections
+        → live.new ≡ map (record_after_noting l) live.old }
 {
+    let mut at: usize = 0;
     for connection in live.iter_mut() {
-        count_on(connection, instance);
+        count_on(connection, at, instance);
+        at = at.saturating_add(1);
     }
 }
 
 /// Counts the bytes of an open connection that were not taken.
-fn count_on(connection: &mut OpenRecord, instance: &ServedInstance)
-    ensures { (l : Lone) → HasConnections instance.now l
+fn count_on(connection: &mut OpenRecord, at: usize, instance: &ServedInstance)
+    ensures { (l : Lone) → HasConnections instance.now l → AreApart l.connections
         → connection.new ≡ record_after_noting l connection.old }
 {
     connection.untaken = instance
-        .pending(connection.number)
+        .pending_near(at, connection.number)
         .map_or(0, |pending| pending.len());
 }

@@ -9,6 +9,7 @@ use Rattle.message_fields.specs.Record.{Record}
 use Rattle.message_fields.specs.Fields.{string, octets, int32, embedded_value, repeated_values}
 use Rattle.message_fields.specs.Parts.{string_field, int32_field, embedded_field, repeated_field}
 use Rattle.message_fields.specs.Writing.{bytes_field}
+use Rattle.message_fields.specs.Pieces.{pieces_text}
 use Rattle.reapi_messages.specs.declared.batches.UpdateBlobRequest.{UpdateBlobRequest}
 use Rattle.reapi_messages.specs.declared.batches.BatchUpdateBlobsRequest.{BatchUpdateBlobsRequest}
 use Rattle.reapi_messages.specs.declared.batches.UpdateBlobResponse.{UpdateBlobResponse}
@@ -146,7 +147,7 @@ pub record ReadBlobResponseValue : Type 0 where
 abbrev pub read_blob_response_shown : ReadBlobResponse → ReadBlobResponseValue
 read_blob_response_shown m = record {
   digest = option_map digest_shown m.digest;
-  content = m.content.now;
+  content = pieces_text m.content;
   status = option_map status_shown m.status;
 }
 

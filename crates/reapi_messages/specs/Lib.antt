@@ -9,6 +9,7 @@ pub mod Errors
 pub use Rattle.message_fields.specs.Answers
 pub use Rattle.message_fields.specs.Fields
 pub use Rattle.message_fields.specs.Parts
+pub use Rattle.message_fields.specs.Pieces
 pub use Rattle.message_fields.specs.Again
 pub mod Digests
 pub mod FindMissing

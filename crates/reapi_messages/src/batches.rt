@@ -5,8 +5,8 @@ ghost use Rattle.std.specs.Prelude.{◌≡◌};
 use crate::digest::Digest;
 use crate::status::Status;
 use message_fields::{
-    Field, Message, MessageError, Writer, embedded, int32, octets, put_embedded, put_int32,
-    put_octets, put_repeated, put_string, repeated, string,
+    Field, Message, MessageError, Pieces, Writer, embedded, int32, octets, put_embedded, put_int32,
+    put_octets, put_pieces, put_repeated, put_string, repeated, string,
 };
 use std::alloc::{AllocError, Global};
 
@@ -190,8 +190,8 @@ impl<'a> Message<'a> for BatchReadBlobsRequest<'a> {
 #[derive(Drop)]
 pub struct ReadBlobResponse<'a> {
     pub digest: Option<Digest<'a>>,
-    /// The field `data`.
-    pub content: &'a [u8],
+    /// The field `data`. It is read as one piece.
+    pub content: Pieces<'a>,
     pub status: Option<Status<'a>>,
 }
 
@@ -210,7 +210,7 @@ impl<'a> Message<'a> for ReadBlobResponse<'a> {
     fn of_fields(alloc: Global, fields: &[Field<'a>]) -> Result<Self, MessageError> {
         Ok(ReadBlobResponse {
             digest: embedded(alloc, fields, 1)?,
-            content: octets(fields, 2),
+            content: Pieces::One(octets(fields, 2)),
             status: embedded(alloc, fields, 3)?,
         })
     }
@@ -218,7 +218,7 @@ impl<'a> Message<'a> for ReadBlobResponse<'a> {
     #[tactic(auto, using(crate::proofs::Texts::written_more))]
     fn write(&self, writer: &mut Writer) -> Result<(), AllocError> {
         put_embedded(writer, 1, &self.digest)?;
-        put_octets(writer, 2, self.content)?;
+        put_pieces(writer, 2, &self.content)?;
         put_embedded(writer, 3, &self.status)
     }
 }

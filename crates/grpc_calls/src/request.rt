@@ -43,7 +43,7 @@ pub fn head(headers: &Headers) -> Result<Method, HeadFault>
         Some(method) if method == b"POST".as_slice() => {}
         _ => return Err(HeadFault::Method),
     }
-    if !has_grpc_type(headers.as_slice()) {
+    if !has_grpc_type(headers) {
         return Err(HeadFault::ContentType);
     }
     match headers.find(b":path") {
@@ -52,27 +52,26 @@ pub fn head(headers: &Headers) -> Result<Method, HeadFault>
     }
 }
 
-fn is_content_type(field: &HeaderField) -> bool
+fn is_content_type(field: &HeaderField<'_>) -> bool
     ensures { result ≡ bytes_eq field.now.name (codes "content-type") }
 {
     field.name() == b"content-type".as_slice()
 }
 
-fn is_grpc_type(field: &HeaderField) -> bool
+fn is_grpc_type(field: &HeaderField<'_>) -> bool
     ensures { result ≡ is_grpc_type field.now }
 {
     is_content_type(field) && field.value().starts_with(b"application/grpc")
 }
 
-fn has_grpc_type(fields: &[HeaderField]) -> bool
-    ensures { result ≡ list_any is_grpc_type fields.now }
+fn has_grpc_type(headers: &Headers) -> bool
+    ensures { result ≡ list_any is_grpc_type headers.now }
 {
-    let mut left = fields;
-    'fields: while let [field, rest @ ..] = left {
-        if is_grpc_type(field) {
+    let mut left = headers.iter();
+    'fields: while let Some(field) = left.next() {
+        if is_grpc_type(&field) {
             return true;
         }
-        left = rest;
     }
     false
 }

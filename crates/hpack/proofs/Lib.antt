@@ -2,6 +2,7 @@ pub mod Writings
 pub mod Evictions
 pub mod Lookups
 pub mod Tools
+pub mod FieldLists
 pub mod Continuations
 pub mod Numbers
 pub mod Strings

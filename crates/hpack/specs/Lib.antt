@@ -1,4 +1,5 @@
 pub mod Header
+pub mod FieldLists
 pub mod Results
 pub mod Integer
 pub mod StringLiteral

@@ -7,12 +7,19 @@ ghost use Rattle.hpack.specs.Block.{update_at, updates_of, fields_of, block_of, 
 
 use crate::dynamic_table::{DynamicTable, LARGEST_TABLE};
 use crate::error::HpackError;
-use crate::header::HeaderField;
+use crate::headers::Headers;
 use crate::integer::read_integer;
 use crate::representation::read_field;
 
 /// The greatest size of a field list (RFC 9113, section 6.5.2).
 const LIST_LIMIT: usize = 65536;
+
+/// How many fields a field list has room for at first. Most requests have fewer, and so ask for
+/// memory once.
+const USUAL_FIELDS: usize = 32;
+
+/// The same for the octets of their names and values.
+const USUAL_OCTETS: usize = 1024;
 
 /// Whether the front is a size update (section 6.3).
 fn begins_update(bytes: &[u8]) -> bool
@@ -52,33 +59,32 @@ fn read_updates<'a>(table: &mut DynamicTable, bytes: &'a [u8]) -> Result<&'a [u8
 }
 
 /// Reads header fields to the end, as far as the field list may be large.
-fn read_fields(table: &mut DynamicTable, bytes: &[u8]) -> Result<Vec<HeaderField>, HpackError>
-    ensures { GivesInMemory (λ fields. (fields.items, table.new)) result
+fn read_fields(table: &mut DynamicTable, bytes: &[u8]) -> Result<Headers, HpackError>
+    ensures { GivesInMemory (λ fields. (fields, table.new)) result
         (fields_of list_limit table.old bytes.now) }
 {
-    let mut fields = Vec::new(table.allocator());
+    let mut lengths = Vec::with_capacity(table.allocator(), USUAL_FIELDS)?;
+    let mut text = Vec::with_capacity(table.allocator(), USUAL_OCTETS)?;
     let mut room = LIST_LIMIT;
     let mut left = bytes;
     'fields: while !left.is_empty() {
-        let (field, rest) = read_field(table, left)?;
+        let before = text.len();
+        let (field_lengths, rest) = read_field(table, left, &mut text)?;
+        let (field, _) = field_lengths.split(&text[before..]);
         let Some(after) = field.room_after(room) else {
             return Err(HpackError::ListTooLarge);
         };
-        fields.push(field)?;
+        lengths.push(field_lengths)?;
         room = after;
         left = rest;
     }
-    Ok(fields)
+    Ok(Headers::new(lengths, text))
 }
 
 /// The fields of a block, which may change the table.
 #[tactic(auto, unfolding(crate::specs::Block::block_of))]
-pub(crate) fn read_block(
-    table: &mut DynamicTable,
-    bytes: &[u8],
-) -> Result<Vec<HeaderField>, HpackError>
-    ensures { GivesInMemory (λ fields. (fields.items, table.new)) result
-        (block_of table.old bytes.now) }
+pub(crate) fn read_block(table: &mut DynamicTable, bytes: &[u8]) -> Result<Headers, HpackError>
+    ensures { GivesInMemory (λ fields. (fields, table.new)) result (block_of table.old bytes.now) }
 {
     let rest = read_updates(table, bytes)?;
     read_fields(table, rest)

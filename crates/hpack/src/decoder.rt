@@ -56,7 +56,7 @@ impl Decoder {
         };
         let fields = read_block(&mut table, bytes)?;
         self.table = Some(table);
-        Ok(Headers::new(fields))
+        Ok(fields)
     }
 
     /// The size of the dynamic table in octets (RFC 7541, section 4.1), or 0 after a refusal.

@@ -7,6 +7,7 @@ ghost use Rattle.hpack.specs.Header.{total_size};
 ghost use Rattle.hpack.specs.Table.{Table, longest_front, table_after_resize, table_after_insertion, header_by_index, header_at, table_size, new_table};
 ghost use Rattle.hpack.specs.Shown.{row_shown};
 
+use crate::entry::Entry;
 use crate::header::HeaderField;
 use crate::static_table::{STATIC_LENGTH, static_entry};
 use std::alloc::{AllocError, Global};
@@ -18,7 +19,7 @@ pub(crate) const LARGEST_TABLE: u32 = 4096;
 
 /// Drops the oldest entries until the others have at most `room` octets, and says how many these
 /// have.
-fn evict(entries: &mut VecDeque<HeaderField>, size: usize, room: usize) -> usize
+fn evict(entries: &mut VecDeque<Entry>, size: usize, room: usize) -> usize
     requires { size ≡ total_size entries.old.items }
     ensures entries { entries.new.items ≡ longest_front room entries.old.items }
     ensures size { result ≡ total_size entries.new.items }
@@ -37,7 +38,7 @@ fn evict(entries: &mut VecDeque<HeaderField>, size: usize, room: usize) -> usize
 }
 
 /// The entry at a place, the newest at 0.
-fn dynamic_entry(entries: &VecDeque<HeaderField>, place: usize) -> Option<&HeaderField>
+fn dynamic_entry(entries: &VecDeque<Entry>, place: usize) -> Option<&Entry>
     ensures { option_copied result ≡ slice_get entries.now.items place }
 {
     entries.get(place)
@@ -45,7 +46,7 @@ fn dynamic_entry(entries: &VecDeque<HeaderField>, place: usize) -> Option<&Heade
 
 /// The name and the value at an index of both tables.
 #[tactic(auto, using(crate::proofs::Lookups::indexed_dynamic, crate::proofs::Lookups::indexed_static))]
-fn entry_at(entries: &VecDeque<HeaderField>, index: u32) -> Option<(&[u8], &[u8])>
+fn entry_at(entries: &VecDeque<Entry>, index: u32) -> Option<(&[u8], &[u8])>
     ensures { option_map row_shown result ≡ header_by_index entries.now.items index }
 {
     if index == 0 {
@@ -56,7 +57,10 @@ fn entry_at(entries: &VecDeque<HeaderField>, index: u32) -> Option<(&[u8], &[u8]
         return Some(static_entry(place));
     }
     match dynamic_entry(entries, place - STATIC_LENGTH) {
-        Some(entry) => Some((entry.name(), entry.value())),
+        Some(entry) => {
+            let field = entry.field();
+            Some((field.name(), field.value()))
+        }
         None => None,
     }
 }
@@ -64,7 +68,7 @@ fn entry_at(entries: &VecDeque<HeaderField>, index: u32) -> Option<(&[u8], &[u8]
 /// Fields that came before, the newest first, within a maximum size.
 #[derive(Drop)]
 pub(crate) struct DynamicTable {
-    entries: VecDeque<HeaderField>,
+    entries: VecDeque<Entry>,
     size: usize,
     maximum: usize,
 }
@@ -119,7 +123,7 @@ impl DynamicTable {
     }
 
     /// Adds an entry (section 4.4). A refused table is as before.
-    pub(crate) fn insert(&mut self, field: &HeaderField) -> Result<(), AllocError>
+    pub(crate) fn insert(&mut self, field: &HeaderField<'_>) -> Result<(), AllocError>
         ensures ok { OnOk result (self.new ≡ table_after_insertion field.now self.old) }
         ensures err { OnErr result (self.new ≡ self.old) }
     {
@@ -129,7 +133,7 @@ impl DynamicTable {
             return Ok(());
         };
         self.entries.reserve(1)?;
-        let entry = field.copy(*self.entries.allocator())?;
+        let entry = Entry::copy_of(field, *self.entries.allocator())?;
         self.size = evict(&mut self.entries, self.size, room) + field.size();
         self.entries.push_front_reserved(entry);
         Ok(())

@@ -1,65 +1,45 @@
 //! Header fields: RFC 7541, section 1.3.
 
-ghost use Rattle.std.specs.Prelude.{◌≡◌, ◌+◌, ◌-◌, ◌^◌, ◌<◌, ◌≤◌, length, IfOk, Option, Some, None};
+ghost use Rattle.std.specs.Prelude.{◌≡◌, ◌-◌, ◌^◌, ◌<◌, ◌≤◌};
 ghost use Rattle.std.specs.Option.{SomeIff};
-ghost use Rattle.hpack.specs.Header.{Header, size_of};
+ghost use Rattle.hpack.specs.Header.{size_of};
 
-use std::alloc::{AllocError, Global};
 use std::marker::Model;
 
 /// A header field: a name and a value, each any sequence of octets.
 #[derive(Drop)]
-pub struct HeaderField {
-    name: Vec<u8>,
-    value: Vec<u8>,
+pub struct HeaderField<'a> {
+    name: &'a [u8],
+    value: &'a [u8],
 }
 
-impl Model for HeaderField {
+impl<'a> Model for HeaderField<'a> {
     ghost use Rattle.hpack.specs.Header.{Header};
 
     ghost Value = { Header };
 
-    ghost view = { λ h. record { name = h.name.items; value = h.value.items } };
+    ghost view = { λ h. record { name = h.name.now; value = h.value.now } };
 }
 
-impl HeaderField {
-    pub(crate) fn new(name: Vec<u8>, value: Vec<u8>) -> HeaderField
-        ensures { result ≡ record { name = name.items; value = value.items } }
+impl<'a> HeaderField<'a> {
+    pub(crate) fn new(name: &'a [u8], value: &'a [u8]) -> HeaderField<'a>
+        ensures { result ≡ record { name = name.now; value = value.now } }
     {
         HeaderField { name, value }
     }
 
     /// The name.
-    pub fn name(&self) -> &[u8]
+    pub fn name(&self) -> &'a [u8]
         ensures { result.now ≡ self.now.name }
     {
-        self.name.as_slice()
+        self.name
     }
 
     /// The value.
-    pub fn value(&self) -> &[u8]
+    pub fn value(&self) -> &'a [u8]
         ensures { result.now ≡ self.now.value }
     {
-        self.value.as_slice()
-    }
-
-    pub(crate) fn from_slices(
-        alloc: Global,
-        name: &[u8],
-        value: &[u8],
-    ) -> Result<HeaderField, AllocError>
-        ensures { IfOk result (λ field. field ≡ record { name = name.now; value = value.now }) }
-    {
-        Ok(HeaderField {
-            name: Vec::from_slice(alloc, name)?,
-            value: Vec::from_slice(alloc, value)?,
-        })
-    }
-
-    pub(crate) fn copy(&self, alloc: Global) -> Result<HeaderField, AllocError>
-        ensures { IfOk result (λ copy. copy ≡ self.now) }
-    {
-        HeaderField::from_slices(alloc, &self.name, &self.value)
+        self.value
     }
 
     /// The room that the field leaves of some octets, if it fits there.

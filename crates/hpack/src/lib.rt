@@ -5,6 +5,7 @@ mod block;
 mod decoder;
 mod dynamic_table;
 mod encoder;
+mod entry;
 mod error;
 mod header;
 mod headers;
@@ -18,7 +19,7 @@ pub use decoder::Decoder;
 pub use encoder::{Field, Position, encode_into};
 pub use error::HpackError;
 pub use header::HeaderField;
-pub use headers::Headers;
+pub use headers::{HeaderIter, Headers};
 pub use laws::{
     reading_is_the_grammar, refusal_is_the_first_fault, server_blocks_are_read_back,
     the_limit_is_on_the_fields, the_longest_front_is_kept,

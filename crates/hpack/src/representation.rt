@@ -1,97 +1,132 @@
 //! Representations of header fields: RFC 7541, section 6.
 
-ghost use Rattle.std.specs.Prelude.{◌≡◌, ◌≤◌};
+ghost use Rattle.std.specs.Prelude.{◌≡◌, ◌+◌, ◌≤◌, length, IfOk, OnOk};
 ghost use Rattle.hpack.specs.Results.{GivesInMemory};
+ghost use Rattle.hpack.specs.FieldLists.{header_in, text_behind, BeginsWith};
 ghost use Rattle.hpack.specs.Representation.{name_at, literal_at, indexed_at, field_at};
 
 use crate::dynamic_table::DynamicTable;
 use crate::error::HpackError;
-use crate::header::HeaderField;
+use crate::headers::FieldLengths;
 use crate::integer::read_integer;
 use crate::string::read_string;
-use std::alloc::Global;
 
-/// The name at the front, and what follows it.
-#[tactic(auto, unfolding(crate::specs::Representation::name_at))]
+/// Adds the name at the front, and gives what follows it.
+#[tactic(auto, unfolding(crate::specs::Representation::name_at), using(crate::proofs::FieldLists::behind_is, crate::proofs::FieldLists::begins))]
 fn read_name<'a>(
-    alloc: Global,
     table: &DynamicTable,
     full: u8,
     prefix: u8,
     bytes: &'a [u8],
-) -> Result<(Vec<u8>, &'a [u8]), HpackError>
+    out: &mut Vec<u8>,
+) -> Result<&'a [u8], HpackError>
     requires { prefix ≤ full }
-    ensures { GivesInMemory (λ x. (x.0.items, x.1.now)) result
-        (name_at table.now full prefix bytes.now) }
+    ensures name { GivesInMemory (λ rest. (text_behind out.old.items out.new.items, rest.now))
+        result (name_at table.now full prefix bytes.now) }
+    ensures front { OnOk result (BeginsWith out.old.items out.new.items) }
 {
     let (index, rest) = read_integer(full, prefix, bytes)?;
     if index == 0 {
-        return read_string(alloc, rest);
+        return read_string(rest, out);
     }
     match table.get(index) {
-        Some((name, _)) => Ok((Vec::from_slice(alloc, name)?, rest)),
+        Some((name, _)) => {
+            out.extend_from_slice(name)?;
+            Ok(rest)
+        }
         None => Err(HpackError::Index),
     }
 }
 
-/// The literal at the front, and what follows it (section 6.2).
+/// Adds the name and the value of the literal at the front, and gives their lengths and what
+/// follows it (section 6.2).
 #[tactic(auto, unfolding(crate::specs::Representation::literal_at))]
 fn read_literal<'a>(
-    alloc: Global,
     table: &DynamicTable,
     full: u8,
     prefix: u8,
     bytes: &'a [u8],
-) -> Result<(HeaderField, &'a [u8]), HpackError>
+    out: &mut Vec<u8>,
+) -> Result<(FieldLengths, &'a [u8]), HpackError>
     requires { prefix ≤ full }
-    ensures { GivesInMemory (λ x. (x.0, x.1.now)) result
+    ensures field { GivesInMemory
+        (λ x. (header_in x.0 (text_behind out.old.items out.new.items), x.1.now)) result
         (literal_at table.now full prefix bytes.now) }
+    ensures front { OnOk result (BeginsWith out.old.items out.new.items) }
+    ensures whole { IfOk result (λ x. x.0.name + x.0.value
+        ≡ length (text_behind out.old.items out.new.items)) }
 {
-    let (name, rest) = read_name(alloc, table, full, prefix, bytes)?;
-    let (value, rest) = read_string(alloc, rest)?;
-    Ok((HeaderField::new(name, value), rest))
+    let before = out.len();
+    let rest = read_name(table, full, prefix, bytes, out)?;
+    let between = out.len();
+    let rest = read_string(rest, out)?;
+    let lengths = FieldLengths {
+        name: between - before,
+        value: out.len() - between,
+    };
+    Ok((lengths, rest))
 }
 
-/// The field of the index at the front, and what follows it (section 6.1).
+/// Adds the name and the value of the field of the index at the front, and gives their lengths and
+/// what follows it (section 6.1).
 #[tactic(auto, unfolding(crate::specs::Representation::indexed_at))]
 fn read_indexed<'a>(
-    alloc: Global,
     table: &DynamicTable,
     prefix: u8,
     bytes: &'a [u8],
-) -> Result<(HeaderField, &'a [u8]), HpackError>
+    out: &mut Vec<u8>,
+) -> Result<(FieldLengths, &'a [u8]), HpackError>
     requires { prefix ≤ 127 }
-    ensures { GivesInMemory (λ x. (x.0, x.1.now)) result (indexed_at table.now prefix bytes.now) }
+    ensures field { GivesInMemory
+        (λ x. (header_in x.0 (text_behind out.old.items out.new.items), x.1.now)) result
+        (indexed_at table.now prefix bytes.now) }
+    ensures front { OnOk result (BeginsWith out.old.items out.new.items) }
+    ensures whole { IfOk result (λ x. x.0.name + x.0.value
+        ≡ length (text_behind out.old.items out.new.items)) }
 {
     let (index, rest) = read_integer(127, prefix, bytes)?;
-    match table.get(index) {
-        Some((name, value)) => Ok((HeaderField::from_slices(alloc, name, value)?, rest)),
-        None => Err(HpackError::Index),
-    }
+    let Some((name, value)) = table.get(index) else {
+        return Err(HpackError::Index);
+    };
+    out.extend_from_slice(name)?;
+    out.extend_from_slice(value)?;
+    let lengths = FieldLengths {
+        name: name.len(),
+        value: value.len(),
+    };
+    Ok((lengths, rest))
 }
 
-/// The header field at the front, which may change the table, and what follows it.
+/// Adds the name and the value of the header field at the front, which may change the table, and
+/// gives their lengths and what follows it.
 #[tactic(auto, unfolding(crate::specs::Representation::field_at))]
 pub(crate) fn read_field<'a>(
     table: &mut DynamicTable,
     bytes: &'a [u8],
-) -> Result<(HeaderField, &'a [u8]), HpackError>
-    ensures { GivesInMemory (λ x. (x.0, table.new, x.1.now)) result (field_at table.old bytes.now) }
+    out: &mut Vec<u8>,
+) -> Result<(FieldLengths, &'a [u8]), HpackError>
+    ensures field { GivesInMemory
+        (λ x. (header_in x.0 (text_behind out.old.items out.new.items), table.new, x.1.now)) result
+        (field_at table.old bytes.now) }
+    ensures front { OnOk result (BeginsWith out.old.items out.new.items) }
+    ensures whole { IfOk result (λ x. x.0.name + x.0.value
+        ≡ length (text_behind out.old.items out.new.items)) }
 {
-    let alloc = table.allocator();
     match bytes {
         [] => Err(HpackError::Index),
-        [first @ 0..=15, rest @ ..] => read_literal(alloc, table, 15, *first, rest),
-        [first @ 16..=31, rest @ ..] => read_literal(alloc, table, 15, *first - 16, rest),
+        [first @ 0..=15, rest @ ..] => read_literal(table, 15, *first, rest, out),
+        [first @ 16..=31, rest @ ..] => read_literal(table, 15, *first - 16, rest, out),
         [first @ 32..=63, rest @ ..] => {
             read_integer(31, *first - 32, rest)?;
             Err(HpackError::SizeUpdate)
         }
         [first @ 64..=127, rest @ ..] => {
-            let (field, rest) = read_literal(alloc, table, 63, *first - 64, rest)?;
+            let before = out.len();
+            let (lengths, rest) = read_literal(table, 63, *first - 64, rest, out)?;
+            let (field, _) = lengths.split(&out[before..]);
             table.insert(&field)?;
-            Ok((field, rest))
+            Ok((lengths, rest))
         }
-        [first, rest @ ..] => read_indexed(alloc, table, *first - 128, rest),
+        [first, rest @ ..] => read_indexed(table, *first - 128, rest, out),
     }
 }

@@ -2,12 +2,13 @@
 
 ghost use Rattle.std.specs.Prelude.{◌≡◌, ◌++◌, OnOk};
 ghost use Rattle.hpack.specs.Results.{Gives, GivesInMemory};
+ghost use Rattle.hpack.specs.FieldLists.{text_behind, BeginsWith};
 ghost use Rattle.hpack.specs.StringLiteral.{octets_at, expansion, string_at, string_text};
 
 use crate::error::HpackError;
 use crate::integer::{push_integer, read_integer};
 use hpack_huffman::{HuffmanError, decode_into};
-use std::alloc::{AllocError, Global};
+use std::alloc::AllocError;
 
 /// The first `count` octets, and what follows them.
 fn split(count: u32, bytes: &[u8]) -> Result<(&[u8], &[u8]), HpackError>
@@ -19,34 +20,40 @@ fn split(count: u32, bytes: &[u8]) -> Result<(&[u8], &[u8]), HpackError>
     Ok(bytes.split_at(count as usize))
 }
 
-/// The text of a Huffman coding.
-fn expand(alloc: Global, coding: &[u8]) -> Result<Vec<u8>, HpackError>
-    ensures { GivesInMemory (λ text. text.items) result (expansion coding.now) }
+/// Adds the text of a Huffman coding.
+#[tactic(auto, using(crate::proofs::FieldLists::behind_is, crate::proofs::FieldLists::begins))]
+fn expand(coding: &[u8], out: &mut Vec<u8>) -> Result<(), HpackError>
+    ensures text { GivesInMemory (λ _. text_behind out.old.items out.new.items) result
+        (expansion coding.now) }
+    ensures front { OnOk result (BeginsWith out.old.items out.new.items) }
 {
-    let mut text = Vec::new(alloc);
-    match decode_into(coding, &mut text) {
-        Ok(()) => Ok(text),
+    match decode_into(coding, out) {
+        Ok(()) => Ok(()),
         Err(HuffmanError::NoMemory) => Err(HpackError::NoMemory),
         Err(_) => Err(HpackError::Huffman),
     }
 }
 
-/// The string at the front, and what follows it.
-#[tactic(auto, unfolding(crate::specs::StringLiteral::string_at))]
-pub(crate) fn read_string(alloc: Global, bytes: &[u8]) -> Result<(Vec<u8>, &[u8]), HpackError>
-    ensures { GivesInMemory (λ x. (x.0.items, x.1.now)) result (string_at bytes.now) }
+/// Adds the string at the front, and gives what follows it.
+#[tactic(auto, unfolding(crate::specs::StringLiteral::string_at), using(crate::proofs::FieldLists::behind_is, crate::proofs::FieldLists::begins))]
+pub(crate) fn read_string<'a>(bytes: &'a [u8], out: &mut Vec<u8>) -> Result<&'a [u8], HpackError>
+    ensures text { GivesInMemory (λ rest. (text_behind out.old.items out.new.items, rest.now))
+        result (string_at bytes.now) }
+    ensures front { OnOk result (BeginsWith out.old.items out.new.items) }
 {
     match bytes {
         [] => Err(HpackError::String),
         [first @ 0..=127, rest @ ..] => {
             let (count, rest) = read_integer(127, *first, rest)?;
             let (text, rest) = split(count, rest)?;
-            Ok((Vec::from_slice(alloc, text)?, rest))
+            out.extend_from_slice(text)?;
+            Ok(rest)
         }
         [first, rest @ ..] => {
             let (count, rest) = read_integer(127, *first - 128, rest)?;
             let (coding, rest) = split(count, rest)?;
-            Ok((expand(alloc, coding)?, rest))
+            expand(coding, out)?;
+            Ok(rest)
         }
     }
 }

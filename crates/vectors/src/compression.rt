@@ -42,7 +42,7 @@ fn show_text(bytes: &[u8], out: &mut Vec<u8>) -> io::Result<()> {
 
 /// Writes whether fields are a request's, and which call's.
 fn show_request(headers: &Headers, out: &mut Vec<u8>) -> io::Result<()> {
-    let request = match is_well_formed_request(headers.as_slice()) {
+    let request = match is_well_formed_request(headers) {
         true => "request",
         false => "no-request",
     };
@@ -61,7 +61,7 @@ fn show_request(headers: &Headers, out: &mut Vec<u8>) -> io::Result<()> {
 
 /// Writes the first eight fields.
 fn show_fields(headers: &Headers, out: &mut Vec<u8>) -> io::Result<()> {
-    for field in headers.as_slice().iter().take(8) {
+    for field in headers.iter().take(8) {
         out.extend_from_slice(b" | ")?;
         show_text(field.name(), out)?;
         out.push(b'=')?;

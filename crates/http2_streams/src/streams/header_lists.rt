@@ -104,7 +104,7 @@ impl Streams {
         if self.live.len() >= MAX_STREAMS {
             return self.stream_error(stream, ErrorCode::RefusedStream);
         }
-        if !http2_headers::is_well_formed_request(fields.as_slice()) {
+        if !http2_headers::is_well_formed_request(&fields) {
             return self.stream_error(stream, ErrorCode::ProtocolError);
         }
         self.open(stream, end_stream);

@@ -1,0 +1,25 @@
+-- How a field list is kept: all names and values in one text, and how many octets each of them has.
+use Rattle.std.specs.Prelude.{◌≡◌, ℕ, ◌+◌, List, [], ◌∷◌, ◌++◌, length, take, drop}
+use Rattle.hpack.specs.declared.headers.FieldLengths.{FieldLengths}
+use Rattle.hpack.specs.Header.{Header}
+
+-- the field of these lengths at the front of a text
+abbrev pub header_in : FieldLengths → List ℕ → Header
+header_in l text = record { name = take l.name text; value = take l.value (drop l.name text) }
+
+-- the fields of these lengths, one after another
+abbrev pub headers_in : List FieldLengths → List ℕ → List Header
+headers_in [] text = []
+headers_in (l ∷ ls) text = header_in l text ∷ headers_in ls (drop l.value (drop l.name text))
+
+abbrev pub total_length : List FieldLengths → ℕ
+total_length [] = 0
+total_length (l ∷ ls) = l.name + l.value + total_length ls
+
+-- what stands in a text behind the one that it was before
+abbrev pub text_behind : List ℕ → List ℕ → List ℕ
+text_behind before text = drop (length before) text
+
+-- a text begins with another
+abbrev pub BeginsWith : List ℕ → List ℕ → Type 0
+BeginsWith front text = text ≡ front ++ text_behind front text

@@ -1,5 +1,7 @@
-ghost use Rattle.std.specs.Prelude.{◌≡◌, ◌≤◌, ◌<◌, ℕ, List, map, OnOk, OnErr, IfOk, IfSome};
+ghost use Rattle.std.specs.Prelude.{◌≡◌, ◌≤◌, ◌<◌, ℕ, List, map, option_map, OnOk, OnErr, IfOk, IfSome};
+ghost use Rattle.std.specs.List.{flat_map};
 ghost use Rattle.reapi_messages.specs.Batches.{read_blob_response_shown};
+ghost use Rattle.reapi_messages.specs.Pieces.{pieces_text};
 ghost use Rattle.instance_view.specs.Visible.{visible_text};
 ghost use Rattle.blob_pool.specs.Slots.{Slots, count_at, text_at};
 ghost use Rattle.instance_view.specs.Shown.{visible_in, holders, holders_seen, text_seen};
@@ -8,16 +10,20 @@ ghost use Rattle.cas_service.specs.Answers.{Answers};
 ghost use Rattle.cas_service.specs.Changes.{visible_after_changes};
 ghost use Rattle.cas_service.specs.Requests.{digest_value, batch_size_check};
 ghost use Rattle.cas_service.specs.BatchRead.{digests_to_read, stated_size, read_response, read_reply, batch_read_reply, batch_read_changes};
-ghost use Rattle.cas_service.specs.Shown.{asked_digest, digest_as_sent, asked_of, bytes_found, text_found, response_of, AreFound};
+ghost use Rattle.cas_service.specs.Shown.{asked_digest, digest_as_sent, read_response_for};
 
 use crate::error::CallError;
 use crate::requests::{
     Asked, MOST_BATCH_BYTES, check_function, check_instance, read_digests, use_all,
 };
 use crate::statuses::{ok_status, refused_status};
-use blob_pool::{Kept, Pool, keep};
-use instance_view::{Seen, View, copy_of};
-use reapi_messages::{BatchReadBlobsRequest, BatchReadBlobsResponse, Message, ReadBlobResponse};
+use blob_pool::{Hold, Kept, Pool, keep};
+use digest::Digest;
+use instance_view::{Seen, View};
+use paged_text::PAGE_BYTES;
+use reapi_messages::{
+    BatchReadBlobsRequest, BatchReadBlobsResponse, Message, Pieces, ReadBlobResponse,
+};
 use rpc::Refusal;
 use std::alloc::{AllocError, Global};
 
@@ -57,20 +63,6 @@ fn read_request<'a>(
     Ok(asked)
 }
 
-/// A text of the pool: where it lies in one page, or a copy of several.
-#[derive(Drop)]
-pub enum FoundText<'a> {
-    Page(&'a [u8]),
-    Copy(Vec<u8>),
-}
-
-/// A digest that is asked for, and its text where there is one.
-#[derive(Drop)]
-pub struct Found<'a> {
-    pub asked: Asked<'a>,
-    pub text: Option<FoundText<'a>>,
-}
-
 /// Where a text lies, if it is in one page.
 fn page_of(pool: &Pool, kept: Kept) -> Option<&[u8]>
     requires { 0 < count_at pool.now kept }
@@ -87,103 +79,123 @@ fn page_of(pool: &Pool, kept: Kept) -> Option<&[u8]>
     }
 }
 
-fn text_of<'a>(alloc: Global, pool: &'a Pool, seen: Seen) -> Result<FoundText<'a>, AllocError>
-    requires { (k : ℕ) → holders_seen seen k ≤ count_at pool.now k }
-    ensures { IfOk result (λ text. bytes_found text ≡ text_seen pool.now seen) }
+/// The pages of a text that is held, in order.
+fn pages_held<'a>(alloc: Global, pool: &'a Pool, hold: &Hold) -> Result<Vec<&'a [u8]>, AllocError>
+    requires { 0 < count_at pool.now hold.now }
+    ensures { IfOk result (λ pages. flat_map (λ p. p.now) pages.items
+        ≡ text_at pool.now hold.now) }
 {
-    if let Seen::Text(kept) = seen {
-        if let Some(page) = page_of(pool, kept) {
-            return Ok(FoundText::Page(page));
-        }
+    let length = pool.length(hold);
+    let mut pages = Vec::with_capacity(alloc, (length / PAGE_BYTES as u64) as usize + 1)?;
+    let mut from = 0;
+    'pages: while from < length {
+        let page = pool.part(hold, from, u32::MAX);
+        pages.push(page)?;
+        from += page.len() as u64;
     }
-    Ok(FoundText::Copy(copy_of(alloc, pool, seen)?))
+    Ok(pages)
 }
 
-/// What there is of a digest.
+/// The pages of a text, in order.
+fn pages_of<'a>(alloc: Global, pool: &'a Pool, kept: Kept) -> Result<Vec<&'a [u8]>, AllocError>
+    requires { 0 < count_at pool.now kept }
+    ensures { IfOk result (λ pages. flat_map (λ p. p.now) pages.items ≡ text_at pool.now kept) }
+{
+    let hold = pool.back(kept);
+    let pages = pages_held(alloc, pool, &hold);
+    let _ = keep(hold);
+    pages
+}
+
+/// Where a text lies. No byte of it is copied.
+fn pieces_of<'a>(alloc: Global, pool: &'a Pool, seen: Seen) -> Result<Pieces<'a>, AllocError>
+    requires { (k : ℕ) → holders_seen seen k ≤ count_at pool.now k }
+    ensures { IfOk result (λ pieces. pieces_text pieces ≡ text_seen pool.now seen) }
+{
+    let Seen::Text(kept) = seen else {
+        return Ok(Pieces::One(&[]));
+    };
+    if let Some(page) = page_of(pool, kept) {
+        return Ok(Pieces::One(page));
+    }
+    Ok(Pieces::Several(pages_of(alloc, pool, kept)?))
+}
+
+/// Where the text of a digest lies, if there is one.
 fn find<'a>(
     alloc: Global,
     view: &View,
     pool: &'a Pool,
-    asked: &Asked<'a>,
-) -> Result<Found<'a>, AllocError>
+    digest: &Digest,
+) -> Result<Option<Pieces<'a>>, AllocError>
     requires { (k : ℕ) → holders view.now k ≤ count_at pool.now k }
-    ensures asked { IfOk result (λ found. found.asked ≡ asked.now) }
-    ensures text { IfOk result (λ found. text_found found
-        ≡ visible_text asked.now.digest (visible_in pool.now view.now)) }
+    ensures { IfOk result (λ found. option_map pieces_text found
+        ≡ visible_text digest.now (visible_in pool.now view.now)) }
 {
-    let text = match view.get(&asked.digest) {
-        Some(seen) => Some(text_of(alloc, pool, seen)?),
-        None => None,
-    };
-    Ok(Found {
-        asked: *asked,
-        text,
-    })
+    match view.get(digest) {
+        Some(seen) => Ok(Some(pieces_of(alloc, pool, seen)?)),
+        None => Ok(None),
+    }
 }
 
-/// What there is of each digest, in order.
-fn find_all<'a>(
+/// The response that gives a text, or says that there is none.
+fn response_with<'a>(
     alloc: Global,
-    view: &View,
-    pool: &'a Pool,
-    asked: &[Asked<'a>],
-) -> Result<Vec<Found<'a>>, AllocError>
-    requires { (k : ℕ) → holders view.now k ≤ count_at pool.now k }
-    ensures { IfOk result (λ found. AreFound (visible_in pool.now view.now) asked.now found.items) }
-{
-    let mut found = Vec::with_capacity(alloc, asked.len())?;
-    let mut left = asked;
-    'digests: while let [first, rest @ ..] = left {
-        let one = find(alloc, view, pool, first)?;
-        found.push(one)?;
-        left = rest;
-    }
-    Ok(found)
-}
-
-fn bytes_of<'a>(text: &'a FoundText<'a>) -> &'a [u8]
-    ensures { result.now ≡ bytes_found text.now }
-{
-    match text {
-        FoundText::Page(page) => page,
-        FoundText::Copy(bytes) => bytes.as_slice(),
-    }
-}
-
-/// The text of a digest, or that there is none.
-fn response_to<'a>(alloc: Global, found: &'a Found<'a>) -> ReadBlobResponse<'a>
-    requires written { digest_as_sent found.now.asked ≡ digest_value found.now.asked.digest }
+    asked: &Asked<'a>,
+    found: Option<Pieces<'a>>,
+) -> ReadBlobResponse<'a>
+    requires { digest_as_sent asked.now ≡ digest_value asked.now.digest }
     ensures { read_blob_response_shown result
-        ≡ read_response found.now.asked.digest (text_found found.now) }
+        ≡ read_response asked.now.digest (option_map pieces_text found.entry) }
 {
-    match &found.text {
-        Some(text) => ReadBlobResponse {
-            digest: Some(found.asked.sent),
-            content: bytes_of(text),
+    match found {
+        Some(content) => ReadBlobResponse {
+            digest: Some(asked.sent),
+            content,
             status: Some(ok_status(alloc)),
         },
         None => ReadBlobResponse {
-            digest: Some(found.asked.sent),
-            content: &[],
+            digest: Some(asked.sent),
+            content: Pieces::One(&[]),
             status: Some(refused_status(alloc, Refusal::BlobNotFound)),
         },
     }
 }
 
+/// The response to a digest.
+fn response_to<'a>(
+    alloc: Global,
+    view: &View,
+    pool: &'a Pool,
+    asked: &Asked<'a>,
+) -> Result<ReadBlobResponse<'a>, AllocError>
+    requires held { (k : ℕ) → holders view.now k ≤ count_at pool.now k }
+    requires written { digest_as_sent asked.now ≡ digest_value asked.now.digest }
+    ensures { IfOk result (λ response. read_blob_response_shown response
+        ≡ read_response_for (visible_in pool.now view.now) asked.now.digest) }
+{
+    let found = find(alloc, view, pool, &asked.digest)?;
+    Ok(response_with(alloc, asked, found))
+}
+
 /// A response to each digest, in order.
 fn responses_to<'a>(
     alloc: Global,
-    found: &'a [Found<'a>],
+    view: &View,
+    pool: &'a Pool,
+    asked: &[Asked<'a>],
 ) -> Result<Vec<ReadBlobResponse<'a>>, AllocError>
-    requires written { map digest_as_sent (map asked_of found.now)
-        ≡ map digest_value (map asked_digest (map asked_of found.now)) }
+    requires held { (k : ℕ) → holders view.now k ≤ count_at pool.now k }
+    requires written { map digest_as_sent asked.now
+        ≡ map digest_value (map asked_digest asked.now) }
     ensures { IfOk result (λ responses. map read_blob_response_shown responses.items
-        ≡ map response_of found.now) }
+        ≡ map (read_response_for (visible_in pool.now view.now)) (map asked_digest asked.now)) }
 {
-    let mut responses = Vec::with_capacity(alloc, found.len())?;
-    let mut left = found;
+    let mut responses = Vec::with_capacity(alloc, asked.len())?;
+    let mut left = asked;
     'digests: while let [first, rest @ ..] = left {
-        responses.push(response_to(alloc, first))?;
+        let response = response_to(alloc, view, pool, first)?;
+        responses.push(response)?;
         left = rest;
     }
     Ok(responses)
@@ -202,8 +214,7 @@ fn reply_to<'a>(
     ensures { IfOk result (λ reply. reply.items
         ≡ read_reply (visible_in pool.now view.now) (map asked_digest asked.now)) }
 {
-    let found = find_all(alloc, view, pool, asked)?;
-    let responses = responses_to(alloc, &found)?;
+    let responses = responses_to(alloc, view, pool, asked)?;
     let response = BatchReadBlobsResponse { responses };
     response.encode(alloc)
 }

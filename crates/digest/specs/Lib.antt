@@ -1,4 +1,5 @@
 pub mod Naming
 pub mod Text
 pub mod Digits
+pub mod Hashed
 pub mod Hashing

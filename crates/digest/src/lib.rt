@@ -8,11 +8,12 @@ ghost use Rattle.digest.specs.Text.{IsWritten, digest_in, hash_in, unsigned_of};
 ghost use Rattle.digest.specs.Digits.{AreDigitValues, lower_digit_value, lower_pair};
 ghost use Rattle.digest.specs.Hashing.{Holds};
 
-use sha2::{Digest as Hash, Sha256};
+use sha2::{Digest as Sha, Sha256};
+use std::hash::{Hash, Hasher as TableHasher};
 use std::marker::Model;
 
 /// The SHA-256 (FIPS 180-4) and the length in bytes of a blob.
-#[derive(Clone, Copy, PartialEq, Eq, Hash)]
+#[derive(Clone, Copy, PartialEq, Eq)]
 pub struct Digest {
     pub hash: [u8; 32],
     pub size: u64,
@@ -47,6 +48,20 @@ impl Digest {
         ensures { result ≡ is_empty_digest self.now }
     {
         self.size == 0 && is_same(self, &Digest::of(&[]))
+    }
+}
+
+// The bytes of the SHA-256 are written at once, and not one by one as an array's are.
+impl Hash for Digest {
+    ghost use Rattle.digest.specs.Hashed.{hash_writes, hashed_alike};
+
+    ghost hash_input = { hash_writes };
+
+    ghost respects_eq = { hashed_alike.fed };
+
+    fn hash<H: TableHasher>(&self, state: &mut H) {
+        state.write(&self.hash);
+        state.write_u64(self.size);
     }
 }
 

@@ -1,21 +1,20 @@
 //! Serves clients over fake sockets and over real ones, and compares what each is sent with what
 //! its instance gives alone.
 //!
-//! Each line of standard input is what a client sends, in hexadecimal. It writes a line for each
-//! case.
-#![tactic(auto)]
+//! Each line is what a client sends, in hexadecimal. A line is written for each seed, by which the
+//! fake sockets cut and fail, and one for the real ones.
 
 mod alone;
 mod fake;
 mod peers;
 
-use crate::alone::{Outcome, configs, judge};
-use crate::fake::{Client, Fake, Habits};
-use crate::peers::serve_peers;
-use program_status::read_all;
+use crate::sockets::alone::{Outcome, configs_of_two, judge};
+use crate::sockets::fake::{Client, Fake, Habits};
+use crate::sockets::peers::serve_peers;
+use program_status::Status;
 use serve::{Sockets, serve};
 use std::alloc::Global;
-use std::io::{self, BufWriter, ErrorKind, Write};
+use std::io::{self, ErrorKind, Write};
 
 /// How many turns a case takes.
 const TURNS: u64 = 2_000;
@@ -34,8 +33,22 @@ fn texts(alloc: Global, input: &[u8]) -> io::Result<Vec<Vec<u8>>> {
     Ok(texts)
 }
 
-/// Serves so many clients with these habits, of which every fourth is one of instance 1, and tells
-/// what came of it.
+/// So many clients, of which every fourth is one of instance 1 where they are not steady.
+fn clients(
+    alloc: Global,
+    texts: &[Vec<u8>],
+    count: usize,
+    is_steady: bool,
+) -> io::Result<Vec<Client>> {
+    let mut clients = Vec::new(alloc);
+    for place in 0..count {
+        let instance = u32::from(!is_steady && place % 4 == 0);
+        clients.push(Client::new(alloc, instance, place % texts.len().max(1)))?;
+    }
+    Ok(clients)
+}
+
+/// Serves so many clients with these habits, and tells what came of it.
 fn case<O: Write>(
     alloc: Global,
     texts: &[Vec<u8>],
@@ -43,31 +56,32 @@ fn case<O: Write>(
     habits: Habits,
     output: &mut O,
 ) -> io::Result<()> {
-    let mut clients = Vec::new(alloc);
-    for place in 0..count {
-        let instance = if habits.is_steady || place % 4 > 0 {
-            0
-        } else {
-            1
-        };
-        clients.push(Client::new(alloc, instance, place % texts.len().max(1)))?;
-    }
-    let configs = configs(alloc)?;
+    let configs = configs_of_two(alloc)?;
+    let clients = clients(alloc, texts, count, habits.is_steady)?;
     let mut fake = Fake::new(alloc, texts, clients, habits);
     serve(alloc, &configs, &mut fake, TURNS)?;
+    let outcome = judge(alloc, &configs, &fake)?;
+    tell(habits, outcome, fake.faults() > 0, output)
+}
+
+/// Tells what came of a case.
+fn tell<O: Write>(
+    Habits { seed, is_steady }: Habits,
+    outcome: Outcome,
+    faults: bool,
+    output: &mut O,
+) -> io::Result<()> {
     let Outcome {
         differing,
         served,
         refused,
-    } = judge(alloc, &configs, &fake)?;
-    let seed = habits.seed;
-    if habits.is_steady {
+    } = outcome;
+    if is_steady {
         writeln!(
             output,
             "seed {seed}, steady: {served} served, {refused} refused, {differing} differ from alone"
         )
     } else {
-        let faults = fake.faults() > 0;
         writeln!(
             output,
             "seed {seed}: {differing} differ from alone; faults: {faults}"
@@ -75,26 +89,24 @@ fn case<O: Write>(
     }
 }
 
-fn main(rt: HostRuntime) -> io::Result<()> {
+/// Serves clients that send the texts of these lines, and compares what each is sent with what its
+/// instance gives alone.
+pub fn carry_out<O: Write>(rt: &HostRuntime, lines: &[u8], output: &mut O) -> io::Result<Status> {
     let alloc = rt.alloc();
-    let Ok(input) = read_all(alloc, &mut rt.stdin()) else {
-        return Err(io::Error::from(ErrorKind::InvalidInput));
-    };
-    let texts = texts(alloc, &input)?;
-    let mut output = BufWriter::new(alloc, rt.stdout())?;
+    let texts = texts(alloc, lines)?;
     for seed in 1..=20 {
         let habits = Habits {
             seed,
             is_steady: false,
         };
-        case(alloc, &texts, 40, habits, &mut output)?;
+        case(alloc, &texts, 40, habits, output)?;
     }
     let steady = Habits {
         seed: 21,
         is_steady: true,
     };
-    case(alloc, &texts, 70, steady, &mut output)?;
-    let differing = serve_peers(&rt, &texts)?;
+    case(alloc, &texts, 70, steady, output)?;
+    let differing = serve_peers(rt, &texts)?;
     writeln!(output, "over ports: {differing} differ from alone")?;
-    output.flush()
+    Ok(Status::Done)
 }

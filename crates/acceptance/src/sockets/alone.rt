@@ -1,10 +1,11 @@
 //! What instances give alone.
 
-use crate::fake::{Client, Fake};
+use crate::instances::configs;
+use crate::sockets::fake::{Client, Fake};
 use server_core::{Outputs, SentBytes, run};
-use server_events::{Configs, InstanceConfig};
+use server_events::Configs;
 use std::alloc::Global;
-use std::io::{self, ErrorKind};
+use std::io;
 
 /// What came of a case.
 #[derive(Clone, Copy)]
@@ -18,19 +19,8 @@ pub struct Outcome {
 }
 
 /// Two instances.
-pub fn configs(alloc: Global) -> io::Result<Configs> {
-    let mut configs = Vec::new(alloc);
-    for name in ["a", "b"] {
-        configs.push(InstanceConfig {
-            name: String::from_str(alloc, name)?,
-            quota: 1_000,
-            slots: 0,
-        })?;
-    }
-    match Configs::new(configs) {
-        Ok(configs) => Ok(configs),
-        Err(_) => Err(io::Error::from(ErrorKind::InvalidInput)),
-    }
+pub fn configs_of_two(alloc: Global) -> io::Result<Configs> {
+    configs(alloc, &["a", "b"], 1_000)
 }
 
 /// What the instance of a client put on its connection, if that was opened.

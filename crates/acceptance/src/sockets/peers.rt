@@ -1,6 +1,6 @@
 //! Real sockets, whose clients are served in the turns of the server.
 
-use crate::alone::{configs, sent_on};
+use crate::sockets::alone::{configs_of_two, sent_on};
 use host_sockets::HostSockets;
 use mio::net::TcpStream;
 use serve::{Socket, Sockets, serve};
@@ -97,15 +97,21 @@ fn is_as_alone(alloc: Global, configs: &Configs, peer: &Peer<'_>) -> io::Result<
     }
 }
 
-/// Serves a client for each text, by turns of the two instances, and says how many were not sent
-/// what their instance gives alone.
-pub fn serve_peers(rt: &HostRuntime, texts: &[Vec<u8>]) -> io::Result<u32> {
-    let alloc = rt.alloc();
-    let configs = configs(alloc)?;
-    let mut sockets = HostSockets::new(rt, alloc)?;
+/// The sockets of two ports that the system chose.
+fn listening(rt: &HostRuntime) -> io::Result<HostSockets<'_>> {
+    let mut sockets = HostSockets::new(rt, rt.alloc())?;
     sockets.listen(0)?;
     sockets.listen(0)?;
-    let mut peers = Vec::new(alloc);
+    Ok(sockets)
+}
+
+/// A client for each text, by turns of the two instances.
+fn peers<'a>(
+    rt: &HostRuntime,
+    sockets: &HostSockets<'_>,
+    texts: &'a [Vec<u8>],
+) -> io::Result<Vec<Peer<'a>>> {
+    let mut peers = Vec::new(rt.alloc());
     for (place, text) in texts.iter().enumerate() {
         let instance = (place % 2) as u32;
         let address = SocketAddr::from((Ipv4Addr::LOCALHOST, sockets.port(instance)?));
@@ -114,16 +120,30 @@ pub fn serve_peers(rt: &HostRuntime, texts: &[Vec<u8>]) -> io::Result<u32> {
             text,
             unsent: text,
             stream: TcpStream::connect(rt, address)?,
-            received: Vec::new(alloc),
+            received: Vec::new(rt.alloc()),
         })?;
     }
-    let mut both = WithPeers { sockets, peers };
-    serve(alloc, &configs, &mut both, TURNS)?;
+    Ok(peers)
+}
+
+/// How many clients did not receive what their instance gives alone.
+fn differing(alloc: Global, configs: &Configs, peers: &[Peer<'_>]) -> io::Result<u32> {
     let mut differing: u32 = 0;
-    for peer in both.peers.iter() {
-        if !is_as_alone(alloc, &configs, peer)? {
+    for peer in peers {
+        if !is_as_alone(alloc, configs, peer)? {
             differing = differing.saturating_add(1);
         }
     }
     Ok(differing)
+}
+
+/// Serves a client for each text, by turns of the two instances, and says how many were not sent
+/// what their instance gives alone.
+pub fn serve_peers<'a>(rt: &'a HostRuntime, texts: &'a [Vec<u8>]) -> io::Result<u32> {
+    let configs = configs_of_two(rt.alloc())?;
+    let sockets = listening(rt)?;
+    let peers = peers(rt, &sockets, texts)?;
+    let mut both = WithPeers { sockets, peers };
+    serve(rt.alloc(), &configs, &mut both, TURNS)?;
+    differing(rt.alloc(), &configs, &both.peers)
 }

@@ -1,9 +1,10 @@
 //! A client on the one connection of a server that has one instance.
 
+use crate::instances::configs;
 use grpc_messages::{Message as Reply, Messages};
 use http2_frames::{FrameReader, MAX_FRAME_SIZE};
 use server_core::Server;
-use server_events::{Configs, Event, InstanceConfig, What};
+use server_events::{Event, What};
 use std::alloc::{AllocError, Global};
 use std::io::{self, ErrorKind};
 
@@ -74,23 +75,52 @@ fn framed(alloc: Global, message: &[u8]) -> Result<Vec<u8>, AllocError> {
     Ok(framed)
 }
 
+/// The header block of a call of this path, which has fewer than 128 bytes.
+fn call_block(alloc: Global, path: &str) -> Result<Vec<u8>, AllocError> {
+    let mut block = Vec::from_slice(alloc, METHOD_AND_SCHEME)?;
+    block.push(u8::try_from(path.len()).unwrap_or(0))?;
+    block.extend_from_slice(path.as_bytes())?;
+    block.extend_from_slice(CONTENT_TYPE)?;
+    Ok(block)
+}
+
+/// The frames of a call with one message.
+fn call_frames(
+    alloc: Global,
+    stream: u32,
+    path: &str,
+    message: &[u8],
+) -> Result<Vec<u8>, AllocError> {
+    let mut frames = Vec::new(alloc);
+    put_frame(
+        &mut frames,
+        HEADERS,
+        END_HEADERS,
+        stream,
+        &call_block(alloc, path)?,
+    )?;
+    for piece in framed(alloc, message)?.chunks(MAX_FRAME_SIZE) {
+        put_frame(&mut frames, DATA, 0, stream, piece)?;
+    }
+    put_frame(&mut frames, DATA, END_STREAM, stream, &[])?;
+    Ok(frames)
+}
+
 impl Client {
     pub fn new(alloc: Global) -> io::Result<Client> {
-        let mut configs = Vec::new(alloc);
-        configs.push(InstanceConfig {
-            name: String::from_str(alloc, "main")?,
-            quota: QUOTA,
-            slots: 0,
-        })?;
-        let configs = Configs::new(configs).map_err(|_| fault())?;
+        let configs = configs(alloc, &["main"], QUOTA)?;
         let mut client = Client {
             server: Server::new(alloc, &configs)?,
             received: FrameReader::without_preface(alloc),
             next_stream: 1,
         };
-        client.step(What::Open(0))?;
-        client.step(What::Bytes(0, Vec::from_slice(alloc, GREETING)?))?;
+        client.greet(alloc)?;
         Ok(client)
+    }
+
+    fn greet(&mut self, alloc: Global) -> io::Result<()> {
+        self.step(What::Open(0))?;
+        self.step(What::Bytes(0, Vec::from_slice(alloc, GREETING)?))
     }
 
     fn step(&mut self, what: What) -> io::Result<()> {
@@ -147,16 +177,7 @@ impl Client {
     pub fn call(&mut self, alloc: Global, path: &str, request: &[u8]) -> io::Result<Answer> {
         let stream = self.next_stream;
         self.next_stream = stream.saturating_add(2);
-        let mut block = Vec::from_slice(alloc, METHOD_AND_SCHEME)?;
-        block.push(u8::try_from(path.len()).unwrap_or(0))?;
-        block.extend_from_slice(path.as_bytes())?;
-        block.extend_from_slice(CONTENT_TYPE)?;
-        let mut bytes = Vec::new(alloc);
-        put_frame(&mut bytes, HEADERS, END_HEADERS, stream, &block)?;
-        for piece in framed(alloc, request)?.chunks(MAX_FRAME_SIZE) {
-            put_frame(&mut bytes, DATA, 0, stream, piece)?;
-        }
-        put_frame(&mut bytes, DATA, END_STREAM, stream, &[])?;
+        let bytes = call_frames(alloc, stream, path, request)?;
         self.step(What::Bytes(0, bytes))?;
         self.take()?;
         self.answer(alloc, stream)

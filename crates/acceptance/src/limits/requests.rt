@@ -1,6 +1,6 @@
 //! The bytes of requests.
 
-use crate::directories::Blob;
+use crate::limits::directories::Blob;
 use message_fields::Message;
 use reapi_messages::{BatchUpdateBlobsRequest, UpdateBlobRequest};
 use std::alloc::{AllocError, Global};

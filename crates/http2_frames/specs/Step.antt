@@ -53,7 +53,8 @@ WaitsShortly (Err e) = Unit {0}
 -- one whole frame and nothing else, behind the preface; or nothing
 abbrev pub IsJoined : List ℕ → List ℕ → Type 0
 IsJoined preface joined = joined ≢ [] →
-    (preface ≡ []) × (big_number 3 joined ≤ MAX_FRAME_SIZE) × (length joined ≡ 9 + big_number 3 joined)
+    (preface ≡ []) × (big_number 3 joined ≤ MAX_FRAME_SIZE)
+    × (length joined ≡ 9 + big_number 3 joined)
 
 -- the frame that came in two pieces, or else what is behind it
 abbrev pub first_of : List ℕ → List ℕ → List ℕ

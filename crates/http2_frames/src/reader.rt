@@ -81,9 +81,10 @@ impl FrameReader {
     }
 
     /// Takes the next piece of what is received, of any length. Its frames are then read, each by
-    /// [`FrameReader::find`], [`FrameReader::frame`] and [`FrameReader::pass`], until none is whole,
-    /// so that no more than an unfinished frame is kept. The piece is not copied, but for what the
-    /// unfinished frame before it lacks. Where memory was refused the piece counts as not received.
+    /// [`FrameReader::find`], [`FrameReader::frame`] and [`FrameReader::pass`], until none is
+    /// whole, so that no more than an unfinished frame is kept. The piece is not copied, but for
+    /// what the unfinished frame before it lacks. Where memory was refused the piece counts as not
+    /// received.
     pub fn feed(&mut self, piece: Vec<u8>) -> Result<(), FrameError>
         ensures stands { OnOk result ((preface text : List ℕ) (given : List RawFrame) →
             StandsFor preface self.old text given →
@@ -201,7 +202,7 @@ impl FrameReader {
     }
 }
 
-/// Puts a piece behind what is unread. Only those of its bytes are copied which the unfinished frame
+/// Puts a piece behind what is unread. Only those of its bytes are copied that the unfinished frame
 /// before it lacks, unless a frame is still to be read.
 fn append(joined: &mut Received, received: &mut Received, piece: Vec<u8>) -> Result<(), AllocError>
     requires { IsJoined [] joined.old }

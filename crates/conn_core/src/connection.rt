@@ -101,9 +101,9 @@ impl Connection {
 
     /// Takes received bytes. After an error of the connection they are ignored. Where memory is
     /// refused all but what is still to be read is as before.
-    pub fn feed(&mut self, piece: &[u8]) -> Result<(), AllocError>
+    pub fn feed(&mut self, piece: Vec<u8>) -> Result<(), AllocError>
         ensures rest { self.new ≡ record self.old { reader = self.new.reader } }
-        ensures stands { OnOk result (Becomes self.old (with_bytes piece.now) self.new) }
+        ensures stands { OnOk result (Becomes self.old (with_bytes piece.items) self.new) }
     {
         if self.ended {
             return Ok(());

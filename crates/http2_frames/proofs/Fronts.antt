@@ -1,5 +1,5 @@
 -- What stands at the front of a text, and what stays there when more follows.
-use Rattle.std.proofs.Common.{◌≡◌, ℕ, ◌+◌, ◌<◌, ◌≤◌, ◌⊎◌, true, nat_eq, List, ◌++◌, length, take, drop, Some, None, Ok, Err, refl, sym, ap, ◌∙◌, arith, length-append}
+use Rattle.std.proofs.Common.{◌≡◌, ℕ, ◌+◌, ◌<◌, ◌≤◌, ◌⊎◌, true, nat_eq, List, [], ◌∷◌, ◌++◌, length, take, drop, Some, None, Ok, Err, refl, sym, ap, ◌∙◌, arith, length-append}
 use Rattle.std.specs.List.{starts_with}
 use Rattle.std.proofs.Math.Seq.{take-append_seam}
 use Rattle.std.proofs.lemmas.Bool.Decides.{Decides-eqb}
@@ -10,6 +10,7 @@ use Rattle.byteorder.specs.Numbers.{big_from-append}
 use Rattle.http2_frames.specs.declared.error.FrameError.{FrameError}
 use Rattle.http2_frames.specs.declared.error.FrameError.TheVariants.{Size}
 use Rattle.http2_frames.specs.Reading.{whole_at, frame_at}
+use Rattle.http2_frames.specs.Step.{IsJoined, first_of}
 
 pub begins : (p t : List ℕ) → starts_with nat_eq t p ≡ true → t ≡ p ++ drop (length p) t
 begins p t e = (starts_is Decides-eqb t p (starts_with nat_eq t p) refl).0 e
@@ -83,3 +84,11 @@ frame_more t more n e =
     let past = drop-append-le 9 t more nine in
     let payload = take-append-le (big_number 3 t) (drop 9 t) more (omega (arith, length-drop 9 t)) in
     rw (kind, flags, five, stream, size, past, payload) refl
+
+pub joined_first : (joined received : List ℕ) → IsJoined [] joined → frame_at (first_of joined received) ≡ frame_at (joined ++ received)
+joined_first [] received h = refl
+joined_first (b ∷ bs) received h =
+    let w = h (λ e. cc) in
+    let short = w.1 in
+    let long = w.2 in
+    sym (frame_more (b ∷ bs) received (big_number 3 (b ∷ bs)) (is_whole (b ∷ bs) (big_number 3 (b ∷ bs)) (record { size = refl; short = short; fits = omega arith })))

@@ -8,9 +8,9 @@ use Rattle.http2_frames.specs.declared.error.FrameError.TheVariants.{Preface}
 use Rattle.http2_frames.specs.declared.frame.RawFrame.{RawFrame}
 use Rattle.http2_frames.specs.Wire.{Split}
 use Rattle.http2_frames.specs.Reading.{whole_at, frame_at, split_behind, rest_only, fault_only, split_frames, split}
-use Rattle.http2_frames.specs.Reader.{Unread, text_left, split_left, with_more_bytes, StandsFor, HasFrame, front_of}
-use Rattle.http2_frames.specs.Step.{frames_from, after_preface, is_whole, after_look, look_behind_preface, look, behind_front, WaitsShortly}
-use Rattle.http2_frames.proofs.Fronts.{oversized_more, partial_is}
+use Rattle.http2_frames.specs.Reader.{Unread, unread_of, text_left, split_left, with_more_bytes, StandsFor, HasFrame, front_of}
+use Rattle.http2_frames.specs.Step.{IsJoined, first_of, frames_from, after_preface, is_whole, after_look, look_behind_preface, look, behind_front, WaitsShortly}
+use Rattle.http2_frames.proofs.Fronts.{oversized_more, partial_is, joined_first}
 use Rattle.http2_frames.proofs.Splits.{short, past_more, off_more, split_partial, split_oversized, split_whole_more}
 
 abbrev Reader : Type 0
@@ -230,3 +230,9 @@ stands_passed old new has after p t gs stands more =
 pub less_is_left : (old new : Reader) → HasFrame old → new ≡ behind_front old → length (text_left new) < length (text_left old)
 less_is_left (Err e) new has after = absurd has
 less_is_left (Ok u) new has after = let fits = has.2 in omega (arith, length-drop (9 + big_number 3 u.text) u.text, ap (λ (v : Reader). length (text_left v)) after)
+
+-- the first of the unread bytes are the frame at the front
+pub first_is_front : (p j r : List ℕ) (e : Option FrameError) (v : Reader) → unread_of p (j ++ r) e ≡ v → IsJoined p j → HasFrame v → frame_at (first_of j r) ≡ front_of v
+first_is_front p j r (Some e) v is joined whole = absurd (subst HasFrame (sym is) whole)
+first_is_front p j r None v is joined whole =
+    subst (λ (x : Reader). HasFrame x → frame_at (first_of j r) ≡ front_of x) is (λ h. joined_first j r (subst (λ (q : List ℕ). IsJoined q j) h.0 joined)) whole

@@ -1,11 +1,12 @@
 -- One call of a reader, as the code makes it. For the code alone: no public contract speaks of it.
-use Rattle.std.specs.Prelude.{◌≢◌, ◌≤◌, ℕ, ◌+◌, Bool, true, false, nat_eq, if◌then◌else◌, List, [], ◌∷◌, length, drop, Option, Some, None, Result, Ok, Err}
+use Rattle.std.specs.Prelude.{◌≡◌, ◌≢◌, ◌≤◌, ℕ, ◌+◌, Bool, true, false, nat_eq, if◌then◌else◌, List, [], ◌∷◌, length, drop, Option, Some, None, Result, Ok, Err}
 use Rattle.std.specs.List.{starts_with}
 use Rattle.byteorder.specs.Endian.{big_number}
 use Rattle.http2_frames.specs.declared.error.FrameError.{FrameError}
 use Rattle.http2_frames.specs.declared.error.FrameError.TheVariants.{Preface}
 use Rattle.http2_frames.specs.Reading.{whole_at}
 use Rattle.http2_frames.specs.Reader.{Unread}
+use Rattle.http2_frames.specs.declared.reader.TheConstants.{MAX_FRAME_SIZE}
 
 abbrev pub frames_from : List ℕ → Result Unread FrameError
 frames_from bytes = Ok (record { preface = []; text = bytes })
@@ -48,3 +49,14 @@ behind_front (Err e) = Err e
 abbrev pub WaitsShortly : Result Unread FrameError → Type 0
 WaitsShortly (Ok u) = u.preface ≢ [] → length u.text ≤ 24
 WaitsShortly (Err e) = Unit {0}
+
+-- one whole frame and nothing else, behind the preface; or nothing
+abbrev pub IsJoined : List ℕ → List ℕ → Type 0
+IsJoined preface joined = joined ≢ [] →
+    (preface ≡ []) × (big_number 3 joined ≤ MAX_FRAME_SIZE)
+    × (length joined ≡ 9 + big_number 3 joined)
+
+-- the frame that came in two pieces, or else what is behind it
+abbrev pub first_of : List ℕ → List ℕ → List ℕ
+first_of [] received = received
+first_of (b ∷ bs) received = b ∷ bs

@@ -9,6 +9,7 @@ mod interpretation;
 mod laws;
 mod octets;
 mod reader;
+mod received;
 mod settings;
 mod writer;
 

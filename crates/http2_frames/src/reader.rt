@@ -7,14 +7,16 @@ ghost use Rattle.http2_frames.specs.declared.frame.RawFrame.{RawFrame};
 ghost use Rattle.http2_frames.specs.declared.error.FrameError.{FrameError};
 ghost use Rattle.http2_frames.specs.Reading.{split, whole_at, frame_at};
 ghost use Rattle.http2_frames.specs.Reader.{StandsFor, IsFrame, HasFrame, front_of, with_more_bytes, text_left};
-ghost use Rattle.http2_frames.specs.Step.{after_preface, after_look, behind_front, is_whole, look, WaitsShortly};
+ghost use Rattle.http2_frames.specs.Step.{IsJoined, after_preface, after_look, behind_front, first_of, is_whole, look, WaitsShortly};
 
 use crate::error::FrameError;
 use crate::frame::RawFrame;
 use crate::octets::Octets;
+use crate::received::Received;
 use byteorder::{BigEndian, ByteOrder};
-use std::alloc::Global;
+use std::alloc::{AllocError, Global};
 use std::marker::Model;
+use std::mem::replace;
 
 /// What a client sends before its first frame (RFC 9113, section 3.4).
 pub const CLIENT_PREFACE: &[u8] = b"PRI * HTTP/2.0\r\n\r\nSM\r\n\r\n";
@@ -31,24 +33,26 @@ pub const HEADER_LENGTH: usize = 9;
 pub struct FrameReader {
     /// The preface, until it has come.
     preface: &'static [u8],
-    received: Vec<u8>,
-    /// How many of the bytes received were read.
-    read: usize,
+    /// A frame that came in two pieces, whole and alone, or nothing.
+    joined: Received,
+    /// What is not read of the last piece, behind that frame.
+    received: Received,
     fault: Option<FrameError>,
 }
 
 impl Model for FrameReader {
-    ghost use Rattle.std.specs.Prelude.{◌≤◌, ◌≢◌, Result, Some, length, drop};
+    ghost use Rattle.std.specs.Prelude.{◌≡◌, ◌≤◌, ◌≢◌, ◌++◌, [], Result, Some, length};
     ghost use Rattle.http2_frames.specs.declared.error.FrameError.{FrameError};
     ghost use Rattle.http2_frames.specs.declared.error.FrameError.TheVariants.{NoMemory};
     ghost use Rattle.http2_frames.specs.Reader.{Unread, unread_of};
+    ghost use Rattle.http2_frames.specs.Step.{IsJoined};
 
     ghost Value = { Result Unread FrameError };
 
-    ghost view = { λ r. unread_of r.preface.now (drop r.read r.received.items) r.fault };
+    ghost view = { λ r. unread_of r.preface.now (r.joined ++ r.received) r.fault };
 
-    ghost invariant = { λ r. (r.read ≤ length r.received.items) × (length r.preface.now ≤ 24)
-        × (r.fault ≢ Some NoMemory) };
+    ghost invariant = { λ r. (length r.preface.now ≤ 24) × (r.fault ≢ Some NoMemory)
+        × IsJoined r.preface.now r.joined };
 }
 
 impl FrameReader {
@@ -58,8 +62,8 @@ impl FrameReader {
     {
         FrameReader {
             preface: CLIENT_PREFACE,
-            received: Vec::new(alloc),
-            read: 0,
+            joined: Received::nothing(alloc),
+            received: Received::nothing(alloc),
             fault: None,
         }
     }
@@ -70,21 +74,22 @@ impl FrameReader {
     {
         FrameReader {
             preface: &[],
-            received: Vec::new(alloc),
-            read: 0,
+            joined: Received::nothing(alloc),
+            received: Received::nothing(alloc),
             fault: None,
         }
     }
 
     /// Takes the next piece of what is received, of any length. Its frames are then read, each by
-    /// [`FrameReader::find`], [`FrameReader::frame`] and [`FrameReader::pass`], until none is whole,
-    /// so that no more than an unfinished frame is kept. Where memory was refused the piece counts
-    /// as not received.
-    pub fn feed(&mut self, piece: &[u8]) -> Result<(), FrameError>
+    /// [`FrameReader::find`], [`FrameReader::frame`] and [`FrameReader::pass`], until none is
+    /// whole, so that no more than an unfinished frame is kept. The piece is not copied, but for
+    /// what the unfinished frame before it lacks. Where memory was refused the piece counts as not
+    /// received.
+    pub fn feed(&mut self, piece: Vec<u8>) -> Result<(), FrameError>
         ensures stands { OnOk result ((preface text : List ℕ) (given : List RawFrame) →
             StandsFor preface self.old text given →
-            StandsFor preface self.new (text ++ piece.now) given) }
-        ensures ok { OnOk result (self.new ≡ with_more_bytes self.old piece.now) }
+            StandsFor preface self.new (text ++ piece.items) given) }
+        ensures ok { OnOk result (self.new ≡ with_more_bytes self.old piece.items) }
 
         // It is refused for want of memory, or as before.
         ensures err { OnErr result (self.new ≡ self.old) }
@@ -95,9 +100,11 @@ impl FrameReader {
         if let Some(fault) = self.fault {
             return Err(fault);
         }
-        drop_front(&mut self.received, self.read);
-        self.read = 0;
-        self.received.extend_from_slice(piece)?;
+        if !self.preface.is_empty() {
+            self.received.extend(&piece)?;
+            return Ok(());
+        }
+        append(&mut self.joined, &mut self.received, piece)?;
         Ok(())
     }
 
@@ -137,7 +144,7 @@ impl FrameReader {
         ensures front { result ≡ front_of self.now }
         ensures frame { IsFrame result }
     {
-        frame_at(unread(&self.received, self.read))
+        frame_at(first(&self.joined, &self.received))
     }
 
     /// Passes the frame at the front, which is whole: it was given.
@@ -155,12 +162,12 @@ impl FrameReader {
         ensures passed { self.new ≡ after_preface self.old }
         ensures short { WaitsShortly self.new }
     {
-        if self.fault.is_some() {
+        if self.fault.is_some() || self.preface.is_empty() {
             return;
         }
-        let unread = unread(&self.received, self.read);
+        let unread = self.received.unread();
         if unread.starts_with(self.preface) {
-            self.read += self.preface.len();
+            self.received.pass(self.preface.len());
             self.preface = &[];
         } else if !self.preface.starts_with(unread) {
             self.fault = Some(FrameError::Preface);
@@ -178,7 +185,7 @@ impl FrameReader {
         if !self.preface.is_empty() {
             return Ok(false);
         }
-        match is_whole(unread(&self.received, self.read)) {
+        match is_whole(first(&self.joined, &self.received)) {
             Ok(whole) => Ok(whole),
             Err(fault) => {
                 self.fault = Some(fault);
@@ -191,30 +198,79 @@ impl FrameReader {
         requires { HasFrame self.old }
         ensures { self.new ≡ behind_front self.old }
     {
-        let length = payload_length(unread(&self.received, self.read));
-        self.read += HEADER_LENGTH + length;
+        pass_first(&mut self.joined, &mut self.received);
     }
 }
 
-/// Moves the bytes from `count` on to the front.
-fn drop_front(bytes: &mut Vec<u8>, count: usize)
-    requires { count ≤ length bytes.old.items }
-    ensures { bytes.new.items ≡ drop count bytes.old.items }
+/// Puts a piece behind what is unread. Only those of its bytes are copied that the unfinished frame
+/// before it lacks, unless a frame is still to be read.
+fn append(joined: &mut Received, received: &mut Received, piece: Vec<u8>) -> Result<(), AllocError>
+    requires { IsJoined [] joined.old }
+    ensures joined { IsJoined [] joined.new }
+    ensures ok { OnOk result
+        (joined.new ++ received.new ≡ (joined.old ++ received.old) ++ piece.items) }
+    ensures err { OnErr result (joined.new ++ received.new ≡ joined.old ++ received.old) }
 {
-    if count == 0 {
-        return;
+    if !joined.unread().is_empty() {
+        return received.extend(&piece);
     }
-    let left = bytes.len() - count;
-    bytes.copy_within(count.., 0);
-    bytes.truncate(left);
+    let count = missing(received.unread(), piece.len());
+    received.extend(&piece[..count])?;
+    if count < piece.len() {
+        *joined = replace(received, Received::behind(piece, count));
+    }
+    Ok(())
 }
 
-/// The bytes that are not read yet.
-fn unread(received: &[u8], read: usize) -> &[u8]
-    requires { read ≤ length received.now }
-    ensures { result.now ≡ drop read received.now }
+/// How many of the next `count` bytes belong behind the unread ones, to make one whole frame of
+/// them: none where nothing is unread, and all where the frame's length is not known yet or no byte
+/// of it is missing.
+fn missing(unread: &[u8], count: usize) -> usize
+    ensures most { result ≤ count }
+    ensures joined { (piece : List ℕ) → result < count → length piece ≡ result
+        → IsJoined [] (unread.now ++ piece) }
 {
-    &received[read..]
+    if unread.is_empty() {
+        return 0;
+    }
+    if unread.len() < HEADER_LENGTH {
+        return count;
+    }
+    let length = payload_length(unread);
+    if length > MAX_FRAME_SIZE || unread.len() >= HEADER_LENGTH + length {
+        return count;
+    }
+    count.min(HEADER_LENGTH + length - unread.len())
+}
+
+/// The bytes that begin with the frame at the front, where there is one.
+fn first<'a>(joined: &'a Received, received: &'a Received) -> &'a [u8]
+    ensures { result.now ≡ first_of joined.now received.now }
+{
+    let joined = joined.unread();
+    if joined.is_empty() {
+        received.unread()
+    } else {
+        joined
+    }
+}
+
+/// Passes the frame at the front.
+fn pass_first(joined: &mut Received, received: &mut Received)
+    requires joined { IsJoined [] joined.old }
+    requires whole { 9 + big_number 3 (joined.old ++ received.old)
+        ≤ length (joined.old ++ received.old) }
+    ensures joined { joined.new ≡ [] }
+    ensures passed { joined.new ++ received.new
+        ≡ drop (9 + big_number 3 (joined.old ++ received.old)) (joined.old ++ received.old) }
+{
+    let count = joined.unread().len();
+    if count > 0 {
+        joined.pass(count);
+    } else {
+        let length = payload_length(received.unread());
+        received.pass(HEADER_LENGTH + length);
+    }
 }
 
 /// The length of the payload, by the first bytes of a frame.

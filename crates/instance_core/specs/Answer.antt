@@ -8,7 +8,7 @@
 -- change is `Text`, a use or an admission of a text, `Wrote`, the texts and uploads that a message
 -- of a Write leaves, `Keeps`, the results that a call leaves, `Goes`, a call begins or goes on,
 -- `Ends`, a call ends, or `Expires`, old uploads are forgotten (Changes.antt).
-use Rattle.std.specs.Prelude.{ℕ, List, [], ◌∷◌, ◌++◌, map, Option, Some, None, Result, Ok, Err, if◌then◌else◌}
+use Rattle.std.specs.Prelude.{ℕ, List, [], ◌∷◌, ◌++◌, Option, Some, None, Result, Ok, Err, if◌then◌else◌}
 use Rattle.rpc.specs.declared.method.Method.{Method}
 use Rattle.rpc.specs.declared.method.Method.TheVariants as Called
 use Rattle.rpc.specs.declared.refusal.Refusal.{Refusal}

@@ -1,7 +1,7 @@
 -- The contents of an instance: of each text its digest and the slot where a pool has it, the
 -- unfinished uploads, and the results of actions. For the code alone: no public contract speaks of
 -- it.
-use Rattle.std.specs.Prelude.{◌≡◌, ◌≤◌, ◌^◌}
+use Rattle.std.specs.Prelude.{◌≡◌, ◌≤◌}
 use Rattle.blob_pool.specs.Slots.{Slots}
 use Rattle.instance_view.specs.Shown.{visible_in}
 use Rattle.quota_evict.specs.Kept.{AreKept}

@@ -1,7 +1,7 @@
 -- An instance: its name, its quota in bytes, how many actions it may run at once, the moment of
 -- what happens to it in milliseconds, its texts (the most recently used first), its unfinished
 -- uploads, its results of actions (the most recently used first) and its calls in course.
-use Rattle.std.specs.Prelude.{ℕ, ◌≤◌, ◌^◌, List, []}
+use Rattle.std.specs.Prelude.{ℕ, ◌≤◌, List, []}
 use Rattle.std.specs.List.{IsDistinct}
 use Rattle.std.specs.Map.{keys_of}
 use Rattle.instance_view.specs.Visible.{Blob}

@@ -12,6 +12,10 @@ use rpc::Method;
 use std::alloc::{AllocError, Global};
 use std::marker::Model;
 
+/// From this size on the C library asks the system for a block of its own, and gives it back when
+/// it is freed: until one as large was freed, after which it keeps such blocks among the others.
+const OWN_BLOCK: usize = 131_072;
+
 /// How much of a call's request has come.
 #[derive(Drop)]
 pub enum Progress {
@@ -58,6 +62,17 @@ impl Call {
         ensures { progress_shown result.now ≡ self.now.progress }
     {
         &self.progress
+    }
+
+    /// Lets go of the call. A large message is made small before it is freed, so that those that
+    /// come later have blocks of their own too, and nothing is left of them when they are freed.
+    fn let_go(self) {
+        if let Progress::Has(mut message) = self.progress {
+            if message.capacity() >= OWN_BLOCK {
+                message.clear();
+                message.shrink_to(1);
+            }
+        }
     }
 }
 
@@ -112,6 +127,8 @@ impl Calls {
         ensures ended { self.new ≡ without_call id self.old }
         ensures calls { AreInCourse self.new }
     {
-        self.by_id.shift_remove(&id);
+        if let Some(call) = self.by_id.shift_remove(&id) {
+            call.let_go();
+        }
     }
 }

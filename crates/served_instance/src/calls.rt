@@ -102,11 +102,11 @@ pub(crate) fn receive(
     instance: &mut Instance,
     connections: &mut [OpenConnection],
     number: u32,
-    bytes: &[u8],
+    bytes: Vec<u8>,
 ) -> Result<(), AllocError>
     requires kept { IsKept pool.old (slots_of instance.old connections.old) }
     ensures came { OnOk result (ActsIn pool.old instance.old connections.old
-        pool.new instance.new connections.new (after_bytes_on number bytes.now)) }
+        pool.new instance.new connections.new (after_bytes_on number bytes.items)) }
     ensures moves { Moves pool.old pool.new (holders_of (slots_of instance.old connections.old))
         (holders_of (slots_of instance.new connections.new)) }
     ensures kept { IsKept pool.new (slots_of instance.new connections.new) }

@@ -77,26 +77,26 @@ impl ServedInstance {
     /// that can be put on open connections is put. After a refusal of memory the instance may have
     /// done a part of it, and stands for no instance by itself any more: it is to be dropped. Its
     /// limits stand then too, and the pool still counts it.
-    pub fn step(&mut self, pool: &mut Pool, event: &Event) -> Result<(), EventRefusal>
+    pub fn step(&mut self, pool: &mut Pool, event: Event) -> Result<(), EventRefusal>
         requires kept { IsKept pool.old self.old }
         ensures outcome { (l : Lone) → StandsFor (served_state_in pool.old self.old) l
-            → IsOutcome result (refusal_of (event_value event.now) l) }
+            → IsOutcome result (refusal_of (event_value event) l) }
         ensures stands { (l : Lone) → StandsFor (served_state_in pool.old self.old) l
             → (result ≢ Err EventRefusal.NoMemory)
-            → StandsFor (served_state_in pool.new self.new) (lone_step (event_value event.now) l) }
+            → StandsFor (served_state_in pool.new self.new) (lone_step (event_value event) l) }
         ensures here { result ≢ Err EventRefusal.NoSuchInstance }
-        ensures memory_free { NeedsNoMemory (event_value event.now).what
+        ensures memory_free { NeedsNoMemory (event_value event).what
             → result ≢ Err EventRefusal.NoMemory }
         ensures refused { IfErr result (λ refusal. refusal ≢ EventRefusal.NoMemory
             → (self.new ≡ self.old) × (pool.new ≡ pool.old)) }
         ensures settled { OnOk result ((l : Lone) → StandsFor (served_state_in pool.old self.old) l
-            → AreSettled (lone_step (event_value event.now) l)) }
+            → AreSettled (lone_step (event_value event) l)) }
         // No source is held of a range that is over.
         ensures released { OnOk result (spent_sources self.new.connections ≡ []) }
         ensures moves { Moves pool.old pool.new (holders_of self.old) (holders_of self.new) }
         ensures kept { IsKept pool.new self.new }
     {
-        if let Some(refusal) = self.refusal(event) {
+        if let Some(refusal) = self.refusal(&event) {
             return Err(refusal);
         }
         self.instance.set_moment(event.moment);
@@ -106,7 +106,7 @@ impl ServedInstance {
             pool,
             &mut self.instance,
             &mut self.connections,
-            &event.what,
+            event.what,
         ) {
             Err(_) => Err(EventRefusal::NoMemory),
             Ok(()) => {
@@ -190,29 +190,29 @@ fn act(
     pool: &mut Pool,
     instance: &mut Instance,
     connections: &mut Vec<OpenConnection>,
-    what: &What,
+    what: What,
 ) -> Result<(), AllocError>
-    requires accepted { refusal_by_what (what_value what.now)
+    requires accepted { refusal_by_what (what_value what)
         (map connection_shown connections.old.items)
         ≡ None }
     requires kept { IsKept pool.old (slots_of instance.old connections.old.items) }
     ensures acted { OnOk result (ActsIn pool.old instance.old connections.old.items
-        pool.new instance.new connections.new.items (effect_of (what_value what.now))) }
-    ensures memory_free { OnErr result (NeedsNoMemory (what_value what.now) → ⊥) }
+        pool.new instance.new connections.new.items (effect_of (what_value what))) }
+    ensures memory_free { OnErr result (NeedsNoMemory (what_value what) → ⊥) }
     ensures moves { Moves pool.old pool.new
         (holders_of (slots_of instance.old connections.old.items))
         (holders_of (slots_of instance.new connections.new.items)) }
     ensures kept { IsKept pool.new (slots_of instance.new connections.new.items) }
 {
     match what {
-        What::Open(number) => open(alloc, connections, *number),
-        What::Bytes(number, bytes) => receive(alloc, pool, instance, connections, *number, bytes),
+        What::Open(number) => open(alloc, connections, number),
+        What::Bytes(number, bytes) => receive(alloc, pool, instance, connections, number, bytes),
         What::Took(number, count) => {
-            take(connections, *number, *count as usize);
+            take(connections, number, count as usize);
             Ok(())
         }
         What::Closed(number) => {
-            close(pool, instance, connections, *number);
+            close(pool, instance, connections, number);
             Ok(())
         }
         What::Tick => {

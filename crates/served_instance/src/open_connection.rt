@@ -62,10 +62,10 @@ pub(crate) fn connection_near<'a>(
 pub(crate) fn feed(
     connections: &mut [OpenConnection],
     number: u32,
-    bytes: &[u8],
+    bytes: Vec<u8>,
 ) -> Result<(), AllocError>
     ensures fed { OnOk result (Changed number connections.old connections.new
-        (Takes (λ p. record p { text = p.text ++ bytes.now }))) }
+        (Takes (λ p. record p { text = p.text ++ bytes.items }))) }
     ensures holds { HoldAlike connections.old connections.new }
 {
     match find(connections, number) {

@@ -6,7 +6,16 @@ use Rattle.grpc_sending.specs.Bytes.{pending_bytes}
 use Rattle.server_events.specs.Events.{WhatValue, opened, took, closed}
 use Rattle.served_instance.specs.Connections.{open_at}
 use Rattle.served_instance.specs.Lone.{Lone}
+use Rattle.server_core.specs.declared.record.ConnectionChange.{ConnectionChange}
+use Rattle.server_core.specs.declared.record.ConnectionChange.TheVariants.{Opened, Took, Closed, Nothing}
 use Rattle.server_core.specs.declared.record.OpenRecord.{OpenRecord}
+
+-- what an event changes of which connections are open, and of how many bytes were taken
+abbrev pub connection_change : WhatValue → ConnectionChange
+connection_change (opened c) = Opened c
+connection_change (took c n) = Took c n
+connection_change (closed c) = Closed c
+connection_change _ = Nothing
 
 -- so many more bytes were taken on the connection of this number
 abbrev pub record_after_taking : ℕ → ℕ → OpenRecord → OpenRecord
@@ -14,16 +23,22 @@ record_after_taking c n o = if o.number == c then record o { untaken = o.untaken
 
 -- which connections are open after an event, and how many bytes that were noted are not taken;
 -- before it there were so many connections
-abbrev pub open_records_after : WhatValue → ℕ → List OpenRecord → List OpenRecord
-open_records_after (opened c) count os =
+abbrev pub open_records_changed : ConnectionChange → ℕ → List OpenRecord → List OpenRecord
+open_records_changed (Opened c) count os =
     os ++ record { number = c; place = count; untaken = 0 } ∷ []
-open_records_after (took c n) count os = map (record_after_taking c n) os
-open_records_after (closed c) count os = filter (λ o. not (o.number == c)) os
-open_records_after _ count os = os
+open_records_changed (Took c n) count os = map (record_after_taking c n) os
+open_records_changed (Closed c) count os = filter (λ o. not (o.number == c)) os
+open_records_changed Nothing count os = os
+
+abbrev pub open_records_after : WhatValue → ℕ → List OpenRecord → List OpenRecord
+open_records_after what = open_records_changed (connection_change what)
+
+abbrev pub sent_bytes_changed : ConnectionChange → List (ℕ × List ℕ) → List (ℕ × List ℕ)
+sent_bytes_changed (Opened c) ss = ss ++ (c, []) ∷ []
+sent_bytes_changed _ ss = ss
 
 abbrev pub sent_bytes_after : WhatValue → List (ℕ × List ℕ) → List (ℕ × List ℕ)
-sent_bytes_after (opened c) ss = ss ++ (c, []) ∷ []
-sent_bytes_after _ ss = ss
+sent_bytes_after what = sent_bytes_changed (connection_change what)
 
 -- more bytes at a place
 abbrev pub with_more_at : ℕ → List ℕ → List (ℕ × List ℕ) → List (ℕ × List ℕ)

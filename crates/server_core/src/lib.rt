@@ -10,6 +10,6 @@ mod whole_run;
 
 pub use laws::{a_run_keeps_its_limits, calls_store_named_texts, equal_events_give_equal_outputs};
 pub use outputs::{InstanceOutput, RefusedEvent, SentBytes};
-pub use record::InstanceRecord;
+pub use record::{ConnectionChange, InstanceRecord};
 pub use server::Server;
 pub use whole_run::{Outputs, ServerRun, run};

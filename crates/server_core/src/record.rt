@@ -2,21 +2,48 @@
 
 ghost use Rattle.std.specs.Prelude.{◌≡◌, ◌≢◌, ◌<◌, ◌+◌, ◌-◌, ◌^◌, ◌==◌, not, map, filter, length, drop, Result, Err, IfOk, OnOk, OnErr};
 ghost use Rattle.server_events.specs.Configs.{ConfigValue};
-ghost use Rattle.server_events.specs.Shown.{event_value, what_value};
+ghost use Rattle.server_events.specs.Events.{EventValue};
+ghost use Rattle.server_events.specs.Shown.{what_value};
 ghost use Rattle.served_instance.specs.Connections.{AreApart};
 ghost use Rattle.served_instance.specs.Lone.{Lone};
 ghost use Rattle.served_instance.specs.Refusals.{refusal_of, lone_step, IsOutcome};
 ghost use Rattle.served_instance.specs.Slots.{HasConnections};
 ghost use Rattle.server_core.specs.Runs.{Run, new_run, run_step, output_of_run};
 ghost use Rattle.server_core.specs.Shown.{sent_shown, instance_output_shown};
-ghost use Rattle.server_core.specs.Notes.{record_after_taking, open_records_after, sent_bytes_after, with_more_at, sent_bytes_with, sent_bytes_with_all, record_after_noting};
+ghost use Rattle.server_core.specs.Notes.{connection_change, record_after_taking, open_records_changed, sent_bytes_changed, with_more_at, sent_bytes_with, sent_bytes_with_all, record_after_noting};
 ghost use Rattle.server_core.specs.Records.{StandsFor};
 
 use crate::outputs::{InstanceOutput, RefusedEvent, SentBytes};
 use served_instance::{EventRefusal, ServedInstance};
-use server_events::{Event, What};
+use server_events::What;
 use std::alloc::{AllocError, Global};
 use std::marker::Model;
+
+/// What an event changes of which connections are open, and of how many bytes were taken.
+#[derive(Clone, Copy)]
+pub enum ConnectionChange {
+    /// The connection of this number opened.
+    Opened(u32),
+    /// On the connection of this number so many bytes were taken.
+    Took(u32, u32),
+    /// The connection of this number was closed.
+    Closed(u32),
+    Nothing,
+}
+
+impl ConnectionChange {
+    /// What an event of this kind changes of them.
+    pub fn made_by(what: &What) -> ConnectionChange
+        ensures { result ≡ connection_change (what_value what.now) }
+    {
+        match what {
+            What::Open(number) => ConnectionChange::Opened(*number),
+            What::Took(number, count) => ConnectionChange::Took(*number, *count),
+            What::Closed(number) => ConnectionChange::Closed(*number),
+            What::Bytes(..) | What::Tick | What::Outcome(..) => ConnectionChange::Nothing,
+        }
+    }
+}
 
 /// An open connection: its place in `sent`, and how many of the bytes there were not taken.
 #[derive(Clone, Copy)]
@@ -67,21 +94,22 @@ impl InstanceRecord {
         }
     }
 
-    /// Notes an event that the instance took or refused, and the bytes that it put. The instance is
-    /// as the event left it. Where memory is refused the event is counted, no refusal is noted, and
+    /// Notes an event that the instance took or refused, by what it changes of the connections, and
+    /// the bytes that it put. The instance is as the event left it. Where memory is refused the event is counted, no refusal is noted, and
     /// of the bytes some may be: the record stands for no run any more, and is to be dropped.
     pub fn note(
         &mut self,
         instance: &ServedInstance,
-        event: &Event,
+        change: ConnectionChange,
         outcome: Result<(), EventRefusal>,
     ) -> Result<(), AllocError>
         requires memory { outcome ≢ Err EventRefusal.NoMemory }
         requires room { self.old.count < 2 ^ 64 - 1 }
-        ensures stands { OnOk result ((r : Run) → StandsFor self.old r
-            → IsOutcome outcome (refusal_of (event_value event.now) r.lone)
-            → HasConnections instance.now (lone_step (event_value event.now) r.lone)
-            → StandsFor self.new (run_step r (event_value event.now))) }
+        ensures stands { OnOk result ((r : Run) (event : EventValue) → StandsFor self.old r
+            → change ≡ connection_change event.what
+            → IsOutcome outcome (refusal_of event r.lone)
+            → HasConnections instance.now (lone_step event r.lone)
+            → StandsFor self.new (run_step r event)) }
         ensures count { self.new.count ≡ self.old.count + 1 }
         ensures err { OnErr result (self.new.refusals ≡ self.old.refusals) }
     {
@@ -93,7 +121,7 @@ impl InstanceRecord {
                 Ok(())
             }
             Ok(()) => {
-                follow(&mut self.sent, &mut self.live, &event.what)?;
+                follow(&mut self.sent, &mut self.live, change)?;
                 gather(&mut self.sent, &self.live, instance)?;
                 count_untaken(&mut self.live, instance);
                 Ok(())
@@ -116,37 +144,37 @@ impl InstanceRecord {
 fn follow(
     sent: &mut Vec<SentBytes>,
     live: &mut Vec<OpenRecord>,
-    what: &What,
+    change: ConnectionChange,
 ) -> Result<(), AllocError>
     ensures sent { OnOk result (map sent_shown sent.new.items
-        ≡ sent_bytes_after (what_value what.now) (map sent_shown sent.old.items)) }
-    ensures live { OnOk result (live.new.items ≡ open_records_after (what_value what.now)
+        ≡ sent_bytes_changed change (map sent_shown sent.old.items)) }
+    ensures live { OnOk result (live.new.items ≡ open_records_changed change
         (length (map sent_shown sent.old.items)) live.old.items) }
 {
-    match what {
-        What::Open(number) => {
+    match change {
+        ConnectionChange::Opened(number) => {
             let place = sent.len();
             let bytes = Vec::new(*sent.allocator());
             sent.push(SentBytes {
-                connection: *number,
+                connection: number,
                 bytes,
             })?;
             live.push(OpenRecord {
-                number: *number,
+                number,
                 place,
                 untaken: 0,
             })?;
             Ok(())
         }
-        What::Took(number, count) => {
-            take(live, *number, *count as usize);
+        ConnectionChange::Took(number, count) => {
+            take(live, number, count as usize);
             Ok(())
         }
-        What::Closed(number) => {
-            close(live, *number);
+        ConnectionChange::Closed(number) => {
+            close(live, number);
             Ok(())
         }
-        What::Bytes(..) | What::Tick | What::Outcome(..) => Ok(()),
+        ConnectionChange::Nothing => Ok(()),
     }
 }
 

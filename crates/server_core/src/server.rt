@@ -76,28 +76,28 @@ impl Server {
 
     /// Takes an event. It is refused for the first reason that stands, and then nothing is changed;
     /// or its instance does what it would do alone. No other instance changes.
-    pub fn step(&mut self, event: &Event) -> Result<(), EventRefusal>
+    pub fn step(&mut self, event: Event) -> Result<(), EventRefusal>
         // The event's instance does what it would do alone, which is nothing where it refuses.
         ensures own { result ≢ Err EventRefusal.NoMemory → (l : Lone)
-            → StandsAt event.now.instance self.old.instances l
-            → StandsAt event.now.instance self.new.instances (lone_step (event_value event.now) l) }
-        ensures settled { OnOk result ((l : Lone) → StandsAt event.now.instance self.old.instances l
-            → AreSettled (lone_step (event_value event.now) l)) }
+            → StandsAt event.instance self.old.instances l
+            → StandsAt event.instance self.new.instances (lone_step (event_value event) l) }
+        ensures settled { OnOk result ((l : Lone) → StandsAt event.instance self.old.instances l
+            → AreSettled (lone_step (event_value event) l)) }
         // No other instance changes.
-        ensures others { result ≢ Err EventRefusal.NoMemory → (j : ℕ) → j ≢ event.now.instance
+        ensures others { result ≢ Err EventRefusal.NoMemory → (j : ℕ) → j ≢ event.instance
             → instance_at j self.new.instances ≡ instance_at j self.old.instances }
         // Each refusal has its reason, and changes nothing.
         ensures outcome { self.old.failed ≡ false → (l : Lone)
-            → StandsAt event.now.instance self.old.instances l
-            → IsOutcome result (refusal_of (event_value event.now) l) }
+            → StandsAt event.instance self.old.instances l
+            → IsOutcome result (refusal_of (event_value event) l) }
         ensures stray { self.old.failed ≡ false → (result ≡ Err EventRefusal.NoSuchInstance)
-            ↔ (length self.old.instances ≤ event.now.instance) }
+            ↔ (length self.old.instances ≤ event.instance) }
         ensures refused { IfErr result (λ refusal. refusal ≢ EventRefusal.NoMemory
             → self.new ≡ self.old) }
         // Each instance keeps its limits, also where the event is refused.
         ensures within { AllByRecursion IsWithin self.new.instances }
         // An event that takes no memory is never refused for want of it.
-        ensures memory_free { NeedsNoMemory (event_value event.now).what → self.old.failed ≡ false
+        ensures memory_free { NeedsNoMemory (event_value event).what → self.old.failed ≡ false
             → result ≢ Err EventRefusal.NoMemory }
         // Want of memory is for ever.
         ensures memory { (result ≡ Err EventRefusal.NoMemory) ↔ (self.new.failed ≡ true) }
@@ -191,25 +191,25 @@ fn pool_of<'a>(pool: &'a Pool, instances: &[ServedInstance]) -> &'a Pool
 fn step_one(
     pool: &mut Pool,
     instances: &mut [ServedInstance],
-    event: &Event,
+    event: Event,
 ) -> Result<(), EventRefusal>
     requires server { IsServer pool.old instances.old }
     ensures own { result ≢ Err EventRefusal.NoMemory → (l : Lone)
-        → StandsAt event.now.instance (all_in pool.old instances.old) l
-        → StandsAt event.now.instance (all_in pool.new instances.new)
-        (lone_step (event_value event.now) l) }
-    ensures settled { OnOk result ((l : Lone) → StandsAt event.now.instance
-        (all_in pool.old instances.old) l → AreSettled (lone_step (event_value event.now) l)) }
-    ensures others { (j : ℕ) → j ≢ event.now.instance
+        → StandsAt event.instance (all_in pool.old instances.old) l
+        → StandsAt event.instance (all_in pool.new instances.new)
+        (lone_step (event_value event) l) }
+    ensures settled { OnOk result ((l : Lone) → StandsAt event.instance
+        (all_in pool.old instances.old) l → AreSettled (lone_step (event_value event) l)) }
+    ensures others { (j : ℕ) → j ≢ event.instance
         → instance_at j (all_in pool.new instances.new)
         ≡ instance_at j (all_in pool.old instances.old) }
-    ensures outcome { (l : Lone) → StandsAt event.now.instance (all_in pool.old instances.old) l
-        → IsOutcome result (refusal_of (event_value event.now) l) }
+    ensures outcome { (l : Lone) → StandsAt event.instance (all_in pool.old instances.old) l
+        → IsOutcome result (refusal_of (event_value event) l) }
     ensures stray { (result ≡ Err EventRefusal.NoSuchInstance)
-        ↔ (length instances.old ≤ event.now.instance) }
+        ↔ (length instances.old ≤ event.instance) }
     ensures refused { IfErr result (λ refusal. refusal ≢ EventRefusal.NoMemory
         → all_in pool.new instances.new ≡ all_in pool.old instances.old) }
-    ensures memory_free { NeedsNoMemory (event_value event.now).what
+    ensures memory_free { NeedsNoMemory (event_value event).what
         → result ≢ Err EventRefusal.NoMemory }
     ensures server { IsServer pool.new instances.new }
     ensures count { length instances.new ≡ length instances.old }

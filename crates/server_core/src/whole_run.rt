@@ -13,7 +13,7 @@ ghost use Rattle.server_core.specs.RunSoFar.{HasTaken};
 
 use crate::laws::a_run_keeps_its_limits;
 use crate::outputs::InstanceOutput;
-use crate::record::InstanceRecord;
+use crate::record::{ConnectionChange, InstanceRecord};
 use crate::server::Server;
 use served_instance::EventRefusal;
 use server_events::laws::the_fault_is_the_first;
@@ -68,11 +68,11 @@ impl ServerRun {
     }
 
     /// The run after one more event.
-    pub fn step(self, event: &Event) -> Result<ServerRun, AllocError>
+    pub fn step(self, event: Event) -> Result<ServerRun, AllocError>
         requires room { self.count < 2 ^ 64 - 1 }
         ensures { IfOk result (λ run. (configs : List ConfigValue) (events : List EventValue)
             → HasTaken configs events self
-            → HasTaken configs (events ++ event_value event.now ∷ []) run) }
+            → HasTaken configs (events ++ event_value event ∷ []) run) }
     {
         let count = self.count + 1;
         let mut server = self.server;
@@ -111,17 +111,17 @@ impl ServerRun {
 
 /// Runs a server through events. Each instance gives the very bytes on its connections, and the
 /// refusals, that it would give alone: they are determined by its configuration and its own events.
-pub fn run(alloc: Global, configs: &Configs, events: &[Event]) -> Result<Outputs, AllocError>
+pub fn run(alloc: Global, configs: &Configs, events: Vec<Event>) -> Result<Outputs, AllocError>
     ensures alone { IfOk result (λ outputs. (i : ℕ) (config : ConfigValue)
         → config_at i configs.now ≡ Some config
         → output_at i outputs.instances.items
-        ≡ Some (lone_output config (own_events i (map event_value events.now)))) }
+        ≡ Some (lone_output config (own_events i (map event_value events.items)))) }
     // Each instance keeps its limits: each of its texts is what its digest says.
     ensures within { (i : ℕ) (config : ConfigValue) → config_at i configs.now ≡ Some config
-        → WithinLimits (run_of config (own_events i (map event_value events.now))).lone.state }
+        → WithinLimits (run_of config (own_events i (map event_value events.items))).lone.state }
     ensures count { IfOk result (λ outputs. length outputs.instances.items ≡ length configs.now) }
     ensures strays { IfOk result (λ outputs. outputs.strays.items
-        ≡ strays configs.now (map event_value events.now)) }
+        ≡ strays configs.now (map event_value events.items)) }
 {
     limits_are_kept(configs);
     let mut run = ServerRun::new(alloc, configs)?;
@@ -146,7 +146,7 @@ fn step_and_note(
     server: &mut Server,
     records: &mut [InstanceRecord],
     strays: &mut Vec<u64>,
-    event: &Event,
+    event: Event,
     place: u64,
 ) -> Result<(), AllocError>
     requires serves { server.old.failed ≡ false }
@@ -157,21 +157,23 @@ fn step_and_note(
     ensures room { OnOk result (All (λ r. r.count < place + 1) records.new) }
     ensures runs { OnOk result ((i : ℕ) (r : Run) → HasRun i server.old.instances records.old r
         → HasRun i server.new.instances records.new
-        (if event.now.instance == i then run_step r (event_value event.now) else r)) }
+        (if event.instance == i then run_step r (event_value event) else r)) }
     ensures strays { OnOk result (strays.new.items
         ≡ strays.old.items ++ stray_at place (length server.old.instances)
-        (event_value event.now)) }
+        (event_value event)) }
 {
+    let instance = event.instance;
+    let change = ConnectionChange::made_by(&event.what);
     let outcome = server.step(event);
     if matches!(outcome, Err(EventRefusal::NoMemory)) {
         return Err(AllocError);
     }
-    match server.instance(event.instance) {
+    match server.instance(instance) {
         None => {
             strays.push(place)?;
             Ok(())
         }
-        Some(instance) => records[event.instance as usize].note(instance, event, outcome),
+        Some(served) => records[instance as usize].note(served, change, outcome),
     }
 }
 

@@ -1,4 +1,4 @@
-use Rattle.std.proofs.Common.{ℕ, List, map, Ok}
+use Rattle.std.proofs.Common.{map, Ok}
 use Rattle.instance_core.specs.Replies.{whole_reply_items}
 use Rattle.instance_core.proofs.Items.{items_given, nothing_held}
 use Rattle.instance_core.proofs.replies.messages_reply.Goals as goal

@@ -4,7 +4,6 @@ use Rattle.cas_service.specs.Answers.{IfAnswered}
 use Rattle.cas_service.specs.Changes.{visible_after_changes}
 use Rattle.tree_calls.specs.Results.{get_action_result_reply, get_action_result_changes, after_get}
 use Rattle.tree_calls.proofs.Short.{get_stays_within}
-use Rattle.instance_core.specs.State.{most_blobs}
 use Rattle.instance_core.specs.Shown.{state_of}
 use Rattle.instance_core.proofs.Parts.{results_make, settled_results, both_same, seen_same}
 use Rattle.instance_core.proofs.results.answer_get.Goals as goal

@@ -20,8 +20,8 @@ frames-init c =
     let ns = c.feed.new.connections in
     record {
       leads = λ l st.
-          let k : Lone = record l { connections = at_open c.args.number (with_bytes c.args.bytes.now) l.connections } in
-          (k, step_acts c.args.number (state_in p c.args.instance.now) os ns (with_bytes c.args.bytes.now) c.in_ok-feed.ensures.fed (text_at p) l st, refl);
+          let k : Lone = record l { connections = at_open c.args.number (with_bytes c.args.bytes.items) l.connections } in
+          (k, step_acts c.args.number (state_in p c.args.instance.now) os ns (with_bytes c.args.bytes.items) c.in_ok-feed.ensures.fed (text_at p) l st, refl);
       moves = alike_moves p c.args.instance.now (map connection_shown os) (map connection_shown ns) c.feed.ensures.holds;
       kept = alike_after p c.args.instance.now os ns c.feed.auto.connections c.requires.kept c.feed.ensures.holds;
     }
@@ -42,7 +42,7 @@ frames-preserved c =
     let r = c.read_next.new.pool in
     record {
       leads = leads_trans (text_at p) (text_at q) (text_at r) (state_in p c.args.instance.now) (state_in q c.frames.instance) (state_in r c.read_next.new.instance) c.args.connections.now c.frames.connections c.read_next.new.connections
-          (after_bytes_on c.args.number c.args.bytes.now) (after_rest_on c.args.number) (after_rest_on c.args.number) c.frames.invariant.leads c.in_ok-read_next.ensures.reads;
+          (after_bytes_on c.args.number c.args.bytes.items) (after_rest_on c.args.number) (after_rest_on c.args.number) c.frames.invariant.leads c.in_ok-read_next.ensures.reads;
       moves = moves_trans p q r (holders_of (slots_of c.args.instance.now c.args.connections.now)) (holders_of (slots_of c.frames.instance c.frames.connections)) (holders_of (slots_of c.read_next.new.instance c.read_next.new.connections))
           c.frames.invariant.moves c.read_next.ensures.moves;
       kept = c.read_next.ensures.kept;
@@ -54,7 +54,7 @@ returns-clause-came c =
     let q = c.frames.pool in
     let r = c.read_next.new.pool in
     leads_acts_by (text_at p) (text_at q) (text_at r) (state_in p c.args.instance.now) (state_in q c.frames.instance) (state_in r c.read_next.new.instance) c.args.connections.now c.frames.connections c.read_next.new.connections
-    (after_bytes_on c.args.number c.args.bytes.now) (after_rest_on c.args.number) c.frames.invariant.leads (c.in_ok-read_next.ensures.ends c.if-branch.false)
+    (after_bytes_on c.args.number c.args.bytes.items) (after_rest_on c.args.number) c.frames.invariant.leads (c.in_ok-read_next.ensures.ends c.if-branch.false)
 
 pub returns-clause-moves : goal.returns-clause-moves
 returns-clause-moves c =

@@ -36,7 +36,7 @@ returns-in-Open-clause-acted c =
     let ns = c.open.new.connections.items in
     let t = text_at c.args.pool.now in
     let s = state_in c.args.pool.now c.args.instance.now in
-    acts_between c.open.result t t s s os os ns ns (after_opening c.in-Open.number) (effect_of (what_value c.args.what.now)) refl refl
+    acts_between c.open.result t t s s os os ns ns (after_opening c.in-Open.number) (effect_of (what_value c.args.what)) refl refl
     (ap (λ (w : What). effect_of (what_value w)) c.in-Open.is) (at_state c.open.result t s os ns (after_opening c.in-Open.number) c.open.ensures.opened)
 
 pub receive-requires : goal.receive-requires
@@ -49,9 +49,9 @@ returns-in-Bytes-clause-acted c =
     let q = c.receive.new.pool in
     let all = c.args.connections.now in
     let ns = c.receive.new.connections in
-    acts_between c.receive.result (text_at p) (text_at q) (state_in p c.args.instance.now) (state_in q c.receive.new.instance) all.items c.deref_mut.result.now ns _ (after_bytes_on c.in-Bytes.number c.deref.result.now) (effect_of (what_value c.args.what.now))
+    acts_between c.receive.result (text_at p) (text_at q) (state_in p c.args.instance.now) (state_in q c.receive.new.instance) all.items c.deref_mut.result.now ns _ (after_bytes_on c.in-Bytes.number c.in-Bytes.bytes.items) (effect_of (what_value c.args.what))
     c.deref_mut.ensures.value (written_back all.len ns all.items (c.receive.auto.connections ∙ ap length c.deref_mut.ensures.value) (grind (arith, common_steps)))
-    (ap (λ (w : What). effect_of (what_value w)) c.in-Bytes.is ∙ ap (after_bytes_on c.in-Bytes.number) (sym c.deref.ensures.value)) c.receive.ensures.came
+    (ap (λ (w : What). effect_of (what_value w)) c.in-Bytes.is) c.receive.ensures.came
 
 pub returns-in-Bytes-clause-moves : goal.returns-in-Bytes-clause-moves
 returns-in-Bytes-clause-moves c =
@@ -68,7 +68,7 @@ returns-in-Took-clause-acted c =
     let s = state_in c.args.pool.now c.args.instance.now in
     let step : Lone → Lone = λ l. record l { connections = at_open c.in-Took.number (λ p. with_taken p c.in-Took.count) l.connections } in
     let done : Result (Unit {0}) AllocError = Ok tt in
-    acts_between done t t s s all.items c.deref_mut-in-Took.result.now ns _ step (effect_of (what_value c.args.what.now))
+    acts_between done t t s s all.items c.deref_mut-in-Took.result.now ns _ step (effect_of (what_value c.args.what))
     c.deref_mut-in-Took.ensures.value (written_back all.len ns all.items (c.take.auto.connections ∙ ap length c.deref_mut-in-Took.ensures.value) (grind (arith, common_steps)))
     (ap (λ (w : What). effect_of (what_value w)) c.in-Took.is) (step_acts c.in-Took.number s c.deref_mut-in-Took.result.now ns (λ p. with_taken p c.in-Took.count) c.take.ensures.taken t)
 
@@ -81,7 +81,7 @@ returns-in-Closed-clause-acted c =
     let os = c.args.connections.now.items in
     let ns = c.close.new.connections.items in
     let done : Result (Unit {0}) AllocError = Ok tt in
-    acts_between done (text_at p) (text_at q) (state_in p i) (state_in q j) os os ns ns (after_closing c.in-Closed.number) (effect_of (what_value c.args.what.now)) refl refl
+    acts_between done (text_at p) (text_at q) (state_in p i) (state_in q j) os os ns ns (after_closing c.in-Closed.number) (effect_of (what_value c.args.what)) refl refl
     (ap (λ (w : What). effect_of (what_value w)) c.in-Closed.is)
     (released_acts p q i j os ns (after_closing c.in-Closed.number) c.requires.kept c.close.ensures.releases (c.close.ensures.closed q))
 
@@ -92,7 +92,7 @@ returns-in-Tick-clause-acted c =
     let before = state_in c.args.pool.now c.args.instance.now in
     let after = state_in c.args.pool.now c.tick.new.self in
     let done : Result (Unit {0}) AllocError = Ok tt in
-    acts_between done t t before after os os os os (after_call_event time_passes) (effect_of (what_value c.args.what.now)) refl refl
+    acts_between done t t before after os os os os (after_call_event time_passes) (effect_of (what_value c.args.what)) refl refl
     (ap (λ (w : What). effect_of (what_value w)) c.in-Tick.is) (tick_acts before after os (c.tick.ensures.changed c.args.pool.now) t)
 
 pub returns-in-Open-clause-kept : goal.returns-in-Open-clause-kept

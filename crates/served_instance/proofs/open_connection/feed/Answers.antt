@@ -8,10 +8,10 @@ use Rattle.served_instance.proofs.Changes.{changed_none, changed_ok}
 use Rattle.served_instance.proofs.open_connection.feed.Goals as goal
 
 pub returns-in-None-clause-fed : goal.returns-in-None-clause-fed
-returns-in-None-clause-fed c = changed_none c.args.number c.args.connections.now (Takes (with_bytes c.args.bytes.now)) (sym c.find.ensures ∙ c.in-None.is)
+returns-in-None-clause-fed c = changed_none c.args.number c.args.connections.now (Takes (with_bytes c.args.bytes.items)) (sym c.find.ensures ∙ c.in-None.is)
 
 pub returns-in-Some-clause-fed : goal.returns-in-Some-clause-fed
-returns-in-Some-clause-fed c = changed_ok c.feed.result c.args.number c.args.connections.now c.in-Some.place c.index-connections-place.result c.feed.new.self (Takes (with_bytes c.args.bytes.now)) (sym c.find.ensures ∙ c.in-Some.is) c.feed.ensures.stands
+returns-in-Some-clause-fed c = changed_ok c.feed.result c.args.number c.args.connections.now c.in-Some.place c.index-connections-place.result c.feed.new.self (Takes (with_bytes c.args.bytes.items)) (sym c.find.ensures ∙ c.in-Some.is) c.feed.ensures.stands
 
 pub returns-in-None-clause-holds : goal.returns-in-None-clause-holds
 returns-in-None-clause-holds c = alike_here (map connection_shown c.args.connections.now)

@@ -8,7 +8,7 @@ use Rattle.server_core.proofs.server.step_one.Goals as goal
 pub step-requires : goal.step-requires
 step-requires c =
     let xs = c.args.instances.now in
-    let i = c.args.event.now.instance in
+    let i = c.args.event.instance in
     let d = c.index-instances-number.result in
     let lt : i < length xs = grind (arith, common_steps) in
     record { kept = kept_at c.args.pool.now xs i (get_or xs i d) (slice_get-get_or xs i d lt) c.requires.server }
@@ -16,7 +16,7 @@ step-requires c =
 pub returns-clause-own : goal.returns-clause-own
 returns-clause-own c = λ ne l s.
     let xs = c.args.instances.now in
-    let i = c.args.event.now.instance in
+    let i = c.args.event.instance in
     let d = c.index-instances-number.result in
     let a = get_or xs i d in
     let lt : i < length xs = grind (arith, common_steps) in
@@ -26,7 +26,7 @@ returns-clause-own c = λ ne l s.
 pub returns-clause-settled : goal.returns-clause-settled
 returns-clause-settled c =
     let xs = c.args.instances.now in
-    let i = c.args.event.now.instance in
+    let i = c.args.event.instance in
     let d = c.index-instances-number.result in
     let a = get_or xs i d in
     let lt : i < length xs = grind (arith, common_steps) in
@@ -36,7 +36,7 @@ returns-clause-settled c =
 pub returns-clause-others : goal.returns-clause-others
 returns-clause-others c = λ j ne.
     let xs = c.args.instances.now in
-    let i = c.args.event.now.instance in
+    let i = c.args.event.instance in
     let d = c.index-instances-number.result in
     let a = get_or xs i d in
     let lt : i < length xs = grind (arith, common_steps) in
@@ -46,7 +46,7 @@ returns-clause-others c = λ j ne.
 pub returns-clause-outcome : goal.returns-clause-outcome
 returns-clause-outcome c = λ l s.
     let xs = c.args.instances.now in
-    let i = c.args.event.now.instance in
+    let i = c.args.event.instance in
     let d = c.index-instances-number.result in
     let a = get_or xs i d in
     let lt : i < length xs = grind (arith, common_steps) in
@@ -56,7 +56,7 @@ returns-clause-outcome c = λ l s.
 pub returns-clause-refused : goal.returns-clause-refused
 returns-clause-refused c =
     let xs = c.args.instances.now in
-    let i = c.args.event.now.instance in
+    let i = c.args.event.instance in
     let d = c.index-instances-number.result in
     let a = get_or xs i d in
     let lt : i < length xs = grind (arith, common_steps) in
@@ -66,7 +66,7 @@ returns-clause-refused c =
 pub returns-clause-server : goal.returns-clause-server
 returns-clause-server c =
     let xs = c.args.instances.now in
-    let i = c.args.event.now.instance in
+    let i = c.args.event.instance in
     let d = c.index-instances-number.result in
     let a = get_or xs i d in
     let lt : i < length xs = grind (arith, common_steps) in

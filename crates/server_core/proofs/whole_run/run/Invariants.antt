@@ -1,7 +1,7 @@
-use Rattle.std.proofs.Common.{map, take}
+use Rattle.std.proofs.Common.{map}
 use Rattle.server_events.specs.Shown.{event_value}
 use Rattle.server_core.specs.RunSoFar.{HasTaken}
 use Rattle.server_core.proofs.whole_run.run.Given as goal
 
 abbrev pub invariant-loop-event : goal.invariant-loop-event
-invariant-loop-event l = HasTaken l.configs (map event_value (take l.event-index l.events)) l.run
+invariant-loop-event l = HasTaken l.configs (map event_value l.yielded) l.run

@@ -14,20 +14,20 @@ use Rattle.served_instance.proofs.Stands.{came_by, stands_for}
 use Rattle.served_instance.proofs.instance.ServedInstance.step.Goals as goal
 
 pub returns-in-Some-clause-outcome : goal.returns-in-Some-clause-outcome
-returns-in-Some-clause-outcome c = λ l s. refused_outcome c.args.pool.now (Unit {0}) (event_value c.args.event.now) c.args.self.now l c.in-Some.refusal c.in-Some.ensures s
+returns-in-Some-clause-outcome c = λ l s. refused_outcome c.args.pool.now (Unit {0}) (event_value c.args.event) c.args.self.now l c.in-Some.refusal c.in-Some.ensures s
 
 pub returns-in-Some-clause-stands : goal.returns-in-Some-clause-stands
-returns-in-Some-clause-stands c = λ l s n. kept_at_refusal c.args.pool.now (event_value c.args.event.now) c.args.self.now l c.in-Some.refusal c.in-Some.ensures s
+returns-in-Some-clause-stands c = λ l s n. kept_at_refusal c.args.pool.now (event_value c.args.event) c.args.self.now l c.in-Some.refusal c.in-Some.ensures s
 
 pub returns-in-Err-clause-outcome : goal.returns-in-Err-clause-outcome
-returns-in-Err-clause-outcome c = λ l s. no_reason c.args.pool.now (event_value c.args.event.now) c.args.self.now l (sym c.in_default.is ∙ c.refusal.ensures) s
+returns-in-Err-clause-outcome c = λ l s. no_reason c.args.pool.now (event_value c.args.event) c.args.self.now l (sym c.in_default.is ∙ c.refusal.ensures) s
 
 pub returns-in-Ok-clause-outcome : goal.returns-in-Ok-clause-outcome
-returns-in-Ok-clause-outcome c = λ l s. no_reason c.args.pool.now (event_value c.args.event.now) c.args.self.now l (sym c.in_default.is ∙ c.refusal.ensures) s
+returns-in-Ok-clause-outcome c = λ l s. no_reason c.args.pool.now (event_value c.args.event) c.args.self.now l (sym c.in_default.is ∙ c.refusal.ensures) s
 
 pub returns-in-Ok-clause-stands : goal.returns-in-Ok-clause-stands
 returns-in-Ok-clause-stands c = λ l s n.
-    let e = event_value c.args.event.now in
+    let e = event_value c.args.event in
     let p = c.args.pool.now in
     let m = lone_at_moment e.moment l in
     let acts = c.in-Ok.ensures.acted m (came_by p c.self.inside.instance c.set_moment.new.self c.self.inside.connections.items c.args.self.now e.moment l c.self.view_is (c.set_moment.ensures.changed p) s) in
@@ -37,7 +37,7 @@ returns-in-Ok-clause-stands c = λ l s n.
 
 pub returns-in-Ok-clause-settled : goal.returns-in-Ok-clause-settled
 returns-in-Ok-clause-settled c = λ l s.
-    let e = event_value c.args.event.now in
+    let e = event_value c.args.event in
     let p = c.args.pool.now in
     let m = lone_at_moment e.moment l in
     let acts = c.in-Ok.ensures.acted m (came_by p c.self.inside.instance c.set_moment.new.self c.self.inside.connections.items c.args.self.now e.moment l c.self.view_is (c.set_moment.ensures.changed p) s) in
@@ -45,7 +45,7 @@ returns-in-Ok-clause-settled c = λ l s.
 
 pub act-requires : goal.act-requires
 act-requires c =
-    let e = event_value c.args.event.now in
+    let e = event_value c.args.event in
     let p = c.args.pool.now in
     let P : ServedSlots → Type 0 = λ v. refusal_by e v ≡ None in
     let vs = map connection_shown c.self.inside.connections.items in
@@ -62,9 +62,9 @@ act-requires c =
 pub returns-in-Some-clause-here : goal.returns-in-Some-clause-here
 returns-in-Some-clause-here c = λ h.
     let same : c.in-Some.refusal ≡ NoSuchInstance = cc in
-    not_elsewhere (event_value c.args.event.now) c.args.self.now c.in-Some.refusal c.in-Some.ensures same
+    not_elsewhere (event_value c.args.event) c.args.self.now c.in-Some.refusal c.in-Some.ensures same
 
 pub returns-in-Some-clause-memory_free : goal.returns-in-Some-clause-memory_free
 returns-in-Some-clause-memory_free c = λ free h.
     let same : c.in-Some.refusal ≡ NoMemory = cc in
-    not_for_memory (event_value c.args.event.now) c.args.self.now c.in-Some.refusal c.in-Some.ensures same
+    not_for_memory (event_value c.args.event) c.args.self.now c.in-Some.refusal c.in-Some.ensures same

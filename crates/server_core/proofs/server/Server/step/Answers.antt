@@ -11,10 +11,10 @@ use Rattle.server_core.proofs.server.Server.step.Goals as goal
 
 pub returns-else-matches-clause-own : goal.returns-else-matches-clause-own
 returns-else-matches-clause-own c = λ ne l s.
-    let n : ℕ = c.args.event.now.instance in
+    let n : ℕ = c.args.event.instance in
     let p = c.self.inside.pool in
     let q = c.step_one-outcome.new.pool in
     let long : c.self.inside.instances.len ≡ length c.step_one-outcome.new.instances = grind (arith, common_steps) in
     let old = ap (all_in p) c.deref_mut.ensures.value ∙ ap (λ v. v.instances) c.self.view_is in
     let before = subst (λ (vs : List ServedState). StandsAt n vs l) (sym old) s in
-    subst (λ (xs : List ServedSlots). StandsAt n (all_in q xs) (lone_step (event_value c.args.event.now) l)) (sym (written _ _ _ long)) (c.step_one-outcome.ensures.own ne l before)
+    subst (λ (xs : List ServedSlots). StandsAt n (all_in q xs) (lone_step (event_value c.args.event) l)) (sym (written _ _ _ long)) (c.step_one-outcome.ensures.own ne l before)

@@ -16,9 +16,9 @@ returns c configs events h =
     let before : RunValue = record { server = old.server; records = old.records.items; strays = old.strays.items; count = old.count } in
     let long : old.records.len ≡ length new.records = grind (arith, common_steps) in
     let after : RunValue = record { server = new.server; records = new.records; strays = new.strays.items; count = old.count + 1 } in
-    let taken = taken_more configs events (event_value c.args.event.now) before after (subst (HasTaken configs events) (sym c.self.view_is) h)
+    let taken = taken_more configs events (event_value c.args.event) before after (subst (HasTaken configs events) (sym c.self.view_is) h)
     refl did.count
     (λ i r was. did.runs i r (subst (λ (rs : List RecordValue). HasRun i old.server.instances rs r) (sym c.deref_mut.ensures.value) was))
     did.strays in
-    subst (λ (rs : List RecordValue). HasTaken configs (events ++ event_value c.args.event.now ∷ []) (record { server = new.server; records = rs; strays = new.strays.items; count = old.count + 1 }))
+    subst (λ (rs : List RecordValue). HasTaken configs (events ++ event_value c.args.event ∷ []) (record { server = new.server; records = rs; strays = new.strays.items; count = old.count + 1 }))
     (sym (written _ _ _ long)) taken

@@ -1,6 +1,6 @@
 -- One more happening at the sockets.
-use Rattle.std.proofs.Common.{◌≡◌, ℕ, zero, suc, ◌<◌, ◌≤◌, List, [], ◌∷◌, ◌++◌, length, take, refl, ap, ◌∙◌, sym, subst, arith, inl, inr, append-nil, append_assoc}
-use Rattle.std.specs.Prelude.{Bool, true, false, cond, ◌==◌, if◌then◌else◌, Option, Some, None, ◌⊎◌, fold}
+use Rattle.std.proofs.Common.{◌≡◌, ℕ, zero, suc, ◌<◌, List, [], ◌∷◌, ◌++◌, length, take, refl, ap, ◌∙◌, sym, subst, arith, inl, inr, append-nil, append_assoc}
+use Rattle.std.specs.Prelude.{Bool, true, false, cond, ◌==◌, if◌then◌else◌, Some, ◌⊎◌, fold}
 use Rattle.std.specs.List.{slice_get}
 use Rattle.std.proofs.lemmas.List.{take-append-le}
 use Rattle.std.proofs.Math.Seq.{take-append_seam}
@@ -9,7 +9,6 @@ use Rattle.std.proofs.lemmas.Option.{none-some, same_Some}
 use Rattle.server_events.specs.Configs.{ConfigValue}
 use Rattle.server_events.specs.Events.{EventValue, tick}
 use Rattle.server_core.specs.Runs.{Run, run_of, run_step}
-use Rattle.served_instance.specs.Lone.{Lone}
 use Rattle.served_instance.specs.Refusals.{lone_step}
 use Rattle.serve.specs.SocketEvents.{SocketEvent, PortEvent, clock, port, what_of, moment_after, moment_of, events_for, events_from, events_of, lone_of}
 use Rattle.serve.specs.Served.{IsFaithful, IsServed}

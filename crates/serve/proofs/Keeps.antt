@@ -1,9 +1,9 @@
 -- What the calls of the sockets and of the server keep.
 use Rattle.std.proofs.Common.{◌≡◌, ◌≢◌, ℕ, ◌≤◌, List, [], ◌∷◌, ◌++◌, length, take, refl, ap, ◌∙◌, sym, subst, arith, inl, inr, append-nil}
-use Rattle.std.specs.Prelude.{Bool, true, false, cond, ◌==◌, if◌then◌else◌, Option, Some, None, IsSomeAnd, IfSome, Result, Ok, Err, IsErrAnd}
-use Rattle.std.specs.Option.{option_map, is_some}
+use Rattle.std.specs.Prelude.{Bool, true, false, cond, ◌==◌, Option, Some, None, IsSomeAnd, IfSome, Result, Ok, Err, IsErrAnd}
+use Rattle.std.specs.Option.{option_map}
 use Rattle.std.specs.Io.{StartsWith}
-use Rattle.std.proofs.lemmas.Bool.{cases_eq, eq-eqb, ne_eqb, true≢false}
+use Rattle.std.proofs.lemmas.Bool.{cases_eq, eq-eqb, ne_eqb}
 use Rattle.std.proofs.lemmas.List.{length-take-le}
 use Rattle.std.proofs.lemmas.Option.{none-some, same_Some}
 use Rattle.grpc_sending.specs.Bytes.{pending_bytes}
@@ -14,10 +14,9 @@ use Rattle.served_instance.specs.Connections.{open_at}
 use Rattle.served_instance.specs.Lone.{Lone}
 use Rattle.served_instance.specs.Refusals.{refusal_of, lone_step}
 use Rattle.served_instance.specs.StandsFor.{ServedState}
-use Rattle.server_core.specs.LoneOutput.{config_at}
-use Rattle.server_core.specs.StandsFor.{StandsAt, instance_at}
+use Rattle.server_core.specs.StandsFor.{StandsAt}
 use Rattle.serve.specs.SocketEvents.{SocketEvent, PortEvent, port, what_of, moment_of, lone_of, Adds}
-use Rattle.serve.specs.Served.{AreNextOn, IsFaithful, IsServed, Stands, IsAt, IsServing, IsAfter, WasServed, Takes}
+use Rattle.serve.specs.Served.{IsFaithful, IsServed, Stands, IsAt, IsServing, IsAfter, WasServed, Takes}
 use Rattle.serve.proofs.Moments.{step_within, took_taken}
 use Rattle.serve.proofs.Happenings.{moment_more, port_more, served_more}
 

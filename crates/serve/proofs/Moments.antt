@@ -1,6 +1,6 @@
 -- The moment of an instance is that of the last event that it took.
-use Rattle.std.proofs.Common.{◌≡◌, ℕ, ◌≤◌, List, [], ◌∷◌, length, refl, ap, ◌∙◌, sym, subst, arith, inl, inr}
-use Rattle.std.specs.Prelude.{Bool, true, false, cond, nat_lt, Option, Some, None, Result, Ok, Err}
+use Rattle.std.proofs.Common.{◌≡◌, ℕ, ◌≤◌, List, [], ◌∷◌, length, refl, ap, ◌∙◌, sym, subst, inl, inr}
+use Rattle.std.specs.Prelude.{Bool, false, cond, nat_lt, Option, Some, None, Result, Ok, Err}
 use Rattle.std.specs.Option.{option_map, option_map_or}
 use Rattle.std.proofs.lemmas.Bool.{cases_Bool, le-ltb}
 use Rattle.std.proofs.lemmas.Option.{none-some, same_Some}
@@ -24,7 +24,7 @@ use Rattle.served_instance.specs.declared.refusal.EventRefusal.{EventRefusal}
 use Rattle.served_instance.specs.declared.refusal.EventRefusal.TheVariants.{TimeWentBack, NoSuchConnection, TookTooMuch}
 use Rattle.served_instance.specs.Connections.{open_at, at_open, with_closed}
 use Rattle.served_instance.specs.Calls.{call_event_on, items_of, with_items}
-use Rattle.served_instance.specs.Lone.{Lone, after_replies, after_call_event, after_call_events, due_at, without_due, after_due_on, after_frame_on, is_over, after_frames_on, after_fault_on, after_end_on, unread_frames, after_reading_on, after_bytes_on, lone_at_moment, effect_of, after_event}
+use Rattle.served_instance.specs.Lone.{Lone, after_replies, after_call_event, after_call_events, due_at, without_due, after_due_on, after_frame_on, is_over, after_frames_on, after_fault_on, after_end_on, unread_frames, after_reading_on, lone_at_moment, effect_of}
 use Rattle.served_instance.specs.Refusals.{refusal_of, refusal_of_what, after_event_unless, lone_step}
 
 -- no change is one of the moment

@@ -1,5 +1,5 @@
 -- What a server has to do with what happens at its sockets.
-use Rattle.std.specs.Prelude.{◌≡◌, ◌≢◌, ◌≤◌, ℕ, List, [], length, take, Option, Some, None, Result, Ok, Err, IsSomeAnd, IfSome, false}
+use Rattle.std.specs.Prelude.{◌≡◌, ◌≢◌, ◌≤◌, ℕ, List, length, take, Option, Some, None, Result, Ok, Err, IsSomeAnd, IfSome}
 use Rattle.std.specs.List.{slice_get}
 use Rattle.std.specs.Io.{StartsWith}
 use Rattle.grpc_sending.specs.Bytes.{pending_bytes}
@@ -11,7 +11,7 @@ use Rattle.served_instance.specs.Refusals.{refusal_of, lone_step}
 use Rattle.served_instance.specs.StandsFor.{ServedState}
 use Rattle.server_core.specs.LoneOutput.{config_at}
 use Rattle.server_core.specs.StandsFor.{StandsAt, instance_at}
-use Rattle.serve.specs.SocketEvents.{SocketEvent, PortEvent, clock, port, accepted, read, written, shut, moment_of, lone_of}
+use Rattle.serve.specs.SocketEvents.{SocketEvent, port, accepted, written, moment_of, lone_of}
 
 -- the connection is open, and these are the first of the bytes that wait on it
 abbrev pub AreNextOn : ℕ → Lone → List ℕ → Type 0

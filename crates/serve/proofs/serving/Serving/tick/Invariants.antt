@@ -1,6 +1,6 @@
 use Rattle.std.proofs.Common.{◌≡◌, List, ◌∷◌, []}
 use Rattle.server_events.specs.Configs.{ConfigValue}
-use Rattle.serve.specs.SocketEvents.{SocketEvent, clock, Adds}
+use Rattle.serve.specs.SocketEvents.{clock, Adds}
 use Rattle.serve.specs.Served.{IsServing}
 use Rattle.serve.proofs.Ticks.{IsTicking, Rises}
 use Rattle.serve.proofs.serving.Serving.tick.Given as goal

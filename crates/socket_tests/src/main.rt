@@ -59,7 +59,7 @@ fn case<O: Write>(
         differing,
         served,
         refused,
-    } = judge(alloc, &configs, &fake)?;
+    } = judge(alloc, &configs, &mut fake)?;
     let seed = habits.seed;
     if habits.is_steady {
         writeln!(

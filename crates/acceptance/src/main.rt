@@ -1,18 +1,25 @@
-//! Carries out the scripts of standard input one by one, and writes what becomes of each: the
-//! stored cases of `unary` and `replay`, with what they have to write beside them.
+//! Carries out the cases of standard input one by one, and writes what becomes of each.
 //!
-//! A line `# unary NAME`, `# replay NAME` or `# stored NAME` begins a case. The lines below it, up
-//! to the next such line, are its script, which ends without a newline: one that ends with a
-//! newline has an empty line as its last. `stored` takes a script of `replay`, and tells after each
-//! event how many texts the server holds, and how many bytes these have together.
+//! A line `# KIND NAME` begins a case. The lines below it, up to the next such line, are its script,
+//! which ends without a newline: one that ends with a newline has an empty line as its last. KIND
+//! says what carries the script out:
+//!
+//! | kind | what is carried out |
+//! |---|---|
+//! | `unary`, `replay` | what the program does for a script of calls, and for one of events |
+//! | `stored` | a script of events: after each, how many texts the server holds, of how many bytes |
+//! | `limits` | lines that reach each limit of trees and of results, and pass it by one |
+//! | `sockets` | clients over fake sockets and over real ones, each of which sends a line's bytes |
 #![tactic(auto)]
+
+mod instances;
+mod limits;
+mod sockets;
+mod stored;
 
 use program_status::{Status, read_all};
 use replay::replay;
-use script::replay::{ReplayScript, parse};
-use script::{ScriptFault, lines};
-use server_core::Server;
-use server_events::Configs;
+use script::lines;
 use std::alloc::{AllocError, Global};
 use std::io::{self, BufWriter, Write};
 use std::process::ExitCode;
@@ -24,7 +31,18 @@ enum Kind {
     Unary,
     Replay,
     Stored,
+    Limits,
+    Sockets,
 }
+
+/// How the line begins that begins a case.
+static KINDS: [(&[u8], Kind); 5] = [
+    (b"# unary ", Kind::Unary),
+    (b"# replay ", Kind::Replay),
+    (b"# stored ", Kind::Stored),
+    (b"# limits ", Kind::Limits),
+    (b"# sockets ", Kind::Sockets),
+];
 
 /// A case whose lines are being read.
 #[derive(Drop)]
@@ -52,13 +70,16 @@ impl Case {
     }
 
     /// Carries the script out, and writes what it printed, what it told of errors, and its status.
-    fn finish<O: Write>(&self, alloc: Global, output: &mut O) -> io::Result<()> {
+    fn finish<O: Write>(&self, rt: &HostRuntime, output: &mut O) -> io::Result<()> {
+        let alloc = rt.alloc();
         let mut input = self.script.as_slice();
         let mut errors = Vec::new(alloc);
         let status = match self.kind {
             Kind::Unary => unary(alloc, &mut input, output, &mut errors),
             Kind::Replay => replay(alloc, &mut input, output, &mut errors),
-            Kind::Stored => stored(alloc, input, output)?,
+            Kind::Stored => stored::carry_out(alloc, input, output)?,
+            Kind::Limits => limits::carry_out(alloc, input, output)?,
+            Kind::Sockets => sockets::carry_out(rt, input, output)?,
         };
         output.write_all(&errors)?;
         writeln!(output, "status {}", status.code())
@@ -67,68 +88,33 @@ impl Case {
 
 /// What the case that a line begins is carried out by; `None` where the line begins none.
 fn kind_of(line: &[u8]) -> Option<Kind> {
-    if line.starts_with(b"# unary ") {
-        Some(Kind::Unary)
-    } else if line.starts_with(b"# replay ") {
-        Some(Kind::Replay)
-    } else if line.starts_with(b"# stored ") {
-        Some(Kind::Stored)
-    } else {
-        None
+    for (beginning, kind) in &KINDS {
+        if line.starts_with(beginning) {
+            return Some(*kind);
+        }
     }
-}
-
-/// Gives a server the events of a script one by one, and tells after each what it has stored.
-fn stored<O: Write>(alloc: Global, text: &[u8], output: &mut O) -> io::Result<Status> {
-    match parse(alloc, text) {
-        Ok(script) => tell_stored(alloc, script, output),
-        Err(ScriptFault::BadLine(number)) => Ok(Status::BadLine(number)),
-        Err(ScriptFault::NoMemory) => Ok(Status::OutOfMemory),
-    }
-}
-
-fn tell_stored<O: Write>(
-    alloc: Global,
-    script: ReplayScript,
-    output: &mut O,
-) -> io::Result<Status> {
-    let Ok(configs) = Configs::new(script.configs) else {
-        return Ok(Status::Failed);
-    };
-    let Ok(mut server) = Server::new(alloc, &configs) else {
-        return Ok(Status::OutOfMemory);
-    };
-    let mut events = script.events;
-    for place in 1..u64::MAX {
-        let Some(event) = events.next_event(alloc)? else {
-            break;
-        };
-        let _ = server.step(event);
-        let (texts, bytes) = server.stored();
-        writeln!(output, "stored {place} {texts} {bytes}")?;
-    }
-    Ok(Status::Done)
+    None
 }
 
 /// Carries out the cases of a text.
-fn carry_out<O: Write>(alloc: Global, text: &[u8], output: &mut O) -> io::Result<()> {
+fn carry_out<O: Write>(rt: &HostRuntime, text: &[u8], output: &mut O) -> io::Result<()> {
     let mut case: Option<Case> = None;
     for line in lines(text) {
         match (kind_of(line), &mut case) {
             (Some(kind), before) => {
                 if let Some(before) = before {
-                    before.finish(alloc, output)?;
+                    before.finish(rt, output)?;
                 }
                 output.write_all(line)?;
                 output.write_all(b"\n")?;
-                case = Some(Case::new(alloc, kind));
+                case = Some(Case::new(rt.alloc(), kind));
             }
             (None, Some(case)) => case.add(line)?,
             (None, None) => {}
         }
     }
     match case {
-        Some(last) => last.finish(alloc, output),
+        Some(last) => last.finish(rt, output),
         None => Ok(()),
     }
 }
@@ -139,7 +125,7 @@ fn run(rt: &HostRuntime) -> io::Result<Status> {
         Err(fault) => return Ok(fault.status()),
     };
     let mut output = BufWriter::new(rt.alloc(), rt.stdout())?;
-    carry_out(rt.alloc(), &text, &mut output)?;
+    carry_out(rt, &text, &mut output)?;
     output.flush()?;
     Ok(Status::Done)
 }

@@ -1,5 +1,6 @@
 #![tactic(auto)]
-//! Tests of `script`, `program_status`, `unary`, `probe` and `command_line`.
+//! Tests of the server and of the program: of `digest`, `server_events`, `server_core`, `script`,
+//! `program_status`, `unary`, `probe` and `command_line`.
 
 #[cfg(test)]
 mod tests;

@@ -60,7 +60,7 @@ fn case<O: Write>(
     let clients = clients(alloc, texts, count, habits.is_steady)?;
     let mut fake = Fake::new(alloc, texts, clients, habits);
     serve(alloc, &configs, &mut fake, TURNS)?;
-    let outcome = judge(alloc, &configs, &fake)?;
+    let outcome = judge(alloc, &configs, &mut fake)?;
     tell(habits, outcome, fake.faults() > 0, output)
 }
 

@@ -27,7 +27,7 @@ fn tell_stored<O: Write>(
         let Some(event) = events.next_event(alloc)? else {
             break;
         };
-        let _ = server.step(&event);
+        let _ = server.step(event);
         let (texts, bytes) = server.stored();
         writeln!(output, "stored {place} {texts} {bytes}")?;
     }

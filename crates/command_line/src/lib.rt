@@ -322,6 +322,28 @@ fn missing(command: &mut Command<'_>) -> CommandLineError
     }
 }
 
+/// What the words ask for by this command, which is the program's.
+fn asked<'a>(
+    alloc: Global,
+    command: &mut Command<'a>,
+    words: &'a [String],
+) -> Result<Task<'a>, CommandLineError>
+    requires { app_of command.old ≡ command_line }
+    ensures task { IfOk result (λ task. task_asked (map string_bytes words.entry.now)
+        ≡ Some (task_value task)) }
+    ensures faultless { IfOk result (λ _. HasNoFault (map string_bytes words.entry.now)) }
+    ensures fault { IfErr result (IsFaultOf (map string_bytes words.entry.now)) }
+{
+    let matches = match command.try_get_matches_from_mut(words) {
+        Ok(matches) => matches,
+        Err(error) => return Err(CommandLineError::from(error)),
+    };
+    match requested(alloc, &matches)? {
+        Some(task) => Ok(task),
+        None => Err(missing(command)),
+    }
+}
+
 /// What the words of a command line ask for.
 pub fn parse<'a>(alloc: Global, words: &'a [String]) -> Result<Task<'a>, CommandLineError>
     ensures task { IfOk result (λ task. task_asked (map string_bytes words.entry.now)
@@ -330,15 +352,7 @@ pub fn parse<'a>(alloc: Global, words: &'a [String]) -> Result<Task<'a>, Command
     ensures fault { IfErr result (IsFaultOf (map string_bytes words.entry.now)) }
 {
     let mut command = command(alloc)?;
-    let matches = match command.try_get_matches_from_mut(words) {
-        Ok(matches) => matches,
-        Err(error) => return Err(CommandLineError::from(error)),
-    };
-    let task = requested(alloc, &matches)?;
-    match task {
-        Some(task) => Ok(task),
-        None => Err(missing(&mut command)),
-    }
+    asked(alloc, &mut command, words)
 }
 
 /// The status with which the program ends once an error was printed: 0 after help and the version,

@@ -83,16 +83,16 @@ config_of-good before (name ∷ quota ∷ slots ∷ []) made h =
 config_of-good before (a ∷ b ∷ c ∷ d ∷ more) made h = cc
 
 -- the instance of these words
-pub config_of-words : (before : List ConfigValue) (words : List (List ℕ)) (name quota slots : List ℕ) (bytes count : ℕ) (made : ConfigValue)
+pub config_of-words : (before : List ConfigValue) (words : List (List ℕ)) (name quota slots : List ℕ) (bytes count : ℕ)
     → Some (name, quota, slots) ≡ three_of words → Some bytes ≡ decimal_of quota → Some count ≡ number_of slots
-    → config_if_good before (config name bytes count) ≡ Some made → config_of before words ≡ Some made
-config_of-words before [] name quota slots bytes count made w q s h = cc
-config_of-words before (a ∷ []) name quota slots bytes count made w q s h = cc
-config_of-words before (a ∷ b ∷ []) name quota slots bytes count made w q s h = cc
-config_of-words before (a ∷ b ∷ c ∷ []) name quota slots bytes count made w q s h =
+    → config_of before words ≡ config_if_good before (config name bytes count)
+config_of-words before [] name quota slots bytes count w q s = cc
+config_of-words before (a ∷ []) name quota slots bytes count w q s = cc
+config_of-words before (a ∷ b ∷ []) name quota slots bytes count w q s = cc
+config_of-words before (a ∷ b ∷ c ∷ []) name quota slots bytes count w q s =
     let same = triple name quota slots a b c w in
-    rw (← same.0, ← same.1, ← same.2, ← q, ← s) h
-config_of-words before (a ∷ b ∷ c ∷ d ∷ more) name quota slots bytes count made w q s h = cc
+    rw (← same.0, ← same.1, ← same.2, ← q, ← s) refl
+config_of-words before (a ∷ b ∷ c ∷ d ∷ more) name quota slots bytes count w q s = cc
 
 -- ---- whole scripts
 

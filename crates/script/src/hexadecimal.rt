@@ -1,5 +1,5 @@
 //! Bytes in hexadecimal.
-ghost use Rattle.std.specs.Prelude.{◌≡◌, ◌++◌, IfOk, OnOk, OnErr};
+ghost use Rattle.std.specs.Prelude.{◌≡◌, ◌++◌, string_bytes, IfOk, OnOk, OnErr};
 ghost use Rattle.std.specs.List.{list_all};
 ghost use Rattle.std.specs.Option.{option_map};
 ghost use Rattle.script.specs.Hexadecimal.{bytes_of_hex, digits_bytes, hex_word, is_lower_hex_digit};
@@ -43,16 +43,23 @@ fn are_lower_digits(digits: &[u8]) -> bool
         .all(|byte| matches!(byte, b'0'..=b'9' | b'a'..=b'f'))
 }
 
+/// The word that writes the bytes: lower-case hexadecimal, or `-` for no bytes.
+pub(crate) fn hex_text(alloc: Global, bytes: &[u8]) -> Result<String, NoMemory>
+    ensures { IfOk result (λ text. string_bytes text ≡ hex_word bytes.now) }
+{
+    if bytes.is_empty() {
+        String::from_str(alloc, "-")
+    } else {
+        hex::encode(alloc, bytes)
+    }
+}
+
 /// Appends the word that writes the bytes: lower-case hexadecimal, or `-` for no bytes. Where
 /// memory is refused, `out` has the items that it had.
 pub fn write_hex(out: &mut Vec<u8>, bytes: &[u8]) -> Result<(), NoMemory>
     ensures written { OnOk result (out.new.items ≡ out.old.items ++ hex_word bytes.now) }
     ensures refused { OnErr result (out.new.items ≡ out.old.items) }
 {
-    if bytes.is_empty() {
-        out.push(b'-')?;
-        return Ok(());
-    }
-    let text = hex::encode(*out.allocator(), bytes)?;
+    let text = hex_text(*out.allocator(), bytes)?;
     out.extend_from_slice(text.as_bytes())
 }

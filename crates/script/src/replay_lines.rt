@@ -1,11 +1,10 @@
 //! The lines that tell what a server did with a script of events: for each instance the bytes that
 //! it sent on each connection, the orders that it gave and the events that it refused; and the
 //! events that were no instance's.
-ghost use Rattle.std.specs.Prelude.{◌≡◌, ◌++◌, ◌≤◌, length, take, OnOk, OnErr};
-ghost use Rattle.script.specs.Hexadecimal.{hex_word};
+ghost use Rattle.std.specs.Prelude.{◌≡◌, ◌++◌, OnOk, OnErr};
 ghost use Rattle.script.specs.ResultLines.{sent_line, start_line, kill_line, refusal_line, stray_line};
 
-use crate::write_hex;
+use crate::hexadecimal::hex_text;
 use std::alloc::AllocError as NoMemory;
 
 /// Appends `out I C HEX` and a newline: the bytes that an instance put on a connection. Where
@@ -20,29 +19,9 @@ pub fn write_sent(
         ++ sent_line instance connection bytes.now) }
     ensures refused { OnErr result (out.new.items ≡ out.old.items) }
 {
-    let before = out.len();
-    let written = append_sent(out, instance, connection, bytes);
-    if written.is_err() {
-        out.truncate(before);
-    }
-    written
-}
-
-fn append_sent(
-    out: &mut Vec<u8>,
-    instance: u32,
-    connection: u32,
-    bytes: &[u8],
-) -> Result<(), NoMemory>
-    ensures written { OnOk result (out.new.items ≡ out.old.items
-        ++ sent_line instance connection bytes.now) }
-    ensures kept { take (length out.old.items) out.new.items ≡ out.old.items }
-{
-    let start = format!(in *out.allocator(); "out {instance} {connection} ")?;
-    out.extend_from_slice(start.as_bytes())?;
-    write_hex(out, bytes)?;
-    out.push(b'\n')?;
-    Ok(())
+    let hex = hex_text(*out.allocator(), bytes)?;
+    let line = format!(in *out.allocator(); "out {instance} {connection} {hex}\n")?;
+    out.extend_from_slice(line.as_bytes())
 }
 
 /// Appends `order I K start JOB` and a newline: at its event of that place, counted from 1, the

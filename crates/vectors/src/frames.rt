@@ -90,8 +90,9 @@ fn feed_all(
 ) -> io::Result<()> {
     for line in operations {
         let piece = octets(alloc, line)?;
-        match reader.feed(&piece) {
-            Ok(()) => show_frames(alloc, reader, piece.len(), out)?,
+        let length = piece.len();
+        match reader.feed(piece) {
+            Ok(()) => show_frames(alloc, reader, length, out)?,
             Err(fault) => writeln!(out, "{fault:?}")?,
         }
     }

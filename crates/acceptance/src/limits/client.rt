@@ -129,11 +129,11 @@ impl Client {
             instance: 0,
             what,
         };
-        self.server.step(&event).map_err(|_| fault())
+        self.server.step(event).map_err(|_| fault())
     }
 
     /// Takes all that waits, until nothing more comes.
-    fn take(&mut self) -> io::Result<()> {
+    fn take(&mut self, alloc: Global) -> io::Result<()> {
         for _ in 0..u32::MAX {
             let Some(pending) = self.server.pending(0, 0) else {
                 break;
@@ -142,7 +142,8 @@ impl Client {
                 break;
             }
             let count = u32::try_from(pending.len()).unwrap_or(0);
-            self.received.feed(pending).map_err(|_| fault())?;
+            let piece = Vec::from_slice(alloc, pending)?;
+            self.received.feed(piece).map_err(|_| fault())?;
             self.step(What::Took(0, count))?;
         }
         Ok(())
@@ -179,7 +180,7 @@ impl Client {
         self.next_stream = stream.saturating_add(2);
         let bytes = call_frames(alloc, stream, path, request)?;
         self.step(What::Bytes(0, bytes))?;
-        self.take()?;
+        self.take(alloc)?;
         self.answer(alloc, stream)
     }
 }

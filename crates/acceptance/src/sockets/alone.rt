@@ -6,6 +6,7 @@ use server_core::{Outputs, SentBytes, run};
 use server_events::Configs;
 use std::alloc::Global;
 use std::io;
+use std::mem::replace;
 
 /// What came of a case.
 #[derive(Clone, Copy)]
@@ -51,8 +52,9 @@ fn add(outcome: &mut Outcome, outputs: &Outputs, client: &Client, is_whole: bool
 
 /// Compares what the clients of fake sockets received with a run of the events that were noted.
 /// Steady clients received all of it, others a front.
-pub fn judge(alloc: Global, configs: &Configs, fake: &Fake<'_>) -> io::Result<Outcome> {
-    let outputs = run(alloc, configs, &fake.events)?;
+pub fn judge(alloc: Global, configs: &Configs, fake: &mut Fake<'_>) -> io::Result<Outcome> {
+    let events = replace(&mut fake.events, Vec::new(alloc));
+    let outputs = run(alloc, configs, events)?;
     let mut outcome = Outcome {
         differing: 0,
         served: 0,

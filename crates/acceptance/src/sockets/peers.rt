@@ -90,7 +90,7 @@ fn is_as_alone(alloc: Global, configs: &Configs, peer: &Peer<'_>) -> io::Result<
             what,
         })?;
     }
-    let outputs = run(alloc, configs, &events)?;
+    let outputs = run(alloc, configs, events)?;
     match sent_on(&outputs, peer.instance, 0) {
         Some(sent) => Ok(sent.bytes.as_slice() == peer.received.as_slice()),
         None => Ok(false),

@@ -69,7 +69,7 @@ fn owe_message(alloc: Global, connection: &mut Connection) -> Result<(), AllocEr
     connection.owe_message(1, Vec::from_slice(alloc, MESSAGE)?)
 }
 
-fn feed(connection: &mut Connection, piece: &[u8]) -> Result<(), AllocError>
+fn feed(connection: &mut Connection, piece: Vec<u8>) -> Result<(), AllocError>
     requires { (texts : Look) → Fit texts connection.old.sending.queues }
     ensures { (texts : Look) → Fit texts connection.new.sending.queues }
 {
@@ -141,7 +141,7 @@ fn receive(connection: &mut Connection, piece: &[u8], all: &mut Vec<u8>) -> Resu
     requires { (texts : Look) → Fit texts connection.old.sending.queues }
     ensures { (texts : Look) → Fit texts connection.new.sending.queues }
 {
-    feed(connection, piece)?;
+    feed(connection, Vec::from_slice(*all.allocator(), piece)?)?;
     note_frames(connection, all)?;
     pump(connection);
     Ok(())

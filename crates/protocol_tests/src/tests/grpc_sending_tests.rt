@@ -19,7 +19,8 @@ const NOT_ENDED: &[u8] = b"\x00\x00\x03\x01\x04\x00\x00\x00\x01\x83\x86\x84";
 
 fn receive(alloc: Global, streams: &mut Streams, bytes: &[u8]) -> Result<(), Fail> {
     let mut reader = FrameReader::without_preface(alloc);
-    reader.feed(bytes).ok().ok_or("memory")?;
+    let piece = Vec::from_slice(alloc, bytes)?;
+    reader.feed(piece).ok().ok_or("memory")?;
     for _ in 0..9 {
         match reader.find() {
             Ok(true) => {
@@ -162,7 +163,10 @@ fn next_length(reader: &mut FrameReader) -> Option<usize> {
 /// Whether these are the lengths of the frames of these bytes.
 fn has_lengths(alloc: Global, bytes: &[u8], wanted: &[usize]) -> bool {
     let mut reader = FrameReader::without_preface(alloc);
-    if reader.feed(bytes).is_err() {
+    let Ok(piece) = Vec::from_slice(alloc, bytes) else {
+        return false;
+    };
+    if reader.feed(piece).is_err() {
         return false;
     }
     for length in wanted {

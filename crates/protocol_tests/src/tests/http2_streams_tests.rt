@@ -33,7 +33,8 @@ fn brings(streams: &mut Streams, frame: &RawFrame<'_>) -> Brought
 /// What the frame of these bytes brings.
 fn receives(alloc: Global, streams: &mut Streams, bytes: &[u8]) -> Result<Brought, Fail> {
     let mut reader = FrameReader::without_preface(alloc);
-    reader.feed(bytes).ok().ok_or("the frame was not taken")?;
+    let piece = Vec::from_slice(alloc, bytes)?;
+    reader.feed(piece).ok().ok_or("the frame was not taken")?;
     let brought = match reader.find() {
         Ok(true) => Some(brings(streams, &reader.frame())),
         _ => None,

@@ -111,8 +111,7 @@ fn read_config(
     let (name, quota, slots) = three(words).ok_or(LineFault::Bad)?;
     let quota = decimal(quota).ok_or(LineFault::Bad)?;
     let slots = number(slots).ok_or(LineFault::Bad)?;
-    let config = config_if_good(alloc, before, name, quota, slots)?;
-    Ok(config)
+    config_if_good(alloc, before, name, quota, slots)
 }
 
 fn config_if_good(

@@ -10,7 +10,7 @@ ghost use Rattle.instance_core.specs.Answer.{head_answer, message_answer, fault_
 ghost use Rattle.instance_core.specs.Shown.{Gives, ChangesCalls, Makes, state_of};
 ghost use Rattle.instance_core.specs.Given.{holders_given};
 
-use crate::calls::{Call, Calls, Progress};
+use crate::calls::{Call, Calls, Progress, let_go};
 use crate::contents::{Contents, Settings};
 use crate::event::{CallId, Reply};
 use crate::methods::{answer_request, is_served};
@@ -81,7 +81,11 @@ pub fn on_message(
             let method = call.method();
             match method {
                 Method::Write => {
-                    on_first_part(alloc, settings, moment, contents, pool, calls, id, &message)
+                    let replies = on_first_part(
+                        alloc, settings, moment, contents, pool, calls, id, &message,
+                    );
+                    let_go(message);
+                    replies
                 }
                 _ => {
                     calls.put(id, Call::new(method, Progress::Has(message)))?;
@@ -101,6 +105,7 @@ pub fn on_message(
                 write,
                 &message,
             );
+            let_go(message);
             settle_next(alloc, calls, id, outcome)
         }
     }

@@ -64,15 +64,20 @@ impl Call {
         &self.progress
     }
 
-    /// Lets go of the call. A large message is made small before it is freed, so that those that
-    /// come later have blocks of their own too, and nothing is left of them when they are freed.
+    /// Lets go of the call, and of its message.
     fn let_go(self) {
-        if let Progress::Has(mut message) = self.progress {
-            if message.capacity() >= OWN_BLOCK {
-                message.clear();
-                message.shrink_to(1);
-            }
+        if let Progress::Has(message) = self.progress {
+            let_go(message);
         }
+    }
+}
+
+/// Lets go of a message. A large one is made small before it is freed, so that those that come
+/// later have blocks of their own too, and nothing is left of them when they are freed.
+pub fn let_go(mut message: Vec<u8>) {
+    if message.capacity() >= OWN_BLOCK {
+        message.clear();
+        message.shrink_to(1);
     }
 }
 

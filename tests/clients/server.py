@@ -59,5 +59,11 @@ class Server:
         return (int(words[11]) + int(words[12])) / os.sysconf("SC_CLK_TCK")
 
     def peak_megabytes(self):
+        return self._status_megabytes("VmHWM")
+
+    def resident_megabytes(self):
+        return self._status_megabytes("VmRSS")
+
+    def _status_megabytes(self, name):
         with open(self._proc("status")) as status:
-            return next(int(line.split()[1]) / 1024 for line in status if line.startswith("VmHWM"))
+            return next(int(line.split()[1]) / 1024 for line in status if line.startswith(name))

@@ -36,7 +36,7 @@ fn run(alloc: Global, configs: &Configs, mut events: EventReader) -> Result<Outp
 {
     let mut run = ServerRun::new(alloc, configs)?;
     'events: while let Some(event) = events.next_event(alloc)? {
-        run = run.step(&event)?;
+        run = run.step(event)?;
     }
     run.outputs(alloc)
 }

@@ -1,6 +1,6 @@
 //! What is moved between one connection's socket and the server.
 
-ghost use Rattle.std.specs.Prelude.{◌≡◌, OnOk, Ok, Err, true};
+ghost use Rattle.std.specs.Prelude.{◌≡◌, IfOk, OnOk, Ok, Err, true};
 ghost use Rattle.server_events.specs.Shown.{what_value};
 ghost use Rattle.serve.specs.Served.{Takes, KeepsServing};
 
@@ -36,11 +36,21 @@ pub(crate) fn tell(
         instance,
         what,
     };
-    match server.step(&event) {
+    match server.step(event) {
         Ok(()) => Ok(true),
         Err(EventRefusal::NoMemory) => Err(AllocError),
         Err(_) => Ok(false),
     }
+}
+
+/// A piece that was read, with room behind it for as many bytes again: where it ends within a frame,
+/// the rest of that is put there when it comes.
+fn with_room(alloc: Global, bytes: &[u8]) -> Result<Vec<u8>, AllocError>
+    ensures { IfOk result (λ piece. piece.items ≡ bytes.now) }
+{
+    let mut piece = Vec::with_capacity(alloc, bytes.len().saturating_mul(2))?;
+    piece.extend_from_slice(bytes)?;
+    Ok(piece)
 }
 
 /// Tells the server the bytes that came, as many as there is room for.
@@ -58,7 +68,7 @@ fn receive<S: Sockets>(
 {
     match sockets.read(socket, room) {
         Ok(count) => {
-            let bytes = Vec::from_slice(alloc, &room[..count])?;
+            let bytes = with_room(alloc, &room[..count])?;
             let came = What::Bytes(socket.connection, bytes);
             tell(server, moment, socket.instance, came)?;
             Ok(if count == 0 {

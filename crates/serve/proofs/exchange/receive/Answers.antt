@@ -13,10 +13,10 @@ returns-in_err-tell-in-Ok g c = record {
 
 pub returns-then-count-eq0 : goal.returns-then-count-eq0
 returns-then-count-eq0 g c = record {
-  serving = λ configs at. read_told configs _ _ _ _ _ _ _ _ _ c.in-Ok.ensures.adds c.in_ok-bytes-in-Ok.ensures.items c.in_ok-tell-in-Ok.ensures.takes at;
+  serving = λ configs at. read_told configs _ _ _ _ _ _ _ _ _ c.in-Ok.ensures.adds c.in_ok-bytes-in-Ok.ensures c.in_ok-tell-in-Ok.ensures.takes at;
 }
 
 pub returns-else-count-eq0 : goal.returns-else-count-eq0
 returns-else-count-eq0 g c = record {
-  serving = λ configs at. read_told configs _ _ _ _ _ _ _ _ _ c.in-Ok.ensures.adds c.in_ok-bytes-in-Ok.ensures.items c.in_ok-tell-in-Ok.ensures.takes at;
+  serving = λ configs at. read_told configs _ _ _ _ _ _ _ _ _ c.in-Ok.ensures.adds c.in_ok-bytes-in-Ok.ensures c.in_ok-tell-in-Ok.ensures.takes at;
 }

@@ -1,22 +1,16 @@
 -- One more event of a run, and the run's end.
-use Rattle.std.proofs.Common.{◌≡◌, ℕ, ◌+◌, ◌<◌, List, [], ◌∷◌, ◌++◌, length, get_or, take, map, ap, ◌∙◌, sym, subst, arith, append-nil, append_assoc}
+use Rattle.std.proofs.Common.{◌≡◌, ℕ, ◌+◌, List, [], ◌∷◌, ◌++◌, length, ap, ◌∙◌, sym, subst, arith, append-nil, append_assoc}
 use Rattle.std.specs.Prelude.{Bool, true, false, cond, ◌==◌, if◌then◌else◌, fold}
-use Rattle.std.proofs.lemmas.List.{map_more, length_push}
+use Rattle.std.proofs.lemmas.List.{length_push}
 use Rattle.std.proofs.lemmas.List.Elements.{filter-append}
 use Rattle.std.proofs.lemmas.List.Sums.{fold_push}
 use Rattle.std.proofs.Math.Nat.{add-zero}
-use Rattle.server_events.specs.declared.event.Event.{Event}
 use Rattle.server_events.specs.Configs.{ConfigValue}
 use Rattle.server_events.specs.Events.{EventValue, own_events}
-use Rattle.server_events.specs.Shown.{event_value}
 use Rattle.server_core.specs.Runs.{Run, run_of, run_step}
 use Rattle.server_core.specs.RunTo.{HasRun}
 use Rattle.server_core.specs.RunSoFar.{HasTaken, RunValue}
 use Rattle.server_core.specs.LoneOutput.{stray_at, strays_from, strays}
-
--- the events so far and one more
-pub events_more : (events : List Event) (k : ℕ) (e : Event) → k < length events → e ≡ get_or events k e → map event_value (take (k + 1) events) ≡ map event_value (take k events) ++ event_value e ∷ []
-events_more events k e lt at = map_more event_value events k e lt ∙ ap (λ (x : Event). map event_value (take k events) ++ event_value x ∷ []) (sym at)
 
 fold_if : {A B : Type 0} (f : B → A → B) (a : B) (xs : List A) (x : A) (b : Bool) → fold f a (xs ++ cond b (x ∷ []) []) ≡ cond b (f (fold f a xs) x) (fold f a xs)
 fold_if f a xs x true = fold_push f a xs x

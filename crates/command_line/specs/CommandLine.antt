@@ -63,12 +63,17 @@ serve_command =
 abbrev pub with_version : App → App
 with_version a = record a { top = record a.top { has_version = true } }
 
+-- with the two commands that carry out scripts
+abbrev pub with_scripts : App → App
+with_scripts a =
+    with_subcommand (with_subcommand a (script_command (codes "unary")))
+    (script_command (codes "replay"))
+
 -- the program, its version and its four commands
 abbrev pub command_line : App
 command_line =
-    with_subcommand (with_subcommand (with_subcommand (with_subcommand
-    (with_version (new_app (codes "remoted"))) (script_command (codes "unary")))
-    (script_command (codes "replay"))) probe_command) serve_command
+    with_subcommand (with_subcommand
+    (with_scripts (with_version (new_app (codes "remoted")))) probe_command) serve_command
 
 -- ---- what is asked for
 

@@ -4,7 +4,7 @@
 ghost use Rattle.std.specs.Prelude.{◌≡◌, ◌≢◌, ◌⊎◌, ℕ, List, Some, None, map, string_bytes, IfOk, IfErr, option_map};
 ghost use Rattle.clap.specs.Words.{all_of, app_of, first_of, found_of, kind_of, new_app, rows_of, subcommand_rows_of};
 ghost use Rattle.clap.specs.declared.error.kind.ErrorKind.TheVariants.{DisplayHelp, DisplayVersion};
-ghost use Rattle.command_line.specs.CommandLine.{command_line, file, long_option, number_of, port, send, want, turns, script_command, probe_command, probe_of, work, instances, serve_command, serve_of, file_or_probe_by, task_by, task_of};
+ghost use Rattle.command_line.specs.CommandLine.{command_line, file, long_option, number_of, port, send, want, turns, script_command, probe_command, probe_of, work, instances, with_scripts, serve_command, serve_of, file_or_probe_by, task_by, task_of};
 ghost use Rattle.command_line.specs.Shown.{task_value, task_asked, HasApp, HasNoFault, HasRule, HasShape, IsFaultOf, IsFrom};
 
 use clap::error::ErrorKind;
@@ -166,16 +166,22 @@ fn serve<'a>(alloc: Global) -> Result<Command<'a>, AllocError>
         .arg(instances(alloc))
 }
 
+/// The command with the two that carry out scripts.
+fn with_scripts<'a>(alloc: Global, command: Command<'a>) -> Result<Command<'a>, AllocError>
+    ensures { IfOk result (λ c. app_of c ≡ with_scripts (app_of command.entry)) }
+{
+    command
+        .subcommand(script_command(alloc, "unary", UNARY_ABOUT, UNARY_LINES)?)?
+        .subcommand(script_command(alloc, "replay", REPLAY_ABOUT, REPLAY_LINES)?)
+}
+
 fn command<'a>(alloc: Global) -> Result<Command<'a>, AllocError>
     ensures { IfOk result (λ c. app_of c ≡ command_line) }
 {
-    Command::new(alloc, "remoted")
-        .version("0.1.0")
-        .about(
-            "A remote build cache for Bazel. Without a command it carries out the script on standard input",
-        )
-        .subcommand(script_command(alloc, "unary", UNARY_ABOUT, UNARY_LINES)?)?
-        .subcommand(script_command(alloc, "replay", REPLAY_ABOUT, REPLAY_LINES)?)?
+    let command = Command::new(alloc, "remoted").version("0.1.0").about(
+        "A remote build cache for Bazel. Without a command it carries out the script on standard input",
+    );
+    with_scripts(alloc, command)?
         .subcommand(probe(alloc)?)?
         .subcommand(serve(alloc)?)
 }

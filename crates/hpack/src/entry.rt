@@ -44,6 +44,7 @@ impl Entry {
         let (name, value) = self.text.split_at(self.name_length);
         HeaderField::new(name, value)
     }
+
     /// Its octets and 32 more (RFC 7541, section 4.1).
     pub(crate) fn size(&self) -> usize
         requires { size_of self.now < 2 ^ 64 }

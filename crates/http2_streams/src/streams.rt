@@ -58,9 +58,20 @@ impl Model for Streams {
 
     ghost Value = { Standing };
 
-    ghost view = { λ s. record { failed = s.failed; begun = s.begun; highest = s.highest; live = s.live.items; remembered = s.remembered.items; initial_window_size = s.initial_window_size; connection_window = s.connection_window; unfinished = s.headers.unfinished; table = s.headers.table } };
+    ghost view = { λ s. record {
+      failed = s.failed;
+      begun = s.begun;
+      highest = s.highest;
+      live = s.live.items;
+      remembered = s.remembered.items;
+      initial_window_size = s.initial_window_size;
+      connection_window = s.connection_window;
+      unfinished = s.headers.unfinished;
+      table = s.headers.table;
+    } };
 
-    ghost invariant = { λ s. (length s.live.items ≤ MAX_STREAMS) × (MAX_STREAMS ≤ vec_capacity s.live)
+    ghost invariant = { λ s. (length s.live.items ≤ MAX_STREAMS)
+        × (MAX_STREAMS ≤ vec_capacity s.live)
         × (deque_len s.remembered ≡ length s.remembered.items)
         × (deque_len s.remembered ≤ MAX_REMEMBERED)
         × (MAX_REMEMBERED ≤ deque_capacity s.remembered)

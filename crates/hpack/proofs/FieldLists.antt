@@ -1,9 +1,8 @@
 -- A field list with one more field behind it.
-use Rattle.std.proofs.Common.{◌≡◌, ℕ, ◌+◌, ◌-◌, ◌≤◌, List, [], ◌∷◌, ◌++◌, length, take, drop, refl, sym, ap, ◌∙◌, arith}
+use Rattle.std.proofs.Common.{◌≡◌, ℕ, ◌+◌, ◌-◌, List, [], ◌∷◌, ◌++◌, length, take, drop, refl, sym, ap, ◌∙◌, arith}
 use Rattle.std.proofs.Math.Seq.{drop-append_seam, take-length}
 use Rattle.std.proofs.lemmas.List.{take-append-le, drop-append-le, length-append, length-drop}
 use Rattle.hpack.specs.declared.headers.FieldLengths.{FieldLengths}
-use Rattle.hpack.specs.Header.{Header}
 use Rattle.hpack.specs.FieldLists.{header_in, headers_in, total_length, text_behind, BeginsWith}
 
 pub behind_is : (before more text : List ℕ) → text ≡ before ++ more → text_behind before text ≡ more

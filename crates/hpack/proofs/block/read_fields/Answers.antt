@@ -1,6 +1,5 @@
-use Rattle.std.proofs.Common.{◌≡◌, ◌∙◌, ◌<◌, ◌≤◌, ◌+◌, ◌-◌, ◌++◌, length, arith, sym, ap, rules}
+use Rattle.std.proofs.Common.{◌≡◌, ◌∙◌, ◌<◌, ◌+◌, length, arith, sym, ap, rules}
 use Rattle.std.proofs.lemmas.Bool.Decides.{nat_tests}
-use Rattle.std.proofs.lemmas.List.{length-append}
 use Rattle.hpack.specs.Header.{Header, size_of}
 use Rattle.hpack.specs.FieldLists.{header_in, headers_in, text_behind}
 use Rattle.hpack.specs.Block.{fields_of, list_limit}

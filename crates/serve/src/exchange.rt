@@ -43,8 +43,8 @@ pub(crate) fn tell(
     }
 }
 
-/// A piece that was read, with room behind it for as many bytes again: where it ends within a frame,
-/// the rest of that is put there when it comes.
+/// A piece that was read, with room behind it for as many bytes again: where it ends within a
+/// frame, the rest of that is put there when it comes.
 fn with_room(alloc: Global, bytes: &[u8]) -> Result<Vec<u8>, AllocError>
     ensures { IfOk result (λ piece. piece.items ≡ bytes.now) }
 {

@@ -196,8 +196,8 @@ impl Serving {
 /// In each turn the time is told to each instance; at each port one connection is accepted, once a
 /// millisecond at most; of each connection at most 16,384 bytes are read, and what waits on it is
 /// written. A connection on which nothing moved for 20 milliseconds is tried once a millisecond,
-/// until something moves on it again. A connection is closed where its client is gone or its socket failed, and where an
-/// error of it was met and the client was sent all that waited.
+/// until something moves on it again. A connection is closed where its client is gone or its socket
+/// failed, and where an error of it was met and the client was sent all that waited.
 ///
 /// `served`: a connection is accepted under a number that no open one of its instance has, and what
 /// is written to one is each time what its instance alone, by its own events, has waiting on it

@@ -95,8 +95,9 @@ impl InstanceRecord {
     }
 
     /// Notes an event that the instance took or refused, by what it changes of the connections, and
-    /// the bytes that it put. The instance is as the event left it. Where memory is refused the event is counted, no refusal is noted, and
-    /// of the bytes some may be: the record stands for no run any more, and is to be dropped.
+    /// the bytes that it put. The instance is as the event left it. Where memory is refused the
+    /// event is counted, no refusal is noted, and of the bytes some may be: the record stands for no
+    /// run any more, and is to be dropped.
     pub fn note(
         &mut self,
         instance: &ServedInstance,

@@ -21,22 +21,23 @@ enum Script {
     Events,
 }
 
-/// Carries out the script of a file.
+/// Carries out the script of a file, and gives the number with which the program ends.
 fn carry_out_file<O: Write, E: Write>(
     rt: &HostRuntime,
     script: Script,
     file: &str,
     output: &mut O,
     errors: &mut E,
-) -> io::Result<Status> {
+) -> io::Result<u8> {
     let Some(text) = read_file(rt, file, errors)? else {
-        return Ok(Status::Failed);
+        return Ok(Status::Failed.code());
     };
     let mut input = text.as_slice();
-    Ok(match script {
+    let status = match script {
         Script::Calls => unary(rt.alloc(), &mut input, output, errors),
         Script::Events => replay(rt.alloc(), &mut input, output, errors),
-    })
+    };
+    Ok(status.code())
 }
 
 /// Sends a request to a port of this host, and shows what comes back.
@@ -61,7 +62,8 @@ fn probe_port<O: Write, E: Write>(
     ))
 }
 
-/// Sends the bytes of a file to a port of this host, and shows what comes back.
+/// Sends the bytes of a file to a port of this host, shows what comes back, and gives the number
+/// with which the program ends.
 fn probe_with_file<O: Write, E: Write>(
     rt: &HostRuntime,
     port: u16,
@@ -69,39 +71,40 @@ fn probe_with_file<O: Write, E: Write>(
     (want, turns): (u64, u64),
     output: &mut O,
     errors: &mut E,
-) -> io::Result<Status> {
-    match read_file(rt, file, errors)? {
-        Some(bytes) => {
-            let request = Request {
-                bytes: &bytes,
-                want,
-                turns,
-            };
-            probe_port(rt, port, request, output, errors)
-        }
-        None => Ok(Status::Failed),
-    }
+) -> io::Result<u8> {
+    let Some(bytes) = read_file(rt, file, errors)? else {
+        return Ok(Status::Failed.code());
+    };
+    let request = Request {
+        bytes: &bytes,
+        want,
+        turns,
+    };
+    let status = probe_port(rt, port, request, output, errors)?;
+    Ok(status.code())
 }
 
 /// Does what is asked for, and gives the number with which the program ends.
 fn perform<O: Write, E: Write>(
     rt: &HostRuntime,
-    task: Task<'_>,
+    task: &Task<'_>,
     output: &mut O,
     errors: &mut E,
 ) -> io::Result<u8> {
-    let status = match task {
+    match task {
         Task::Unary { file: Some(file) } => {
-            carry_out_file(rt, Script::Calls, file, output, errors)?
+            carry_out_file(rt, Script::Calls, file, output, errors)
         }
-        Task::Unary { file: None } => unary(rt.alloc(), &mut rt.stdin(), output, errors),
-        Task::Replay { file } => carry_out_file(rt, Script::Events, file, output, errors)?,
+        Task::Unary { file: None } => {
+            Ok(unary(rt.alloc(), &mut rt.stdin(), output, errors).code())
+        }
+        Task::Replay { file } => carry_out_file(rt, Script::Events, file, output, errors),
         Task::Probe {
             port,
             send,
             want,
             turns,
-        } => probe_with_file(rt, port, send, (want, turns), output, errors)?,
+        } => probe_with_file(rt, *port, send, (*want, *turns), output, errors),
         Task::Serve {
             work,
             turns,
@@ -109,28 +112,37 @@ fn perform<O: Write, E: Write>(
         } => {
             let served = Served {
                 work,
-                turns,
-                words: &instances,
+                turns: *turns,
+                words: instances,
             };
-            return serve_ports(rt, &served, output, errors);
+            serve_ports(rt, &served, output, errors)
         }
-    };
-    Ok(status.code())
+    }
+}
+
+/// Does what these words of a command line ask for, and gives the number with which the program
+/// ends.
+fn answer<O: Write, E: Write>(
+    rt: &HostRuntime,
+    words: &[String],
+    output: &mut O,
+    errors: &mut E,
+) -> io::Result<u8> {
+    match parse(rt.alloc(), words) {
+        Ok(task) => perform(rt, &task, output, errors),
+        Err(CommandLineError::NoMemory) => Err(io::Error::from(ErrorKind::OutOfMemory)),
+        Err(CommandLineError::Answered(error)) => {
+            error.print(rt)?;
+            Ok(command_line::status(&error))
+        }
+    }
 }
 
 /// Does what the command line asks for, and gives the number with which the program ends.
 fn status(rt: &HostRuntime) -> io::Result<u8> {
     let words: Vec<String> = std::env::args(rt)?.collect(rt.alloc())?;
     let mut output = BufWriter::new(rt.alloc(), rt.stdout())?;
-    let mut errors = rt.stderr();
-    let status = match parse(rt.alloc(), words.as_slice()) {
-        Ok(task) => perform(rt, task, &mut output, &mut errors)?,
-        Err(CommandLineError::NoMemory) => return Err(io::Error::from(ErrorKind::OutOfMemory)),
-        Err(CommandLineError::Answered(error)) => {
-            error.print(rt)?;
-            command_line::status(&error)
-        }
-    };
+    let status = answer(rt, &words, &mut output, &mut rt.stderr())?;
     match output.flush() {
         // Where writing failed, that was told before.
         Err(error) if status != Status::Failed.code() => Err(error),

@@ -83,6 +83,26 @@ fn make_folder<E: Write>(rt: &HostRuntime, work: &str, errors: &mut E) -> io::Re
     }
 }
 
+/// Serves these instances.
+fn serve_instances<O: Write, E: Write>(
+    rt: &HostRuntime,
+    served: &Served<'_>,
+    instances: &Instances,
+    output: &mut O,
+    errors: &mut E,
+) -> io::Result<u8> {
+    if !make_folder(rt, served.work, errors)? {
+        return Ok(FAILED);
+    }
+    let mut sockets = HostSockets::new(rt, rt.alloc())?;
+    if !listen(&mut sockets, &instances.ports, errors)? {
+        return Ok(FAILED);
+    }
+    announce(instances, output)?;
+    serve(rt.alloc(), &instances.configs, &mut sockets, served.turns)?;
+    Ok(DONE)
+}
+
 /// Serves instances on ports of 127.0.0.1, and gives the status with which the program ends. An
 /// error is one of the streams, or want of memory.
 pub fn serve_ports<O: Write, E: Write>(
@@ -91,18 +111,8 @@ pub fn serve_ports<O: Write, E: Write>(
     output: &mut O,
     errors: &mut E,
 ) -> io::Result<u8> {
-    let instances = match instances_of(rt.alloc(), served.words) {
-        Ok(instances) => instances,
-        Err(fault) => return tell_fault(served.words, fault, errors),
-    };
-    if !make_folder(rt, served.work, errors)? {
-        return Ok(FAILED);
+    match instances_of(rt.alloc(), served.words) {
+        Ok(instances) => serve_instances(rt, served, &instances, output, errors),
+        Err(fault) => tell_fault(served.words, fault, errors),
     }
-    let mut sockets = HostSockets::new(rt, rt.alloc())?;
-    if !listen(&mut sockets, &instances.ports, errors)? {
-        return Ok(FAILED);
-    }
-    announce(&instances, output)?;
-    serve(rt.alloc(), &instances.configs, &mut sockets, served.turns)?;
-    Ok(DONE)
 }

@@ -1,8 +1,10 @@
 -- The header blocks of a response (gRPC over HTTP2, Responses).
-use Rattle.std.specs.Prelude.{ℕ, ◌+◌, ◌/◌, ◌%◌, Bool, true, false, ◌&&◌, ◌==◌, nat_lt, nat_le, List, [], ◌∷◌, ◌++◌, codes, if◌then◌else◌}
+use Rattle.std.specs.Prelude.{ℕ, ◌+◌, ◌/◌, ◌%◌, Bool, true, false, ◌&&◌, ◌==◌, nat_lt, nat_le, List, [], ◌∷◌, ◌++◌, codes, if◌then◌else◌, Option, Some, None}
 use Rattle.std.specs.List.{flat_map}
 use Rattle.std.specs.Fmt.{decimal}
 use Rattle.hpack.specs.Header.{Header}
+use Rattle.hpack.specs.Encoding.{block_text}
+use Rattle.hpack.specs.declared.encoder.Position.TheVariants.{Later}
 use Rattle.rpc.specs.declared.refusal.Refusal.TheVariants.{UnknownMethod}
 use Rattle.rpc.specs.Status.{code_of, text_of}
 use Rattle.grpc_calls.specs.declared.request.HeadFault.{HeadFault}
@@ -64,6 +66,16 @@ abbrev pub response_to : HeadFault → ResponseBlock
 response_to BadMethod = MethodNotAllowed
 response_to BadContentType = UnsupportedMediaType
 response_to BadPath = TrailersOnly UnknownMethod
+
+-- the texts of the two blocks that each call has that succeeds, where they are not the first of
+-- their connection
+abbrev pub constant_text : ResponseBlock → Option (List ℕ)
+constant_text Head = Some (block_text Later (fields_of Head))
+constant_text (Trailers Success) = Some (block_text Later (fields_of (Trailers Success)))
+constant_text (Trailers (Refused r)) = None
+constant_text (TrailersOnly r) = None
+constant_text MethodNotAllowed = None
+constant_text UnsupportedMediaType = None
 
 -- no block of a response is longer, at whatever place of its connection
 abbrev pub longest_block : ℕ

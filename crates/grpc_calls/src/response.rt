@@ -1,15 +1,21 @@
 //! The header blocks of a response.
 
-ghost use Rattle.std.specs.Prelude.{◌≡◌, ◌<◌, ◌++◌, OnOk, OnErr, codes};
+ghost use Rattle.std.specs.Prelude.{◌≡◌, ◌<◌, ◌++◌, Option, OnOk, OnErr, codes, option_map};
 ghost use Rattle.std.specs.Fmt.{decimal};
 ghost use Rattle.rpc.specs.Status.{code_of, text_of};
 ghost use Rattle.hpack.specs.Encoding.{block_text};
 ghost use Rattle.hpack.specs.Shown.{field_shown};
-ghost use Rattle.grpc_calls.specs.Responses.{fields_of, is_last, header, percent_encoding};
+ghost use Rattle.grpc_calls.specs.Responses.{fields_of, is_last, header, percent_encoding, constant_text};
 
 use hpack::{Field, Position, encode_into};
 use rpc::Refusal;
 use std::alloc::AllocError;
+
+/// The block `:status: 200`, `content-type: application/grpc`.
+const HEAD_TEXT: &[u8] = b"\x88\x0f\x10\x10application/grpc";
+
+/// The block `grpc-status: 0`.
+const SUCCESS_TEXT: &[u8] = b"\x00\x0bgrpc-status\x010";
 
 /// How a call ends.
 #[derive(Clone, Copy, PartialEq, Eq)]
@@ -42,6 +48,21 @@ impl ResponseBlock {
         match self {
             ResponseBlock::Head => false,
             _ => true,
+        }
+    }
+
+    /// The block as HPACK writes it, where it is not the first of its connection, if it is one of
+    /// the two that each call has that succeeds. They are constants, and take no memory.
+    pub fn constant_text(self) -> Option<&'static [u8]>
+        ensures { option_map (λ text. text.now) result ≡ constant_text self }
+    {
+        match self {
+            ResponseBlock::Head => Some(HEAD_TEXT),
+            ResponseBlock::Trailers(status) => match status {
+                Status::Success => Some(SUCCESS_TEXT),
+                Status::Refused(_) => None,
+            },
+            _ => None,
         }
     }
 

@@ -1,6 +1,7 @@
 //! What is to be put of an item of a response.
 
 ghost use Rattle.std.specs.Prelude.{◌≡◌, ◌≤◌, ◌<◌, ◌^◌, ◌+◌, ◌++◌, ◌∷◌, [], List, true, false, IfOk, length, drop, vec_capacity};
+ghost use Rattle.std.specs.Cow.{cow_slice_items};
 ghost use Rattle.hpack.specs.Encoding.{block_text};
 ghost use Rattle.hpack.specs.declared.encoder.Position.TheVariants.{Later};
 ghost use Rattle.grpc_calls.specs.Responses.{fields_of, is_last};
@@ -16,17 +17,19 @@ use grpc_calls::ResponseBlock;
 use grpc_messages::PREFIX_LENGTH;
 use hpack::Position;
 use std::alloc::{AllocError, Global};
+use std::borrow::CowSlice;
 use std::marker::Model;
 
 /// A header block, and its text where it is not the first of its connection.
 #[derive(Drop)]
 pub(crate) struct EncodedBlock {
     block: ResponseBlock,
-    text: Vec<u8>,
+    text: CowSlice<'static, u8>,
 }
 
 impl Model for EncodedBlock {
     ghost use Rattle.std.specs.Prelude.{◌≡◌};
+    ghost use Rattle.std.specs.Cow.{cow_slice_items};
     ghost use Rattle.hpack.specs.Encoding.{block_text};
     ghost use Rattle.hpack.specs.declared.encoder.Position.TheVariants.{Later};
     ghost use Rattle.grpc_calls.specs.declared.response.ResponseBlock.{ResponseBlock};
@@ -36,15 +39,14 @@ impl Model for EncodedBlock {
 
     ghost view = { λ e. e.block };
 
-    ghost invariant = { λ e. e.text.items ≡ block_text Later (fields_of e.block) };
+    ghost invariant = { λ e. cow_slice_items e.text ≡ block_text Later (fields_of e.block) };
 }
 
 impl EncodedBlock {
     pub(crate) fn new(alloc: Global, block: ResponseBlock) -> Result<EncodedBlock, AllocError>
         ensures { IfOk result (λ e. e ≡ block) }
     {
-        let mut text = Vec::new(alloc);
-        block.encode_into(Position::Later, &mut text)?;
+        let text = text_of(alloc, block)?;
         Ok(EncodedBlock { block, text })
     }
 
@@ -56,6 +58,18 @@ impl EncodedBlock {
             text: self.text.as_slice(),
         }
     }
+}
+
+/// The text of a block that is not the first of its connection.
+fn text_of(alloc: Global, block: ResponseBlock) -> Result<CowSlice<'static, u8>, AllocError>
+    ensures { IfOk result (λ text. cow_slice_items text ≡ block_text Later (fields_of block)) }
+{
+    if let Some(text) = block.constant_text() {
+        return Ok(CowSlice::Borrowed(text));
+    }
+    let mut text = Vec::new(alloc);
+    block.encode_into(Position::Later, &mut text)?;
+    Ok(CowSlice::Owned(text))
 }
 
 /// An encoded header block that is held elsewhere.

@@ -2,5 +2,7 @@
 #![tactic(auto, using(std::proofs::lemmas::Int::ints))]
 
 mod laws;
+mod limits;
 
 pub use laws::{blobs_served_are_named, replies_are_read, replies_are_the_instances};
+pub use limits::{limits_of_an_instance, limits_of_connections};

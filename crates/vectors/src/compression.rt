@@ -1,93 +1,119 @@
 //! HPACK: its Huffman code, and header blocks.
 
-use crate::octets::{octets, show};
+use crate::buffer::Buffer;
+use crate::octets::octets;
 use grpc_calls::{HeadFault, head};
-use hpack::{Decoder, Headers};
+use hpack::{Decoder, HeaderField, Headers};
 use hpack_huffman::{HuffmanError, decode_into};
 use http2_headers::is_well_formed_request;
-use std::alloc::Global;
-use std::io::{self, Write};
 
-/// Decodes bytes onto a vector with one byte, and writes that.
-fn show_decoded(alloc: Global, coded: &[u8], out: &mut Vec<u8>) -> io::Result<()> {
-    let mut text = vec![in alloc; 0xffu8; 1]?;
-    let before = match decode_into(coded, &mut text) {
-        Ok(()) => b"text ".as_slice(),
+/// The word for how decoding ended.
+fn word_of(answer: Result<(), HuffmanError>) -> &'static [u8] {
+    match answer {
+        Ok(()) => b"text ",
         Err(HuffmanError::Eos) => b"eos ",
         Err(HuffmanError::Padding) => b"padding ",
         Err(HuffmanError::NoMemory) => b"no-memory ",
-    };
-    show(out, before, &text)
+    }
+}
+
+/// Decodes bytes onto a vector with one byte, and writes that.
+fn show_decoded(coded: &[u8], out: &mut Buffer) {
+    let mut text = Vec::new(out.alloc());
+    let begun = text.extend_from_slice(b"\xff");
+    out.expect(begun);
+    out.push(word_of(decode_into(coded, &mut text)));
+    out.push_hex(&text);
+    out.push(b"\n");
 }
 
 /// Decodes each line's bytes.
-pub fn huffman(alloc: Global, operations: &[&[u8]], out: &mut Vec<u8>) -> io::Result<()> {
+pub fn huffman(operations: &[&[u8]], out: &mut Buffer) {
     for line in operations {
-        show_decoded(alloc, &octets(alloc, line)?, out)?;
-        out.push(b'\n')?;
+        show_decoded(&octets(line, out), out);
     }
-    Ok(())
 }
 
-/// Writes bytes as they are, those that are not printable, and `%`, as `%` and two digits.
-fn show_text(bytes: &[u8], out: &mut Vec<u8>) -> io::Result<()> {
-    for byte in bytes {
-        match *byte {
-            b'%' | 0..=0x1f | 0x7f..=0xff => show(out, b"%", &[*byte])?,
-            _ => out.push(*byte)?,
+/// Writes a byte as it is, or, where it is not printable or is `%`, as `%` and two digits.
+fn show_byte(byte: u8, out: &mut Buffer) {
+    match byte {
+        b'%' | 0..=0x1f | 0x7f..=0xff => {
+            out.push(b"%");
+            out.push_hex(&[byte]);
         }
+        _ => out.push(&[byte]),
     }
-    Ok(())
 }
 
-/// Writes whether fields are a request's, and which call's.
-fn show_request(headers: &Headers, out: &mut Vec<u8>) -> io::Result<()> {
-    let request = match is_well_formed_request(headers) {
-        true => "request",
-        false => "no-request",
-    };
-    write!(out, "{} fields {request} ", headers.len())?;
+/// Writes each byte so.
+fn show_text(bytes: &[u8], out: &mut Buffer) {
+    for byte in bytes {
+        show_byte(*byte, out);
+    }
+}
+
+/// Writes which call's the fields are, or why they are no call's.
+fn show_call(headers: &Headers, out: &mut Buffer) {
     match head(headers) {
         Ok(method) => {
-            out.extend_from_slice(b"call ")?;
-            out.extend_from_slice(method.path())?;
+            out.push(b"call ");
+            out.push(method.path());
         }
-        Err(HeadFault::Method) => out.extend_from_slice(b"not-post")?,
-        Err(HeadFault::ContentType) => out.extend_from_slice(b"content-type")?,
-        Err(HeadFault::Path) => out.extend_from_slice(b"path")?,
+        Err(HeadFault::Method) => out.push(b"not-post"),
+        Err(HeadFault::ContentType) => out.push(b"content-type"),
+        Err(HeadFault::Path) => out.push(b"path"),
     }
-    Ok(())
+}
+
+/// Writes how many fields there are, and whether they are a request's.
+fn show_request(headers: &Headers, out: &mut Buffer) {
+    out.push_display(&headers.len());
+    match is_well_formed_request(headers) {
+        true => out.push(b" fields request "),
+        false => out.push(b" fields no-request "),
+    }
+}
+
+fn show_field(field: &HeaderField<'_>, out: &mut Buffer) {
+    out.push(b" | ");
+    show_text(field.name(), out);
+    out.push(b"=");
+    show_text(field.value(), out);
 }
 
 /// Writes the first eight fields.
-fn show_fields(headers: &Headers, out: &mut Vec<u8>) -> io::Result<()> {
+fn show_fields(headers: &Headers, out: &mut Buffer) {
     for field in headers.iter().take(8) {
-        out.extend_from_slice(b" | ")?;
-        show_text(field.name(), out)?;
-        out.push(b'=')?;
-        show_text(field.value(), out)?;
+        show_field(&field, out);
     }
-    Ok(())
+}
+
+fn show_table(decoder: &Decoder, out: &mut Buffer) {
+    out.push(b" table ");
+    out.push_display(&decoder.table_size());
 }
 
 /// Reads a header block, and writes what it has, and the size of the table behind it.
-fn show_block(decoder: &mut Decoder, block: &[u8], out: &mut Vec<u8>) -> io::Result<()> {
+fn show_block(decoder: &mut Decoder, block: &[u8], out: &mut Buffer) {
     match decoder.block(block) {
         Ok(headers) => {
-            show_request(&headers, out)?;
-            write!(out, " table {}", decoder.table_size())?;
-            show_fields(&headers, out)
+            show_request(&headers, out);
+            show_call(&headers, out);
+            show_table(decoder, out);
+            show_fields(&headers, out);
         }
-        Err(fault) => write!(out, "{fault:?} table {}", decoder.table_size()),
+        Err(fault) => {
+            out.push_debug(&fault);
+            show_table(decoder, out);
+        }
     }
+    out.push(b"\n");
 }
 
 /// Reads each line's bytes as a header block, all by one decoder.
-pub fn blocks(alloc: Global, operations: &[&[u8]], out: &mut Vec<u8>) -> io::Result<()> {
-    let mut decoder = Decoder::new(alloc);
+pub fn blocks(operations: &[&[u8]], out: &mut Buffer) {
+    let mut decoder = Decoder::new(out.alloc());
     for line in operations {
-        show_block(&mut decoder, &octets(alloc, line)?, out)?;
-        out.push(b'\n')?;
+        show_block(&mut decoder, &octets(line, out), out);
     }
-    Ok(())
 }

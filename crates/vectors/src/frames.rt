@@ -3,10 +3,11 @@
 ghost use Rattle.std.specs.Prelude.{◌≡◌, ◌≤◌, length, true};
 ghost use Rattle.http2_frames.specs.Writing.{raw_of};
 
-use crate::octets::{octets, show};
-use http2_frames::{Frame, FrameReader, MAX_FRAME_SIZE, RawFrame, interpret, write_frame};
-use std::alloc::Global;
-use std::io::{self, Write};
+use crate::buffer::Buffer;
+use crate::octets::octets;
+use http2_frames::{
+    Frame, FrameError, FrameReader, MAX_FRAME_SIZE, RawFrame, interpret, write_frame,
+};
 
 fn length_of(bytes: &[u8]) -> usize
     ensures { result ≡ length bytes.now }
@@ -33,83 +34,94 @@ fn fits(frame: &Frame<'_>) -> bool
     }
 }
 
-/// Writes a frame, and what it says, or its error.
-fn show_frame(alloc: Global, frame: &RawFrame<'_>, out: &mut Vec<u8>) -> io::Result<()> {
-    write!(
-        out,
-        "frame {} {} {} ",
-        frame.kind, frame.flags, frame.stream
-    )?;
-    show(out, b"", frame.payload.as_slice())?;
-    match interpret(frame) {
-        Ok(frame) => {
-            let mut bytes = Vec::new(alloc);
-            if fits(&frame) {
-                write_frame(&mut bytes, &frame)?;
-            }
-            show(out, b" is ", &bytes)?;
-            out.push(b'\n')?;
-        }
-        Err(code) => writeln!(out, " error {}", code.number())?,
+/// Writes how a server writes a frame: no bytes where it does not fit.
+fn show_written(frame: &Frame<'_>, out: &mut Buffer) {
+    let mut bytes = Vec::new(out.alloc());
+    if fits(frame) {
+        out.expect(write_frame(&mut bytes, frame));
     }
-    Ok(())
+    out.push_hex(&bytes);
 }
 
-/// Writes the frames that are whole, and what the reader answers then.
-fn show_frames(
-    alloc: Global,
-    reader: &mut FrameReader,
-    most: usize,
-    out: &mut Vec<u8>,
-) -> io::Result<()> {
-    for _ in 0..=most {
-        match reader.find() {
-            Ok(true) => {
-                show_frame(alloc, &reader.frame(), out)?;
-                reader.pass();
-            }
-            Ok(false) => {
-                writeln!(out, "wait")?;
-                break;
-            }
-            Err(fault) => {
-                writeln!(out, "{fault:?}")?;
-                break;
-            }
+/// Writes what a frame says, or its error.
+fn show_meaning(frame: &RawFrame<'_>, out: &mut Buffer) {
+    match interpret(frame) {
+        Ok(frame) => {
+            out.push(b" is ");
+            show_written(&frame, out);
+        }
+        Err(code) => {
+            out.push(b" error ");
+            out.push_display(&code.number());
         }
     }
-    Ok(())
+    out.push(b"\n");
+}
+
+/// Writes a frame as it was read.
+fn show_frame(frame: &RawFrame<'_>, out: &mut Buffer) {
+    out.push(b"frame ");
+    out.push_display(&frame.kind);
+    out.push(b" ");
+    out.push_display(&frame.flags);
+    out.push(b" ");
+    out.push_display(&frame.stream);
+    out.push(b" ");
+    out.push_hex(frame.payload.as_slice());
+}
+
+fn show_fault(fault: FrameError, out: &mut Buffer) {
+    out.push_debug(&fault);
+    out.push(b"\n");
+}
+
+/// Writes the next frame, where it is whole, or else what the reader answers; tells whether there
+/// may be more.
+fn show_next(reader: &mut FrameReader, out: &mut Buffer) -> bool {
+    match reader.find() {
+        Ok(true) => {
+            let frame = reader.frame();
+            show_frame(&frame, out);
+            show_meaning(&frame, out);
+            reader.pass();
+            return true;
+        }
+        Ok(false) => out.push(b"wait\n"),
+        Err(fault) => show_fault(fault, out),
+    }
+    false
+}
+
+/// Feeds a piece, and writes the frames that are whole, and what the reader answers then.
+fn show_piece(reader: &mut FrameReader, piece: Vec<u8>, out: &mut Buffer) {
+    let most = piece.len();
+    if let Err(fault) = reader.feed(piece) {
+        return show_fault(fault, out);
+    }
+    for _ in 0..=most {
+        if !show_next(reader, out) {
+            break;
+        }
+    }
 }
 
 /// Feeds each line's bytes to a reader.
-fn feed_all(
-    alloc: Global,
-    reader: &mut FrameReader,
-    operations: &[&[u8]],
-    out: &mut Vec<u8>,
-) -> io::Result<()> {
+fn feed_all(reader: &mut FrameReader, operations: &[&[u8]], out: &mut Buffer) {
     for line in operations {
-        let piece = octets(alloc, line)?;
-        let length = piece.len();
-        match reader.feed(piece) {
-            Ok(()) => show_frames(alloc, reader, length, out)?,
-            Err(fault) => writeln!(out, "{fault:?}")?,
-        }
+        show_piece(reader, octets(line, out), out);
     }
-    Ok(())
 }
 
 /// Reads what a client sends.
-pub fn client(alloc: Global, operations: &[&[u8]], out: &mut Vec<u8>) -> io::Result<()> {
-    feed_all(alloc, &mut FrameReader::new(alloc), operations, out)
+pub fn client(operations: &[&[u8]], out: &mut Buffer) {
+    feed_all(&mut FrameReader::new(out.alloc()), operations, out);
 }
 
 /// Reads what a server sends, which has no preface.
-pub fn server(alloc: Global, operations: &[&[u8]], out: &mut Vec<u8>) -> io::Result<()> {
+pub fn server(operations: &[&[u8]], out: &mut Buffer) {
     feed_all(
-        alloc,
-        &mut FrameReader::without_preface(alloc),
+        &mut FrameReader::without_preface(out.alloc()),
         operations,
         out,
-    )
+    );
 }

@@ -6,6 +6,7 @@
 //! operations, but for empty ones. [`octets`] says how bytes are written.
 #![tactic(auto)]
 
+mod buffer;
 mod compression;
 mod frames;
 mod messages;
@@ -14,11 +15,11 @@ mod records;
 mod responses;
 mod windows;
 
-use crate::octets::named;
-use program_status::{Status, read_all};
+use crate::buffer::Buffer;
+use crate::octets::{BAD_LINE, named};
+use program_status::{Fault, Status, read_all};
 use script::{lines, words};
-use std::alloc::Global;
-use std::io::{self, Write};
+use std::io::Write;
 use std::process::ExitCode;
 
 /// What a case is about.
@@ -49,64 +50,85 @@ static SUBJECTS: [(&[u8], Subject); 10] = [
     (b"window", Subject::Window),
 ];
 
-/// Carries out the operations of a case that a line begins.
-fn carry_out(
-    alloc: Global,
-    header: &[u8],
-    operations: &[&[u8]],
-    out: &mut Vec<u8>,
-) -> io::Result<()> {
-    let mut parts = words(header);
-    let (_, subject, name) = (parts.next(), parts.next(), parts.next());
-    let name = name.unwrap_or(b"");
-    match named(&SUBJECTS, subject.unwrap_or(b""))? {
-        Subject::Records => records::records(alloc, operations, out),
-        Subject::PackedNumbers => records::packed(alloc, operations, out),
-        Subject::Message => messages::messages(alloc, name, operations, out),
-        Subject::Huffman => compression::huffman(alloc, operations, out),
-        Subject::HeaderBlocks => compression::blocks(alloc, operations, out),
-        Subject::Responses => responses::responses(alloc, out),
-        Subject::ClientFrames => frames::client(alloc, operations, out),
-        Subject::ServerFrames => frames::server(alloc, operations, out),
-        Subject::FramedMessages => messages::framed(alloc, operations, out),
+/// Carries out operations on a subject; the case's name, where it has one, says more of it.
+fn carry_out_on(subject: Subject, name: &[u8], operations: &[&[u8]], out: &mut Buffer) {
+    match subject {
+        Subject::Records => records::records(operations, out),
+        Subject::PackedNumbers => records::packed(operations, out),
+        Subject::Message => messages::messages(name, operations, out),
+        Subject::Huffman => compression::huffman(operations, out),
+        Subject::HeaderBlocks => compression::blocks(operations, out),
+        Subject::Responses => responses::responses(out),
+        Subject::ClientFrames => frames::client(operations, out),
+        Subject::ServerFrames => frames::server(operations, out),
+        Subject::FramedMessages => messages::framed(operations, out),
         Subject::Window => windows::window(name, operations, out),
     }
 }
 
-/// Carries out the cases of a text.
-fn carry_out_all(alloc: Global, text: &[u8], out: &mut Vec<u8>) -> io::Result<()> {
-    let mut header = b"".as_slice();
-    let mut operations = Vec::new(alloc);
-    for line in lines(text) {
-        if line.starts_with(b"# ") {
-            if !header.is_empty() {
-                carry_out(alloc, header, &operations, out)?;
-            }
-            header = line;
-            operations.clear();
-            out.extend_from_slice(line)?;
-            out.push(b'\n')?;
-        } else if !line.is_empty() {
-            operations.push(line)?;
-        }
-    }
-    carry_out(alloc, header, &operations, out)
+/// A case, as far as it was read.
+#[derive(Drop)]
+struct Case<'a> {
+    header: &'a [u8],
+    operations: Vec<&'a [u8]>,
 }
 
-fn run(rt: &HostRuntime) -> io::Result<Status> {
-    let text = match read_all(rt.alloc(), &mut rt.stdin()) {
-        Ok(text) => text,
-        Err(fault) => return Ok(fault.status()),
+/// Carries out the operations of a case.
+fn carry_out(case: &Case<'_>, out: &mut Buffer) {
+    let mut parts = words(case.header);
+    let (_, subject, name) = (parts.next(), parts.next(), parts.next());
+    match named(&SUBJECTS, subject.unwrap_or(b"")) {
+        Some(subject) => carry_out_on(subject, name.unwrap_or(b""), &case.operations, out),
+        None => out.fail(BAD_LINE),
+    }
+}
+
+/// Begins a case, once the one before it, where there is one, is carried out.
+fn begin<'a>(case: &mut Case<'a>, header: &'a [u8], out: &mut Buffer) {
+    if !case.header.is_empty() {
+        carry_out(case, out);
+    }
+    case.header = header;
+    case.operations.clear();
+    out.push(header);
+    out.push(b"\n");
+}
+
+/// Takes a line in: it begins a case, or is an operation of the one that is begun.
+fn take_line<'a>(case: &mut Case<'a>, line: &'a [u8], out: &mut Buffer) {
+    if line.starts_with(b"# ") {
+        begin(case, line, out);
+    } else if !line.is_empty() && case.operations.push(line).is_err() {
+        out.fail(Fault::OutOfMemory);
+    }
+}
+
+/// Carries out the cases of a text.
+fn carry_out_all(text: &[u8], out: &mut Buffer) {
+    let mut case = Case {
+        header: b"",
+        operations: Vec::new(out.alloc()),
     };
-    let mut out = Vec::new(rt.alloc());
-    carry_out_all(rt.alloc(), &text, &mut out)?;
-    rt.stdout().write_all(&out)?;
-    Ok(Status::Done)
+    for line in lines(text) {
+        take_line(&mut case, line, out);
+    }
+    carry_out(&case, out);
+}
+
+fn run(rt: &HostRuntime) -> Result<(), Fault> {
+    let text = read_all(rt.alloc(), &mut rt.stdin())?;
+    let mut out = Buffer::new(rt.alloc());
+    carry_out_all(&text, &mut out);
+    match rt.stdout().write_all(&out.finish()?) {
+        Ok(()) => Ok(()),
+        Err(error) => Err(Fault::of(&error)),
+    }
 }
 
 fn main(rt: HostRuntime) -> ExitCode {
-    match run(&rt) {
-        Ok(status) => ExitCode::from(status.code()),
-        Err(_) => ExitCode::from(Status::Failed.code()),
-    }
+    let status = match run(&rt) {
+        Ok(()) => Status::Done,
+        Err(fault) => fault.status(),
+    };
+    ExitCode::from(status.code())
 }

@@ -1,30 +1,20 @@
 //! Messages of the remote execution API, and messages as gRPC frames them.
 
-use crate::octets::{named, octets, show};
+use crate::buffer::Buffer;
+use crate::octets::{BAD_LINE, named, octets};
 use crate::records::word_of;
-use grpc_messages::Messages;
+use grpc_messages::{Messages, MessagesError};
+use program_status::Fault;
 use reapi_messages::*;
 use std::alloc::Global;
-use std::io::{self, Write};
 use tree_messages::*;
 
-/// Writes how the bytes are encoded again that a message is read from.
+/// How the bytes are encoded again that a message is read from.
 fn encoded_again<'a, M: Message<'a>>(
     alloc: Global,
     text: &'a [u8],
-    out: &mut Vec<u8>,
-) -> io::Result<()> {
-    match M::decode(alloc, text) {
-        Ok(message) => {
-            let again = message.encode(alloc)?;
-            show(out, b"", &again)?;
-        }
-        Err(MessageError::Wire(fault)) => write!(out, "{}", word_of(fault))?,
-        Err(MessageError::NotUtf8) => write!(out, "not-utf8")?,
-        Err(MessageError::NoMemory) => write!(out, "no-memory")?,
-    }
-    out.push(b'\n')?;
-    Ok(())
+) -> Result<Vec<u8>, MessageError> {
+    Ok(M::decode(alloc, text)?.encode(alloc)?)
 }
 
 /// A type of messages.
@@ -84,103 +74,113 @@ static TYPES: [(&[u8], Type); 23] = [
     ),
 ];
 
-/// Writes how the bytes are encoded again, as a message of this type.
-fn typed(alloc: Global, of: Type, text: &[u8], out: &mut Vec<u8>) -> io::Result<()> {
+/// How the bytes are encoded again, as a message of this type.
+fn typed(alloc: Global, of: Type, text: &[u8]) -> Result<Vec<u8>, MessageError> {
     match of {
-        Type::Digest => encoded_again::<Digest>(alloc, text, out),
-        Type::Status => encoded_again::<Status>(alloc, text, out),
-        Type::FindMissingBlobsRequest => encoded_again::<FindMissingBlobsRequest>(alloc, text, out),
-        Type::FindMissingBlobsResponse => encoded_again::<FindMissingBlobsResponse>(
-            alloc, text, out,
-        ),
-        Type::BatchUpdateBlobsRequest => encoded_again::<BatchUpdateBlobsRequest>(alloc, text, out),
-        Type::BatchUpdateBlobsResponse => encoded_again::<BatchUpdateBlobsResponse>(
-            alloc, text, out,
-        ),
-        Type::BatchReadBlobsRequest => encoded_again::<BatchReadBlobsRequest>(alloc, text, out),
-        Type::BatchReadBlobsResponse => encoded_again::<BatchReadBlobsResponse>(alloc, text, out),
-        Type::GetCapabilitiesRequest => encoded_again::<GetCapabilitiesRequest>(alloc, text, out),
-        Type::ServerCapabilities => encoded_again::<ServerCapabilities>(alloc, text, out),
-        _ => typed_more(alloc, of, text, out),
+        Type::Digest => encoded_again::<Digest>(alloc, text),
+        Type::Status => encoded_again::<Status>(alloc, text),
+        Type::FindMissingBlobsRequest => encoded_again::<FindMissingBlobsRequest>(alloc, text),
+        Type::FindMissingBlobsResponse => encoded_again::<FindMissingBlobsResponse>(alloc, text),
+        Type::BatchUpdateBlobsRequest => encoded_again::<BatchUpdateBlobsRequest>(alloc, text),
+        Type::BatchUpdateBlobsResponse => encoded_again::<BatchUpdateBlobsResponse>(alloc, text),
+        Type::BatchReadBlobsRequest => encoded_again::<BatchReadBlobsRequest>(alloc, text),
+        Type::BatchReadBlobsResponse => encoded_again::<BatchReadBlobsResponse>(alloc, text),
+        Type::GetCapabilitiesRequest => encoded_again::<GetCapabilitiesRequest>(alloc, text),
+        Type::ServerCapabilities => encoded_again::<ServerCapabilities>(alloc, text),
+        _ => typed_more(alloc, of, text),
     }
 }
 
-/// Writes how the bytes are encoded again, as a message of one of the other types.
-fn typed_more(alloc: Global, of: Type, text: &[u8], out: &mut Vec<u8>) -> io::Result<()> {
+/// How the bytes are encoded again, as a message of one of the other types.
+fn typed_more(alloc: Global, of: Type, text: &[u8]) -> Result<Vec<u8>, MessageError> {
     match of {
-        Type::ReadRequest => encoded_again::<ReadRequest>(alloc, text, out),
-        Type::ReadResponse => encoded_again::<ReadResponse>(alloc, text, out),
-        Type::WriteRequest => encoded_again::<WriteRequest>(alloc, text, out),
-        Type::WriteResponse => encoded_again::<WriteResponse>(alloc, text, out),
-        Type::QueryWriteStatusRequest => encoded_again::<QueryWriteStatusRequest>(alloc, text, out),
-        Type::QueryWriteStatusResponse => encoded_again::<QueryWriteStatusResponse>(
-            alloc, text, out,
-        ),
-        Type::Directory => encoded_again::<Directory>(alloc, text, out),
-        Type::Tree => encoded_again::<Tree>(alloc, text, out),
-        Type::ActionResult => encoded_again::<ActionResult>(alloc, text, out),
-        Type::GetTreeRequest => encoded_again::<GetTreeRequest>(alloc, text, out),
-        Type::GetTreeResponse => encoded_again::<GetTreeResponse>(alloc, text, out),
-        Type::GetActionResultRequest => encoded_again::<GetActionResultRequest>(alloc, text, out),
-        _ => encoded_again::<UpdateActionResultRequest>(alloc, text, out),
+        Type::ReadRequest => encoded_again::<ReadRequest>(alloc, text),
+        Type::ReadResponse => encoded_again::<ReadResponse>(alloc, text),
+        Type::WriteRequest => encoded_again::<WriteRequest>(alloc, text),
+        Type::WriteResponse => encoded_again::<WriteResponse>(alloc, text),
+        Type::QueryWriteStatusRequest => encoded_again::<QueryWriteStatusRequest>(alloc, text),
+        Type::QueryWriteStatusResponse => encoded_again::<QueryWriteStatusResponse>(alloc, text),
+        Type::Directory => encoded_again::<Directory>(alloc, text),
+        Type::Tree => encoded_again::<Tree>(alloc, text),
+        Type::ActionResult => encoded_again::<ActionResult>(alloc, text),
+        Type::GetTreeRequest => encoded_again::<GetTreeRequest>(alloc, text),
+        Type::GetTreeResponse => encoded_again::<GetTreeResponse>(alloc, text),
+        Type::GetActionResultRequest => encoded_again::<GetActionResultRequest>(alloc, text),
+        _ => encoded_again::<UpdateActionResultRequest>(alloc, text),
     }
+}
+
+/// Writes how the bytes are encoded again, as a message of this type, or why they are none.
+fn show_typed(of: Type, text: &[u8], out: &mut Buffer) {
+    match typed(out.alloc(), of, text) {
+        Ok(again) => out.push_hex(&again),
+        Err(MessageError::Wire(fault)) => out.push(word_of(fault)),
+        Err(MessageError::NotUtf8) => out.push(b"not-utf8"),
+        Err(MessageError::NoMemory) => out.fail(Fault::OutOfMemory),
+    }
+    out.push(b"\n");
 }
 
 /// Writes how each line's bytes are encoded again, as messages of the type of this name.
-pub fn messages(
-    alloc: Global,
-    name: &[u8],
-    operations: &[&[u8]],
-    out: &mut Vec<u8>,
-) -> io::Result<()> {
-    let of = named(&TYPES, name)?;
+pub fn messages(name: &[u8], operations: &[&[u8]], out: &mut Buffer) {
+    let Some(of) = named(&TYPES, name) else {
+        return out.fail(BAD_LINE);
+    };
     for line in operations {
-        typed(alloc, of, &octets(alloc, line)?, out)?;
+        show_typed(of, &octets(line, out), out);
     }
-    Ok(())
+}
+
+fn show_refusal(refusal: MessagesError, out: &mut Buffer) {
+    out.push_debug(&refusal);
+    out.push(b"\n");
 }
 
 /// Writes the next message, where it is whole, or else what the reader answers; tells whether there
 /// may be more.
-fn show_next(reader: &mut Messages, out: &mut Vec<u8>) -> io::Result<bool> {
+fn show_next(reader: &mut Messages, out: &mut Buffer) -> bool {
     match reader.next() {
         Ok(Some(message)) => {
-            show(out, b"[", message.as_slice())?;
-            out.extend_from_slice(b"] ")?;
-            return Ok(true);
+            out.push(b"[");
+            out.push_hex(message.as_slice());
+            out.push(b"] ");
+            return true;
         }
-        Ok(None) if reader.is_empty() => out.extend_from_slice(b"wait\n")?,
-        Ok(None) => out.extend_from_slice(b"wait begun\n")?,
-        Err(refusal) => writeln!(out, "{refusal:?}")?,
+        Ok(None) if reader.is_empty() => out.push(b"wait\n"),
+        Ok(None) => out.push(b"wait begun\n"),
+        Err(refusal) => show_refusal(refusal, out),
     }
-    Ok(false)
+    false
 }
 
 /// Feeds a piece, and writes the messages that are whole, and what the reader answers then.
-fn show_piece(reader: &mut Messages, piece: &[u8], out: &mut Vec<u8>) -> io::Result<()> {
+fn show_piece(reader: &mut Messages, piece: &[u8], out: &mut Buffer) {
     if let Err(refusal) = reader.feed(piece) {
-        return writeln!(out, "{refusal:?}");
+        return show_refusal(refusal, out);
     }
     for _ in 0..=piece.len() {
-        if !show_next(reader, out)? {
+        if !show_next(reader, out) {
             break;
         }
     }
-    Ok(())
+}
+
+/// Writes what the reader answers when what is fed has ended.
+fn show_end(reader: &mut Messages, out: &mut Buffer) {
+    match reader.end() {
+        Ok(()) => out.push(b"ended\n"),
+        Err(refusal) => show_refusal(refusal, out),
+    }
 }
 
 /// Splits what is fed piece by piece into messages; at a line `end`, what is fed has ended.
-pub fn framed(alloc: Global, operations: &[&[u8]], out: &mut Vec<u8>) -> io::Result<()> {
-    let mut reader = Messages::new(alloc);
+pub fn framed(operations: &[&[u8]], out: &mut Buffer) {
+    let mut reader = Messages::new(out.alloc());
     for line in operations {
         if *line == b"end".as_slice() {
-            match reader.end() {
-                Ok(()) => out.extend_from_slice(b"ended\n")?,
-                Err(refusal) => writeln!(out, "{refusal:?}")?,
-            }
+            show_end(&mut reader, out);
         } else {
-            show_piece(&mut reader, &octets(alloc, line)?, out)?;
+            show_piece(&mut reader, &octets(line, out), out);
         }
     }
-    Ok(())
 }

@@ -1,55 +1,67 @@
-//! How bytes and words stand in the vectors, and bytes in what is written.
+//! How bytes and words stand in the vectors.
 
+use crate::buffer::Buffer;
 use decimals::decimal;
-use script::{hex_bytes, words, write_hex};
-use std::alloc::Global;
-use std::io::{self, ErrorKind};
+use program_status::Fault;
+use script::{hex_bytes, words};
+use std::alloc::AllocError;
 
-/// What a line of another form is refused with.
-pub fn bad_line() -> io::Error {
-    io::Error::from(ErrorKind::InvalidData)
+/// What a line of another form fails with.
+pub const BAD_LINE: Fault = Fault::InputOrOutput;
+
+/// Adds bytes so many times.
+fn add_times(piece: &[u8], count: u64, bytes: &mut Buffer) {
+    for _ in 0..count {
+        if bytes.has_failed() {
+            break;
+        }
+        bytes.push(piece);
+    }
+}
+
+/// Adds the bytes of hexadecimal digits, or of `-` for none, so many times.
+fn add_digits(digits: &[u8], count: u64, bytes: &mut Buffer) {
+    match hex_bytes(bytes.alloc(), digits) {
+        Ok(Some(piece)) => add_times(&piece, count, bytes),
+        Ok(None) => bytes.fail(BAD_LINE),
+        Err(AllocError) => bytes.fail(Fault::OutOfMemory),
+    }
 }
 
 /// Adds the bytes of a word.
-fn add_word(word: &[u8], out: &mut Vec<u8>) -> io::Result<()> {
-    let (hex, count) = match word.iter().position(|byte| *byte == b'*') {
+fn add_word(word: &[u8], bytes: &mut Buffer) {
+    let (digits, count) = match word.iter().position(|byte| *byte == b'*') {
         Some(end) => (&word[..end], decimal(&word[end + 1..])),
         None => (word, Some(1)),
     };
-    match (hex_bytes(*out.allocator(), hex)?, count) {
-        (Some(bytes), Some(count)) => {
-            for _ in 0..count {
-                out.extend_from_slice(&bytes)?;
-            }
-            Ok(())
-        }
-        _ => Err(bad_line()),
+    match count {
+        Some(count) => add_digits(digits, count, bytes),
+        None => bytes.fail(BAD_LINE),
     }
 }
 
 /// The bytes of a line: of each of its words in turn, which is hexadecimal, `-` for none, or
-/// `HEX*COUNT` for so many times those of HEX.
-pub fn octets(alloc: Global, line: &[u8]) -> io::Result<Vec<u8>> {
-    let mut out = Vec::new(alloc);
+/// `HEX*COUNT` for so many times those of HEX. A line of another form has none, and `out` fails.
+pub fn octets(line: &[u8], out: &mut Buffer) -> Vec<u8> {
+    let mut bytes = Buffer::new(out.alloc());
     for word in words(line) {
-        add_word(word, &mut out)?;
+        add_word(word, &mut bytes);
     }
-    Ok(out)
-}
-
-/// Writes bytes in hexadecimal, `-` for none, behind these.
-pub fn show(out: &mut Vec<u8>, before: &[u8], bytes: &[u8]) -> io::Result<()> {
-    out.extend_from_slice(before)?;
-    write_hex(out, bytes)?;
-    Ok(())
+    match bytes.finish() {
+        Ok(bytes) => bytes,
+        Err(fault) => {
+            out.fail(fault);
+            Vec::new(out.alloc())
+        }
+    }
 }
 
 /// What a word stands for in a list of words with what they stand for.
-pub fn named<T: Copy>(list: &[(&[u8], T)], word: &[u8]) -> io::Result<T> {
+pub fn named<T: Copy>(list: &[(&[u8], T)], word: &[u8]) -> Option<T> {
     for (name, meant) in list {
         if *name == word {
-            return Ok(*meant);
+            return Some(*meant);
         }
     }
-    Err(bad_line())
+    None
 }

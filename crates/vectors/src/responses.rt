@@ -1,11 +1,9 @@
 //! The header blocks of responses.
 
-use crate::octets::show;
+use crate::buffer::Buffer;
 use grpc_calls::{ResponseBlock, Status};
 use hpack::Position;
 use rpc::Refusal;
-use std::alloc::Global;
-use std::io::{self, Write};
 
 static REFUSALS: [Refusal; 21] = [
     Refusal::UnknownMethod,
@@ -31,40 +29,46 @@ static REFUSALS: [Refusal; 21] = [
     Refusal::UploadNotFound,
 ];
 
-static OTHERS: [(&str, ResponseBlock); 4] = [
-    ("head", ResponseBlock::Head),
-    ("trailers ok", ResponseBlock::Trailers(Status::Success)),
-    ("405", ResponseBlock::MethodNotAllowed),
-    ("415", ResponseBlock::UnsupportedMediaType),
+static OTHERS: [(&[u8], ResponseBlock); 4] = [
+    (b"head", ResponseBlock::Head),
+    (b"trailers ok", ResponseBlock::Trailers(Status::Success)),
+    (b"405", ResponseBlock::MethodNotAllowed),
+    (b"415", ResponseBlock::UnsupportedMediaType),
 ];
 
+/// Writes a block as it is encoded at a position.
+fn show_encoded(block: ResponseBlock, position: Position, out: &mut Buffer) {
+    let mut bytes = Vec::new(out.alloc());
+    out.expect(block.encode_into(position, &mut bytes));
+    out.push_hex(&bytes);
+}
+
 /// Writes a block, as the first of a connection and as a later one.
-fn show_response(alloc: Global, block: ResponseBlock, out: &mut Vec<u8>) -> io::Result<()> {
-    let mut first = Vec::new(alloc);
-    let mut later = Vec::new(alloc);
-    block.encode_into(Position::First, &mut first)?;
-    block.encode_into(Position::Later, &mut later)?;
-    show(out, b" first ", &first)?;
-    show(out, b" later ", &later)?;
-    out.push(b'\n')?;
-    Ok(())
+fn show_response(block: ResponseBlock, out: &mut Buffer) {
+    out.push(b" first ");
+    show_encoded(block, Position::First, out);
+    out.push(b" later ");
+    show_encoded(block, Position::Later, out);
+    out.push(b"\n");
+}
+
+/// Writes the two blocks that tell of a refusal.
+fn show_refusal(refusal: Refusal, out: &mut Buffer) {
+    out.push(b"trailers ");
+    out.push_display(&refusal.code());
+    show_response(ResponseBlock::Trailers(Status::Refused(refusal)), out);
+    out.push(b"trailers-only ");
+    out.push_display(&refusal.code());
+    show_response(ResponseBlock::TrailersOnly(refusal), out);
 }
 
 /// Writes all blocks of responses.
-pub fn responses(alloc: Global, out: &mut Vec<u8>) -> io::Result<()> {
+pub fn responses(out: &mut Buffer) {
     for (what, block) in &OTHERS {
-        write!(out, "{what}")?;
-        show_response(alloc, *block, out)?;
+        out.push(what);
+        show_response(*block, out);
     }
     for refusal in &REFUSALS {
-        write!(out, "trailers {}", refusal.code())?;
-        show_response(
-            alloc,
-            ResponseBlock::Trailers(Status::Refused(*refusal)),
-            out,
-        )?;
-        write!(out, "trailers-only {}", refusal.code())?;
-        show_response(alloc, ResponseBlock::TrailersOnly(*refusal), out)?;
+        show_refusal(*refusal, out);
     }
-    Ok(())
 }

@@ -1,17 +1,25 @@
 //! Flow-control windows.
 
-use crate::octets::{bad_line, named};
+ghost use Rattle.std.specs.Prelude.{◌≤◌, IfSome};
+
+use crate::buffer::Buffer;
+use crate::octets::{BAD_LINE, named};
 use decimals::decimal;
 use http2_flow::{FlowError, MAX_SIZE, Window};
 use script::words;
-use std::io::{self, Write};
 
 /// The number of a word, where it is at most 2^32 - 1.
-fn number(word: Option<&[u8]>) -> io::Result<u32> {
-    let value = decimal(word.unwrap_or(b"")).ok_or(bad_line())?;
-    match u32::try_from(value) {
-        Ok(value) => Ok(value),
-        Err(_) => Err(bad_line()),
+fn number(word: &[u8]) -> Option<u32> {
+    u32::try_from(decimal(word)?).ok()
+}
+
+/// The initial size that a number is.
+fn size(word: &[u8]) -> Option<u32>
+    ensures { IfSome result (λ size. size ≤ MAX_SIZE) }
+{
+    match number(word) {
+        Some(size) if size <= MAX_SIZE => Some(size),
+        _ => None,
     }
 }
 
@@ -29,35 +37,51 @@ static CHANGES: [(&[u8], Change); 3] = [
     (b"shift", Change::Shift),
 ];
 
-/// The words of a line that says what is done, and by which number.
-fn change_of(line: &[u8]) -> io::Result<(Change, u32)> {
-    let mut parts = words(line);
-    let change = named(&CHANGES, parts.next().unwrap_or(b""))?;
-    Ok((change, number(parts.next())?))
+/// Changes a window by a number, and gives what it answers.
+fn changed(window: &mut Window, change: Change, by: u32) -> Option<Result<(), FlowError>> {
+    match change {
+        Change::Grant => Some(window.grant(by)),
+        Change::Spend => Some(window.spend(by)),
+        Change::Shift if by <= MAX_SIZE => Some(window.shift(by)),
+        Change::Shift => None,
+    }
 }
 
-/// Changes a window of an initial size as each line says, and writes what it answers and what is
-/// left.
-pub fn window(initial: &[u8], operations: &[&[u8]], out: &mut Vec<u8>) -> io::Result<()> {
-    let initial = number(Some(initial))?;
-    if initial > MAX_SIZE {
-        return Err(bad_line());
+/// Changes a window as a line says, and gives what it answers, if the line says something.
+fn changed_as(window: &mut Window, line: &[u8]) -> Option<Result<(), FlowError>> {
+    let mut parts = words(line);
+    let change = named(&CHANGES, parts.next()?)?;
+    changed(window, change, number(parts.next()?)?)
+}
+
+/// The word for what a window answers.
+fn word_of(answer: Result<(), FlowError>) -> &'static [u8] {
+    match answer {
+        Ok(()) => b"ok",
+        Err(FlowError::Zero) => b"Zero",
+        Err(FlowError::TooLarge) => b"TooLarge",
+        Err(FlowError::NotEnough) => b"NotEnough",
     }
+}
+
+/// Changes a window as a line says, and writes what it answers and what is left.
+fn show_change(window: &mut Window, line: &[u8], out: &mut Buffer) {
+    match changed_as(window, line) {
+        Some(answer) => out.push(word_of(answer)),
+        None => out.fail(BAD_LINE),
+    }
+    out.push(b" left ");
+    out.push_display(&window.left());
+    out.push(b"\n");
+}
+
+/// Changes a window of an initial size as each line says.
+pub fn window(initial: &[u8], operations: &[&[u8]], out: &mut Buffer) {
+    let Some(initial) = size(initial) else {
+        return out.fail(BAD_LINE);
+    };
     let mut window = Window::new(initial);
     for line in operations {
-        let answer = match change_of(line)? {
-            (Change::Grant, increment) => window.grant(increment),
-            (Change::Spend, bytes) => window.spend(bytes),
-            (Change::Shift, initial) if initial <= MAX_SIZE => window.shift(initial),
-            _ => return Err(bad_line()),
-        };
-        let answer = match answer {
-            Ok(()) => "ok",
-            Err(FlowError::Zero) => "Zero",
-            Err(FlowError::TooLarge) => "TooLarge",
-            Err(FlowError::NotEnough) => "NotEnough",
-        };
-        writeln!(out, "{answer} left {}", window.left())?;
+        show_change(&mut window, line, out);
     }
-    Ok(())
 }

@@ -53,14 +53,16 @@ impl Buffer {
         self.expect(answer);
     }
 
-    /// Appends bytes in hexadecimal, `-` for none.
-    pub fn push_hex(&mut self, bytes: &[u8]) {
+    /// Appends bytes, and then others in hexadecimal, `-` for none.
+    pub fn push_hex(&mut self, before: &[u8], bytes: &[u8]) {
+        self.push(before);
         let answer = write_hex(&mut self.bytes, bytes);
         self.expect(answer);
     }
 
-    /// Appends a value as `{}` shows it.
-    pub fn push_display<T: Display>(&mut self, value: &T) {
+    /// Appends bytes, and then a value as `{}` shows it.
+    pub fn push_display<T: Display>(&mut self, before: &[u8], value: &T) {
+        self.push(before);
         if write!(self.bytes, "{value}").is_err() {
             self.fail(Fault::OutOfMemory);
         }
@@ -71,6 +73,14 @@ impl Buffer {
         if write!(self.bytes, "{value:?}").is_err() {
             self.fail(Fault::OutOfMemory);
         }
+    }
+
+    /// The bytes of another, whose failure is also one of this.
+    pub fn take(&mut self, other: Buffer) -> Vec<u8> {
+        if let Some(fault) = other.fault {
+            self.fail(fault);
+        }
+        other.bytes
     }
 
     /// The bytes, or what went wrong.

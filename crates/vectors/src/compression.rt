@@ -22,8 +22,8 @@ fn show_decoded(coded: &[u8], out: &mut Buffer) {
     let mut text = Vec::new(out.alloc());
     let begun = text.extend_from_slice(b"\xff");
     out.expect(begun);
-    out.push(word_of(decode_into(coded, &mut text)));
-    out.push_hex(&text);
+    let word = word_of(decode_into(coded, &mut text));
+    out.push_hex(word, &text);
     out.push(b"\n");
 }
 
@@ -37,10 +37,7 @@ pub fn huffman(operations: &[&[u8]], out: &mut Buffer) {
 /// Writes a byte as it is, or, where it is not printable or is `%`, as `%` and two digits.
 fn show_byte(byte: u8, out: &mut Buffer) {
     match byte {
-        b'%' | 0..=0x1f | 0x7f..=0xff => {
-            out.push(b"%");
-            out.push_hex(&[byte]);
-        }
+        b'%' | 0..=0x1f | 0x7f..=0xff => out.push_hex(b"%", &[byte]),
         _ => out.push(&[byte]),
     }
 }
@@ -67,7 +64,7 @@ fn show_call(headers: &Headers, out: &mut Buffer) {
 
 /// Writes how many fields there are, and whether they are a request's.
 fn show_request(headers: &Headers, out: &mut Buffer) {
-    out.push_display(&headers.len());
+    out.push_display(b"", &headers.len());
     match is_well_formed_request(headers) {
         true => out.push(b" fields request "),
         false => out.push(b" fields no-request "),
@@ -88,23 +85,18 @@ fn show_fields(headers: &Headers, out: &mut Buffer) {
     }
 }
 
-fn show_table(decoder: &Decoder, out: &mut Buffer) {
-    out.push(b" table ");
-    out.push_display(&decoder.table_size());
-}
-
 /// Reads a header block, and writes what it has, and the size of the table behind it.
 fn show_block(decoder: &mut Decoder, block: &[u8], out: &mut Buffer) {
     match decoder.block(block) {
         Ok(headers) => {
             show_request(&headers, out);
             show_call(&headers, out);
-            show_table(decoder, out);
+            out.push_display(b" table ", &decoder.table_size());
             show_fields(&headers, out);
         }
         Err(fault) => {
             out.push_debug(&fault);
-            show_table(decoder, out);
+            out.push_display(b" table ", &decoder.table_size());
         }
     }
     out.push(b"\n");

@@ -40,34 +40,24 @@ fn show_written(frame: &Frame<'_>, out: &mut Buffer) {
     if fits(frame) {
         out.expect(write_frame(&mut bytes, frame));
     }
-    out.push_hex(&bytes);
+    out.push_hex(b" is ", &bytes);
 }
 
 /// Writes what a frame says, or its error.
 fn show_meaning(frame: &RawFrame<'_>, out: &mut Buffer) {
     match interpret(frame) {
-        Ok(frame) => {
-            out.push(b" is ");
-            show_written(&frame, out);
-        }
-        Err(code) => {
-            out.push(b" error ");
-            out.push_display(&code.number());
-        }
+        Ok(frame) => show_written(&frame, out),
+        Err(code) => out.push_display(b" error ", &code.number()),
     }
     out.push(b"\n");
 }
 
 /// Writes a frame as it was read.
 fn show_frame(frame: &RawFrame<'_>, out: &mut Buffer) {
-    out.push(b"frame ");
-    out.push_display(&frame.kind);
-    out.push(b" ");
-    out.push_display(&frame.flags);
-    out.push(b" ");
-    out.push_display(&frame.stream);
-    out.push(b" ");
-    out.push_hex(frame.payload.as_slice());
+    out.push_display(b"frame ", &frame.kind);
+    out.push_display(b" ", &frame.flags);
+    out.push_display(b" ", &frame.stream);
+    out.push_hex(b" ", frame.payload.as_slice());
 }
 
 fn show_fault(fault: FrameError, out: &mut Buffer) {

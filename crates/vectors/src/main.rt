@@ -19,6 +19,7 @@ use crate::buffer::Buffer;
 use crate::octets::{BAD_LINE, named};
 use program_status::{Fault, Status, read_all};
 use script::{lines, words};
+use std::alloc::Global;
 use std::io::Write;
 use std::process::ExitCode;
 
@@ -73,12 +74,18 @@ struct Case<'a> {
     operations: Vec<&'a [u8]>,
 }
 
+/// The words for the subject and the name of a case.
+fn title(header: &[u8]) -> (&[u8], &[u8]) {
+    let mut parts = words(header);
+    parts.next();
+    (parts.next().unwrap_or(b""), parts.next().unwrap_or(b""))
+}
+
 /// Carries out the operations of a case.
 fn carry_out(case: &Case<'_>, out: &mut Buffer) {
-    let mut parts = words(case.header);
-    let (_, subject, name) = (parts.next(), parts.next(), parts.next());
-    match named(&SUBJECTS, subject.unwrap_or(b"")) {
-        Some(subject) => carry_out_on(subject, name.unwrap_or(b""), &case.operations, out),
+    let (subject, name) = title(case.header);
+    match named(&SUBJECTS, subject) {
+        Some(subject) => carry_out_on(subject, name, &case.operations, out),
         None => out.fail(BAD_LINE),
     }
 }
@@ -115,19 +122,29 @@ fn carry_out_all(text: &[u8], out: &mut Buffer) {
     carry_out(&case, out);
 }
 
-fn run(rt: &HostRuntime) -> Result<(), Fault> {
-    let text = read_all(rt.alloc(), &mut rt.stdin())?;
-    let mut out = Buffer::new(rt.alloc());
-    carry_out_all(&text, &mut out);
-    match rt.stdout().write_all(&out.finish()?) {
-        Ok(()) => Ok(()),
-        Err(error) => Err(Fault::of(&error)),
+/// What is written of a text's cases.
+fn written(alloc: Global, text: &[u8]) -> Result<Vec<u8>, Fault> {
+    let mut out = Buffer::new(alloc);
+    carry_out_all(text, &mut out);
+    out.finish()
+}
+
+/// Writes a text to standard output, and gives how the run ends.
+fn write_out(rt: &HostRuntime, text: &[u8]) -> Status {
+    match rt.stdout().write_all(text) {
+        Ok(()) => Status::Done,
+        Err(error) => Fault::of(&error).status(),
     }
+}
+
+fn run(rt: &HostRuntime) -> Result<Status, Fault> {
+    let text = read_all(rt.alloc(), &mut rt.stdin())?;
+    Ok(write_out(rt, &written(rt.alloc(), &text)?))
 }
 
 fn main(rt: HostRuntime) -> ExitCode {
     let status = match run(&rt) {
-        Ok(()) => Status::Done,
+        Ok(status) => status,
         Err(fault) => fault.status(),
     };
     ExitCode::from(status.code())

@@ -113,7 +113,7 @@ fn typed_more(alloc: Global, of: Type, text: &[u8]) -> Result<Vec<u8>, MessageEr
 /// Writes how the bytes are encoded again, as a message of this type, or why they are none.
 fn show_typed(of: Type, text: &[u8], out: &mut Buffer) {
     match typed(out.alloc(), of, text) {
-        Ok(again) => out.push_hex(&again),
+        Ok(again) => out.push_hex(b"", &again),
         Err(MessageError::Wire(fault)) => out.push(word_of(fault)),
         Err(MessageError::NotUtf8) => out.push(b"not-utf8"),
         Err(MessageError::NoMemory) => out.fail(Fault::OutOfMemory),
@@ -141,8 +141,7 @@ fn show_refusal(refusal: MessagesError, out: &mut Buffer) {
 fn show_next(reader: &mut Messages, out: &mut Buffer) -> bool {
     match reader.next() {
         Ok(Some(message)) => {
-            out.push(b"[");
-            out.push_hex(message.as_slice());
+            out.push_hex(b"[", message.as_slice());
             out.push(b"] ");
             return true;
         }

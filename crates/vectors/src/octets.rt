@@ -41,19 +41,13 @@ fn add_word(word: &[u8], bytes: &mut Buffer) {
 }
 
 /// The bytes of a line: of each of its words in turn, which is hexadecimal, `-` for none, or
-/// `HEX*COUNT` for so many times those of HEX. A line of another form has none, and `out` fails.
+/// `HEX*COUNT` for so many times those of HEX. At a line of another form `out` fails.
 pub fn octets(line: &[u8], out: &mut Buffer) -> Vec<u8> {
     let mut bytes = Buffer::new(out.alloc());
     for word in words(line) {
         add_word(word, &mut bytes);
     }
-    match bytes.finish() {
-        Ok(bytes) => bytes,
-        Err(fault) => {
-            out.fail(fault);
-            Vec::new(out.alloc())
-        }
-    }
+    out.take(bytes)
 }
 
 /// What a word stands for in a list of words with what they stand for.

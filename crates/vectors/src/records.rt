@@ -14,53 +14,41 @@ pub fn word_of(fault: WireError) -> &'static [u8] {
     }
 }
 
-/// The word for what a reader answers at its end.
-fn word_of_end<T: Drop>(answer: Result<Option<T>, WireError>) -> &'static [u8] {
-    match answer {
-        Ok(Some(_)) => b"more",
-        Ok(None) => b"end",
-        Err(fault) => word_of(fault),
-    }
-}
-
-/// Writes the two words for what a reader answers at its end.
-fn show_end(first: &[u8], second: &[u8], out: &mut Buffer) {
-    out.push(first);
-    out.push(b" ");
-    out.push(second);
-    out.push(b"\n");
-}
-
-/// Writes a letter and bytes.
-fn show_bytes(letter: &[u8], bytes: &[u8], out: &mut Buffer) {
-    out.push(letter);
-    out.push_hex(bytes);
-}
-
 fn show_record(field: &Field<'_>, out: &mut Buffer) {
-    out.push_display(&field.number);
+    out.push_display(b"", &field.number);
     match field.content {
-        Content::Varint(value) => {
-            out.push(b"v");
-            out.push_display(&value);
-        }
-        Content::Fixed64(bytes) => show_bytes(b"q", bytes, out),
-        Content::Bytes(bytes) => show_bytes(b"b", bytes, out),
-        Content::Fixed32(bytes) => show_bytes(b"d", bytes, out),
+        Content::Varint(value) => out.push_display(b"v", &value),
+        Content::Fixed64(bytes) => out.push_hex(b"q", bytes),
+        Content::Bytes(bytes) => out.push_hex(b"b", bytes),
+        Content::Fixed32(bytes) => out.push_hex(b"d", bytes),
     }
     out.push(b" ");
+}
+
+/// Writes the next record, or how they end; tells whether there may be more.
+fn show_next_record(reader: &mut Reader<'_>, out: &mut Buffer) -> bool {
+    match reader.next() {
+        Ok(Some(field)) => {
+            show_record(&field, out);
+            return true;
+        }
+        Ok(None) => out.push(b"end"),
+        Err(fault) => out.push(word_of(fault)),
+    }
+    false
 }
 
 /// Writes the records of a text, and twice how they end.
 fn show_records(text: &[u8], out: &mut Buffer) {
     let mut reader = Reader::new(text);
-    for _ in 0..text.len() {
-        match reader.next() {
-            Ok(Some(field)) => show_record(&field, out),
-            _ => break,
+    for _ in 0..=text.len() {
+        if !show_next_record(&mut reader, out) {
+            break;
         }
     }
-    show_end(word_of_end(reader.next()), word_of_end(reader.next()), out);
+    out.push(b" ");
+    show_next_record(&mut reader, out);
+    out.push(b"\n");
 }
 
 /// Writes the records of each line's bytes.
@@ -70,19 +58,31 @@ pub fn records(operations: &[&[u8]], out: &mut Buffer) {
     }
 }
 
+/// Writes the next number, or how they end; tells whether there may be more.
+fn show_next_number(reader: &mut PackedReader<'_>, out: &mut Buffer) -> bool {
+    match reader.next() {
+        Ok(Some(number)) => {
+            out.push_display(b"", &number);
+            out.push(b" ");
+            return true;
+        }
+        Ok(None) => out.push(b"end"),
+        Err(fault) => out.push(word_of(fault)),
+    }
+    false
+}
+
 /// Writes the numbers that a text is, and twice how they end.
 fn show_packed(text: &[u8], out: &mut Buffer) {
     let mut reader = PackedReader::new(text);
-    for _ in 0..text.len() {
-        match reader.next() {
-            Ok(Some(number)) => {
-                out.push_display(&number);
-                out.push(b" ");
-            }
-            _ => break,
+    for _ in 0..=text.len() {
+        if !show_next_number(&mut reader, out) {
+            break;
         }
     }
-    show_end(word_of_end(reader.next()), word_of_end(reader.next()), out);
+    out.push(b" ");
+    show_next_number(&mut reader, out);
+    out.push(b"\n");
 }
 
 /// Writes the numbers that each line's bytes are.

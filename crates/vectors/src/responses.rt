@@ -36,29 +36,25 @@ static OTHERS: [(&[u8], ResponseBlock); 4] = [
     (b"415", ResponseBlock::UnsupportedMediaType),
 ];
 
-/// Writes a block as it is encoded at a position.
-fn show_encoded(block: ResponseBlock, position: Position, out: &mut Buffer) {
+/// Writes a block as it is encoded at a position, behind these bytes.
+fn show_encoded(before: &[u8], block: ResponseBlock, position: Position, out: &mut Buffer) {
     let mut bytes = Vec::new(out.alloc());
     out.expect(block.encode_into(position, &mut bytes));
-    out.push_hex(&bytes);
+    out.push_hex(before, &bytes);
 }
 
 /// Writes a block, as the first of a connection and as a later one.
 fn show_response(block: ResponseBlock, out: &mut Buffer) {
-    out.push(b" first ");
-    show_encoded(block, Position::First, out);
-    out.push(b" later ");
-    show_encoded(block, Position::Later, out);
+    show_encoded(b" first ", block, Position::First, out);
+    show_encoded(b" later ", block, Position::Later, out);
     out.push(b"\n");
 }
 
 /// Writes the two blocks that tell of a refusal.
 fn show_refusal(refusal: Refusal, out: &mut Buffer) {
-    out.push(b"trailers ");
-    out.push_display(&refusal.code());
+    out.push_display(b"trailers ", &refusal.code());
     show_response(ResponseBlock::Trailers(Status::Refused(refusal)), out);
-    out.push(b"trailers-only ");
-    out.push_display(&refusal.code());
+    out.push_display(b"trailers-only ", &refusal.code());
     show_response(ResponseBlock::TrailersOnly(refusal), out);
 }
 

@@ -47,11 +47,19 @@ fn changed(window: &mut Window, change: Change, by: u32) -> Option<Result<(), Fl
     }
 }
 
+/// What a line says is done, and by which number, where it says so.
+fn change_of(line: &[u8]) -> (Option<Change>, Option<u32>) {
+    let mut parts = words(line);
+    let change = named(&CHANGES, parts.next().unwrap_or(b""));
+    (change, number(parts.next().unwrap_or(b"")))
+}
+
 /// Changes a window as a line says, and gives what it answers, if the line says something.
 fn changed_as(window: &mut Window, line: &[u8]) -> Option<Result<(), FlowError>> {
-    let mut parts = words(line);
-    let change = named(&CHANGES, parts.next()?)?;
-    changed(window, change, number(parts.next()?)?)
+    match change_of(line) {
+        (Some(change), Some(by)) => changed(window, change, by),
+        _ => None,
+    }
 }
 
 /// The word for what a window answers.
@@ -70,8 +78,7 @@ fn show_change(window: &mut Window, line: &[u8], out: &mut Buffer) {
         Some(answer) => out.push(word_of(answer)),
         None => out.fail(BAD_LINE),
     }
-    out.push(b" left ");
-    out.push_display(&window.left());
+    out.push_display(b" left ", &window.left());
     out.push(b"\n");
 }
 

@@ -18,7 +18,7 @@ mod client;
 mod directories;
 mod requests;
 
-use crate::instances::configs;
+use crate::instances::{configs, server};
 use crate::limits::answers::Answers;
 use crate::limits::client::Client;
 use crate::limits::directories::{Blob, add_child, filled, leaf};
@@ -27,7 +27,6 @@ use decimals::decimal;
 use program_status::{Fault, Status};
 use script::{Parts, lines, words};
 use server_core::Server;
-use server_events::Configs;
 use std::slice;
 
 const QUOTA: u64 = 1_000_000_000;
@@ -83,7 +82,7 @@ fn number(word: &[u8], output: &mut Output) -> u64 {
 }
 
 fn numbers(words: Parts<'_>, output: &mut Output) -> Vec<u64> {
-    let mut numbers = Vec::new(output.alloc());
+    let mut numbers = Vec::new(output.alloc);
     for word in words {
         let number = number(word, output);
         output.expect(numbers.push(number));
@@ -103,15 +102,16 @@ fn token<'a>(word: &'a [u8], output: &mut Output) -> &'a str {
 }
 
 fn action(number: u64, output: &mut Output) -> Blob {
-    let digits = output.string(format!(in output.alloc(); "{number}"));
+    let digits = output.string(format!(in output.alloc; "{number}"));
     Blob::of(digits.into_bytes(), output)
 }
 
-/// The server, its client, and the root that was stored last.
+/// The server, its client, the root that was stored last, and the answers of a line.
 #[derive(Drop)]
 struct Session {
     client: Client,
     root: Blob,
+    answers: Answers,
 }
 
 impl Session {
@@ -127,8 +127,8 @@ impl Session {
     }
 
     fn store_wide(&mut self, count: u64, output: &mut Output) {
-        let mut leaves = Vec::new(output.alloc());
-        let mut root = Vec::new(output.alloc());
+        let mut leaves = Vec::new(output.alloc);
+        let mut root = Vec::new(output.alloc);
         for place in 1..count {
             let child = Blob::of(leaf(place, output), output);
             add_child(place, &child, &mut root, output);
@@ -153,15 +153,12 @@ impl Session {
         let page_token = token(words.next().unwrap_or(b""), output);
         let request = requests::get_tree(&self.root, page_size, page_token, output);
         let answer = self.client.call(GET_TREE, &request, output);
-        let mut answers = Answers::new(output);
-        answers.add(&answer, output);
-        answers.finish(output);
+        self.answers.add(&answer, output);
     }
 
     /// Gives the actions of these numbers results with so many bytes, or asks for those that they
     /// have.
     fn show_results(&mut self, first: u64, last: u64, size: Option<u64>, output: &mut Output) {
-        let mut answers = Answers::new(output);
         for number in first..=last {
             let action = action(number, output);
             let (path, request) = match size {
@@ -172,12 +169,11 @@ impl Session {
                 None => (GET_RESULT, requests::get_result(&action, output)),
             };
             let answer = self.client.call(path, &request, output);
-            answers.add(&answer, output);
+            self.answers.add(&answer, output);
         }
-        answers.finish(output);
     }
 
-    fn carry_out_on(&mut self, verb: Verb, numbers: &[u64], output: &mut Output) {
+    fn carry_out_verb(&mut self, verb: Verb, numbers: &[u64], output: &mut Output) {
         match (verb, numbers) {
             (Verb::Wide, [count]) => self.store_wide(*count, output),
             (Verb::Deep, targets) => self.store_deep(targets, output),
@@ -193,7 +189,7 @@ impl Session {
         let mut words = words(line);
         match verb_of(words.next().unwrap_or(b"")) {
             Some(Verb::Tree) => self.show_tree(words, output),
-            Some(verb) => self.carry_out_on(verb, &numbers(words, output), output),
+            Some(verb) => self.carry_out_verb(verb, &numbers(words, output), output),
             None => output.fail(BAD_LINE),
         }
     }
@@ -205,29 +201,28 @@ impl Session {
                 output.print(line);
                 output.print(b"\n");
                 self.carry_out(line, output);
+                self.answers.finish(output);
             }
         }
     }
 }
 
-/// Carries out the lines of a text on a server of these instances.
-fn serve(configs: &Configs, text: &[u8], output: &mut Output) {
-    match Server::new(output.alloc(), configs) {
-        Ok(server) => {
-            let mut session = Session {
-                client: Client::new(output.alloc(), server),
-                root: Blob::of(Vec::new(output.alloc()), output),
-            };
-            session.carry_out_all(text, output);
-        }
-        Err(_) => output.fail(Fault::OutOfMemory),
-    }
+/// Carries out the lines of a text on a server.
+fn carry_out_on(server: Box<Server>, text: &[u8], output: &mut Output) {
+    let mut session = Session {
+        client: Client::new(output.alloc, server),
+        root: Blob::of(Vec::new(output.alloc), output),
+        answers: Answers::new(output.alloc),
+    };
+    session.carry_out_all(text, output);
 }
 
 /// Carries out the lines of a text on a server of its own.
 pub fn carry_out(text: &[u8], output: &mut Output) -> Status {
     if let Some(configs) = configs(&["main"], QUOTA, output) {
-        serve(&configs, text, output);
+        if let Some(server) = server(&configs, output) {
+            carry_out_on(server, text, output);
+        }
     }
     Status::Done
 }

@@ -11,6 +11,8 @@ use std::io::Write;
 /// made that memory may be refused for, and a run that failed still prints how far it came.
 #[derive(Drop)]
 pub struct Output {
+    /// Where the values of the cases lie.
+    pub alloc: Global,
     pub text: Vec<u8>,
     fault: Option<Fault>,
 }
@@ -19,13 +21,10 @@ impl Output {
     /// Nothing printed yet.
     pub fn new(alloc: Global) -> Output {
         Output {
+            alloc,
             text: Vec::new(alloc),
             fault: None,
         }
-    }
-
-    pub fn alloc(&self) -> Global {
-        *self.text.allocator()
     }
 
     /// Remembers a failure, unless there was one before.
@@ -52,7 +51,7 @@ impl Output {
             Ok(bytes) => bytes,
             Err(_) => {
                 self.fail(Fault::OutOfMemory);
-                Vec::new(self.alloc())
+                Vec::new(self.alloc)
             }
         }
     }
@@ -63,7 +62,7 @@ impl Output {
             Ok(text) => text,
             Err(_) => {
                 self.fail(Fault::OutOfMemory);
-                String::new(self.alloc())
+                String::new(self.alloc)
             }
         }
     }

@@ -24,21 +24,21 @@ const TURNS: u64 = 2_000;
 
 /// What a line in hexadecimal says.
 fn text_of(line: &[u8], output: &mut Output) -> Vec<u8> {
-    match hex::decode(output.alloc(), line) {
+    match hex::decode(output.alloc, line) {
         Ok(text) => text,
         Err(error) => {
             output.fail(match error {
                 FromHexError::OutOfMemory => Fault::OutOfMemory,
                 _ => Fault::InputOrOutput,
             });
-            Vec::new(output.alloc())
+            Vec::new(output.alloc)
         }
     }
 }
 
 /// The texts that clients send.
 fn texts(input: &[u8], output: &mut Output) -> Vec<Vec<u8>> {
-    let mut texts = Vec::new(output.alloc());
+    let mut texts = Vec::new(output.alloc);
     for line in lines(input) {
         if !line.is_empty() {
             let text = text_of(line, output);
@@ -49,12 +49,18 @@ fn texts(input: &[u8], output: &mut Output) -> Vec<Vec<u8>> {
 }
 
 /// So many clients, of which every fourth is one of instance 1 where they are not steady.
-fn clients(texts: &[Vec<u8>], count: usize, is_steady: bool, output: &mut Output) -> Vec<Client> {
-    let mut clients = Vec::new(output.alloc());
+fn clients<'a>(
+    texts: &'a [Vec<u8>],
+    count: usize,
+    is_steady: bool,
+    output: &mut Output,
+) -> Vec<Client<'a>> {
+    let mut clients = Vec::new(output.alloc);
     for place in 0..count {
         let instance = u32::from(!is_steady && place % 4 == 0);
-        let client = Client::new(output.alloc(), instance, place % texts.len().max(1));
-        output.expect(clients.push(client));
+        if let Some(text) = texts.get(place % texts.len().max(1)) {
+            output.expect(clients.push(Client::new(output.alloc, instance, text)));
+        }
     }
     clients
 }
@@ -62,8 +68,8 @@ fn clients(texts: &[Vec<u8>], count: usize, is_steady: bool, output: &mut Output
 /// Serves so many clients with these habits, and tells what came of it.
 fn case(configs: &Configs, texts: &[Vec<u8>], count: usize, habits: Habits, output: &mut Output) {
     let clients = clients(texts, count, habits.is_steady, output);
-    let mut fake = Fake::new(output.alloc(), texts, clients, habits);
-    output.expect(serve(output.alloc(), configs, &mut fake, TURNS));
+    let mut fake = Fake::new(output.alloc, clients, habits);
+    output.expect(serve(output.alloc, configs, &mut fake, TURNS));
     if fake.is_out_of_memory {
         output.fail(Fault::OutOfMemory);
     }
@@ -78,10 +84,11 @@ fn tell(Habits { seed, is_steady }: Habits, outcome: Outcome, faults: bool, outp
         served,
         refused,
     } = outcome;
-    let alloc = output.alloc();
+    let alloc = output.alloc;
     output.print_text(if is_steady {
         format!(in alloc;
-            "seed {seed}, steady: {served} served, {refused} refused, {differing} differ from alone\n"
+            "seed {seed}, steady: {served} served, {refused} refused, \
+             {differing} differ from alone\n"
         )
     } else {
         format!(in alloc; "seed {seed}: {differing} differ from alone; faults: {faults}\n")
@@ -103,7 +110,7 @@ fn serve_all(rt: &HostRuntime, configs: &Configs, texts: &[Vec<u8>], output: &mu
     };
     case(configs, texts, 70, steady, output);
     let differing = serve_peers(rt, configs, texts, output);
-    output.print_text(format!(in output.alloc(); "over ports: {differing} differ from alone\n"));
+    output.print_text(format!(in output.alloc; "over ports: {differing} differ from alone\n"));
 }
 
 /// Serves clients that send the texts of these lines, and compares what each is sent with what its

@@ -1,5 +1,6 @@
 //! How much a server holds.
 
+use crate::instances::server;
 use crate::output::Output;
 use program_status::{Fault, Status};
 use script::ScriptFault;
@@ -14,11 +15,11 @@ fn tell_next(
     events: &mut EventReader<'_>,
     output: &mut Output,
 ) -> bool {
-    match events.next_event(output.alloc()) {
+    match events.next_event(output.alloc) {
         Ok(Some(event)) => {
             let _ = server.step(event);
             let (texts, bytes) = server.stored();
-            let line = format!(in output.alloc(); "stored {place} {texts} {bytes}\n");
+            let line = format!(in output.alloc; "stored {place} {texts} {bytes}\n");
             output.print_text(line);
             return true;
         }
@@ -28,19 +29,16 @@ fn tell_next(
     false
 }
 
-/// Gives a server of these instances the events one by one, and tells after each what it has stored.
+/// Gives a server of these instances the events one by one, and tells after each what is stored.
 fn serve(configs: &Configs, events: &mut EventReader<'_>, output: &mut Output) -> Status {
-    match Server::new(output.alloc(), configs) {
-        Ok(mut server) => {
-            for place in 1..u64::MAX {
-                if !tell_next(place, &mut server, events, output) {
-                    break;
-                }
+    if let Some(mut server) = server(configs, output) {
+        for place in 1..u64::MAX {
+            if !tell_next(place, &mut server, events, output) {
+                break;
             }
-            Status::Done
         }
-        Err(_) => Status::OutOfMemory,
     }
+    Status::Done
 }
 
 fn configure(
@@ -56,7 +54,7 @@ fn configure(
 
 /// Gives a server the events of a script, and tells after each what it has stored.
 pub fn carry_out(text: &[u8], output: &mut Output) -> Status {
-    match parse(output.alloc(), text) {
+    match parse(output.alloc, text) {
         Ok(mut script) => configure(script.configs, &mut script.events, output),
         Err(ScriptFault::BadLine(number)) => Status::BadLine(number),
         Err(ScriptFault::NoMemory) => Status::OutOfMemory,

@@ -15,11 +15,11 @@ fn line_of(alloc: Global, message: &[u8]) -> Result<String, AllocError> {
 
 /// What an answer is: its trailers, and its messages' lengths and hashes.
 fn shown(answer: &Answer, output: &mut Output) -> Vec<u8> {
-    let mut text = Vec::new(output.alloc());
+    let mut text = Vec::new(output.alloc);
     output.expect(write_hex(&mut text, &answer.trailers));
     output.expect(text.push(b'\n'));
     for message in &answer.messages {
-        let line = output.string(line_of(output.alloc(), message.as_slice()));
+        let line = output.string(line_of(output.alloc, message.as_slice()));
         output.expect(text.extend_from_slice(line.as_bytes()));
     }
     text
@@ -33,9 +33,9 @@ pub struct Answers {
 }
 
 impl Answers {
-    pub fn new(output: &Output) -> Answers {
+    pub fn new(alloc: Global) -> Answers {
         Answers {
-            last: Vec::new(output.alloc()),
+            last: Vec::new(alloc),
             count: 0,
         }
     }
@@ -52,7 +52,7 @@ impl Answers {
     pub fn finish(&mut self, output: &mut Output) {
         let count = self.count;
         if count > 0 {
-            output.print_text(format!(in output.alloc(); "{count} times "));
+            output.print_text(format!(in output.alloc; "{count} times "));
             output.print(&self.last);
         }
         self.count = 0;

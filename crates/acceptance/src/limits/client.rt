@@ -77,7 +77,7 @@ impl Answer {
     fn take(&mut self, frame: &RawFrame<'_>, output: &mut Output) {
         let payload = frame.payload.as_slice();
         match frame.kind {
-            HEADERS => self.trailers = output.bytes(Vec::from_slice(output.alloc(), payload)),
+            HEADERS => self.trailers = output.bytes(Vec::from_slice(output.alloc, payload)),
             DATA => self.take_data(payload, output),
             _ => {}
         }
@@ -99,14 +99,14 @@ impl Answer {
 
 #[derive(Drop)]
 pub struct Client {
-    server: Server,
+    server: Box<Server>,
     received: FrameReader,
     next_stream: u32,
 }
 
 impl Client {
     /// The client of a server, which it has yet to greet.
-    pub fn new(alloc: Global, server: Server) -> Client {
+    pub fn new(alloc: Global, server: Box<Server>) -> Client {
         Client {
             server,
             received: FrameReader::without_preface(alloc),
@@ -115,7 +115,7 @@ impl Client {
     }
 
     pub fn greet(&mut self, output: &mut Output) {
-        let greeting = output.bytes(Vec::from_slice(output.alloc(), GREETING));
+        let greeting = output.bytes(Vec::from_slice(output.alloc, GREETING));
         self.step(What::Open(0), output);
         self.step(What::Bytes(0, greeting), output);
     }
@@ -132,7 +132,7 @@ impl Client {
     }
 
     fn send(&mut self, head: (u8, u8), stream: u32, payload: &[u8], output: &mut Output) {
-        let bytes = output.bytes(frame(output.alloc(), head, stream, payload));
+        let bytes = output.bytes(frame(output.alloc, head, stream, payload));
         self.step(What::Bytes(0, bytes), output);
     }
 
@@ -145,7 +145,7 @@ impl Client {
         if count == 0 {
             return false;
         }
-        let piece = output.bytes(Vec::from_slice(output.alloc(), pending));
+        let piece = output.bytes(Vec::from_slice(output.alloc, pending));
         if self.received.feed(piece).is_err() {
             output.fail(FAULT);
         }
@@ -172,7 +172,7 @@ impl Client {
 
     /// Sends the frames of a call with one message.
     fn send_call(&mut self, stream: u32, path: &str, message: &[u8], output: &mut Output) {
-        let block = output.bytes(call_block(output.alloc(), path));
+        let block = output.bytes(call_block(output.alloc, path));
         self.send((HEADERS, END_HEADERS), stream, &block, output);
         let [a, b, c, d] = u32::try_from(message.len()).unwrap_or(0).to_be_bytes();
         self.send((DATA, 0), stream, &[0, a, b, c, d], output);
@@ -192,7 +192,7 @@ impl Client {
                 break;
             }
         }
-        let mut answer = Answer::new(output.alloc());
+        let mut answer = Answer::new(output.alloc);
         for _ in 0..u32::MAX {
             if !self.read(stream, &mut answer, output) {
                 break;

@@ -15,7 +15,7 @@ pub struct Blob {
 
 impl Blob {
     pub fn of(text: Vec<u8>, output: &mut Output) -> Blob {
-        let hash = output.string(hex::encode(output.alloc(), &Digest::of(&text).hash));
+        let hash = output.string(hex::encode(output.alloc, &Digest::of(&text).hash));
         Blob { text, hash }
     }
 
@@ -27,44 +27,48 @@ impl Blob {
     }
 }
 
-fn empty<'a>(output: &Output) -> Directory<'a> {
-    let alloc = output.alloc();
-    Directory {
+/// Appends the records of a directory that has these alone.
+fn put<'a>(
+    child: Option<DirectoryNode<'a>>,
+    link: Option<SymlinkNode<'a>>,
+    text: &mut Vec<u8>,
+    output: &mut Output,
+) {
+    let alloc = output.alloc;
+    let mut directory = Directory {
         files: Vec::new(alloc),
         directories: Vec::new(alloc),
         symlinks: Vec::new(alloc),
+    };
+    if let Some(child) = child {
+        output.expect(directory.directories.push(child));
     }
-}
-
-/// Appends the records of a directory.
-fn put(directory: &Directory<'_>, text: &mut Vec<u8>, output: &mut Output) {
-    let records = output.bytes(directory.encode(output.alloc()));
+    if let Some(link) = link {
+        output.expect(directory.symlinks.push(link));
+    }
+    let records = output.bytes(directory.encode(alloc));
     output.expect(text.extend_from_slice(&records));
 }
 
 /// Appends a symbolic link `l` to the text of the directory that has it.
 fn add_link(target: &str, text: &mut Vec<u8>, output: &mut Output) {
-    let mut directory = empty(output);
-    output.expect(directory.symlinks.push(SymlinkNode { name: "l", target }));
-    put(&directory, text, output);
+    put(None, Some(SymlinkNode { name: "l", target }), text, output);
 }
 
 /// Appends a directory, named by its number in seven digits, to the text of the one that has it.
 pub fn add_child(number: u64, child: &Blob, text: &mut Vec<u8>, output: &mut Output) {
-    let name = output.string(format!(in output.alloc(); "{number:07}"));
-    let mut directory = empty(output);
-    let added = directory.directories.push(DirectoryNode {
+    let name = output.string(format!(in output.alloc; "{number:07}"));
+    let node = DirectoryNode {
         name: &name,
         digest: child.digest(),
-    });
-    output.expect(added);
-    put(&directory, text, output);
+    };
+    put(Some(node), None, text, output);
 }
 
 /// The directory that has one symbolic link, to the number.
 pub fn leaf(number: u64, output: &mut Output) -> Vec<u8> {
-    let target = output.string(format!(in output.alloc(); "{number}"));
-    let mut text = Vec::new(output.alloc());
+    let target = output.string(format!(in output.alloc; "{number}"));
+    let mut text = Vec::new(output.alloc);
     add_link(&target, &mut text, output);
     text
 }
@@ -72,11 +76,11 @@ pub fn leaf(number: u64, output: &mut Output) -> Vec<u8> {
 /// The directory that has the child, if there is one, and a symbolic link whose target has so many
 /// bytes.
 pub fn filled(target: u64, child: Option<&Blob>, output: &mut Output) -> Vec<u8> {
-    let mut letters = String::new(output.alloc());
+    let mut letters = String::new(output.alloc);
     for _ in 0..target {
         output.expect(letters.push('x'));
     }
-    let mut text = Vec::new(output.alloc());
+    let mut text = Vec::new(output.alloc);
     if let Some(child) = child {
         add_child(0, child, &mut text, output);
     }

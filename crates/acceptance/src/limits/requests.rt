@@ -9,7 +9,7 @@ use tree_messages::{
 };
 
 pub fn batch_update(blobs: &[Blob], output: &mut Output) -> Vec<u8> {
-    let mut requests = Vec::new(output.alloc());
+    let mut requests = Vec::new(output.alloc);
     for blob in blobs {
         let added = requests.push(UpdateBlobRequest {
             digest: blob.digest(),
@@ -23,7 +23,7 @@ pub fn batch_update(blobs: &[Blob], output: &mut Output) -> Vec<u8> {
         requests,
         digest_function: 0,
     };
-    output.bytes(request.encode(output.alloc()))
+    output.bytes(request.encode(output.alloc))
 }
 
 pub fn get_tree(root: &Blob, page_size: u64, page_token: &str, output: &mut Output) -> Vec<u8> {
@@ -34,12 +34,12 @@ pub fn get_tree(root: &Blob, page_size: u64, page_token: &str, output: &mut Outp
         page_token,
         digest_function: 0,
     };
-    output.bytes(request.encode(output.alloc()))
+    output.bytes(request.encode(output.alloc))
 }
 
 /// A result whose `stdout_raw` are so many zeros.
 fn result_of(size: u64, output: &mut Output) -> Vec<u8> {
-    let alloc = output.alloc();
+    let alloc = output.alloc;
     let zeros = output.bytes([0].repeat(alloc, usize::try_from(size).unwrap_or(0)));
     let result = ActionResult {
         output_files: Vec::new(alloc),
@@ -60,7 +60,7 @@ pub fn update_result(action: &Blob, size: u64, output: &mut Output) -> Vec<u8> {
         action_result: Some(result_of(size, output)),
         digest_function: 0,
     };
-    output.bytes(request.encode(output.alloc()))
+    output.bytes(request.encode(output.alloc))
 }
 
 pub fn get_result(action: &Blob, output: &mut Output) -> Vec<u8> {
@@ -69,5 +69,5 @@ pub fn get_result(action: &Blob, output: &mut Output) -> Vec<u8> {
         action_digest: action.digest(),
         digest_function: 0,
     };
-    output.bytes(request.encode(output.alloc()))
+    output.bytes(request.encode(output.alloc))
 }

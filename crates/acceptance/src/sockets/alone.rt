@@ -28,7 +28,7 @@ pub fn sent_on<'a>(outputs: &'a Outputs, instance: u32, number: u32) -> Option<&
     None
 }
 
-fn add(outcome: &mut Outcome, outputs: &Outputs, client: &Client, is_whole: bool) {
+fn add(outcome: &mut Outcome, outputs: &Outputs, client: &Client<'_>, is_whole: bool) {
     let Some(number) = client.number else {
         return;
     };
@@ -59,8 +59,8 @@ fn count(outputs: &Outputs, fake: &Fake<'_>) -> Outcome {
 /// Compares what the clients of fake sockets received with a run of the events that were noted.
 /// Steady clients received all of it, others a front.
 pub fn judge(configs: &Configs, fake: &mut Fake<'_>, output: &mut Output) -> Outcome {
-    let events = replace(&mut fake.events, Vec::new(output.alloc()));
-    match run(output.alloc(), configs, events) {
+    let events = replace(&mut fake.events, Vec::new(output.alloc));
+    match run(output.alloc, configs, events) {
         Ok(outputs) => count(&outputs, fake),
         Err(_) => {
             output.fail(Fault::OutOfMemory);

@@ -17,24 +17,22 @@ pub struct Habits {
 
 /// A client.
 #[derive(Drop)]
-pub struct Client {
+pub struct Client<'a> {
     pub instance: u32,
-    /// Which text it sends.
-    text: usize,
+    /// What it has still to send.
+    unsent: &'a [u8],
     /// Under which number it was accepted.
     pub number: Option<u32>,
-    sent: usize,
     pub received: Vec<u8>,
     is_closed: bool,
 }
 
-impl Client {
-    pub fn new(alloc: Global, instance: u32, text: usize) -> Client {
+impl<'a> Client<'a> {
+    pub fn new(alloc: Global, instance: u32, unsent: &'a [u8]) -> Client<'a> {
         Client {
             instance,
-            text,
+            unsent,
             number: None,
-            sent: 0,
             received: Vec::new(alloc),
             is_closed: false,
         }
@@ -52,8 +50,7 @@ impl Client {
 #[derive(Drop)]
 pub struct Fake<'a> {
     alloc: Global,
-    texts: &'a [Vec<u8>],
-    pub clients: Vec<Client>,
+    pub clients: Vec<Client<'a>>,
     pub events: Vec<Event>,
     pub habits: Habits,
     dice: u64,
@@ -64,15 +61,9 @@ pub struct Fake<'a> {
 }
 
 impl<'a> Fake<'a> {
-    pub fn new(
-        alloc: Global,
-        texts: &'a [Vec<u8>],
-        clients: Vec<Client>,
-        habits: Habits,
-    ) -> Fake<'a> {
+    pub fn new(alloc: Global, clients: Vec<Client<'a>>, habits: Habits) -> Fake<'a> {
         Fake {
             alloc,
-            texts,
             clients,
             events: Vec::new(alloc),
             habits,
@@ -144,7 +135,7 @@ impl<'a> Fake<'a> {
         let count = self.up_to(most).min(most);
         room[..count].copy_from_slice(&unsent[..count]);
         if let Some(client) = self.clients.get_mut(place) {
-            client.sent = client.sent.saturating_add(count);
+            client.unsent = client.unsent.get(count..).unwrap_or(&[]);
         }
         match Vec::from_slice(self.alloc, &unsent[..count]) {
             Ok(bytes) => self.note(socket.instance, What::Bytes(socket.connection, bytes)),
@@ -153,24 +144,21 @@ impl<'a> Fake<'a> {
         count
     }
 
-    /// The next client of an instance that waits to be accepted.
-    fn waiting(&mut self, instance: u32) -> Option<&mut Client> {
+    /// Accepts a client of the socket's instance that waits; tells whether there is one.
+    fn accept_waiting(&mut self, socket: Socket) -> bool {
         for client in self.clients.iter_mut() {
-            if client.number.is_none() && client.instance == instance {
-                return Some(client);
+            if client.number.is_none() && client.instance == socket.instance {
+                client.number = Some(socket.connection);
+                return true;
             }
         }
-        None
+        false
     }
 
-    /// What of its text a client has still to send.
+    /// What a client has still to send.
     fn unsent(&self, place: usize) -> &'a [u8] {
-        let texts = self.texts;
-        let Some(client) = self.clients.get(place) else {
-            return &[];
-        };
-        match texts.get(client.text) {
-            Some(text) => text.get(client.sent..).unwrap_or(&[]),
+        match self.clients.get(place) {
+            Some(client) => client.unsent,
             None => &[],
         }
     }
@@ -187,9 +175,8 @@ impl<'a> Sockets for Fake<'a> {
 
     fn accept(&mut self, socket: Socket) -> io::Result<()> {
         self.may_fail(ErrorKind::ConnectionAborted, 8)?;
-        match self.waiting(socket.instance) {
-            Some(client) => client.number = Some(socket.connection),
-            None => return Err(io::Error::from(ErrorKind::WouldBlock)),
+        if !self.accept_waiting(socket) {
+            return Err(io::Error::from(ErrorKind::WouldBlock));
         }
         self.note(socket.instance, What::Open(socket.connection));
         Ok(())

@@ -94,8 +94,8 @@ fn add(events: &mut Vec<Event>, instance: u32, what: What, output: &mut Output) 
 
 /// The events of a connection on which just the text of a client comes.
 fn events_of(peer: &Peer<'_>, output: &mut Output) -> Vec<Event> {
-    let text = output.bytes(Vec::from_slice(output.alloc(), peer.text));
-    let mut events = Vec::new(output.alloc());
+    let text = output.bytes(Vec::from_slice(output.alloc, peer.text));
+    let mut events = Vec::new(output.alloc);
     add(&mut events, peer.instance, What::Open(0), output);
     add(&mut events, peer.instance, What::Bytes(0, text), output);
     events
@@ -111,7 +111,7 @@ fn has_received(peer: &Peer<'_>, outputs: &Outputs) -> bool {
 /// Whether a client received what its instance puts on a connection on which just its text comes.
 fn is_as_alone(configs: &Configs, peer: &Peer<'_>, output: &mut Output) -> bool {
     let events = events_of(peer, output);
-    match run(output.alloc(), configs, events) {
+    match run(output.alloc, configs, events) {
         Ok(outputs) => has_received(peer, &outputs),
         Err(_) => {
             output.fail(Fault::OutOfMemory);
@@ -150,7 +150,7 @@ fn peers<'a>(
     texts: &'a [Vec<u8>],
     output: &mut Output,
 ) -> Vec<Peer<'a>> {
-    let mut peers = Vec::new(output.alloc());
+    let mut peers = Vec::new(output.alloc);
     for (place, text) in texts.iter().enumerate() {
         match connected(rt, sockets, (place % 2) as u32, text) {
             Ok(peer) => output.expect(peers.push(peer)),
@@ -185,7 +185,7 @@ fn serve_over<'a>(
     }
     let peers = peers(rt, &sockets, texts, output);
     let mut both = WithPeers { sockets, peers };
-    output.expect(serve(output.alloc(), configs, &mut both, TURNS));
+    output.expect(serve(output.alloc, configs, &mut both, TURNS));
     differing(configs, &both.peers, output)
 }
 

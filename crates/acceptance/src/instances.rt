@@ -1,21 +1,38 @@
-//! The instances of servers that the cases configure themselves.
+//! The servers of cases, and the instances that cases configure themselves.
 
+use crate::output::Output;
+use program_status::Fault;
+use server_core::Server;
 use server_events::{Configs, InstanceConfig};
-use std::alloc::Global;
-use std::io::{self, ErrorKind};
 
 /// Instances of these names, each with a quota of so many bytes.
-pub fn configs(alloc: Global, names: &[&str], quota: u64) -> io::Result<Configs> {
-    let mut configs = Vec::new(alloc);
+pub fn configs(names: &[&str], quota: u64, output: &mut Output) -> Option<Configs> {
+    let mut configs = Vec::new(output.alloc);
     for name in names {
-        configs.push(InstanceConfig {
-            name: String::from_str(alloc, name)?,
+        let name = output.string(String::from_str(output.alloc, name));
+        let added = configs.push(InstanceConfig {
+            name,
             quota,
             slots: 0,
-        })?;
+        });
+        output.expect(added);
     }
     match Configs::new(configs) {
-        Ok(configs) => Ok(configs),
-        Err(_) => Err(io::Error::from(ErrorKind::InvalidInput)),
+        Ok(configs) => Some(configs),
+        Err(_) => {
+            output.fail(Fault::InputOrOutput);
+            None
+        }
     }
+}
+
+/// A server of these instances. It stands apart, so that whoever holds it is small.
+pub fn server(configs: &Configs, output: &mut Output) -> Option<Box<Server>> {
+    if let Ok(server) = Server::new(output.alloc, configs) {
+        if let Ok(server) = Box::new(output.alloc, server) {
+            return Some(server);
+        }
+    }
+    output.fail(Fault::OutOfMemory);
+    None
 }

@@ -18,14 +18,18 @@ mod client;
 mod directories;
 mod requests;
 
+use crate::instances::{configs, server};
 use crate::limits::answers::Answers;
-use crate::limits::client::{Answer, Client};
+use crate::limits::client::Client;
 use crate::limits::directories::{Blob, add_child, filled, leaf};
+use crate::output::Output;
 use decimals::decimal;
-use program_status::Status;
+use program_status::{Fault, Status};
 use script::{Parts, lines, words};
-use std::alloc::Global;
-use std::io::{self, ErrorKind, Write};
+use server_core::Server;
+use std::slice;
+
+const QUOTA: u64 = 1_000_000_000;
 
 const BATCH_UPDATE: &str =
     "/build.bazel.remote.execution.v2.ContentAddressableStorage/BatchUpdateBlobs";
@@ -54,201 +58,171 @@ static VERBS: [(&[u8], Verb); 5] = [
     (b"get", Verb::Get),
 ];
 
-fn bad_line() -> io::Error {
-    io::Error::from(ErrorKind::InvalidInput)
-}
+/// That a line says nothing.
+const BAD_LINE: Fault = Fault::InputOrOutput;
 
-fn verb_of(word: Option<&[u8]>) -> io::Result<Verb> {
-    let word = word.unwrap_or(b"");
+fn verb_of(word: &[u8]) -> Option<Verb> {
     for (name, verb) in &VERBS {
         if *name == word {
-            return Ok(*verb);
+            return Some(*verb);
         }
     }
-    Err(bad_line())
+    None
 }
 
-fn number(word: Option<&[u8]>) -> io::Result<u64> {
-    match decimal(word.unwrap_or(b"")) {
-        Some(number) => Ok(number),
-        None => Err(bad_line()),
+/// The number that a word is; where it is none, that is remembered.
+fn number(word: &[u8], output: &mut Output) -> u64 {
+    match decimal(word) {
+        Some(number) => number,
+        None => {
+            output.fail(BAD_LINE);
+            0
+        }
     }
 }
 
-fn sizes(alloc: Global, words: Parts<'_>) -> io::Result<Vec<usize>> {
-    let mut sizes = Vec::new(alloc);
+fn numbers(words: Parts<'_>, output: &mut Output) -> Vec<u64> {
+    let mut numbers = Vec::new(output.alloc);
     for word in words {
-        let size = number(Some(word))?;
-        sizes.push(usize::try_from(size).unwrap_or(0))?;
+        let number = number(word, output);
+        output.expect(numbers.push(number));
     }
-    Ok(sizes)
+    numbers
 }
 
-fn token(word: Option<&[u8]>) -> io::Result<&str> {
-    match str::from_utf8(word.unwrap_or(b"")) {
-        Ok("-") => Ok(""),
-        Ok(token) => Ok(token),
-        Err(_) => Err(bad_line()),
+fn token<'a>(word: &'a [u8], output: &mut Output) -> &'a str {
+    match str::from_utf8(word) {
+        Ok("-") => "",
+        Ok(token) => token,
+        Err(_) => {
+            output.fail(BAD_LINE);
+            ""
+        }
     }
 }
 
-fn zeros(alloc: Global, count: u64) -> io::Result<Vec<u8>> {
-    let mut zeros = Vec::new(alloc);
-    for _ in 0..count {
-        zeros.push(0)?;
-    }
-    Ok(zeros)
+fn action(number: u64, output: &mut Output) -> Blob {
+    let digits = output.string(format!(in output.alloc; "{number}"));
+    Blob::of(digits.into_bytes(), output)
 }
 
-fn action(alloc: Global, number: u64) -> io::Result<Blob> {
-    let digits = format!(in alloc; "{number}")?;
-    Ok(Blob::of(alloc, digits.into_bytes())?)
-}
-
-/// The server, its client, and the root that was stored last.
+/// The server, its client, the root that was stored last, and the answers of a line.
 #[derive(Drop)]
 struct Session {
     client: Client,
     root: Blob,
+    answers: Answers,
 }
 
 impl Session {
-    fn new(alloc: Global) -> io::Result<Session> {
-        let root = Blob::of(alloc, Vec::new(alloc))?;
-        let client = Client::new(alloc)?;
-        Ok(Session { client, root })
+    fn store(&mut self, blobs: &[Blob], output: &mut Output) {
+        let request = requests::batch_update(blobs, output);
+        self.client.call(BATCH_UPDATE, &request, output);
     }
 
-    fn store(&mut self, alloc: Global, blobs: &[Blob]) -> io::Result<()> {
-        let request = requests::batch_update(alloc, blobs)?;
-        self.client.call(alloc, BATCH_UPDATE, &request)?;
-        Ok(())
+    fn store_root(&mut self, text: Vec<u8>, output: &mut Output) {
+        let root = Blob::of(text, output);
+        self.store(slice::from_ref(&root), output);
+        self.root = root;
     }
 
-    fn store_root(&mut self, alloc: Global, text: Vec<u8>) -> io::Result<()> {
-        let mut blobs = Vec::new(alloc);
-        blobs.push(Blob::of(alloc, text)?)?;
-        self.store(alloc, &blobs)?;
-        if let Some(root) = blobs.pop() {
-            self.root = root;
-        }
-        Ok(())
-    }
-
-    fn store_wide(&mut self, alloc: Global, count: u64) -> io::Result<()> {
-        let mut leaves = Vec::new(alloc);
-        let mut root = Vec::new(alloc);
+    fn store_wide(&mut self, count: u64, output: &mut Output) {
+        let mut leaves = Vec::new(output.alloc);
+        let mut root = Vec::new(output.alloc);
         for place in 1..count {
-            let child = Blob::of(alloc, leaf(alloc, place)?)?;
-            add_child(&mut root, place, &child)?;
-            leaves.push(child)?;
+            let child = Blob::of(leaf(place, output), output);
+            add_child(place, &child, &mut root, output);
+            output.expect(leaves.push(child));
         }
-        self.store(alloc, &leaves)?;
-        self.store_root(alloc, root)
+        self.store(&leaves, output);
+        self.store_root(root, output);
     }
 
-    fn store_deep(&mut self, alloc: Global, targets: &[usize]) -> io::Result<()> {
+    fn store_deep(&mut self, targets: &[u64], output: &mut Output) {
         let mut is_last = true;
         for target in targets.iter().rev() {
             let child = if is_last { None } else { Some(&self.root) };
-            let text = filled(alloc, *target, child)?;
-            self.store_root(alloc, text)?;
+            let text = filled(*target, child, output);
+            self.store_root(text, output);
             is_last = false;
         }
-        Ok(())
     }
 
-    fn show_tree<O: Write>(
-        &mut self,
-        alloc: Global,
-        mut words: Parts<'_>,
-        out: &mut O,
-    ) -> io::Result<()> {
-        let page_size = i32::try_from(number(words.next())?).unwrap_or(0);
-        let page_token = token(words.next())?;
-        let request = requests::get_tree(alloc, &self.root, page_size, page_token)?;
-        let answer = self.client.call(alloc, GET_TREE, &request)?;
-        let mut answers = Answers::new(alloc);
-        answers.add(alloc, &answer, out)?;
-        answers.finish(out)
+    fn show_tree(&mut self, mut words: Parts<'_>, output: &mut Output) {
+        let page_size = number(words.next().unwrap_or(b""), output);
+        let page_token = token(words.next().unwrap_or(b""), output);
+        let request = requests::get_tree(&self.root, page_size, page_token, output);
+        let answer = self.client.call(GET_TREE, &request, output);
+        self.answers.add(&answer, output);
     }
 
-    /// Gives the action of this number a result with the output, or asks for the one that it has.
-    fn result(&mut self, alloc: Global, number: u64, output: Option<&[u8]>) -> io::Result<Answer> {
-        let action = action(alloc, number)?;
-        let (path, request) = match output {
-            Some(output) => (
-                UPDATE_RESULT,
-                requests::update_result(alloc, &action, output)?,
-            ),
-            None => (GET_RESULT, requests::get_result(alloc, &action)?),
-        };
-        self.client.call(alloc, path, &request)
-    }
-
-    fn show_results<O: Write>(
-        &mut self,
-        alloc: Global,
-        (first, last): (u64, u64),
-        output: Option<&[u8]>,
-        out: &mut O,
-    ) -> io::Result<()> {
-        let mut answers = Answers::new(alloc);
+    /// Gives the actions of these numbers results with so many bytes, or asks for those that they
+    /// have.
+    fn show_results(&mut self, first: u64, last: u64, size: Option<u64>, output: &mut Output) {
         for number in first..=last {
-            let answer = self.result(alloc, number, output)?;
-            answers.add(alloc, &answer, out)?;
-        }
-        answers.finish(out)
-    }
-
-    /// Carries out a line of these words that is about results.
-    fn carry_out_results<O: Write>(
-        &mut self,
-        alloc: Global,
-        is_update: bool,
-        mut words: Parts<'_>,
-        out: &mut O,
-    ) -> io::Result<()> {
-        let numbers = (number(words.next())?, number(words.next())?);
-        if is_update {
-            let output = zeros(alloc, number(words.next())?)?;
-            self.show_results(alloc, numbers, Some(&output), out)
-        } else {
-            self.show_results(alloc, numbers, None, out)
+            let action = action(number, output);
+            let (path, request) = match size {
+                Some(size) => (
+                    UPDATE_RESULT,
+                    requests::update_result(&action, size, output),
+                ),
+                None => (GET_RESULT, requests::get_result(&action, output)),
+            };
+            let answer = self.client.call(path, &request, output);
+            self.answers.add(&answer, output);
         }
     }
 
-    fn carry_out<O: Write>(&mut self, alloc: Global, line: &[u8], out: &mut O) -> io::Result<()> {
+    fn carry_out_verb(&mut self, verb: Verb, numbers: &[u64], output: &mut Output) {
+        match (verb, numbers) {
+            (Verb::Wide, [count]) => self.store_wide(*count, output),
+            (Verb::Deep, targets) => self.store_deep(targets, output),
+            (Verb::Update, [first, last, size]) => {
+                self.show_results(*first, *last, Some(*size), output)
+            }
+            (Verb::Get, [first, last]) => self.show_results(*first, *last, None, output),
+            _ => output.fail(BAD_LINE),
+        }
+    }
+
+    fn carry_out(&mut self, line: &[u8], output: &mut Output) {
         let mut words = words(line);
-        match verb_of(words.next())? {
-            Verb::Wide => self.store_wide(alloc, number(words.next())?),
-            Verb::Deep => self.store_deep(alloc, &sizes(alloc, words)?),
-            Verb::Tree => self.show_tree(alloc, words, out),
-            Verb::Update => self.carry_out_results(alloc, true, words, out),
-            Verb::Get => self.carry_out_results(alloc, false, words, out),
+        match verb_of(words.next().unwrap_or(b"")) {
+            Some(Verb::Tree) => self.show_tree(words, output),
+            Some(verb) => self.carry_out_verb(verb, &numbers(words, output), output),
+            None => output.fail(BAD_LINE),
         }
     }
 
-    fn carry_out_all<O: Write>(
-        &mut self,
-        alloc: Global,
-        text: &[u8],
-        out: &mut O,
-    ) -> io::Result<()> {
+    fn carry_out_all(&mut self, text: &[u8], output: &mut Output) {
+        self.client.greet(output);
         for line in lines(text) {
             if !line.is_empty() {
-                out.write_all(line)?;
-                out.write_all(b"\n")?;
-                self.carry_out(alloc, line, out)?;
+                output.print(line);
+                output.print(b"\n");
+                self.carry_out(line, output);
+                self.answers.finish(output);
             }
         }
-        Ok(())
     }
 }
 
+/// Carries out the lines of a text on a server.
+fn carry_out_on(server: Box<Server>, text: &[u8], output: &mut Output) {
+    let mut session = Session {
+        client: Client::new(output.alloc, server),
+        root: Blob::of(Vec::new(output.alloc), output),
+        answers: Answers::new(output.alloc),
+    };
+    session.carry_out_all(text, output);
+}
+
 /// Carries out the lines of a text on a server of its own.
-pub fn carry_out<O: Write>(alloc: Global, text: &[u8], out: &mut O) -> io::Result<Status> {
-    let mut session = Session::new(alloc)?;
-    session.carry_out_all(alloc, text, out)?;
-    Ok(Status::Done)
+pub fn carry_out(text: &[u8], output: &mut Output) -> Status {
+    if let Some(configs) = configs(&["main"], QUOTA, output) {
+        if let Some(server) = server(&configs, output) {
+            carry_out_on(server, text, output);
+        }
+    }
+    Status::Done
 }

@@ -14,14 +14,14 @@
 
 mod instances;
 mod limits;
+mod output;
 mod sockets;
 mod stored;
 
+use crate::output::Output;
 use program_status::{Status, read_all};
 use replay::replay;
 use script::lines;
-use std::alloc::{AllocError, Global};
-use std::io::{self, BufWriter, Write};
 use std::process::ExitCode;
 use unary::unary;
 
@@ -44,45 +44,40 @@ static KINDS: [(&[u8], Kind); 5] = [
     (b"# sockets ", Kind::Sockets),
 ];
 
-/// A case whose lines are being read.
-#[derive(Drop)]
+/// A case that has begun.
+#[derive(Clone, Copy)]
 struct Case {
     kind: Kind,
-    script: Vec<u8>,
-    is_begun: bool,
+    /// Where in the text its script begins.
+    start: usize,
 }
 
-impl Case {
-    fn new(alloc: Global, kind: Kind) -> Case {
-        Case {
-            kind,
-            script: Vec::new(alloc),
-            is_begun: false,
-        }
+/// Carries a script out, which prints and tells of errors, and gives its status.
+fn status_of(
+    rt: &HostRuntime,
+    kind: Kind,
+    mut script: &[u8],
+    output: &mut Output,
+    errors: &mut Vec<u8>,
+) -> Status {
+    match kind {
+        Kind::Unary => unary(rt.alloc(), &mut script, &mut output.text, errors),
+        Kind::Replay => replay(rt.alloc(), &mut script, &mut output.text, errors),
+        Kind::Stored => stored::carry_out(script, output),
+        Kind::Limits => limits::carry_out(script, output),
+        Kind::Sockets => sockets::carry_out(rt, script, output),
     }
+}
 
-    fn add(&mut self, line: &[u8]) -> Result<(), AllocError> {
-        if self.is_begun {
-            self.script.push(b'\n')?;
-        }
-        self.is_begun = true;
-        self.script.extend_from_slice(line)
-    }
-
-    /// Carries the script out, and writes what it printed, what it told of errors, and its status.
-    fn finish<O: Write>(&self, rt: &HostRuntime, output: &mut O) -> io::Result<()> {
-        let alloc = rt.alloc();
-        let mut input = self.script.as_slice();
-        let mut errors = Vec::new(alloc);
-        let status = match self.kind {
-            Kind::Unary => unary(alloc, &mut input, output, &mut errors),
-            Kind::Replay => replay(alloc, &mut input, output, &mut errors),
-            Kind::Stored => stored::carry_out(alloc, input, output)?,
-            Kind::Limits => limits::carry_out(alloc, input, output)?,
-            Kind::Sockets => sockets::carry_out(rt, input, output)?,
-        };
-        output.write_all(&errors)?;
-        writeln!(output, "status {}", status.code())
+/// Carries out the case, if one has begun, whose last line ends in front of this place; prints what
+/// it tells of errors, and its status.
+fn finish(rt: &HostRuntime, case: Option<Case>, text: &[u8], place: usize, output: &mut Output) {
+    if let Some(Case { kind, start }) = case {
+        let script = text.get(start..place.saturating_sub(1)).unwrap_or(b"");
+        let mut errors = Vec::new(rt.alloc());
+        let code = status_of(rt, kind, script, output, &mut errors).code();
+        output.print(&errors);
+        output.print_text(format!(in rt.alloc(); "status {code}\n"));
     }
 }
 
@@ -97,42 +92,33 @@ fn kind_of(line: &[u8]) -> Option<Kind> {
 }
 
 /// Carries out the cases of a text.
-fn carry_out<O: Write>(rt: &HostRuntime, text: &[u8], output: &mut O) -> io::Result<()> {
-    let mut case: Option<Case> = None;
+fn carry_out_all(rt: &HostRuntime, text: &[u8], output: &mut Output) {
+    let mut case = None;
+    let mut place: usize = 0;
     for line in lines(text) {
-        match (kind_of(line), &mut case) {
-            (Some(kind), before) => {
-                if let Some(before) = before {
-                    before.finish(rt, output)?;
-                }
-                output.write_all(line)?;
-                output.write_all(b"\n")?;
-                case = Some(Case::new(rt.alloc(), kind));
-            }
-            (None, Some(case)) => case.add(line)?,
-            (None, None) => {}
+        let start = place.saturating_add(line.len()).saturating_add(1);
+        if let Some(kind) = kind_of(line) {
+            finish(rt, case, text, place, output);
+            output.print(line);
+            output.print(b"\n");
+            case = Some(Case { kind, start });
         }
+        place = start;
     }
-    match case {
-        Some(last) => last.finish(rt, output),
-        None => Ok(()),
-    }
+    finish(rt, case, text, place, output);
 }
 
-fn run(rt: &HostRuntime) -> io::Result<Status> {
-    let text = match read_all(rt.alloc(), &mut rt.stdin()) {
-        Ok(text) => text,
-        Err(fault) => return Ok(fault.status()),
-    };
-    let mut output = BufWriter::new(rt.alloc(), rt.stdout())?;
-    carry_out(rt, &text, &mut output)?;
-    output.flush()?;
-    Ok(Status::Done)
+fn run(rt: &HostRuntime) -> Status {
+    match read_all(rt.alloc(), &mut rt.stdin()) {
+        Ok(text) => {
+            let mut output = Output::new(rt.alloc());
+            carry_out_all(rt, &text, &mut output);
+            output.write_out(rt)
+        }
+        Err(fault) => fault.status(),
+    }
 }
 
 fn main(rt: HostRuntime) -> ExitCode {
-    match run(&rt) {
-        Ok(status) => ExitCode::from(status.code()),
-        Err(_) => ExitCode::from(Status::Failed.code()),
-    }
+    ExitCode::from(run(&rt).code())
 }

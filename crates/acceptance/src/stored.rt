@@ -1,51 +1,62 @@
 //! How much a server holds.
 
-use program_status::Status;
+use crate::instances::server;
+use crate::output::Output;
+use program_status::{Fault, Status};
 use script::ScriptFault;
 use script::replay::{EventReader, parse};
 use server_core::Server;
 use server_events::{Configs, InstanceConfig};
-use std::alloc::Global;
-use std::io::{self, Write};
 
-/// A server of these instances, or with which status the case ends where there is none.
-fn server(alloc: Global, configs: Vec<InstanceConfig>) -> Result<Server, Status> {
-    match Configs::new(configs) {
-        Ok(configs) => Server::new(alloc, &configs).map_err(|_| Status::OutOfMemory),
-        Err(_) => Err(Status::Failed),
-    }
-}
-
-/// Gives a server the events one by one, and tells after each what it has stored.
-fn tell_stored<O: Write>(
-    alloc: Global,
+/// Gives a server the next event, and tells what it has stored then; answers whether there was one.
+fn tell_next(
+    place: u64,
     server: &mut Server,
     events: &mut EventReader<'_>,
-    output: &mut O,
-) -> io::Result<()> {
-    for place in 1..u64::MAX {
-        let Some(event) = events.next_event(alloc)? else {
-            break;
-        };
-        let _ = server.step(event);
-        let (texts, bytes) = server.stored();
-        writeln!(output, "stored {place} {texts} {bytes}")?;
+    output: &mut Output,
+) -> bool {
+    match events.next_event(output.alloc) {
+        Ok(Some(event)) => {
+            let _ = server.step(event);
+            let (texts, bytes) = server.stored();
+            let line = format!(in output.alloc; "stored {place} {texts} {bytes}\n");
+            output.print_text(line);
+            return true;
+        }
+        Ok(None) => {}
+        Err(_) => output.fail(Fault::OutOfMemory),
     }
-    Ok(())
+    false
+}
+
+/// Gives a server of these instances the events one by one, and tells after each what is stored.
+fn serve(configs: &Configs, events: &mut EventReader<'_>, output: &mut Output) -> Status {
+    if let Some(mut server) = server(configs, output) {
+        for place in 1..u64::MAX {
+            if !tell_next(place, &mut server, events, output) {
+                break;
+            }
+        }
+    }
+    Status::Done
+}
+
+fn configure(
+    configs: Vec<InstanceConfig>,
+    events: &mut EventReader<'_>,
+    output: &mut Output,
+) -> Status {
+    match Configs::new(configs) {
+        Ok(configs) => serve(&configs, events, output),
+        Err(_) => Status::Failed,
+    }
 }
 
 /// Gives a server the events of a script, and tells after each what it has stored.
-pub fn carry_out<O: Write>(alloc: Global, text: &[u8], output: &mut O) -> io::Result<Status> {
-    let mut script = match parse(alloc, text) {
-        Ok(script) => script,
-        Err(ScriptFault::BadLine(number)) => return Ok(Status::BadLine(number)),
-        Err(ScriptFault::NoMemory) => return Ok(Status::OutOfMemory),
-    };
-    match server(alloc, script.configs) {
-        Ok(mut server) => {
-            tell_stored(alloc, &mut server, &mut script.events, output)?;
-            Ok(Status::Done)
-        }
-        Err(status) => Ok(status),
+pub fn carry_out(text: &[u8], output: &mut Output) -> Status {
+    match parse(output.alloc, text) {
+        Ok(mut script) => configure(script.configs, &mut script.events, output),
+        Err(ScriptFault::BadLine(number)) => Status::BadLine(number),
+        Err(ScriptFault::NoMemory) => Status::OutOfMemory,
     }
 }

@@ -1,25 +1,31 @@
-//! What is written of answers.
+//! What is printed of answers.
 
 use crate::limits::client::Answer;
+use crate::output::Output;
 use digest::Digest;
 use script::write_hex;
-use std::alloc::Global;
-use std::io::{self, Write};
+use std::alloc::{AllocError, Global};
 
-/// What an answer is: its trailers, and its messages' lengths and hashes.
-fn shown(alloc: Global, answer: &Answer) -> io::Result<Vec<u8>> {
-    let mut out = Vec::new(alloc);
-    write_hex(&mut out, &answer.trailers)?;
-    out.push(b'\n')?;
-    for message in &answer.messages {
-        write!(out, "  {} ", message.as_slice().len())?;
-        write_hex(&mut out, &Digest::of(message.as_slice()).hash)?;
-        out.push(b'\n')?;
-    }
-    Ok(out)
+/// A message's length and hash.
+fn line_of(alloc: Global, message: &[u8]) -> Result<String, AllocError> {
+    let hash = hex::encode(alloc, &Digest::of(message).hash)?;
+    let length = message.len();
+    format!(in alloc; "  {length} {hash}\n")
 }
 
-/// Writes answers, and of equal ones how many there are behind each other.
+/// What an answer is: its trailers, and its messages' lengths and hashes.
+fn shown(answer: &Answer, output: &mut Output) -> Vec<u8> {
+    let mut text = Vec::new(output.alloc);
+    output.expect(write_hex(&mut text, &answer.trailers));
+    output.expect(text.push(b'\n'));
+    for message in &answer.messages {
+        let line = output.string(line_of(output.alloc, message.as_slice()));
+        output.expect(text.extend_from_slice(line.as_bytes()));
+    }
+    text
+}
+
+/// Prints answers, and of equal ones how many there are behind each other.
 #[derive(Drop)]
 pub struct Answers {
     last: Vec<u8>,
@@ -34,22 +40,21 @@ impl Answers {
         }
     }
 
-    pub fn add<O: Write>(&mut self, alloc: Global, answer: &Answer, out: &mut O) -> io::Result<()> {
-        let answer = shown(alloc, answer)?;
+    pub fn add(&mut self, answer: &Answer, output: &mut Output) {
+        let answer = shown(answer, output);
         if answer.as_slice() != self.last.as_slice() {
-            self.finish(out)?;
+            self.finish(output);
             self.last = answer;
         }
         self.count = self.count.saturating_add(1);
-        Ok(())
     }
 
-    pub fn finish<O: Write>(&mut self, out: &mut O) -> io::Result<()> {
-        if self.count > 0 {
-            write!(out, "{} times ", self.count)?;
-            out.write_all(&self.last)?;
+    pub fn finish(&mut self, output: &mut Output) {
+        let count = self.count;
+        if count > 0 {
+            output.print_text(format!(in output.alloc; "{count} times "));
+            output.print(&self.last);
         }
         self.count = 0;
-        Ok(())
     }
 }

@@ -1,12 +1,12 @@
 //! A client on the one connection of a server that has one instance.
 
-use crate::instances::configs;
+use crate::output::Output;
 use grpc_messages::{Message as Reply, Messages};
-use http2_frames::{FrameReader, MAX_FRAME_SIZE};
+use http2_frames::{FrameReader, MAX_FRAME_SIZE, RawFrame};
+use program_status::Fault;
 use server_core::Server;
 use server_events::{Event, What};
 use std::alloc::{AllocError, Global};
-use std::io::{self, ErrorKind};
 
 /// What the client sends first: the preface of RFC 9113, section 3.4, SETTINGS with an
 /// INITIAL_WINDOW_SIZE of 2^31 - 1, and a WINDOW_UPDATE that brings the connection's there.
@@ -28,7 +28,32 @@ const END_STREAM: u8 = 1;
 
 const END_HEADERS: u8 = 4;
 
-const QUOTA: u64 = 1_000_000_000;
+/// That the server does not do what every server does.
+const FAULT: Fault = Fault::InputOrOutput;
+
+/// A frame (RFC 9113, section 4.1).
+fn frame(
+    alloc: Global,
+    (kind, flags): (u8, u8),
+    stream: u32,
+    payload: &[u8],
+) -> Result<Vec<u8>, AllocError> {
+    let [_, high, middle, low] = u32::try_from(payload.len()).unwrap_or(0).to_be_bytes();
+    let beginning = [high, middle, low, kind, flags];
+    [&beginning[..], &stream.to_be_bytes()[..], payload].concat(alloc)
+}
+
+/// The header block of a call of this path, which has fewer than 128 bytes.
+fn call_block(alloc: Global, path: &str) -> Result<Vec<u8>, AllocError> {
+    let length = [u8::try_from(path.len()).unwrap_or(0)];
+    [
+        METHOD_AND_SCHEME,
+        &length[..],
+        path.as_bytes(),
+        CONTENT_TYPE,
+    ]
+    .concat(alloc)
+}
 
 /// What came back for a call.
 #[derive(Drop)]
@@ -36,162 +61,143 @@ pub struct Answer {
     /// The block of its last HEADERS.
     pub trailers: Vec<u8>,
     pub messages: Vec<Reply>,
+    data: Messages,
+}
+
+impl Answer {
+    fn new(alloc: Global) -> Answer {
+        Answer {
+            trailers: Vec::new(alloc),
+            messages: Vec::new(alloc),
+            data: Messages::new(alloc),
+        }
+    }
+
+    /// Takes a frame of the call's stream.
+    fn take(&mut self, frame: &RawFrame<'_>, output: &mut Output) {
+        let payload = frame.payload.as_slice();
+        match frame.kind {
+            HEADERS => self.trailers = output.bytes(Vec::from_slice(output.alloc, payload)),
+            DATA => self.take_data(payload, output),
+            _ => {}
+        }
+    }
+
+    fn take_data(&mut self, payload: &[u8], output: &mut Output) {
+        if self.data.feed(payload).is_err() {
+            output.fail(FAULT);
+        }
+        for _ in 0..u32::MAX {
+            match self.data.next() {
+                Ok(Some(message)) => output.expect(self.messages.push(message)),
+                Ok(None) => break,
+                Err(_) => return output.fail(FAULT),
+            }
+        }
+    }
 }
 
 #[derive(Drop)]
 pub struct Client {
-    server: Server,
+    server: Box<Server>,
     received: FrameReader,
     next_stream: u32,
 }
 
-/// What ends the program where the server does not do what every server does.
-fn fault() -> io::Error {
-    io::Error::from(ErrorKind::InvalidData)
-}
-
-/// Appends a frame (RFC 9113, section 4.1).
-fn put_frame(
-    out: &mut Vec<u8>,
-    kind: u8,
-    flags: u8,
-    stream: u32,
-    payload: &[u8],
-) -> Result<(), AllocError> {
-    let length = u32::try_from(payload.len()).unwrap_or(0).to_be_bytes();
-    out.extend_from_slice(&length[1..])?;
-    out.extend_from_slice(&[kind, flags])?;
-    out.extend_from_slice(&stream.to_be_bytes())?;
-    out.extend_from_slice(payload)
-}
-
-/// The message as gRPC frames it.
-fn framed(alloc: Global, message: &[u8]) -> Result<Vec<u8>, AllocError> {
-    let mut framed = Vec::new(alloc);
-    framed.push(0)?;
-    let length = u32::try_from(message.len()).unwrap_or(0);
-    framed.extend_from_slice(&length.to_be_bytes())?;
-    framed.extend_from_slice(message)?;
-    Ok(framed)
-}
-
-/// The header block of a call of this path, which has fewer than 128 bytes.
-fn call_block(alloc: Global, path: &str) -> Result<Vec<u8>, AllocError> {
-    let mut block = Vec::from_slice(alloc, METHOD_AND_SCHEME)?;
-    block.push(u8::try_from(path.len()).unwrap_or(0))?;
-    block.extend_from_slice(path.as_bytes())?;
-    block.extend_from_slice(CONTENT_TYPE)?;
-    Ok(block)
-}
-
-/// The frames of a call with one message.
-fn call_frames(
-    alloc: Global,
-    stream: u32,
-    path: &str,
-    message: &[u8],
-) -> Result<Vec<u8>, AllocError> {
-    let mut frames = Vec::new(alloc);
-    put_frame(
-        &mut frames,
-        HEADERS,
-        END_HEADERS,
-        stream,
-        &call_block(alloc, path)?,
-    )?;
-    for piece in framed(alloc, message)?.chunks(MAX_FRAME_SIZE) {
-        put_frame(&mut frames, DATA, 0, stream, piece)?;
-    }
-    put_frame(&mut frames, DATA, END_STREAM, stream, &[])?;
-    Ok(frames)
-}
-
 impl Client {
-    pub fn new(alloc: Global) -> io::Result<Client> {
-        let configs = configs(alloc, &["main"], QUOTA)?;
-        let mut client = Client {
-            server: Server::new(alloc, &configs)?,
+    /// The client of a server, which it has yet to greet.
+    pub fn new(alloc: Global, server: Box<Server>) -> Client {
+        Client {
+            server,
             received: FrameReader::without_preface(alloc),
             next_stream: 1,
-        };
-        client.greet(alloc)?;
-        Ok(client)
+        }
     }
 
-    fn greet(&mut self, alloc: Global) -> io::Result<()> {
-        self.step(What::Open(0))?;
-        self.step(What::Bytes(0, Vec::from_slice(alloc, GREETING)?))
+    pub fn greet(&mut self, output: &mut Output) {
+        let greeting = output.bytes(Vec::from_slice(output.alloc, GREETING));
+        self.step(What::Open(0), output);
+        self.step(What::Bytes(0, greeting), output);
     }
 
-    fn step(&mut self, what: What) -> io::Result<()> {
+    fn step(&mut self, what: What, output: &mut Output) {
         let event = Event {
             moment: 0,
             instance: 0,
             what,
         };
-        self.server.step(event).map_err(|_| fault())
-    }
-
-    /// Takes all that waits, until nothing more comes.
-    fn take(&mut self, alloc: Global) -> io::Result<()> {
-        for _ in 0..u32::MAX {
-            let Some(pending) = self.server.pending(0, 0) else {
-                break;
-            };
-            if pending.is_empty() {
-                break;
-            }
-            let count = u32::try_from(pending.len()).unwrap_or(0);
-            let piece = Vec::from_slice(alloc, pending)?;
-            self.received.feed(piece).map_err(|_| fault())?;
-            self.step(What::Took(0, count))?;
+        if self.server.step(event).is_err() {
+            output.fail(FAULT);
         }
-        Ok(())
     }
 
-    /// What the frames that came say of the stream.
-    fn answer(&mut self, alloc: Global, stream: u32) -> io::Result<Answer> {
-        let mut answer = Answer {
-            trailers: Vec::new(alloc),
-            messages: Vec::new(alloc),
+    fn send(&mut self, head: (u8, u8), stream: u32, payload: &[u8], output: &mut Output) {
+        let bytes = output.bytes(frame(output.alloc, head, stream, payload));
+        self.step(What::Bytes(0, bytes), output);
+    }
+
+    /// Takes what waits, and tells whether more may come.
+    fn receive(&mut self, output: &mut Output) -> bool {
+        let Some(pending) = self.server.pending(0, 0) else {
+            return false;
         };
-        let mut data = Messages::new(alloc);
-        for _ in 0..u32::MAX {
-            match self.received.find() {
-                Ok(true) => {}
-                Ok(false) => break,
-                Err(_) => return Err(fault()),
-            }
-            let frame = self.received.frame();
-            if frame.stream == stream && frame.kind == HEADERS {
-                answer.trailers = Vec::from_slice(alloc, frame.payload.as_slice())?;
-            } else if frame.stream == stream && frame.kind == DATA {
-                data.feed(frame.payload.as_slice()).map_err(|_| fault())?;
-                take_whole(&mut data, &mut answer.messages)?;
-            }
-            self.received.pass();
+        let count = u32::try_from(pending.len()).unwrap_or(0);
+        if count == 0 {
+            return false;
         }
-        Ok(answer)
+        let piece = output.bytes(Vec::from_slice(output.alloc, pending));
+        if self.received.feed(piece).is_err() {
+            output.fail(FAULT);
+        }
+        self.step(What::Took(0, count), output);
+        !output.has_failed()
+    }
+
+    /// Reads the next frame, for the answer where it is one of the stream; tells whether one came.
+    fn read(&mut self, stream: u32, answer: &mut Answer, output: &mut Output) -> bool {
+        match self.received.find() {
+            Ok(true) => {
+                let frame = self.received.frame();
+                if frame.stream == stream {
+                    answer.take(&frame, output);
+                }
+                self.received.pass();
+                return true;
+            }
+            Ok(false) => {}
+            Err(_) => output.fail(FAULT),
+        }
+        false
+    }
+
+    /// Sends the frames of a call with one message.
+    fn send_call(&mut self, stream: u32, path: &str, message: &[u8], output: &mut Output) {
+        let block = output.bytes(call_block(output.alloc, path));
+        self.send((HEADERS, END_HEADERS), stream, &block, output);
+        let [a, b, c, d] = u32::try_from(message.len()).unwrap_or(0).to_be_bytes();
+        self.send((DATA, 0), stream, &[0, a, b, c, d], output);
+        for piece in message.chunks(MAX_FRAME_SIZE) {
+            self.send((DATA, 0), stream, piece, output);
+        }
+        self.send((DATA, END_STREAM), stream, &[], output);
     }
 
     /// Calls a method by a path of fewer than 128 bytes, and takes what is answered.
-    pub fn call(&mut self, alloc: Global, path: &str, request: &[u8]) -> io::Result<Answer> {
+    pub fn call(&mut self, path: &str, request: &[u8], output: &mut Output) -> Answer {
         let stream = self.next_stream;
         self.next_stream = stream.saturating_add(2);
-        let bytes = call_frames(alloc, stream, path, request)?;
-        self.step(What::Bytes(0, bytes))?;
-        self.take(alloc)?;
-        self.answer(alloc, stream)
-    }
-}
-
-/// Moves the messages that are whole.
-fn take_whole(data: &mut Messages, messages: &mut Vec<Reply>) -> io::Result<()> {
-    for _ in 0..u32::MAX {
-        match data.next().map_err(|_| fault())? {
-            Some(message) => messages.push(message)?,
-            None => break,
+        self.send_call(stream, path, request, output);
+        for _ in 0..u32::MAX {
+            if !self.receive(output) {
+                break;
+            }
         }
+        let mut answer = Answer::new(output.alloc);
+        for _ in 0..u32::MAX {
+            if !self.read(stream, &mut answer, output) {
+                break;
+            }
+        }
+        answer
     }
-    Ok(())
 }

@@ -1,9 +1,9 @@
 //! Directories of a wanted number or size, and the digests that name them.
 
+use crate::output::Output;
 use digest::Digest;
 use message_fields::Message;
 use reapi_messages::Digest as WrittenDigest;
-use std::alloc::{AllocError, Global};
 use tree_messages::{Directory, DirectoryNode, SymlinkNode};
 
 /// A blob, and its digest as messages write it.
@@ -14,9 +14,9 @@ pub struct Blob {
 }
 
 impl Blob {
-    pub fn of(alloc: Global, text: Vec<u8>) -> Result<Blob, AllocError> {
-        let hash = hex::encode(alloc, &Digest::of(&text).hash)?;
-        Ok(Blob { text, hash })
+    pub fn of(text: Vec<u8>, output: &mut Output) -> Blob {
+        let hash = output.string(hex::encode(output.alloc, &Digest::of(&text).hash));
+        Blob { text, hash }
     }
 
     pub fn digest(&self) -> Option<WrittenDigest<'_>> {
@@ -28,63 +28,62 @@ impl Blob {
 }
 
 /// Appends the records of a directory that has these alone.
-fn put_directory<'a>(
-    text: &mut Vec<u8>,
+fn put<'a>(
     child: Option<DirectoryNode<'a>>,
     link: Option<SymlinkNode<'a>>,
-) -> Result<(), AllocError> {
-    let alloc = *text.allocator();
+    text: &mut Vec<u8>,
+    output: &mut Output,
+) {
+    let alloc = output.alloc;
     let mut directory = Directory {
         files: Vec::new(alloc),
         directories: Vec::new(alloc),
         symlinks: Vec::new(alloc),
     };
     if let Some(child) = child {
-        directory.directories.push(child)?;
+        output.expect(directory.directories.push(child));
     }
     if let Some(link) = link {
-        directory.symlinks.push(link)?;
+        output.expect(directory.symlinks.push(link));
     }
-    text.extend_from_slice(&directory.encode(alloc)?)
+    let records = output.bytes(directory.encode(alloc));
+    output.expect(text.extend_from_slice(&records));
 }
 
-/// The directory that has one symbolic link `l`, to the number.
-pub fn leaf(alloc: Global, number: u64) -> Result<Vec<u8>, AllocError> {
-    let target = format!(in alloc; "{number}")?;
-    let mut text = Vec::new(alloc);
-    let link = SymlinkNode {
-        name: "l",
-        target: &target,
-    };
-    put_directory(&mut text, None, Some(link))?;
-    Ok(text)
+/// Appends a symbolic link `l` to the text of the directory that has it.
+fn add_link(target: &str, text: &mut Vec<u8>, output: &mut Output) {
+    put(None, Some(SymlinkNode { name: "l", target }), text, output);
 }
 
 /// Appends a directory, named by its number in seven digits, to the text of the one that has it.
-pub fn add_child(text: &mut Vec<u8>, number: u64, child: &Blob) -> Result<(), AllocError> {
-    let name = format!(in *text.allocator(); "{number:07}")?;
+pub fn add_child(number: u64, child: &Blob, text: &mut Vec<u8>, output: &mut Output) {
+    let name = output.string(format!(in output.alloc; "{number:07}"));
     let node = DirectoryNode {
         name: &name,
         digest: child.digest(),
     };
-    put_directory(text, Some(node), None)
+    put(Some(node), None, text, output);
+}
+
+/// The directory that has one symbolic link, to the number.
+pub fn leaf(number: u64, output: &mut Output) -> Vec<u8> {
+    let target = output.string(format!(in output.alloc; "{number}"));
+    let mut text = Vec::new(output.alloc);
+    add_link(&target, &mut text, output);
+    text
 }
 
 /// The directory that has the child, if there is one, and a symbolic link whose target has so many
 /// bytes.
-pub fn filled(alloc: Global, target: usize, child: Option<&Blob>) -> Result<Vec<u8>, AllocError> {
-    let mut letters = String::new(alloc);
+pub fn filled(target: u64, child: Option<&Blob>, output: &mut Output) -> Vec<u8> {
+    let mut letters = String::new(output.alloc);
     for _ in 0..target {
-        letters.push('x')?;
+        output.expect(letters.push('x'));
     }
-    let mut text = Vec::new(alloc);
+    let mut text = Vec::new(output.alloc);
     if let Some(child) = child {
-        add_child(&mut text, 0, child)?;
+        add_child(0, child, &mut text, output);
     }
-    let link = SymlinkNode {
-        name: "l",
-        target: &letters,
-    };
-    put_directory(&mut text, None, Some(link))?;
-    Ok(text)
+    add_link(&letters, &mut text, output);
+    text
 }

@@ -1,15 +1,14 @@
 //! What instances give alone.
 
-use crate::instances::configs;
+use crate::output::Output;
 use crate::sockets::fake::{Client, Fake};
+use program_status::Fault;
 use server_core::{Outputs, SentBytes, run};
 use server_events::Configs;
-use std::alloc::Global;
-use std::io;
 use std::mem::replace;
 
 /// What came of a case.
-#[derive(Clone, Copy)]
+#[derive(Clone, Copy, Default)]
 pub struct Outcome {
     /// How many clients were sent what their instance does not put on their connection alone.
     pub differing: u32,
@@ -19,18 +18,17 @@ pub struct Outcome {
     pub refused: u32,
 }
 
-/// Two instances.
-pub fn configs_of_two(alloc: Global) -> io::Result<Configs> {
-    configs(alloc, &["a", "b"], 1_000)
-}
-
 /// What the instance of a client put on its connection, if that was opened.
 pub fn sent_on<'a>(outputs: &'a Outputs, instance: u32, number: u32) -> Option<&'a SentBytes> {
-    let output = outputs.instances.get(instance as usize)?;
-    output.sent.iter().find(|sent| sent.connection == number)
+    for sent in &outputs.instances.get(instance as usize)?.sent {
+        if sent.connection == number {
+            return Some(sent);
+        }
+    }
+    None
 }
 
-fn add(outcome: &mut Outcome, outputs: &Outputs, client: &Client, is_whole: bool) {
+fn add(outcome: &mut Outcome, outputs: &Outputs, client: &Client<'_>, is_whole: bool) {
     let Some(number) = client.number else {
         return;
     };
@@ -50,18 +48,23 @@ fn add(outcome: &mut Outcome, outputs: &Outputs, client: &Client, is_whole: bool
     }
 }
 
+fn count(outputs: &Outputs, fake: &Fake<'_>) -> Outcome {
+    let mut outcome = Outcome::default();
+    for client in fake.clients.iter() {
+        add(&mut outcome, outputs, client, fake.habits.is_steady);
+    }
+    outcome
+}
+
 /// Compares what the clients of fake sockets received with a run of the events that were noted.
 /// Steady clients received all of it, others a front.
-pub fn judge(alloc: Global, configs: &Configs, fake: &mut Fake<'_>) -> io::Result<Outcome> {
-    let events = replace(&mut fake.events, Vec::new(alloc));
-    let outputs = run(alloc, configs, events)?;
-    let mut outcome = Outcome {
-        differing: 0,
-        served: 0,
-        refused: 0,
-    };
-    for client in fake.clients.iter() {
-        add(&mut outcome, &outputs, client, fake.is_steady());
+pub fn judge(configs: &Configs, fake: &mut Fake<'_>, output: &mut Output) -> Outcome {
+    let events = replace(&mut fake.events, Vec::new(output.alloc));
+    match run(output.alloc, configs, events) {
+        Ok(outputs) => count(&outputs, fake),
+        Err(_) => {
+            output.fail(Fault::OutOfMemory);
+            Outcome::default()
+        }
     }
-    Ok(outcome)
 }

@@ -1,5 +1,7 @@
 //! Sockets with clients of their own behind them, whose pieces and faults a seed decides.
 
+ghost use Rattle.std.specs.Prelude.{◌≤◌, length};
+
 use serve::{Socket, Sockets};
 use server_events::{Event, What};
 use std::alloc::Global;
@@ -15,27 +17,32 @@ pub struct Habits {
 
 /// A client.
 #[derive(Drop)]
-pub struct Client {
+pub struct Client<'a> {
     pub instance: u32,
-    /// Which text it sends.
-    text: usize,
+    /// What it has still to send.
+    unsent: &'a [u8],
     /// Under which number it was accepted.
     pub number: Option<u32>,
-    sent: usize,
     pub received: Vec<u8>,
     is_closed: bool,
 }
 
-impl Client {
-    pub fn new(alloc: Global, instance: u32, text: usize) -> Client {
+impl<'a> Client<'a> {
+    pub fn new(alloc: Global, instance: u32, unsent: &'a [u8]) -> Client<'a> {
         Client {
             instance,
-            text,
+            unsent,
             number: None,
-            sent: 0,
             received: Vec::new(alloc),
             is_closed: false,
         }
+    }
+
+    /// Whether it is the client that was accepted so, and is not gone.
+    fn is_at(&self, socket: Socket) -> bool {
+        self.number == Some(socket.connection)
+            && self.instance == socket.instance
+            && !self.is_closed
     }
 }
 
@@ -43,36 +50,28 @@ impl Client {
 #[derive(Drop)]
 pub struct Fake<'a> {
     alloc: Global,
-    texts: &'a [Vec<u8>],
-    pub clients: Vec<Client>,
+    pub clients: Vec<Client<'a>>,
     pub events: Vec<Event>,
-    habits: Habits,
+    pub habits: Habits,
     dice: u64,
     moment: u64,
     faults: u64,
+    /// An event could not be noted, or its bytes.
+    pub is_out_of_memory: bool,
 }
 
 impl<'a> Fake<'a> {
-    pub fn new(
-        alloc: Global,
-        texts: &'a [Vec<u8>],
-        clients: Vec<Client>,
-        habits: Habits,
-    ) -> Fake<'a> {
+    pub fn new(alloc: Global, clients: Vec<Client<'a>>, habits: Habits) -> Fake<'a> {
         Fake {
             alloc,
-            texts,
             clients,
             events: Vec::new(alloc),
             habits,
             dice: habits.seed,
             moment: 0,
             faults: 0,
+            is_out_of_memory: false,
         }
-    }
-
-    pub fn is_steady(&self) -> bool {
-        self.habits.is_steady
     }
 
     /// The next number of a sequence that looks random (xorshift64).
@@ -100,33 +99,66 @@ impl<'a> Fake<'a> {
         Ok(())
     }
 
-    fn note(&mut self, instance: u32, what: What) -> io::Result<()> {
-        self.events.push(Event {
+    fn note(&mut self, instance: u32, what: What) {
+        let noted = self.events.push(Event {
             moment: self.moment,
             instance,
             what,
-        })?;
-        Ok(())
+        });
+        if noted.is_err() {
+            self.is_out_of_memory = true;
+        }
     }
 
     /// The place of the client that was accepted so.
     fn place_of(&self, socket: Socket) -> io::Result<usize> {
-        let found = self.clients.iter().position(|client| {
-            client.number == Some(socket.connection)
-                && client.instance == socket.instance
-                && !client.is_closed
-        });
-        found.ok_or(io::Error::from(ErrorKind::NotConnected))
+        for (place, client) in self.clients.iter().enumerate() {
+            if client.is_at(socket) {
+                return Ok(place);
+            }
+        }
+        Err(io::Error::from(ErrorKind::NotConnected))
     }
 
-    /// What of its text a client has still to send.
+    /// The place of the client that was accepted so, or an error, now and then.
+    fn ready(&mut self, socket: Socket, kind: ErrorKind) -> io::Result<usize> {
+        let place = self.place_of(socket)?;
+        self.may_fail(kind, 60)?;
+        Ok(place)
+    }
+
+    /// Gives the first of the bytes that a client has still to send, and says how many.
+    fn give(&mut self, place: usize, socket: Socket, unsent: &[u8], room: &mut [u8]) -> usize
+        ensures { result ≤ length room.new }
+    {
+        let most = unsent.len().min(room.len()).min(300);
+        let count = self.up_to(most).min(most);
+        room[..count].copy_from_slice(&unsent[..count]);
+        if let Some(client) = self.clients.get_mut(place) {
+            client.unsent = client.unsent.get(count..).unwrap_or(&[]);
+        }
+        match Vec::from_slice(self.alloc, &unsent[..count]) {
+            Ok(bytes) => self.note(socket.instance, What::Bytes(socket.connection, bytes)),
+            Err(_) => self.is_out_of_memory = true,
+        }
+        count
+    }
+
+    /// Accepts a client of the socket's instance that waits; tells whether there is one.
+    fn accept_waiting(&mut self, socket: Socket) -> bool {
+        for client in self.clients.iter_mut() {
+            if client.number.is_none() && client.instance == socket.instance {
+                client.number = Some(socket.connection);
+                return true;
+            }
+        }
+        false
+    }
+
+    /// What a client has still to send.
     fn unsent(&self, place: usize) -> &'a [u8] {
-        let texts = self.texts;
-        let Some(client) = self.clients.get(place) else {
-            return &[];
-        };
-        match texts.get(client.text) {
-            Some(text) => text.get(client.sent..).unwrap_or(&[]),
+        match self.clients.get(place) {
+            Some(client) => client.unsent,
             None => &[],
         }
     }
@@ -136,51 +168,37 @@ impl<'a> Sockets for Fake<'a> {
     fn now(&mut self) -> u64 {
         self.moment = self.moment.saturating_add(self.throw() % 3);
         for instance in 0..2 {
-            let _noted: io::Result<()> = self.note(instance, What::Tick);
+            self.note(instance, What::Tick);
         }
         self.moment
     }
 
     fn accept(&mut self, socket: Socket) -> io::Result<()> {
         self.may_fail(ErrorKind::ConnectionAborted, 8)?;
-        let waiting = self.clients.iter().position(|client| client.number.is_none()
-            && client.instance == socket.instance);
-        let Some(place) = waiting else {
+        if !self.accept_waiting(socket) {
             return Err(io::Error::from(ErrorKind::WouldBlock));
-        };
-        if let Some(client) = self.clients.get_mut(place) {
-            client.number = Some(socket.connection);
         }
-        self.note(socket.instance, What::Open(socket.connection))
+        self.note(socket.instance, What::Open(socket.connection));
+        Ok(())
     }
 
     fn read(&mut self, socket: Socket, room: &mut [u8]) -> io::Result<usize> {
-        let place = self.place_of(socket)?;
-        self.may_fail(ErrorKind::ConnectionReset, 60)?;
+        let place = self.ready(socket, ErrorKind::ConnectionReset)?;
         let unsent = self.unsent(place);
         if unsent.is_empty() && (self.habits.is_steady || self.throw() % 20 > 0) {
             return Err(io::Error::from(ErrorKind::WouldBlock));
         }
-        let most = unsent.len().min(room.len()).min(300);
-        let count = self.up_to(most).min(most);
-        room[..count].copy_from_slice(&unsent[..count]);
-        if let Some(client) = self.clients.get_mut(place) {
-            client.sent = client.sent.saturating_add(count);
-        }
-        let bytes = Vec::from_slice(self.alloc, &unsent[..count])?;
-        self.note(socket.instance, What::Bytes(socket.connection, bytes))?;
-        Ok(count)
+        Ok(self.give(place, socket, unsent, room))
     }
 
     fn write(&mut self, socket: Socket, bytes: &[u8]) -> io::Result<usize> {
-        let place = self.place_of(socket)?;
-        self.may_fail(ErrorKind::BrokenPipe, 60)?;
+        let place = self.ready(socket, ErrorKind::BrokenPipe)?;
         let most = bytes.len().min(65_536);
         let count = self.up_to(most).min(most);
         if let Some(client) = self.clients.get_mut(place) {
             client.received.extend_from_slice(&bytes[..count])?;
         }
-        self.note(socket.instance, What::Took(socket.connection, count as u32))?;
+        self.note(socket.instance, What::Took(socket.connection, count as u32));
         Ok(count)
     }
 
@@ -190,7 +208,7 @@ impl<'a> Sockets for Fake<'a> {
                 client.is_closed = true;
             }
         }
-        let _noted: io::Result<()> = self.note(socket.instance, What::Closed(socket.connection));
+        self.note(socket.instance, What::Closed(socket.connection));
     }
 
     fn faults(&self) -> u64 {

@@ -1,12 +1,13 @@
 //! Real sockets, whose clients are served in the turns of the server.
 
-use crate::sockets::alone::{configs_of_two, sent_on};
+use crate::output::Output;
+use crate::sockets::alone::sent_on;
 use host_sockets::HostSockets;
 use mio::net::TcpStream;
+use program_status::Fault;
 use serve::{Socket, Sockets, serve};
-use server_core::run;
+use server_core::{Outputs, run};
 use server_events::{Configs, Event, What};
-use std::alloc::Global;
 use std::io::{self, Read, Write};
 use std::net::{Ipv4Addr, SocketAddr};
 
@@ -24,17 +25,20 @@ struct Peer<'a> {
 }
 
 impl<'a> Peer<'a> {
-    /// Sends and receives what can be moved now.
-    fn exchange(&mut self) -> io::Result<()> {
+    fn send(&mut self) {
         if !self.unsent.is_empty() {
             if let Ok(count) = self.stream.write(self.unsent) {
-                self.unsent = &self.unsent[count..];
+                self.unsent = self.unsent.get(count..).unwrap_or(&[]);
             }
         }
+    }
+
+    /// Sends and receives what can be moved now.
+    fn exchange(&mut self) -> io::Result<()> {
+        self.send();
         let mut room = [0; 512];
-        if let Ok(count) = self.stream.read(&mut room) {
-            self.received.extend_from_slice(&room[..count])?;
-        }
+        let count = self.stream.read(&mut room)?;
+        self.received.extend_from_slice(&room[..count])?;
         Ok(())
     }
 }
@@ -49,7 +53,7 @@ struct WithPeers<'a> {
 impl<'a> Sockets for WithPeers<'a> {
     fn now(&mut self) -> u64 {
         for peer in self.peers.iter_mut() {
-            let _moved: io::Result<()> = peer.exchange();
+            let _received: io::Result<()> = peer.exchange();
         }
         self.sockets.now()
     }
@@ -79,30 +83,64 @@ impl<'a> Sockets for WithPeers<'a> {
     }
 }
 
-/// Whether a client received what its instance puts on a connection on which just its text comes.
-fn is_as_alone(alloc: Global, configs: &Configs, peer: &Peer<'_>) -> io::Result<bool> {
-    let bytes = Vec::from_slice(alloc, peer.text)?;
-    let mut events = Vec::new(alloc);
-    for what in [What::Open(0), What::Bytes(0, bytes)] {
-        events.push(Event {
-            moment: 0,
-            instance: peer.instance,
-            what,
-        })?;
-    }
-    let outputs = run(alloc, configs, events)?;
-    match sent_on(&outputs, peer.instance, 0) {
-        Some(sent) => Ok(sent.bytes.as_slice() == peer.received.as_slice()),
-        None => Ok(false),
+fn add(events: &mut Vec<Event>, instance: u32, what: What, output: &mut Output) {
+    let added = events.push(Event {
+        moment: 0,
+        instance,
+        what,
+    });
+    output.expect(added);
+}
+
+/// The events of a connection on which just the text of a client comes.
+fn events_of(peer: &Peer<'_>, output: &mut Output) -> Vec<Event> {
+    let text = output.bytes(Vec::from_slice(output.alloc, peer.text));
+    let mut events = Vec::new(output.alloc);
+    add(&mut events, peer.instance, What::Open(0), output);
+    add(&mut events, peer.instance, What::Bytes(0, text), output);
+    events
+}
+
+fn has_received(peer: &Peer<'_>, outputs: &Outputs) -> bool {
+    match sent_on(outputs, peer.instance, 0) {
+        Some(sent) => sent.bytes.as_slice() == peer.received.as_slice(),
+        None => false,
     }
 }
 
-/// The sockets of two ports that the system chose.
-fn listening(rt: &HostRuntime) -> io::Result<HostSockets<'_>> {
-    let mut sockets = HostSockets::new(rt, rt.alloc())?;
+/// Whether a client received what its instance puts on a connection on which just its text comes.
+fn is_as_alone(configs: &Configs, peer: &Peer<'_>, output: &mut Output) -> bool {
+    let events = events_of(peer, output);
+    match run(output.alloc, configs, events) {
+        Ok(outputs) => has_received(peer, &outputs),
+        Err(_) => {
+            output.fail(Fault::OutOfMemory);
+            false
+        }
+    }
+}
+
+/// Listens on two ports that the system chooses.
+fn listen(sockets: &mut HostSockets<'_>) -> io::Result<()> {
     sockets.listen(0)?;
-    sockets.listen(0)?;
-    Ok(sockets)
+    sockets.listen(0)
+}
+
+/// A client of an instance, connected.
+fn connected<'a>(
+    rt: &HostRuntime,
+    sockets: &HostSockets<'_>,
+    instance: u32,
+    text: &'a [u8],
+) -> io::Result<Peer<'a>> {
+    let address = SocketAddr::from((Ipv4Addr::LOCALHOST, sockets.port(instance)?));
+    Ok(Peer {
+        instance,
+        text,
+        unsent: text,
+        stream: TcpStream::connect(rt, address)?,
+        received: Vec::new(rt.alloc()),
+    })
 }
 
 /// A client for each text, by turns of the two instances.
@@ -110,40 +148,59 @@ fn peers<'a>(
     rt: &HostRuntime,
     sockets: &HostSockets<'_>,
     texts: &'a [Vec<u8>],
-) -> io::Result<Vec<Peer<'a>>> {
-    let mut peers = Vec::new(rt.alloc());
+    output: &mut Output,
+) -> Vec<Peer<'a>> {
+    let mut peers = Vec::new(output.alloc);
     for (place, text) in texts.iter().enumerate() {
-        let instance = (place % 2) as u32;
-        let address = SocketAddr::from((Ipv4Addr::LOCALHOST, sockets.port(instance)?));
-        peers.push(Peer {
-            instance,
-            text,
-            unsent: text,
-            stream: TcpStream::connect(rt, address)?,
-            received: Vec::new(rt.alloc()),
-        })?;
+        match connected(rt, sockets, (place % 2) as u32, text) {
+            Ok(peer) => output.expect(peers.push(peer)),
+            Err(error) => output.fail(Fault::of(&error)),
+        }
     }
-    Ok(peers)
+    peers
 }
 
 /// How many clients did not receive what their instance gives alone.
-fn differing(alloc: Global, configs: &Configs, peers: &[Peer<'_>]) -> io::Result<u32> {
+fn differing(configs: &Configs, peers: &[Peer<'_>], output: &mut Output) -> u32 {
     let mut differing: u32 = 0;
     for peer in peers {
-        if !is_as_alone(alloc, configs, peer)? {
+        if !is_as_alone(configs, peer, output) {
             differing = differing.saturating_add(1);
         }
     }
-    Ok(differing)
+    differing
 }
 
-/// Serves a client for each text, by turns of the two instances, and says how many were not sent
-/// what their instance gives alone.
-pub fn serve_peers<'a>(rt: &'a HostRuntime, texts: &'a [Vec<u8>]) -> io::Result<u32> {
-    let configs = configs_of_two(rt.alloc())?;
-    let sockets = listening(rt)?;
-    let peers = peers(rt, &sockets, texts)?;
+/// Serves a client for each text, by turns of the two instances, over sockets, and says how many
+/// were not sent what their instance gives alone.
+fn serve_over<'a>(
+    rt: &HostRuntime,
+    mut sockets: HostSockets<'a>,
+    configs: &Configs,
+    texts: &'a [Vec<u8>],
+    output: &mut Output,
+) -> u32 {
+    if let Err(error) = listen(&mut sockets) {
+        output.fail(Fault::of(&error));
+    }
+    let peers = peers(rt, &sockets, texts, output);
     let mut both = WithPeers { sockets, peers };
-    serve(rt.alloc(), &configs, &mut both, TURNS)?;
-    differing(rt.alloc(), &configs, &both.peers)
+    output.expect(serve(output.alloc, configs, &mut both, TURNS));
+    differing(configs, &both.peers, output)
+}
+
+/// Serves a client for each text over sockets of this host, as `serve_over` says.
+pub fn serve_peers<'a>(
+    rt: &'a HostRuntime,
+    configs: &Configs,
+    texts: &'a [Vec<u8>],
+    output: &mut Output,
+) -> u32 {
+    match HostSockets::new(rt, rt.alloc()) {
+        Ok(sockets) => serve_over(rt, sockets, configs, texts, output),
+        Err(error) => {
+            output.fail(Fault::of(&error));
+            0
+        }
+    }
 }

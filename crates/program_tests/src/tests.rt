@@ -1,3 +1,4 @@
+mod cases;
 mod command_line_tests;
 mod digest_tests;
 mod instance_tests;

@@ -1,3 +1,4 @@
+use crate::tests::cases::{Case, all_hold};
 use digest::*;
 use std::test::*;
 
@@ -29,45 +30,69 @@ fn is_named(hash: &str, text: &[u8]) -> bool {
         && !longer.is_empty()
 }
 
+fn names_texts() -> bool {
+    is_named(ABC, b"abc")
+        && is_named(EMPTY, b"")
+        && is_named(
+            TWO_BLOCKS,
+            b"abcdbcdecdefdefgefghfghighijhijkijkljklmklmnlmnomnopnopq",
+        )
+}
+
 #[test]
 fn known_texts(rt: HostRuntime) {
-    assert!(rt; is_named(ABC, b"abc"));
-    assert!(rt; is_named(EMPTY, b""));
-    assert!(rt;
-        is_named(
-            TWO_BLOCKS,
-            b"abcdbcdecdefdefgefghfghighijhijkijkljklmklmnlmnomnopnopq"
-        )
-    );
+    assert!(rt; names_texts());
 }
 
-/// Hashes that are no 64 lower-case hexadecimal digits.
-static NO_HASHES: [&str; 8] = [
-    "",
-    "ba7816bf8f01cfea414140de5dae2223b00361a396177a9cb410ff61f20015a",
-    "ba7816bf8f01cfea414140de5dae2223b00361a396177a9cb410ff61f20015ad0",
-    "BA7816BF8F01CFEA414140DE5DAE2223B00361A396177A9CB410FF61F20015AD",
-    "ba7816bf8f01cfea414140de5dae2223b00361a396177a9cb410ff61f20015aD",
-    "ga7816bf8f01cfea414140de5dae2223b00361a396177a9cb410ff61f20015ad",
-    "ba7816bf8f01cfea414140de5dae2223b00361a396177a9cb410ff61f20015a ",
-    "éa7816bf8f01cfea414140de5dae2223b00361a396177a9cb410ff61f20015ad",
-];
+/// A size, and whether a digest of it is read.
+struct Reads(i64, bool);
 
-/// The first of these that is taken for a hash.
-fn first_taken(hashes: &[&'static str]) -> Option<&'static str> {
-    for hash in hashes {
-        if Digest::parse(hash, 3).is_some() {
-            return Some(*hash);
-        }
+impl Case for Reads {
+    fn holds(&self, _host: &HostRuntime, hash: &str) -> bool {
+        Digest::parse(hash, self.0).is_some() == self.1
     }
-    None
 }
+
+/// Four sizes, and hashes that are no 64 lower-case hexadecimal digits.
+static FORMS: [(&str, Reads); 12] = [
+    (ABC, Reads(0, true)),
+    (ABC, Reads(i64::MAX, true)),
+    (ABC, Reads(-1, false)),
+    (ABC, Reads(i64::MIN, false)),
+    ("", Reads(3, false)),
+    (
+        "ba7816bf8f01cfea414140de5dae2223b00361a396177a9cb410ff61f20015a",
+        Reads(3, false),
+    ),
+    (
+        "ba7816bf8f01cfea414140de5dae2223b00361a396177a9cb410ff61f20015ad0",
+        Reads(3, false),
+    ),
+    (
+        "BA7816BF8F01CFEA414140DE5DAE2223B00361A396177A9CB410FF61F20015AD",
+        Reads(3, false),
+    ),
+    (
+        "ba7816bf8f01cfea414140de5dae2223b00361a396177a9cb410ff61f20015aD",
+        Reads(3, false),
+    ),
+    (
+        "ga7816bf8f01cfea414140de5dae2223b00361a396177a9cb410ff61f20015ad",
+        Reads(3, false),
+    ),
+    (
+        "ba7816bf8f01cfea414140de5dae2223b00361a396177a9cb410ff61f20015a ",
+        Reads(3, false),
+    ),
+    (
+        "éa7816bf8f01cfea414140de5dae2223b00361a396177a9cb410ff61f20015ad",
+        Reads(3, false),
+    ),
+];
 
 #[test]
 fn forms(rt: HostRuntime) {
-    assert!(rt; Digest::parse(ABC, 0).is_some() && Digest::parse(ABC, i64::MAX).is_some());
-    assert!(rt; Digest::parse(ABC, -1).is_none() && Digest::parse(ABC, i64::MIN).is_none());
-    assert_eq!(rt; first_taken(&NO_HASHES), None);
+    all_hold(&rt, &rt, &FORMS);
 }
 
 fn of_two(first: &[u8], second: &[u8]) -> Digest {
@@ -77,9 +102,14 @@ fn of_two(first: &[u8], second: &[u8]) -> Digest {
     hasher.finish()
 }
 
+fn joins_pieces(whole: &Digest) -> bool {
+    of_two(b"abc", b"") == *whole
+        && of_two(b"", b"abc") == *whole
+        && of_two(b"a", b"bc") == *whole
+        && of_two(b"", b"").is_empty()
+}
+
 #[test]
 fn pieces(rt: HostRuntime) {
-    let whole = Digest::of(b"abc");
-    assert!(rt; of_two(b"abc", b"") == whole && of_two(b"", b"abc") == whole);
-    assert!(rt; of_two(b"a", b"bc") == whole && of_two(b"", b"").is_empty());
+    assert!(rt; joins_pieces(&Digest::of(b"abc")));
 }

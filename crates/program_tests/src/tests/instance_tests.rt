@@ -1,63 +1,73 @@
+use crate::tests::cases::{Case, all_hold};
 use server_events::*;
 use std::test::*;
 
-static NAMES: [&str; 11] = [
-    "a",
-    "z",
-    "0",
-    "9",
-    "-",
-    "main",
-    "a-1",
-    "blob",
-    "blobs-",
-    "actionresults",
-    // 64 bytes.
-    "abcdefghijklmnopqrstuvwxyz0123456789-abcdefghijklmnopqrstuvwxyz0",
-];
+/// Whether a text is the name of an instance.
+struct IsName(bool);
 
-static NO_NAMES: [&str; 18] = [
-    "",
-    "A",
-    "a b",
-    "a/b",
-    "a_b",
-    "a.b",
-    "`",
-    "{",
-    ":",
-    "ä",
-    // 65 bytes.
-    "abcdefghijklmnopqrstuvwxyz0123456789-abcdefghijklmnopqrstuvwxyz01",
-    // Words of resource names.
-    "blobs",
-    "uploads",
-    "actions",
-    "actionResults",
-    "operations",
-    "capabilities",
-    "compressed-blobs",
-];
-
-/// The first of these of which that is otherwise.
-fn first_other(names: &[&'static str], is_name: bool) -> Option<&'static str> {
-    for name in names {
-        if is_instance_name(name.as_bytes()) != is_name {
-            return Some(*name);
-        }
+impl Case for IsName {
+    fn holds(&self, _host: &HostRuntime, name: &str) -> bool {
+        is_instance_name(name.as_bytes()) == self.0
     }
-    None
 }
+
+static NAMES: [(&str, IsName); 29] = [
+    ("a", IsName(true)),
+    ("z", IsName(true)),
+    ("0", IsName(true)),
+    ("9", IsName(true)),
+    ("-", IsName(true)),
+    ("main", IsName(true)),
+    ("a-1", IsName(true)),
+    ("blob", IsName(true)),
+    ("blobs-", IsName(true)),
+    ("actionresults", IsName(true)),
+    // 64 bytes.
+    (
+        "abcdefghijklmnopqrstuvwxyz0123456789-abcdefghijklmnopqrstuvwxyz0",
+        IsName(true),
+    ),
+    ("", IsName(false)),
+    ("A", IsName(false)),
+    ("a b", IsName(false)),
+    ("a/b", IsName(false)),
+    ("a_b", IsName(false)),
+    ("a.b", IsName(false)),
+    ("`", IsName(false)),
+    ("{", IsName(false)),
+    (":", IsName(false)),
+    ("ä", IsName(false)),
+    // 65 bytes.
+    (
+        "abcdefghijklmnopqrstuvwxyz0123456789-abcdefghijklmnopqrstuvwxyz01",
+        IsName(false),
+    ),
+    // Words of resource names.
+    ("blobs", IsName(false)),
+    ("uploads", IsName(false)),
+    ("actions", IsName(false)),
+    ("actionResults", IsName(false)),
+    ("operations", IsName(false)),
+    ("capabilities", IsName(false)),
+    ("compressed-blobs", IsName(false)),
+];
 
 #[test]
 fn names(rt: HostRuntime) {
-    assert_eq!(rt; first_other(&NAMES, true), None);
-    assert_eq!(rt; first_other(&NO_NAMES, false), None);
+    all_hold(&rt, &rt, &NAMES);
+}
+
+fn are_bounded() -> bool {
+    is_quota(0)
+        && is_quota(1_099_511_627_776)
+        && !is_quota(1_099_511_627_777)
+        && !is_quota(u64::MAX)
+        && is_slot_count(0)
+        && is_slot_count(64)
+        && !is_slot_count(65)
 }
 
 #[test]
 fn quotas_and_slots(rt: HostRuntime) {
-    assert!(rt; is_quota(0) && is_quota(1_099_511_627_776));
-    assert!(rt; !is_quota(1_099_511_627_777) && !is_quota(u64::MAX));
-    assert!(rt; is_slot_count(0) && is_slot_count(64) && !is_slot_count(65));
+    assert!(rt; are_bounded());
 }

@@ -1,8 +1,7 @@
+use crate::tests::cases::{Case, all_hold};
 use probe::*;
 use program_status::Status;
 use std::io::{self, ErrorKind, Read, Write};
-use std::process::Abort;
-use std::rt::Clock;
 use std::test::*;
 
 // A peer that at each read gives a few of its bytes or has nothing, in turn, and then ends or
@@ -23,10 +22,8 @@ impl<'a> Read for Peer<'a> {
         if self.bytes.is_empty() && self.fails {
             return Err(io::Error::from(ErrorKind::ConnectionReset));
         }
-        let count = self.bytes.len().min(buf.len()).min(3);
-        buf[..count].copy_from_slice(&self.bytes[..count]);
-        self.bytes = &self.bytes[count..];
-        Ok(count)
+        let most = buf.len().min(3);
+        self.bytes.read(&mut buf[..most])
     }
 }
 
@@ -57,46 +54,50 @@ impl Write for Sink {
     }
 }
 
-// Asks for so many of the bytes of a peer, and compares what is shown, told and sent.
-fn expect(
-    rt: &(impl AllocGlobal + Abort + Clock),
-    peer: Peer<'_>,
-    request: Request<'_>,
-    output: &str,
-    errors: &str,
+/// A peer and a sink, what is asked of them, and what is then shown and told.
+struct Asked {
+    bytes: &'static [u8],
+    reading_fails: bool,
+    writing_fails: bool,
+    request: Request<'static>,
+    shown: &'static [u8],
+    told: &'static [u8],
     status: Status,
-) -> Result<(), Fail> {
-    let mut peer = peer;
-    let mut sink = Sink {
-        taken: Vec::new(rt.alloc()),
-        is_ready: false,
-        fails: false,
-    };
-    let mut shown = Vec::new(rt.alloc());
-    let mut told = Vec::new(rt.alloc());
-    let ended = probe(
-        rt,
-        rt.alloc(),
-        request,
-        &mut peer,
-        &mut sink,
-        &mut shown,
-        &mut told,
-    );
-    assert!(rt; ended == status);
-    assert_eq!(rt; shown.as_slice(), output.as_bytes());
-    assert_eq!(rt; told.as_slice(), errors.as_bytes());
-    if status == Status::Done {
-        assert_eq!(rt; sink.taken.as_slice(), request.bytes);
-    }
-    Ok(())
 }
 
-fn peer_of(bytes: &[u8]) -> Peer<'_> {
-    Peer {
-        bytes,
-        is_ready: false,
-        fails: false,
+impl Asked {
+    fn is_met(&self, ended: Status, shown: &[u8], told: &[u8], sent: &[u8]) -> bool {
+        ended == self.status
+            && shown == self.shown
+            && told == self.told
+            && (ended != Status::Done || sent == self.request.bytes)
+    }
+}
+
+impl Case for Asked {
+    fn holds(&self, host: &HostRuntime, _name: &str) -> bool {
+        let mut peer = Peer {
+            bytes: self.bytes,
+            is_ready: false,
+            fails: self.reading_fails,
+        };
+        let mut sink = Sink {
+            taken: Vec::new(host.alloc()),
+            is_ready: false,
+            fails: self.writing_fails,
+        };
+        let mut shown = Vec::new(host.alloc());
+        let mut told = Vec::new(host.alloc());
+        let ended = probe(
+            host,
+            host.alloc(),
+            self.request,
+            &mut peer,
+            &mut sink,
+            &mut shown,
+            &mut told,
+        );
+        self.is_met(ended, &shown, &told, &sink.taken)
     }
 }
 
@@ -106,69 +107,97 @@ const HELLO: Request<'static> = Request {
     turns: 100,
 };
 
-#[test]
-fn the_first_bytes_are_shown(rt: HostRuntime) -> Result<(), Fail> {
-    expect(
-        &rt,
-        peer_of(b"\x00\xff\x10\x0a and more"),
-        HELLO,
-        "00ff100a\n",
-        "",
-        Status::Done,
-    )
-}
+/// What fails tells of it.
+const FAILED: &[u8] = b"remoted: input or output failed\n";
+
+static CASES: [(&str, Asked); 7] = [
+    (
+        "the first bytes are shown",
+        Asked {
+            bytes: b"\x00\xff\x10\x0a and more",
+            reading_fails: false,
+            writing_fails: false,
+            request: HELLO,
+            shown: b"00ff100a\n",
+            told: b"",
+            status: Status::Done,
+        },
+    ),
+    (
+        "no bytes are wanted",
+        Asked {
+            bytes: b"abc",
+            reading_fails: false,
+            writing_fails: false,
+            request: Request { want: 0, ..HELLO },
+            shown: b"\n",
+            told: b"",
+            status: Status::Done,
+        },
+    ),
+    (
+        "too few bytes come",
+        Asked {
+            bytes: b"abc",
+            reading_fails: false,
+            writing_fails: false,
+            request: HELLO,
+            shown: b"",
+            told: b"remoted: 3 bytes came\n",
+            status: Status::TooFew(3),
+        },
+    ),
+    (
+        "the turns are over",
+        Asked {
+            bytes: b"abcdef",
+            reading_fails: false,
+            writing_fails: false,
+            request: Request { turns: 2, ..HELLO },
+            shown: b"",
+            told: b"remoted: 3 bytes came\n",
+            status: Status::TooFew(3),
+        },
+    ),
+    (
+        "there are no turns",
+        Asked {
+            bytes: b"abcdef",
+            reading_fails: false,
+            writing_fails: false,
+            request: Request { turns: 0, ..HELLO },
+            shown: b"",
+            told: b"remoted: 0 bytes came\n",
+            status: Status::TooFew(0),
+        },
+    ),
+    (
+        "reading fails",
+        Asked {
+            bytes: b"abc",
+            reading_fails: true,
+            writing_fails: false,
+            request: HELLO,
+            shown: b"",
+            told: FAILED,
+            status: Status::Failed,
+        },
+    ),
+    (
+        "writing fails",
+        Asked {
+            bytes: b"abcdef",
+            reading_fails: false,
+            writing_fails: true,
+            request: HELLO,
+            shown: b"",
+            told: FAILED,
+            status: Status::Failed,
+        },
+    ),
+];
 
 #[test]
-fn no_bytes_are_wanted(rt: HostRuntime) -> Result<(), Fail> {
-    let none = Request { want: 0, ..HELLO };
-    expect(&rt, peer_of(b"abc"), none, "\n", "", Status::Done)
-}
-
-#[test]
-fn too_few_bytes_come(rt: HostRuntime) -> Result<(), Fail> {
-    let told = "remoted: 3 bytes came\n";
-    expect(&rt, peer_of(b"abc"), HELLO, "", told, Status::TooFew(3))
-}
-
-#[test]
-fn the_turns_are_over(rt: HostRuntime) -> Result<(), Fail> {
-    let short = Request { turns: 2, ..HELLO };
-    let told = "remoted: 3 bytes came\n";
-    expect(&rt, peer_of(b"abcdef"), short, "", told, Status::TooFew(3))?;
-    let none = Request { turns: 0, ..HELLO };
-    let told = "remoted: 0 bytes came\n";
-    expect(&rt, peer_of(b"abcdef"), none, "", told, Status::TooFew(0))
-}
-
-#[test]
-fn reading_fails(rt: HostRuntime) -> Result<(), Fail> {
-    let broken = Peer {
-        fails: true,
-        ..peer_of(b"abc")
-    };
-    let told = "remoted: input or output failed\n";
-    expect(&rt, broken, HELLO, "", told, Status::Failed)
-}
-
-#[test]
-fn writing_fails(rt: HostRuntime) {
-    let mut peer = peer_of(b"abcdef");
-    let mut sink = Sink {
-        taken: Vec::new(rt.alloc()),
-        is_ready: false,
-        fails: true,
-    };
-    let mut shown = Vec::new(rt.alloc());
-    let mut told = Vec::new(rt.alloc());
-    let status = probe(
-        &rt,
-        rt.alloc(),
-        HELLO,
-        &mut peer,
-        &mut sink,
-        &mut shown,
-        &mut told,
-    );
-    assert!(rt; status == Status::Failed);
-    assert!(rt; shown.is_empty());
+fn what_is_shown_and_told(rt: HostRuntime) {
+    all_hold(&rt, &rt, &CASES);
 }

@@ -1,41 +1,33 @@
+use crate::tests::cases::{Case, all_hold};
 use program_status::*;
 use std::alloc::Global;
 use std::fs;
 use std::io::{self, ErrorKind, Read};
 use std::test::*;
 
-/// How a run ended, the line that says why, and the number with which the program ends.
-type Case = (Status, &'static str, u8);
+/// How a run ended, and the number with which the program ends.
+struct Ends(Status, u8);
 
-static CASES: [Case; 5] = [
-    (Status::Done, "", 0),
-    (Status::Failed, "remoted: input or output failed\n", 1),
-    (Status::BadLine(257), "remoted: bad line 257\n", 3),
-    (Status::TooFew(0), "remoted: 0 bytes came\n", 4),
-    (Status::OutOfMemory, "remoted: out of memory\n", 5),
-];
-
-fn is_told(alloc: Global, case: &Case) -> bool {
-    let (status, line, number) = *case;
-    let mut errors = Vec::new(alloc);
-    status.tell(&mut errors).is_ok()
-        && errors.as_slice() == line.as_bytes()
-        && status.code() == number
-}
-
-/// The first of these cases that is told otherwise.
-fn first_wrong(alloc: Global, cases: &[Case]) -> Option<&'static str> {
-    for case in cases {
-        if !is_told(alloc, case) {
-            return Some(case.1);
-        }
+impl Case for Ends {
+    fn holds(&self, host: &HostRuntime, line: &str) -> bool {
+        let mut errors = Vec::new(host.alloc());
+        let told = self.0.tell(&mut errors).is_ok();
+        told && errors.as_slice() == line.as_bytes() && self.0.code() == self.1
     }
-    None
 }
+
+/// The line that says why a run ended so.
+static CASES: [(&str, Ends); 5] = [
+    ("", Ends(Status::Done, 0)),
+    ("remoted: input or output failed\n", Ends(Status::Failed, 1)),
+    ("remoted: bad line 257\n", Ends(Status::BadLine(257), 3)),
+    ("remoted: 0 bytes came\n", Ends(Status::TooFew(0), 4)),
+    ("remoted: out of memory\n", Ends(Status::OutOfMemory, 5)),
+];
 
 #[test]
 fn what_is_told_and_the_number(rt: HostRuntime) {
-    assert_eq!(rt; first_wrong(rt.alloc(), &CASES), None);
+    all_hold(&rt, &rt, &CASES);
 }
 
 fn reads(alloc: Global, text: &[u8]) -> bool {
@@ -81,43 +73,52 @@ fn an_input_that_breaks_off(rt: HostRuntime) {
     assert!(rt; breaks_off(rt.alloc()));
 }
 
-/// Whether nothing is read of the file, and that is told.
-fn is_unread(rt: &HostRuntime, file: &str, line: &[u8]) -> Result<bool, Fail> {
+/// Whether this is read of the file, or nothing, and this is told.
+fn reads_file(rt: &HostRuntime, file: &str, bytes: Option<&[u8]>, told: &[u8]) -> bool {
     let mut errors = Vec::new(rt.alloc());
-    let read = read_file(rt, file, &mut errors)?;
-    Ok(read.is_none() && errors.as_slice() == line)
-}
-
-#[test]
-fn files_that_cannot_be_read(rt: HostRuntime) -> Result<(), Fail> {
-    assert!(rt; is_unread(&rt, "no/such/file", b"remoted: cannot read no/such/file\n")?);
-    assert!(rt; is_unread(&rt, ".", b"remoted: cannot read .\n")?);
-    Ok(())
-}
-
-/// Whether these bytes are read of the file, and nothing is told.
-fn is_read(rt: &HostRuntime, file: &str, bytes: &[u8]) -> Result<bool, Fail> {
-    let mut errors = Vec::new(rt.alloc());
-    match read_file(rt, file, &mut errors)? {
-        Some(read) => Ok(read.as_slice() == bytes && errors.is_empty()),
-        None => Ok(false),
+    match read_file(rt, file, &mut errors) {
+        Ok(read) => read.as_deref() == bytes && errors.as_slice() == told,
+        Err(_) => false,
     }
 }
 
+fn reads_no_file(rt: &HostRuntime) -> bool {
+    reads_file(
+        rt,
+        "no/such/file",
+        None,
+        b"remoted: cannot read no/such/file\n",
+    ) && reads_file(rt, ".", None, b"remoted: cannot read .\n")
+}
+
 #[test]
-fn a_file(rt: HostRuntime) -> Result<(), Fail> {
-    let file = "file_of_a_test";
-    fs::write(&rt, file, b"some bytes".as_slice())?;
-    let passed = is_read(&rt, file, b"some bytes")?;
-    fs::remove_file(&rt, file)?;
-    assert!(rt; passed);
-    Ok(())
+fn files_that_cannot_be_read(rt: HostRuntime) {
+    assert!(rt; reads_no_file(&rt));
+}
+
+/// Whether a file is read as it was written. It is removed.
+fn reads_what_was_written(rt: &HostRuntime, file: &str, bytes: &[u8]) -> bool {
+    let written = fs::write(rt, file, bytes).is_ok();
+    let read = reads_file(rt, file, Some(bytes), b"");
+    let removed = fs::remove_file(rt, file).is_ok();
+    written && read && removed
+}
+
+#[test]
+fn a_file(rt: HostRuntime) {
+    assert!(rt; reads_what_was_written(&rt, "file_of_a_test", b"some bytes"));
+}
+
+fn fault_of(kind: ErrorKind) -> Fault {
+    Fault::of(&io::Error::from(kind))
+}
+
+fn tells_errors_apart() -> bool {
+    fault_of(ErrorKind::OutOfMemory) == Fault::OutOfMemory
+        && fault_of(ErrorKind::BrokenPipe) == Fault::InputOrOutput
 }
 
 #[test]
 fn errors_that_end_a_run(rt: HostRuntime) {
-    let refused = io::Error::from(ErrorKind::OutOfMemory);
-    let broken = io::Error::from(ErrorKind::BrokenPipe);
-    assert!(rt; Fault::of(&refused) == Fault::OutOfMemory);
-    assert!(rt; Fault::of(&broken) == Fault::InputOrOutput);
+    assert!(rt; tells_errors_apart());
 }

@@ -48,23 +48,40 @@ fn is_failure(event: &Event) -> bool {
     }
 }
 
-fn are_outcomes(alloc: Global, events: &mut EventReader) -> bool {
-    match (
-        events.next_event(alloc),
-        events.next_event(alloc),
-        events.next_event(alloc),
-    ) {
-        (Ok(Some(first)), Ok(Some(second)), Ok(None)) => is_exit(&first) && is_failure(&second),
+fn is_next_exit(alloc: Global, events: &mut EventReader) -> bool {
+    match events.next_event(alloc) {
+        Ok(Some(event)) => is_exit(&event),
         _ => false,
     }
 }
 
+fn is_next_failure(alloc: Global, events: &mut EventReader) -> bool {
+    match events.next_event(alloc) {
+        Ok(Some(event)) => is_failure(&event),
+        _ => false,
+    }
+}
+
+const SCRIPT: &[u8] =
+    b"exit 9 0 18446744073709551615 -2147483648 - 6f75 a/b=61 x=y=- =0000\nfail 9 0 3\n";
+
+fn reads_outcomes(alloc: Global, events: &mut EventReader) -> bool {
+    is_next_exit(alloc, events)
+        && is_next_failure(alloc, events)
+        && matches!(events.next_event(alloc), Ok(None))
+}
+
+fn is_read(alloc: Global) -> bool {
+    match parse(alloc, SCRIPT) {
+        Ok(script) => {
+            let mut events = script.events;
+            reads_outcomes(alloc, &mut events)
+        }
+        Err(_) => false,
+    }
+}
+
 #[test]
-fn outcomes(rt: HostRuntime) -> Result<(), Fail> {
-    let text = b"exit 9 0 18446744073709551615 -2147483648 - 6f75 a/b=61 x=y=- =0000\nfail 9 0 3\n";
-    let script = parse(rt.alloc(), text).ok().ok_or("a script")?;
-    let mut events = script.events;
-    let passed = are_outcomes(rt.alloc(), &mut events);
-    assert!(rt; passed);
-    Ok(())
+fn outcomes(rt: HostRuntime) {
+    assert!(rt; is_read(rt.alloc()));
 }

@@ -1,154 +1,138 @@
+use crate::tests::cases::{Case, all_hold};
 use decimals::decimal;
 use script::*;
-use std::alloc::{AllocError, Global};
+use std::alloc::AllocError;
 use std::test::*;
 
-/// The parts, each in brackets.
-fn shown(alloc: Global, parts: Parts) -> Result<Vec<u8>, AllocError> {
-    let mut shown = Vec::new(alloc);
+fn are(parts: Parts, wanted: &[&str]) -> bool {
+    let mut left = wanted;
     for part in parts {
-        shown.push(b'[')?;
-        shown.extend_from_slice(part)?;
-        shown.push(b']')?;
-    }
-    Ok(shown)
-}
-
-/// A text, and its parts.
-type Split = (&'static str, &'static str);
-
-static LINES: [Split; 6] = [
-    ("", "[]"),
-    ("a", "[a]"),
-    ("a\n", "[a][]"),
-    ("a\n\nb", "[a][][b]"),
-    ("a\r\nb", "[a\r][b]"),
-    ("\n", "[][]"),
-];
-
-/// The first of these texts that has other lines.
-fn first_other_lines(alloc: Global, splits: &[Split]) -> Result<Option<&'static str>, AllocError> {
-    for (text, wanted) in splits {
-        if shown(alloc, lines(text.as_bytes()))?.as_slice() != wanted.as_bytes() {
-            return Ok(Some(*text));
+        match left {
+            [first, rest @ ..] if part == first.as_bytes() => left = rest,
+            _ => return false,
         }
     }
-    Ok(None)
+    left.is_empty()
 }
 
-static WORDS: [Split; 5] = [
-    ("put a -", "[put][a][-]"),
-    ("put  a", "[put][][a]"),
-    (" a", "[][a]"),
-    ("a ", "[a][]"),
-    ("a\tb", "[a\tb]"),
+/// The lines of a text.
+struct Lines(&'static [&'static str]);
+
+impl Case for Lines {
+    fn holds(&self, _host: &HostRuntime, text: &str) -> bool {
+        are(lines(text.as_bytes()), self.0)
+    }
+}
+
+static LINES: [(&str, Lines); 6] = [
+    ("", Lines(&[""])),
+    ("a", Lines(&["a"])),
+    ("a\n", Lines(&["a", ""])),
+    ("a\n\nb", Lines(&["a", "", "b"])),
+    ("a\r\nb", Lines(&["a\r", "b"])),
+    ("\n", Lines(&["", ""])),
 ];
 
-/// The first of these lines that has other words.
-fn first_other_words(alloc: Global, splits: &[Split]) -> Result<Option<&'static str>, AllocError> {
-    for (line, wanted) in splits {
-        if shown(alloc, words(line.as_bytes()))?.as_slice() != wanted.as_bytes() {
-            return Ok(Some(*line));
-        }
+/// The words of a line.
+struct Words(&'static [&'static str]);
+
+impl Case for Words {
+    fn holds(&self, _host: &HostRuntime, line: &str) -> bool {
+        are(words(line.as_bytes()), self.0)
     }
-    Ok(None)
 }
+
+static WORDS: [(&str, Words); 5] = [
+    ("put a -", Words(&["put", "a", "-"])),
+    ("put  a", Words(&["put", "", "a"])),
+    (" a", Words(&["", "a"])),
+    ("a ", Words(&["a", ""])),
+    ("a\tb", Words(&["a\tb"])),
+];
 
 #[test]
-fn lines_and_words(rt: HostRuntime) -> Result<(), Fail> {
-    assert_eq!(rt; first_other_lines(rt.alloc(), &LINES)?, None);
-    assert_eq!(rt; first_other_words(rt.alloc(), &WORDS)?, None);
-    Ok(())
+fn lines_and_words(rt: HostRuntime) {
+    all_hold(&rt, &rt, &LINES);
+    all_hold(&rt, &rt, &WORDS);
 }
 
-/// A word, and the number that it writes.
-type Number = (&'static str, Option<u64>);
+/// The number that a word writes.
+struct Number(Option<u64>);
 
-static NUMBERS: [Number; 14] = [
-    ("0", Some(0)),
-    ("007", Some(7)),
-    ("1099511627776", Some(1 << 40)),
-    ("18446744073709551615", Some(u64::MAX)),
-    ("18446744073709551616", None),
+impl Case for Number {
+    fn holds(&self, _host: &HostRuntime, word: &str) -> bool {
+        decimal(word.as_bytes()) == self.0
+    }
+}
+
+static NUMBERS: [(&str, Number); 14] = [
+    ("0", Number(Some(0))),
+    ("007", Number(Some(7))),
+    ("1099511627776", Number(Some(1 << 40))),
+    ("18446744073709551615", Number(Some(u64::MAX))),
+    ("18446744073709551616", Number(None)),
     (
         "000000000000000000000000000000000000000018446744073709551615",
-        Some(u64::MAX),
+        Number(Some(u64::MAX)),
     ),
-    ("99999999999999999999999999999999999999999999", None),
-    ("", None),
-    ("+1", None),
-    ("-1", None),
-    ("1_000", None),
-    ("0x10", None),
-    ("1 ", None),
-    ("１", None),
+    ("99999999999999999999999999999999999999999999", Number(None)),
+    ("", Number(None)),
+    ("+1", Number(None)),
+    ("-1", Number(None)),
+    ("1_000", Number(None)),
+    ("0x10", Number(None)),
+    ("1 ", Number(None)),
+    ("１", Number(None)),
 ];
-
-/// The first of these words that writes another number.
-fn first_other_number(numbers: &[Number]) -> Option<&'static str> {
-    for (word, wanted) in numbers {
-        if decimal(word.as_bytes()) != *wanted {
-            return Some(*word);
-        }
-    }
-    None
-}
 
 #[test]
 fn decimal_numbers(rt: HostRuntime) {
-    assert_eq!(rt; first_other_number(&NUMBERS), None);
+    all_hold(&rt, &rt, &NUMBERS);
 }
 
-/// A word, and the bytes that it writes.
-type Bytes = (&'static str, Option<&'static [u8]>);
+/// The bytes that a word writes.
+struct Bytes(Option<&'static [u8]>);
 
-static BYTES: [Bytes; 14] = [
-    ("616263", Some(b"abc")),
-    ("00ff", Some(b"\x00\xff")),
-    ("-", Some(b"")),
-    ("", None),
-    ("6", None),
-    ("616", None),
-    ("6A", None),
-    ("FF", None),
-    ("6g", None),
-    ("--", None),
-    ("-6", None),
-    ("0x61", None),
-    ("61 ", None),
-    ("６１", None),
-];
-
-fn writes(alloc: Global, word: &str, wanted: Option<&[u8]>) -> Result<bool, AllocError> {
-    match (hex_bytes(alloc, word.as_bytes())?, wanted) {
-        (Some(read), Some(bytes)) => Ok(read.as_slice() == bytes),
-        (None, None) => Ok(true),
-        _ => Ok(false),
-    }
-}
-
-/// The first of these words that writes other bytes.
-fn first_other_bytes(alloc: Global, cases: &[Bytes]) -> Result<Option<&'static str>, AllocError> {
-    for (word, wanted) in cases {
-        if !writes(alloc, word, *wanted)? {
-            return Ok(Some(*word));
+impl Case for Bytes {
+    fn holds(&self, host: &HostRuntime, word: &str) -> bool {
+        match hex_bytes(host.alloc(), word.as_bytes()) {
+            Ok(read) => read.as_deref() == self.0,
+            Err(_) => false,
         }
     }
-    Ok(None)
 }
 
-#[test]
-fn bytes_in_hexadecimal(rt: HostRuntime) -> Result<(), Fail> {
-    assert_eq!(rt; first_other_bytes(rt.alloc(), &BYTES)?, None);
-    Ok(())
-}
+static BYTES: [(&str, Bytes); 14] = [
+    ("616263", Bytes(Some(b"abc"))),
+    ("00ff", Bytes(Some(b"\x00\xff"))),
+    ("-", Bytes(Some(b""))),
+    ("", Bytes(None)),
+    ("6", Bytes(None)),
+    ("616", Bytes(None)),
+    ("6A", Bytes(None)),
+    ("FF", Bytes(None)),
+    ("6g", Bytes(None)),
+    ("--", Bytes(None)),
+    ("-6", Bytes(None)),
+    ("0x61", Bytes(None)),
+    ("61 ", Bytes(None)),
+    ("６１", Bytes(None)),
+];
 
 #[test]
-fn bytes_are_written(rt: HostRuntime) -> Result<(), Fail> {
-    let mut out = Vec::new(rt.alloc());
-    write_hex(&mut out, b"")?;
+fn bytes_in_hexadecimal(rt: HostRuntime) {
+    all_hold(&rt, &rt, &BYTES);
+}
+
+fn write(out: &mut Vec<u8>) -> Result<(), AllocError> {
+    write_hex(out, b"")?;
     out.push(b' ')?;
-    write_hex(&mut out, &[0, 10, 171, 255])?;
-    assert_eq!(rt; out.as_slice(), b"- 000aabff".as_slice());
-    Ok(())
+    write_hex(out, &[0, 10, 171, 255])
+}
+
+#[test]
+fn bytes_are_written(rt: HostRuntime) {
+    let mut out = Vec::new(rt.alloc());
+    let written = write(&mut out).is_ok();
+    assert!(rt; written && out.as_slice() == b"- 000aabff".as_slice());
 }

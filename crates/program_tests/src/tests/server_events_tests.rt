@@ -1,3 +1,4 @@
+use crate::tests::cases::{Case, all_hold};
 use server_events::*;
 use std::alloc::{AllocError, Global};
 use std::test::*;
@@ -36,49 +37,71 @@ fn told(fault: ConfigFault) -> Told {
     }
 }
 
-/// Instances, and their fault.
-type Case = (&'static [Wanted], Option<Told>);
+fn told_of(fault: Option<ConfigFault>) -> Option<Told> {
+    match fault {
+        Some(fault) => Some(told(fault)),
+        None => None,
+    }
+}
 
-static CASES: [Case; 9] = [
-    (&[], None),
-    (&[("a", 0, 0), ("b", 1 << 40, 64)], None),
-    (&[("a", 1, 1), ("A", u64::MAX, u32::MAX)], Some(("name", 1))),
-    (&[("blobs", 1, 1), ("", 1, 1)], Some(("name", 0))),
-    (&[("a", (1 << 40) + 1, 65)], Some(("quota", 0))),
-    (&[("a", 1, 1), ("a", 1, 65)], Some(("slots", 1))),
+/// Instances, and their fault.
+struct Configured(&'static [Wanted], Option<Told>);
+
+impl Case for Configured {
+    fn holds(&self, host: &HostRuntime, _name: &str) -> bool {
+        match configs(host.alloc(), self.0) {
+            Ok(configs) => told_of(Configs::new(configs).err()) == self.1,
+            Err(_) => false,
+        }
+    }
+}
+
+static CASES: [(&str, Configured); 9] = [
+    ("none", Configured(&[], None)),
     (
-        &[("a", 1, 1), ("b", 1, 1), ("a", 2, 2)],
-        Some(("duplicate", 2)),
+        "least and most",
+        Configured(&[("a", 0, 0), ("b", 1 << 40, 64)], None),
+    ),
+    (
+        "a name with a capital",
+        Configured(&[("a", 1, 1), ("A", u64::MAX, u32::MAX)], Some(("name", 1))),
+    ),
+    (
+        "a word of resource names",
+        Configured(&[("blobs", 1, 1), ("", 1, 1)], Some(("name", 0))),
+    ),
+    (
+        "a quota and slots",
+        Configured(&[("a", (1 << 40) + 1, 65)], Some(("quota", 0))),
+    ),
+    (
+        "slots and a name once more",
+        Configured(&[("a", 1, 1), ("a", 1, 65)], Some(("slots", 1))),
+    ),
+    (
+        "a name once more",
+        Configured(
+            &[("a", 1, 1), ("b", 1, 1), ("a", 2, 2)],
+            Some(("duplicate", 2)),
+        ),
     ),
     // The first instance that has a fault, whatever the later ones have.
-    (&[("a", 1, 65), ("B", 1, 1)], Some(("slots", 0))),
     (
-        &[("a", 1, 1), ("a", 1, 1), ("B", 1, 1)],
-        Some(("duplicate", 1)),
+        "slots before a name",
+        Configured(&[("a", 1, 65), ("B", 1, 1)], Some(("slots", 0))),
+    ),
+    (
+        "a name once more before another",
+        Configured(
+            &[("a", 1, 1), ("a", 1, 1), ("B", 1, 1)],
+            Some(("duplicate", 1)),
+        ),
     ),
 ];
 
-fn fault(alloc: Global, wanted: &[Wanted]) -> Result<Option<Told>, AllocError> {
-    match Configs::new(configs(alloc, wanted)?) {
-        Ok(_) => Ok(None),
-        Err(fault) => Ok(Some(told(fault))),
-    }
-}
-
-/// The first of these cases that has another fault.
-fn first_wrong(alloc: Global, cases: &[Case]) -> Result<Option<usize>, AllocError> {
-    for (index, (wanted, told)) in cases.iter().enumerate() {
-        if fault(alloc, wanted)? != *told {
-            return Ok(Some(index));
-        }
-    }
-    Ok(None)
-}
-
 #[test]
-fn faults(rt: HostRuntime) -> Result<(), Fail> {
-    assert_eq!(rt; first_wrong(rt.alloc(), &CASES)?, None);
-    Ok(())
+fn faults(rt: HostRuntime) {
+    all_hold(&rt, &rt, &CASES);
 }
 
 /// Instances of these names: 256 of their numbers, and perhaps one in front of them.
@@ -101,50 +124,51 @@ fn are_numbered(configs: &Configs) -> bool {
     }
 }
 
-fn takes_256(alloc: Global) -> Result<bool, AllocError> {
-    match Configs::new(numbered(alloc, &[])?) {
-        Ok(configs) => Ok(are_numbered(&configs)),
-        Err(_) => Ok(false),
+fn takes_256(alloc: Global) -> bool {
+    match numbered(alloc, &[]) {
+        Ok(configs) => match Configs::new(configs) {
+            Ok(configs) => are_numbered(&configs),
+            Err(_) => false,
+        },
+        Err(_) => false,
     }
 }
 
 /// There are too many before any other fault.
-fn takes_no_more(alloc: Global) -> Result<bool, AllocError> {
-    match Configs::new(numbered(alloc, &[("A", 1, 1)])?) {
-        Ok(_) => Ok(false),
-        Err(fault) => Ok(told(fault) == ("many", 0)),
+fn takes_no_more(alloc: Global) -> bool {
+    match numbered(alloc, &[("A", 1, 1)]) {
+        Ok(configs) => told_of(Configs::new(configs).err()) == Some(("many", 0)),
+        Err(_) => false,
     }
 }
 
 #[test]
-fn too_many(rt: HostRuntime) -> Result<(), Fail> {
-    assert!(rt; takes_256(rt.alloc())?);
-    assert!(rt; takes_no_more(rt.alloc())?);
-    Ok(())
+fn too_many(rt: HostRuntime) {
+    assert!(rt; takes_256(rt.alloc()) && takes_no_more(rt.alloc()));
 }
 
-/// The fault of an instance after others.
-fn fault_after(
-    alloc: Global,
-    others: &[Wanted],
-    wanted: &Wanted,
-) -> Result<Option<Told>, AllocError> {
-    let others = configs(alloc, others)?;
-    let last = config(alloc, wanted)?;
-    Ok(own_fault(&others, &last).map(told))
+/// Instances, one after them, and its fault.
+struct After(&'static [Wanted], Wanted, Option<Told>);
+
+impl Case for After {
+    fn holds(&self, host: &HostRuntime, _name: &str) -> bool {
+        match (configs(host.alloc(), self.0), config(host.alloc(), &self.1)) {
+            (Ok(others), Ok(last)) => told_of(own_fault(&others, &last)) == self.2,
+            _ => false,
+        }
+    }
 }
+
+static OWN_FAULTS: [(&str, After); 3] = [
+    ("another name", After(&[("a", 1, 1)], ("b", 1, 1), None)),
+    (
+        "the same name",
+        After(&[("a", 1, 1)], ("a", 1, 1), Some(("duplicate", 1))),
+    ),
+    ("slots", After(&[], ("a", 1, 65), Some(("slots", 0)))),
+];
 
 #[test]
-fn faults_of_one(rt: HostRuntime) -> Result<(), Fail> {
-    let first = [("a", 1, 1)];
-    assert_eq!(rt; fault_after(rt.alloc(), &first, &("b", 1, 1))?, None);
-    assert_eq!(rt;
-        fault_after(rt.alloc(), &first, &("a", 1, 1))?,
-        Some(("duplicate", 1))
-    );
-    assert_eq!(rt;
-        fault_after(rt.alloc(), &[], &("a", 1, 65))?,
-        Some(("slots", 0))
-    );
-    Ok(())
+fn faults_of_one(rt: HostRuntime) {
+    all_hold(&rt, &rt, &OWN_FAULTS);
 }

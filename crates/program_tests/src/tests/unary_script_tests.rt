@@ -1,12 +1,28 @@
+use crate::tests::cases::{Case, all_hold};
 use script::unary::*;
 use std::test::*;
 
+/// Whether a word names a method, which then has it as its name.
+struct IsMethod(bool);
+
+impl Case for IsMethod {
+    fn holds(&self, _host: &HostRuntime, name: &str) -> bool {
+        match Method::named(name.as_bytes()) {
+            Some(method) => self.0 && method.name() == name,
+            None => !self.0,
+        }
+    }
+}
+
+static METHODS: [(&str, IsMethod); 5] = [
+    ("FindMissingBlobs", IsMethod(true)),
+    ("BatchUpdateBlobs", IsMethod(true)),
+    ("BatchReadBlobs", IsMethod(true)),
+    ("GetTree", IsMethod(false)),
+    ("", IsMethod(false)),
+];
+
 #[test]
 fn methods(rt: HostRuntime) {
-    for name in ["FindMissingBlobs", "BatchUpdateBlobs", "BatchReadBlobs"] {
-        let found = Method::named(name.as_bytes());
-        assert_eq!(rt; found.map(|method| method.name()), Some(name));
-    }
-    assert!(rt; Method::named(b"GetTree").is_none());
-    assert!(rt; Method::named(b"").is_none());
+    all_hold(&rt, &rt, &METHODS);
 }

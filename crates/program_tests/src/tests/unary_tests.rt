@@ -1,5 +1,6 @@
 //! What no stored script can show: content of many megabytes, and streams that fail.
 
+use crate::tests::cases::{Case, all_hold};
 use program_status::Status;
 use std::alloc::{AllocError, Global};
 use std::io;
@@ -15,7 +16,7 @@ fn prints(alloc: Global, script: &[u8], printed: &[u8]) -> bool {
     ended == Status::Done && written.as_slice() == printed && told.is_empty()
 }
 
-/// Calls of BatchUpdateBlobs with one blob of zero bytes under its digest.
+/// A call of BatchUpdateBlobs with one blob of zero bytes under its digest.
 struct Upload {
     /// How many digits the blob is written in.
     digits: usize,
@@ -25,36 +26,51 @@ struct Upload {
     printed: &'static str,
 }
 
-static UPLOADS: [Upload; 2] = [
-    // As many bytes as a batch may have.
-    Upload {
-        digits: 8_000_000,
-        front: "12ce92f4010a470a4038646265356631333966643934366434636438346538636336313263643966363863626338376533393434353738383461636330633564616435366464386464108092f401128092f401",
-        printed: "ok 0a4b0a470a4038646265356631333966643934366434636438346538636336313263643966363863626338376533393434353738383461636330633564616435366464386464108092f4011200\n",
-    },
-    Upload {
-        digits: 8_000_002,
-        front: "12cf92f4010a470a4038386635633264653530373831316661326132343437303632323638306438623664366135646633666435643934623362323666643131366661663534306534108192f401128192f401",
-        printed: "status 3 batch too large\n",
-    },
-];
-
-fn is_printed(alloc: Global, upload: &Upload) -> Result<bool, AllocError> {
-    let zeros = vec![in alloc; b'0'; upload.digits]?;
-    let mut script = Vec::new(alloc);
+fn write_upload(script: &mut Vec<u8>, upload: &Upload, zeros: &[u8]) -> Result<(), AllocError> {
     script.extend_from_slice(b"instance a 10000000\ncall a BatchUpdateBlobs ")?;
     script.extend_from_slice(upload.front.as_bytes())?;
-    script.extend_from_slice(&zeros)?;
-    script.push(b'\n')?;
-    Ok(prints(alloc, &script, upload.printed.as_bytes()))
+    script.extend_from_slice(zeros)?;
+    script.extend_from_slice(b"\n")
 }
 
-#[test]
-fn the_largest_batch_and_a_larger_one(rt: HostRuntime) -> Result<(), Fail> {
-    for upload in &UPLOADS {
-        assert!(rt; is_printed(rt.alloc(), upload)?);
+fn script_of(alloc: Global, upload: &Upload) -> Result<Vec<u8>, AllocError> {
+    let zeros = vec![in alloc; b'0'; upload.digits]?;
+    let mut script = Vec::new(alloc);
+    write_upload(&mut script, upload, &zeros)?;
+    Ok(script)
+}
+
+impl Case for Upload {
+    fn holds(&self, host: &HostRuntime, _name: &str) -> bool {
+        match script_of(host.alloc(), self) {
+            Ok(script) => prints(host.alloc(), &script, self.printed.as_bytes()),
+            Err(_) => false,
+        }
     }
-    Ok(())
+}
+
+static UPLOADS: [(&str, Upload); 2] = [
+    (
+        "as many bytes as a batch may have",
+        Upload {
+            digits: 8_000_000,
+            front: "12ce92f4010a470a4038646265356631333966643934366434636438346538636336313263643966363863626338376533393434353738383461636330633564616435366464386464108092f401128092f401",
+            printed: "ok 0a4b0a470a4038646265356631333966643934366434636438346538636336313263643966363863626338376533393434353738383461636330633564616435366464386464108092f4011200\n",
+        },
+    ),
+    (
+        "one byte more",
+        Upload {
+            digits: 8_000_002,
+            front: "12cf92f4010a470a4038386635633264653530373831316661326132343437303632323638306438623664366135646633666435643934623362323666643131366661663534306534108192f401128192f401",
+            printed: "status 3 batch too large\n",
+        },
+    ),
+];
+
+#[test]
+fn the_largest_batch_and_a_larger_one(rt: HostRuntime) {
+    all_hold(&rt, &rt, &UPLOADS);
 }
 
 /// A reader, and a writer, that always fail.
@@ -99,9 +115,13 @@ fn fails_where_nothing_can_be_told(alloc: Global) -> bool {
     unary(alloc, &mut bad, &mut written, &mut Broken) == Status::Failed
 }
 
+fn tells_of_broken_streams(alloc: Global) -> bool {
+    tells_of_a_broken_reader(alloc)
+        && tells_of_a_broken_writer(alloc)
+        && fails_where_nothing_can_be_told(alloc)
+}
+
 #[test]
 fn streams_that_fail(rt: HostRuntime) {
-    assert!(rt; tells_of_a_broken_reader(rt.alloc()));
-    assert!(rt; tells_of_a_broken_writer(rt.alloc()));
-    assert!(rt; fails_where_nothing_can_be_told(rt.alloc()));
+    assert!(rt; tells_of_broken_streams(rt.alloc()));
 }

@@ -171,11 +171,10 @@ fn call_and_answer(connection: &mut Connection, all: &mut Vec<u8>) -> Result<(),
     Ok(())
 }
 
-#[test]
-fn a_call_and_its_answer(rt: HostRuntime) -> Result<(), Fail> {
-    let mut all = Vec::new(rt.alloc());
-    let mut connection = Connection::new(rt.alloc())?;
-    let done = call_and_answer(&mut connection, &mut all);
+fn is_answered(connection: &mut Connection, all: &mut Vec<u8>) -> bool
+    requires { (texts : Look) → Fit texts connection.old.sending.queues }
+{
+    let done = call_and_answer(connection, all).is_ok();
     let pending = connection.pending();
     let answered = pending.starts_with(ANSWERS)
         && pending.ends_with(TRAILERS)
@@ -185,11 +184,10 @@ fn a_call_and_its_answer(rt: HostRuntime) -> Result<(), Fail> {
         connection.took(1);
     }
     let taken = connection.pending().len();
-    drop(connection);
-    assert!(rt; done.is_ok() && answered && !ended);
-    assert_eq!(rt; taken + 1, ANSWERS.len() + MESSAGE.len() + TRAILERS.len());
-    assert_eq!(rt; all.as_slice(), b"..H.ME".as_slice());
-    Ok(())
+    done && answered
+        && !ended
+        && taken + 1 == ANSWERS.len() + MESSAGE.len() + TRAILERS.len()
+        && all.as_slice() == b"..H.ME".as_slice()
 }
 
 /// Two messages, then a fault; behind it the stream's reset alone is told.
@@ -202,28 +200,18 @@ const MESSAGES_AND_A_FAULT: &[&[u8]] = &[
     b"\x00\x00\x04\x03\x00\x00\x00\x00\x01\x00\x00\x00\x08",
 ];
 
-#[test]
-fn events_of_a_call(rt: HostRuntime) -> Result<(), Fail> {
-    let mut all = Vec::new(rt.alloc());
-    let mut connection = Connection::new(rt.alloc())?;
-    let done = receive_all(&mut connection, MESSAGES_AND_A_FAULT, &mut all);
-    let left = connection.pop_call();
-    drop(connection);
-    assert!(rt; done.is_ok() && left == None);
-    assert_eq!(rt; all.as_slice(), b"..H.MM.c..C".as_slice());
-    Ok(())
+fn has_events(connection: &mut Connection, all: &mut Vec<u8>) -> bool
+    requires { (texts : Look) → Fit texts connection.old.sending.queues }
+{
+    let done = receive_all(connection, MESSAGES_AND_A_FAULT, all).is_ok();
+    done && connection.pop_call() == None && all.as_slice() == b"..H.MM.c..C".as_slice()
 }
 
-#[test]
-fn calls_of_a_connection_that_closes(rt: HostRuntime) -> Result<(), Fail> {
-    let mut all = Vec::new(rt.alloc());
-    let mut connection = Connection::new(rt.alloc())?;
-    let done = receive_all(&mut connection, &[PREFACE, HEADERS], &mut all);
-    let first = connection.pop_call();
-    let second = connection.pop_call();
-    drop(connection);
-    assert!(rt; done.is_ok() && first == Some(1) && second == None);
-    Ok(())
+fn gives_its_calls(connection: &mut Connection, all: &mut Vec<u8>) -> bool
+    requires { (texts : Look) → Fit texts connection.old.sending.queues }
+{
+    let done = receive_all(connection, &[PREFACE, HEADERS], all).is_ok();
+    done && connection.pop_call() == Some(1) && connection.pop_call() == None
 }
 
 /// After these pings there is room for no further answer.
@@ -239,17 +227,61 @@ fn fill(connection: &mut Connection, all: &mut Vec<u8>) -> Result<(), AllocError
     receive(connection, PING, all)
 }
 
+fn is_filled(connection: &mut Connection, all: &mut Vec<u8>) -> bool
+    requires { (texts : Look) → Fit texts connection.old.sending.queues }
+{
+    let done = fill(connection, all).is_ok();
+    done && connection.ended()
+        && connection.pending().ends_with(GOAWAY)
+        && connection.pending().len() == 15 + 9 + 7707 * 17 + GOAWAY.len()
+        && all.as_slice() == b".C".as_slice()
+}
+
+/// What a connection goes through.
+#[derive(Clone, Copy)]
+enum Scenario {
+    CallAndAnswer,
+    MessagesAndFault,
+    Closing,
+    Filling,
+}
+
+fn goes(connection: &mut Connection, all: &mut Vec<u8>, scenario: Scenario) -> bool
+    requires { (texts : Look) → Fit texts connection.old.sending.queues }
+{
+    match scenario {
+        Scenario::CallAndAnswer => is_answered(connection, all),
+        Scenario::MessagesAndFault => has_events(connection, all),
+        Scenario::Closing => gives_its_calls(connection, all),
+        Scenario::Filling => is_filled(connection, all),
+    }
+}
+
+/// Whether a new connection goes through that as it should.
+fn passes(alloc: Global, scenario: Scenario) -> bool {
+    let mut all = Vec::new(alloc);
+    match Connection::new(alloc) {
+        Ok(mut connection) => goes(&mut connection, &mut all, scenario),
+        Err(_) => false,
+    }
+}
+
 #[test]
-fn an_answer_that_does_not_fit(rt: HostRuntime) -> Result<(), Fail> {
-    let mut all = Vec::new(rt.alloc());
-    let mut connection = Connection::new(rt.alloc())?;
-    let done = fill(&mut connection, &mut all);
-    let ended = connection.ended();
-    let told = connection.pending().ends_with(GOAWAY);
-    let waiting = connection.pending().len();
-    drop(connection);
-    assert!(rt; done.is_ok() && ended && told);
-    assert_eq!(rt; waiting, 15 + 9 + 7707 * 17 + GOAWAY.len());
-    assert_eq!(rt; all.as_slice(), b".C".as_slice());
-    Ok(())
+fn a_call_and_its_answer(rt: HostRuntime) {
+    assert!(rt; passes(rt.alloc(), Scenario::CallAndAnswer));
+}
+
+#[test]
+fn events_of_a_call(rt: HostRuntime) {
+    assert!(rt; passes(rt.alloc(), Scenario::MessagesAndFault));
+}
+
+#[test]
+fn calls_of_a_connection_that_closes(rt: HostRuntime) {
+    assert!(rt; passes(rt.alloc(), Scenario::Closing));
+}
+
+#[test]
+fn an_answer_that_does_not_fit(rt: HostRuntime) {
+    assert!(rt; passes(rt.alloc(), Scenario::Filling));
 }

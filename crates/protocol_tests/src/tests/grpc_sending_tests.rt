@@ -17,10 +17,10 @@ const ENDED: &[u8] = b"\x00\x00\x03\x01\x05\x00\x00\x00\x01\x83\x86\x84";
 
 const NOT_ENDED: &[u8] = b"\x00\x00\x03\x01\x04\x00\x00\x00\x01\x83\x86\x84";
 
-fn receive(alloc: Global, streams: &mut Streams, bytes: &[u8]) -> Result<(), Fail> {
-    let mut reader = FrameReader::without_preface(alloc);
-    let piece = Vec::from_slice(alloc, bytes)?;
-    reader.feed(piece).ok().ok_or("memory")?;
+fn read(streams: &mut Streams, reader: &mut FrameReader, piece: Vec<u8>) -> bool {
+    if reader.feed(piece).is_err() {
+        return false;
+    }
     for _ in 0..9 {
         match reader.find() {
             Ok(true) => {
@@ -30,14 +30,16 @@ fn receive(alloc: Global, streams: &mut Streams, bytes: &[u8]) -> Result<(), Fai
             _ => break,
         }
     }
-    Ok(())
+    true
 }
 
-fn with_request(alloc: Global, request: &[u8]) -> Result<Streams, Fail> {
-    let mut streams = Streams::new(alloc)?;
-    receive(alloc, &mut streams, SETTINGS)?;
-    receive(alloc, &mut streams, request)?;
-    Ok(streams)
+/// Gives the streams the frames of these bytes, unless memory is refused.
+fn receive(alloc: Global, streams: &mut Streams, bytes: &[u8]) -> bool {
+    let mut reader = FrameReader::without_preface(alloc);
+    match Vec::from_slice(alloc, bytes) {
+        Ok(piece) => read(streams, &mut reader, piece),
+        Err(_) => false,
+    }
 }
 
 const RESPONSE: &[u8] = b"\x00\x00\x15\x01\x04\x00\x00\x00\x01\x20\x88\x0f\x10\x10application/grpc\
@@ -102,50 +104,24 @@ fn gives(sender: &mut Sender, wanted: &[u8]) -> bool {
     sender.pending().is_empty()
 }
 
-fn sends_response(
-    alloc: Global,
-    streams: &mut Streams,
-    sender: &mut Sender,
-) -> Result<bool, AllocError>
+fn sends_response(alloc: Global, streams: &mut Streams, sender: &mut Sender) -> bool
     requires { (texts : Look) → Fit texts sender.old.queues }
 {
-    owe_response(alloc, streams, sender)?;
+    let owed = owe_response(alloc, streams, sender).is_ok();
     pump(streams, sender);
-    Ok(gives(sender, RESPONSE) && streams.live().is_empty())
-}
-
-#[test]
-fn a_whole_response(rt: HostRuntime) -> Result<(), Fail> {
-    let mut streams = with_request(rt.alloc(), ENDED)?;
-    let mut sender = Sender::new(rt.alloc())?;
-    let passed = sends_response(rt.alloc(), &mut streams, &mut sender);
-    drop(sender);
-    drop(streams);
-    assert!(rt; passed?);
-    Ok(())
+    owed && gives(sender, RESPONSE) && streams.live().is_empty()
 }
 
 const REFUSAL: &[u8] = b"\x00\x00\x06\x01\x05\x00\x00\x00\x01\x20\x08\x03405\
     \x00\x00\x04\x03\x00\x00\x00\x00\x01\x00\x00\x00\x00";
 
-fn sends_refusal(streams: &mut Streams, sender: &mut Sender) -> Result<bool, AllocError>
+/// The client has not ended the stream, so it is reset after its response.
+fn sends_refusal(streams: &mut Streams, sender: &mut Sender) -> bool
     requires { (texts : Look) → Fit texts sender.old.queues }
 {
-    owe_block(streams, sender, ResponseBlock::MethodNotAllowed)?;
+    let owed = owe_block(streams, sender, ResponseBlock::MethodNotAllowed).is_ok();
     pump(streams, sender);
-    Ok(sender.pending() == REFUSAL)
-}
-
-/// The client has not ended the stream, so it is reset after its response.
-#[test]
-fn a_response_before_the_end(rt: HostRuntime) -> Result<(), Fail> {
-    let mut streams = with_request(rt.alloc(), NOT_ENDED)?;
-    let mut sender = Sender::new(rt.alloc())?;
-    let passed = sends_refusal(&mut streams, &mut sender);
-    drop(sender);
-    drop(streams);
-    assert!(rt; passed?);
-    Ok(())
+    owed && sender.pending() == REFUSAL
 }
 
 /// The length of the next frame's payload.
@@ -160,21 +136,25 @@ fn next_length(reader: &mut FrameReader) -> Option<usize> {
     }
 }
 
-/// Whether these are the lengths of the frames of these bytes.
-fn has_lengths(alloc: Global, bytes: &[u8], wanted: &[usize]) -> bool {
-    let mut reader = FrameReader::without_preface(alloc);
-    let Ok(piece) = Vec::from_slice(alloc, bytes) else {
-        return false;
-    };
+fn reads_lengths(reader: &mut FrameReader, piece: Vec<u8>, wanted: &[usize]) -> bool {
     if reader.feed(piece).is_err() {
         return false;
     }
     for length in wanted {
-        if next_length(&mut reader) != Some(*length) {
+        if next_length(reader) != Some(*length) {
             return false;
         }
     }
-    next_length(&mut reader).is_none()
+    next_length(reader).is_none()
+}
+
+/// Whether these are the lengths of the frames of these bytes.
+fn has_lengths(alloc: Global, bytes: &[u8], wanted: &[usize]) -> bool {
+    let mut reader = FrameReader::without_preface(alloc);
+    match Vec::from_slice(alloc, bytes) {
+        Ok(piece) => reads_lengths(&mut reader, piece, wanted),
+        Err(_) => false,
+    }
 }
 
 /// Owes a message of 100,000 bytes and an end on stream 1.
@@ -192,29 +172,64 @@ fn owe_large(alloc: Global, streams: &Streams, sender: &mut Sender) -> Result<()
 const UPDATES: &[u8] =
     b"\x00\x00\x04\x08\x00\x00\x00\x00\x00\x00\x00\x86\xb3\x00\x00\x04\x08\x00\x00\x00\x00\x01\x00\x00\x86\xb3";
 
-fn sends_large(alloc: Global, streams: &mut Streams, sender: &mut Sender) -> Result<bool, Fail>
+/// With the default windows of 65,535 bytes.
+fn sends_large(alloc: Global, streams: &mut Streams, sender: &mut Sender) -> bool
     requires { (texts : Look) → Fit texts sender.old.queues }
 {
-    owe_large(alloc, streams, sender)?;
+    let owed = owe_large(alloc, streams, sender).is_ok();
     pump(streams, sender);
     let first = has_lengths(alloc, sender.pending(), &[16384, 16384, 16384, 16383]);
     take_all(sender);
-    receive(alloc, streams, UPDATES)?;
+    let received = receive(alloc, streams, UPDATES);
     pump(streams, sender);
     let second = has_lengths(alloc, sender.pending(), &[16384, 16384, 1702, 45]);
-    Ok(first && second)
+    owed && first && received && second
 }
 
-/// With the default windows of 65,535 bytes.
+/// What is sent on stream 1.
+#[derive(Clone, Copy)]
+enum Sent {
+    Response,
+    Refusal,
+    Large,
+}
+
+fn sends(alloc: Global, streams: &mut Streams, sender: &mut Sender, sent: Sent) -> bool
+    requires { (texts : Look) → Fit texts sender.old.queues }
+{
+    match sent {
+        Sent::Response => sends_response(alloc, streams, sender),
+        Sent::Refusal => sends_refusal(streams, sender),
+        Sent::Large => sends_large(alloc, streams, sender),
+    }
+}
+
+/// Whether that is sent after this request as it should be.
+fn passes(alloc: Global, request: &[u8], sent: Sent) -> bool {
+    let Ok(mut streams) = Streams::new(alloc) else {
+        return false;
+    };
+    let Ok(mut sender) = Sender::new(alloc) else {
+        return false;
+    };
+    receive(alloc, &mut streams, SETTINGS)
+        && receive(alloc, &mut streams, request)
+        && sends(alloc, &mut streams, &mut sender, sent)
+}
+
 #[test]
-fn as_much_as_the_windows_take(rt: HostRuntime) -> Result<(), Fail> {
-    let mut streams = with_request(rt.alloc(), ENDED)?;
-    let mut sender = Sender::new(rt.alloc())?;
-    let passed = sends_large(rt.alloc(), &mut streams, &mut sender);
-    drop(sender);
-    drop(streams);
-    assert!(rt; passed?);
-    Ok(())
+fn a_whole_response(rt: HostRuntime) {
+    assert!(rt; passes(rt.alloc(), ENDED, Sent::Response));
+}
+
+#[test]
+fn a_response_before_the_end(rt: HostRuntime) {
+    assert!(rt; passes(rt.alloc(), NOT_ENDED, Sent::Refusal));
+}
+
+#[test]
+fn as_much_as_the_windows_take(rt: HostRuntime) {
+    assert!(rt; passes(rt.alloc(), ENDED, Sent::Large));
 }
 
 /// Puts answers to PING as long as there is room for control frames, and tells how many.
@@ -253,15 +268,19 @@ fn puts_one_more(sender: &mut Sender) -> bool {
     sender.pending().len() == all
 }
 
-#[test]
-fn control_frames(rt: HostRuntime) -> Result<(), Fail> {
-    let mut sender = Sender::new(rt.alloc())?;
+fn controls(alloc: Global) -> bool {
+    let Ok(mut sender) = Sender::new(alloc) else {
+        return false;
+    };
     let count = puts_pings(&mut sender);
     let all = sender.pending().len();
     let more = puts_one_more(&mut sender);
     sender.forget(1);
     sender.forget_all();
-    drop(sender);
-    assert!(rt; count == 7709 && all == 131_053 && more);
-    Ok(())
+    count == 7709 && all == 131_053 && more
+}
+
+#[test]
+fn control_frames(rt: HostRuntime) {
+    assert!(rt; controls(rt.alloc()));
 }

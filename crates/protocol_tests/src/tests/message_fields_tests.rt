@@ -84,14 +84,14 @@ fn write_fields(writer: &mut Writer) -> Result<(), AllocError> {
     put_int64(writer, 7, 3)
 }
 
+const FIELDS: &[u8] =
+    b"\x0a\x0d\x01\x8e\x02\xff\xff\xff\xff\xff\xff\xff\xff\xff\x01\x12\x01a\x12\x00\x18\x01\x22\x01b\x30\xfe\xff\xff\xff\xff\xff\xff\xff\xff\x01\x38\x03";
+
 #[test]
-fn writes_fields(rt: HostRuntime) -> Result<(), Fail> {
+fn writes_fields(rt: HostRuntime) {
     let mut writer = Writer::new(rt.alloc());
-    write_fields(&mut writer)?;
-    let wanted =
-        b"\x0a\x0d\x01\x8e\x02\xff\xff\xff\xff\xff\xff\xff\xff\xff\x01\x12\x01a\x12\x00\x18\x01\x22\x01b\x30\xfe\xff\xff\xff\xff\xff\xff\xff\xff\x01\x38\x03";
-    assert_eq!(rt; writer.as_bytes(), wanted.as_slice());
-    Ok(())
+    let written = write_fields(&mut writer).is_ok();
+    assert!(rt; written && writer.as_bytes() == FIELDS);
 }
 
 /// A message of one number.
@@ -154,20 +154,23 @@ fn reads_sizes(alloc: Global) -> bool {
     }
 }
 
-fn is_written_again(alloc: Global) -> Result<bool, AllocError> {
+fn is_written_again(alloc: Global) -> bool {
     let Ok(decoded) = Size::decode(alloc, b"\x08\x09") else {
-        return Ok(false);
+        return false;
     };
-    let out = decoded.encode(alloc)?;
-    Ok(out.as_slice() == b"\x08\x09".as_slice())
+    match decoded.encode(alloc) {
+        Ok(out) => out.as_slice() == b"\x08\x09".as_slice(),
+        Err(_) => false,
+    }
+}
+
+fn are_written(alloc: Global) -> bool {
+    let mut writer = Writer::new(alloc);
+    write_sizes(&mut writer).is_ok() && writer.as_bytes() == SIZES
 }
 
 #[test]
-fn embeds_messages(rt: HostRuntime) -> Result<(), Fail> {
-    let mut writer = Writer::new(rt.alloc());
-    write_sizes(&mut writer)?;
-    assert_eq!(rt; writer.as_bytes(), SIZES);
-    assert!(rt; reads_sizes(rt.alloc()));
-    assert!(rt; is_written_again(rt.alloc())?);
-    Ok(())
+fn embeds_messages(rt: HostRuntime) {
+    assert!(rt; are_written(rt.alloc()));
+    assert!(rt; reads_sizes(rt.alloc()) && is_written_again(rt.alloc()));
 }

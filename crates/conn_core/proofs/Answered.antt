@@ -92,7 +92,7 @@ entries_caused d f a h = ap (λ (r : Result StreamEvent ErrorCode). In f ∷ map
 
 -- ---- the streams
 
-both : (a b : Bool) → a ≡ true → b ≡ true → (a && b) ≡ true
+pub both : (a b : Bool) → a ≡ true → b ≡ true → (a && b) ≡ true
 both true b h k = k
 both false b h k = cc
 

@@ -18,8 +18,7 @@ use Rattle.grpc_calls.specs.Requests.{head_of}
 use Rattle.grpc_sending.proofs.Histories.{append-nil}
 use Rattle.conn_core.specs.declared.call.Call.{Call}
 use Rattle.conn_core.specs.Calls.{is_call, stream_text, messages_of}
-use Rattle.conn_core.specs.StandsFor.{IsCall, call_on, stream_of, members_of}
-use Rattle.conn_core.specs.CallSteps.{KeepsOpen}
+use Rattle.conn_core.specs.StandsFor.{IsCall, KeepsOpen, call_on, stream_of, members_of}
 use Rattle.conn_core.specs.Step.{ChangesStreams}
 use Rattle.conn_core.proofs.Numbers.{or_none, any_later, filter_agree, filter_less, filter-append, same_number}
 use Rattle.conn_core.proofs.Places.{kept_on, none_kept, kept_streams, more_on, last_on, not_among}
@@ -100,7 +99,7 @@ pub record IsThinned (d : List Entry) (cs kept : List Call) : Type 0 where
 any_grows : (d e : List Entry) (s t : ℕ) → live_streams e ≡ live_streams d ++ s ∷ [] → list_any (λ u. u == t) (live_streams d) ≡ true → list_any (λ u. u == t) (live_streams e) ≡ true
 any_grows d e s t lives h = ap (list_any (λ u. u == t)) lives ∙ any_last (live_streams d) s t ∙ ap (λ b. b || (s == t)) h
 
-none_left : (d : List Entry) (cs kept : List Call) (t : ℕ) (o : Kept) → call_on t cs ≡ o → IsCall d t o → (is_call d t ≡ true → ⊥) → (call_on t cs ≡ None → call_on t kept ≡ None) → call_on t kept ≡ call_on t cs
+pub none_left : (d : List Entry) (cs kept : List Call) (t : ℕ) (o : Kept) → call_on t cs ≡ o → IsCall d t o → (is_call d t ≡ true → ⊥) → (call_on t cs ≡ None → call_on t kept ≡ None) → call_on t kept ≡ call_on t cs
 none_left d cs kept t None at call never nothing = nothing at ∙ sym at
 none_left d cs kept t (Some m) at call never nothing = absurd (never call.0)
 

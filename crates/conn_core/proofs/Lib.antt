@@ -16,5 +16,6 @@ pub mod Putting
 pub mod Answered
 pub mod Ends
 pub mod Frames
+pub mod Closed
 mod Looks
 mod Readers

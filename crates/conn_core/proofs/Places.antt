@@ -13,8 +13,8 @@ use Rattle.conn_core.specs.declared.call.Call.{Call}
 use Rattle.conn_core.specs.declared.event.CallEvent.{CallEvent}
 use Rattle.conn_core.specs.declared.event.CallEvent.TheVariants.{Head}
 use Rattle.conn_core.specs.Calls.{messages_of, events_of_content}
-use Rattle.conn_core.specs.StandsFor.{call_on, stream_of}
-use Rattle.conn_core.specs.CallSteps.{place_of, TakesOn, BeginsCall, KeepsOpen, has_call}
+use Rattle.conn_core.specs.StandsFor.{KeepsOpen, call_on, stream_of}
+use Rattle.conn_core.specs.CallSteps.{place_of, TakesOn, BeginsCall, has_call}
 use Rattle.conn_core.proofs.Takes.{Took}
 
 -- ---- the first call of a stream

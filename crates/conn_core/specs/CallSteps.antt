@@ -1,10 +1,9 @@
 -- What one step does to the calls that are kept. For the code alone: no public contract speaks of
 -- it.
-use Rattle.std.specs.Prelude.{◌≡◌, ◌==◌, ℕ, suc, if◌then◌else◌, Bool, false, not, List, [], ◌∷◌, ◌++◌, map, filter, Some, None, Result, ◌⊎◌}
+use Rattle.std.specs.Prelude.{◌≡◌, ◌==◌, ℕ, suc, if◌then◌else◌, Bool, false, not, List, [], ◌∷◌, ◌++◌, map, filter, Some, None, Result}
 use Rattle.std.specs.List.{list_any}
 use Rattle.std.specs.Result.{is_ok}
 use Rattle.http2_streams.specs.declared.stream.Stream.{Stream}
-use Rattle.http2_streams.specs.Rules.{number_is}
 use Rattle.grpc_messages.specs.declared.error.MessagesError.{MessagesError}
 use Rattle.grpc_messages.specs.Reader.{StandsFor as AreMessages}
 use Rattle.rpc.specs.declared.method.Method.{Method}
@@ -12,7 +11,7 @@ use Rattle.conn_core.specs.declared.call.Call.{Call}
 use Rattle.conn_core.specs.declared.event.CallEvent.{CallEvent}
 use Rattle.conn_core.specs.declared.event.CallEvent.TheVariants.{Head, Message, Cancel}
 use Rattle.conn_core.specs.Calls.{message_limit, messages_of, events_behind_messages, events_of_content}
-use Rattle.conn_core.specs.StandsFor.{call_on, stream_of}
+use Rattle.conn_core.specs.StandsFor.{KeepsOpen, call_on, stream_of}
 
 -- ---- the text of one call
 
@@ -53,13 +52,6 @@ pub record TakesOn (s : ℕ) (content : List ℕ) (end_stream : Bool) (old new :
   pub call : (u : List ℕ) → call_on s old ≡ Some (messages_of u).end →
       (call_on s new ≡ Some (messages_of (u ++ content)).end)
       × (after ≡ before ++ events_of_content s u content end_stream)
-
-abbrev pub has_live_stream : List Stream → Call → Bool
-has_live_stream live c = list_any (number_is c.stream) live
-
--- all, or those on live streams
-abbrev pub KeepsOpen : List Stream → List Call → List Call → Type 0
-KeepsOpen live old new = (new ≡ old) ⊎ (new ≡ filter (has_live_stream live) old)
 
 pub record BeginsCall (s : ℕ) (method : Method) (end_stream : Bool) (live : List Stream) (old new : List Call) (before after : List CallEvent) : Type 0 where
   pub kept : List Call

@@ -64,6 +64,13 @@ pub record IsAlive (v : Present) (p : Past) : Type 0 where
 abbrev pub live_numbers : List Stream → List Call → List ℕ
 live_numbers live cs = filter (λ s. list_any (number_is s) live) (map stream_of cs)
 
+abbrev pub has_live_stream : List Stream → Call → Bool
+has_live_stream live c = list_any (number_is c.stream) live
+
+-- all calls stay, or those on live streams
+abbrev pub KeepsOpen : List Stream → List Call → List Call → Type 0
+KeepsOpen live old new = (new ≡ old) ⊎ (new ≡ filter (has_live_stream live) old)
+
 -- the calls that are given up with the connection; after an error of it none is left
 abbrev pub live_calls : Present → List ℕ
 live_calls v = if v.ended then [] else live_numbers v.streams.live v.calls

@@ -7,8 +7,8 @@ ghost use Rattle.http2_streams.specs.Rules.{number_is};
 ghost use Rattle.grpc_messages.specs.Reader.{bytes_left};
 ghost use Rattle.grpc_messages.specs.declared.error.MessagesError.{MessagesError};
 ghost use Rattle.conn_core.specs.Calls.{messages_of, events_of_content, events_at_end, refusal_of};
-ghost use Rattle.conn_core.specs.StandsFor.{live_numbers};
-ghost use Rattle.conn_core.specs.CallSteps.{TakesAll, TakesOn, BeginsCall, place_of, has_live_stream, without_call, cancel_if, has_call};
+ghost use Rattle.conn_core.specs.StandsFor.{KeepsOpen, has_live_stream, live_numbers};
+ghost use Rattle.conn_core.specs.CallSteps.{TakesAll, TakesOn, BeginsCall, place_of, without_call, cancel_if, has_call};
 ghost use Rattle.conn_core.specs.declared.event.CallEvent.TheVariants.{Fault};
 
 use crate::event::CallEvent;
@@ -166,14 +166,23 @@ pub(crate) fn begin_call(
     ensures { OnOk result (BeginsCall stream method end_stream live.now calls.old.items
         calls.new.items due.old.items due.new.items) }
 {
-    if calls.len() > live.len() {
-        drop_closed(calls, live);
-    }
+    let count = calls.len();
+    drop_closed_if_fewer(calls, live, count);
     due.push_back(CallEvent::Head { stream, method })?;
     let mut call = Call::new(*calls.allocator(), stream);
     call.take(b"", end_stream, due)?;
     calls.push(call)?;
     Ok(())
+}
+
+/// Drops the calls on closed streams, with what they keep of messages, where fewer streams than
+/// `count` are live.
+pub(crate) fn drop_closed_if_fewer(calls: &mut Vec<Call>, live: &[Stream], count: usize)
+    ensures { KeepsOpen live.now calls.old.items calls.new.items }
+{
+    if live.len() < count {
+        drop_closed(calls, live);
+    }
 }
 
 fn drop_closed(calls: &mut Vec<Call>, live: &[Stream])

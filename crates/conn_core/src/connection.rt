@@ -9,7 +9,7 @@ ghost use Rattle.grpc_sending.specs.Bytes.{most_untaken};
 ghost use Rattle.grpc_sending.specs.StoredSending.{Look, Fit, Tells, KeepsFit, KeepsFitWith, KeepsSources, HoldsMore, HasFew, sources_of};
 ghost use Rattle.grpc_sending.specs.Owed.{Headed, Message};
 ghost use Rattle.conn_core.specs.Past.{opening, with_bytes, with_taken};
-ghost use Rattle.conn_core.specs.StandsFor.{StandsFor, Becomes, Owes, OwesRange, Pumps, Pops, ReadsFrame, unread_length, live_calls, stream_of};
+ghost use Rattle.conn_core.specs.StandsFor.{StandsFor, Becomes, Owes, OwesRange, Pumps, Pops, ReadsFrame, KeepsOpen, unread_length, live_calls, stream_of};
 ghost use Rattle.conn_core.specs.Step.{TakesFrame, Brings, ChangesCalls};
 ghost use Rattle.conn_core.specs.Received.{goaway_frame};
 ghost use Rattle.conn_core.specs.Putting.{Puts, Fails, Answers, is_answer, are_answers, is_ending, ended_calls};
@@ -20,7 +20,9 @@ ghost use Rattle.http2_streams.specs.declared.event.Event.TheVariants.{Request, 
 ghost use Rattle.http2_frames.specs.declared.reader.TheConstants.{MAX_FRAME_SIZE};
 ghost use Rattle.grpc_sending.specs.declared.sender.TheConstants.{CONTROL_LIMIT};
 
-use crate::call::{Call, begin_call, cancel_call, is_live, pop_live_call, take_more};
+use crate::call::{
+    Call, begin_call, cancel_call, drop_closed_if_fewer, is_live, pop_live_call, take_more,
+};
 use crate::event::CallEvent;
 use grpc_calls::{ResponseBlock, head};
 use grpc_sending::{Parts, Sender};
@@ -213,20 +215,24 @@ impl Connection {
         self.sender.took(count);
     }
 
-    /// Puts all that can be put.
+    /// Puts all that can be put. Where that ends streams, their calls are let go of, with what had
+    /// come of messages that no reply waits for.
     pub fn pump<P: Parts>(&mut self, parts: &P)
         requires fit { Fit (P.text_of parts.now) self.old.sending.queues }
         ensures stands { Pumps (P.text_of parts.now) self.old self.new }
         ensures fit { KeepsFit self.old.sending self.new.sending }
         ensures sources { KeepsSources self.old.sending self.new.sending }
+        ensures calls { KeepsOpen self.new.streams.live self.old.calls self.new.calls }
         ensures rest { self.new ≡ record self.old
-            { streams = self.new.streams; sending = self.new.sending } }
+            { streams = self.new.streams; sending = self.new.sending; calls = self.new.calls } }
     {
         if self.at_rest {
             return;
         }
+        let live_before = self.streams.live().len();
         self.sender.pump(&mut self.streams, parts);
         self.at_rest = true;
+        drop_closed_if_fewer(&mut self.calls, self.streams.live(), live_before);
     }
 
     /// Tells a source whose range is over: it was wholly put, or its stream ended before that. Each

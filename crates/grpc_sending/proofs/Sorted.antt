@@ -8,6 +8,7 @@ use Rattle.std.specs.Ordering.{nat_cmp, ordering_index}
 use Rattle.std.proofs.lemmas.Bool.{cases_Bool}
 use Rattle.std.proofs.lemmas.Bool.Decides.{nat_tests}
 use Rattle.std.proofs.lemmas.Cmp.{ranked}
+use Rattle.std.proofs.lemmas.List.{get_or_default}
 use Rattle.std.proofs.lemmas.List.Sorted.{IsNonDecreasingBy-from_default}
 use Rattle.grpc_sending.specs.declared.piece.StoredPiece.{StoredPiece}
 use Rattle.grpc_sending.specs.declared.queue.Removal.{Removal}
@@ -156,7 +157,7 @@ sorted_set (q ∷ qs) (suc i) d ps h = (above_set q.stream qs i d ps h.0, sorted
 
 -- ---- what a search finds
 
-abbrev stream_at : List StoredQueue → ℕ → ℕ
+abbrev pub stream_at : List StoredQueue → ℕ → ℕ
 stream_at qs i = (get_or qs i (record { stream = 0; pieces = [] })).stream
 
 above_at : (n : ℕ) (qs : List StoredQueue) (i : ℕ) → AreAbove n qs → i < length qs → n < stream_at qs i
@@ -199,6 +200,29 @@ searched qs s (Err i) sorted in_range parted = record {
       (λ k lt. ranked _ s _ (sym ((parted (comparisons_rise qs s sorted)).0 k (record { stream = 0; pieces = [] }) (omega arith) lt)))
       (λ k le lt. ranked _ s _ (sym ((parted (comparisons_rise qs s sorted)).1 k (record { stream = 0; pieces = [] }) le lt)));
 }
+
+-- ---- what a walk finds, by the queue at place i
+
+same_stream : (qs : List StoredQueue) (i : ℕ) (d : StoredQueue) → i < length qs → (get_or qs i d).stream ≡ stream_at qs i
+same_stream qs i d lt = ap (λ (q : StoredQueue). q.stream) (get_or_default qs i d (record { stream = 0; pieces = [] }) lt)
+
+-- no queue before place j is behind place i
+pub below_to : (qs : List StoredQueue) (s i j : ℕ) (d : StoredQueue) → AreSorted qs → i < length qs → j ≤ suc i → (get_or qs i d).stream < s → (k : ℕ) → k < j → stream_at qs k < s
+below_to qs s i j d sorted lt le below k before =
+    let rise = streams_rise qs k i sorted (omega (arith, le, before)) lt in
+    let same = same_stream qs i d lt in
+    omega (arith, rise, same, below)
+
+pub walked_to : (qs : List StoredQueue) (s i : ℕ) (d : StoredQueue) → AreSorted qs → i < length qs → (get_or qs i d).stream ≡ s → IsAt s qs i
+walked_to qs s i d sorted lt is = found_at qs s i sorted lt (sym (same_stream qs i d lt) ∙ is)
+
+pub walked_past : (qs : List StoredQueue) (s i : ℕ) (d : StoredQueue) → AreSorted qs → i < length qs → s < (get_or qs i d).stream → ((k : ℕ) → k < i → stream_at qs k < s) → IsGapFor s qs i
+walked_past qs s i d sorted lt above below =
+    let same = same_stream qs i d lt in
+    gap_at qs s i (omega (arith, lt)) below (λ k le lt'. let rise = streams_rise qs i k sorted le lt' in omega (arith, rise, same, above))
+
+pub walked_out : (qs : List StoredQueue) (s i : ℕ) → i ≤ length qs → length qs ≤ i → ((k : ℕ) → k < i → stream_at qs k < s) → IsGapFor s qs i
+walked_out qs s i le ends below = gap_at qs s i le below (λ k le' lt. absurd (omega (arith, ends, le', lt)))
 
 -- ---- what edits spend and take
 

@@ -138,6 +138,31 @@ fn find(queues: &[StoredQueue], stream: u32) -> Result<usize, usize>
     queues.binary_search_by_key(&stream, |queue| queue.stream)
 }
 
+/// As `find`, by steps from the hint: back past queues that are not below the stream, and then on
+/// past those that are.
+fn find_from(queues: &[StoredQueue], hint: usize, stream: u32) -> Result<usize, usize>
+    requires sorted { AreSorted queues.now }
+    ensures found { IfOk result (IsAt stream queues.now) }
+    ensures absent { IfErr result (IsGapFor stream queues.now) }
+    ensures bound { IsSearchInRange result (length queues.now) }
+{
+    let mut place = hint.min(queues.len());
+    'back: while place > 0 && queues[place - 1].stream >= stream {
+        place -= 1;
+    }
+    'on: while place < queues.len() {
+        let next = queues[place].stream;
+        if next == stream {
+            return Ok(place);
+        }
+        if next > stream {
+            return Err(place);
+        }
+        place += 1;
+    }
+    Err(place)
+}
+
 /// Removes pieces of the stream.
 pub(crate) fn remove_on(
     queues: &mut Vec<StoredQueue>,
@@ -192,6 +217,29 @@ pub(crate) fn pieces_on(queues: &[StoredQueue], stream: u32) -> Option<&Pieces>
     match find(queues, stream) {
         Ok(place) => Some(&queues[place].pieces),
         Err(_) => None,
+    }
+}
+
+/// As `pieces_on`, looked for by steps from the place, which is left where the stream's queue stands
+/// or would stand.
+pub(crate) fn pieces_from<'a>(
+    queues: &'a [StoredQueue],
+    place: &mut usize,
+    stream: u32,
+) -> Option<&'a Pieces>
+    requires sorted { AreSorted queues.now }
+    ensures { MatchOption result (stored_on stream queues.now ≡ [])
+        (λ pieces. pieces.now ≡ stored_on stream queues.now) }
+{
+    match find_from(queues, *place, stream) {
+        Ok(found) => {
+            *place = found;
+            Some(&queues[found].pieces)
+        }
+        Err(gap) => {
+            *place = gap;
+            None
+        }
     }
 }
 

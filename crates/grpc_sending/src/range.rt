@@ -1,6 +1,6 @@
 //! What is left of a range of a text, which is put in messages.
 
-ghost use Rattle.std.specs.Prelude.{◌≡◌, ◌≤◌, ◌∷◌, [], true, false, length, take, drop};
+ghost use Rattle.std.specs.Prelude.{◌≡◌, ◌≤◌, ◌+◌, ◌∷◌, [], true, false, length, take, drop};
 ghost use Rattle.grpc_sending.specs.Pieces.{length_text};
 ghost use Rattle.grpc_sending.specs.Spans.{read_head, span_count, span_size, span_after};
 ghost use Rattle.grpc_sending.specs.Pieces.{most_read};
@@ -129,7 +129,7 @@ impl Cursor {
     /// How many bytes of the first message are left.
     pub(crate) fn size(&self) -> usize
         ensures is { result ≡ span_size most_read self.now }
-        ensures short { result ≤ 65545 }
+        ensures short { result ≤ 9 + most_read }
     {
         let count = self.count();
         let whole = (6 + length_size(count) + count) as usize;

@@ -28,8 +28,8 @@ use http2_streams::Streams;
 use std::alloc::{AllocError, Global};
 use std::marker::Model;
 
-/// While fewer bytes are untaken the pump puts more.
-const PUMP_LIMIT: usize = 65_536;
+/// The pump puts more while fewer bytes than these are untaken.
+pub const PUMP_LIMIT: usize = 65_536;
 
 /// The most untaken bytes with a control frame other than GOAWAY, for which there is always room
 /// then.

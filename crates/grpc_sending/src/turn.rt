@@ -7,11 +7,12 @@ ghost use Rattle.grpc_sending.specs.StoredSending.{count_due, due_of, due_on, ne
 ghost use Rattle.grpc_sending.specs.SortedQueues.{AreSorted};
 
 use crate::piece::{BlockText, StoredPiece};
-use crate::queue::{Pieces, StoredQueue, pieces_on};
+use crate::queue::{Pieces, StoredQueue, pieces_from};
+use http2_frames::MAX_FRAME_SIZE;
 use http2_streams::{Stream, Streams};
 
 /// The largest payload of a DATA frame, which every client takes (RFC 9113 section 4.2).
-const MAX_PART: i64 = 16384;
+const MAX_PART: i64 = MAX_FRAME_SIZE as i64;
 
 /// What is put next.
 #[derive(Drop)]
@@ -70,11 +71,17 @@ fn due_of<'a>(connection_window: i64, stream: &Stream, pieces: &'a Pieces) -> Op
     }
 }
 
-fn due_on<'a>(queues: &'a [StoredQueue], connection_window: i64, stream: &Stream) -> Option<Due<'a>>
+/// What comes next on the stream, whose queue is looked for by steps from the place.
+fn due_on<'a>(
+    queues: &'a [StoredQueue],
+    place: &mut usize,
+    connection_window: i64,
+    stream: &Stream,
+) -> Option<Due<'a>>
     requires sorted { AreSorted queues.now }
     ensures { result ≡ due_on queues.now connection_window stream.now }
 {
-    match pieces_on(queues, stream.number) {
+    match pieces_from(queues, place, stream.number) {
         None => None,
         Some(pieces) => due_of(connection_window, stream, pieces),
     }
@@ -89,8 +96,11 @@ fn first_turn<'a>(
     ensures { result ≡ next_due queues.now connection_window live.now }
 {
     let mut left = live;
+    // Live streams rise, so the place hardly ever steps back: all of them together take about as
+    // many steps as there are queues and streams.
+    let mut place = 0;
     'streams: while let [stream, rest @ ..] = left {
-        let turn = due_on(queues, connection_window, stream);
+        let turn = due_on(queues, &mut place, connection_window, stream);
         if turn.is_some() {
             return turn;
         }

@@ -1,6 +1,9 @@
-ghost use Rattle.std.specs.Prelude.{◌≡◌, ◌+◌, ◌≤◌, ◌^◌, ◌++◌, ◌↔◌, [], ℕ, List, length, true, false, IsTrue, OnOk, OnErr, IfOk};
+//! Texts that are hashed as they come, before they stand in a pool.
+
+ghost use Rattle.std.specs.Prelude.{◌≡◌, ◌+◌, ◌≤◌, ◌++◌, ◌↔◌, [], ℕ, List, length, true, false, IsTrue, OnOk, OnErr, IfOk};
 ghost use Rattle.digest.specs.Naming.{Names, digest_of};
 ghost use Rattle.blob_pool.specs.Drafts.{Hashes, is_going};
+ghost use Rattle.paged_text.specs.declared.text.TheConstants.{MOST_BYTES};
 
 use digest::{Digest, Hasher, is_same};
 use paged_text::PagedText;
@@ -17,9 +20,9 @@ pub enum Progress {
 
 /// Ends the hash.
 pub fn end(progress: &mut Progress) -> Digest
-    ensures digest { (text : List ℕ) → Hashes progress.old text → length text ≤ 2 ^ 48 →
+    ensures digest { (text : List ℕ) → Hashes progress.old text → length text ≤ MOST_BYTES →
         result ≡ digest_of text }
-    ensures hashes { (text : List ℕ) → Hashes progress.old text → length text ≤ 2 ^ 48 →
+    ensures hashes { (text : List ℕ) → Hashes progress.old text → length text ≤ MOST_BYTES →
         Hashes progress.new text }
     ensures ended { is_going progress.new ≡ false }
 {
@@ -56,14 +59,15 @@ pub struct Draft {
 }
 
 impl Model for Draft {
-    ghost use Rattle.std.specs.Prelude.{◌≤◌, ◌^◌, length};
+    ghost use Rattle.std.specs.Prelude.{◌≤◌, length};
     ghost use Rattle.blob_pool.specs.Drafts.{DraftValue, Hashes, is_going};
+    ghost use Rattle.paged_text.specs.declared.text.TheConstants.{MOST_BYTES};
 
     ghost Value = { DraftValue };
 
     ghost view = { λ d. record { text = d.text; is_open = is_going d.progress } };
 
-    ghost invariant = { λ d. Hashes d.progress d.text × (length d.text ≤ 2 ^ 48) };
+    ghost invariant = { λ d. Hashes d.progress d.text × (length d.text ≤ MOST_BYTES) };
 }
 
 impl Draft {
@@ -81,7 +85,7 @@ impl Draft {
     /// Bytes that a digest is known to name, which are then not hashed again.
     pub fn of(alloc: Global, digest: &Digest, bytes: &[u8]) -> Result<Draft, AllocError>
         requires named { Names digest.now bytes.now }
-        requires most { length bytes.now ≤ 2 ^ 48 }
+        requires most { length bytes.now ≤ MOST_BYTES }
         ensures { IfOk result (λ draft. draft.text ≡ bytes.now) }
     {
         let mut text = PagedText::new(alloc);
@@ -95,7 +99,7 @@ impl Draft {
     /// Adds bytes to the end, before the text is named.
     pub fn push(&mut self, bytes: &[u8]) -> Result<(), AllocError>
         requires open { self.old.is_open ≡ true }
-        requires most { length self.old.text + length bytes.now ≤ 2 ^ 48 }
+        requires most { length self.old.text + length bytes.now ≤ MOST_BYTES }
         ensures ok { OnOk result (self.new
             ≡ record self.old { text = self.old.text ++ bytes.now }) }
         ensures err { OnErr result (self.new ≡ self.old) }
@@ -108,7 +112,7 @@ impl Draft {
     /// How many bytes there are. It takes no memory.
     pub fn length(&self) -> u64
         ensures length { result ≡ length self.now.text }
-        ensures most { result ≤ 2 ^ 48 }
+        ensures most { result ≤ MOST_BYTES }
     {
         self.text.len()
     }
@@ -126,7 +130,7 @@ impl Draft {
     pub(crate) fn open(self) -> (PagedText, Digest)
         ensures text { result.0 ≡ self.text }
         ensures digest { result.1 ≡ digest_of self.text }
-        ensures most { length self.text ≤ 2 ^ 48 }
+        ensures most { length self.text ≤ MOST_BYTES }
     {
         let Draft { text, mut progress } = self;
         let digest = end(&mut progress);
@@ -136,7 +140,7 @@ impl Draft {
     /// A text with its digest.
     pub(crate) fn close(text: PagedText, digest: Digest) -> Draft
         requires digest { digest ≡ digest_of text }
-        requires most { length text ≤ 2 ^ 48 }
+        requires most { length text ≤ MOST_BYTES }
         ensures { result.text ≡ text }
     {
         Draft {

@@ -1,3 +1,5 @@
+//! The right to a text of a pool, and the number that stands for it.
+
 ghost use Rattle.std.specs.Prelude.{◌≡◌, ◌-◌, ◌^◌};
 
 use std::marker::Model;

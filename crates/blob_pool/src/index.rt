@@ -1,3 +1,5 @@
+//! The index of a pool: the slots in which a text with a digest may stand.
+
 ghost use Rattle.std.specs.Prelude.{◌≡◌, ◌≢◌, ◌⊎◌, ℕ, [], Some, Contains, OnOk, OnErr};
 ghost use Rattle.std.specs.Map.{lookup};
 ghost use Rattle.digest.specs.declared.Digest.{Digest};

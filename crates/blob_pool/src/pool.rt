@@ -1,9 +1,11 @@
+//! The pool: texts that stand once each, and the rights to them.
+
 ghost use Rattle.std.specs.Prelude.{◌≡◌, ◌≢◌, ◌+◌, ◌<◌, ◌≤◌, ◌^◌, ◌++◌, ℕ, [], length, Some, None, IfOk, IfErr, OnOk, OnErr};
 ghost use Rattle.digest.specs.Naming.{Names};
 ghost use Rattle.paged_text.specs.Pages.{part_of};
 ghost use Rattle.blob_pool.specs.Slots.{text_at, count_at, held_text_at, IsShared, texts_stored, bytes_stored};
 ghost use Rattle.blob_pool.specs.Moves.{Moves, HasRoom, no_holders, one_at};
-ghost use Rattle.paged_text.specs.declared.text.TheConstants.{PAGE_BYTES};
+ghost use Rattle.paged_text.specs.declared.text.TheConstants.{MOST_BYTES, PAGE_BYTES};
 
 use crate::draft::Draft;
 use crate::hold::{Hold, Kept, keep};
@@ -63,7 +65,7 @@ impl Pool {
     /// Bytes that a digest is known to name, to be sealed here. They are not hashed again.
     pub fn draft_of(&self, digest: &Digest, bytes: &[u8]) -> Result<Draft, AllocError>
         requires named { Names digest.now bytes.now }
-        requires most { length bytes.now ≤ 2 ^ 48 }
+        requires most { length bytes.now ≤ MOST_BYTES }
         ensures { IfOk result (λ draft. draft.text ≡ bytes.now) }
     {
         Draft::of(self.alloc, digest, bytes)
@@ -90,7 +92,7 @@ impl Pool {
     /// Holds a text.
     pub fn put(&mut self, bytes: &[u8]) -> Result<Hold, AllocError>
         requires room { HasRoom self.old }
-        requires most { length bytes.now ≤ 2 ^ 48 }
+        requires most { length bytes.now ≤ MOST_BYTES }
         ensures text { IfOk result (λ hold. text_at self.new hold ≡ bytes.now) }
         ensures moves { IfOk result (λ hold. Moves self.old self.new no_holders (one_at hold)) }
         ensures same { IfOk result (λ hold. (k : ℕ) → 0 < count_at self.old k →
@@ -149,7 +151,7 @@ impl Pool {
     pub fn length(&self, hold: &Hold) -> u64
         requires { 0 < count_at self.now hold.now }
         ensures length { result ≡ length (text_at self.now hold.now) }
-        ensures most { result ≤ 2 ^ 48 }
+        ensures most { result ≤ MOST_BYTES }
     {
         text(&self.slots, hold.slot()).len()
     }

@@ -3,6 +3,7 @@
 ghost use Rattle.std.specs.Prelude.{◌≡◌, ◌+◌, ◌-◌, ◌<◌, ◌≤◌, ◌^◌, ◌↔◌, ℕ, length, Some, None, IsTrue, IfSome, IfNone, IfOk, IfErr, OnErr, slice_index_or};
 ghost use Rattle.std.specs.Option.{option_copied};
 ghost use Rattle.digest.specs.Naming.{digest_of};
+ghost use Rattle.paged_text.specs.declared.text.TheConstants.{MOST_BYTES};
 ghost use Rattle.blob_pool.specs.Slots.{held_text_at, text_at, count_at, Puts, bytes_stored};
 ghost use Rattle.blob_pool.specs.Moves.{Moves, HasRoom, no_holders, one_at};
 ghost use Rattle.blob_pool.specs.Listed.{Listing, IsListed, IsPool};
@@ -150,7 +151,7 @@ fn add_text(
     requires absent { (k : ℕ) → 0 < count_at slots.old.slots k → text_at slots.old.slots k ≡ text →
         ⊥ }
     requires digest { digest ≡ digest_of text }
-    requires short { length text ≤ 2 ^ 48 }
+    requires short { length text ≤ MOST_BYTES }
     ensures pool { IsPool slots.new.slots index.new bytes.new }
     ensures moves { IfOk result (λ k. Moves slots.old.slots slots.new.slots no_holders (one_at k)) }
     ensures text { IfOk result (λ k. text_at slots.new.slots k ≡ text) }
@@ -170,7 +171,7 @@ fn add_text(
 
 /// How many bytes there are with another text.
 fn more_bytes(slots: &Slab<Slot>, bytes: u128, text: &PagedText) -> u128
-    requires short { (k : ℕ) → length (text_at slots.now.slots k) ≤ 2 ^ 48 }
+    requires short { (k : ℕ) → length (text_at slots.now.slots k) ≤ MOST_BYTES }
     requires bytes { bytes ≡ bytes_stored slots.now.slots }
     ensures { result ≡ bytes + length text.now }
 {

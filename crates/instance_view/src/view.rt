@@ -1,3 +1,5 @@
+//! An instance's texts under their digests, the most recently used first.
+
 ghost use Rattle.std.specs.Prelude.{◌≡◌, ◌+◌, ◌-◌, ◌<◌, ◌≤◌, ◌^◌, ℕ, List, [], ◌∷◌, ◌++◌, None, Some, false, length, take, is_some, option_map, IfOk, IfErr, IfSome, IfNone, OnOk, OnErr};
 ghost use Rattle.std.specs.Option.{option_copied};
 ghost use Rattle.std.specs.Map.{lookup};
@@ -97,6 +99,7 @@ pub struct View {
 
 impl Model for View {
     ghost use Rattle.std.specs.Prelude.{◌≡◌, ◌+◌, ◌<◌, ◌≤◌, ◌^◌};
+    ghost use Rattle.instance_view.specs.declared.view.TheConstants.{MOST_LIMIT};
     ghost use Rattle.instance_view.specs.Shown.{ViewValue, sizes};
 
     ghost Value = { ViewValue };
@@ -104,14 +107,14 @@ impl Model for View {
     ghost view = { λ v. record { entries = v.cache.entries; limit = v.limit } };
 
     ghost invariant = { λ v. (v.bytes ≡ sizes v.cache.entries) × (v.cache.cap ≡ v.limit + 1)
-        × (0 < v.limit) × (v.limit ≤ 2 ^ 31) };
+        × (0 < v.limit) × (v.limit ≤ MOST_LIMIT) };
 }
 
 impl View {
     /// No texts, and room for as many as the limit.
     pub fn new(alloc: Global, limit: usize) -> Result<View, AllocError>
         requires some { 0 < limit }
-        requires most { limit ≤ 2 ^ 31 }
+        requires most { limit ≤ MOST_LIMIT }
         ensures { IfOk result (λ view. view ≡ record { entries = []; limit = limit }) }
     {
         // One more than the limit, since the oldest goes after the newest has come.
@@ -128,7 +131,7 @@ impl View {
     pub fn limit(&self) -> usize
         ensures limit { result ≡ self.now.limit }
         ensures some { 0 < result }
-        ensures most { result ≤ 2 ^ 31 }
+        ensures most { result ≤ MOST_LIMIT }
     {
         self.limit
     }

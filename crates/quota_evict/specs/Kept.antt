@@ -11,6 +11,11 @@ pub record AreKept (quota : ℕ) (p : Slots) (v : ViewValue) : Type 0 where
   pub held : AreHeld p (holders v)
   pub within : Within v.limit quota (visible_in p v)
 
--- no quota is larger, in bytes
+-- with no larger quota, in bytes, are sums of lengths taken; a configuration gives no more
+-- (`quota_limit` of server_events)
 abbrev pub quota_limit : ℕ
 quota_limit = 2 ^ 40
+
+-- an instance has so many texts at most
+abbrev pub most_blobs : ℕ
+most_blobs = 65536

@@ -1,3 +1,5 @@
+//! How a text comes into an instance's view, and which others go for it.
+
 ghost use Rattle.std.specs.Prelude.{◌≡◌, ◌↔◌, ◌+◌, ◌<◌, ◌≤◌, ◌^◌, ℕ, None, length, OnOk, OnErr, IfErr, ◌∷◌, List};
 ghost use Rattle.std.specs.Result.{IsErrOf};
 ghost use Rattle.std.specs.List.{AllByRecursion};
@@ -17,6 +19,9 @@ use blob_pool::{Draft, Pool};
 use digest::Digest;
 use instance_view::View;
 use std::alloc::AllocError;
+
+/// How many texts an instance has at most.
+pub const MOST_BLOBS: usize = 65_536;
 
 /// Why a text was not admitted.
 #[derive(Clone, Copy, PartialEq, Eq)]

@@ -6,6 +6,7 @@ use Rattle.digest.specs.declared.Digest.{Digest}
 use Rattle.digest.specs.Text.{hash_in}
 use Rattle.resource_names.specs.declared.name.NameError.{NameError}
 use Rattle.resource_names.specs.declared.name.NameError.TheVariants.{Form, Hash, Size, Compressed}
+use Rattle.resource_names.specs.declared.parse.TheConstants.{MOST_UUID}
 use Rattle.resource_names.specs.Segments.{division_of, segments_of}
 use Rattle.resource_names.specs.Size.{size_in}
 
@@ -67,7 +68,7 @@ digest_alone (hash ∷ size ∷ []) = digest_of_segments hash size
 digest_alone segments = Err Form
 
 abbrev pub uuid_of : List ℕ → Result (List ℕ) NameError
-uuid_of uuid = if nat_le 1 (length uuid) && nat_le (length uuid) 128 then Ok uuid else Err Form
+uuid_of uuid = if nat_le 1 (length uuid) && nat_le (length uuid) MOST_UUID then Ok uuid else Err Form
 
 abbrev pub blobs_place : List ℕ → Result Unit NameError
 blobs_place segment = if is_blobs segment then Ok tt else Err Form

@@ -5,6 +5,7 @@ use Rattle.std.specs.Fmt.{decimal}
 use Rattle.hex.specs.Hex.{IsBytes}
 use Rattle.digest.specs.declared.Digest.{Digest}
 use Rattle.digest.specs.Text.{hash_text}
+use Rattle.resource_names.specs.declared.parse.TheConstants.{MOST_UUID}
 use Rattle.resource_names.specs.Segments.{segments_of}
 use Rattle.resource_names.specs.Names.{ReadNameValue, WriteNameValue, divides_read, divides_write}
 
@@ -59,6 +60,6 @@ pub record WritesWrite (text : List ℕ) (name : WriteNameValue) : Type 0 where
   pub further : AreFurther more
   pub apart : NoneDivides divides_write (segments_of name.instance)
   pub uuid_some : 1 ≤ length name.uuid
-  pub uuid_most : length name.uuid ≤ 128
+  pub uuid_most : length name.uuid ≤ MOST_UUID
   pub uuid_one : HasNoSlash name.uuid
   pub nameable : IsNameable name.digest

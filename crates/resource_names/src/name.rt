@@ -1,3 +1,5 @@
+//! What a resource name says, and why a text is none.
+
 use digest::Digest;
 
 /// Why a text is no resource name.
@@ -27,7 +29,7 @@ pub struct ReadName<'a> {
 pub struct WriteName<'a> {
     /// The instance's name, empty where the name has none.
     pub instance: &'a str,
-    /// What tells this upload from others of the same blob, in 1 to 128 bytes.
+    /// What tells this upload from others of the same blob, in 1 to [`crate::MOST_UUID`] bytes.
     pub uuid: &'a str,
     pub digest: Digest,
 }

@@ -1,3 +1,5 @@
+//! The segments of a name, and the one at which it is divided.
+
 ghost use Rattle.std.specs.Prelude.{◌≡◌, ◌∷◌, ◌++◌, ℕ, List};
 ghost use Rattle.std.specs.Option.{option_map, option_copied};
 ghost use Rattle.resource_names.specs.Segments.{segments_of, segments_left, division_of, joined_segments, IsRest};

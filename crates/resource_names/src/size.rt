@@ -1,3 +1,5 @@
+//! The size that a segment writes.
+
 ghost use Rattle.std.specs.Prelude.{◌≡◌, ◌<◌, ◌^◌, IfSome};
 ghost use Rattle.resource_names.specs.Size as sizes;
 ghost use Rattle.resource_names.specs.Size.{size_in};

@@ -5,6 +5,8 @@ use Rattle.std.specs.Map.{lookup, remove_entry}
 use lib.Pointwise.{pointwise}
 use Rattle.digest.specs.declared.Digest.{Digest}
 use Rattle.digest.specs.Naming.{same_digest}
+use Rattle.uploads.specs.declared.steps.TheConstants.{MOST_UPLOADS}
+use Rattle.uploads.specs.declared.table.TheConstants.{UPLOAD_AGE}
 
 -- what names an upload: its uuid, and the digest that is to name its text
 pub record KeyValue : Type 0 where
@@ -48,9 +50,9 @@ text_in (Some upload) = upload.text
 abbrev pub text_so_far : KeyValue → UploadList → List ℕ
 text_so_far key uploads = text_in (upload_at key uploads)
 
--- whether the last write is less than 600,000 milliseconds ago
+-- whether the last write is less than UPLOAD_AGE milliseconds ago
 abbrev pub is_recent : ℕ → (KeyValue × UploadValue) → Bool
-is_recent moment u = nat_lt (moment - u.1.written) 600000
+is_recent moment u = nat_lt (moment - u.1.written) UPLOAD_AGE
 
 -- those that a moment leaves
 abbrev pub uploads_at : ℕ → UploadList → UploadList
@@ -60,4 +62,4 @@ uploads_at moment uploads = filter (is_recent moment) uploads
 pub record WithinLimits (quota : ℕ) (uploads : UploadList) : Type 0 where
   -- the texts have no more bytes together than the quota
   pub bytes : total_length uploads ≤ quota
-  pub count : length uploads ≤ 64
+  pub count : length uploads ≤ MOST_UPLOADS

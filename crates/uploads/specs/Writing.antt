@@ -1,9 +1,11 @@
 -- What a piece of an upload is answered, and what becomes of the uploads (bytestream.proto,
 -- `Write`).
-use Rattle.std.specs.Prelude.{◌≡◌, ℕ, ℤ, pos, negsuc, ◌+◌, ◌^◌, ◌≤◌, Bool, true, false, ◌&&◌, ◌==◌, not, nat_le, nat_lt, is_some, if◌then◌else◌, List, ◌++◌, length, Result, Ok, Err}
+use Rattle.std.specs.Prelude.{◌≡◌, ℕ, ℤ, pos, negsuc, ◌+◌, ◌≤◌, Bool, true, false, ◌&&◌, ◌==◌, not, nat_le, nat_lt, is_some, if◌then◌else◌, List, ◌++◌, length, Result, Ok, Err}
 use Rattle.digest.specs.Naming.{same_digest, digest_of}
+use Rattle.paged_text.specs.declared.text.TheConstants.{MOST_BYTES}
 use Rattle.uploads.specs.declared.error.UploadError.{UploadError}
 use Rattle.uploads.specs.declared.error.UploadError.TheVariants.{Offset, Size, Hash, TooMany, OverQuota, NoMemory}
+use Rattle.uploads.specs.declared.steps.TheConstants.{MOST_UPLOADS}
 use Rattle.uploads.specs.Uploads.{KeyValue, UploadList, upload_at, with_upload, without_upload, text_so_far, total_length}
 
 -- where a piece begins, and its bytes
@@ -32,13 +34,13 @@ piece_answer quota key piece uploads =
 -- a piece leaves room for itself
 pub record Fits (key : KeyValue) (bytes : List ℕ) (uploads : UploadList) : Type 0 where
   pub named : length (text_so_far key uploads) + length bytes ≤ key.digest.size
-  pub short : length (text_so_far key uploads) + length bytes ≤ 2 ^ 48
+  pub short : length (text_so_far key uploads) + length bytes ≤ MOST_BYTES
 
--- an upload is no larger than the quota, and there are 64 at most
+-- an upload is no larger than the quota, and there are MOST_UPLOADS at most
 abbrev pub may_begin : ℕ → KeyValue → UploadList → Result Unit UploadError
 may_begin quota key uploads =
     if nat_lt quota key.digest.size then Err OverQuota
-    else (if not (is_some (upload_at key uploads)) && nat_le 64 (length uploads) then Err TooMany else Ok tt)
+    else (if not (is_some (upload_at key uploads)) && nat_le MOST_UPLOADS (length uploads) then Err TooMany else Ok tt)
 
 -- the first piece of a call, of an upload that is there or is not
 abbrev pub begin_answer : ℕ → KeyValue → PieceValue → UploadList → Result Unit UploadError

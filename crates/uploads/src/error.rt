@@ -1,3 +1,5 @@
+//! Why an upload is refused.
+
 ghost use Rattle.std.specs.Prelude.{◌≡◌};
 ghost use Rattle.uploads.specs.Errors.{of_admit};
 
@@ -12,7 +14,7 @@ pub enum UploadError {
     Size,
     /// The digest does not name the text.
     Hash,
-    /// There are 64 uploads.
+    /// There are [`crate::MOST_UPLOADS`] uploads.
     TooMany,
     /// The upload is larger than the quota, or all uploads would be together.
     OverQuota,

@@ -1,11 +1,12 @@
+//! What names an upload.
+
 ghost use Rattle.std.specs.Prelude.{◌≡◌, ◌≤◌, length};
+ghost use Rattle.resource_names.specs.declared.parse.TheConstants.{MOST_UUID};
 ghost use Rattle.uploads.specs.Shown.{key_shown};
 
 use arrayvec::ArrayString;
 use digest::Digest;
-
-/// The most bytes of a uuid.
-pub const MOST_UUID: usize = 128;
+use resource_names::MOST_UUID;
 
 /// What names an upload.
 #[derive(Clone, Copy, PartialEq, Eq, Hash)]

@@ -11,7 +11,7 @@ mod table;
 mod uploads;
 
 pub use error::UploadError;
-pub use key::{MOST_UUID, UploadKey};
+pub use key::UploadKey;
 pub use steps::{MOST_UPLOADS, Piece};
 pub use table::UPLOAD_AGE;
 pub use uploads::Uploads;

@@ -1,8 +1,9 @@
 //! What a piece, or the end, of an upload does to the table.
 
-ghost use Rattle.std.specs.Prelude.{◌≡◌, ◌≤◌, ◌+◌, ◌^◌, ◌↔◌, ◌⊎◌, ◌++◌, true, length, map, IsTrue, IsSome, Ok, Err, OnOk, OnErr};
+ghost use Rattle.std.specs.Prelude.{◌≡◌, ◌≤◌, ◌+◌, ◌↔◌, ◌⊎◌, ◌++◌, true, length, map, IsTrue, IsSome, Ok, Err, OnOk, OnErr};
 ghost use Rattle.digest.specs.Naming.{Names};
 ghost use Rattle.blob_pool.specs.Moves.{Moves};
+ghost use Rattle.paged_text.specs.declared.text.TheConstants.{MOST_BYTES};
 ghost use Rattle.instance_view.specs.Shown.{visible_in, holders};
 ghost use Rattle.quota_evict.specs.Admission.{visible_after_admission};
 ghost use Rattle.quota_evict.specs.Kept.{AreKept};
@@ -41,7 +42,7 @@ fn is_at(offset: i64, place: u64) -> bool
 fn committed(table: &Table, key: &UploadKey) -> u64
     ensures value { result ≡ length (text_so_far (key_shown key.now)
         (map entry_shown table.now.entries)) }
-    ensures most { result ≤ 2 ^ 48 }
+    ensures most { result ≤ MOST_BYTES }
 {
     match find(table, key) {
         Some(upload) => upload.draft.length(),
@@ -91,7 +92,7 @@ fn check_piece(
 /// Adds bytes to an upload, at this moment.
 fn add(upload: &mut Upload, moment: u64, bytes: &[u8]) -> Result<(), AllocError>
     requires open { upload.old.draft.is_open ≡ true ⊎ length bytes.now ≡ 0 }
-    requires most { length upload.old.draft.text + length bytes.now ≤ 2 ^ 48 }
+    requires most { length upload.old.draft.text + length bytes.now ≤ MOST_BYTES }
     ensures ok { OnOk result (upload_shown upload.new
         ≡ record { text = upload.old.draft.text ++ bytes.now; written = moment }) }
     ensures err { OnErr result (upload_shown upload.new ≡ upload_shown upload.old) }

@@ -1,5 +1,8 @@
-ghost use Rattle.std.specs.Prelude.{◌≡◌, ◌≤◌, ◌^◌, ℕ, [], IsSome, IfSome, OnOk, OnErr, length, option_map};
+//! The unfinished uploads of an instance, as their callers see them.
+
+ghost use Rattle.std.specs.Prelude.{◌≡◌, ◌≤◌, ℕ, [], IsSome, IfSome, OnOk, OnErr, length, option_map};
 ghost use Rattle.blob_pool.specs.Moves.{Moves};
+ghost use Rattle.paged_text.specs.declared.text.TheConstants.{MOST_BYTES};
 ghost use Rattle.instance_view.specs.Shown.{visible_in, holders};
 ghost use Rattle.quota_evict.specs.Admission.{visible_after_admission};
 ghost use Rattle.quota_evict.specs.Kept.{AreKept};
@@ -49,7 +52,7 @@ impl Uploads {
     pub fn committed(&self, key: &UploadKey) -> Option<u64>
         ensures value { result ≡ option_map (λ upload. length upload.text)
             (upload_at (key_shown key.now) self.now) }
-        ensures most { IfSome result (λ count. count ≤ 2 ^ 48) }
+        ensures most { IfSome result (λ count. count ≤ MOST_BYTES) }
     {
         match find(&self.table, key) {
             Some(upload) => Some(upload.draft.length()),

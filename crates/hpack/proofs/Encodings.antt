@@ -1,12 +1,12 @@
 -- What the encoder writes is a block.
-use Rattle.std.proofs.Common.{◌≡◌, ◌⊎◌, ℕ, zero, suc, ◌+◌, ◌-◌, ◌*◌, ◌/◌, ◌%◌, ◌^◌, ◌<◌, ◌≤◌, false, true, Bool, cond, ltb, leb, eqb, ◌&&◌, List, [], ◌∷◌, ◌++◌, length, slice_get, Some, Ok, refl, sym, ap, subst, ◌∙◌, codes, arith, inl, inr}
-use Rattle.std.proofs.Math.Nat.{pow-suc}
+use Rattle.std.proofs.Common.{◌≡◌, ◌⊎◌, ℕ, suc, ◌+◌, ◌-◌, ◌^◌, ◌<◌, ◌≤◌, false, true, Bool, cond, ltb, leb, eqb, ◌&&◌, List, [], ◌∷◌, ◌++◌, length, slice_get, Some, Ok, refl, sym, ap, subst, ◌∙◌, codes, arith, inl, inr}
 use Rattle.std.proofs.lemmas.Bool.{lt-ltb, le-ltb, lt-leb, cases_lt}
 use Rattle.std.proofs.lemmas.Bool.Decides.{nat_tests}
 use Rattle.std.proofs.lemmas.Slice.Eq.{bytes_eq-Decides}
 use Rattle.std.proofs.lemmas.List.Concat.{flat_map-cons}
 use Rattle.std.specs.List.{flat_map}
 use Rattle.std.specs.Str.{bytes_eq}
+use Rattle.base128.proofs.Groups.{groups_are, groups_few}
 use Rattle.hpack.specs.Header.{Header, size_of, total_size}
 use Rattle.hpack.specs.Integer.{AreGroups, IsInteger, groups, integer_text}
 use Rattle.hpack.specs.StringLiteral.{IsString, string_text}
@@ -16,32 +16,10 @@ use Rattle.hpack.specs.Representation.{IsName, IsField, Indexed, WithoutIndexing
 use Rattle.hpack.specs.Block.{AreFields, list_limit, block_of}
 use Rattle.hpack.specs.Encoding.{name_text, field_text, block_text}
 use Rattle.hpack.specs.declared.encoder.Position.TheVariants.{First, Later}
-use Rattle.hpack.proofs.Numbers.{more_groups}
-use Rattle.hpack.proofs.Writings.{groups_small, groups_large}
 use Rattle.hpack.proofs.Lookups.{static_length, indexed_static}
 use Rattle.hpack.proofs.Blocks.{block_read}
 
 -- ---- integers
-
-record Shortest (most n : ℕ) : Type 0 where
-  groups_are : AreGroups (groups n) n
-  short : length (groups n) ≤ most
-
-small_shortest : (k n : ℕ) → n < 128 → Shortest (suc k) n
-small_shortest k n lt = let e = groups_small n lt in record { groups_are = rw e (lt, refl); short = rw e (omega arith) }
-
-shortest : (k n : ℕ) → n < 128 ^ suc k → Shortest (suc k) n
-shortest zero n lt = small_shortest zero n lt
-shortest (suc k) n lt = elim (cases_lt n 128) [
-  | inl small ↦ small_shortest (suc k) n small
-  | inr large ↦
-      let power = pow-suc 128 (suc k) in
-      let high : n / 128 < 128 ^ suc k = omega arith in
-      let h = shortest k (n / 128) high in
-      let e = groups_large n large in
-      let same : 128 * (n / 128) + (n % 128 + 128 - 128) ≡ n = omega arith in
-      record { groups_are = rw e (subst (AreGroups ((n % 128 + 128) ∷ groups (n / 128))) same (more_groups (n % 128 + 128) (groups (n / 128)) (n / 128) (omega arith) h.groups_are)); short = rw e (let s = h.short in omega arith) }
-]
 
 with_flags : (flags full : ℕ) (bytes : List ℕ) (n beyond : ℕ) → n ≡ full + beyond → AreGroups bytes beyond → length bytes ≤ 5 → n < 2 ^ 32 → IsInteger flags full ((flags + full) ∷ bytes) n
 with_flags flags full [] n beyond is groups short small = absurd groups
@@ -56,8 +34,7 @@ integer_is flags full n small = elim (cases_lt n full) [
       rw test one
   | inr ge ↦
       let test : ltb n full ≡ false = le-ltb n full ge in
-      let s = shortest 4 (n - full) (omega arith) in
-      let more : IsInteger flags full ((flags + full) ∷ groups (n - full)) n = with_flags flags full (groups (n - full)) n (n - full) (omega arith) s.groups_are s.short small in
+      let more : IsInteger flags full ((flags + full) ∷ groups (n - full)) n = with_flags flags full (groups (n - full)) n (n - full) (omega arith) (groups_are (n - full)) (groups_few 5 (n - full) (omega arith) (omega arith)) small in
       rw test more
 ]
 

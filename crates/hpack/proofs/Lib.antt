@@ -1,4 +1,3 @@
-pub mod Writings
 pub mod Evictions
 pub mod Lookups
 pub mod Tools

@@ -1,6 +1,7 @@
 -- Integers: what is read is spelled so, and what is spelled so is read.
 use Rattle.std.proofs.Common.{◌≡◌, ℕ, ◌+◌, ◌-◌, ◌*◌, ◌^◌, ◌<◌, ◌≤◌, true, false, cond, ltb, leb, List, [], ◌∷◌, ◌++◌, length, Ok, Err, refl, sym, ap, subst, arith, inl, inr}
 use Rattle.std.proofs.lemmas.Bool.{ltb-true, ltb-false, lt-ltb, le-ltb, leb-false, lt-leb}
+use Rattle.base128.proofs.Groups.{more_groups}
 use Rattle.hpack.specs.declared.error.HpackError.TheVariants.{Integer}
 use Rattle.hpack.specs.Results.{◌>>=◌}
 use Rattle.hpack.specs.Integer.{AreGroups, IsInteger, below_limit, groups_at, integer_at}
@@ -13,10 +14,6 @@ pub record Takes (left : ℕ) (bytes : List ℕ) (x : ℕ × List ℕ) : Type 0 
   pub short : length front ≤ left
   pub small : x.0 < 2 ^ 32
   pub parts : bytes ≡ front ++ x.1
-
-pub more_groups : (b : ℕ) (front : List ℕ) (high : ℕ) → 128 ≤ b → AreGroups front high → AreGroups (b ∷ front) (128 * high + (b - 128))
-more_groups b [] high ge h = absurd h
-more_groups b (c ∷ cs) high ge h = (ge, high, refl, h)
 
 pub groups_takes : (left : ℕ) (bytes : List ℕ) (x : ℕ × List ℕ) → 0 < left → groups_at left bytes ≡ Ok x → Takes left bytes x
 unfolding groups_at

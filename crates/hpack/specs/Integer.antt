@@ -1,17 +1,12 @@
 -- Integers: RFC 7541, section 5.1.
-use Rattle.std.specs.Prelude.{◌≡◌, ℕ, ◌+◌, ◌-◌, ◌*◌, ◌/◌, ◌%◌, ◌^◌, ◌<◌, ◌≤◌, zero, suc, List, [], ◌∷◌, length, Result, Ok, Err, nat_lt, nat_le, if◌then◌else◌}
+use Rattle.std.specs.Prelude.{◌≡◌, ℕ, ◌+◌, ◌-◌, ◌*◌, ◌^◌, ◌<◌, ◌≤◌, List, [], ◌∷◌, length, Result, Ok, Err, nat_lt, nat_le, if◌then◌else◌}
+pub use Rattle.base128.specs.Groups.{AreGroups}
+unfoldable pub use Rattle.base128.specs.Groups.{groups_in, groups}
 use Rattle.hpack.specs.declared.error.HpackError.{HpackError}
 use Rattle.hpack.specs.declared.error.HpackError.TheVariants.{Integer}
 use Rattle.hpack.specs.Results.{◌>>=◌}
 
 -- ---- which octets are a number
-
--- groups of seven bits, the low group first; each octet but the last has 128 added
-abbrev pub AreGroups : List ℕ → ℕ → Type 0
-AreGroups [] n = ⊥
-AreGroups (b ∷ []) n = (b < 128) × (n ≡ b)
-AreGroups (b ∷ c ∷ bs) n =
-    (128 ≤ b) × (high : ℕ) × (n ≡ 128 * high + (b - 128)) × AreGroups (c ∷ bs) high
 
 -- A number begins in the low bits of an octet, the prefix, below its other bits, the flags. It
 -- stands there if it is less than full, the prefix of ones alone; otherwise those ones stand there,
@@ -44,14 +39,6 @@ integer_at full prefix bytes =
     else (groups_at 5 bytes >>= λ beyond. below_limit (full + beyond.0) beyond.1))
 
 -- ---- writing a number with as few octets as there can be
-
--- there are no more groups than the number says
-unfoldable pub groups_in : ℕ → ℕ → List ℕ
-groups_in zero n = n ∷ []
-groups_in (suc more) n = if nat_lt n 128 then n ∷ [] else (n % 128 + 128) ∷ groups_in more (n / 128)
-
-unfoldable pub groups : ℕ → List ℕ
-groups n = groups_in n n
 
 unfoldable pub integer_text : ℕ → ℕ → ℕ → List ℕ
 integer_text flags full n =

@@ -3,9 +3,10 @@
 ghost use Rattle.std.specs.Prelude.{◌≡◌, ◌+◌, ◌^◌, ◌<◌, ◌≤◌, ◌++◌, length, IfOk, OnOk};
 ghost use Rattle.hpack.specs.Results.{Gives};
 ghost use Rattle.hpack.specs.Integer as spec;
-ghost use Rattle.hpack.specs.Integer.{groups_at, integer_at, groups, integer_text};
+ghost use Rattle.hpack.specs.Integer.{groups_at, integer_at, integer_text};
 
 use crate::error::HpackError;
+use base128::push_groups;
 use std::alloc::AllocError;
 
 /// Refuses a number of 2^32 or more.
@@ -51,19 +52,6 @@ pub(crate) fn read_integer(full: u8, prefix: u8, bytes: &[u8]) -> Result<(u32, &
     below_limit(u64::from(full) + u64::from(beyond), rest)
 }
 
-#[tactic(auto, using(crate::proofs::Writings::groups_small, crate::proofs::Writings::groups_large))]
-fn push_groups(out: &mut Vec<u8>, number: usize) -> Result<(), AllocError>
-    ensures { OnOk result (out.new.items ≡ out.old.items ++ groups number) }
-{
-    let mut left = number;
-    while left >= 128 {
-        out.push((left % 128) as u8 + 128)?;
-        left /= 128;
-    }
-    out.push(left as u8)?;
-    Ok(())
-}
-
 /// Adds an integer to the flags that stand above its prefix, where `full` is the prefix of ones
 /// alone.
 #[tactic(auto, unfolding(crate::specs::Integer::integer_text))]
@@ -81,5 +69,5 @@ pub(crate) fn push_integer(
         return Ok(());
     }
     out.push(flags + full)?;
-    push_groups(out, number - usize::from(full))
+    push_groups(out, (number - usize::from(full)) as u64)
 }

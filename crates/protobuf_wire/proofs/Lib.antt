@@ -2,9 +2,7 @@ pub mod Tools
 pub mod Items
 pub mod Varints
 pub mod Records
-pub mod Writings
 pub mod Texts
 pub mod Steps
 pub mod Refusals
-pub mod Fronts
 pub mod Written

@@ -1,15 +1,9 @@
 -- The grammar: which bytes spell what.
-use Rattle.std.specs.Prelude.{◌≡◌, ℕ, ◌+◌, ◌-◌, ◌*◌, ◌%◌, ◌^◌, ◌<◌, ◌≤◌, List, [], ◌∷◌, ◌++◌, length}
+use Rattle.std.specs.Prelude.{◌≡◌, ℕ, ◌+◌, ◌*◌, ◌%◌, ◌^◌, ◌<◌, ◌≤◌, List, [], ◌∷◌, ◌++◌, length}
+pub use Rattle.base128.specs.Groups.{AreGroups}
 use Rattle.protobuf_wire.specs.Record.{Value, Number, Eight, Payload, Four, Record}
 
 -- ---- Base 128 Varints
-
--- groups of seven bits, the low group first; each byte but the last has 128 added
-abbrev pub AreGroups : List ℕ → ℕ → Type 0
-AreGroups [] n = ⊥
-AreGroups (b ∷ []) n = (b < 128) × (n ≡ b)
-AreGroups (b ∷ c ∷ bs) n =
-    (128 ≤ b) × (high : ℕ) × (n ≡ 128 * high + (b - 128)) × AreGroups (c ∷ bs) high
 
 -- at most ten groups; bits past the 64th are dropped
 pub record IsVarint (bytes : List ℕ) (n : ℕ) : Type 0 where

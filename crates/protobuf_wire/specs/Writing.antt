@@ -1,16 +1,10 @@
 -- The canonical writing.
-use Rattle.std.specs.Prelude.{◌≡◌, ℕ, zero, suc, ◌+◌, ◌-◌, ◌*◌, ◌/◌, ◌%◌, ◌^◌, ◌<◌, List, [], ◌∷◌, ◌++◌, length, nat_lt, ◌==◌, if◌then◌else◌}
+use Rattle.std.specs.Prelude.{◌≡◌, ℕ, ◌+◌, ◌-◌, ◌*◌, ◌^◌, ◌<◌, List, [], ◌∷◌, ◌++◌, length, ◌==◌, if◌then◌else◌}
 use Rattle.std.specs.List.{flat_map}
+unfoldable pub use Rattle.base128.specs.Groups.{groups_in, groups as varint}
+pub use Rattle.base128.specs.Groups.{BeginsWith}
 use Rattle.protobuf_wire.specs.Record.{Value, Number, Eight, Payload, Four, Record}
 use Rattle.protobuf_wire.specs.Spelling.{wire_type}
-
--- the shortest groups for a number, of which there are no more than the number says
-unfoldable pub groups_in : ℕ → ℕ → List ℕ
-groups_in zero n = n ∷ []
-groups_in (suc more) n = if nat_lt n 128 then n ∷ [] else (n % 128 + 128) ∷ groups_in more (n / 128)
-
-unfoldable pub varint : ℕ → List ℕ
-varint n = groups_in n n
 
 abbrev pub content_text : Value → List ℕ
 content_text (Number n) = varint n
@@ -90,9 +84,3 @@ pub record IsWritable (r : Record) : Type 0 where
   pub positive : 0 < r.number
   pub small : r.number < 2 ^ 29
   pub value : FitsContent r.value
-
--- ---- what a refused call leaves
-
--- a text, and perhaps more behind it
-abbrev pub BeginsWith : List ℕ → List ℕ → Type 0
-BeginsWith whole front = (rest : List ℕ) × (whole ≡ front ++ rest)

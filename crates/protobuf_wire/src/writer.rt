@@ -7,52 +7,37 @@ ghost use Rattle.std.specs.Prelude.{◌≡◌, ◌+◌, ◌-◌, ◌*◌, ◌^�
 ghost use Rattle.protobuf_wire.specs.Writing.{varint, records_text, number_field, bytes_field, message_field, payload_head, BeginsWith, Written, Text, Room, followed_by, followed_by_records, whole_room, written_text, IsText};
 ghost use Rattle.protobuf_wire.specs.Shown.{output_shown};
 
+use base128::push_groups;
 use std::alloc::{AllocError, Global};
 use std::marker::Model;
 
-/// Adds a varint in its shortest form (Encoding, "Base 128 Varints"), or a part of it where memory
-/// is refused.
-#[tactic(auto, using(crate::proofs::Writings::varint_small, crate::proofs::Writings::varint_large, crate::proofs::Fronts::begins_itself, crate::proofs::Fronts::begins_more))]
-fn push_varint(out: &mut Vec<u8>, value: u64) -> Result<(), AllocError>
-    ensures ok { OnOk result (out.new.items ≡ out.old.items ++ varint value) }
-    ensures err { OnErr result (BeginsWith out.new.items out.old.items) }
-{
-    let mut left = value;
-    while left >= 128 {
-        out.push((left % 128) as u8 + 128)?;
-        left /= 128;
-    }
-    out.push(left as u8)?;
-    Ok(())
-}
-
 /// Adds a record of wire type 2, or a part of it where memory is refused.
-#[tactic(auto, using(crate::proofs::Fronts::begins_itself, crate::proofs::Fronts::begins_more, crate::proofs::Fronts::begins_behind))]
+#[tactic(auto, using(base128::proofs::Fronts::begins_itself, base128::proofs::Fronts::begins_more, base128::proofs::Fronts::begins_behind))]
 fn push_payload(out: &mut Vec<u8>, number: u32, payload: &[u8]) -> Result<(), AllocError>
     requires { number < 2 ^ 29 }
     ensures ok { OnOk result (out.new.items ≡ out.old.items
         ++ records_text (message_field number payload.now)) }
     ensures err { OnErr result (BeginsWith out.new.items out.old.items) }
 {
-    push_varint(out, u64::from(number) * 8 + 2)?;
-    push_varint(out, payload.len() as u64)?;
+    push_groups(out, u64::from(number) * 8 + 2)?;
+    push_groups(out, payload.len() as u64)?;
     out.extend_from_slice(payload)?;
     Ok(())
 }
 
 /// Adds what stands before a payload of so many bytes, or a part of it where memory is refused.
-#[tactic(auto, using(crate::proofs::Fronts::begins_itself, crate::proofs::Fronts::begins_more, crate::proofs::Fronts::begins_behind))]
+#[tactic(auto, using(base128::proofs::Fronts::begins_itself, base128::proofs::Fronts::begins_more, base128::proofs::Fronts::begins_behind))]
 fn push_head(out: &mut Vec<u8>, number: u32, count: usize) -> Result<(), AllocError>
     requires { number < 2 ^ 29 }
     ensures ok { OnOk result (out.new.items ≡ out.old.items ++ payload_head number count) }
     ensures err { OnErr result (BeginsWith out.new.items out.old.items) }
 {
-    push_varint(out, u64::from(number) * 8 + 2)?;
-    push_varint(out, count as u64)
+    push_groups(out, u64::from(number) * 8 + 2)?;
+    push_groups(out, count as u64)
 }
 
 /// Adds a record of wire type 0, or nothing for 0, or a part of the record where memory is refused.
-#[tactic(auto, using(crate::proofs::Fronts::begins_itself, crate::proofs::Fronts::begins_more, crate::proofs::Fronts::begins_behind))]
+#[tactic(auto, using(base128::proofs::Fronts::begins_itself, base128::proofs::Fronts::begins_more, base128::proofs::Fronts::begins_behind))]
 fn push_number(out: &mut Vec<u8>, number: u32, value: u64) -> Result<(), AllocError>
     requires { number < 2 ^ 29 }
     ensures ok { OnOk result (out.new.items ≡ out.old.items
@@ -60,8 +45,8 @@ fn push_number(out: &mut Vec<u8>, number: u32, value: u64) -> Result<(), AllocEr
     ensures err { OnErr result (BeginsWith out.new.items out.old.items) }
 {
     if value != 0 {
-        push_varint(out, u64::from(number) * 8)?;
-        push_varint(out, value)?;
+        push_groups(out, u64::from(number) * 8)?;
+        push_groups(out, value)?;
     }
     Ok(())
 }
@@ -78,17 +63,18 @@ fn undone(out: &mut Vec<u8>, length: usize, done: Result<(), AllocError>) -> Res
     done
 }
 
-#[tactic(auto, using(crate::proofs::Fronts::begins_back))]
+/// Adds a varint in its shortest form (Encoding, "Base 128 Varints").
+#[tactic(auto, using(base128::proofs::Fronts::begins_back))]
 fn add_varint(out: &mut Vec<u8>, value: u64) -> Result<(), AllocError>
     ensures ok { OnOk result (out.new.items ≡ out.old.items ++ varint value) }
     ensures err { OnErr result (out.new.items ≡ out.old.items) }
 {
     let length = out.len();
-    let done = push_varint(out, value);
+    let done = push_groups(out, value);
     undone(out, length, done)
 }
 
-#[tactic(auto, using(crate::proofs::Fronts::begins_back))]
+#[tactic(auto, using(base128::proofs::Fronts::begins_back))]
 fn add_head(out: &mut Vec<u8>, number: u32, count: usize) -> Result<(), AllocError>
     requires { number < 2 ^ 29 }
     ensures ok { OnOk result (out.new.items ≡ out.old.items ++ payload_head number count) }
@@ -99,7 +85,7 @@ fn add_head(out: &mut Vec<u8>, number: u32, count: usize) -> Result<(), AllocErr
     undone(out, length, done)
 }
 
-#[tactic(auto, using(crate::proofs::Fronts::begins_back))]
+#[tactic(auto, using(base128::proofs::Fronts::begins_back))]
 fn add_payload(out: &mut Vec<u8>, number: u32, payload: &[u8]) -> Result<(), AllocError>
     requires { number < 2 ^ 29 }
     ensures ok { OnOk result (out.new.items ≡ out.old.items
@@ -111,7 +97,7 @@ fn add_payload(out: &mut Vec<u8>, number: u32, payload: &[u8]) -> Result<(), All
     undone(out, length, done)
 }
 
-#[tactic(auto, using(crate::proofs::Fronts::begins_back))]
+#[tactic(auto, using(base128::proofs::Fronts::begins_back))]
 fn add_number(out: &mut Vec<u8>, number: u32, value: u64) -> Result<(), AllocError>
     requires { number < 2 ^ 29 }
     ensures ok { OnOk result (out.new.items ≡ out.old.items

@@ -28,25 +28,29 @@ abbrev pub with_set : Lookup → List Digest → Option DigestValue → Option (
 with_set look ds None = Some ds
 with_set look ds (Some v) = with_blob look ds (Some v)
 
-abbrev pub with_files : Lookup → List Digest → List FileNodeValue → Option (List Digest)
-with_files look ds [] = Some ds
-with_files look ds (n ∷ ns) =
-    and_then (with_blob look ds n.digest) (λ more. with_files look more ns)
+-- those of each part, in order
+abbrev pub with_each : {V : Type 0} → (List Digest → V → Option (List Digest)) → List Digest →
+    List V → Option (List Digest)
+with_each with_part ds [] = Some ds
+with_each with_part ds (v ∷ vs) =
+    and_then (with_part ds v) (λ more. with_each with_part more vs)
 
-abbrev pub with_directories : Lookup → List Digest → List DirectoryValue → Option (List Digest)
-with_directories look ds [] = Some ds
-with_directories look ds (v ∷ vs) =
-    and_then (with_files look ds v.files) (λ more. with_directories look more vs)
+abbrev pub with_file : Lookup → List Digest → FileNodeValue → Option (List Digest)
+with_file look ds n = with_blob look ds n.digest
+
+abbrev pub with_directory : Lookup → List Digest → DirectoryValue → Option (List Digest)
+with_directory look ds v = with_each (with_file look) ds v.files
 
 abbrev pub with_root : Lookup → List Digest → Option DirectoryValue → Option (List Digest)
 with_root look ds None = Some ds
-with_root look ds (Some v) = with_files look ds v.files
+with_root look ds (Some v) = with_directory look ds v
 
 -- the files of a tree's root and of its children
 abbrev pub with_tree : Lookup → List Digest → Result TreeValue MessageError → Option (List Digest)
 with_tree look ds (Err e) = None
 with_tree look ds (Ok tree) =
-    and_then (with_root look ds tree.root) (λ more. with_directories look more tree.children)
+    and_then (with_root look ds tree.root)
+    (λ more. with_each (with_directory look) more tree.children)
 
 -- a tree, and then its files
 abbrev pub with_tree_of : Lookup → List Digest → Option Digest → Option (List Digest)
@@ -60,16 +64,8 @@ abbrev pub with_output_directory : Lookup → List Digest → OutputDirectoryVal
     Option (List Digest)
 with_output_directory look ds o = with_tree_of look ds (written_digest o.tree_digest)
 
-abbrev pub with_output_directories : Lookup → List Digest → List OutputDirectoryValue →
-    Option (List Digest)
-with_output_directories look ds [] = Some ds
-with_output_directories look ds (o ∷ os) =
-    and_then (with_output_directory look ds o) (λ more. with_output_directories look more os)
-
-abbrev pub with_output_files : Lookup → List Digest → List OutputFileValue → Option (List Digest)
-with_output_files look ds [] = Some ds
-with_output_files look ds (f ∷ fs) =
-    and_then (with_blob look ds f.digest) (λ more. with_output_files look more fs)
+abbrev pub with_output_file : Lookup → List Digest → OutputFileValue → Option (List Digest)
+with_output_file look ds f = with_blob look ds f.digest
 
 abbrev pub with_streams : Lookup → List Digest → ActionResultValue → Option (List Digest)
 with_streams look ds v =
@@ -78,8 +74,8 @@ with_streams look ds v =
 abbrev pub with_outputs : Lookup → Result ActionResultValue MessageError → Option (List Digest)
 with_outputs look (Err e) = None
 with_outputs look (Ok v) =
-    and_then (with_output_files look [] v.output_files)
-    (λ files. and_then (with_output_directories look files v.output_directories)
+    and_then (with_each (with_output_file look) [] v.output_files)
+    (λ files. and_then (with_each (with_output_directory look) files v.output_directories)
     (λ all. with_streams look all v))
 
 -- the digests of all blobs that a result names, in order, where it is complete

@@ -95,7 +95,8 @@ fn pop(cache: &mut Cache) -> usize
 
 /// Whether there are more results, or bytes, than the limits allow.
 fn is_over(cache: &Cache, bytes: u64) -> bool
-    ensures over { result ≡ true → (MOST_RESULTS < length cache.now.entries) ⊎ (MOST_RESULT_BYTES < bytes) }
+    ensures over { result ≡ true →
+        (MOST_RESULTS < length cache.now.entries) ⊎ (MOST_RESULT_BYTES < bytes) }
     ensures few { result ≡ false → length cache.now.entries ≤ MOST_RESULTS }
     ensures short { result ≡ false → bytes ≤ MOST_RESULT_BYTES }
 {

@@ -12,13 +12,13 @@ use Rattle.digest.proofs.Same.{same_equal, same_names}
 use Rattle.instance_view.specs.Visible.{Blob, visible_text}
 use Rattle.quota_evict.proofs.Seen.{named_by}
 use Rattle.reapi_messages.specs.Digests.{DigestValue}
-use Rattle.tree_messages.specs.Directories.{DirectoryValue, FileNodeValue, TreeValue, tree_of}
-use Rattle.tree_messages.specs.Results.{ActionResultValue, OutputFileValue, OutputDirectoryValue, action_result_of}
+use Rattle.tree_messages.specs.Directories.{DirectoryValue, TreeValue, tree_of}
+use Rattle.tree_messages.specs.Results.{ActionResultValue, action_result_of}
 use Rattle.tree_messages.specs.GetTree.{GetTreeResponseValue}
 use Rattle.input_tree.specs.Directories.{written_digest}
 use Rattle.input_tree.specs.Listing.{Lookup, children_of_text}
 use Rattle.input_tree.specs.Pages.{page_text, text_or_none, texts}
-use Rattle.action_cache.specs.Complete.{and_then, blobs_of, with_blob, with_directories, with_files, with_output_directories, with_output_directory, with_output_files, with_outputs, with_root, with_digest, with_set, with_streams, with_tree, with_tree_of}
+use Rattle.action_cache.specs.Complete.{and_then, blobs_of, with_blob, with_directory, with_each, with_file, with_output_directory, with_output_file, with_outputs, with_root, with_digest, with_set, with_streams, with_tree, with_tree_of}
 use Rattle.action_cache.specs.Answering.{blobs_for, result_for}
 use Rattle.tree_calls.specs.Asking.{action_asked}
 use Rattle.tree_calls.specs.GetTree.{texts_seen, get_tree_replies}
@@ -102,28 +102,25 @@ set_there : (look : Lookup) (ds : List Digest) (written : Option DigestValue) (a
 set_there look ds None all h = tt
 set_there look ds (Some w) all h = blob_there look ds (Some w) all h
 
-files_there : (look : Lookup) (ds : List Digest) (files : List FileNodeValue) (all : List Digest) → with_files look ds files ≡ Some all → AllByRecursion (λ file. HasBlob look file.digest) files
-files_there look ds [] all h = tt
-files_there look ds (n ∷ ns) all h =
-    let s = some_then (with_blob look ds n.digest) (λ more. with_files look more ns) all h in
-    (blob_there look ds n.digest s.0 s.1, files_there look s.0 ns all s.2)
+each_there : {V : Type 0} (with_part : List Digest → V → Option (List Digest)) (IsThere : V → Type 0) → ((ds : List Digest) (v : V) (all : List Digest) → with_part ds v ≡ Some all → IsThere v) → (ds : List Digest) (vs : List V) (all : List Digest) → with_each with_part ds vs ≡ Some all → AllByRecursion IsThere vs
+each_there with_part IsThere there ds [] all h = tt
+each_there with_part IsThere there ds (v ∷ vs) all h =
+    let s = some_then (with_part ds v) (λ more. with_each with_part more vs) all h in
+    (there ds v s.0 s.1, each_there with_part IsThere there s.0 vs all s.2)
 
-directories_there : (look : Lookup) (ds : List Digest) (vs : List DirectoryValue) (all : List Digest) → with_directories look ds vs ≡ Some all → AllByRecursion (HasFiles look) vs
-directories_there look ds [] all h = tt
-directories_there look ds (v ∷ vs) all h =
-    let s = some_then (with_files look ds v.files) (λ more. with_directories look more vs) all h in
-    (files_there look ds v.files s.0 s.1, directories_there look s.0 vs all s.2)
+directory_there : (look : Lookup) (ds : List Digest) (v : DirectoryValue) (all : List Digest) → with_directory look ds v ≡ Some all → HasFiles look v
+directory_there look ds v all h = each_there (with_file look) (λ file. HasBlob look file.digest) (λ ds file all h. blob_there look ds file.digest all h) ds v.files all h
 
 root_there : (look : Lookup) (ds : List Digest) (root : Option DirectoryValue) (all : List Digest) → with_root look ds root ≡ Some all → IfSome root (HasFiles look)
 root_there look ds None all h = tt
-root_there look ds (Some v) all h = files_there look ds v.files all h
+root_there look ds (Some v) all h = directory_there look ds v all h
 
 tree_there : (look : Lookup) (ds : List Digest) (written : Option DigestValue) (all : List Digest) → with_tree_of look ds (written_digest written) ≡ Some all → HasTree look written
 tree_there look ds written all h = go (written_digest written) refl h where
   spelled : (d : Digest) → written_digest written ≡ Some d → (t : List ℕ) → look d ≡ Some t → (r : Result TreeValue MessageError) → value_of_text tree_of t ≡ r → with_tree look (ds ++ d ∷ []) r ≡ Some all → HasTree look written
   spelled d is t there (Err e) reads h = absurd (cc)
   spelled d is t there (Ok tree) reads h =
-      let s = some_then (with_root look (ds ++ d ∷ []) tree.root) (λ more. with_directories look more tree.children) all h in
+      let s = some_then (with_root look (ds ++ d ∷ []) tree.root) (λ more. with_each (with_directory look) more tree.children) all h in
       record {
         digest = d;
         is = is;
@@ -132,7 +129,7 @@ tree_there look ds written all h = go (written_digest written) refl h where
         tree = tree;
         spelled = reads;
         root = root_there look (ds ++ d ∷ []) tree.root s.0 s.1;
-        children = directories_there look s.0 tree.children all s.2;
+        children = each_there (with_directory look) (HasFiles look) (directory_there look) s.0 tree.children all s.2;
       }
 
   test : (d : Digest) → written_digest written ≡ Some d → (o : Option (List ℕ)) → look d ≡ o → (if is_some o then with_tree look (ds ++ d ∷ []) (value_of_text tree_of (unwrap_or o [])) else None) ≡ Some all → HasTree look written
@@ -143,31 +140,19 @@ tree_there look ds written all h = go (written_digest written) refl h where
   go None is h = absurd (cc)
   go (Some d) is h = test d is (look d) refl h
 
-trees_there : (look : Lookup) (ds : List Digest) (os : List OutputDirectoryValue) (all : List Digest) → with_output_directories look ds os ≡ Some all → AllByRecursion (λ tree. HasTree look tree.tree_digest) os
-trees_there look ds [] all h = tt
-trees_there look ds (o ∷ os) all h =
-    let s = some_then (with_output_directory look ds o) (λ more. with_output_directories look more os) all h in
-    (tree_there look ds o.tree_digest s.0 s.1, trees_there look s.0 os all s.2)
-
-outputs_there : (look : Lookup) (ds : List Digest) (fs : List OutputFileValue) (all : List Digest) → with_output_files look ds fs ≡ Some all → AllByRecursion (λ file. HasBlob look file.digest) fs
-outputs_there look ds [] all h = tt
-outputs_there look ds (f ∷ fs) all h =
-    let s = some_then (with_blob look ds f.digest) (λ more. with_output_files look more fs) all h in
-    (blob_there look ds f.digest s.0 s.1, outputs_there look s.0 fs all s.2)
-
 is_complete : (look : Lookup) (t : List ℕ) (all : List Digest) → blobs_of look t ≡ Some all → IsComplete look t
 is_complete look t all h = go (value_of_text action_result_of t) refl h where
   go : (r : Result ActionResultValue MessageError) → value_of_text action_result_of t ≡ r → with_outputs look r ≡ Some all → IsComplete look t
   go (Err e) reads h = absurd (cc)
   go (Ok v) reads h =
-      let files = some_then (with_output_files look [] v.output_files) (λ files. and_then (with_output_directories look files v.output_directories) (λ all. with_streams look all v)) all h in
-      let trees = some_then (with_output_directories look files.0 v.output_directories) (λ all. with_streams look all v) all files.2 in
+      let files = some_then (with_each (with_output_file look) [] v.output_files) (λ files. and_then (with_each (with_output_directory look) files v.output_directories) (λ all. with_streams look all v)) all h in
+      let trees = some_then (with_each (with_output_directory look) files.0 v.output_directories) (λ all. with_streams look all v) all files.2 in
       let stdout = some_then (with_set look trees.0 v.stdout_digest) (λ more. with_set look more v.stderr_digest) all trees.2 in
       record {
         value = v;
         spelled = reads;
-        files = outputs_there look [] v.output_files files.0 files.1;
-        trees = trees_there look files.0 v.output_directories trees.0 trees.1;
+        files = each_there (with_output_file look) (λ file. HasBlob look file.digest) (λ ds file all h. blob_there look ds file.digest all h) [] v.output_files files.0 files.1;
+        trees = each_there (with_output_directory look) (λ tree. HasTree look tree.tree_digest) (λ ds tree all h. tree_there look ds tree.tree_digest all h) files.0 v.output_directories trees.0 trees.1;
         stdout = set_there look trees.0 v.stdout_digest stdout.0 stdout.1;
         stderr = set_there look stdout.0 v.stderr_digest all stdout.2;
       }

@@ -1,3 +1,5 @@
+//! `FindMissingBlobs`: which of the blobs asked for are not there.
+
 ghost use Rattle.std.specs.Prelude.{◌≡◌, ℕ, List, [], map, is_some, OnOk, OnErr, IfOk};
 ghost use Rattle.std.specs.List.{filter};
 ghost use Rattle.reapi_messages.specs.Digests.{digest_shown};

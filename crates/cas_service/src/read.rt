@@ -1,3 +1,5 @@
+//! `BatchReadBlobs`: the texts of the blobs asked for, in one reply.
+
 ghost use Rattle.std.specs.Prelude.{◌≡◌, ◌≤◌, ◌<◌, ℕ, List, map, option_map, OnOk, OnErr, IfOk, IfSome};
 ghost use Rattle.std.specs.List.{flat_map};
 ghost use Rattle.reapi_messages.specs.Batches.{read_blob_response_shown};

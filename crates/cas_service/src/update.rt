@@ -1,3 +1,5 @@
+//! `BatchUpdateBlobs`: stores the blobs of one request.
+
 ghost use Rattle.std.specs.Prelude.{◌≡◌, ◌≤◌, ◌^◌, ℕ, List, map, length, option_map, OnOk, OnErr, IfOk, IsErrOf};
 ghost use Rattle.reapi_messages.specs.Digests.{digest_shown};
 ghost use Rattle.reapi_messages.specs.Batches.{update_blob_request_shown, update_blob_response_shown};

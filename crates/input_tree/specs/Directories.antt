@@ -7,6 +7,7 @@ use Rattle.digest.specs.declared.Digest.{Digest}
 use Rattle.digest.specs.Text.{digest_in}
 use Rattle.reapi_messages.specs.Digests.{DigestValue}
 use Rattle.tree_messages.specs.Directories.{DirectoryValue, DirectoryNodeValue, FileNodeValue, SymlinkNodeValue, directory_of}
+use Rattle.input_tree.specs.declared.directory.TheConstants.{MOST_DIRECTORY_BYTES}
 use Rattle.input_tree.specs.Names.{is_name, is_target, are_rising, are_apart}
 
 -- the digest that a node writes, where it writes one
@@ -55,10 +56,10 @@ abbrev pub valid_directory : Result DirectoryValue MessageError → Option Direc
 valid_directory (Ok v) = if is_directory v then Some v else None
 valid_directory (Err e) = None
 
--- the directory that a text spells, where it has at most 67,108,864 bytes
+-- the directory that a text spells, where it has at most MOST_DIRECTORY_BYTES
 abbrev pub directory_in : List ℕ → Option DirectoryValue
 directory_in text =
-    if nat_le (length text) 67108864 then valid_directory (value_of_text directory_of text)
+    if nat_le (length text) MOST_DIRECTORY_BYTES then valid_directory (value_of_text directory_of text)
     else None
 
 abbrev pub child_digest : DirectoryNodeValue → Option Digest

@@ -8,6 +8,7 @@ use Rattle.digest.specs.Naming.{same_digest}
 use Rattle.input_tree.specs.Directories.{children_in}
 use Rattle.input_tree.specs.declared.error.TreeRefusal.{TreeRefusal}
 use Rattle.input_tree.specs.declared.error.TreeRefusal.TheVariants.{NotFound, BadDirectory, TooMany}
+use Rattle.input_tree.specs.declared.listing.TheConstants.{MOST_DIRECTORIES}
 
 -- the text of each digest that is there
 abbrev pub Lookup : Type 0
@@ -50,7 +51,7 @@ listed_from most look root (Some text) =
 -- the list begins with the root; going along it, each directory that a listed one has goes last,
 -- unless it is listed
 abbrev pub tree_list : Lookup → Digest → Result (List Digest) TreeRefusal
-tree_list look root = listed_from 10000 look root (look root)
+tree_list look root = listed_from MOST_DIRECTORIES look root (look root)
 
 -- none of the digests is one of a directory
 abbrev pub AreNone : Lookup → List Digest → Type 0

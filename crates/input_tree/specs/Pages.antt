@@ -10,16 +10,17 @@ use Rattle.tree_messages.specs.GetTree.{GetTreeResponseValue, get_tree_response_
 use Rattle.input_tree.specs.Listing.{Lookup, tree_list}
 use Rattle.input_tree.specs.declared.error.TreeRefusal.{TreeRefusal}
 use Rattle.input_tree.specs.declared.error.TreeRefusal.TheVariants.{BadPage}
+use Rattle.input_tree.specs.declared.pages.TheConstants.{MOST_PAGE_BYTES}
 
 -- how many bytes the records of directories take
 abbrev pub page_bytes : List (List ℕ) → ℕ
 page_bytes directories = length (records_text (repeated_octets_field 1 directories))
 
 -- a page of so many directories and bytes takes one more where it has none, or where it then has at
--- most the size asked for and 4,000,000 bytes
+-- most the size asked for and MOST_PAGE_BYTES
 abbrev pub takes_more : ℕ → ℕ → ℕ → ℕ → Bool
 takes_more size count bytes more =
-    count == 0 || (nat_lt count size && nat_le (bytes + more) 4000000)
+    count == 0 || (nat_lt count size && nat_le (bytes + more) MOST_PAGE_BYTES)
 
 abbrev pub takes : ℕ → List (List ℕ) → List ℕ → Bool
 takes size page t = takes_more size (length page) (page_bytes page) (page_bytes (t ∷ []))

@@ -1,3 +1,5 @@
+//! Why a tree is not listed.
+
 ghost use Rattle.std.specs.Prelude.{◌≡◌};
 ghost use Rattle.input_tree.specs.declared.error.GetTreeError.TheVariants.{Refused, NoMemory};
 
@@ -10,7 +12,7 @@ pub enum TreeRefusal {
     NotFound,
     /// The root is no directory that is taken.
     BadDirectory,
-    /// There are more directories than 10,000.
+    /// There are more directories than [`crate::MOST_DIRECTORIES`].
     TooMany,
     /// The page size is negative, or the token is no place in the list.
     BadPage,

@@ -1,3 +1,5 @@
+//! The texts that going through a tree uses.
+
 ghost use Rattle.std.specs.Prelude.{◌≡◌, ℕ};
 ghost use Rattle.blob_pool.specs.Slots.{Slots};
 ghost use Rattle.instance_view.specs.Shown.{visible_in, holders};

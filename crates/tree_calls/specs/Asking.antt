@@ -1,6 +1,6 @@
 -- What the three calls ask for: the tests that each request begins with, in this order: the message
 -- is read, the instance is the own one, the digest function is known, the digest has its form.
-use Rattle.std.specs.Prelude.{ℕ, ℤ, List, [], Result, Ok, unwrap_or}
+use Rattle.std.specs.Prelude.{ℕ, ℤ, ◌≤◌, List, [], length, Result, Ok, unwrap_or}
 use Rattle.reapi_messages.specs.Results.{◌>>=◌}
 use Rattle.reapi_messages.specs.Fields.{value_of_text}
 use Rattle.tree_messages.specs.GetTree.{get_tree_request_of}
@@ -11,6 +11,10 @@ use Rattle.cas_service.specs.Requests.{message_or_refusal, instance_check, funct
 use Rattle.cas_service.specs.BatchUpdate.{digest_or_refusal}
 use Rattle.tree_calls.specs.declared.asking.TreeAsked.{TreeAsked}
 use Rattle.tree_calls.specs.declared.asking.ResultSent.{ResultSent}
+
+-- a message of a request has at most 4,194,304 bytes
+abbrev pub IsShortRequest : List ℕ → Type 0
+IsShortRequest bytes = length bytes ≤ 4194304
 
 -- the tree of a root, so many directories a page at most, from the place of a token on
 pub record TreeAskedValue : Type 0 where

@@ -12,6 +12,7 @@ use Rattle.tree_messages.specs.Directories.{DirectoryValue, TreeValue, tree_of}
 use Rattle.tree_messages.specs.Results.{ActionResultValue, action_result_of}
 use Rattle.input_tree.specs.Directories.{written_digest}
 use Rattle.input_tree.specs.Listing.{Lookup}
+use Rattle.action_cache.specs.declared.results.TheConstants.{MOST_RESULTS, MOST_RESULT_BYTES}
 use Rattle.tree_calls.specs.Asking.{action_asked}
 use Rattle.tree_calls.specs.GetTree.{texts_seen}
 
@@ -55,5 +56,5 @@ pub record IsCompleteReply (own : List ℕ) (visible results : List Blob)
 
 -- results are no more, and have no more bytes together, than an instance may have
 pub record AreWithin (results : List Blob) : Type 0 where
-  pub few : length results ≤ 10000
-  pub short : total_length results ≤ 67108864
+  pub few : length results ≤ MOST_RESULTS
+  pub short : total_length results ≤ MOST_RESULT_BYTES

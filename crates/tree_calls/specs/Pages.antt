@@ -8,16 +8,17 @@ use Rattle.instance_view.specs.Visible.{Blob}
 use Rattle.tree_messages.specs.GetTree.{GetTreeResponseValue}
 use Rattle.input_tree.specs.Listing.{tree_list}
 use Rattle.input_tree.specs.Pages.{page_bytes, page_text, place_asked, size_asked, texts}
+use Rattle.input_tree.specs.declared.pages.TheConstants.{MOST_PAGE_BYTES}
 use Rattle.tree_calls.specs.Asking.{TreeAskedValue, tree_asked}
 use Rattle.tree_calls.specs.GetTree.{texts_seen}
 use Rattle.tree_calls.specs.Lists.{IsListed}
 
 -- a page has a directory, and no more than a number; where it has several, their records have at
--- most 4,000,000 bytes
+-- most MOST_PAGE_BYTES
 pub record IsBounded (size : ℕ) (page : GetTreeResponseValue) : Type 0 where
   pub some : 0 < length page.directories
   pub few : length page.directories ≤ size
-  pub short : (page_bytes page.directories ≤ 4000000) ⊎ (length page.directories ≡ 1)
+  pub short : (page_bytes page.directories ≤ MOST_PAGE_BYTES) ⊎ (length page.directories ≡ 1)
 
 -- the token of a page behind which these come, the first of which begins at a place
 abbrev pub token_before : ℕ → List GetTreeResponseValue → List ℕ

@@ -7,6 +7,7 @@ ghost use Rattle.instance_view.specs.Visible.{Blob};
 ghost use Rattle.quota_evict.specs.Within.{Within};
 ghost use Rattle.input_tree.specs.Listing.{Lookup, tree_list};
 ghost use Rattle.input_tree.specs.declared.listing.TheConstants.{MOST_DIRECTORIES};
+ghost use Rattle.tree_calls.specs.Asking.{IsShortRequest};
 ghost use Rattle.tree_calls.specs.GetTree.{get_tree_replies};
 ghost use Rattle.tree_calls.specs.Results.{after_get, after_update, get_action_result_reply, update_action_result_reply};
 ghost use Rattle.tree_calls.specs.Lists.{IsWholeTree};
@@ -67,6 +68,6 @@ pub fn replies_are_short()
         AreWithin results → get_action_result_reply own visible results request ≡ Ok reply →
         length reply < 2 ^ 32 }
     ensures update { (own request reply : List ℕ) →
-        length request ≤ 4194304 → update_action_result_reply own request ≡ Ok reply →
+        IsShortRequest request → update_action_result_reply own request ≡ Ok reply →
         length reply < 2 ^ 32 }
 {}

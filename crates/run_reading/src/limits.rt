@@ -10,8 +10,9 @@ ghost use Rattle.grpc_sending.specs.Bytes.{untaken_count};
 ghost use Rattle.grpc_sending.specs.Owed.{OwedItem};
 ghost use Rattle.grpc_sending.specs.Pump.{history_after_pump, history_after_puts};
 ghost use Rattle.grpc_sending.specs.declared.buffer.TheConstants.{CAPACITY};
-ghost use Rattle.grpc_sending.specs.declared.sender.TheConstants.{CONTROL_LIMIT};
+ghost use Rattle.grpc_sending.specs.declared.sender.TheConstants.{CONTROL_LIMIT, PUMP_LIMIT};
 ghost use Rattle.served_instance.specs.declared.instance.TheConstants.{CONNECTION_LIMIT};
+ghost use Rattle.paged_text.specs.declared.text.TheConstants.{PAGE_BYTES};
 ghost use Rattle.resource_names.specs.declared.parse.TheConstants.{MOST_UUID};
 ghost use Rattle.input_tree.specs.declared.listing.TheConstants.{MOST_DIRECTORIES};
 ghost use Rattle.action_cache.specs.declared.results.TheConstants.{MOST_RESULTS, MOST_RESULT_BYTES};
@@ -28,16 +29,19 @@ pub fn limits_of_connections()
     ensures remembered { MAX_REMEMBERED ≡ 128 }
     ensures message { MESSAGE_LIMIT ≡ 4194304 }
     ensures untaken { CAPACITY ≡ 131072 }
+    ensures pump { PUMP_LIMIT ≡ 65536 }
     ensures pumped { (d : List Entry) (items : List OwedItem)
         → history_after_pump d items ≡ history_after_puts (65536 - untaken_count d) d items }
     ensures answers { CONTROL_LIMIT ≡ 131055 }
 {}
 
-/// What an instance keeps to: its connections, the bytes of an upload's uuid, the directories of a
-/// tree, and the results that it keeps, with the bytes of them all.
+/// What an instance keeps to: its connections, the bytes of an upload's uuid, the bytes of a page of
+/// a text that it keeps, the directories of a tree, and the results that it keeps, with the bytes of
+/// them all.
 pub fn limits_of_an_instance()
     ensures connections { CONNECTION_LIMIT ≡ 64 }
     ensures uuid { MOST_UUID ≡ 128 }
+    ensures page { PAGE_BYTES ≡ 65536 }
     ensures directories { MOST_DIRECTORIES ≡ 10000 }
     ensures results { MOST_RESULTS ≡ 10000 }
     ensures result_bytes { MOST_RESULT_BYTES ≡ 67108864 }

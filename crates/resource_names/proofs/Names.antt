@@ -1,5 +1,5 @@
 -- Steps of reading a name, and what they found.
-use Rattle.std.proofs.Common.{◌≡◌, ℕ, ◌==◌, Bool, true, false, cond, List, [], ◌∷◌, ◌++◌, length, Option, Some, None, Result, Ok, Err, refl, sym, ap, subst, ◌∙◌, append_assoc, arith}
+use Rattle.std.proofs.Common.{◌≡◌, ℕ, ◌==◌, Bool, true, false, cond, List, [], ◌∷◌, ◌++◌, length, Option, Some, None, Ok, Err, refl, sym, ap, subst, ◌∙◌, append_assoc, arith}
 use Rattle.std.specs.Prelude.{codes}
 use Rattle.std.specs.List.{AllByRecursion, join_with_byte}
 use Rattle.std.proofs.lemmas.Bool.Decides.{nat_tests}
@@ -7,21 +7,11 @@ use Rattle.std.proofs.lemmas.List.Splits.{join_with_byte-slice_split}
 use Rattle.std.proofs.lemmas.Slice.Eq.{bytes_eq-Decides}
 use Rattle.resource_names.specs.declared.name.NameError.{NameError}
 use Rattle.resource_names.specs.declared.name.NameError.TheVariants.{Form}
-use Rattle.resource_names.specs.Names.{◌>>=◌, or_fault, instance_of, is_blobs}
+use Rattle.resource_names.specs.Names.{or_fault, instance_of, is_blobs}
 use Rattle.resource_names.specs.Segments.{segments_of, joined_segments}
 use Rattle.resource_names.specs.Written.{NoneDivides, HasNoSlash, instance_text}
 use Rattle.resource_names.proofs.SegmentLemmas.{join-append}
 use Rattle.resource_names.proofs.Divisions.{segments-joined_segments, instance_before}
-
--- what a step gave, where all succeed
-pub record Gave {A B : Type 0} (r : Result A NameError) (f : A → Result B NameError) (b : B) : Type 0 where
-  pub value : A
-  pub is : r ≡ Ok value
-  pub rest : f value ≡ Ok b
-
-pub gave : {A B : Type 0} (r : Result A NameError) (f : A → Result B NameError) (b : B) → (r >>= f) ≡ Ok b → Gave r f b
-gave (Ok a) f b h = record { value = a; is = refl; rest = h }
-gave (Err e) f b h = cc
 
 pub was_some : {A : Type 0} (e : NameError) (o : Option A) (x : A) → or_fault e o ≡ Ok x → o ≡ Some x
 was_some e (Some y) x h = let same : y ≡ x = cc in ap Some same

@@ -3,6 +3,7 @@ use Rattle.std.proofs.Common.{◌≡◌, ℕ, ◌||◌, Bool, true, false, cond,
 use Rattle.std.specs.Prelude.{codes}
 use Rattle.std.specs.Fmt.{decimal}
 use Rattle.std.specs.List.{AllByRecursion}
+use Rattle.base128.proofs.Steps.{bind_ok}
 use Rattle.digest.specs.declared.Digest.{Digest}
 use Rattle.digest.specs.Text.{hash_text}
 use Rattle.resource_names.specs.declared.name.NameError.TheVariants.{Form, Compressed}
@@ -11,7 +12,7 @@ use Rattle.resource_names.specs.Segments.{segments_of, joined_segments, division
 use Rattle.resource_names.specs.Written.{WritesRead, HasNoSlash, instance_text}
 use Rattle.resource_names.proofs.Divisions.{segments-word, segments-append, segments-clean, clean-front, divided-found, divided-at, instance_segments, segments-instance, none-instance, instance_before, joined_segments-instance}
 use Rattle.resource_names.proofs.Digests.{IsDigestText, same_digest, digest_found, digest_read, written_digest}
-use Rattle.resource_names.proofs.Names.{gave, was_some, is_blobs-found, instance_found, instance_read, same_segments, text_divided, none_found}
+use Rattle.resource_names.proofs.Names.{was_some, is_blobs-found, instance_found, instance_read, same_segments, text_divided, none_found}
 
 -- a segment that may divide, and is not `compressed-blobs`
 blobs_segment : (segment : List ℕ) (u : Unit {0}) → divides_read segment ≡ true → compression_check segment ≡ Ok u → segment ≡ codes "blobs"
@@ -35,22 +36,22 @@ alone_found (hash ∷ size ∷ segment ∷ segments) d h = cc
 
 pub read_found : (text : List ℕ) (name : ReadNameValue) → read_name text ≡ Ok name → WritesRead text name
 read_found text name h =
-    let d = gave (or_fault Form (division_of divides_read (segments_of text))) _ name h in
-    let u = gave (compression_check d.value.segment) _ name d.rest in
-    let i = gave (instance_of d.value.before) _ name u.rest in
-    let g = gave (digest_alone d.value.after) _ name i.rest in
-    let same : record { instance = i.value; digest = g.value } ≡ name = cc in
-    let at = divided-found divides_read [] (segments_of text) d.value (was_some Form _ d.value d.is) in
-    let blobs = blobs_segment d.value.segment u.value at.test u.is in
-    let alone = alone_found d.value.after g.value g.is in
-    let before : instance_before i.value ≡ joined_segments at.passed = sym (instance_found d.value.before i.value i.is) ∙ at.before_is in
+    let d = bind_ok (or_fault Form (division_of divides_read (segments_of text))) _ name h in
+    let u = bind_ok (compression_check d.0.segment) _ name d.2 in
+    let i = bind_ok (instance_of d.0.before) _ name u.2 in
+    let g = bind_ok (digest_alone d.0.after) _ name i.2 in
+    let same : record { instance = i.0; digest = g.0 } ≡ name = cc in
+    let at = divided-found divides_read [] (segments_of text) d.0 (was_some Form _ d.0 d.1) in
+    let blobs = blobs_segment d.0.segment u.0 at.test u.1 in
+    let alone = alone_found d.0.after g.0 g.1 in
+    let before : instance_before i.0 ≡ joined_segments at.passed = sym (instance_found d.0.before i.0 i.1) ∙ at.before_is in
     let are : segments_of text ≡ at.passed ++ codes "blobs" ∷ alone.hash ∷ alone.size ∷ [] = at.segments_are ∙ same_segments at.passed _ _ _ _ blobs alone.are in
-    let clean = clean-front at.passed (d.value.segment ∷ d.value.after) (subst (AllByRecursion HasNoSlash) at.segments_are (segments-clean text)) in
-    let whole : text ≡ instance_text i.value ++ (codes "blobs" ++ 47 ∷ (alone.hash ++ 47 ∷ alone.size)) = text_divided text i.value at.passed (codes "blobs") alone.hash (alone.size ∷ []) are before in
-    let digest = same_digest alone.hash alone.size g.value alone.written in
+    let clean = clean-front at.passed (d.0.segment ∷ d.0.after) (subst (AllByRecursion HasNoSlash) at.segments_are (segments-clean text)) in
+    let whole : text ≡ instance_text i.0 ++ (codes "blobs" ++ 47 ∷ (alone.hash ++ 47 ∷ alone.size)) = text_divided text i.0 at.passed (codes "blobs") alone.hash (alone.size ∷ []) are before in
+    let digest = same_digest alone.hash alone.size g.0 alone.written in
     subst (WritesRead text) same (record {
-      text_is = whole ∙ ap (λ (rest : List ℕ). instance_text i.value ++ (codes "blobs/" ++ rest)) digest;
-      apart = none_found divides_read i.value at.passed refl clean.0 at.none before;
+      text_is = whole ∙ ap (λ (rest : List ℕ). instance_text i.0 ++ (codes "blobs/" ++ rest)) digest;
+      apart = none_found divides_read i.0 at.passed refl clean.0 at.none before;
       nameable = alone.written.nameable;
     })
 

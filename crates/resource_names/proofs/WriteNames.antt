@@ -6,6 +6,7 @@ use Rattle.std.proofs.lemmas.List.{append-nil}
 use Rattle.std.specs.List.{AllByRecursion, join_with_byte}
 use Rattle.std.proofs.lemmas.Bool.Decides.{nat_tests}
 use Rattle.std.proofs.lemmas.Slice.Eq.{bytes_eq-Decides}
+use Rattle.base128.proofs.Steps.{bind_ok}
 use Rattle.digest.specs.Text.{hash_text}
 use Rattle.resource_names.specs.declared.name.NameError.TheVariants.{Form}
 use Rattle.resource_names.specs.Names.{WriteNameValue, or_fault, is_blobs, divides_write, upload_compression_check, instance_of, uuid_of, blobs_place, digest_of_segments, upload_named, write_name}
@@ -13,7 +14,7 @@ use Rattle.resource_names.specs.Segments.{segments_of, joined_segments, division
 use Rattle.resource_names.specs.Written.{WritesWrite, HasNoSlash, AreFurther, digest_text, instance_text}
 use Rattle.resource_names.proofs.Divisions.{segments-word, segments-append, segments-clean, clean-front, divided-found, divided-at, instance_segments, segments-instance, none-instance, instance_before, joined_segments-instance}
 use Rattle.resource_names.proofs.Digests.{IsDigestText, same_digest, digest_found, digest_read, written_digest}
-use Rattle.resource_names.proofs.Names.{gave, was_some, is_blobs-found, instance_found, instance_read, same_segments, text_divided, none_found}
+use Rattle.resource_names.proofs.Names.{was_some, is_blobs-found, instance_found, instance_read, same_segments, text_divided, none_found}
 
 -- what stands after `uploads`
 record IsUpload (instance : List ℕ) (segments : List (List ℕ)) (name : WriteNameValue) : Type 0 where
@@ -50,12 +51,12 @@ upload_found instance (a ∷ []) name h = cc
 upload_found instance (a ∷ b ∷ []) name h = cc
 upload_found instance (a ∷ b ∷ c ∷ []) name h = cc
 upload_found instance (uuid ∷ place ∷ hash ∷ size ∷ more) name h =
-    let u = gave (uuid_of uuid) _ name h in
-    let p = gave (blobs_place place) _ name u.rest in
-    let g = gave (digest_of_segments hash size) _ name p.rest in
-    let same : record { instance = instance; uuid = u.value; digest = g.value } ≡ name = cc in
-    let id = uuid_found uuid u.value u.is in
-    let blobs = place_found place p.value p.is in
+    let u = bind_ok (uuid_of uuid) _ name h in
+    let p = bind_ok (blobs_place place) _ name u.2 in
+    let g = bind_ok (digest_of_segments hash size) _ name p.2 in
+    let same : record { instance = instance; uuid = u.0; digest = g.0 } ≡ name = cc in
+    let id = uuid_found uuid u.0 u.1 in
+    let blobs = place_found place p.0 p.1 in
     subst (IsUpload instance (uuid ∷ place ∷ hash ∷ size ∷ more)) same (record {
       hash = hash;
       size = size;
@@ -63,7 +64,7 @@ upload_found instance (uuid ∷ place ∷ hash ∷ size ∷ more) name h =
       are = same_segments [] _ _ _ _ id.is (same_segments [] _ _ _ _ blobs refl);
       some = subst (λ (x : List ℕ). 1 ≤ length x) id.is id.some;
       most = subst (λ (x : List ℕ). length x ≤ 128) id.is id.most;
-      written = digest_found hash size g.value g.is;
+      written = digest_found hash size g.0 g.1;
       instance_is = refl;
     })
 
@@ -85,13 +86,13 @@ uploads_segment segment h = (bytes_eq-Decides segment (codes "uploads")).0 h
 
 pub write_found : (text : List ℕ) (name : WriteNameValue) → write_name text ≡ Ok name → WritesWrite text name
 write_found text name h =
-    let d = gave (or_fault Form (division_of divides_write (segments_of text))) _ name h in
-    let u = gave (upload_compression_check d.value.after) _ name d.rest in
-    let i = gave (instance_of d.value.before) _ name u.rest in
-    let up = upload_found i.value d.value.after name i.rest in
-    let at = divided-found divides_write [] (segments_of text) d.value (was_some Form _ d.value d.is) in
-    let uploads = uploads_segment d.value.segment at.test in
-    let before : instance_before name.instance ≡ joined_segments at.passed = ap instance_before up.instance_is ∙ sym (instance_found d.value.before i.value i.is) ∙ at.before_is in
+    let d = bind_ok (or_fault Form (division_of divides_write (segments_of text))) _ name h in
+    let u = bind_ok (upload_compression_check d.0.after) _ name d.2 in
+    let i = bind_ok (instance_of d.0.before) _ name u.2 in
+    let up = upload_found i.0 d.0.after name i.2 in
+    let at = divided-found divides_write [] (segments_of text) d.0 (was_some Form _ d.0 d.1) in
+    let uploads = uploads_segment d.0.segment at.test in
+    let before : instance_before name.instance ≡ joined_segments at.passed = ap instance_before up.instance_is ∙ sym (instance_found d.0.before i.0 i.1) ∙ at.before_is in
     let after = codes "blobs" ∷ up.hash ∷ up.size ∷ up.more in
     let are : segments_of text ≡ at.passed ++ codes "uploads" ∷ name.uuid ∷ after = at.segments_are ∙ same_segments at.passed _ _ _ _ uploads up.are in
     let clean = clean-front at.passed (codes "uploads" ∷ name.uuid ∷ after) (subst (AllByRecursion HasNoSlash) are (segments-clean text)) in

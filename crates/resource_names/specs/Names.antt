@@ -1,7 +1,8 @@
 -- Resource names (remote_execution.proto, "ContentAddressableStorage"; bytestream.proto,
 -- `resource_name`).
-use Rattle.std.specs.Prelude.{◌≡◌, ℕ, Bool, ◌||◌, ◌&&◌, ◌==◌, nat_le, List, [], ◌∷◌, length, Option, Some, None, Result, Ok, Err, if◌then◌else◌, codes}
+use Rattle.std.specs.Prelude.{ℕ, Bool, ◌||◌, ◌&&◌, ◌==◌, nat_le, List, [], ◌∷◌, length, Option, Some, None, Result, Ok, Err, if◌then◌else◌, codes}
 use Rattle.std.specs.Str.{bytes_eq}
+pub use Rattle.base128.specs.Results.{◌>>=◌, Gives}
 use Rattle.digest.specs.declared.Digest.{Digest}
 use Rattle.digest.specs.Text.{hash_in}
 use Rattle.resource_names.specs.declared.name.NameError.{NameError}
@@ -20,13 +21,6 @@ pub record WriteNameValue : Type 0 where
   pub instance : List ℕ
   pub uuid : List ℕ
   pub digest : Digest
-
--- a step, and then one that takes what it gave
-infixl 10 ◌>>=◌
-abbrev pub ◌>>=◌ : {A B : Type 0} → Result A NameError → (A → Result B NameError) →
-    Result B NameError
-(Ok x) >>= f = f x
-(Err e) >>= f = Err e
 
 abbrev pub or_fault : {A : Type 0} → NameError → Option A → Result A NameError
 or_fault e (Some x) = Ok x
@@ -103,8 +97,3 @@ write_name text = do
   _ ← upload_compression_check d.after
   i ← instance_of d.before
   upload_named i d.after
-
--- a function's answer, seen by view, is the answer of a definition
-abbrev pub Gives : {X Y : Type 0} → (X → Y) → Result X NameError → Result Y NameError → Type 0
-Gives view (Ok x) defined = defined ≡ Ok (view x)
-Gives view (Err e) defined = defined ≡ Err e

@@ -1,3 +1,5 @@
+//! `QueryWriteStatus`: how many bytes of an upload are there.
+
 ghost use Rattle.std.specs.Prelude.{◌≡◌, ◌<◌, ◌^◌, IfOk};
 ghost use Rattle.reapi_messages.specs.Results.{Gives};
 ghost use Rattle.reapi_messages.specs.ByteStream.{query_write_status_response_shown};

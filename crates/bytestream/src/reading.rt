@@ -1,3 +1,5 @@
+//! `Read`: the range of a blob that a message asks for.
+
 ghost use Rattle.std.specs.Prelude.{◌≡◌, ◌≤◌, ℕ, Some, length, IfOk, IfSome, OnErr, option_map};
 ghost use Rattle.reapi_messages.specs.Results.{Gives};
 ghost use Rattle.blob_pool.specs.Slots.{Slots, count_at};

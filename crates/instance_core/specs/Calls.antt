@@ -1,10 +1,11 @@
 -- The calls in course of an instance.
-use Rattle.std.specs.Prelude.{ℕ, ◌≤◌, ◌<◌, ◌^◌, Bool, ◌==◌, ◌&&◌, if◌then◌else◌, List, [], ◌∷◌, length, Option}
+use Rattle.std.specs.Prelude.{ℕ, ◌<◌, ◌^◌, Bool, ◌==◌, ◌&&◌, if◌then◌else◌, List, [], ◌∷◌, Option}
 use Rattle.std.specs.List.{AllByRecursion, IsDistinct}
 use Rattle.std.specs.Map.{lookup, remove_entry, keys_of}
 use Rattle.rpc.specs.declared.method.Method.{Method}
 use Rattle.rpc.specs.declared.refusal.Refusal.{Refusal}
 use Rattle.bytestream.specs.Writing.{OpenWriteValue}
+pub use Rattle.tree_calls.specs.Asking.{IsShortRequest}
 use Rattle.instance_core.specs.declared.event.CallId.{CallId}
 
 -- how much of a call's request has come
@@ -48,10 +49,6 @@ pub data CallEventValue : Type 0 where
   end : CallId → CallEventValue
   cancel : CallId → CallEventValue
   tick : CallEventValue
-
--- a message of a request has at most 4,194,304 bytes
-abbrev pub IsShortRequest : List ℕ → Type 0
-IsShortRequest bytes = length bytes ≤ 4194304
 
 abbrev pub IsShortEvent : CallEventValue → Type 0
 IsShortEvent (message id bytes) = IsShortRequest bytes

@@ -6,6 +6,7 @@ use Rattle.reapi_messages.specs.Parts.{text_for}
 use Rattle.reapi_messages.specs.Capabilities.{SemVerValue, ActionCacheUpdateCapabilitiesValue, CacheCapabilitiesValue, ExecutionCapabilitiesValue, ServerCapabilitiesValue, get_capabilities_request_of, server_capabilities_records}
 use Rattle.rpc.specs.declared.refusal.Refusal.{Refusal}
 use Rattle.cas_service.specs.Requests.{message_or_refusal, instance_check}
+use Rattle.cas_service.specs.declared.requests.TheConstants.{MOST_BATCH_BYTES}
 
 -- version 2.0 of the interface
 abbrev pub version : SemVerValue
@@ -14,13 +15,13 @@ version = record { major = pos 2; minor = pos 0 }
 abbrev pub updates : ActionCacheUpdateCapabilitiesValue
 updates = record { update_enabled = true }
 
--- digests are SHA-256 (DigestFunction.Value 1), a batch has at most 4,000,000 bytes, absolute
+-- digests are SHA-256 (DigestFunction.Value 1), a batch has at most MOST_BATCH_BYTES, absolute
 -- targets of symbolic links are DISALLOWED (SymlinkAbsolutePathStrategy.Value 1)
 abbrev pub cache : CacheCapabilitiesValue
 cache = record {
   digest_functions = pos 1 ∷ [];
   action_cache_update_capabilities = Some updates;
-  max_batch_total_size_bytes = pos 4000000;
+  max_batch_total_size_bytes = pos MOST_BATCH_BYTES;
   symlink_absolute_path_strategy = pos 1;
 }
 

@@ -10,6 +10,7 @@ use Rattle.uploads.specs.Uploads.{UploadList, WithinLimits as WithinUploads}
 use Rattle.tree_calls.specs.Complete.{AreWithin}
 use Rattle.instance_core.specs.Calls.{Calls, same_call, KeepShort}
 use Rattle.quota_evict.specs.Kept.{quota_limit}
+pub use Rattle.quota_evict.specs.Kept.{most_blobs}
 
 pub record InstanceState : Type 0 where
   pub name : List ℕ
@@ -36,10 +37,6 @@ new_instance name quota slots = record {
 
 abbrev pub at_moment : ℕ → InstanceState → InstanceState
 at_moment moment s = record s { moment = moment }
-
--- an instance has so many texts at most
-abbrev pub most_blobs : ℕ
-most_blobs = 65536
 
 -- the limits that an instance keeps
 pub record WithinLimits (s : InstanceState) : Type 0 where

@@ -1,3 +1,5 @@
+//! `GetCapabilities`: what the server offers.
+
 ghost use Rattle.std.specs.Prelude.{◌≡◌, IfOk};
 ghost use Rattle.reapi_messages.specs.Capabilities.{sem_ver_shown, cache_capabilities_shown, execution_capabilities_shown, server_capabilities_shown};
 ghost use Rattle.cas_service.specs.Answers.{Answers};

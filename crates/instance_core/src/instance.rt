@@ -1,3 +1,5 @@
+//! One instance: its settings, what it keeps, and the calls in course.
+
 ghost use Rattle.std.specs.Prelude.{◌≡◌, ◌≤◌, ◌+◌, ◌^◌, ℕ, [], OnOk, OnErr, IfOk};
 ghost use Rattle.blob_pool.specs.Slots.{Slots};
 ghost use Rattle.blob_pool.specs.Moves.{Moves};
@@ -17,12 +19,10 @@ use crate::event::{CallEvent, CallId, Reply};
 use action_cache::Results;
 use blob_pool::Pool;
 use instance_view::View;
+use quota_evict::MOST_BLOBS;
 use std::alloc::{AllocError, Global};
 use std::marker::Model;
 use uploads::Uploads;
-
-/// How many texts an instance has at most.
-const MOST_BLOBS: usize = 65_536;
 
 /// One instance of the server. Its texts lie in a pool that it shares with other instances.
 #[derive(Drop)]
@@ -36,19 +36,18 @@ pub struct Instance {
 
 impl Model for Instance {
     ghost use Rattle.std.specs.Prelude.{◌≡◌, ◌≤◌, ◌^◌};
-    ghost use Rattle.quota_evict.specs.Kept.{quota_limit};
+    ghost use Rattle.quota_evict.specs.Kept.{most_blobs, quota_limit};
     ghost use Rattle.instance_core.specs.Slots.{InstanceSlots};
 
     ghost Value = { InstanceSlots };
 
     ghost use Rattle.instance_core.specs.Calls.{AreInCourse};
-    ghost use Rattle.instance_core.specs.State.{most_blobs};
     ghost use Rattle.instance_core.specs.Shown.{slots_of};
 
     ghost view = { λ i. slots_of i.settings i.moment i.contents i.calls };
 
-    ghost invariant = { λ i.
-        (i.settings.quota ≤ quota_limit) × (i.contents.view.limit ≡ most_blobs) × AreInCourse i.calls };
+    ghost invariant = { λ i. (i.settings.quota ≤ quota_limit)
+        × (i.contents.view.limit ≡ most_blobs) × AreInCourse i.calls };
 }
 
 impl Instance {

@@ -1,0 +1,32 @@
+//! The limits of texts, uploads, batches and trees that definitions call by their names, as
+//! numbers.
+
+ghost use Rattle.std.specs.Prelude.{◌≡◌, ◌^◌};
+ghost use Rattle.paged_text.specs.declared.text.TheConstants.{MOST_BYTES};
+ghost use Rattle.instance_view.specs.declared.view.TheConstants.{MOST_LIMIT};
+ghost use Rattle.uploads.specs.declared.steps.TheConstants.{MOST_UPLOADS};
+ghost use Rattle.uploads.specs.declared.table.TheConstants.{UPLOAD_AGE};
+ghost use Rattle.cas_service.specs.declared.requests.TheConstants.{MOST_BATCH_BYTES};
+ghost use Rattle.input_tree.specs.declared.directory.TheConstants.{MOST_DIRECTORY_BYTES};
+ghost use Rattle.input_tree.specs.declared.pages.TheConstants.{MOST_PAGE_BYTES};
+
+/// What texts keep to: the bytes of one text, and how many a view may have at most.
+pub fn limits_of_texts()
+    ensures bytes { MOST_BYTES ≡ 2 ^ 48 }
+    ensures texts { MOST_LIMIT ≡ 2 ^ 31 }
+{}
+
+/// What uploads keep to: how many of them an instance has unfinished, and for how many
+/// milliseconds one is kept that is not written to.
+pub fn limits_of_uploads()
+    ensures uploads { MOST_UPLOADS ≡ 64 }
+    ensures age { UPLOAD_AGE ≡ 600000 }
+{}
+
+/// What batches and trees keep to: the bytes of the blobs of a batch, of a directory, and of the
+/// directories on a page of a tree's list.
+pub fn limits_of_batches_and_trees()
+    ensures batch { MOST_BATCH_BYTES ≡ 4000000 }
+    ensures directory { MOST_DIRECTORY_BYTES ≡ 67108864 }
+    ensures page { MOST_PAGE_BYTES ≡ 4000000 }
+{}

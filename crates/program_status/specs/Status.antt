@@ -1,10 +1,17 @@
 -- The number and the line of each status.
-use Rattle.std.specs.Prelude.{ℕ, List, [], ◌++◌, codes}
+use Rattle.std.specs.Prelude.{ℕ, List, [], ◌++◌, Result, Ok, Err, codes}
 use Rattle.std.specs.Fmt.{decimal}
+use Rattle.script.specs.declared.fault.ScriptFault.{ScriptFault}
+use Rattle.script.specs.declared.fault.ScriptFault.TheVariants as script_fault
 use Rattle.program_status.specs.declared.Fault.{Fault}
 use Rattle.program_status.specs.declared.Fault.TheVariants as fault
 use Rattle.program_status.specs.declared.Status.{Status}
 use Rattle.program_status.specs.declared.Status.TheVariants.{Done, Failed, BadLine, TooFew, OutOfMemory}
+
+-- the status of a run, whose error is the status of one that was not done
+abbrev pub status_of : Result Unit Status → Status
+status_of (Ok done) = Done
+status_of (Err status) = status
 
 -- the number with which the program ends
 abbrev pub code_of : Status → ℕ
@@ -25,6 +32,10 @@ fault_line OutOfMemory = codes "remoted: out of memory\n"
 abbrev pub status_of_fault : Fault → Status
 status_of_fault fault.InputOrOutput = Failed
 status_of_fault fault.OutOfMemory = OutOfMemory
+
+abbrev pub status_of_script_fault : ScriptFault → Status
+status_of_script_fault (script_fault.BadLine number) = BadLine number
+status_of_script_fault script_fault.NoMemory = OutOfMemory
 
 -- the line on standard error where a file cannot be read
 abbrev pub unread_line : List ℕ → List ℕ

@@ -2,11 +2,13 @@
 //! input or file.
 #![tactic(auto)]
 
-ghost use Rattle.std.specs.Prelude.{◌≡◌, ◌≢◌, OnOk, IfOk, IsSome, IfSome, Ok, None};
+ghost use Rattle.std.specs.Prelude.{◌≡◌, ◌≢◌, ◌⊎◌, OnOk, IfOk, IsSome, IfSome, Ok, None};
 ghost use Rattle.std.specs.IoError.{error_kind};
 ghost use Rattle.std.specs.Io.KnownBytes.{Appends};
-ghost use Rattle.program_status.specs.Status.{code_of, fault_line, status_of_fault, unread_line};
+ghost use Rattle.program_status.specs.Status.{code_of, fault_line, status_of, status_of_fault, status_of_script_fault, unread_line};
+ghost use Rattle.program_status.specs.declared.Status.TheVariants.{Failed};
 
+use script::ScriptFault;
 use std::alloc::{AllocError, Global};
 use std::fs;
 use std::io::{self, ErrorKind, Read, Write};
@@ -95,6 +97,42 @@ impl From<AllocError> for Fault {
 
     fn from(_refused: AllocError) -> Fault {
         Fault::OutOfMemory
+    }
+}
+
+impl From<Fault> for Status {
+    ghost from_gives = { λ fault status. status ≡ status_of_fault fault };
+
+    fn from(fault: Fault) -> Status {
+        fault.status()
+    }
+}
+
+impl From<ScriptFault> for Status {
+    ghost from_gives = { λ fault status. status ≡ status_of_script_fault fault };
+
+    fn from(fault: ScriptFault) -> Status {
+        match fault {
+            ScriptFault::BadLine(number) => Status::BadLine(number),
+            ScriptFault::NoMemory => Status::OutOfMemory,
+        }
+    }
+}
+
+/// Tells how a run ended, whose error is the status of one that was not done, and gives the status.
+/// Where the line could not be written, that is `Failed`.
+pub fn told<E: Write>(outcome: Result<(), Status>, errors: &mut E) -> Status
+    ensures status { (result ≡ Failed) ⊎ (result ≡ status_of outcome) }
+    ensures told { result ≢ Failed →
+        Appends (E.contents errors.old) (E.contents errors.new) (fault_line result) }
+{
+    let status = match outcome {
+        Ok(()) => Status::Done,
+        Err(status) => status,
+    };
+    match status.tell(errors) {
+        Ok(()) => status,
+        Err(_) => Status::Failed,
     }
 }
 

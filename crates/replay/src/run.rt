@@ -1,7 +1,7 @@
 //! A script, from its text to the status.
 ghost use Rattle.std.specs.Prelude.{◌≡◌, ◌≢◌, ◌≤◌, ◌^◌, ℕ, length, Ok, None, Some, map, IfOk, IfErr, IfSome};
 ghost use Rattle.std.specs.Io.KnownBytes.{Appends};
-ghost use Rattle.program_status.specs.Status.{fault_line};
+ghost use Rattle.program_status.specs.Status.{fault_line, status_of};
 ghost use Rattle.program_status.specs.declared.Status.TheVariants.{Failed};
 ghost use Rattle.replay.specs.Printed.{printed_text, text_printed_by};
 ghost use Rattle.replay.specs.Outcome.{IsOutcome};
@@ -14,7 +14,7 @@ ghost use Rattle.server_events.specs.Events.{own_events};
 ghost use Rattle.server_events.specs.Shown.{config_value};
 
 use crate::lines::lines;
-use program_status::{Status, read_all};
+use program_status::{Status, read_all, told};
 use script::ScriptFault;
 use script::replay::{EventReader, ReplayScript, parse};
 use server_core::{Outputs, ServerRun};
@@ -64,23 +64,16 @@ fn replayed(alloc: Global, text: &[u8]) -> Result<Vec<u8>, ScriptFault>
     }
 }
 
-fn perform<I: Read, O: Write>(alloc: Global, input: &mut I, output: &mut O) -> Status
+fn perform<I: Read, O: Write>(alloc: Global, input: &mut I, output: &mut O) -> Result<(), Status>
     ensures { IfSome (I.remaining input.old)
-        (λ text. IsOutcome (text_printed_by text) result (O.contents output.old)
+        (λ text. IsOutcome (text_printed_by text) (status_of result) (O.contents output.old)
         (O.contents output.new)) }
 {
-    let text = match read_all(alloc, input) {
-        Ok(text) => text,
-        Err(fault) => return fault.status(),
-    };
-    let lines = match replayed(alloc, &text) {
-        Ok(lines) => lines,
-        Err(ScriptFault::BadLine(number)) => return Status::BadLine(number),
-        Err(ScriptFault::NoMemory) => return Status::OutOfMemory,
-    };
+    let text = read_all(alloc, input)?;
+    let lines = replayed(alloc, &text)?;
     match output.write_all(&lines) {
-        Ok(()) => Status::Done,
-        Err(_) => Status::Failed,
+        Ok(()) => Ok(()),
+        Err(_) => Err(Status::Failed),
     }
 }
 
@@ -100,9 +93,5 @@ pub fn replay<I: Read, O: Write, E: Write>(
     ensures told { result ≢ Failed →
         Appends (E.contents errors.old) (E.contents errors.new) (fault_line result) }
 {
-    let status = perform(alloc, input, output);
-    match status.tell(errors) {
-        Ok(()) => status,
-        Err(_) => Status::Failed,
-    }
+    told(perform(alloc, input, output), errors)
 }

@@ -1,5 +1,5 @@
 -- What is given is what digests of the list name, and complete.
-use Rattle.std.proofs.Common.{◌≡◌, ℕ, zero, suc, Bool, true, false, cond, List, [], ◌∷◌, ◌++◌, map, drop, Option, Some, None, Result, Ok, Err, is_some, refl, sym, subst, if◌then◌else◌}
+use Rattle.std.proofs.Common.{◌≡◌, ℕ, zero, suc, Bool, true, false, List, [], ◌∷◌, ◌++◌, map, drop, Option, Some, None, Result, Ok, Err, is_some, refl, subst, if◌then◌else◌}
 use Rattle.std.specs.Prelude.{unwrap_or, IfSome}
 use Rattle.std.specs.List.{AllByRecursion}
 use Rattle.std.specs.Map.{lookup}
@@ -7,8 +7,7 @@ use Rattle.message_fields.specs.declared.error.MessageError.{MessageError}
 use Rattle.message_fields.specs.Fields.{value_of_text}
 use Rattle.protobuf_wire.proofs.Tools.{bind_ok}
 use Rattle.digest.specs.declared.Digest.{Digest}
-use Rattle.digest.specs.Naming.{Names, same_digest, digest_of}
-use Rattle.digest.proofs.Same.{same_equal, same_names}
+use Rattle.digest.specs.Naming.{Names, same_digest}
 use Rattle.instance_view.specs.Visible.{Blob, visible_text}
 use Rattle.quota_evict.proofs.Seen.{named_by}
 use Rattle.reapi_messages.specs.Digests.{DigestValue}

@@ -1,7 +1,7 @@
 ghost use Rattle.std.specs.Prelude.{◌≡◌, ◌≢◌, ◌++◌, ◌<◌, ℕ, List, [], ◌∷◌, length, map, take, vec_len, OnOk, IfSome, Err};
 ghost use Rattle.std.specs.List.{All};
 ghost use Rattle.std.specs.Io.KnownBytes.{Appends, Keeps};
-ghost use Rattle.program_status.specs.Status.{fault_line};
+ghost use Rattle.program_status.specs.Status.{fault_line, status_of};
 ghost use Rattle.program_status.specs.declared.Status.TheVariants.{Failed};
 ghost use Rattle.program_status.specs.declared.Fault.TheVariants.{OutOfMemory};
 ghost use Rattle.script.specs.UnaryShown.{command_value, unary_script_value};
@@ -11,8 +11,7 @@ ghost use Rattle.unary.specs.Outcome.{IsOutcome};
 
 use crate::session::{answer, open_all};
 use crate::store::Store;
-use program_status::{Fault, Status, read_all};
-use script::ScriptFault;
+use program_status::{Fault, Status, read_all, told};
 use script::unary::{Command, UnaryScript, parse};
 use std::alloc::Global;
 use std::io::{Read, Write};
@@ -77,24 +76,15 @@ fn perform<O: Write>(alloc: Global, script: &UnaryScript, output: &mut O) -> Res
 }
 
 /// Reads a script, carries it out, and writes what it prints.
-fn run<I: Read, O: Write>(alloc: Global, input: &mut I, output: &mut O) -> Status
+fn run<I: Read, O: Write>(alloc: Global, input: &mut I, output: &mut O) -> Result<(), Status>
     ensures { IfSome (I.remaining input.old)
-        (λ text. IsOutcome (lines_of_script text) result (O.contents output.old)
+        (λ text. IsOutcome (lines_of_script text) (status_of result) (O.contents output.old)
         (O.contents output.new)) }
 {
-    let text = match read_all(alloc, input) {
-        Ok(text) => text,
-        Err(fault) => return fault.status(),
-    };
-    let script = match parse(alloc, &text) {
-        Ok(script) => script,
-        Err(ScriptFault::BadLine(number)) => return Status::BadLine(number),
-        Err(ScriptFault::NoMemory) => return Status::OutOfMemory,
-    };
-    match perform(alloc, &script, output) {
-        Ok(()) => Status::Done,
-        Err(fault) => fault.status(),
-    }
+    let text = read_all(alloc, input)?;
+    let script = parse(alloc, &text)?;
+    perform(alloc, &script, output)?;
+    Ok(())
 }
 
 /// Reads a script of calls, carries it out, and writes a line for each command. A fault is told in
@@ -112,9 +102,5 @@ pub fn unary<I: Read, O: Write, E: Write>(
     ensures told { result ≢ Failed →
         Appends (E.contents errors.old) (E.contents errors.new) (fault_line result) }
 {
-    let status = run(alloc, input, output);
-    match status.tell(errors) {
-        Ok(()) => status,
-        Err(_) => Status::Failed,
-    }
+    told(run(alloc, input, output), errors)
 }

@@ -1,9 +1,16 @@
-use Rattle.std.proofs.Common.{◌<◌, length, get_or, arith}
+use Rattle.std.proofs.Common.{◌≡◌, ◌<◌, Some, length, get_or, arith}
+use Rattle.std.specs.List.{slice_get}
 use Rattle.std.proofs.lemmas.Grind.{common_steps}
 use Rattle.std.proofs.lemmas.Option.{slice_get-get_or}
 use Rattle.std.proofs.lemmas.Result.{on_ok_weaker}
+use Rattle.served_instance.specs.Lone.{Lone}
+use Rattle.served_instance.specs.Slots.{ServedSlots, served_state_in}
+use Rattle.served_instance.specs.StandsFor.{StandsFor as IsServed}
+use Rattle.server_core.specs.Shared.{all_in}
+use Rattle.server_core.specs.StandsFor.{StandsAt}
 use Rattle.server_core.proofs.Others.{kept_at, others_after, server_after, stands_here, stands_after, refused_after}
 use Rattle.server_core.proofs.server.step_one.Goals as goal
+use Rattle.server_core.proofs.server.step_one.Goals.{After-step}
 
 pub step-requires : goal.step-requires
 step-requires c =
@@ -13,62 +20,36 @@ step-requires c =
     let lt : i < length xs = grind (arith, common_steps) in
     record { kept = kept_at c.args.pool.now xs i (get_or xs i d) (slice_get-get_or xs i d lt) c.requires.server }
 
+-- the instance to which the event is given, as it was
+abbrev found : After-step → ServedSlots
+found c = get_or c.args.instances.now c.args.event.instance c.index-instances-number.result
+
+there : (c : After-step) → slice_get c.args.instances.now c.args.event.instance ≡ Some (found c)
+there c =
+    let lt : c.args.event.instance < length c.args.instances.now = grind (arith, common_steps) in
+    slice_get-get_or c.args.instances.now c.args.event.instance c.index-instances-number.result lt
+
+stood : (c : After-step) (l : Lone) → StandsAt c.args.event.instance (all_in c.args.pool.now c.args.instances.now) l → IsServed (served_state_in c.args.pool.now (found c)) l
+stood c l s = stands_here c.args.pool.now c.args.instances.now c.args.event.instance (found c) l (there c) s
+
 pub returns-clause-own : goal.returns-clause-own
 returns-clause-own c = λ ne l s.
-    let xs = c.args.instances.now in
-    let i = c.args.event.instance in
-    let d = c.index-instances-number.result in
-    let a = get_or xs i d in
-    let lt : i < length xs = grind (arith, common_steps) in
-    let at = slice_get-get_or xs i d lt in
-    stands_after c.step.new.pool xs i a c.step.new.self _ at (c.step.ensures.stands l (stands_here c.args.pool.now xs i a l at s) ne)
+    stands_after c.step.new.pool c.args.instances.now c.args.event.instance (found c) c.step.new.self _ (there c) (c.step.ensures.stands l (stood c l s) ne)
 
 pub returns-clause-settled : goal.returns-clause-settled
-returns-clause-settled c =
-    let xs = c.args.instances.now in
-    let i = c.args.event.instance in
-    let d = c.index-instances-number.result in
-    let a = get_or xs i d in
-    let lt : i < length xs = grind (arith, common_steps) in
-    let at = slice_get-get_or xs i d lt in
-    on_ok_weaker c.step.result (λ settled l s. settled l (stands_here c.args.pool.now xs i a l at s)) c.step.ensures.settled
+returns-clause-settled c = on_ok_weaker c.step.result (λ settled l s. settled l (stood c l s)) c.step.ensures.settled
 
 pub returns-clause-others : goal.returns-clause-others
 returns-clause-others c = λ j ne.
-    let xs = c.args.instances.now in
-    let i = c.args.event.instance in
-    let d = c.index-instances-number.result in
-    let a = get_or xs i d in
-    let lt : i < length xs = grind (arith, common_steps) in
-    let at = slice_get-get_or xs i d lt in
-    others_after c.args.pool.now c.step.new.pool xs i a c.step.new.self at c.requires.server c.step.ensures.moves j ne
+    others_after c.args.pool.now c.step.new.pool c.args.instances.now c.args.event.instance (found c) c.step.new.self (there c) c.requires.server c.step.ensures.moves j ne
 
 pub returns-clause-outcome : goal.returns-clause-outcome
-returns-clause-outcome c = λ l s.
-    let xs = c.args.instances.now in
-    let i = c.args.event.instance in
-    let d = c.index-instances-number.result in
-    let a = get_or xs i d in
-    let lt : i < length xs = grind (arith, common_steps) in
-    let at = slice_get-get_or xs i d lt in
-    c.step.ensures.outcome l (stands_here c.args.pool.now xs i a l at s)
+returns-clause-outcome c = λ l s. c.step.ensures.outcome l (stood c l s)
 
 pub returns-clause-refused : goal.returns-clause-refused
 returns-clause-refused c =
-    let xs = c.args.instances.now in
-    let i = c.args.event.instance in
-    let d = c.index-instances-number.result in
-    let a = get_or xs i d in
-    let lt : i < length xs = grind (arith, common_steps) in
-    let at = slice_get-get_or xs i d lt in
-    refused_after c.step.result c.args.pool.now c.step.new.pool xs i a c.step.new.self at c.step.ensures.refused
+    refused_after c.step.result c.args.pool.now c.step.new.pool c.args.instances.now c.args.event.instance (found c) c.step.new.self (there c) c.step.ensures.refused
 
 pub returns-clause-server : goal.returns-clause-server
 returns-clause-server c =
-    let xs = c.args.instances.now in
-    let i = c.args.event.instance in
-    let d = c.index-instances-number.result in
-    let a = get_or xs i d in
-    let lt : i < length xs = grind (arith, common_steps) in
-    let at = slice_get-get_or xs i d lt in
-    server_after c.args.pool.now c.step.new.pool xs i a c.step.new.self at c.requires.server c.step.ensures.moves c.step.ensures.kept
+    server_after c.args.pool.now c.step.new.pool c.args.instances.now c.args.event.instance (found c) c.step.new.self (there c) c.requires.server c.step.ensures.moves c.step.ensures.kept

@@ -1,33 +1,18 @@
 -- The division of a text, by what stands at its front; when more follows; and as the grammar has it.
-use Rattle.std.proofs.Common.{◌≡◌, ℕ, zero, suc, ◌+◌, ◌<◌, ◌≤◌, List, [], ◌∷◌, ◌++◌, length, take, drop, Option, Some, None, Result, Ok, Err, refl, sym, ap, subst, ◌∙◌, append_assoc, arith}
+use Rattle.std.proofs.Common.{◌≡◌, ℕ, zero, suc, ◌+◌, ◌<◌, List, [], ◌∷◌, ◌++◌, length, take, drop, Option, Some, None, Result, Ok, Err, refl, sym, ap, subst, ◌∙◌, append_assoc, arith}
 use Rattle.std.specs.List.{AllByRecursion}
 use Rattle.std.proofs.Math.Seq.{drop-append_seam}
-use Rattle.std.proofs.lemmas.List.{drop-append-le, length-drop, take-append-drop}
-use Rattle.wire_items.specs.Items.{Format, Division, behind, rest_only, fault_only, divide_by, divide_in, divide, IsSteady}
+use Rattle.std.proofs.lemmas.List.{append-nil, drop-append-le, length-drop, take-append-drop}
+use Rattle.wire_items.specs.Items.{Format, Division, behind, rest_only, fault_only, divide_by, divide_in, divide, divide_left, IsSteady}
 use Rattle.wire_items.specs.Grammar.{Spells, IsDivision, Reads}
+
+pub behind_both : {A E : Type 0} (xs ys : List A) (d : Division A E) → behind xs (behind ys d) ≡ behind (xs ++ ys) d
+behind_both {A = A} xs ys d = ap (λ (zs : List A). record { items = zs; end = d.end }) (sym (append_assoc xs ys d.items))
 
 -- the items of the one division and then others; after a fault nothing is added
 pub record Grows {A E : Type 0} (d e : Division A E) : Type 0 where
   pub more : (later : List A) × (e.items ≡ d.items ++ later)
   pub ended : (x : E) → d.end ≡ Err x → e ≡ d
-
-no_fault : {E : Type 0} (r : List ℕ) (x : E) (e : Result (List ℕ) E) → e ≡ Ok r → e ≡ Err x → ⊥
-no_fault r x e h k = cc
-
-pub from_rest : {A E : Type 0} (r : List ℕ) (d : Division A E) → Grows (rest_only r) d
-from_rest r d = record { more = (d.items, refl); ended = λ x h. absurd (no_fault r x _ refl h) }
-
-pub from_fault : {A E : Type 0} (x : E) → Grows {A = A} (fault_only x) (fault_only x)
-from_fault x = record { more = ([], refl); ended = λ y h. refl }
-
-from_item : {A E : Type 0} (x : A) (d e : Division A E) → Grows d e → Grows (behind (x ∷ []) d) (behind (x ∷ []) e)
-from_item {A = A} x d e g = record {
-  more = (g.more.0, ap (λ (xs : List A). x ∷ xs) g.more.1);
-  ended = λ y h. ap (behind (x ∷ [])) (g.ended y h);
-}
-
-pub grows_as : {A E : Type 0} (d d' e e' : Division A E) → d ≡ d' → e ≡ e' → Grows d' e' → Grows d e
-grows_as {A = A} {E = E} d d' e e' p q g = subst (λ (x : Division A E). Grows x e) (sym p) (subst (λ (x : Division A E). Grows d' x) (sym q) g)
 
 module _ {A E : Type 0} (f : Format A E) (steady : IsSteady f) where
   shrinks : (t : List ℕ) (n : ℕ) → f.whole_at t ≡ Ok (Some n) → length (drop (f.head + n) t) < length t
@@ -75,19 +60,32 @@ module _ {A E : Type 0} (f : Format A E) (steady : IsSteady f) where
 
   -- ---- a text that grows
 
-  grows_in : (k : ℕ) (t more : List ℕ) → length t < k → Grows (divide f t) (divide f (t ++ more))
-  grows_in zero t more p = absurd (omega arith)
-  grows_in (suc k) t more p = go (f.whole_at t) refl (λ (r : List ℕ) (q : length r < k). grows_in k r more q) where
-    go : (w : Result (Option ℕ) E) → f.whole_at t ≡ w → ((r : List ℕ) → length r < k → Grows (divide f r) (divide f (r ++ more))) → Grows (divide f t) (divide f (t ++ more))
-    go (Ok None) e others = grows_as _ (rest_only t) _ (divide f (t ++ more)) (divide_partial t e) refl (from_rest t (divide f (t ++ more)))
-    go (Err x) e others = grows_as _ (fault_only x) _ (fault_only x) (divide_fault t x e) (divide_fault_more t more x e) (from_fault x)
+  abbrev IsFront : List ℕ → Division A E → Division A E → Type 0
+  IsFront more d e = e ≡ behind d.items (divide_left f d.end more)
+
+  continues_in : (k : ℕ) (t more : List ℕ) → length t < k → IsFront more (divide f t) (divide f (t ++ more))
+  continues_in zero t more p = absurd (omega arith)
+  continues_in (suc k) t more p = go (f.whole_at t) refl (λ (r : List ℕ) (q : length r < k). continues_in k r more q) where
+    go : (w : Result (Option ℕ) E) → f.whole_at t ≡ w → ((r : List ℕ) → length r < k → IsFront more (divide f r) (divide f (r ++ more))) → IsFront more (divide f t) (divide f (t ++ more))
+    go (Ok None) e others = subst (λ (d : Division A E). IsFront more d (divide f (t ++ more))) (sym (divide_partial t e)) refl
+    go (Err x) e others = subst (λ (d : Division A E). IsFront more d (divide f (t ++ more))) (sym (divide_fault t x e)) (divide_fault_more t more x e)
     go (Ok (Some n)) e others =
         let r : List ℕ = drop (f.head + n) t in
-        grows_as _ (behind (f.item_at t ∷ []) (divide f r)) _ (behind (f.item_at t ∷ []) (divide f (r ++ more))) (divide_whole t n e) (divide_whole_more t more n e)
-        (from_item (f.item_at t) (divide f r) (divide f (r ++ more)) (let less = shrinks t n e in others r (omega arith)))
+        let less = shrinks t n e in
+        subst (λ (d : Division A E). IsFront more d (divide f (t ++ more))) (sym (divide_whole t n e))
+        (divide_whole_more t more n e ∙ ap (behind (f.item_at t ∷ [])) (others r (omega arith)) ∙ behind_both (f.item_at t ∷ []) (divide f r).items (divide_left f (divide f r).end more))
+
+  pub continues : (t more : List ℕ) → divide f (t ++ more) ≡ behind (divide f t).items (divide_left f (divide f t).end more)
+  continues t more = continues_in (suc (length t)) t more (omega arith)
 
   pub grows : (t more : List ℕ) → Grows (divide f t) (divide f (t ++ more))
-  grows t more = grows_in (suc (length t)) t more (omega arith)
+  grows t more = record {
+    more = ((divide_left f (divide f t).end more).items, ap (λ (d : Division A E). d.items) (continues t more));
+    ended = λ x h.
+        continues t more ∙ ap (λ (r : Result (List ℕ) E). behind (divide f t).items (divide_left f r more)) h
+        ∙ ap (λ (xs : List A). record { items = xs; end = Err x }) (append-nil (divide f t).items)
+        ∙ ap (λ (r : Result (List ℕ) E). record { items = (divide f t).items; end = r }) (sym h);
+  }
 
   -- ---- what holds of each whole item
 

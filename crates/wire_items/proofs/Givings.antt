@@ -2,9 +2,7 @@
 use Rattle.std.proofs.Common.{◌≡◌, ℕ, List, [], ◌++◌, Ok, Err, sym, ap, ◌∙◌, append_assoc}
 use Rattle.std.proofs.lemmas.List.{append-nil}
 use Rattle.wire_items.specs.Items.{Division, behind, rest_only, fault_only, AreGiven}
-
-pub behind_both : {A E : Type 0} (xs ys : List A) (d : Division A E) → behind xs (behind ys d) ≡ behind (xs ++ ys) d
-behind_both {A = A} xs ys d = ap (λ (zs : List A). record { items = zs; end = d.end }) (sym (append_assoc xs ys d.items))
+use Rattle.wire_items.proofs.Divisions.{behind_both}
 
 module _ {A E : Type 0} (divided left : List ℕ → Division A E) (text : List ℕ) (given : List A) (stands : AreGiven divided left text given) where
   pub given_more : (later : List ℕ → Division A E) (next : List A) → ((more : List ℕ) → left more ≡ behind next (later more)) → AreGiven divided later text (given ++ next)

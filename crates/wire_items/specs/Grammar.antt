@@ -1,5 +1,5 @@
 -- Items as a grammar has them: which bytes are an item, and what can stand behind the last one.
-use Rattle.std.specs.Prelude.{◌≡◌, ℕ, ◌+◌, List, [], ◌∷◌, ◌++◌, length, take, Option, Some, None, Result, Ok, Err}
+use Rattle.std.specs.Prelude.{◌≡◌, ℕ, ◌+◌, List, [], ◌∷◌, ◌++◌, length, take, Some, None, Result, Ok, Err}
 use Rattle.wire_items.specs.Items.{Format, Division}
 
 -- one item after another, and nothing else

@@ -24,7 +24,8 @@ abbrev pub fault_only : {A E : Type 0} → E → Division A E
 fault_only e = record { items = []; end = Err e }
 
 -- the bytes divided by what stands at their front, and what follows it by another division
-abbrev pub divide_by : {A E : Type 0} → Format A E → Result (Option ℕ) E → List ℕ → (List ℕ → Division A E) → Division A E
+abbrev pub divide_by : {A E : Type 0} → Format A E → Result (Option ℕ) E → List ℕ →
+    (List ℕ → Division A E) → Division A E
 divide_by f (Ok None) bytes later = rest_only bytes
 divide_by f (Ok (Some n)) bytes later =
     behind (f.item_at bytes ∷ []) (later (drop (f.head + n) bytes))
@@ -38,6 +39,11 @@ divide_in f (suc more) bytes = divide_by f (f.whole_at bytes) bytes (divide_in f
 -- a text has fewer items than bytes
 abbrev pub divide : {A E : Type 0} → Format A E → List ℕ → Division A E
 divide f text = divide_in f (suc (length text)) text
+
+-- what is left of a text, and the bytes that follow it
+abbrev pub divide_left : {A E : Type 0} → Format A E → Result (List ℕ) E → List ℕ → Division A E
+divide_left f (Ok rest) more = divide f (rest ++ more)
+divide_left f (Err e) more = fault_only e
 
 -- a head has a byte at least, and what is whole or refused at the front of a text stays so, whatever
 -- follows
@@ -53,4 +59,5 @@ pub record IsSteady {A E : Type 0} (f : Format A E) : Type 0 where
 -- behind these items of a text stand those of what is left of it, whatever follows
 abbrev pub AreGiven : {A E : Type 0} → (List ℕ → Division A E) → (List ℕ → Division A E) →
     List ℕ → List A → Type 0
-AreGiven divided left text given = (more : List ℕ) → divided (text ++ more) ≡ behind given (left more)
+AreGiven divided left text given =
+    (more : List ℕ) → divided (text ++ more) ≡ behind given (left more)

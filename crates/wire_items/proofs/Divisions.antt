@@ -110,8 +110,8 @@ module _ {A E : Type 0} (f : Format A E) (steady : IsSteady f) where
         divide_whole_more x rest one.size one.whole
         ∙ ap (λ (y : A). behind (y ∷ []) (divide f (drop (f.head + one.size) x ++ rest))) one.is
         ∙ ap (λ (r : List ℕ). behind (item ∷ []) (divide f r)) (past one.size one.sized) where
-      past : (n : ℕ) → f.head + n ≡ length x → drop (f.head + n) x ++ rest ≡ rest
-      past n e = sym (drop-append-le (f.head + n) x rest (omega arith)) ∙ ap (λ (k : ℕ). drop k (x ++ rest)) e ∙ drop-append_seam x rest
+          past : (n : ℕ) → f.head + n ≡ length x → drop (f.head + n) x ++ rest ≡ rest
+          past n e = sym (drop-append-le (f.head + n) x rest (omega arith)) ∙ ap (λ (k : ℕ). drop k (x ++ rest)) e ∙ drop-append_seam x rest
 
     only_from : (front rest : List ℕ) (items : List A) (end : Result (List ℕ) E) → Spells IsItem front items → IsEnd rest end → divide f (front ++ rest) ≡ record { items = items; end = end }
     only_from front rest [] (Ok r) h e =

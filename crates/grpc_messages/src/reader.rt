@@ -94,31 +94,23 @@ impl Messages {
             return Err(refusal);
         }
         self.discard_given();
-        self.make_room(piece.len())?;
-        extend(&mut self.prefix, &mut self.behind, piece)?;
+        extend(&mut self.prefix, &mut self.behind, self.given, piece)?;
         Ok(())
     }
 
-    /// Lets go of what was given, once that is at least half of what is kept: so each byte is
-    /// moved at most once for each byte received.
+    /// Lets go of what was given, where the message at the front is not whole, or once that is at
+    /// least half of what is kept. So the work is linear: nothing is given again before that
+    /// message is whole, so that its bytes are moved once; and else no more bytes are moved than
+    /// are let go.
     fn discard_given(&mut self)
         ensures { self.new ≡ self.old }
     {
-        if self.given >= self.behind.len() - self.given {
+        let left = self.behind.len() - self.given;
+        let is_unfinished = missing(self.prefix.as_slice(), left) > 0;
+        if self.given > 0 && (is_unfinished || self.given >= left) {
             self.behind.drain(..self.given);
             self.given = 0;
         }
-    }
-
-    /// Asks at once for the room of a message that is not whole with the next `count` bytes.
-    fn make_room(&mut self, count: usize) -> Result<(), AllocError>
-        ensures { self.new ≡ self.old }
-    {
-        let missing = missing(self.prefix.as_slice(), self.behind.len() - self.given);
-        if missing > count {
-            self.behind.reserve(missing + SLACK)?;
-        }
-        Ok(())
     }
 
     /// The next message, or `None` where no further one is whole. A reader that refused repeats its
@@ -169,7 +161,7 @@ impl Messages {
                 Ok(Some(Message::new(bytes)))
             }
             Err(refusal) => {
-                self.refusal = Some(refusal);
+                self.refuse(refusal);
                 Err(refusal)
             }
         }
@@ -215,8 +207,21 @@ impl Messages {
             Ok(_) => Err(MessagesError::CutOff),
             Err(refusal) => Err(refusal),
         };
-        self.refusal = answer.err();
+        if let Err(refusal) = answer {
+            self.refuse(refusal);
+        }
         answer
+    }
+
+    /// Refuses from here on, and keeps nothing but that.
+    fn refuse(&mut self, refusal: MessagesError)
+        requires { refusal ≢ MessagesError.NoMemory }
+        ensures { self.new ≡ Err refusal }
+    {
+        self.prefix.clear();
+        self.behind = Vec::new(*self.behind.allocator());
+        self.given = 0;
+        self.refusal = Some(refusal);
     }
 }
 
@@ -228,8 +233,8 @@ fn behind_given(behind: &[u8], given: usize) -> &[u8]
     &behind[given..]
 }
 
-/// How many bytes are missing of the message behind the prefix, of which `come` have come. Of no
-/// message more than [`MESSAGE_LIMIT`] are wanted.
+/// How many bytes are missing of the message behind the prefix, of which `come` have come. Of one
+/// that is refused none are wanted.
 fn missing(prefix: &[u8], come: usize) -> usize
     ensures { result ≤ MESSAGE_LIMIT }
 {
@@ -237,15 +242,23 @@ fn missing(prefix: &[u8], come: usize) -> usize
         return 0;
     }
     let size = BigEndian::read_u32(&prefix[1..]) as usize;
-    size.min(MESSAGE_LIMIT).saturating_sub(come)
+    if prefix[0] == 0 && size <= MESSAGE_LIMIT {
+        size.saturating_sub(come)
+    } else {
+        0
+    }
 }
 
-/// Appends the piece: to the prefix, until that is whole, and else behind it.
+/// Appends the piece: to the prefix, until that is whole, and else behind it, where `given` bytes
+/// are of the messages before. For a message that is not whole with the piece, the room for all
+/// that is missing is asked for at once.
 fn extend(
     prefix: &mut ArrayVec<u8, PREFIX_LENGTH>,
     behind: &mut Vec<u8>,
+    given: usize,
     piece: &[u8],
 ) -> Result<(), AllocError>
+    requires { given ≤ length behind.old.items }
     ensures prefix { OnOk result (prefix.new.items
         ≡ prefix.old.items ++ take (5 - length prefix.old.items) piece.now) }
     ensures behind { OnOk result (behind.new.items
@@ -254,8 +267,15 @@ fn extend(
         × (behind.new.items ≡ behind.old.items)) }
 {
     let count = piece.len().min(PREFIX_LENGTH - prefix.len());
+    let mut joined = ArrayVec::new();
+    append_to_prefix(&mut joined, prefix.as_slice());
+    append_to_prefix(&mut joined, &piece[..count]);
+    let missing = missing(joined.as_slice(), behind.len() - given);
+    if missing > piece.len() - count {
+        behind.reserve(missing + SLACK)?;
+    }
     behind.extend_from_slice(&piece[count..])?;
-    append_to_prefix(prefix, &piece[..count]);
+    *prefix = joined;
     Ok(())
 }
 
@@ -289,7 +309,8 @@ fn whole_at(prefix: &[u8], behind: &[u8]) -> Result<Option<usize>, MessagesError
 }
 
 /// Takes the message behind the prefix, which has `size` bytes, and begins the next prefix with
-/// what follows it. Where memory is refused nothing is taken.
+/// what follows it. Where nothing was given before the message the buffer itself is handed on,
+/// unless more follows the message than it has. Where memory is refused nothing is taken.
 fn take_front(
     prefix: &mut ArrayVec<u8, PREFIX_LENGTH>,
     behind: &mut Vec<u8>,
@@ -307,30 +328,35 @@ fn take_front(
     ensures err { OnErr result ((prefix.new.items ≡ prefix.old.items)
         × (behind.new.items ≡ behind.old.items) × (given.new ≡ given.old)) }
 {
-    let message = cut_front(behind, given, size)?;
+    let end = *given + size;
+    if *given == 0 && behind.len() - end <= size {
+        return hand_on(prefix, behind, size);
+    }
+    let message = copy_of(*behind.allocator(), &behind[*given..end])?;
+    *given = end;
     begin_prefix(prefix, behind, given);
     Ok(message)
 }
 
-/// Takes the next `size` bytes. Where nothing was given before them the buffer itself is handed on,
-/// unless more follows them than they are.
-fn cut_front(behind: &mut Vec<u8>, given: &mut usize, size: usize) -> Result<Vec<u8>, AllocError>
-    requires { given.old + size ≤ length behind.old.items }
-    ensures message { IfOk result (λ message. message.items
-        ≡ take size (drop given.old behind.old.items)) }
-    ensures rest { OnOk result (drop given.new behind.new.items
-        ≡ drop (given.old + size) behind.old.items) }
-    ensures within { OnOk result (given.new ≤ length behind.new.items) }
-    ensures err { OnErr result ((behind.new.items ≡ behind.old.items)
-        × (given.new ≡ given.old)) }
+/// Hands on the buffer with its first `size` bytes. What follows them begins a new prefix and a new
+/// buffer, so that nothing stands before the next message there either.
+fn hand_on(
+    prefix: &mut ArrayVec<u8, PREFIX_LENGTH>,
+    behind: &mut Vec<u8>,
+    size: usize,
+) -> Result<Vec<u8>, AllocError>
+    requires { size ≤ length behind.old.items }
+    ensures message { IfOk result (λ message. message.items ≡ take size behind.old.items) }
+    ensures rest { OnOk result (prefix.new.items ++ behind.new.items
+        ≡ drop size behind.old.items) }
+    ensures none { OnOk result (length prefix.new.items < 5 → length behind.new.items ≡ 0) }
+    ensures err { OnErr result ((prefix.new.items ≡ prefix.old.items)
+        × (behind.new.items ≡ behind.old.items)) }
 {
-    let end = *given + size;
-    if *given > 0 || behind.len() - end > size {
-        let message = copy_of(*behind.allocator(), &behind[*given..end])?;
-        *given = end;
-        return Ok(message);
-    }
-    let rest = copy_of(*behind.allocator(), &behind[end..])?;
+    let mut next = ArrayVec::new();
+    let mut rest = Vec::new(*behind.allocator());
+    extend(&mut next, &mut rest, 0, &behind[size..])?;
+    *prefix = next;
     let mut message = mem::replace(behind, rest);
     message.truncate(size);
     Ok(message)

@@ -62,9 +62,9 @@ by_end_on d (Err fault) es h = tt
 text_on : (d : List Entry) (s : ℕ) (before content : List ℕ) (e : Bool) → IsAnswerableStream d s → AreAnswerable d (events_of_content s before content e)
 text_on d s before content e h =
     let whole : Split = messages_of (before ++ content) in
-    let count : ℕ = length (messages_of before).messages in
+    let count : ℕ = length (messages_of before).items in
     by_end_on d (messages_of before).end (events_behind_front s e count whole)
-    (all_append (IsAnswerable d) (map (MessageCame s) (drop count whole.messages)) (events_behind_messages s e whole.end) (messages_on d s (drop count whole.messages) h) (behind_on d s e whole.end h))
+    (all_append (IsAnswerable d) (map (MessageCame s) (drop count whole.items)) (events_behind_messages s e whole.end) (messages_on d s (drop count whole.items) h) (behind_on d s e whole.end h))
 
 call_text_on : (d e : List Entry) (s : ℕ) (content : List ℕ) (end_stream : Bool) → IsAnswerableStream e s → AreAnswerable e (cond (is_call d s) (events_of_content s (stream_text d s) content end_stream) [])
 call_text_on d e s content end_stream h = choose (AreAnswerable e) (is_call d s) (events_of_content s (stream_text d s) content end_stream) [] (λ _. text_on e s (stream_text d s) content end_stream h) (λ _. tt)

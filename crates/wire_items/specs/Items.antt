@@ -45,8 +45,8 @@ abbrev pub divide_left : {A E : Type 0} → Format A E → Result (List ℕ) E �
 divide_left f (Ok rest) more = divide f (rest ++ more)
 divide_left f (Err e) more = fault_only e
 
--- a head has a byte at least, and what is whole or refused at the front of a text stays so, whatever
--- follows
+-- a head has a byte at least, and what is whole or refused at the front of a text stays so,
+-- whatever follows
 pub record IsSteady {A E : Type 0} (f : Format A E) : Type 0 where
   pub some : 0 < f.head
   pub fits : (t : List ℕ) (n : ℕ) → f.whole_at t ≡ Ok (Some n) → f.head + n ≤ length t

@@ -28,7 +28,7 @@ use Rattle.conn_core.specs.declared.event.CallEvent.{CallEvent}
 use Rattle.conn_core.specs.declared.event.CallEvent.TheVariants.{Message as MessageCame, Cancel as CallCancel}
 use Rattle.conn_core.specs.Calls.{is_call, stream_text, messages_of, events_at_end, events_behind_messages, events_behind_front, events_by_end, events_of_content, events_of_request, call_events_of, cancels, answer_to_head, items_at_once}
 use Rattle.conn_core.specs.Past.{Past, with_frame}
-use Rattle.conn_core.specs.Received.{Outcome, outcome, fault_outcome, may_put_all, frame_entries}
+use Rattle.conn_core.specs.Received.{Outcome, outcome, may_put_all, frame_entries}
 use Rattle.conn_core.proofs.Answered.{good, outcome_good, outcome_cut, outcome_fault}
 use Rattle.conn_core.proofs.Numbers.{any_later, same_number}
 use Rattle.client_reading.specs.Answerable.{IsAnswerableStream, IsAnswerable, CanGoOn, AreAnswerableCalls, AnswersOnStreams}

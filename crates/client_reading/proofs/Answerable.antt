@@ -28,7 +28,7 @@ use Rattle.conn_core.specs.declared.event.CallEvent.{CallEvent}
 use Rattle.conn_core.specs.declared.event.CallEvent.TheVariants.{Message as MessageCame, Cancel as CallCancel}
 use Rattle.conn_core.specs.Calls.{is_call, stream_text, messages_of, events_at_end, events_behind_messages, events_behind_front, events_by_end, events_of_content, events_of_request, call_events_of, cancels, answer_to_head, items_at_once}
 use Rattle.conn_core.specs.Past.{Past, with_frame}
-use Rattle.conn_core.specs.Received.{Outcome, outcome, fault_outcome, may_put_all, frame_entries}
+use Rattle.conn_core.specs.Received.{Outcome, outcome, may_put_all, frame_entries}
 use Rattle.conn_core.proofs.Answered.{good, outcome_good, outcome_cut, outcome_fault}
 use Rattle.conn_core.proofs.Numbers.{any_later, same_number}
 use Rattle.client_reading.specs.Answerable.{IsAnswerableStream, IsAnswerable, CanGoOn, AreAnswerableCalls, AnswersOnStreams}
@@ -62,9 +62,9 @@ by_end_on d (Err fault) es h = tt
 text_on : (d : List Entry) (s : ℕ) (before content : List ℕ) (e : Bool) → IsAnswerableStream d s → AreAnswerable d (events_of_content s before content e)
 text_on d s before content e h =
     let whole : Split = messages_of (before ++ content) in
-    let count : ℕ = length (messages_of before).messages in
+    let count : ℕ = length (messages_of before).items in
     by_end_on d (messages_of before).end (events_behind_front s e count whole)
-    (all_append (IsAnswerable d) (map (MessageCame s) (drop count whole.messages)) (events_behind_messages s e whole.end) (messages_on d s (drop count whole.messages) h) (behind_on d s e whole.end h))
+    (all_append (IsAnswerable d) (map (MessageCame s) (drop count whole.items)) (events_behind_messages s e whole.end) (messages_on d s (drop count whole.items) h) (behind_on d s e whole.end h))
 
 call_text_on : (d e : List Entry) (s : ℕ) (content : List ℕ) (end_stream : Bool) → IsAnswerableStream e s → AreAnswerable e (cond (is_call d s) (events_of_content s (stream_text d s) content end_stream) [])
 call_text_on d e s content end_stream h = choose (AreAnswerable e) (is_call d s) (events_of_content s (stream_text d s) content end_stream) [] (λ _. text_on e s (stream_text d s) content end_stream h) (λ _. tt)

@@ -3,7 +3,8 @@ use Rattle.std.proofs.Common.{◌≡◌, ℕ, ◌<◌, ◌^◌, ◌%◌, List, [
 use Rattle.std.specs.List.{AllByRecursion}
 use Rattle.std.proofs.lemmas.List.Sums.{fold-append}
 use Rattle.http2_frames.specs.declared.frame.RawFrame.{RawFrame}
-use Rattle.http2_frames.specs.Wire.{Spells, Split, IsSplit}
+use Rattle.wire_items.specs.Grammar.{Spells}
+use Rattle.http2_frames.specs.Wire.{IsFrameText, Split, IsSplit}
 use Rattle.http2_frames.specs.Reading.{split}
 use Rattle.http2_frames.proofs.Divisions.{split_found}
 use Rattle.conn_core.specs.Past.{Past, opening}
@@ -15,16 +16,16 @@ use Rattle.client_reading.proofs.All.{reads_past}
 below : (n m : ℕ) → n % 2 ^ 31 ≡ m → m < 2 ^ 31
 below n m h = omega (arith, h)
 
-spelled_frames : (text : List ℕ) (fs : List RawFrame) → Spells text fs → AllByRecursion IsReceivable fs
+spelled_frames : (text : List ℕ) (fs : List RawFrame) → Spells IsFrameText text fs → AllByRecursion IsReceivable fs
 spelled_frames text [] h = tt
 spelled_frames text (f ∷ fs) h = let t = h.3 in ((t.short, below _ f.stream t.stream), spelled_frames h.1 fs h.4)
 
-split_frames : (p text : List ℕ) (s : Split) → IsSplit p text s → AllByRecursion IsReceivable s.frames
-split_frames p text s (inl h) = spelled_frames h.2.front s.frames h.2.frames
-split_frames p text s (inr (inl h)) = subst (λ (x : Split). AllByRecursion IsReceivable x.frames) (sym h.1) tt
-split_frames p text s (inr (inr h)) = subst (λ (x : Split). AllByRecursion IsReceivable x.frames) (sym h.1) tt
+split_frames : (p text : List ℕ) (s : Split) → IsSplit p text s → AllByRecursion IsReceivable s.items
+split_frames p text s (inl h) = spelled_frames h.2.front s.items h.2.items
+split_frames p text s (inr (inl h)) = subst (λ (x : Split). AllByRecursion IsReceivable x.items) (sym h.1) tt
+split_frames p text s (inr (inr h)) = subst (λ (x : Split). AllByRecursion IsReceivable x.items) (sym h.1) tt
 
-pub frames_received : (p text : List ℕ) → AllByRecursion IsReceivable (split p text).frames
+pub frames_received : (p text : List ℕ) → AllByRecursion IsReceivable (split p text).items
 frames_received p text = split_frames p text (split p text) (split_found p text)
 
 pub first_past : IsPast opening

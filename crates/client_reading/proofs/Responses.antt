@@ -47,12 +47,12 @@ AreShort limit ms = AllByRecursion (λ m. length m ≤ limit) ms
 abbrev AreWithin : ℕ → List Single → Type 0
 AreWithin limit items = AllByRecursion (IsSingleWithin limit) items
 
-whole_split : (limit : ℕ) (ms : List (List ℕ)) (part : List ℕ) → limit < 2 ^ 32 → AreShort limit ms → part ≡ [] → split limit (flat_map framed_message ms ++ part) ≡ record { messages = ms; end = Ok part }
+whole_split : (limit : ℕ) (ms : List (List ℕ)) (part : List ℕ) → limit < 2 ^ 32 → AreShort limit ms → part ≡ [] → split limit (flat_map framed_message ms ++ part) ≡ record { items = ms; end = Ok part }
 whole_split limit ms part small all is =
-    let f : split limit (flat_map framed_message ms ++ []) ≡ record { messages = ms; end = Ok [] } = part_split limit ms [] [] (framed_message []) small all (omega arith) refl (omega arith) in
-    subst (λ (p : List ℕ). split limit (flat_map framed_message ms ++ p) ≡ record { messages = ms; end = Ok p }) (sym is) f
+    let f : split limit (flat_map framed_message ms ++ []) ≡ record { items = ms; end = Ok [] } = part_split limit ms [] [] (framed_message []) small all (omega arith) refl (omega arith) in
+    subst (λ (p : List ℕ). split limit (flat_map framed_message ms ++ p) ≡ record { items = ms; end = Ok p }) (sym is) f
 
-split_at : (limit : ℕ) (ms : List (List ℕ)) (part : List ℕ) (items : List Single) (ps : List Piece) → limit < 2 ^ 32 → AreShort limit ms → AreWithin limit items → PieceAt part items ps → split limit (flat_map framed_message ms ++ part) ≡ record { messages = ms; end = Ok part }
+split_at : (limit : ℕ) (ms : List (List ℕ)) (part : List ℕ) (items : List Single) (ps : List Piece) → limit < 2 ^ 32 → AreShort limit ms → AreWithin limit items → PieceAt part items ps → split limit (flat_map framed_message ms ++ part) ≡ record { items = ms; end = Ok part }
 split_at limit ms part [] ps small all within at = whole_split limit ms part small all at.0
 split_at limit ms part (Headed block ∷ items) ps small all within at = whole_split limit ms part small all at.0
 split_at limit ms part (Message m ∷ items) ps small all within at = part_split limit ms m part at.0 small all within.0 at.2 at.1
@@ -82,7 +82,7 @@ reads_none limit s small table ps items ms part all within at h =
       whole = [];
       later = items;
       divided = refl;
-      response = ap (λ (x : Split). map WholeMessage x.messages) e ∙ sym (append-nil (map WholeMessage ms));
+      response = ap (λ (x : Split). map WholeMessage x.items) e ∙ sym (append-nil (map WholeMessage ms));
       rest = subst (λ (x : Split). IsMessageFront x.end (map part_of items)) (sym e) (rest_at part items ps at);
     }
 
@@ -121,7 +121,7 @@ reads_block limit s t e x fragment fs small later table ps items ms part all wit
     let r = later (step table fragment).1 (map piece_of k.others) k.others [] [] tt within'.1 (fresh k.others) (subst (λ (qs : List Piece). Follows s (step table fragment).1 qs fs) put h) in
     let heard = block_is_heard s t table e x fragment b.block same b.end b.whole b.read in
     let halves = whole_split limit ms part small all k.none in
-    let closes : messages_to_end (split limit (flat_map framed_message ms ++ part)) ≡ map WholeMessage ms = ap messages_to_end halves ∙ ap (λ (p : List ℕ). messages_to_end (record { messages = ms; end = Ok p })) k.none ∙ append-nil (map WholeMessage ms) in
+    let closes : messages_to_end (split limit (flat_map framed_message ms ++ part)) ≡ map WholeMessage ms = ap messages_to_end halves ∙ ap (λ (p : List ℕ). messages_to_end (record { items = ms; end = Ok p })) k.none ∙ append-nil (map WholeMessage ms) in
     subst (λ (hs : List StreamPart). Begins limit ms (flat_map framed_message ms ++ part) (hs ++ stream_parts_from s (step table fragment).1 fs) items) (sym heard)
     (record {
       whole = Headed b.block ∷ r.whole;

@@ -23,7 +23,7 @@ use Rattle.client_reading.specs.Responses.{stream_parts, response_of, IsBeginnin
 -- the bytes divide into the frames that were put and nothing is left over, and each is understood
 -- as it was meant
 pub record ReadsFrames (d : List Entry) : Type 0 where
-  pub divided : split [] (bytes_put d) ≡ record { frames = map raw_of (sent_frames d); end = Ok [] }
+  pub divided : split [] (bytes_put d) ≡ record { items = map raw_of (sent_frames d); end = Ok [] }
   pub understood : AllByRecursion (λ f. frame_of (raw_of f) ≡ Ok f) (sent_frames d)
 
 -- ---- HEADERS and DATA

@@ -69,12 +69,12 @@ parts_behind_messages (Err e) = Fault ∷ []
 
 -- the messages of a text to which no more is added
 abbrev pub messages_to_end : Split → List ResponsePart
-messages_to_end s = map WholeMessage s.messages ++ parts_behind_messages s.end
+messages_to_end s = map WholeMessage s.items ++ parts_behind_messages s.end
 
 -- adjacent DATA is joined and divided into messages of at most `limit` bytes; `text` stands before
 -- what is left
 abbrev pub response_from : ℕ → List ℕ → List StreamPart → List ResponsePart
-response_from limit text [] = map WholeMessage (split limit text).messages
+response_from limit text [] = map WholeMessage (split limit text).items
 response_from limit text (Bytes end_stream bytes ∷ hs) =
     if end_stream then Fault ∷ [] else response_from limit (text ++ bytes) hs
 response_from limit text (Fields end_stream fields ∷ hs) =

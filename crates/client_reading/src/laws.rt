@@ -15,7 +15,7 @@ ghost use Rattle.client_reading.specs.Reads.{Reads};
 /// Whatever bytes come, the frames that they divide into are frames (RFC 9113 sections 4.1 and
 /// 4.2).
 pub fn received_frames_are_frames()
-    ensures { (preface text : List ℕ) → AllByRecursion IsReceivable (split preface text).frames }
+    ensures { (preface text : List ℕ) → AllByRecursion IsReceivable (split preface text).items }
 {}
 
 /// A connection begins with a past, and each change of one makes another.

@@ -7,7 +7,8 @@ use Rattle.http2_frames.specs.declared.error.FrameError.{FrameError}
 use Rattle.http2_frames.specs.declared.frame.RawFrame.{RawFrame}
 use Rattle.http2_frames.specs.declared.frame.Frame.{Frame}
 use Rattle.http2_frames.specs.declared.reader.TheConstants.{CLIENT_PREFACE}
-use Rattle.http2_frames.specs.Reading.{split, split_behind}
+use Rattle.wire_items.specs.Items.{behind}
+use Rattle.http2_frames.specs.Reading.{split}
 use Rattle.http2_frames.specs.Wire.{Split}
 use Rattle.http2_frames.specs.Reader.{Unread, text_left, split_left, with_more_bytes, IsFrame, front_of, StandsFor as IsReader}
 use Rattle.http2_headers.specs.declared.fault.H2Fault.{H2Fault}
@@ -134,12 +135,12 @@ looked texts v u p alike st = record {
 }
 
 pub read_none : (texts : Look) (v old : Present) (u : Result Unread FrameError) (r : Result Bool FrameError) → v ≡ old → v.ended ≡ false → r ≡ Ok false → ReadAlike v.reader u
-    → IfOk r (λ whole. whole ≡ false → (preface text : List ℕ) (given : List RawFrame) → IsReader preface v.reader text given → split preface text ≡ record { frames = given; end = Ok (text_left u) }) → (p : Past) → StandsFor texts old p → StandsAfterReading texts p false (with_reader u v)
+    → IfOk r (λ whole. whole ≡ false → (preface text : List ℕ) (given : List RawFrame) → IsReader preface v.reader text given → split preface text ≡ record { items = given; end = Ok (text_left u) }) → (p : Past) → StandsFor texts old p → StandsAfterReading texts p false (with_reader u v)
 read_none texts v old u r is alive none alike ends p st0 =
     let st : StandsFor texts v p = subst (λ (y : Present). StandsFor texts y p) (sym is) st0 in
     let a = alive_of texts v p st alive in
-    let ends' : false ≡ false → (preface text : List ℕ) (given : List RawFrame) → IsReader preface v.reader text given → split preface text ≡ record { frames = given; end = Ok (text_left u) } =
-    subst (λ (z : Result Bool FrameError). IfOk z (λ whole. whole ≡ false → (preface text : List ℕ) (given : List RawFrame) → IsReader preface v.reader text given → split preface text ≡ record { frames = given; end = Ok (text_left u) })) none ends in (
+    let ends' : false ≡ false → (preface text : List ℕ) (given : List RawFrame) → IsReader preface v.reader text given → split preface text ≡ record { items = given; end = Ok (text_left u) } =
+    subst (λ (z : Result Bool FrameError). IfOk z (λ whole. whole ≡ false → (preface text : List ℕ) (given : List RawFrame) → IsReader preface v.reader text given → split preface text ≡ record { items = given; end = Ok (text_left u) })) none ends in (
       inr (text_left u, ends' refl CLIENT_PREFACE.now p.text (received_raw_frames p.history) a.reader),
       looked texts v u p alike st,
     )
@@ -149,8 +150,8 @@ read_some texts v old x u is alike take p st0 = take p (looked texts v u p alike
 
 next_is : (p : Past) (f : RawFrame) (u : Result Unread FrameError) → IsReader CLIENT_PREFACE.now u p.text (received_raw_frames p.history ++ f ∷ []) → IsNextFrame p f
 next_is p f u h =
-    let now : split CLIENT_PREFACE.now p.text ≡ split_behind (received_raw_frames p.history ++ f ∷ []) (split_left (with_more_bytes u [])) = ap (split CLIENT_PREFACE.now) (sym (append-nil p.text)) ∙ h [] in
-    ((split_left (with_more_bytes u [])).frames, ap (λ (s : Split). s.frames) now ∙ append_assoc (received_raw_frames p.history) (f ∷ []) (split_left (with_more_bytes u [])).frames)
+    let now : split CLIENT_PREFACE.now p.text ≡ behind (received_raw_frames p.history ++ f ∷ []) (split_left (with_more_bytes u [])) = ap (split CLIENT_PREFACE.now) (sym (append-nil p.text)) ∙ h [] in
+    ((split_left (with_more_bytes u [])).items, ap (λ (s : Split). s.items) now ∙ append_assoc (received_raw_frames p.history) (f ∷ []) (split_left (with_more_bytes u [])).items)
 
 front_taken : (texts : Look) (v x : Present) (none u : Result Unread FrameError) (f : RawFrame) → v.ended ≡ false → f ≡ front_of v.reader → IsFrame f
     → ((preface text : List ℕ) (given : List RawFrame) → IsReader preface v.reader text given → IsReader preface u text (given ++ front_of v.reader ∷ []))
@@ -188,13 +189,13 @@ pub fit_meanwhile : (v old w x : Present) → v ≡ old → w ≡ x → ((texts 
 fit_meanwhile v old w x is same keeps texts h = subst (λ (z : Present). Fit texts z.sending.queues) (sym same) (keeps texts (subst (λ (z : Present). Fit texts z.sending.queues) (sym is) h))
 
 pub read_refused : (texts : Look) (v old x : Present) (u : Result Unread FrameError) (r : Result Bool FrameError) (e : FrameError) (code : ErrorCode) → v ≡ old → v.ended ≡ false → r ≡ Err e → reading_fault e ≡ Some code
-    → IfErr r (λ fault. (preface text : List ℕ) (given : List RawFrame) → IsReader preface v.reader text given → split preface text ≡ record { frames = given; end = Err fault })
+    → IfErr r (λ fault. (preface text : List ℕ) (given : List RawFrame) → IsReader preface v.reader text given → split preface text ≡ record { items = given; end = Err fault })
     → Fails (with_reader u v) code None x → (p : Past) → StandsFor texts old p → StandsAfterReading texts p true x
 read_refused texts v old x u r e code is alive err fault refused fails p st0 =
     let st : StandsFor texts v p = subst (λ (y : Present). StandsFor texts y p) (sym is) st0 in
     let a = alive_of texts v p st alive in
-    let refused' : (preface text : List ℕ) (given : List RawFrame) → IsReader preface v.reader text given → split preface text ≡ record { frames = given; end = Err e } =
-    subst (λ (z : Result Bool FrameError). IfErr z (λ fault. (preface text : List ℕ) (given : List RawFrame) → IsReader preface v.reader text given → split preface text ≡ record { frames = given; end = Err fault })) err refused in (
+    let refused' : (preface text : List ℕ) (given : List RawFrame) → IsReader preface v.reader text given → split preface text ≡ record { items = given; end = Err e } =
+    subst (λ (z : Result Bool FrameError). IfErr z (λ fault. (preface text : List ℕ) (given : List RawFrame) → IsReader preface v.reader text given → split preface text ≡ record { items = given; end = Err fault })) err refused in (
       sym st.ended ∙ alive,
       inr (
         e,

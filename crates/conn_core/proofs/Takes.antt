@@ -6,9 +6,10 @@ use Rattle.std.proofs.lemmas.List.{map-append}
 use Rattle.grpc_messages.specs.declared.error.MessagesError.{MessagesError}
 use Rattle.grpc_messages.specs.declared.error.MessagesError.TheVariants.{NoMemory}
 use Rattle.grpc_messages.specs.Wire.{Split}
-use Rattle.grpc_messages.specs.Reading.{split}
+use Rattle.grpc_messages.specs.Reading.{message_format, split}
 use Rattle.grpc_messages.specs.Reader.{bytes_left, messages_in, StandsFor as AreMessages}
-use Rattle.grpc_messages.proofs.MoreBytes.{fault_lasts}
+use Rattle.grpc_messages.proofs.Fronts.{steady}
+use Rattle.wire_items.proofs.Divisions.{grows}
 use Rattle.grpc_sending.proofs.Histories.{append-nil}
 use Rattle.conn_core.specs.declared.event.CallEvent.{CallEvent}
 use Rattle.conn_core.specs.declared.event.CallEvent.TheVariants.{Message, Fault}
@@ -46,7 +47,7 @@ pub gave_more_by : (given : List (List ℕ)) (s t : ℕ) (old mid new : Kept) (b
 gave_more_by given s t old mid new before after later message r h is stands events =
     gave_more given s t old mid new before after later message h (λ text gs st. subst (λ (x : Result (Option (List ℕ)) MessagesError). AreMessages message_limit new text (gs ++ messages_in x)) is (stands text gs st)) events
 
-pub gave_all : (given : List (List ℕ)) (s t : ℕ) (old mid new : Kept) (before after : List CallEvent) → GaveMessages given s t old mid before after → Stands mid new [] → ((text : List ℕ) (gs : List (List ℕ)) → AreMessages message_limit mid text gs → split message_limit text ≡ record { messages = gs; end = Ok (bytes_left new) }) → TakesAll s true old new before after
+pub gave_all : (given : List (List ℕ)) (s t : ℕ) (old mid new : Kept) (before after : List CallEvent) → GaveMessages given s t old mid before after → Stands mid new [] → ((text : List ℕ) (gs : List (List ℕ)) → AreMessages message_limit mid text gs → split message_limit text ≡ record { items = gs; end = Ok (bytes_left new) }) → TakesAll s true old new before after
 gave_all given s t old mid new before after h stands none u earlier st =
     let at : AreMessages message_limit mid u (earlier ++ given) = h.stands u earlier st in
     let is = none u (earlier ++ given) at in
@@ -54,27 +55,27 @@ gave_all given s t old mid new before after h stands none u earlier st =
     let end : (messages_of u).end ≡ Ok (bytes_left new) = ap (λ (x : Split). x.end) is in (
       given,
       record {
-        all = ap (λ (x : Split). x.messages) is;
+        all = ap (λ (x : Split). x.items) is;
         end = rest_is message_limit new u (earlier ++ given) now is;
         whole = ap (λ (e : Kept). is_ok e) end;
         events = h.events ∙ ap (λ (es : List CallEvent). before ++ es) (sym (ap (λ (e : Kept). map (Message s) given ++ events_behind_messages s false e) end ∙ append-nil (map (Message s) given)));
       },
     )
 
-pub gave_all_by : (given : List (List ℕ)) (s t : ℕ) (old mid new : Kept) (before after : List CallEvent) (r : Result (Option (List ℕ)) MessagesError) → GaveMessages given s t old mid before after → r ≡ Ok None → ((text : List ℕ) (gs : List (List ℕ)) → AreMessages message_limit mid text gs → AreMessages message_limit new text (gs ++ messages_in r)) → IfOk r (λ o. IfNone o ((text : List ℕ) (gs : List (List ℕ)) → AreMessages message_limit mid text gs → split message_limit text ≡ record { messages = gs; end = Ok (bytes_left new) })) → TakesAll s true old new before after
+pub gave_all_by : (given : List (List ℕ)) (s t : ℕ) (old mid new : Kept) (before after : List CallEvent) (r : Result (Option (List ℕ)) MessagesError) → GaveMessages given s t old mid before after → r ≡ Ok None → ((text : List ℕ) (gs : List (List ℕ)) → AreMessages message_limit mid text gs → AreMessages message_limit new text (gs ++ messages_in r)) → IfOk r (λ o. IfNone o ((text : List ℕ) (gs : List (List ℕ)) → AreMessages message_limit mid text gs → split message_limit text ≡ record { items = gs; end = Ok (bytes_left new) })) → TakesAll s true old new before after
 gave_all_by given s t old mid new before after r h is stands none =
     gave_all given s t old mid new before after h
     (λ text gs st. subst (λ (x : Result (Option (List ℕ)) MessagesError). AreMessages message_limit new text (gs ++ messages_in x)) is (stands text gs st))
-    (subst (λ (x : Result (Option (List ℕ)) MessagesError). IfOk x (λ o. IfNone o ((text : List ℕ) (gs : List (List ℕ)) → AreMessages message_limit mid text gs → split message_limit text ≡ record { messages = gs; end = Ok (bytes_left new) }))) is none)
+    (subst (λ (x : Result (Option (List ℕ)) MessagesError). IfOk x (λ o. IfNone o ((text : List ℕ) (gs : List (List ℕ)) → AreMessages message_limit mid text gs → split message_limit text ≡ record { items = gs; end = Ok (bytes_left new) }))) is none)
 
-pub gave_fault : (given : List (List ℕ)) (s t : ℕ) (old mid new : Kept) (before after later : List CallEvent) (fault : MessagesError) → GaveMessages given s t old mid before after → ((text : List ℕ) (gs : List (List ℕ)) → AreMessages message_limit mid text gs → split message_limit text ≡ record { messages = gs; end = Err fault }) → new ≡ Err fault → later ≡ after ++ Fault t (refusal_of fault) ∷ [] → TakesAll s false old new before later
+pub gave_fault : (given : List (List ℕ)) (s t : ℕ) (old mid new : Kept) (before after later : List CallEvent) (fault : MessagesError) → GaveMessages given s t old mid before after → ((text : List ℕ) (gs : List (List ℕ)) → AreMessages message_limit mid text gs → split message_limit text ≡ record { items = gs; end = Err fault }) → new ≡ Err fault → later ≡ after ++ Fault t (refusal_of fault) ∷ [] → TakesAll s false old new before later
 gave_fault given s t old mid new before after later fault h refused is events u earlier st =
     let at : AreMessages message_limit mid u (earlier ++ given) = h.stands u earlier st in
     let split_is = refused u (earlier ++ given) at in
     let end : (messages_of u).end ≡ Err fault = ap (λ (x : Split). x.end) split_is in (
       given,
       record {
-        all = ap (λ (x : Split). x.messages) split_is;
+        all = ap (λ (x : Split). x.items) split_is;
         end = is ∙ sym end;
         whole = ap (λ (e : Kept). is_ok e) end;
         events = events
@@ -85,10 +86,10 @@ gave_fault given s t old mid new before after later fault h refused is events u 
       },
     )
 
-pub gave_fault_by : (given : List (List ℕ)) (s t : ℕ) (old mid new : Kept) (before after later : List CallEvent) (fault : MessagesError) (r : Result (Option (List ℕ)) MessagesError) → GaveMessages given s t old mid before after → r ≡ Err fault → fault ≢ NoMemory → IfErr r (λ e. e ≢ NoMemory → (text : List ℕ) (gs : List (List ℕ)) → AreMessages message_limit mid text gs → split message_limit text ≡ record { messages = gs; end = Err e }) → IfErr r (λ e. e ≢ NoMemory → new ≡ Err e) → later ≡ after ++ Fault t (refusal_of fault) ∷ [] → TakesAll s false old new before later
+pub gave_fault_by : (given : List (List ℕ)) (s t : ℕ) (old mid new : Kept) (before after later : List CallEvent) (fault : MessagesError) (r : Result (Option (List ℕ)) MessagesError) → GaveMessages given s t old mid before after → r ≡ Err fault → fault ≢ NoMemory → IfErr r (λ e. e ≢ NoMemory → (text : List ℕ) (gs : List (List ℕ)) → AreMessages message_limit mid text gs → split message_limit text ≡ record { items = gs; end = Err e }) → IfErr r (λ e. e ≢ NoMemory → new ≡ Err e) → later ≡ after ++ Fault t (refusal_of fault) ∷ [] → TakesAll s false old new before later
 gave_fault_by given s t old mid new before after later fault r h is other refused lasts events =
     gave_fault given s t old mid new before after later fault h
-    (subst (λ (x : Result (Option (List ℕ)) MessagesError). IfErr x (λ e. e ≢ NoMemory → (text : List ℕ) (gs : List (List ℕ)) → AreMessages message_limit mid text gs → split message_limit text ≡ record { messages = gs; end = Err e })) is refused other)
+    (subst (λ (x : Result (Option (List ℕ)) MessagesError). IfErr x (λ e. e ≢ NoMemory → (text : List ℕ) (gs : List (List ℕ)) → AreMessages message_limit mid text gs → split message_limit text ≡ record { items = gs; end = Err e })) is refused other)
     (subst (λ (x : Result (Option (List ℕ)) MessagesError). IfErr x (λ e. e ≢ NoMemory → new ≡ Err e)) is lasts other)
     events
 
@@ -106,7 +107,7 @@ Takes s content end_stream old new before after = (t : List ℕ) → old ≡ (me
 pub took_refused : (s : ℕ) (content : List ℕ) (end_stream : Bool) (old new : Kept) (es : List CallEvent) (fault : MessagesError) → fault ≢ NoMemory → (IsOk old → fault ≡ NoMemory) → new ≡ old → Takes s content end_stream old new es es
 took_refused s content end_stream (Ok bytes) new es fault other ok same t h = absurd (other (ok refl))
 took_refused s content end_stream (Err e) new es fault other ok same t h =
-    let lasts : messages_of (t ++ content) ≡ messages_of t = fault_lasts message_limit t content e (sym h) in
+    let lasts : messages_of (t ++ content) ≡ messages_of t = (grows (message_format message_limit) (steady message_limit) t content).ended e (sym h) in
     record {
       messages = same ∙ h ∙ ap (λ (x : Split). x.end) (sym lasts);
       events = sym (ap (λ (xs : List CallEvent). es ++ xs) (no_more s t content end_stream e (sym h)) ∙ append-nil es);
@@ -129,7 +130,7 @@ behind_open s whole end_stream (Err e) ok h = refl
 behind_open s whole false (Ok rest) ok h = refl
 behind_open s whole true (Ok rest) ok h = let k : (true && true) ≡ false = ap (λ (b : Bool). b && true) ok ∙ h in absurd cc
 
-took_from : (s : ℕ) (content rest : List ℕ) (end_stream whole : Bool) (given : List (List ℕ)) (new : Kept) (before after later : List CallEvent) (t : List ℕ) → (messages_of t).end ≡ Ok rest → GaveAll given (messages_of t).messages (t ++ content) s whole new before after → later ≡ before ++ (map (Message s) given ++ events_behind_messages s end_stream (messages_of (t ++ content)).end) → Took s content end_stream new before later t
+took_from : (s : ℕ) (content rest : List ℕ) (end_stream whole : Bool) (given : List (List ℕ)) (new : Kept) (before after later : List CallEvent) (t : List ℕ) → (messages_of t).end ≡ Ok rest → GaveAll given (messages_of t).items (t ++ content) s whole new before after → later ≡ before ++ (map (Message s) given ++ events_behind_messages s end_stream (messages_of (t ++ content)).end) → Took s content end_stream new before later t
 took_from s content rest end_stream whole given new before after later t first g events = record {
   messages = g.end;
   events = events ∙ ap (λ (es : List CallEvent). before ++ es) (sym (more_is s t content rest end_stream given first g.all));
@@ -138,14 +139,14 @@ took_from s content rest end_stream whole given new before after later t first g
 abbrev Fed : Kept → Kept → List ℕ → Type 0
 Fed old fed content = (text : List ℕ) (given : List (List ℕ)) → AreMessages message_limit old text given → AreMessages message_limit fed (text ++ content) given
 
-at_front : (old fed : Kept) (content t : List ℕ) → Fed old fed content → old ≡ (messages_of t).end → AreMessages message_limit fed (t ++ content) (messages_of t).messages
-at_front old fed content t feeds h = feeds t (messages_of t).messages (subst (λ (m : Kept). AreMessages message_limit m t (messages_of t).messages) (sym h) (stands_behind message_limit t))
+at_front : (old fed : Kept) (content t : List ℕ) → Fed old fed content → old ≡ (messages_of t).end → AreMessages message_limit fed (t ++ content) (messages_of t).items
+at_front old fed content t feeds h = feeds t (messages_of t).items (subst (λ (m : Kept). AreMessages message_limit m t (messages_of t).items) (sym h) (stands_behind message_limit t))
 
 -- the request goes on, or a fault was met
 pub took_open : (s : ℕ) (content : List ℕ) (end_stream whole : Bool) (old fed new : Kept) (before after : List CallEvent) → IfErr old (λ e. fed_ok ≡ Err e) → Fed old fed content → TakesAll s whole fed new before after → (whole && end_stream) ≡ false → Takes s content end_stream old new before after
 took_open s content end_stream whole old fed new before after first feeds takes open' t h =
     let w = was_whole old first in
-    let g = takes (t ++ content) (messages_of t).messages (at_front old fed content t feeds h) in
+    let g = takes (t ++ content) (messages_of t).items (at_front old fed content t feeds h) in
     took_from s content w.0 end_stream whole g.0 new before after after t (sym h ∙ w.1) g.1
     (g.1.events ∙ ap (λ (es : List CallEvent). before ++ (map (Message s) g.0 ++ es)) (behind_open s whole end_stream (messages_of (t ++ content)).end g.1.whole open'))
 
@@ -153,7 +154,7 @@ took_open s content end_stream whole old fed new before after first feeds takes 
 pub took_end : (s : ℕ) (content : List ℕ) (old fed new : Kept) (before after later : List CallEvent) → IfErr old (λ e. fed_ok ≡ Err e) → Fed old fed content → TakesAll s true fed new before after → later ≡ after ++ events_at_end s (bytes_left new) → Takes s content true old new before later
 took_end s content old fed new before after later first feeds takes events t h =
     let w = was_whole old first in
-    let g = takes (t ++ content) (messages_of t).messages (at_front old fed content t feeds h) in
+    let g = takes (t ++ content) (messages_of t).items (at_front old fed content t feeds h) in
     let end : Kept = (messages_of (t ++ content)).end in
     took_from s content w.0 true true g.0 new before after later t (sym h ∙ w.1) g.1
     (events

@@ -24,7 +24,7 @@ pub record GaveMessages (given : List (List ℕ)) (s t : ℕ) (old new : Result 
 
 -- behind those that were given earlier, the others were given
 pub record GaveAll (given earlier : List (List ℕ)) (u : List ℕ) (s : ℕ) (is_whole : Bool) (new : Result (List ℕ) MessagesError) (before after : List CallEvent) : Type 0 where
-  pub all : (messages_of u).messages ≡ earlier ++ given
+  pub all : (messages_of u).items ≡ earlier ++ given
   pub end : new ≡ (messages_of u).end
   pub whole : is_ok (messages_of u).end ≡ is_whole
   pub events : after ≡ before

@@ -80,7 +80,7 @@ events_behind_messages s end_stream (Err e) = Fault s (refusal_of e) ∷ []
 -- and then the first fault or the end
 abbrev pub events_behind_front : ℕ → Bool → ℕ → Split → List CallEvent
 events_behind_front s end_stream count whole =
-    map (Message s) (drop count whole.messages) ++ events_behind_messages s end_stream whole.end
+    map (Message s) (drop count whole.items) ++ events_behind_messages s end_stream whole.end
 
 abbrev pub events_by_end : Result (List ℕ) MessagesError → List CallEvent → List CallEvent
 events_by_end (Ok rest) events = events
@@ -92,7 +92,7 @@ events_unless_fault before events = events_by_end before.end events
 
 -- what more of the text of a stream brings its call
 abbrev pub events_of_content : ℕ → List ℕ → List ℕ → Bool → List CallEvent
-events_of_content s before content end_stream = events_unless_fault (messages_of before) (events_behind_front s end_stream (length (messages_of before).messages) (messages_of (before ++ content)))
+events_of_content s before content end_stream = events_unless_fault (messages_of before) (events_behind_front s end_stream (length (messages_of before).items) (messages_of (before ++ content)))
 
 -- ---- the events of calls
 

@@ -112,19 +112,19 @@ Pumps texts v w = (p : Past) → StandsFor texts v p → StandsFor texts w (with
 abbrev pub IsNextFrame : Past → RawFrame → Type 0
 IsNextFrame p f =
     (later : List RawFrame)
-    × ((split CLIENT_PREFACE.now p.text).frames ≡ received_raw_frames p.history ++ f ∷ later)
+    × ((split CLIENT_PREFACE.now p.text).items ≡ received_raw_frames p.history ++ f ∷ later)
 
 -- no frame is left, but a fault
 pub record IsNextFault (p : Past) (e : FrameError) (code : ErrorCode) : Type 0 where
   pub read : split CLIENT_PREFACE.now p.text
-      ≡ record { frames = received_raw_frames p.history; end = Err e }
+      ≡ record { items = received_raw_frames p.history; end = Err e }
   pub fault : reading_fault e ≡ Some code
 
 -- no frame is left, and the rest is no whole one
 abbrev pub IsRead : Past → Type 0
 IsRead p =
     (rest : List ℕ) × (split CLIENT_PREFACE.now p.text
-    ≡ record { frames = received_raw_frames p.history; end = Ok rest })
+    ≡ record { items = received_raw_frames p.history; end = Ok rest })
 
 abbrev pub StandsAfterNext : Look → Present → Past → Type 0
 StandsAfterNext texts v p =

@@ -3,10 +3,11 @@ use Rattle.std.proofs.Common.{◌≡◌, ℕ, ◌+◌, ◌≤◌, List, ◌++◌
 use Rattle.std.proofs.lemmas.List.{take-append-le, drop-append-le, get_or_append_left, length-drop}
 use Rattle.byteorder.specs.Endian.{big_number}
 use Rattle.byteorder.specs.Numbers.{big_from-append}
+use Rattle.wire_items.specs.Items.{IsSteady}
 use Rattle.grpc_messages.specs.declared.error.MessagesError.{MessagesError}
 use Rattle.grpc_messages.specs.declared.error.MessagesError.TheVariants.{Compressed, TooLarge, CutOff, NoMemory}
 use Rattle.grpc_messages.specs.Wire.{flag_of, size_of, IsUnfinished, IsEnd}
-use Rattle.grpc_messages.specs.Reading.{whole_at, message_at}
+use Rattle.grpc_messages.specs.Reading.{whole_at, message_at, message_format}
 
 pub record IsWhole (limit : ℕ) (t : List ℕ) (n : ℕ) : Type 0 where
   pub plain : flag_of t ≡ 0
@@ -72,3 +73,12 @@ message_more limit t more n e =
     let past = drop-append-le 5 t more five in
     let message = take-append-le (size_of t) (drop 5 t) more (omega (arith, length-drop 5 t)) in
     rw (size, past, message) refl
+
+pub steady : (limit : ℕ) → IsSteady (message_format limit)
+steady limit = record {
+  some = omega arith;
+  fits = λ t n e. (whole_is limit t n e).fits;
+  whole = whole_more limit;
+  item = message_more limit;
+  fault = fault_more limit;
+}

@@ -1,6 +1,4 @@
 pub mod Fronts
-pub mod Splits
 pub mod Steps
 pub mod Grammar
-pub mod MoreBytes
 pub mod Buffers

@@ -1,14 +1,16 @@
 -- What one call of a reader says of the split of the text that it stands for.
 use Rattle.std.proofs.Common.{◌≡◌, ◌≢◌, ℕ, ◌+◌, ◌<◌, ◌≤◌, inl, inr, List, [], ◌∷◌, ◌++◌, length, drop, Option, Some, None, Result, Ok, Err, IfOk, IfErr, IfNone, IfSome, IsErrOf, OnOk, OnSome, refl, sym, ap, subst, ◌∙◌, append_assoc, arith, length-append}
 use Rattle.std.proofs.lemmas.List.{append-nil, length-drop, length-take-le}
+use Rattle.wire_items.specs.Items.{behind, rest_only, fault_only}
+use Rattle.wire_items.proofs.Divisions.{divide_partial, divide_fault, divide_whole, divide_whole_more, divide_fault_more}
+use Rattle.wire_items.proofs.Givings.{given_more, given_now, given_all, given_fault}
 use Rattle.grpc_messages.specs.declared.error.MessagesError.{MessagesError}
 use Rattle.grpc_messages.specs.declared.error.MessagesError.TheVariants.{Compressed, TooLarge, CutOff, NoMemory}
 use Rattle.grpc_messages.specs.Wire.{Split, end_of_rest, size_of, IsUnfinished}
-use Rattle.grpc_messages.specs.Reading.{whole_at, message_at, split_behind, rest_only, fault_only, split}
+use Rattle.grpc_messages.specs.Reading.{whole_at, message_at, message_format, split}
 use Rattle.grpc_messages.specs.Reader.{bytes_left, split_left, with_more_bytes, StandsFor, messages_in}
 use Rattle.grpc_messages.specs.Step.{step_by_front, step, Takes, end_by_front, ends_at}
-use Rattle.grpc_messages.proofs.Fronts.{fault_more, unfinished_is, IsWhole, whole_is}
-use Rattle.grpc_messages.proofs.Splits.{split_partial, split_fault, split_whole, split_whole_more}
+use Rattle.grpc_messages.proofs.Fronts.{unfinished_is, IsWhole, whole_is, steady}
 
 abbrev Reader : Type 0
 Reader = Result (List ℕ) MessagesError
@@ -16,13 +18,17 @@ Reader = Result (List ℕ) MessagesError
 abbrev Answer : Type 0
 Answer = Result (Option (List ℕ)) MessagesError
 
+-- what is left when more bytes follow
+abbrev left : ℕ → Reader → List ℕ → Split
+left limit v more = split_left limit (with_more_bytes v more)
+
 followed_twice : (v : Reader) (piece more : List ℕ) → with_more_bytes (with_more_bytes v piece) more ≡ with_more_bytes v (piece ++ more)
 followed_twice (Ok bytes) piece more = ap (λ (x : List ℕ). Ok x) (append_assoc bytes piece more)
 followed_twice (Err e) piece more = refl
 
 pub stands_fed : (limit : ℕ) (v : Reader) (piece text : List ℕ) (given : List (List ℕ)) → StandsFor limit v text given → StandsFor limit (with_more_bytes v piece) (text ++ piece) given
 stands_fed limit v piece text given stands more =
-    ap (split limit) (append_assoc text piece more) ∙ stands (piece ++ more) ∙ ap (λ (x : Reader). split_behind given (split_left limit x)) (sym (followed_twice v piece more))
+    ap (split limit) (append_assoc text piece more) ∙ stands (piece ++ more) ∙ ap (λ (x : Reader). behind given (split_left limit x)) (sym (followed_twice v piece more))
 
 pub stands_on_ok : (limit : ℕ) (r : Result Unit MessagesError) (old : Reader) (piece : List ℕ) (new : Reader) → OnOk r (new ≡ with_more_bytes old piece)
     → OnOk r ((text : List ℕ) (given : List (List ℕ)) → StandsFor limit old text given → StandsFor limit new (text ++ piece) given)
@@ -30,13 +36,13 @@ stands_on_ok limit (Ok u) old piece new e = λ text given stands.
     subst (λ (v : Reader). StandsFor limit v (text ++ piece) given) (sym e) (stands_fed limit old piece text given stands)
 stands_on_ok limit (Err d) old piece new e = tt
 
-taken_follows : (limit : ℕ) (v : Reader) (more : List ℕ) → split_left limit (with_more_bytes v more) ≡ split_behind (messages_in (step limit v).0) (split_left limit (with_more_bytes (step limit v).1 more))
+taken_follows : (limit : ℕ) (v : Reader) (more : List ℕ) → split_left limit (with_more_bytes v more) ≡ behind (messages_in (step limit v).0) (split_left limit (with_more_bytes (step limit v).1 more))
 taken_follows limit (Err e) more = refl
 taken_follows limit (Ok bytes) more = at_front (whole_at limit bytes) refl where
-  at_front : (w : Result (Option ℕ) MessagesError) → whole_at limit bytes ≡ w → split limit (bytes ++ more) ≡ split_behind (messages_in (step_by_front w bytes).0) (split_left limit (with_more_bytes (step_by_front w bytes).1 more))
+  at_front : (w : Result (Option ℕ) MessagesError) → whole_at limit bytes ≡ w → split limit (bytes ++ more) ≡ behind (messages_in (step_by_front w bytes).0) (split_left limit (with_more_bytes (step_by_front w bytes).1 more))
   at_front (Ok None) e = refl
-  at_front (Ok (Some n)) e = split_whole_more limit bytes more n e
-  at_front (Err d) e = split_fault limit (bytes ++ more) d (fault_more limit bytes more d e)
+  at_front (Ok (Some n)) e = divide_whole_more (message_format limit) (steady limit) bytes more n e
+  at_front (Err d) e = divide_fault_more (message_format limit) (steady limit) bytes more d e
 
 -- what the answer says of the split where no message is taken
 abbrev SaysEnd : ℕ → Reader → Answer → Reader → Type 0
@@ -48,17 +54,14 @@ taken_ends : (limit : ℕ) (v : Reader) → SaysEnd limit v (step limit v).0 (st
 taken_ends limit (Err e) = (refl, refl)
 taken_ends limit (Ok bytes) = at_front (whole_at limit bytes) refl where
   at_front : (w : Result (Option ℕ) MessagesError) → whole_at limit bytes ≡ w → SaysEnd limit (Ok bytes) (step_by_front w bytes).0 (step_by_front w bytes).1
-  at_front (Ok None) e = (split_partial limit bytes e, unfinished_is limit bytes e)
+  at_front (Ok None) e = (divide_partial (message_format limit) (steady limit) bytes e, unfinished_is limit bytes e)
   at_front (Ok (Some n)) e = tt
-  at_front (Err d) e = (split_fault limit bytes d e, refl)
+  at_front (Err d) e = (divide_fault (message_format limit) (steady limit) bytes d e, refl)
 
-behind_both : (gs ms : List (List ℕ)) (s : Split) → split_behind gs (split_behind ms s) ≡ split_behind (gs ++ ms) s
-behind_both gs ms s = ap (λ (xs : List (List ℕ)). record { messages = xs; end = s.end }) (sym (append_assoc gs ms s.messages))
+taken_as : (limit : ℕ) (old : Reader) (r : Answer) (new : Reader) → step limit old ≡ (r, new) → (more : List ℕ) → split_left limit (with_more_bytes old more) ≡ behind (messages_in r) (split_left limit (with_more_bytes new more))
+taken_as limit old r new e more = taken_follows limit old more ∙ ap (λ (x : Answer × Reader). behind (messages_in x.0) (split_left limit (with_more_bytes x.1 more))) e
 
-taken_as : (limit : ℕ) (old : Reader) (r : Answer) (new : Reader) → step limit old ≡ (r, new) → (more : List ℕ) → split_left limit (with_more_bytes old more) ≡ split_behind (messages_in r) (split_left limit (with_more_bytes new more))
-taken_as limit old r new e more = taken_follows limit old more ∙ ap (λ (x : Answer × Reader). split_behind (messages_in x.0) (split_left limit (with_more_bytes x.1 more))) e
-
-takes_follows : (limit : ℕ) (old : Reader) (r : Answer) (new : Reader) → Takes limit old r new → (more : List ℕ) → split_left limit (with_more_bytes old more) ≡ split_behind (messages_in r) (split_left limit (with_more_bytes new more))
+takes_follows : (limit : ℕ) (old : Reader) (r : Answer) (new : Reader) → Takes limit old r new → (more : List ℕ) → split_left limit (with_more_bytes old more) ≡ behind (messages_in r) (split_left limit (with_more_bytes new more))
 takes_follows limit old (Ok o) new h more = taken_as limit old (Ok o) new h more
 takes_follows limit old (Err Compressed) new h more = taken_as limit old (Err Compressed) new h more
 takes_follows limit old (Err TooLarge) new h more = taken_as limit old (Err TooLarge) new h more
@@ -67,30 +70,30 @@ takes_follows limit old (Err NoMemory) new h more = ap (λ (v : Reader). split_l
 
 pub stands_after : (limit : ℕ) (old : Reader) (r : Answer) (new : Reader) → Takes limit old r new
     → (t : List ℕ) (gs : List (List ℕ)) → StandsFor limit old t gs → StandsFor limit new t (gs ++ messages_in r)
-stands_after limit old r new h t gs stands more =
-    stands more ∙ ap (split_behind gs) (takes_follows limit old r new h more) ∙ behind_both gs (messages_in r) (split_left limit (with_more_bytes new more))
+stands_after limit old r new h t gs stands = given_more (split limit) (left limit old) t gs stands (left limit new) (messages_in r) (takes_follows limit old r new h)
 
 followed_by_none : (v : Reader) → with_more_bytes v [] ≡ v
 followed_by_none (Ok bytes) = ap (λ (x : List ℕ). Ok x) (append-nil bytes)
 followed_by_none (Err e) = refl
 
 -- what is left now, where nothing follows
-left_now : (limit : ℕ) (v : Reader) (t : List ℕ) (gs : List (List ℕ)) → StandsFor limit v t gs → split limit t ≡ split_behind gs (split_left limit v)
-left_now limit v t gs stands =
-    ap (split limit) (sym (append-nil t)) ∙ stands [] ∙ ap (λ (x : Reader). split_behind gs (split_left limit x)) (followed_by_none v)
+none_follows : (limit : ℕ) (v : Reader) → left limit v [] ≡ split_left limit v
+none_follows limit v = ap (split_left limit) (followed_by_none v)
+
+pub left_now : (limit : ℕ) (v : Reader) (t : List ℕ) (gs : List (List ℕ)) → StandsFor limit v t gs → split limit t ≡ behind gs (split_left limit v)
+left_now limit v t gs stands = given_now (split limit) (left limit v) t gs stands ∙ ap (behind gs) (none_follows limit v)
 
 says : (limit : ℕ) (old : Reader) (r : Answer) (new : Reader) → step limit old ≡ (r, new) → SaysEnd limit old r new
 says limit old r new h = subst (λ (x : Answer × Reader). SaysEnd limit old x.0 x.1) h (taken_ends limit old)
 
 abbrev pub IsAllGiven : ℕ → Reader → Reader → Type 0
-IsAllGiven limit old new = (t : List ℕ) (gs : List (List ℕ)) → StandsFor limit old t gs → split limit t ≡ record { messages = gs; end = Ok (bytes_left new) }
+IsAllGiven limit old new = (t : List ℕ) (gs : List (List ℕ)) → StandsFor limit old t gs → split limit t ≡ record { items = gs; end = Ok (bytes_left new) }
 
 abbrev pub IsFaultOf : ℕ → Reader → MessagesError → Type 0
-IsFaultOf limit old e = (t : List ℕ) (gs : List (List ℕ)) → StandsFor limit old t gs → split limit t ≡ record { messages = gs; end = Err e }
+IsFaultOf limit old e = (t : List ℕ) (gs : List (List ℕ)) → StandsFor limit old t gs → split limit t ≡ record { items = gs; end = Err e }
 
 none_after : (limit : ℕ) (old : Reader) (new : Reader) → step limit old ≡ (Ok None, new) → IsAllGiven limit old new
-none_after limit old new h t gs stands =
-    left_now limit old t gs stands ∙ ap (split_behind gs) (says limit old (Ok None) new h).0 ∙ ap (λ (xs : List (List ℕ)). record { messages = xs; end = Ok (bytes_left new) }) (append-nil gs)
+none_after limit old new h t gs stands = given_all (split limit) (left limit old) t gs stands (bytes_left new) (none_follows limit old ∙ (says limit old (Ok None) new h).0)
 
 pub all_given : (limit : ℕ) (old : Reader) (r : Answer) (new : Reader) → Takes limit old r new → IfOk r (λ o. IfNone o (IsAllGiven limit old new))
 all_given limit old (Ok None) new h = none_after limit old new h
@@ -107,8 +110,7 @@ kept_is_unfinished limit old (Ok (Some f)) new h = tt
 kept_is_unfinished limit old (Err e) new h = tt
 
 fault_as : (limit : ℕ) (old : Reader) (e : MessagesError) (new : Reader) → step limit old ≡ (Err e, new) → IsFaultOf limit old e
-fault_as limit old e new h t gs stands =
-    left_now limit old t gs stands ∙ ap (split_behind gs) (says limit old (Err e) new h).0 ∙ ap (λ (xs : List (List ℕ)). record { messages = xs; end = Err e }) (append-nil gs)
+fault_as limit old e new h t gs stands = given_fault (split limit) (left limit old) t gs stands e (none_follows limit old ∙ (says limit old (Err e) new h).0)
 
 fault_after : (limit : ℕ) (old : Reader) (e : MessagesError) (new : Reader) → Takes limit old (Err e) new → e ≢ NoMemory → step limit old ≡ (Err e, new)
 fault_after limit old Compressed new h other = h
@@ -177,7 +179,7 @@ none_in_front : (fs gs : List (List ℕ)) → fs ++ gs ≡ [] → fs ≡ []
 none_in_front [] gs e = refl
 none_in_front (f ∷ fs) gs e = absurd cc
 
-pub memory_for : (limit : ℕ) (old : Reader) (r : Answer) (new : Reader) → Takes limit old r new → IsErrOf r NoMemory → (new ≡ old) × ((split_left limit old).messages ≢ [])
+pub memory_for : (limit : ℕ) (old : Reader) (r : Answer) (new : Reader) → Takes limit old r new → IsErrOf r NoMemory → (new ≡ old) × ((split_left limit old).items ≢ [])
 memory_for limit old (Ok o) new h e = absurd cc
 memory_for limit old (Err Compressed) new h e = absurd cc
 memory_for limit old (Err TooLarge) new h e = absurd cc
@@ -186,7 +188,7 @@ memory_for limit old (Err NoMemory) new h e = (
   h.0,
   λ none.
       let same = ap (split_left limit) (followed_by_none old) in
-      h.1 (none_in_front _ _ (sym (ap (λ (s : Split). s.messages) (sym same ∙ taken_follows limit old [])) ∙ none)),
+      h.1 (none_in_front _ _ (sym (ap (λ (s : Split). s.items) (sym same ∙ taken_follows limit old [])) ∙ none)),
 )
 
 -- ---- the end of a request
@@ -195,19 +197,19 @@ none_more : (gs ms : List (List ℕ)) → gs ++ ms ≡ gs → ms ≡ []
 none_more gs [] e = refl
 none_more gs (m ∷ ms) e = absurd (let len = ap (length {A = List ℕ}) e in omega (arith, length-append {A = List ℕ}))
 
-split_as : (s : Split) (ms : List (List ℕ)) (end : Result (List ℕ) MessagesError) → s.messages ≡ ms → s.end ≡ end → s ≡ record { messages = ms; end = end }
+split_as : (s : Split) (ms : List (List ℕ)) (end : Result (List ℕ) MessagesError) → s.items ≡ ms → s.end ≡ end → s ≡ record { items = ms; end = end }
 split_as s ms end p q =
-    ap (λ (xs : List (List ℕ)). record { messages = xs; end = s.end }) p ∙ ap (λ (r : Result (List ℕ) MessagesError). record { messages = ms; end = r }) q
+    ap (λ (xs : List (List ℕ)). record { items = xs; end = s.end }) p ∙ ap (λ (r : Result (List ℕ) MessagesError). record { items = ms; end = r }) q
 
 nothing_left : (limit : ℕ) (v : Reader) (t : List ℕ) (gs : List (List ℕ)) (end : Result (List ℕ) MessagesError)
-    → StandsFor limit v t gs → split limit t ≡ record { messages = gs; end = end } → split_left limit v ≡ record { messages = []; end = end }
+    → StandsFor limit v t gs → split limit t ≡ record { items = gs; end = end } → split_left limit v ≡ record { items = []; end = end }
 nothing_left limit v t gs end stands e =
-    let now : split_behind gs (split_left limit v) ≡ record { messages = gs; end = end } = sym (left_now limit v t gs stands) ∙ e in
-    let none : (split_left limit v).messages ≡ [] = none_more gs _ (ap (λ (s : Split). s.messages) now) in
+    let now : behind gs (split_left limit v) ≡ record { items = gs; end = end } = sym (left_now limit v t gs stands) ∙ e in
+    let none : (split_left limit v).items ≡ [] = none_more gs _ (ap (λ (s : Split). s.items) now) in
     let last : (split_left limit v).end ≡ end = ap (λ (s : Split). s.end) now in
     split_as (split_left limit v) [] end none last
 
-ended_left : (limit : ℕ) (v : Reader) (end : Result (List ℕ) MessagesError) → split_left limit v ≡ record { messages = []; end = end } → ends_at limit v ≡ end_of_rest end
+ended_left : (limit : ℕ) (v : Reader) (end : Result (List ℕ) MessagesError) → split_left limit v ≡ record { items = []; end = end } → ends_at limit v ≡ end_of_rest end
 ended_left limit (Err d) end e = ap (λ (s : Split). end_of_rest s.end) e
 ended_left limit (Ok bytes) end e = at_front (whole_at limit bytes) refl where
   none : (bs : List ℕ) → end_by_front (Ok None) bs ≡ end_of_rest (Ok bs)
@@ -215,37 +217,37 @@ ended_left limit (Ok bytes) end e = at_front (whole_at limit bytes) refl where
   none (b ∷ bs) = refl
 
   at_front : (w : Result (Option ℕ) MessagesError) → whole_at limit bytes ≡ w → end_by_front w bytes ≡ end_of_rest end
-  at_front (Ok None) h = none bytes ∙ ap (λ (s : Split). end_of_rest s.end) (sym (split_partial limit bytes h) ∙ e)
-  at_front (Ok (Some n)) h = let first = sym (split_whole limit bytes n h) ∙ e in let some = ap (λ (s : Split). s.messages) first in cc
-  at_front (Err d) h = ap (λ (s : Split). end_of_rest s.end) (sym (split_fault limit bytes d h) ∙ e)
+  at_front (Ok None) h = none bytes ∙ ap (λ (s : Split). end_of_rest s.end) (sym (divide_partial (message_format limit) (steady limit) bytes h) ∙ e)
+  at_front (Ok (Some n)) h = let first = sym (divide_whole (message_format limit) (steady limit) bytes n h) ∙ e in let some = ap (λ (s : Split). s.items) first in cc
+  at_front (Err d) h = ap (λ (s : Split). end_of_rest s.end) (sym (divide_fault (message_format limit) (steady limit) bytes d h) ∙ e)
 
 pub end_is : (limit : ℕ) (v : Reader) (r : Result Unit MessagesError) → r ≡ ends_at limit v → (t : List ℕ) (gs : List (List ℕ)) (end : Result (List ℕ) MessagesError)
-    → StandsFor limit v t gs → split limit t ≡ record { messages = gs; end = end } → r ≡ end_of_rest end
+    → StandsFor limit v t gs → split limit t ≡ record { items = gs; end = end } → r ≡ end_of_rest end
 end_is limit v r h t gs end stands e = h ∙ ended_left limit v end (nothing_left limit v t gs end stands e)
 
 ends_empty : (limit : ℕ) (v : Reader) → OnOk (ends_at limit v) (split_left limit v ≡ rest_only [])
 ends_empty limit (Err d) = tt
 ends_empty limit (Ok bytes) = at_front (whole_at limit bytes) refl bytes refl where
   at_front : (w : Result (Option ℕ) MessagesError) → whole_at limit bytes ≡ w → (bs : List ℕ) → bytes ≡ bs → OnOk (end_by_front w bs) (split limit bytes ≡ rest_only [])
-  at_front (Ok None) h [] e = split_partial limit bytes h ∙ ap rest_only e
+  at_front (Ok None) h [] e = divide_partial (message_format limit) (steady limit) bytes h ∙ ap rest_only e
   at_front (Ok None) h (b ∷ bs) e = tt
   at_front (Ok (Some n)) h bs e = tt
   at_front (Err d) h bs e = tt
 
 -- while a whole message is left the request is cut off, whatever follows that message
-pub untaken : (limit : ℕ) (v : Reader) (r : Result Unit MessagesError) → r ≡ ends_at limit v → (split_left limit v).messages ≢ [] → r ≡ Err CutOff
+pub untaken : (limit : ℕ) (v : Reader) (r : Result Unit MessagesError) → r ≡ ends_at limit v → (split_left limit v).items ≢ [] → r ≡ Err CutOff
 untaken limit (Err d) r h some = absurd (some refl)
 untaken limit (Ok bytes) r h some = h ∙ at_front (whole_at limit bytes) refl where
   at_front : (w : Result (Option ℕ) MessagesError) → whole_at limit bytes ≡ w → end_by_front w bytes ≡ Err CutOff
-  at_front (Ok None) e = absurd (some (ap (λ (s : Split). s.messages) (split_partial limit bytes e)))
+  at_front (Ok None) e = absurd (some (ap (λ (s : Split). s.items) (divide_partial (message_format limit) (steady limit) bytes e)))
   at_front (Ok (Some n)) e = refl
-  at_front (Err d) e = absurd (some (ap (λ (s : Split). s.messages) (split_fault limit bytes d e)))
+  at_front (Err d) e = absurd (some (ap (λ (s : Split). s.items) (divide_fault (message_format limit) (steady limit) bytes d e)))
 
 on_ok : {P Q : Type 0} (r : Result Unit MessagesError) → OnOk r P → (P → Q) → OnOk r Q
 on_ok (Ok u) p f = f p
 on_ok (Err e) p f = tt
 
 pub end_is_whole : (limit : ℕ) (v : Reader) (r : Result Unit MessagesError) → r ≡ ends_at limit v
-    → OnOk r ((t : List ℕ) (gs : List (List ℕ)) → StandsFor limit v t gs → split limit t ≡ record { messages = gs; end = Ok [] })
+    → OnOk r ((t : List ℕ) (gs : List (List ℕ)) → StandsFor limit v t gs → split limit t ≡ record { items = gs; end = Ok [] })
 end_is_whole limit v r h = on_ok r (subst (λ (x : Result Unit MessagesError). OnOk x (split_left limit v ≡ rest_only [])) (sym h) (ends_empty limit v))
-    (λ empty t gs stands. left_now limit v t gs stands ∙ ap (split_behind gs) empty ∙ ap (λ (xs : List (List ℕ)). record { messages = xs; end = Ok [] }) (append-nil gs))
+    (λ empty t gs stands. given_all (split limit) (left limit v) t gs stands [] (none_follows limit v ∙ empty))

@@ -1,8 +1,9 @@
 -- What a reader of messages holds, and what that stands for.
-use Rattle.std.specs.Prelude.{◌≡◌, ℕ, List, [], ◌∷◌, ◌++◌, Option, Some, None, Result, Ok, Err}
+use Rattle.std.specs.Prelude.{ℕ, List, [], ◌∷◌, ◌++◌, Option, Some, None, Result, Ok, Err}
+use Rattle.wire_items.specs.Items.{fault_only, AreGiven}
 use Rattle.grpc_messages.specs.declared.error.MessagesError.{MessagesError}
 use Rattle.grpc_messages.specs.Wire.{Split}
-use Rattle.grpc_messages.specs.Reading.{split, split_behind, fault_only}
+use Rattle.grpc_messages.specs.Reading.{split}
 
 -- the bytes that were not given yet, or the refusal
 abbrev pub left_of : List ℕ → Option MessagesError → Result (List ℕ) MessagesError
@@ -24,8 +25,7 @@ split_left limit (Err e) = fault_only e
 -- the reader has given these messages of the text, and will give the others, whatever follows
 abbrev pub StandsFor : ℕ → Result (List ℕ) MessagesError → List ℕ → List (List ℕ) → Type 0
 StandsFor limit reader text given =
-    (more : List ℕ) → split limit (text ++ more)
-    ≡ split_behind given (split_left limit (with_more_bytes reader more))
+    AreGiven (split limit) (λ more. split_left limit (with_more_bytes reader more)) text given
 
 -- the messages in an answer
 abbrev pub messages_in : Result (Option (List ℕ)) MessagesError → List (List ℕ)

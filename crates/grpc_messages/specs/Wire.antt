@@ -2,6 +2,8 @@
 -- how the data of a call divides into messages.
 use Rattle.std.specs.Prelude.{◌≡◌, ◌≢◌, ℕ, ◌+◌, ◌<◌, ◌≤◌, ◌⊎◌, List, [], ◌∷◌, ◌++◌, length, drop, slice_index, Result, Ok, Err}
 use Rattle.byteorder.specs.Endian.{big_number}
+use Rattle.wire_items.specs.Items.{Division}
+use Rattle.wire_items.specs.Grammar.{IsDivision}
 use Rattle.grpc_messages.specs.declared.error.MessagesError.{MessagesError}
 use Rattle.grpc_messages.specs.declared.error.MessagesError.TheVariants.{Compressed, TooLarge, CutOff, NoMemory}
 
@@ -12,13 +14,6 @@ pub record IsMessageText (limit : ℕ) (text message : List ℕ) : Type 0 where
   pub four : length size ≡ 4
   pub sized : big_number 4 size ≡ length message
   pub short : length message ≤ limit
-
--- one message after another, and nothing else
-abbrev pub Spells : ℕ → List ℕ → List (List ℕ) → Type 0
-Spells limit text [] = text ≡ []
-Spells limit text (m ∷ ms) =
-    (front : List ℕ) × (rest : List ℕ) × (text ≡ front ++ rest) × IsMessageText limit front m
-    × Spells limit rest ms
 
 -- the five bytes that stand before a message, read: its flag and its length
 abbrev pub flag_of : List ℕ → ℕ
@@ -44,16 +39,11 @@ IsEnd limit bytes (Err CutOff) = ⊥
 IsEnd limit bytes (Err NoMemory) = ⊥
 
 -- what a text divides into: whole messages, and then a rest or a fault
-pub record Split : Type 0 where
-  pub messages : List (List ℕ)
-  pub end : Result (List ℕ) MessagesError
+abbrev pub Split : Type 0
+Split = Division (List ℕ) MessagesError
 
-pub record IsSplit (limit : ℕ) (text : List ℕ) (s : Split) : Type 0 where
-  pub front : List ℕ
-  pub rest : List ℕ
-  pub parts : text ≡ front ++ rest
-  pub messages : Spells limit front s.messages
-  pub end : IsEnd limit rest s.end
+abbrev pub IsSplit : ℕ → List ℕ → Split → Type 0
+IsSplit limit text s = IsDivision (IsMessageText limit) (IsEnd limit) text s
 
 -- the end of a text to which nothing more is added
 abbrev pub end_of_rest : Result (List ℕ) MessagesError → Result Unit MessagesError

@@ -2,9 +2,10 @@
 
 ghost use Rattle.std.specs.Prelude.{◌≡◌, ◌++◌, ◌<◌, ◌≤◌, ◌^◌, List, ℕ, Ok, Err, length};
 ghost use Rattle.std.specs.List.{AllByRecursion, flat_map};
+ghost use Rattle.wire_items.specs.Items.{behind};
 ghost use Rattle.grpc_messages.specs.declared.error.MessagesError.{MessagesError};
 ghost use Rattle.grpc_messages.specs.Wire.{Split, IsSplit};
-ghost use Rattle.grpc_messages.specs.Reading.{split, split_behind};
+ghost use Rattle.grpc_messages.specs.Reading.{split};
 ghost use Rattle.grpc_messages.specs.Writing.{framed_message};
 
 /// A text divides into messages in one way alone, and that is how it is read.
@@ -18,7 +19,7 @@ pub fn a_text_divides_in_one_way()
 pub fn more_bytes_add_messages()
     ensures messages { (limit : ℕ) (text more : List ℕ) →
         (later : List (List ℕ))
-        × ((split limit (text ++ more)).messages ≡ (split limit text).messages ++ later) }
+        × ((split limit (text ++ more)).items ≡ (split limit text).items ++ later) }
     ensures fault { (limit : ℕ) (text more : List ℕ) (fault : MessagesError) →
         (split limit text).end ≡ Err fault → split limit (text ++ more) ≡ split limit text }
 {}
@@ -29,10 +30,10 @@ pub fn framed_messages_are_split_again()
     ensures whole { (limit : ℕ) (messages : List (List ℕ)) (rest : List ℕ) → limit < 2 ^ 32 →
         AllByRecursion (λ m. length m ≤ limit) messages →
         split limit (flat_map framed_message messages ++ rest)
-        ≡ split_behind messages (split limit rest) }
+        ≡ behind messages (split limit rest) }
     ensures part { (limit : ℕ) (messages : List (List ℕ)) (message part more : List ℕ) →
         limit < 2 ^ 32 → AllByRecursion (λ m. length m ≤ limit) messages → length message ≤ limit →
         framed_message message ≡ part ++ more → 0 < length more →
         split limit (flat_map framed_message messages ++ part)
-        ≡ record { messages = messages; end = Ok part } }
+        ≡ record { items = messages; end = Ok part } }
 {}

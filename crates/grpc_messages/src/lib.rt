@@ -1,6 +1,6 @@
 //! The messages of a call in the data of its stream (gRPC over HTTP2, Length-Prefixed-Message):
-//! a reader that splits the received bytes into messages, however they were cut. Who sends a message
-//! puts its prefix before it.
+//! a reader that splits the received bytes into messages, however they were cut. Who sends a
+//! message puts its prefix before it.
 #![tactic(auto)]
 
 mod error;

@@ -128,21 +128,21 @@ impl Messages {
         ensures none { IfOk result (λ message. IfNone message
             ((text : List ℕ) (given : List (List ℕ)) → StandsFor MESSAGE_LIMIT self.old text given →
             split MESSAGE_LIMIT text
-            ≡ record { messages = given; end = Ok (bytes_left self.new) })) }
+            ≡ record { items = given; end = Ok (bytes_left self.new) })) }
         ensures unfinished { IfOk result (λ message. IfNone message
             (length (bytes_left self.new) < 5 + MESSAGE_LIMIT)) }
 
         // A fault stands where the messages end, and is there for good.
         ensures refused { IfErr result (λ refusal. refusal ≢ MessagesError.NoMemory →
             (text : List ℕ) (given : List (List ℕ)) → StandsFor MESSAGE_LIMIT self.old text given →
-            split MESSAGE_LIMIT text ≡ record { messages = given; end = Err refusal }) }
+            split MESSAGE_LIMIT text ≡ record { items = given; end = Err refusal }) }
         ensures lasts { IfErr result (λ refusal. refusal ≢ MessagesError.NoMemory →
             self.new ≡ Err refusal) }
         ensures repeated { IfErr self.old (λ refusal. result ≡ Err refusal) }
 
         // Memory is asked for only where a message is whole, and nothing is lost without it.
         ensures memory { IsErrOf result MessagesError.NoMemory →
-            (self.new ≡ self.old) × ((split_left MESSAGE_LIMIT self.old).messages ≢ []) }
+            (self.new ≡ self.old) × ((split_left MESSAGE_LIMIT self.old).items ≢ []) }
     {
         self.take()
     }
@@ -172,12 +172,12 @@ impl Messages {
     pub fn end(&mut self) -> Result<(), MessagesError>
         ensures answer { (text : List ℕ) (given : List (List ℕ))
             (end : Result (List ℕ) MessagesError) → StandsFor MESSAGE_LIMIT self.old text given →
-            split MESSAGE_LIMIT text ≡ record { messages = given; end = end } →
+            split MESSAGE_LIMIT text ≡ record { items = given; end = end } →
             result ≡ end_of_rest end }
         ensures whole { OnOk result ((text : List ℕ) (given : List (List ℕ)) →
             StandsFor MESSAGE_LIMIT self.old text given →
-            split MESSAGE_LIMIT text ≡ record { messages = given; end = Ok [] }) }
-        ensures untaken { (split_left MESSAGE_LIMIT self.old).messages ≢ [] →
+            split MESSAGE_LIMIT text ≡ record { items = given; end = Ok [] }) }
+        ensures untaken { (split_left MESSAGE_LIMIT self.old).items ≢ [] →
             result ≡ Err MessagesError.CutOff }
         ensures repeated { IfErr self.old (λ refusal. result ≡ Err refusal) }
         ensures ok { OnOk result (self.new ≡ self.old) }

@@ -6,6 +6,7 @@ use Rattle.std.proofs.lemmas.List.Concat.{flat_map-cons}
 use Rattle.std.proofs.lemmas.Grind.{common_steps}
 use Rattle.byteorder.specs.Endian.{big_bytes}
 use Rattle.byteorder.specs.Numbers.{big_number-reads_back}
+use Rattle.wire_items.specs.Grammar.{Spells}
 use Rattle.http2_frames.specs.declared.frame.RawFrame.{RawFrame}
 use Rattle.http2_frames.specs.declared.frame.Frame.{Frame}
 use Rattle.http2_frames.specs.declared.frame.Frame.TheVariants.{Data, Headers, Priority, RstStream, Settings, PushPromise, Ping, GoAway, WindowUpdate, Continuation, Unknown}
@@ -13,7 +14,7 @@ use Rattle.http2_frames.specs.Frames.{frame_of}
 use Rattle.http2_frames.specs.declared.settings.Setting.{Setting}
 use Rattle.http2_frames.specs.declared.codes.frame_type.TheConstants.{CONTINUATION}
 use Rattle.http2_frames.specs.Settings.{settings_text}
-use Rattle.http2_frames.specs.Wire.{IsFrameText, Spells}
+use Rattle.http2_frames.specs.Wire.{IsFrameText}
 use Rattle.http2_frames.specs.Reading.{split}
 use Rattle.http2_frames.specs.Writing.{raw_of, frame_text, text_of, IsSetting, IsWritable}
 use Rattle.http2_frames.proofs.Divisions.{split_only}
@@ -131,14 +132,14 @@ fits (WindowUpdate s n) h = record { small = omega arith; low = h.0 }
 fits (Continuation s t d) h = record { small = h.1; low = h.0.1 }
 fits (Unknown k g s d) h = record { small = h.2; low = h.1 }
 
-spelled : (fs : List Frame) → AllByRecursion IsWritable fs → Spells (flat_map text_of fs) (map raw_of fs)
+spelled : (fs : List Frame) → AllByRecursion IsWritable fs → Spells IsFrameText (flat_map text_of fs) (map raw_of fs)
 spelled [] h = refl
 spelled (f ∷ fs) h =
     let w = fits f h.0 in
     (text_of f, flat_map text_of fs, flat_map-cons text_of f fs, frame_text_is (raw_of f) w.small w.low, spelled fs h.1)
 
-pub texts_again : (p : List ℕ) (fs : List Frame) → AllByRecursion IsWritable fs → split p (p ++ flat_map text_of fs) ≡ record { frames = map raw_of fs; end = Ok [] }
+pub texts_again : (p : List ℕ) (fs : List Frame) → AllByRecursion IsWritable fs → split p (p ++ flat_map text_of fs) ≡ record { items = map raw_of fs; end = Ok [] }
 texts_again p fs h =
     let text : List ℕ = flat_map text_of fs in
-    split_only p (p ++ text) (record { frames = map raw_of fs; end = Ok [] })
-    (inl (text, refl, record { front = text; rest = []; parts = sym (append-nil text); frames = spelled fs h; end = (refl, inl (omega arith)) }))
+    split_only p (p ++ text) (record { items = map raw_of fs; end = Ok [] })
+    (inl (text, refl, record { front = text; rest = []; parts = sym (append-nil text); items = spelled fs h; end = (refl, inl (omega arith)) }))

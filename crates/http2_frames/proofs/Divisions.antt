@@ -1,79 +1,48 @@
 -- The grammar of a text of frames, and reading it.
-use Rattle.std.proofs.Common.{◌≡◌, ◌≢◌, ℕ, zero, suc, ◌+◌, ◌%◌, ◌^◌, ◌<◌, ◌≤◌, ◌⊎◌, inl, inr, Bool, true, false, ◌==◌, List, [], ◌∷◌, ◌++◌, length, take, drop, slice_index, Option, Some, None, Result, Ok, Err, refl, sym, ap, subst, ◌∙◌, append_assoc, arith, length-append}
-use Rattle.std.proofs.Math.Seq.{drop-append_seam, take-append_seam}
+use Rattle.std.proofs.Common.{◌≡◌, ◌≢◌, ℕ, suc, ◌+◌, ◌%◌, ◌^◌, ◌≤◌, ◌⊎◌, inl, inr, Bool, true, false, ◌==◌, List, [], ◌∷◌, ◌++◌, length, take, drop, slice_index, Some, Ok, Err, refl, sym, ap, subst, ◌∙◌, append_assoc, arith, length-append}
+use Rattle.std.proofs.Math.Seq.{drop-append_seam, take-length}
 use Rattle.std.proofs.lemmas.Bool.Decides.{eqb_tells}
-use Rattle.std.proofs.lemmas.List.{length-drop, take-append-drop, length-take-le}
+use Rattle.std.proofs.lemmas.List.{length-take-le}
 use Rattle.byteorder.specs.Endian.{big_number}
+use Rattle.wire_items.specs.Items.{rest_only, fault_only}
+use Rattle.wire_items.specs.Grammar.{IsOneItem, Reads}
+use Rattle.wire_items.proofs.Heads.{three_of, four_of}
+use Rattle.wire_items.proofs.Divisions.{division_only, division_found}
 use Rattle.http2_frames.specs.declared.error.FrameError.{FrameError}
 use Rattle.http2_frames.specs.declared.error.FrameError.TheVariants.{Preface}
 use Rattle.http2_frames.specs.declared.frame.RawFrame.{RawFrame}
-use Rattle.http2_frames.specs.Wire.{IsFrameText, Spells, Split, IsEnd, IsInFrames, Leaves, IsCutShort, IsSplit}
-use Rattle.http2_frames.specs.Reading.{whole_at, frame_at, split_behind, rest_only, fault_only, split_by, split_in, split_frames, split}
-use Rattle.http2_frames.proofs.Fronts.{begins, begin, IsWhole, whole_is, is_whole, oversized_is, is_oversized, partial_is, is_partial}
-use Rattle.http2_frames.proofs.Splits.{split_partial, split_oversized, split_whole, past, short, off}
+use Rattle.http2_frames.specs.Wire.{IsFrameText, Split, IsEnd, IsInFrames, Leaves, IsCutShort, IsSplit}
+use Rattle.http2_frames.specs.Reading.{whole_at, frame_at, frame_format, split_frames, split}
+use Rattle.http2_frames.proofs.Fronts.{begins, begin, IsWhole, whole_is, is_whole, oversized_is, is_oversized, partial_is, is_partial, steady}
+use Rattle.http2_frames.proofs.Splits.{past, short, off}
 
 -- ---- a frame's text
-
-pub three_of : (xs : List ℕ) → length xs ≡ 3 → (a : ℕ) × (b : ℕ) × (c : ℕ) × (xs ≡ a ∷ b ∷ c ∷ [])
-three_of [] e = absurd (omega arith)
-three_of (a ∷ []) e = absurd (omega arith)
-three_of (a ∷ b ∷ []) e = absurd (omega arith)
-three_of (a ∷ b ∷ c ∷ []) e = (a, b, c, refl)
-three_of (a ∷ b ∷ c ∷ d ∷ xs) e = absurd (omega arith)
-
-pub four_of : (xs : List ℕ) → length xs ≡ 4 → (a : ℕ) × (b : ℕ) × (c : ℕ) × (d : ℕ) × (xs ≡ a ∷ b ∷ c ∷ d ∷ [])
-four_of [] e = absurd (omega arith)
-four_of (a ∷ []) e = absurd (omega arith)
-four_of (a ∷ b ∷ []) e = absurd (omega arith)
-four_of (a ∷ b ∷ c ∷ []) e = absurd (omega arith)
-four_of (a ∷ b ∷ c ∷ d ∷ []) e = (a, b, c, d, refl)
-four_of (a ∷ b ∷ c ∷ d ∷ x ∷ xs) e = absurd (omega arith)
 
 nine_more : (n : ℕ) → 9 + n ≡ suc (suc (suc (suc (suc (suc (suc (suc (suc n))))))))
 nine_more n = omega arith
 
--- what is read of a text that begins with a frame's
-pub record BeginsWith (text : List ℕ) (f : RawFrame) (rest : List ℕ) : Type 0 where
-  pub whole : whole_at text ≡ Ok (Some (length f.payload))
-  pub frame : frame_at text ≡ f
-  pub others : drop (9 + length f.payload) text ≡ rest
-
-begins_at : (a b c k g w x y z : ℕ) (f : RawFrame) (rest : List ℕ) → big_number 3 (a ∷ b ∷ c ∷ []) ≡ length f.payload → k ≡ f.kind → g ≡ f.flags → big_number 4 (w ∷ x ∷ y ∷ z ∷ []) % 2 ^ 31 ≡ f.stream → length f.payload ≤ 16384
-    → BeginsWith (a ∷ b ∷ c ∷ k ∷ g ∷ w ∷ x ∷ y ∷ z ∷ (f.payload ++ rest)) f rest
-begins_at a b c k g w x y z f rest size kind flags stream small =
-    let text : List ℕ = a ∷ b ∷ c ∷ k ∷ g ∷ w ∷ x ∷ y ∷ z ∷ (f.payload ++ rest) in
-    let len = length-append f.payload rest in
+item_at_front : (a b c k g w x y z : ℕ) (f : RawFrame) → big_number 3 (a ∷ b ∷ c ∷ []) ≡ length f.payload → k ≡ f.kind → g ≡ f.flags → big_number 4 (w ∷ x ∷ y ∷ z ∷ []) % 2 ^ 31 ≡ f.stream → length f.payload ≤ 16384
+    → IsOneItem frame_format (a ∷ b ∷ c ∷ k ∷ g ∷ w ∷ x ∷ y ∷ z ∷ f.payload) f
+item_at_front a b c k g w x y z f size kind flags stream small =
+    let text : List ℕ = a ∷ b ∷ c ∷ k ∷ g ∷ w ∷ x ∷ y ∷ z ∷ f.payload in
     let same : big_number 3 text ≡ length f.payload = size in
-    let payload : take (big_number 3 text) (f.payload ++ rest) ≡ f.payload = ap (λ (n : ℕ). take n (f.payload ++ rest)) same ∙ take-append_seam f.payload rest in
-    let later : drop (9 + length f.payload) text ≡ rest = ap (λ (n : ℕ). drop n text) (nine_more (length f.payload)) ∙ drop-append_seam f.payload rest in
+    let payload : take (big_number 3 text) f.payload ≡ f.payload = ap (λ (n : ℕ). take n f.payload) same ∙ take-length f.payload in
     record {
+      size = length f.payload;
       whole = is_whole text (length f.payload) (record { size = sym same; short = small; fits = omega arith });
-      frame = rw (kind, flags, stream, payload) refl;
-      others = later;
+      sized = nine_more (length f.payload);
+      is = rw (kind, flags, stream, payload) refl;
     }
 
-pub begins_with : (x : List ℕ) (f : RawFrame) → IsFrameText x f → (rest : List ℕ) → BeginsWith (x ++ rest) f rest
-begins_with x f h rest =
+is_item : (t : List ℕ) (f : RawFrame) → IsFrameText t f → IsOneItem frame_format t f
+is_item t f h =
     let s = three_of h.size h.three in
     let n = four_of h.number h.four in
     let first = ap (λ (q : List ℕ). (q ++ f.kind ∷ f.flags ∷ h.number) ++ f.payload) s.3 in
     let second = ap (λ (q : List ℕ). ((s.0 ∷ s.1 ∷ s.2 ∷ []) ++ f.kind ∷ f.flags ∷ q) ++ f.payload) n.4 in
-    let whole = ap (λ (q : List ℕ). q ++ rest) (h.parts ∙ first ∙ second) in
     let size = ap (big_number 3) (sym s.3) ∙ h.sized in
     let stream = ap (λ (q : List ℕ). big_number 4 q % 2 ^ 31) (sym n.4) ∙ h.stream in
-    subst (λ (q : List ℕ). BeginsWith q f rest) (sym whole) (begins_at s.0 s.1 s.2 f.kind f.flags n.0 n.1 n.2 n.3 f rest size refl refl stream h.short)
-
-in_frames_only : (front rest : List ℕ) (frames : List RawFrame) (end : Result (List ℕ) FrameError) → Spells front frames → IsEnd rest end → split_frames (front ++ rest) ≡ record { frames = frames; end = end }
-in_frames_only front rest [] (Ok r) h e = ap (λ (q : List ℕ). split_frames (q ++ rest)) h ∙ split_partial rest (is_partial rest e.1) ∙ ap rest_only e.0
-in_frames_only front rest [] (Err d) h e = ap (λ (q : List ℕ). split_frames (q ++ rest)) h ∙ split_oversized rest d (is_oversized rest d (record { is = e.0; nine = e.1; long = e.2 }))
-in_frames_only front rest (f ∷ fs) end h e =
-    let b = begins_with h.0 f h.3 (h.1 ++ rest) in
-    let text = h.0 ++ (h.1 ++ rest) in
-    ap split_frames (ap (λ (q : List ℕ). q ++ rest) h.2 ∙ append_assoc h.0 h.1 rest)
-    ∙ split_whole text (length f.payload) b.whole
-    ∙ ap (λ (g : RawFrame). split_behind (g ∷ []) (split_frames (drop (9 + length f.payload) text))) b.frame
-    ∙ ap (λ (q : List ℕ). split_behind (f ∷ []) (split_frames q)) b.others
-    ∙ ap (split_behind (f ∷ [])) (in_frames_only h.1 rest fs end h.4 e)
+    subst (λ (q : List ℕ). IsOneItem frame_format q f) (sym (h.parts ∙ first ∙ second)) (item_at_front s.0 s.1 s.2 f.kind f.flags n.0 n.1 n.2 n.3 f size refl refl stream h.short)
 
 frame_text_at : (a b c k g w x y z : ℕ) (r : List ℕ) (n : ℕ) → n ≡ big_number 3 (a ∷ b ∷ c ∷ []) → n ≤ 16384 → n ≤ length r
     → IsFrameText (take (9 + n) (a ∷ b ∷ c ∷ k ∷ g ∷ w ∷ x ∷ y ∷ z ∷ r)) (record { kind = k; flags = g; stream = big_number 4 (w ∷ x ∷ y ∷ z ∷ []) % 2 ^ 31; payload = take n r })
@@ -102,32 +71,23 @@ frame_text_is (a ∷ b ∷ c ∷ k ∷ g ∷ w ∷ []) n h = let f = h.fits in a
 frame_text_is (a ∷ b ∷ c ∷ k ∷ g ∷ w ∷ x ∷ []) n h = let f = h.fits in absurd (omega arith)
 frame_text_is (a ∷ b ∷ c ∷ k ∷ g ∷ w ∷ x ∷ y ∷ []) n h = let f = h.fits in absurd (omega arith)
 
-rejoined : (m : ℕ) (t front rest : List ℕ) → drop m t ≡ front ++ rest → t ≡ (take m t ++ front) ++ rest
-rejoined m t front rest e = sym (take-append-drop m t) ∙ ap (λ (q : List ℕ). take m t ++ q) e ∙ sym (append_assoc (take m t) front rest)
+frame_found : (t : List ℕ) (n : ℕ) → whole_at t ≡ Ok (Some n) → IsFrameText (take (9 + n) t) (frame_at t)
+frame_found t n e =
+    let w = whole_is t n e in
+    subst (λ (j : ℕ). IsFrameText (take (9 + n) t) (record { kind = slice_index t 3; flags = slice_index t 4; stream = big_number 4 (drop 5 t) % 2 ^ 31; payload = take j (drop 9 t) })) w.size (frame_text_is t n w)
 
-abbrev after_frame : List ℕ → List ℕ
-after_frame t = drop (9 + big_number 3 t) t
+fault_found : (t : List ℕ) (d : FrameError) → whole_at t ≡ Err d → IsEnd t (Err d)
+fault_found t d e = let o = oversized_is t d e in (o.is, o.nine, o.long)
 
-in_frames_found : (k : ℕ) (t : List ℕ) → length t < k → IsInFrames t (split_in k t)
-unfolding split_in
-in_frames_found zero t p = absurd (omega arith)
-in_frames_found (suc k) t p = go (whole_at t) refl (in_frames_found k (after_frame t)) where
-  go : (w : Result (Option ℕ) FrameError) → whole_at t ≡ w → (length (after_frame t) < k → IsInFrames (after_frame t) (split_in k (after_frame t))) → IsInFrames t (split_by w t (split_in k (after_frame t)))
-  go (Ok None) e others = record { front = []; rest = t; parts = refl; frames = refl; end = (refl, partial_is t e) }
-  go (Err d) e others = let o = oversized_is t d e in record { front = []; rest = t; parts = refl; frames = refl; end = (o.is, o.nine, o.long) }
-  go (Ok (Some n)) e others =
-      let w = whole_is t n e in
-      let s = w.size in let f = w.fits in
-      let m : ℕ = 9 + big_number 3 t in
-      let later = others (omega (arith, length-drop (9 + big_number 3 t) t)) in
-      let text = subst (λ (j : ℕ). IsFrameText (take (9 + j) t) (record { kind = slice_index t 3; flags = slice_index t 4; stream = big_number 4 (drop 5 t) % 2 ^ 31; payload = take j (drop 9 t) })) s (frame_text_is t n w) in
-      record {
-        front = take m t ++ later.front;
-        rest = later.rest;
-        parts = rejoined m t later.front later.rest later.parts;
-        frames = (take m t, later.front, refl, text, later.frames);
-        end = later.end;
-      }
+reads : Reads frame_format IsFrameText IsEnd
+reads = record {
+  item = is_item;
+  is_item = frame_found;
+  rest = λ t r h. (h.0, is_partial t h.1);
+  is_rest = λ t e. (refl, partial_is t e);
+  fault = λ t d h. is_oversized t d (record { is = h.0; nine = h.1; long = h.2 });
+  is_fault = fault_found;
+}
 
 -- ---- the preface
 
@@ -183,13 +143,13 @@ pub off_only : (p t : List ℕ) → Leaves p t → split p t ≡ fault_only Pref
 off_only p t h = off p t (not_true _ (λ e. never_begins p t (drop (length p) t) h (begins p t e))) (not_true _ (λ e. never_begun p t (drop (length t) p) h (begins t p e)))
 
 pub split_only : (p t : List ℕ) (s : Split) → IsSplit p t s → split p t ≡ s
-split_only p t s (inl (after, e, h)) = past_only p t after e ∙ ap split_frames h.parts ∙ in_frames_only h.front h.rest s.frames s.end h.frames h.end
+split_only p t s (inl (after, e, h)) = past_only p t after e ∙ division_only frame_format steady IsFrameText IsEnd reads after s h
 split_only p t s (inr (inl (h, e))) = short_only p t h ∙ sym e
 split_only p t s (inr (inr (h, e))) = off_only p t h ∙ sym e
 
 pub split_found : (p t : List ℕ) → IsSplit p t (split p t)
 split_found p t = go (compared p t) where
   go : Compared p t → IsSplit p t (split p t)
-  go (inl (after, e)) = inl (after, e, subst (IsInFrames after) (sym (past_only p t after e)) (in_frames_found (suc (length after)) after (omega arith)))
+  go (inl (after, e)) = inl (after, e, subst (IsInFrames after) (sym (past_only p t after e)) (division_found frame_format steady IsFrameText IsEnd reads after))
   go (inr (inl h)) = inr (inl (h, short_only p t h))
   go (inr (inr h)) = inr (inr (h, off_only p t h))

@@ -7,9 +7,10 @@ use Rattle.std.proofs.lemmas.List.{take-append-le, take-append-drop, drop-append
 use Rattle.std.proofs.lemmas.Slice.Eq.{starts_is}
 use Rattle.byteorder.specs.Endian.{big_number}
 use Rattle.byteorder.specs.Numbers.{big_from-append}
+use Rattle.wire_items.specs.Items.{IsSteady}
 use Rattle.http2_frames.specs.declared.error.FrameError.{FrameError}
 use Rattle.http2_frames.specs.declared.error.FrameError.TheVariants.{Size}
-use Rattle.http2_frames.specs.Reading.{whole_at, frame_at}
+use Rattle.http2_frames.specs.Reading.{whole_at, frame_at, frame_format}
 use Rattle.http2_frames.specs.Step.{IsJoined, first_of}
 
 pub begins : (p t : List ℕ) → starts_with nat_eq t p ≡ true → t ≡ p ++ drop (length p) t
@@ -84,6 +85,15 @@ frame_more t more n e =
     let past = drop-append-le 9 t more nine in
     let payload = take-append-le (big_number 3 t) (drop 9 t) more (omega (arith, length-drop 9 t)) in
     rw (kind, flags, five, stream, size, past, payload) refl
+
+pub steady : IsSteady frame_format
+steady = record {
+  some = omega arith;
+  fits = λ t n e. (whole_is t n e).fits;
+  whole = whole_more;
+  item = frame_more;
+  fault = oversized_more;
+}
 
 pub joined_first : (joined received : List ℕ) → IsJoined [] joined → frame_at (first_of joined received) ≡ frame_at (joined ++ received)
 joined_first [] received h = refl

@@ -1,64 +1,12 @@
--- The split of a text, by what stands at its front, and when more follows.
-use Rattle.std.proofs.Common.{◌≡◌, ℕ, zero, suc, ◌+◌, ◌<◌, ◌≤◌, inl, inr, Bool, true, false, nat_eq, List, [], ◌∷◌, ◌++◌, length, drop, Option, Some, None, Result, Ok, Err, refl, sym, ap, ◌∙◌, append_assoc, arith, length-append}
+-- The split of a text, by the preface that it begins with, and when more follows.
+use Rattle.std.proofs.Common.{◌≡◌, ℕ, ◌≤◌, inl, inr, Bool, true, false, nat_eq, List, ◌++◌, length, drop, refl, sym, ap, ◌∙◌, append_assoc, arith, length-append}
 use Rattle.std.specs.List.{starts_with}
 use Rattle.std.proofs.lemmas.Bool.{cases_lt}
-use Rattle.std.proofs.lemmas.List.{drop-append-le, length-drop}
-use Rattle.byteorder.specs.Endian.{big_number}
-use Rattle.http2_frames.specs.declared.error.FrameError.{FrameError}
+use Rattle.std.proofs.lemmas.List.{drop-append-le}
+use Rattle.wire_items.specs.Items.{rest_only, fault_only}
 use Rattle.http2_frames.specs.declared.error.FrameError.TheVariants.{Preface}
-use Rattle.http2_frames.specs.declared.frame.RawFrame.{RawFrame}
-use Rattle.http2_frames.specs.Reading.{whole_at, frame_at, split_behind, rest_only, fault_only, split_by, split_in, split_frames, split}
-use Rattle.http2_frames.proofs.Fronts.{begins, begin, front_of, whole_is, whole_more, frame_more}
-
-abbrev after_frame : List ℕ → List ℕ
-after_frame t = drop (9 + big_number 3 t) t
-
-frame_shrinks : (t : List ℕ) (n : ℕ) → whole_at t ≡ Ok (Some n) → length (after_frame t) < length t
-frame_shrinks t n e = let w = whole_is t n e in let s = w.size in let f = w.fits in omega (arith, length-drop (9 + big_number 3 t) t)
-
--- more steps than bytes change nothing
-pub split_fuel : (j k : ℕ) (t : List ℕ) → length t < j → length t < k → split_in j t ≡ split_in k t
-unfolding split_in
-split_fuel zero k t p q = absurd (omega arith)
-split_fuel (suc j) zero t p q = absurd (omega arith)
-split_fuel (suc j) (suc k) t p q = go (whole_at t) refl (split_fuel j k (after_frame t)) where
-  go : (w : Result (Option ℕ) FrameError) → whole_at t ≡ w → (length (after_frame t) < j → length (after_frame t) < k → split_in j (after_frame t) ≡ split_in k (after_frame t))
-      → split_by w t (split_in j (after_frame t)) ≡ split_by w t (split_in k (after_frame t))
-  go (Ok None) e same = refl
-  go (Err d) e same = refl
-  go (Ok (Some n)) e same = let less = frame_shrinks t n e in ap (split_behind (frame_at t ∷ [])) (same (omega arith) (omega arith))
-
--- what stands at the front, and then the rest
-pub split_step : (t : List ℕ) → split_frames t ≡ split_by (whole_at t) t (split_frames (after_frame t))
-unfolding split_in
-split_step t = go (whole_at t) refl where
-  go : (w : Result (Option ℕ) FrameError) → whole_at t ≡ w → split_by w t (split_in (length t) (after_frame t)) ≡ split_by w t (split_frames (after_frame t))
-  go (Ok None) e = refl
-  go (Err d) e = refl
-  go (Ok (Some n)) e = let less = frame_shrinks t n e in ap (split_behind (frame_at t ∷ [])) (split_fuel (length t) (suc (length (after_frame t))) (after_frame t) (omega arith) (omega arith))
-
-pub split_partial : (t : List ℕ) → whole_at t ≡ Ok None → split_frames t ≡ rest_only t
-split_partial t e = split_step t ∙ ap (λ (w : Result (Option ℕ) FrameError). split_by w t (split_frames (after_frame t))) e
-
-pub split_oversized : (t : List ℕ) (d : FrameError) → whole_at t ≡ Err d → split_frames t ≡ fault_only d
-split_oversized t d e = split_step t ∙ ap (λ (w : Result (Option ℕ) FrameError). split_by w t (split_frames (after_frame t))) e
-
-pub split_whole : (t : List ℕ) (n : ℕ) → whole_at t ≡ Ok (Some n) → split_frames t ≡ split_behind (frame_at t ∷ []) (split_frames (drop (9 + n) t))
-split_whole t n e =
-    let w = whole_is t n e in
-    split_step t ∙ ap (λ (w : Result (Option ℕ) FrameError). split_by w t (split_frames (after_frame t))) e
-    ∙ ap (λ (m : ℕ). split_behind (frame_at t ∷ []) (split_frames (drop (9 + m) t))) (sym w.size)
-
--- a whole frame stays the first one, whatever follows
-pub split_whole_more : (t more : List ℕ) (n : ℕ) → whole_at t ≡ Ok (Some n) → split_frames (t ++ more) ≡ split_behind (frame_at t ∷ []) (split_frames (drop (9 + n) t ++ more))
-split_whole_more t more n e =
-    let w = whole_is t n e in
-    let f = w.fits in
-    split_whole (t ++ more) n (whole_more t more n e)
-    ∙ ap (λ (x : RawFrame). split_behind (x ∷ []) (split_frames (drop (9 + n) (t ++ more)))) (frame_more t more n e)
-    ∙ ap (λ (x : List ℕ). split_behind (frame_at t ∷ []) (split_frames x)) (drop-append-le (9 + n) t more f)
-
--- ---- the preface
+use Rattle.http2_frames.specs.Reading.{split_frames, split}
+use Rattle.http2_frames.proofs.Fronts.{begins, begin, front_of}
 
 pub past : (p t : List ℕ) → starts_with nat_eq t p ≡ true → split p t ≡ split_frames (drop (length p) t)
 past p t e = rw e refl

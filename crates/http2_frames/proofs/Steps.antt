@@ -1,20 +1,27 @@
 -- What one call of a reader says of the split of the text that it stands for.
-use Rattle.std.proofs.Common.{◌≡◌, ℕ, ◌+◌, ◌<◌, ◌≤◌, ◌⊎◌, inl, inr, Bool, true, false, cond, nat_eq, List, [], ◌∷◌, ◌++◌, length, drop, Option, Some, None, Result, Ok, Err, IfOk, IfErr, refl, sym, ap, subst, ◌∙◌, append_assoc, length-drop, IsTrue, arith}
+use Rattle.std.proofs.Common.{◌≡◌, ℕ, ◌+◌, ◌<◌, ◌≤◌, ◌⊎◌, inl, inr, Bool, true, false, cond, nat_eq, List, [], ◌∷◌, ◌++◌, length, drop, Option, Some, None, Result, Ok, Err, IfOk, IfErr, refl, sym, ap, subst, ◌∙◌, length-drop, IsTrue, arith}
 use Rattle.std.proofs.lemmas.List.{append-nil}
 use Rattle.std.specs.List.{starts_with}
 use Rattle.byteorder.specs.Endian.{big_number}
+use Rattle.wire_items.specs.Items.{behind, rest_only, fault_only}
+use Rattle.wire_items.proofs.Divisions.{divide_partial, divide_fault, divide_whole_more, divide_fault_more}
+use Rattle.wire_items.proofs.Givings.{given_more, given_all, given_fault}
 use Rattle.http2_frames.specs.declared.error.FrameError.{FrameError}
 use Rattle.http2_frames.specs.declared.error.FrameError.TheVariants.{Preface}
 use Rattle.http2_frames.specs.declared.frame.RawFrame.{RawFrame}
 use Rattle.http2_frames.specs.Wire.{Split}
-use Rattle.http2_frames.specs.Reading.{whole_at, frame_at, split_behind, rest_only, fault_only, split_frames, split}
+use Rattle.http2_frames.specs.Reading.{whole_at, frame_at, frame_format, split_frames, split}
 use Rattle.http2_frames.specs.Reader.{Unread, unread_of, text_left, split_left, with_more_bytes, StandsFor, HasFrame, front_of}
 use Rattle.http2_frames.specs.Step.{IsJoined, first_of, frames_from, after_preface, is_whole, after_look, look_behind_preface, look, behind_front, WaitsShortly}
-use Rattle.http2_frames.proofs.Fronts.{oversized_more, partial_is, joined_first}
-use Rattle.http2_frames.proofs.Splits.{short, past_more, off_more, split_partial, split_oversized, split_whole_more}
+use Rattle.http2_frames.proofs.Fronts.{partial_is, steady, joined_first}
+use Rattle.http2_frames.proofs.Splits.{short, past_more, off_more}
 
 abbrev Reader : Type 0
 Reader = Result Unread FrameError
+
+-- what is left when more bytes follow
+abbrev left : Reader → List ℕ → Split
+left v more = split_left (with_more_bytes v more)
 
 -- the frames in an answer
 abbrev frames_in : Result (Option RawFrame) FrameError → List RawFrame
@@ -61,16 +68,16 @@ past_is (Ok u) = go (starts_with nat_eq u.text u.preface) (starts_with nat_eq u.
   go false true e d = inr (short u.preface u.text e d)
   go false false e d = tt
 
-taken_follows : (v : Reader) (more : List ℕ) → split_left (with_more_bytes v more) ≡ split_behind (frames_in (step v).0) (split_left (with_more_bytes (step v).1 more))
+taken_follows : (v : Reader) (more : List ℕ) → split_left (with_more_bytes v more) ≡ behind (frames_in (step v).0) (split_left (with_more_bytes (step v).1 more))
 taken_follows (Err e) more = refl
 taken_follows (Ok u) more = at_preface u.preface where
-  at_preface : (p : List ℕ) → split p (u.text ++ more) ≡ split_behind (frames_in (step_behind_preface p u.text).0) (split_left (with_more_bytes (step_behind_preface p u.text).1 more))
+  at_preface : (p : List ℕ) → split p (u.text ++ more) ≡ behind (frames_in (step_behind_preface p u.text).0) (split_left (with_more_bytes (step_behind_preface p u.text).1 more))
   at_preface (p ∷ ps) = refl
   at_preface [] = at_front (whole_at u.text) refl where
-    at_front : (w : Result (Option ℕ) FrameError) → whole_at u.text ≡ w → split_frames (u.text ++ more) ≡ split_behind (frames_in (step_by_front w u.text).0) (split_left (with_more_bytes (step_by_front w u.text).1 more))
+    at_front : (w : Result (Option ℕ) FrameError) → whole_at u.text ≡ w → split_frames (u.text ++ more) ≡ behind (frames_in (step_by_front w u.text).0) (split_left (with_more_bytes (step_by_front w u.text).1 more))
     at_front (Ok None) e = refl
-    at_front (Ok (Some n)) e = split_whole_more u.text more n e
-    at_front (Err d) e = split_oversized (u.text ++ more) d (oversized_more u.text more d e)
+    at_front (Ok (Some n)) e = divide_whole_more frame_format steady u.text more n e
+    at_front (Err d) e = divide_fault_more frame_format steady u.text more d e
 
 -- what the answer says of the split where no frame is taken
 abbrev SaysEnd : Reader → Result (Option RawFrame) FrameError → Reader → Type 0
@@ -86,47 +93,39 @@ taken_ends (Ok u) h = at_preface u.preface h where
   at_preface (p ∷ ps) (inr e) = e
   at_preface [] h = at_front (whole_at u.text) refl where
     at_front : (w : Result (Option ℕ) FrameError) → whole_at u.text ≡ w → SaysEnd (Ok (record { preface = []; text = u.text })) (step_by_front w u.text).0 (step_by_front w u.text).1
-    at_front (Ok None) e = split_partial u.text e
+    at_front (Ok None) e = divide_partial frame_format steady u.text e
     at_front (Ok (Some n)) e = tt
-    at_front (Err d) e = (split_oversized u.text d e, refl)
+    at_front (Err d) e = (divide_fault frame_format steady u.text d e, refl)
 
-behind_both : (gs fs : List RawFrame) (s : Split) → split_behind gs (split_behind fs s) ≡ split_behind (gs ++ fs) s
-behind_both gs fs s = ap (λ (xs : List RawFrame). record { frames = xs; end = s.end }) (sym (append_assoc gs fs s.frames))
-
-taken_as : (old : Reader) (r : Result (Option RawFrame) FrameError) (new : Reader) → step old ≡ (r, new) → (more : List ℕ) → split_left (with_more_bytes old more) ≡ split_behind (frames_in r) (split_left (with_more_bytes new more))
-taken_as old r new e more = taken_follows old more ∙ ap (λ (x : Result (Option RawFrame) FrameError × Reader). split_behind (frames_in x.0) (split_left (with_more_bytes x.1 more))) e
+taken_as : (old : Reader) (r : Result (Option RawFrame) FrameError) (new : Reader) → step old ≡ (r, new) → (more : List ℕ) → split_left (with_more_bytes old more) ≡ behind (frames_in r) (split_left (with_more_bytes new more))
+taken_as old r new e more = taken_follows old more ∙ ap (λ (x : Result (Option RawFrame) FrameError × Reader). behind (frames_in x.0) (split_left (with_more_bytes x.1 more))) e
 
 stands_after : (old : Reader) (r : Result (Option RawFrame) FrameError) (new : Reader) → step (after_preface old) ≡ (r, new)
     → (p t : List ℕ) (gs : List RawFrame) → StandsFor p old t gs → StandsFor p new t (gs ++ frames_in r)
-stands_after old r new h p t gs stands more =
-    stands more ∙ ap (split_behind gs) (past_follows old more ∙ taken_as (after_preface old) r new h more) ∙ behind_both gs (frames_in r) (split_left (with_more_bytes new more))
+stands_after old r new h p t gs stands = given_more (split p) (left old) t gs stands (left new) (frames_in r) (λ more. past_follows old more ∙ taken_as (after_preface old) r new h more)
 
 followed_by_none : (v : Reader) → with_more_bytes v [] ≡ v
 followed_by_none (Ok u) = ap (λ (x : List ℕ). Ok (record { preface = u.preface; text = x })) (append-nil u.text)
 followed_by_none (Err e) = refl
 
 -- what is left now, where nothing follows
-left_now : (v : Reader) (p t : List ℕ) (gs : List RawFrame) → StandsFor p v t gs → split p t ≡ split_behind gs (split_left (after_preface v))
-left_now v p t gs stands =
-    ap (split p) (sym (append-nil t)) ∙ stands [] ∙ ap (split_behind gs) (past_follows v [] ∙ ap split_left (followed_by_none (after_preface v)))
+left_now : (v : Reader) → left v [] ≡ split_left (after_preface v)
+left_now v = past_follows v [] ∙ ap split_left (followed_by_none (after_preface v))
 
-none_after : (old : Reader) (new : Reader) → step (after_preface old) ≡ (Ok None, new)
-    → (p t : List ℕ) (gs : List RawFrame) → StandsFor p old t gs → split p t ≡ record { frames = gs; end = Ok (text_left new) }
-none_after old new h p t gs stands =
-    let ends = subst (λ (x : Result (Option RawFrame) FrameError × Reader). SaysEnd (after_preface old) x.0 x.1) h (taken_ends (after_preface old) (past_is old)) in
-    left_now old p t gs stands ∙ ap (split_behind gs) ends ∙ ap (λ (xs : List RawFrame). record { frames = xs; end = Ok (text_left new) }) (append-nil gs)
-
-fault_as : (old : Reader) (e : FrameError) (new : Reader) → step (after_preface old) ≡ (Err e, new)
-    → (p t : List ℕ) (gs : List RawFrame) → StandsFor p old t gs → split p t ≡ record { frames = gs; end = Err e }
-fault_as old e new h p t gs stands =
-    let ends = subst (λ (x : Result (Option RawFrame) FrameError × Reader). SaysEnd (after_preface old) x.0 x.1) h (taken_ends (after_preface old) (past_is old)) in
-    left_now old p t gs stands ∙ ap (split_behind gs) ends.0 ∙ ap (λ (xs : List RawFrame). record { frames = xs; end = Err e }) (append-nil gs)
+says_end : (old : Reader) (r : Result (Option RawFrame) FrameError) (new : Reader) → step (after_preface old) ≡ (r, new) → SaysEnd (after_preface old) r new
+says_end old r new h = subst (λ (x : Result (Option RawFrame) FrameError × Reader). SaysEnd (after_preface old) x.0 x.1) h (taken_ends (after_preface old) (past_is old))
 
 abbrev IsAllGiven : Reader → Reader → Type 0
-IsAllGiven old new = (p t : List ℕ) (gs : List RawFrame) → StandsFor p old t gs → split p t ≡ record { frames = gs; end = Ok (text_left new) }
+IsAllGiven old new = (p t : List ℕ) (gs : List RawFrame) → StandsFor p old t gs → split p t ≡ record { items = gs; end = Ok (text_left new) }
 
 abbrev IsFaultOf : Reader → FrameError → Type 0
-IsFaultOf old e = (p t : List ℕ) (gs : List RawFrame) → StandsFor p old t gs → split p t ≡ record { frames = gs; end = Err e }
+IsFaultOf old e = (p t : List ℕ) (gs : List RawFrame) → StandsFor p old t gs → split p t ≡ record { items = gs; end = Err e }
+
+none_after : (old new : Reader) → step (after_preface old) ≡ (Ok None, new) → IsAllGiven old new
+none_after old new h p t gs stands = given_all (split p) (left old) t gs stands (text_left new) (left_now old ∙ says_end old (Ok None) new h)
+
+fault_as : (old : Reader) (e : FrameError) (new : Reader) → step (after_preface old) ≡ (Err e, new) → IsFaultOf old e
+fault_as old e new h p t gs stands = given_fault (split p) (left old) t gs stands e (left_now old ∙ (says_end old (Err e) new h).0)
 
 -- what a look at the front says, as a step
 abbrev Found : Reader → Result Bool FrameError → Type 0
@@ -154,7 +153,7 @@ found_by v r is = subst (λ (x : Result Bool FrameError). Found v x) (sym is) (f
 -- ---- the clauses of `find`
 
 follows_preface : (old : Reader) (p t : List ℕ) (gs : List RawFrame) → StandsFor p old t gs → StandsFor p (after_preface old) t gs
-follows_preface old p t gs stands more = stands more ∙ ap (split_behind gs) (past_follows old more)
+follows_preface old p t gs stands more = stands more ∙ ap (behind gs) (past_follows old more)
 
 abbrev StandsAlike : Reader → Reader → Type 0
 StandsAlike old new = (p t : List ℕ) (gs : List RawFrame) → StandsFor p old t gs → StandsFor p new t gs
@@ -223,9 +222,9 @@ steps (Ok u) has =
     ap (λ (q : List ℕ). step_behind_preface q u.text) has.0 ∙ ap (λ (x : Result (Option ℕ) FrameError). step_by_front x u.text) whole ∙ ap (λ (q : List ℕ). (Ok (Some (frame_at u.text)), Ok (record { preface = q; text = drop (9 + big_number 3 u.text) u.text }))) (sym has.0)
 
 pub stands_passed : (old new : Reader) → HasFrame old → new ≡ behind_front old → (p t : List ℕ) (gs : List RawFrame) → StandsFor p old t gs → StandsFor p new t (gs ++ front_of old ∷ [])
-stands_passed old new has after p t gs stands more =
-    stands more ∙ ap (split_behind gs) (taken_as old (Ok (Some (front_of old))) (behind_front old) (steps old has) more) ∙ behind_both gs (front_of old ∷ []) (split_left (with_more_bytes (behind_front old) more))
-    ∙ ap (λ (v : Reader). split_behind (gs ++ front_of old ∷ []) (split_left (with_more_bytes v more))) (sym after)
+stands_passed old new has after p t gs stands =
+    subst (λ (v : Reader). StandsFor p v t (gs ++ front_of old ∷ [])) (sym after)
+    (given_more (split p) (left old) t gs stands (left (behind_front old)) (front_of old ∷ []) (taken_as old (Ok (Some (front_of old))) (behind_front old) (steps old has)))
 
 pub less_is_left : (old new : Reader) → HasFrame old → new ≡ behind_front old → length (text_left new) < length (text_left old)
 less_is_left (Err e) new has after = absurd has

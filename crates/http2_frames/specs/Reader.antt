@@ -1,10 +1,11 @@
 -- What a reader of frames holds, and what that stands for.
 use Rattle.std.specs.Prelude.{◌≡◌, ℕ, ◌+◌, ◌<◌, ◌≤◌, ◌^◌, List, [], ◌++◌, length, Option, Some, None, Result, Ok, Err}
 use Rattle.byteorder.specs.Endian.{big_number}
+use Rattle.wire_items.specs.Items.{fault_only, AreGiven}
 use Rattle.http2_frames.specs.declared.error.FrameError.{FrameError}
 use Rattle.http2_frames.specs.declared.frame.RawFrame.{RawFrame}
 use Rattle.http2_frames.specs.Wire.{Split}
-use Rattle.http2_frames.specs.Reading.{frame_at, split, split_behind, fault_only}
+use Rattle.http2_frames.specs.Reading.{frame_at, split}
 use Rattle.http2_frames.specs.declared.reader.TheConstants.{MAX_FRAME_SIZE}
 
 -- what a reader has not given yet: the preface, where it has to come still, and bytes
@@ -32,8 +33,7 @@ with_more_bytes (Err e) more = Err e
 -- the reader has given these frames of the text, and will give the others, whatever follows
 abbrev pub StandsFor : List ℕ → Result Unread FrameError → List ℕ → List RawFrame → Type 0
 StandsFor preface reader text given =
-    (more : List ℕ) → split preface (text ++ more)
-    ≡ split_behind given (split_left (with_more_bytes reader more))
+    AreGiven (split preface) (λ more. split_left (with_more_bytes reader more)) text given
 
 -- the preface has come, and the bytes at the front are a whole frame
 abbrev pub HasFrame : Result Unread FrameError → Type 0

@@ -1,7 +1,8 @@
 -- Dividing a text into frames from left to right, and what a reader holds of it.
-use Rattle.std.specs.Prelude.{ℕ, zero, suc, ◌+◌, ◌%◌, ◌^◌, nat_lt, nat_eq, if◌then◌else◌, List, [], ◌∷◌, ◌++◌, length, take, drop, slice_index, Option, Some, None, Result, Ok, Err}
+use Rattle.std.specs.Prelude.{ℕ, ◌+◌, ◌%◌, ◌^◌, nat_lt, nat_eq, if◌then◌else◌, List, length, take, drop, slice_index, Option, Some, None, Result, Ok, Err}
 use Rattle.std.specs.List.{starts_with}
 use Rattle.byteorder.specs.Endian.{big_number}
+use Rattle.wire_items.specs.Items.{Format, rest_only, fault_only, divide}
 use Rattle.http2_frames.specs.declared.error.FrameError.{FrameError}
 use Rattle.http2_frames.specs.declared.error.FrameError.TheVariants.{Preface, Size}
 use Rattle.http2_frames.specs.declared.frame.RawFrame.{RawFrame}
@@ -25,30 +26,12 @@ frame_at bytes = record {
   payload = take (big_number 3 bytes) (drop 9 bytes);
 }
 
-abbrev pub split_behind : List RawFrame → Split → Split
-split_behind given s = record { frames = given ++ s.frames; end = s.end }
+abbrev pub frame_format : Format RawFrame FrameError
+frame_format = record { head = 9; whole_at = whole_at; item_at = frame_at }
 
-abbrev pub rest_only : List ℕ → Split
-rest_only bytes = record { frames = []; end = Ok bytes }
-
-abbrev pub fault_only : FrameError → Split
-fault_only e = record { frames = []; end = Err e }
-
--- the split of the bytes, by what stands at their front and the split of what follows it
-abbrev pub split_by : Result (Option ℕ) FrameError → List ℕ → Split → Split
-split_by (Ok None) bytes later = rest_only bytes
-split_by (Ok (Some n)) bytes later = split_behind (frame_at bytes ∷ []) later
-split_by (Err e) bytes later = fault_only e
-
--- at most so many frames
-unfoldable pub split_in : ℕ → List ℕ → Split
-split_in zero bytes = rest_only bytes
-split_in (suc more) bytes =
-    split_by (whole_at bytes) bytes (split_in more (drop (9 + big_number 3 bytes) bytes))
-
--- a text without preface; it has fewer frames than bytes
+-- a text without preface
 abbrev pub split_frames : List ℕ → Split
-split_frames bytes = split_in (suc (length bytes)) bytes
+split_frames bytes = divide frame_format bytes
 
 -- a text that begins with the preface
 abbrev pub split : List ℕ → List ℕ → Split

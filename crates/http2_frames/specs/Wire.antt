@@ -1,7 +1,9 @@
 -- Frames on the wire (RFC 9113, section 4.1): which bytes are a frame, and how a text divides into
 -- frames.
-use Rattle.std.specs.Prelude.{◌≡◌, ◌≢◌, ℕ, ◌+◌, ◌%◌, ◌^◌, ◌<◌, ◌≤◌, ◌⊎◌, List, [], ◌∷◌, ◌++◌, length, Result, Ok, Err}
+use Rattle.std.specs.Prelude.{◌≡◌, ◌≢◌, ℕ, ◌+◌, ◌%◌, ◌^◌, ◌<◌, ◌≤◌, ◌⊎◌, List, ◌∷◌, ◌++◌, length, Result, Ok, Err}
 use Rattle.byteorder.specs.Endian.{big_number}
+use Rattle.wire_items.specs.Items.{Division, rest_only, fault_only}
+use Rattle.wire_items.specs.Grammar.{IsDivision}
 use Rattle.http2_frames.specs.declared.error.FrameError.{FrameError}
 use Rattle.http2_frames.specs.declared.error.FrameError.TheVariants.{Preface, Size}
 use Rattle.http2_frames.specs.declared.frame.RawFrame.{RawFrame}
@@ -20,17 +22,9 @@ pub record IsFrameText (text : List ℕ) (f : RawFrame) : Type 0 where
   -- no more than the initial value of SETTINGS_MAX_FRAME_SIZE (section 4.2)
   pub short : length f.payload ≤ MAX_FRAME_SIZE
 
--- one frame after another, and nothing else
-abbrev pub Spells : List ℕ → List RawFrame → Type 0
-Spells text [] = text ≡ []
-Spells text (f ∷ fs) =
-    (front : List ℕ) × (rest : List ℕ) × (text ≡ front ++ rest) × IsFrameText front f
-    × Spells rest fs
-
 -- what a text divides into: whole frames, and then a rest or a fault
-pub record Split : Type 0 where
-  pub frames : List RawFrame
-  pub end : Result (List ℕ) FrameError
+abbrev pub Split : Type 0
+Split = Division RawFrame FrameError
 
 -- less than a whole frame, or the head of a frame that is too long
 abbrev pub IsEnd : List ℕ → Result (List ℕ) FrameError → Type 0
@@ -40,12 +34,8 @@ IsEnd bytes (Ok rest) =
 IsEnd bytes (Err e) = (e ≡ Size) × (9 ≤ length bytes) × (MAX_FRAME_SIZE < big_number 3 bytes)
 
 -- the text is these frames, and then its end
-pub record IsInFrames (text : List ℕ) (s : Split) : Type 0 where
-  pub front : List ℕ
-  pub rest : List ℕ
-  pub parts : text ≡ front ++ rest
-  pub frames : Spells front s.frames
-  pub end : IsEnd rest s.end
+abbrev pub IsInFrames : List ℕ → Split → Type 0
+IsInFrames text s = IsDivision IsFrameText IsEnd text s
 
 -- the text goes as the preface does, and then another way
 pub record Leaves (preface text : List ℕ) : Type 0 where
@@ -68,5 +58,5 @@ pub record IsCutShort (preface text : List ℕ) : Type 0 where
 abbrev pub IsSplit : List ℕ → List ℕ → Split → Type 0
 IsSplit preface text s =
     ((after : List ℕ) × (text ≡ preface ++ after) × IsInFrames after s)
-    ⊎ ((IsCutShort preface text × (s ≡ record { frames = []; end = Ok text }))
-    ⊎ (Leaves preface text × (s ≡ record { frames = []; end = Err Preface })))
+    ⊎ ((IsCutShort preface text × (s ≡ rest_only text))
+    ⊎ (Leaves preface text × (s ≡ fault_only Preface)))

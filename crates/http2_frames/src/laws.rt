@@ -34,7 +34,7 @@ pub fn a_text_divides_in_one_way()
 pub fn more_bytes_add_frames()
     ensures frames { (preface text more : List ℕ) →
         (later : List RawFrame)
-        × ((split preface (text ++ more)).frames ≡ (split preface text).frames ++ later) }
+        × ((split preface (text ++ more)).items ≡ (split preface text).items ++ later) }
     ensures fault { (preface text more : List ℕ) (fault : FrameError) →
         (split preface text).end ≡ Err fault → split preface (text ++ more) ≡ split preface text }
 {}
@@ -43,7 +43,7 @@ pub fn more_bytes_add_frames()
 pub fn written_frames_are_read_again()
     ensures text { (preface : List ℕ) (frames : List Frame) → AllByRecursion IsWritable frames →
         split preface (preface ++ flat_map text_of frames)
-        ≡ record { frames = map raw_of frames; end = Ok [] } }
+        ≡ record { items = map raw_of frames; end = Ok [] } }
     ensures content { (frame : Frame) → IsWritable frame → frame_of (raw_of frame) ≡ Ok frame }
 {}
 

@@ -121,14 +121,14 @@ impl FrameReader {
         ensures none { IfOk result (λ whole. whole ≡ false →
             (preface text : List ℕ) (given : List RawFrame) →
             StandsFor preface self.old text given →
-            split preface text ≡ record { frames = given; end = Ok (text_left self.new) }) }
+            split preface text ≡ record { items = given; end = Ok (text_left self.new) }) }
         ensures kept { IfOk result (λ whole. whole ≡ false →
             length (text_left self.new) < 9 + MAX_FRAME_SIZE) }
 
         // A fault stands where the frames end, and is there for good.
         ensures refused { IfErr result (λ fault. (preface text : List ℕ) (given : List RawFrame) →
             StandsFor preface self.old text given →
-            split preface text ≡ record { frames = given; end = Err fault }) }
+            split preface text ≡ record { items = given; end = Err fault }) }
         ensures lasts { IfErr result (λ fault. self.new ≡ Err fault) }
         ensures repeats { (fault : FrameError) → self.old ≡ Err fault →
             (result ≡ Err fault) × (self.new ≡ Err fault) }

@@ -296,7 +296,7 @@ all_move c l None = quietly l l refl (λ gs h. h)
 all_move c l (Some p) =
     let m : Lone = after_frames_on c (unread_frames p) l in
     let end : Result (List ℕ) FrameError = (split CLIENT_PREFACE.now p.text).end in
-    let framed : AllByRecursion IsReceivable (unread_frames p) = all_drop (length (received_raw_frames p.history)) (split CLIENT_PREFACE.now p.text).frames (frames_received CLIENT_PREFACE.now p.text) in
+    let framed : AllByRecursion IsReceivable (unread_frames p) = all_drop (length (received_raw_frames p.history)) (split CLIENT_PREFACE.now p.text).items (frames_received CLIENT_PREFACE.now p.text) in
     then_moves l m (after_end_on c end m) (happenings_of_frames c (unread_frames p) l) (end_happenings c end m) (frames_move c (unread_frames p) l framed) (end_moves c end m)
 
 came_moves : (c : ℕ) (bytes : List ℕ) (l : Lone) → Moves l (happenings_of_bytes c bytes l) (after_bytes_on c bytes l)

@@ -96,7 +96,7 @@ read_made : (c : ℕ) (l : Lone) (o : Option Past) → ArePasts l → ArePasts (
 read_made c l None h = h
 read_made c l (Some p) h =
     end_made c (split CLIENT_PREFACE.now p.text).end (after_frames_on c (unread_frames p) l)
-    (frames_made c (unread_frames p) l (all_drop (length (received_raw_frames p.history)) (split CLIENT_PREFACE.now p.text).frames (frames_received CLIENT_PREFACE.now p.text)) h)
+    (frames_made c (unread_frames p) l (all_drop (length (received_raw_frames p.history)) (split CLIENT_PREFACE.now p.text).items (frames_received CLIENT_PREFACE.now p.text)) h)
 
 came_made : (c : ℕ) (bytes : List ℕ) (l : Lone) → ArePasts l → ArePasts (after_bytes_on c bytes l)
 came_made c bytes l h =

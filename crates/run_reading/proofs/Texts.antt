@@ -46,7 +46,7 @@ abbrev key : Past → Key
 key p = (p.text, p.history)
 
 abbrev ReadsKey : Key → Type 0
-ReadsKey k = (later : List RawFrame) × ((split CLIENT_PREFACE.now k.0).frames ≡ received_raw_frames k.1 ++ later)
+ReadsKey k = (later : List RawFrame) × ((split CLIENT_PREFACE.now k.0).items ≡ received_raw_frames k.1 ++ later)
 
 abbrev AllRead : List LoneConnection → Type 0
 AllRead ks = AllByRecursion (λ (k : LoneConnection). ReadsText k.past) ks
@@ -127,7 +127,7 @@ due_key c l = calls_key c (due_at c l) (record l { connections = at_open c witho
 -- these frames are still to be read on the open connection
 abbrev LeftAt : List RawFrame → Option Key → Type 0
 LeftAt fs None = Unit {0}
-LeftAt fs (Some k) = (split CLIENT_PREFACE.now k.0).frames ≡ received_raw_frames k.1 ++ fs
+LeftAt fs (Some k) = (split CLIENT_PREFACE.now k.0).items ≡ received_raw_frames k.1 ++ fs
 
 abbrev Left : ℕ → List RawFrame → Lone → Type 0
 Left c fs l = LeftAt fs (open_key c l.connections)
@@ -211,7 +211,7 @@ came_reads c bytes l h =
 -- ---- the other events
 
 first_read : ReadsText opening
-first_read = ((split CLIENT_PREFACE.now []).frames, refl)
+first_read = ((split CLIENT_PREFACE.now []).items, refl)
 
 acted_reads : (w : WhatValue) (l : Lone) → AllRead l.connections → AllRead (effect_of w l).connections
 acted_reads (opened c) l h = all_append (λ (k : LoneConnection). ReadsText k.past) l.connections (record { number = c; past = opening; is_open = true } ∷ []) h (first_read, tt)

@@ -91,7 +91,7 @@ longest_message = 4294967295
 abbrev pub ReadsText : Past → Type 0
 ReadsText p =
     (later : List RawFrame)
-    × ((split CLIENT_PREFACE.now p.text).frames ≡ received_raw_frames p.history ++ later)
+    × ((split CLIENT_PREFACE.now p.text).items ≡ received_raw_frames p.history ++ later)
 
 -- on each stream of the connection at this place the client reads a beginning of what was given
 pub record IsRead (place : ℕ) (gs : List GivenItems) (k : LoneConnection) : Type 0 where

@@ -110,7 +110,7 @@ stepped_wire c step l p h =
 
 -- reading on, behind so many frames of this text
 abbrev read_on : ℕ → Lone → ℕ → Split → Lone
-read_on c l n whole = after_end_on c whole.end (after_frames_on c (drop n whole.frames) l)
+read_on c l n whole = after_end_on c whole.end (after_frames_on c (drop n whole.items) l)
 
 abbrev read_from : ℕ → Lone → Wire → Lone
 read_from c l x = read_on c l (length (received_raw_frames x.1)) (split CLIENT_PREFACE.now x.0)
@@ -125,7 +125,7 @@ raw_more : (d : List Entry) (f : RawFrame) → received_raw_frames (d ++ frame_e
 raw_more d f = filter_map-append raw_in d (frame_entries d f) ∙ ap (λ (fs : List RawFrame). received_raw_frames d ++ f ∷ fs) (raw_out [] (outcome d f).put)
 
 -- a frame was read, and the others are left
-pub frame_leads : (c : ℕ) (f : RawFrame) (later : List RawFrame) (l : Lone) (p : Past) → open_at c l.connections ≡ Some p → has_failed p.history ≡ false → (split CLIENT_PREFACE.now p.text).frames ≡ received_raw_frames p.history ++ f ∷ later → after_rest_on c (after_frame_on c f l) ≡ after_rest_on c l
+pub frame_leads : (c : ℕ) (f : RawFrame) (later : List RawFrame) (l : Lone) (p : Past) → open_at c l.connections ≡ Some p → has_failed p.history ≡ false → (split CLIENT_PREFACE.now p.text).items ≡ received_raw_frames p.history ++ f ∷ later → after_rest_on c (after_frame_on c f l) ≡ after_rest_on c l
 frame_leads c f later l p h alive e =
     let k = after_frame_on c f l in
     let after = stepped_wire c (λ q. with_frame q f) l p h in
@@ -134,7 +134,7 @@ frame_leads c f later l p h alive e =
     let back : drop (length (rr ++ f ∷ [])) (rr ++ f ∷ later) ≡ later = ap (drop (length (rr ++ f ∷ []))) (sym (append_assoc rr (f ∷ []) later)) ∙ drop-append_seam (rr ++ f ∷ []) later in
     rest_is c k after.0 after.1
     ∙ ap (read_from c k) after.2
-    ∙ ap (λ (ns : List RawFrame). after_end_on c whole.end (after_frames_on c (drop (length ns) whole.frames) k)) (raw_more p.history f)
+    ∙ ap (λ (ns : List RawFrame). after_end_on c whole.end (after_frames_on c (drop (length ns) whole.items) k)) (raw_more p.history f)
     ∙ ap (λ (fs : List RawFrame). after_end_on c whole.end (after_frames_on c fs k)) (ap (drop (length (rr ++ f ∷ []))) e ∙ back)
     ∙ sym (rest_is c l p h
     ∙ ap (λ (fs : List RawFrame). after_end_on c whole.end (after_frames_on c fs l)) (ap (drop (length rr)) e ∙ drop-append_seam rr (f ∷ later))
@@ -167,7 +167,7 @@ over_rest c l p h f =
     let whole = split CLIENT_PREFACE.now p.text in
     let over = over_is c l p h ∙ f in
     rest_is c l p h
-    ∙ ap (after_end_on c whole.end) (over_frames c (drop (length (received_raw_frames p.history)) whole.frames) l over)
+    ∙ ap (after_end_on c whole.end) (over_frames c (drop (length (received_raw_frames p.history)) whole.items) l over)
     ∙ over_end c whole.end l over
 
 -- the text is at its end

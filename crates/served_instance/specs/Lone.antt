@@ -97,7 +97,7 @@ after_end_on c (Err e) l = if is_over c l then l else after_fault_on c e l (read
 -- the frames of all bytes received, without those that were read before
 abbrev pub unread_frames : Past → List RawFrame
 unread_frames p =
-    drop (length (received_raw_frames p.history)) (split CLIENT_PREFACE.now p.text).frames
+    drop (length (received_raw_frames p.history)) (split CLIENT_PREFACE.now p.text).items
 
 -- all that is whole is read, frame by frame
 abbrev pub after_reading_on : ℕ → Lone → Option Past → Lone

@@ -6,8 +6,9 @@ use Rattle.std.proofs.lemmas.List.{length-take}
 use Rattle.http2_streams.specs.History.{Entry, has_failed, live_streams}
 use Rattle.grpc_messages.specs.declared.error.MessagesError.{MessagesError}
 use Rattle.grpc_messages.specs.Wire.{size_of}
-use Rattle.grpc_messages.specs.Reading.{whole_at, message_at, split_by, split_in}
-use Rattle.grpc_messages.proofs.Fronts.{whole_is}
+use Rattle.grpc_messages.specs.Reading.{whole_at, message_at, message_format, split}
+use Rattle.grpc_messages.proofs.Fronts.{whole_is, steady}
+use Rattle.wire_items.proofs.Divisions.{all_items}
 use Rattle.rpc.specs.declared.method.Method.{Method}
 use Rattle.http2_frames.specs.declared.frame.RawFrame.{RawFrame}
 use Rattle.grpc_calls.specs.declared.request.HeadFault.{HeadFault}
@@ -42,18 +43,10 @@ short_on c (Seen.Cancel s) h = tt
 abbrev AreShort : ℕ → List (List ℕ) → Type 0
 AreShort limit ms = AllByRecursion (λ (m : List ℕ). length m ≤ limit) ms
 
-split_short : (limit more : ℕ) (bytes : List ℕ) → AreShort limit (split_in limit more bytes).messages
-unfolding split_in
-split_short limit zero bytes = tt
-split_short limit (suc more) bytes = go (whole_at limit bytes) refl (split_short limit more (drop (5 + size_of bytes) bytes)) where
-  go : (w : Result (Option ℕ) MessagesError) → whole_at limit bytes ≡ w → AreShort limit (split_in limit more (drop (5 + size_of bytes) bytes)).messages
-      → AreShort limit (split_by w bytes (split_in limit more (drop (5 + size_of bytes) bytes))).messages
-  go (Ok None) is later = tt
-  go (Ok (Some n)) is later =
-      let w = whole_is limit bytes n is in
-      let short : length (message_at bytes) ≤ limit = omega (arith, w.size, w.short, length-take (size_of bytes) (drop 5 bytes)) in
-      (short, later)
-  go (Err e) is later = tt
+split_short : (limit : ℕ) (bytes : List ℕ) → AreShort limit (split limit bytes).items
+split_short limit bytes = all_items (message_format limit) (steady limit) (λ (m : List ℕ). length m ≤ limit) bytes short where
+  short : (t : List ℕ) (n : ℕ) → whole_at limit t ≡ Ok (Some n) → length (message_at t) ≤ limit
+  short t n is = let w = whole_is limit t n is in omega (arith, w.size, w.short, length-take (size_of t) (drop 5 t))
 
 all_drop : {X : Type 0} (P : X → Type 0) (n : ℕ) (xs : List X) → AllByRecursion P xs → AllByRecursion P (drop n xs)
 all_drop P zero xs all = all
@@ -75,9 +68,9 @@ behind_short s end_stream (Err e) = (tt, tt)
 
 front_short : (s : ℕ) (end_stream : Bool) (count : ℕ) (bytes : List ℕ) → AllByRecursion IsShortCall (events_behind_front s end_stream count (messages_of bytes))
 front_short s end_stream count bytes =
-    let ms : List (List ℕ) = drop count (messages_of bytes).messages in
+    let ms : List (List ℕ) = drop count (messages_of bytes).items in
     all_append IsShortCall (map (Seen.Message s) ms) (events_behind_messages s end_stream (messages_of bytes).end)
-    (all_messages s ms (all_drop (λ (m : List ℕ). length m ≤ message_limit) count (messages_of bytes).messages (split_short message_limit (suc (length bytes)) bytes)))
+    (all_messages s ms (all_drop (λ (m : List ℕ). length m ≤ message_limit) count (messages_of bytes).items (split_short message_limit bytes)))
     (behind_short s end_stream (messages_of bytes).end)
 
 by_end_short : (end : Result (List ℕ) MessagesError) (events : List CallEvent) → AllByRecursion IsShortCall events → AllByRecursion IsShortCall (events_by_end end events)
@@ -86,8 +79,8 @@ by_end_short (Err e) events short = tt
 
 text_short : (s : ℕ) (before content : List ℕ) (end_stream : Bool) → AllByRecursion IsShortCall (events_of_content s before content end_stream)
 text_short s before content end_stream =
-    by_end_short (messages_of before).end (events_behind_front s end_stream (length (messages_of before).messages) (messages_of (before ++ content)))
-    (front_short s end_stream (length (messages_of before).messages) (before ++ content))
+    by_end_short (messages_of before).end (events_behind_front s end_stream (length (messages_of before).items) (messages_of (before ++ content)))
+    (front_short s end_stream (length (messages_of before).items) (before ++ content))
 
 request_short : (s : ℕ) (end_stream : Bool) (r : Result Method HeadFault) → AllByRecursion IsShortCall (events_of_request s end_stream r)
 request_short s end_stream (Ok method) = (tt, text_short s [] [] end_stream)

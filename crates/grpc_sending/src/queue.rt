@@ -220,8 +220,8 @@ pub(crate) fn pieces_on(queues: &[StoredQueue], stream: u32) -> Option<&Pieces>
     }
 }
 
-/// As `pieces_on`, looked for by steps from the place, which is left where the stream's queue stands
-/// or would stand.
+/// As `pieces_on`, looked for by steps from the place, which is left where the stream's queue is or
+/// would be.
 pub(crate) fn pieces_from<'a>(
     queues: &'a [StoredQueue],
     place: &mut usize,

@@ -35,8 +35,8 @@ pub fn limits_of_connections()
     ensures answers { CONTROL_LIMIT ≡ 131055 }
 {}
 
-/// What an instance keeps to: its connections, the bytes of an upload's uuid, the bytes of a page of
-/// a text that it keeps, the directories of a tree, and the results that it keeps, with the bytes of
+/// What an instance keeps to: its connections, the bytes of an upload's uuid, those of a page of a
+/// text that it keeps, the directories of a tree, and the results that it keeps, with the bytes of
 /// them all.
 pub fn limits_of_an_instance()
     ensures connections { CONNECTION_LIMIT ≡ 64 }

@@ -6,6 +6,7 @@ use Rattle.message_fields.specs.Results.{◌>>=◌}
 use Rattle.digest.specs.declared.Digest.{Digest}
 use Rattle.input_tree.specs.Listing.{Lookup}
 use Rattle.tree_plan.specs.Nodes.{NodeKindValue, file, symlink, directory, PlanNodeValue, nodes_in}
+use Rattle.tree_plan.specs.declared.walking.TheConstants.{MOST_LEVELS, MOST_NODES}
 
 -- why a tree has no plan
 pub data TreeFaultValue : Type 0 where
@@ -30,12 +31,13 @@ nodes_of_text above level (Some text) = nodes_or_fault (nodes_in above level tex
 abbrev pub directory_nodes : Lookup → List ℕ → ℕ → Digest → Nodes
 directory_nodes look above level d = nodes_of_text above level (look d)
 
--- the nodes in what stands in a directory of this level; there are at most 64 levels
+-- the nodes in what stands in a directory of this level; there are at most MOST_LEVELS
 abbrev pub nodes_below : Lookup → List ℕ → ℕ → NodeKindValue → Nodes
 nodes_below look path level (file d is_executable) = Ok []
 nodes_below look path level (symlink target) = Ok []
 nodes_below look path level (directory d) =
-    if nat_le 64 level then Err too_deep else directory_nodes look (path ++ 47 ∷ []) (level + 1) d
+    if nat_le MOST_LEVELS level then Err too_deep
+    else directory_nodes look (path ++ 47 ∷ []) (level + 1) d
 
 abbrev pub nodes_inside : Lookup → PlanNodeValue → Nodes
 nodes_inside look n = nodes_below look n.path n.level n.kind
@@ -47,9 +49,10 @@ walk_along zero look (n ∷ next) met = Err too_many
 walk_along (suc most) look (n ∷ next) met =
     nodes_inside look n >>= (λ inside. walk_along most look (inside ++ next) (met ++ n ∷ []))
 
--- the nodes of a root's tree, at most 10,000, in the order met
+-- the nodes of a root's tree, at most MOST_NODES, in the order met
 abbrev pub nodes_met : Lookup → Digest → Nodes
-nodes_met look root = directory_nodes look [] 1 root >>= (λ nodes. walk_along 10000 look nodes [])
+nodes_met look root =
+    directory_nodes look [] 1 root >>= (λ nodes. walk_along MOST_NODES look nodes [])
 
 -- ---- texts that are not there
 

@@ -1,3 +1,5 @@
+//! Why a tree has no plan.
+
 ghost use Rattle.std.specs.Prelude.{◌≡◌};
 ghost use Rattle.tree_plan.specs.declared.fault.TreeFault.TheVariants.{NoMemory};
 

@@ -7,6 +7,7 @@ ghost use Rattle.input_tree.specs.Listing.{Lookup};
 ghost use Rattle.tree_plan.specs.Nodes.{PlanNodeValue};
 ghost use Rattle.tree_plan.specs.Walk.{digests_met, directory_nodes, missing, walk};
 ghost use Rattle.tree_plan.specs.Tree.{AreMissing, HavePlaces, IsTree};
+ghost use Rattle.tree_plan.specs.declared.walking.TheConstants.{MOST_LEVELS, MOST_NODES};
 
 /// A plan has the nodes of the root's tree: those of the root, each followed by all that is in it.
 pub fn a_plan_has_the_nodes_of_its_tree()
@@ -39,4 +40,10 @@ pub fn a_plan_misses_nothing()
 pub fn missing_blobs_are_those_not_there()
     ensures { (look : Lookup) (root : Digest) (digests : List Digest) →
         walk look root ≡ Err (missing digests) → AreMissing look root digests }
+{}
+
+/// What a walk keeps to: the nodes below the root, and the levels of directories.
+pub fn limits_of_a_walk()
+    ensures nodes { MOST_NODES ≡ 10000 }
+    ensures levels { MOST_LEVELS ≡ 64 }
 {}

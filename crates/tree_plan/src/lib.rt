@@ -11,7 +11,8 @@ mod walking;
 pub use fault::TreeFault;
 pub use laws::{
     a_directory_comes_before_what_it_has, a_path_stands_once_in_a_plan,
-    a_plan_has_the_nodes_of_its_tree, a_plan_misses_nothing, missing_blobs_are_those_not_there,
+    a_plan_has_the_nodes_of_its_tree, a_plan_misses_nothing, limits_of_a_walk,
+    missing_blobs_are_those_not_there,
 };
 pub use node::{NodeKind, PlanNode};
 pub use walking::{MOST_LEVELS, MOST_NODES, Plan, walk};

@@ -13,6 +13,7 @@ use Rattle.rpc.specs.Status.{code_of, text_of}
 use Rattle.digest.specs.Naming.{digest_of}
 use Rattle.instance_view.specs.Visible.{Blob, visible_text}
 use Rattle.quota_evict.specs.Admission.{visible_after_admission}
+pub use Rattle.quota_evict.specs.Kept.{most_blobs}
 use Rattle.cas_service.specs.Changes.{Change, visible_after_changes}
 use Rattle.cas_service.specs.FindMissing.{find_missing_reply, find_missing_changes}
 use Rattle.cas_service.specs.BatchUpdate.{batch_update_reply, batch_update_changes}
@@ -24,19 +25,15 @@ pub record StoreValue : Type 0 where
   pub quota : ℕ
   pub visible : List Blob
 
--- how many texts an instance has at most
-abbrev pub most_blobs : ℕ
-most_blobs = 65536
-
 -- at first there are no texts
 abbrev pub new_store : InstanceValue → StoreValue
 new_store instance = record { name = instance.name; quota = instance.quota; visible = [] }
 
--- the reply to a call, or its refusal
-abbrev pub reply_to : Method → StoreValue → List ℕ → Result (List ℕ) Refusal
-reply_to FindMissingBlobs s message = find_missing_reply s.name s.visible message
-reply_to BatchUpdateBlobs s message = batch_update_reply s.name s.quota message
-reply_to BatchReadBlobs s message = batch_read_reply s.name s.visible message
+-- the reply of a store to a call, or its refusal
+abbrev pub reply_from_store : Method → StoreValue → List ℕ → Result (List ℕ) Refusal
+reply_from_store FindMissingBlobs s message = find_missing_reply s.name s.visible message
+reply_from_store BatchUpdateBlobs s message = batch_update_reply s.name s.quota message
+reply_from_store BatchReadBlobs s message = batch_read_reply s.name s.visible message
 
 -- what a call does to the texts
 abbrev pub changes_by : Method → StoreValue → List ℕ → List Change
@@ -66,15 +63,19 @@ put_line refused = if refused then codes "refused" else codes "stored"
 
 -- a text is stored under its digest
 abbrev pub store_after_put : List ℕ → StoreValue → StoreValue
-store_after_put text s = record s { visible = visible_after_admission most_blobs s.quota (digest_of text) text s.visible }
+store_after_put text s = record s {
+  visible = visible_after_admission most_blobs s.quota (digest_of text) text s.visible;
+}
 
 abbrev pub store_after_call : Method → List ℕ → StoreValue → StoreValue
-store_after_call method message s = record s { visible = visible_after_changes most_blobs s.quota (changes_by method s message) s.visible }
+store_after_call method message s = record s {
+  visible = visible_after_changes most_blobs s.quota (changes_by method s message) s.visible;
+}
 
 -- the line that a command prints
 abbrev pub line_of : CommandValue → StoreValue → List ℕ
 line_of (put place text) s = put_line (is_refused s.quota s.visible text)
-line_of (call place method message) s = reply_line (reply_to method s message)
+line_of (call place method message) s = reply_line (reply_from_store method s message)
 
 -- the instance after a command
 abbrev pub store_after : CommandValue → StoreValue → StoreValue

@@ -1,9 +1,11 @@
+//! The commands of a script, carried out by the instances that it names.
+
 ghost use Rattle.std.specs.Prelude.{◌≡◌, ◌++◌, ◌<◌, ◌≤◌, ◌^◌, ℕ, List, [], ◌∷◌, length, map, OnOk, OnErr, IfOk, IfErr, Ok, Err, Result};
 ghost use Rattle.std.specs.List.{All};
 ghost use Rattle.script.specs.UnaryShown.{instance_value, command_value};
 ghost use Rattle.script.specs.UnaryLines.{instance_place};
 ghost use Rattle.rpc.specs.declared.refusal.Refusal.{Refusal};
-ghost use Rattle.unary.specs.Session.{new_store, reply_to, ok_line, status_line, line_of, store_after, store_of, stores_after};
+ghost use Rattle.unary.specs.Session.{new_store, ok_line, status_line, line_of, store_after, store_of, stores_after};
 ghost use Rattle.quota_evict.specs.Kept.{quota_limit};
 
 use crate::store::Store;

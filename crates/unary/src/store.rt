@@ -1,3 +1,5 @@
+//! An instance with its texts, as a script fills and asks it.
+
 ghost use Rattle.std.specs.Prelude.{◌≡◌, ◌≤◌, ◌^◌, ℕ, List, OnOk, OnErr, IfOk};
 ghost use Rattle.script.specs.UnaryShown.{instance_value};
 ghost use Rattle.cas_service.specs.Answers.{Answers, IfAnswered};
@@ -6,20 +8,17 @@ ghost use Rattle.digest.specs.Naming.{digest_of};
 ghost use Rattle.instance_view.specs.Shown.{visible_in};
 ghost use Rattle.quota_evict.specs.Admission.{visible_after_admission};
 ghost use Rattle.quota_evict.specs.Kept.{AreKept};
-ghost use Rattle.unary.specs.Session.{new_store, reply_to, changes_by, is_refused, store_after_put, store_after_call};
+ghost use Rattle.unary.specs.Session.{new_store, reply_from_store, changes_by, is_refused, store_after_put, store_after_call};
 ghost use Rattle.quota_evict.specs.Kept.{quota_limit};
 
 use blob_pool::Pool;
 use cas_service::{CallError, batch_read, batch_update, find_missing};
 use digest::Digest;
 use instance_view::View;
-use quota_evict::{AdmitError, admit};
+use quota_evict::{AdmitError, MOST_BLOBS, admit};
 use script::unary::{Instance, Method};
 use std::alloc::{AllocError, Global};
 use std::marker::Model;
-
-/// How many texts an instance has at most.
-const MOST_BLOBS: usize = 65_536;
 
 /// An instance with its texts, in a pool of its own.
 #[derive(Drop)]
@@ -32,10 +31,10 @@ pub struct Store {
 
 impl Model for Store {
     ghost use Rattle.std.specs.Prelude.{◌≡◌, ◌≤◌, ◌^◌, string_bytes};
-    ghost use Rattle.quota_evict.specs.Kept.{quota_limit};
+    ghost use Rattle.quota_evict.specs.Kept.{most_blobs, quota_limit};
     ghost use Rattle.instance_view.specs.Shown.{visible_in};
     ghost use Rattle.quota_evict.specs.Kept.{AreKept};
-    ghost use Rattle.unary.specs.Session.{StoreValue, most_blobs};
+    ghost use Rattle.unary.specs.Session.{StoreValue};
 
     ghost Value = { StoreValue };
 
@@ -81,7 +80,7 @@ impl Store {
         message: &[u8],
     ) -> Result<Vec<u8>, CallError>
         ensures reply { Answers (λ reply. reply.items) result
-            (reply_to method self.old message.now) }
+            (reply_from_store method self.old message.now) }
         ensures called { IfAnswered result
             (self.new ≡ store_after_call method message.now self.old) }
     {
@@ -130,7 +129,7 @@ fn call(
     requires quota { quota ≤ quota_limit }
     requires kept { AreKept quota pool.old view.old }
     ensures reply { Answers (λ reply. reply.items) result
-        (reply_to method (record
+        (reply_from_store method (record
         { name = own.now; quota = quota; visible = visible_in pool.old view.old }) message.now) }
     ensures called { IfAnswered result
         (visible_in pool.new view.new

@@ -25,7 +25,7 @@ use Rattle.instance_core.specs.State.{InstanceState, most_blobs}
 use Rattle.instance_core.specs.Methods.{LeavesResults, text_changes, result_changes, request_changes}
 use Rattle.instance_core.specs.Changes.{Change, Text, Ends, Keeps, state_after_change, state_after_changes, MadeInPart}
 use Rattle.instance_core.specs.Answer.{request_end_answer}
-use Rattle.instance_core.specs.Shown.{Makes, with_calls}
+use Rattle.instance_core.specs.Shown.{Makes, MakesTexts, with_calls}
 
 -- a call whose reply and changes come from what it asks for: refused, it changes nothing
 pub uses_answered : (r : Result (Vec ℕ Global) CallError) (asked : Result (List Digest) Refusal) (reply : List Digest → List ℕ) (limit most quota : ℕ) (p : Slots) (old new : ViewValue)
@@ -155,10 +155,9 @@ no_results QueryWriteStatus s message h = refl
 
 -- a method that leaves the results as they are
 pub texts_make : (r : Result (Vec Reply Global) AllocError) (method : Method) (s : InstanceState) (message : List ℕ) (new results : List Blob) → LeavesResults method
-    → OnOk r (new ≡ Texts.visible_after_changes most_blobs s.quota (text_changes method s message) s.visible) → OnErr r (Texts.MadeInPart most_blobs s.quota (text_changes method s message) s.visible new) → results ≡ s.results
-    → Makes r (request_changes method s message) s (leaves new results s)
-texts_make r method s message new results h whole part same =
-    rw (no_results method s message h) (go r whole part)
+    → MakesTexts r method message s new → results ≡ s.results → Makes r (request_changes method s message) s (leaves new results s)
+texts_make r method s message new results h made same =
+    rw (no_results method s message h) (go r made.whole made.memory)
   where
     texts : List Texts.Change
     texts = text_changes method s message

@@ -4,7 +4,9 @@ use Rattle.std.specs.List.{AllByRecursion}
 use Rattle.std.specs.declared.alloc.AllocError.{AllocError}
 use Rattle.std.specs.declared.alloc.Global.{Global}
 use Rattle.std.specs.declared.vec.Vec.{Vec}
+use Rattle.rpc.specs.declared.method.Method.{Method}
 use Rattle.rpc.specs.declared.refusal.Refusal.{Refusal}
+use Rattle.instance_view.specs.Visible.{Blob}
 use Rattle.instance_core.specs.declared.event.CallEvent.{CallEvent}
 use Rattle.instance_core.specs.declared.event.CallEvent.TheVariants as Code
 use Rattle.instance_core.specs.declared.event.GivenRange.{GivenRange}
@@ -17,6 +19,7 @@ use Rattle.instance_core.specs.Calls.{Calls, ProgressValue, waits, has, writes, 
 use Rattle.instance_core.specs.Replies.{ReplyItemValue, begins, says, gives, ends, refuses, ReplyValue, IsShortReply}
 use Rattle.instance_core.specs.Answer.{Answer}
 use Rattle.instance_core.specs.Changes.{Change, state_after_changes, MadeInPart}
+use Rattle.instance_core.specs.Methods.{ShowsAfter, ShowsInPart}
 use Rattle.instance_core.specs.State.{InstanceState}
 use Rattle.instance_core.specs.Slots.{InstanceSlots, state_in}
 use Rattle.instance_core.specs.declared.contents.Settings.{Settings}
@@ -104,3 +107,9 @@ state_of settings moment p contents calls = state_in p (slots_of settings moment
 pub record Makes (result : CallResult) (changes : List Change) (old new : InstanceState) : Type 0 where
   pub whole : OnOk result (new ≡ state_after_changes changes old)
   pub memory : OnErr result (MadeInPart changes old new)
+
+-- .. those that a request makes of the texts
+pub record MakesTexts (result : CallResult) (method : Method) (message : List ℕ)
+    (old : InstanceState) (visible : List Blob) : Type 0 where
+  pub whole : OnOk result (ShowsAfter method message old visible)
+  pub memory : OnErr result (ShowsInPart method message old visible)

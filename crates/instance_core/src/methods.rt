@@ -1,6 +1,6 @@
 //! What each method but `Write` answers to the one message of its request.
 
-ghost use Rattle.std.specs.Prelude.{◌≡◌, ◌+◌, ℕ, OnOk, OnErr};
+ghost use Rattle.std.specs.Prelude.{◌≡◌, ◌+◌, ℕ, OnErr};
 ghost use Rattle.blob_pool.specs.Slots.{Slots};
 ghost use Rattle.blob_pool.specs.Moves.{Moves};
 ghost use Rattle.instance_view.specs.Shown.{visible_in, holders};
@@ -9,7 +9,7 @@ ghost use Rattle.instance_core.specs.Calls.{Calls};
 ghost use Rattle.instance_core.specs.Contents.{AreContentsKept, AreContentsWithin};
 ghost use Rattle.instance_core.specs.Methods.{IsPlain, LeavesResults, is_served, reply_to, items_to, request_changes, ShowsAfter, ShowsInPart};
 ghost use Rattle.instance_core.specs.Answer.{reply_with, reply_of_items};
-ghost use Rattle.instance_core.specs.Shown.{Gives, Makes, state_of};
+ghost use Rattle.instance_core.specs.Shown.{Gives, Makes, MakesTexts, state_of};
 ghost use Rattle.instance_core.specs.Given.{holders_given};
 
 use crate::capabilities::get_capabilities;
@@ -116,12 +116,9 @@ fn answer_by_message(
         let old = state_of settings.now moment pool.old contents.old calls in
         (p : Slots) → Gives p result (reply_with call (reply_to method old message.now)) }
     ensures given { (k : ℕ) → holders_given result k ≡ 0 }
-    ensures changed { (moment : ℕ) (calls : Calls) →
+    ensures texts { (moment : ℕ) (calls : Calls) →
         let old = state_of settings.now moment pool.old contents.old calls in
-        OnOk result (ShowsAfter method message.now old (visible_in pool.new contents.new.view)) }
-    ensures memory { (moment : ℕ) (calls : Calls) →
-        let old = state_of settings.now moment pool.old contents.old calls in
-        OnErr result (ShowsInPart method message.now old (visible_in pool.new contents.new.view)) }
+        MakesTexts result method message.now old (visible_in pool.new contents.new.view) }
     ensures moves { Moves pool.old pool.new (holders contents.old.view)
         (holders contents.new.view) }
     ensures kept { AreContentsKept settings.now pool.new contents.new }
@@ -148,12 +145,9 @@ fn answer_from_texts(
     ensures replies { (moment : ℕ) (calls : Calls) →
         let old = state_of settings.now moment pool.old contents.old calls in
         Gives pool.new result (reply_of_items call (items_to method old message.now)) }
-    ensures changed { (moment : ℕ) (calls : Calls) →
+    ensures texts { (moment : ℕ) (calls : Calls) →
         let old = state_of settings.now moment pool.old contents.old calls in
-        OnOk result (ShowsAfter method message.now old (visible_in pool.new contents.new.view)) }
-    ensures memory { (moment : ℕ) (calls : Calls) →
-        let old = state_of settings.now moment pool.old contents.old calls in
-        OnErr result (ShowsInPart method message.now old (visible_in pool.new contents.new.view)) }
+        MakesTexts result method message.now old (visible_in pool.new contents.new.view) }
     ensures moves { Moves pool.old pool.new (holders contents.old.view)
         (λ k. holders contents.new.view k + holders_given result k) }
     ensures within { AreContentsWithin settings.now pool.new contents.new }

@@ -3,12 +3,12 @@
 
 ghost use Rattle.std.specs.Prelude.{◌≡◌, ◌≢◌, ◌≤◌, length, vec_len, OnOk, OnErr, IfOk, Err};
 ghost use Rattle.std.specs.Io.KnownBytes.{Appends, Consumes, Keeps};
-ghost use Rattle.program_status.specs.Status.{fault_line};
+ghost use Rattle.program_status.specs.Status.{fault_line, status_of};
 ghost use Rattle.program_status.specs.declared.Status.TheVariants.{Failed};
 ghost use Rattle.program_status.specs.declared.Fault.TheVariants.{OutOfMemory};
 ghost use Rattle.probe.specs.Exchange.{IsSent, IsReceived, IsOutcome, hex_line};
 
-use program_status::{Fault, Status};
+use program_status::{Fault, Status, told};
 use std::alloc::Global;
 use std::io::{self, ErrorKind, Read, Write};
 use std::rt::Clock;
@@ -131,26 +131,21 @@ fn run<C: Clock, R: Read, W: Write, O: Write>(
     from_peer: &mut R,
     to_peer: &mut W,
     output: &mut O,
-) -> Status
-    ensures { IsOutcome request.entry result (W.contents to_peer.old) (W.contents to_peer.new)
-        (R.remaining from_peer.old) (R.remaining from_peer.new) (O.contents output.old)
-        (O.contents output.new) }
+) -> Result<(), Status>
+    ensures { IsOutcome request.entry (status_of result) (W.contents to_peer.old)
+        (W.contents to_peer.new) (R.remaining from_peer.old) (R.remaining from_peer.new)
+        (O.contents output.old) (O.contents output.new) }
 {
-    let Exchanged { unsent, received } = match exchange(clock, alloc, request, from_peer, to_peer) {
-        Ok(done) => done,
-        Err(fault) => return fault.status(),
-    };
+    let Exchanged { unsent, received } = exchange(clock, alloc, request, from_peer, to_peer)?;
     let count = received.len() as u64;
     if count < request.want {
-        return Status::TooFew(count);
+        return Err(Status::TooFew(count));
     }
     if !unsent.is_empty() {
-        return Status::Failed;
+        return Err(Status::Failed);
     }
-    match show(alloc, &received, output) {
-        Ok(()) => Status::Done,
-        Err(fault) => fault.status(),
-    }
+    show(alloc, &received, output)?;
+    Ok(())
 }
 
 /// Sends the bytes of a request to a peer that does not let reads and writes wait, and writes the
@@ -173,9 +168,6 @@ pub fn probe<C: Clock, R: Read, W: Write, O: Write, E: Write>(
     ensures told { result ≢ Failed →
         Appends (E.contents errors.old) (E.contents errors.new) (fault_line result) }
 {
-    let status = run(clock, alloc, request, from_peer, to_peer, output);
-    match status.tell(errors) {
-        Ok(()) => status,
-        Err(_) => Status::Failed,
-    }
+    let outcome = run(clock, alloc, request, from_peer, to_peer, output);
+    told(outcome, errors)
 }

@@ -13,16 +13,14 @@ returns-clause-replies c = λ moment calls p.
     let s = state_of c.args.settings.now moment c.args.pool.now c.args.contents.now calls in
     c.settle.ensures.replies (reply_to c.args.method s c.args.message.now) (c.reply_to-outcome.ensures.reply moment calls) p
 
-pub returns-clause-changed : goal.returns-clause-changed
-returns-clause-changed c = λ moment calls.
-    let s = state_of c.args.settings.now moment c.args.pool.now c.args.contents.now calls in
-    let new = visible_in c.reply_to-outcome.new.pool c.reply_to-outcome.new.contents.view in
-    settled_whole c.reply_to-outcome.result c.settle.result (new ≡ visible_after_changes most_blobs s.quota (text_changes c.args.method s c.args.message.now) s.visible) (c.reply_to-outcome.ensures.changed moment calls) c.settle.ensures.memory
-
-pub returns-clause-memory : goal.returns-clause-memory
-returns-clause-memory c = λ moment calls.
+pub returns-clause-texts : goal.returns-clause-texts
+returns-clause-texts c = λ moment calls.
     let s = state_of c.args.settings.now moment c.args.pool.now c.args.contents.now calls in
     let new = visible_in c.reply_to-outcome.new.pool c.reply_to-outcome.new.contents.view in
     let changes = text_changes c.args.method s c.args.message.now in
-    settled_in_part c.reply_to-outcome.result c.settle.result (MadeInPart most_blobs s.quota changes s.visible new)
-    (answered_in_part c.reply_to-outcome.result most_blobs s.quota changes s.visible new (c.reply_to-outcome.ensures.changed moment calls)) (c.reply_to-outcome.ensures.memory moment calls)
+    let whole = c.reply_to-outcome.ensures.changed moment calls in
+    record {
+      whole = settled_whole c.reply_to-outcome.result c.settle.result (new ≡ visible_after_changes most_blobs s.quota changes s.visible) whole c.settle.ensures.memory;
+      memory = settled_in_part c.reply_to-outcome.result c.settle.result (MadeInPart most_blobs s.quota changes s.visible new)
+          (answered_in_part c.reply_to-outcome.result most_blobs s.quota changes s.visible new whole) (c.reply_to-outcome.ensures.memory moment calls);
+    }

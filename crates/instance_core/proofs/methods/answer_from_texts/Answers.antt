@@ -16,25 +16,18 @@ use Rattle.instance_core.proofs.methods.answer_from_texts.Goals as goal
 pub answer_read-requires-clause-room : goal.answer_read-requires-clause-room
 answer_read-requires-clause-room c = room_kept c.args.settings.now.quota c.args.pool.now c.args.contents.now.view c.requires.kept.kept c.requires.kept.limit
 
-pub returns-in-Read-clause-changed : goal.returns-in-Read-clause-changed
-returns-in-Read-clause-changed c = λ moment calls.
+pub returns-in-Read-clause-texts : goal.returns-in-Read-clause-texts
+returns-in-Read-clause-texts c = λ moment calls.
     let p = c.args.pool.now in
     let q = c.answer_read.new.pool in
+    let quota = c.args.settings.now.quota in
     let old = visible_in p c.args.contents.now.view in
     let asked = use_asked (read_asked c.deref.result.now c.args.message.now) in
     let same = read_shown p q c.args.contents.now.view c.answer_read.new.view (holders_given c.answer_read.result) c.answer_read.ensures.moves c.answer_read.ensures.holders c.requires.kept.kept.held.counted in
-    rw (c.in-Read.is, ← c.deref.ensures)
-    (subst (λ (bs : List Blob). OnOk c.answer_read.result (bs ≡ visible_after_changes most_blobs c.args.settings.now.quota asked old)) (sym same) (c.answer_read.ensures.changed p most_blobs c.args.settings.now.quota))
-
-pub returns-in-Read-clause-memory : goal.returns-in-Read-clause-memory
-returns-in-Read-clause-memory c = λ moment calls.
-    let p = c.args.pool.now in
-    let q = c.answer_read.new.pool in
-    let old = visible_in p c.args.contents.now.view in
-    let asked = use_asked (read_asked c.deref.result.now c.args.message.now) in
-    let same = read_shown p q c.args.contents.now.view c.answer_read.new.view (holders_given c.answer_read.result) c.answer_read.ensures.moves c.answer_read.ensures.holders c.requires.kept.kept.held.counted in
-    rw (c.in-Read.is, ← c.deref.ensures)
-    (subst (λ (bs : List Blob). OnErr c.answer_read.result (MadeInPart most_blobs c.args.settings.now.quota asked old bs)) (sym same) (c.answer_read.ensures.memory p most_blobs c.args.settings.now.quota))
+    rw (c.in-Read.is, ← c.deref.ensures) (record {
+      whole = subst (λ (bs : List Blob). OnOk c.answer_read.result (bs ≡ visible_after_changes most_blobs quota asked old)) (sym same) (c.answer_read.ensures.changed p most_blobs quota);
+      memory = subst (λ (bs : List Blob). OnErr c.answer_read.result (MadeInPart most_blobs quota asked old bs)) (sym same) (c.answer_read.ensures.memory p most_blobs quota);
+    })
 
 pub returns-in-Read-clause-within : goal.returns-in-Read-clause-within
 returns-in-Read-clause-within c =
@@ -62,23 +55,17 @@ pub returns-in-GetTree-clause-replies : goal.returns-in-GetTree-clause-replies
 returns-in-GetTree-clause-replies c = λ moment calls.
     rw (c.in-GetTree.is, ← c.deref-in-GetTree.ensures) (c.answer_tree.ensures.replies c.args.pool.now)
 
-pub returns-in-GetTree-clause-changed : goal.returns-in-GetTree-clause-changed
-returns-in-GetTree-clause-changed c = λ moment calls.
+pub returns-in-GetTree-clause-texts : goal.returns-in-GetTree-clause-texts
+returns-in-GetTree-clause-texts c = λ moment calls.
     let p = c.args.pool.now in
-    let old = visible_in p c.args.contents.now.view in
-    let changes = get_tree_changes c.deref-in-GetTree.result.now old c.args.message.now in
     let quota = c.args.settings.now.quota in
-    rw (c.in-GetTree.is, ← c.deref-in-GetTree.ensures)
-    (subst (λ (n : ℕ). OnOk c.answer_tree.result (visible_in p c.answer_tree.new.view ≡ visible_after_changes n quota changes old)) c.requires.kept.limit (c.answer_tree.ensures.changed p quota))
-
-pub returns-in-GetTree-clause-memory : goal.returns-in-GetTree-clause-memory
-returns-in-GetTree-clause-memory c = λ moment calls.
-    let p = c.args.pool.now in
     let old = visible_in p c.args.contents.now.view in
+    let new = visible_in p c.answer_tree.new.view in
     let changes = get_tree_changes c.deref-in-GetTree.result.now old c.args.message.now in
-    let quota = c.args.settings.now.quota in
-    rw (c.in-GetTree.is, ← c.deref-in-GetTree.ensures)
-    (subst (λ (n : ℕ). OnErr c.answer_tree.result (MadeInPart n quota changes old (visible_in p c.answer_tree.new.view))) c.requires.kept.limit (c.answer_tree.ensures.memory p quota))
+    rw (c.in-GetTree.is, ← c.deref-in-GetTree.ensures) (record {
+      whole = subst (λ (n : ℕ). OnOk c.answer_tree.result (new ≡ visible_after_changes n quota changes old)) c.requires.kept.limit (c.answer_tree.ensures.changed p quota);
+      memory = subst (λ (n : ℕ). OnErr c.answer_tree.result (MadeInPart n quota changes old new)) c.requires.kept.limit (c.answer_tree.ensures.memory p quota);
+    })
 
 pub returns-in-GetTree-clause-within : goal.returns-in-GetTree-clause-within
 returns-in-GetTree-clause-within c =

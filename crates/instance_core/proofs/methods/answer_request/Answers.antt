@@ -14,7 +14,7 @@ returns-in_default-clause-changed c = λ moment calls.
     let texts = visible_in c.answer_from_texts.new.pool c.answer_from_texts.new.contents.view in
     let results = c.answer_from_texts.new.contents.results in
     let made = texts_make c.answer_from_texts.result c.args.method s c.args.message.now texts results apart
-    (c.answer_from_texts.ensures.changed moment calls) (c.answer_from_texts.ensures.memory moment calls) c.answer_from_texts.ensures.results in
+    (c.answer_from_texts.ensures.texts moment calls) c.answer_from_texts.ensures.results in
     same_uploads c.answer_from_texts.result (request_changes c.args.method s c.args.message.now) s (leaves texts results s) c.answer_from_texts.new.contents.uploads c.answer_from_texts.ensures.uploads made
 
 pub returns-in-GetActionResult-clause-replies : goal.returns-in-GetActionResult-clause-replies

@@ -5,10 +5,11 @@ use Rattle.std.specs.List.{AllByRecursion}
 use Rattle.std.proofs.lemmas.Int.{of_z-to_z}
 use Rattle.std.proofs.lemmas.List.{length-append}
 use Rattle.std.proofs.lemmas.List.Concat.{flat_map-cons}
+use Rattle.base128.proofs.Groups.{some_groups}
 use Rattle.protobuf_wire.specs.declared.field.WireError.{WireError}
 use Rattle.protobuf_wire.specs.Record.{Value, Number, Eight, Payload, Four, Record}
 use Rattle.protobuf_wire.specs.Reading.{records_of}
-use Rattle.protobuf_wire.specs.Spelling.{AreGroups, IsContent, IsRecord, Spells}
+use Rattle.protobuf_wire.specs.Spelling.{IsContent, IsRecord, Spells}
 use Rattle.protobuf_wire.specs.Writing.{varint, record_text, records_text, number_field, bytes_field, message_field}
 use Rattle.protobuf_wire.proofs.Texts.{spells_read, varint_is}
 use Rattle.protobuf_wire.proofs.Tools.{bind_ok, ok_is}
@@ -35,10 +36,6 @@ IsNarrow (Number n) = n < 2 ^ 64
 IsNarrow (Eight b) = Unit {0}
 IsNarrow (Payload b) = Unit {0}
 IsNarrow (Four b) = Unit {0}
-
-some_groups : (bytes : List ℕ) (n : ℕ) → AreGroups bytes n → 0 < length bytes
-some_groups [] n h = absurd h
-some_groups (b ∷ bs) n h = omega arith
 
 content_weight : (bytes : List ℕ) (v : Value) → IsContent bytes v → 1 + payload_size v ≤ length bytes
 content_weight bytes (Number n) h = let some = some_groups bytes h.whole h.groups in omega arith

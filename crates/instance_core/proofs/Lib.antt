@@ -7,3 +7,8 @@ mod Told
 mod Writes
 mod Ranges
 pub mod Events
+pub mod NamedTexts
+mod StatedSizes
+pub mod WriteLimits
+mod WriteAdds
+pub mod EventLimits

@@ -10,3 +10,4 @@ pub mod Writes
 pub mod Answer
 pub mod Shown
 pub mod Given
+pub mod Named

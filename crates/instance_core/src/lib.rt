@@ -10,6 +10,7 @@ mod capabilities;
 mod contents;
 mod event;
 mod instance;
+mod laws;
 mod methods;
 mod reading;
 mod replies;
@@ -19,3 +20,4 @@ mod writing;
 
 pub use event::{CallEvent, CallId, GivenRange, Reply, ReplyItem};
 pub use instance::Instance;
+pub use laws::calls_store_named_texts;

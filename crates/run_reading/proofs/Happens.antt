@@ -40,7 +40,7 @@ use Rattle.client_reading.specs.Changes.{IsReceivable, IsPast}
 use Rattle.client_reading.proofs.Answerable.{calls_answerable, requests_answerable}
 use Rattle.client_reading.proofs.Choices.{choose, all_append, all_by}
 use Rattle.client_reading.proofs.Pasts.{frames_received}
-use Rattle.server_core.proofs.Brought.{IsShortCall, short_on, frame_short}
+use Rattle.served_instance.proofs.Brought.{IsShortCall, short_on, frame_short}
 use Rattle.run_reading.proofs.Connections.{HasPast, ArePasts}
 use Rattle.run_reading.specs.Happenings.{Happening, MomentCame, TimePassed, place_of, call_happenings, due_happenings, answer_happenings, request_happenings, frame_happenings, happenings_of_frames, fault_happenings, end_happenings, reading_happenings, happenings_of_bytes, close_happenings, happenings_by, happenings_unless, step_happenings, happenings}
 use Rattle.run_reading.specs.Replies.{GivenItems, given_items_at, state_after_happening, given_items_from}

@@ -38,7 +38,7 @@ use Rattle.instance_core.specs.Calls.{ProgressValue, waits, has, writes, CallVal
 use Rattle.instance_core.specs.State.{InstanceState, WithinLimits, most_blobs, at_moment}
 use Rattle.served_instance.specs.Calls.{item_of, items_of as items_owed}
 use Rattle.client_reading.proofs.Choices.{all_append}
-use Rattle.server_core.proofs.Calls.{after_keeps}
+use Rattle.instance_core.proofs.EventLimits.{after_keeps}
 use Rattle.run_reading.specs.Replies.{GivenItems, items_of_reply, given_items_from}
 use Rattle.run_reading.specs.Happenings.{Happening, MomentCame, TimePassed, RequestAnswered, CallEventCame}
 use Rattle.run_reading.specs.Named.{Answering, answerings, Request, whole_request, request_at, bytes_from, IsNamedRange, AreNamed, IsNamedBatch, IsNamedTreePage, IsNamedItem, ServesNamed, IsNamedGift, GivesNamed}

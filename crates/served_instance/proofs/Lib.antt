@@ -17,3 +17,4 @@ mod Happens
 pub mod Stands
 pub mod Releasing
 pub mod Pumped
+pub mod Brought

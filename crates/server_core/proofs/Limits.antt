@@ -27,9 +27,9 @@ use Rattle.served_instance.specs.Lone.{Lone, after_replies, after_call_event, af
 use Rattle.served_instance.specs.Refusals.{refusal_of, after_event_unless}
 use Rattle.served_instance.proofs.Commutes.{items_keep_due}
 use Rattle.server_core.specs.Runs.{Run, new_run, run_step, run_of}
-use Rattle.server_core.proofs.Texts.{all_append}
-use Rattle.server_core.proofs.Calls.{after_keeps}
-use Rattle.server_core.proofs.Brought.{IsShortCall, short_on, cancels_short, DueShort, frame_short, fault_short}
+use Rattle.instance_core.proofs.NamedTexts.{all_append}
+use Rattle.instance_core.proofs.EventLimits.{after_keeps}
+use Rattle.served_instance.proofs.Brought.{IsShortCall, short_on, cancels_short, DueShort, frame_short, fault_short}
 
 -- ---- connections
 

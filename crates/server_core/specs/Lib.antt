@@ -1,7 +1,6 @@
 pub mod Outputs
 pub mod Runs
 pub mod LoneOutput
-pub mod Named
 pub mod Notes
 pub mod Shown
 pub mod Records

@@ -1,15 +1,11 @@
 //! What follows from the definitions alone.
 
 ghost use Rattle.std.specs.Prelude.{◌≡◌, ◌≤◌, ℕ, List};
-ghost use Rattle.std.specs.List.{AllByRecursion};
-ghost use Rattle.instance_core.specs.Answer.{answer};
-ghost use Rattle.instance_core.specs.Calls.{CallEventValue};
-ghost use Rattle.instance_core.specs.State.{InstanceState, WithinLimits};
+ghost use Rattle.instance_core.specs.State.{WithinLimits};
 ghost use Rattle.server_events.specs.Configs.{ConfigValue};
 ghost use Rattle.server_events.specs.Events.{EventValue, own_events};
 ghost use Rattle.server_events.specs.Instance.{quota_limit};
 ghost use Rattle.server_core.specs.LoneOutput.{lone_output};
-ghost use Rattle.server_core.specs.Named.{StoresNamed};
 ghost use Rattle.server_core.specs.Runs.{run_of};
 
 /// No instance learns anything of another: two runs, of two servers, that agree on an instance's
@@ -19,13 +15,6 @@ pub fn equal_events_give_equal_outputs()
     ensures { (this that : ConfigValue) (i j : ℕ) (these those : List EventValue) → this ≡ that
         → own_events i these ≡ own_events j those
         → lone_output this (own_events i these) ≡ lone_output that (own_events j those) }
-{}
-
-/// A call stores bytes only under the digest that names them, whatever its request says: a batch,
-/// and a Write too, message by message.
-pub fn calls_store_named_texts()
-    ensures { (s : InstanceState) (event : CallEventValue)
-        → AllByRecursion (StoresNamed s.visible) (answer s event).changes }
 {}
 
 /// An instance by itself keeps its limits through every run. So its texts never have more bytes

@@ -8,7 +8,7 @@ mod record;
 mod server;
 mod whole_run;
 
-pub use laws::{a_run_keeps_its_limits, calls_store_named_texts, equal_events_give_equal_outputs};
+pub use laws::{a_run_keeps_its_limits, equal_events_give_equal_outputs};
 pub use outputs::{InstanceOutput, RefusedEvent, SentBytes};
 pub use record::{ConnectionChange, InstanceRecord};
 pub use server::Server;

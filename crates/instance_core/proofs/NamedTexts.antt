@@ -24,7 +24,7 @@ use Rattle.instance_core.specs.State.{InstanceState}
 use Rattle.instance_core.specs.Methods.{use_asked, text_changes}
 use Rattle.bytestream.specs.declared.reading.ReadAsked.{ReadAsked}
 use Rattle.bytestream.specs.Reading.{read_asked}
-use Rattle.server_core.specs.Named.{StoresNamedText}
+use Rattle.instance_core.specs.Named.{StoresNamedText}
 
 pub all_append : {X : Type 0} (P : X → Type 0) (xs ys : List X) → AllByRecursion P xs → AllByRecursion P ys → AllByRecursion P (xs ++ ys)
 all_append P [] ys a b = b

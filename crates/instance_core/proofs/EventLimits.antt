@@ -24,10 +24,10 @@ use Rattle.instance_core.specs.Changes.{Change, Text, Goes, Ends, Wrote, Keeps, 
 use Rattle.instance_core.specs.Writes.{write_state, part_of, first_changes, next_changes, first_outcome, next_outcome}
 use Rattle.instance_core.proofs.Entries.{with_short, without_short}
 use Rattle.instance_core.specs.Answer.{answer, state_after, head_answer, first_write_answer, next_write_answer, first_message_answer, answer_by_progress, message_answer, fault_answer, end_answer_by_progress, request_end_answer}
-use Rattle.server_core.specs.Named.{StoresNamedText, StoresNamed}
-use Rattle.server_core.proofs.Texts.{all_append, changes_named, change_within}
-use Rattle.server_core.proofs.Writes.{IsWithin, piece_within, first_within, next_within, goes_below}
-use Rattle.server_core.proofs.Adds.{piece_adds, first_adds, next_adds}
+use Rattle.instance_core.specs.Named.{StoresNamedText, StoresNamed}
+use Rattle.instance_core.proofs.NamedTexts.{all_append, changes_named, change_within}
+use Rattle.instance_core.proofs.WriteLimits.{IsWithin, piece_within, first_within, next_within, goes_below}
+use Rattle.instance_core.proofs.WriteAdds.{piece_adds, first_adds, next_adds}
 
 -- ---- calls in course
 

@@ -16,8 +16,8 @@ use Rattle.uploads.specs.Writing.{finish_answer, after_piece}
 use Rattle.bytestream.specs.Writing.{OpenWriteValue, PartValue, WriteState, FirstAsked, first_asked, next_asked, part_outcome, after_last_part, after_end, after_taking, after_part, after_first_asked, after_first, after_next_asked, after_next}
 use Rattle.instance_core.specs.State.{InstanceState}
 use Rattle.instance_core.specs.Writes.{write_state, with_piece, with_part}
-use Rattle.server_core.specs.Named.{IsOldOrNamed}
-use Rattle.server_core.proofs.Writes.{finish_names}
+use Rattle.instance_core.specs.Named.{IsOldOrNamed}
+use Rattle.instance_core.proofs.WriteLimits.{finish_names}
 
 abbrev IsNamed : Blob → Type 0
 IsNamed b = Names b.0 b.1

@@ -24,7 +24,7 @@ use Rattle.conn_core.specs.declared.event.CallEvent.TheVariants as Seen
 use Rattle.conn_core.specs.Calls.{message_limit, messages_of, events_at_end, events_behind_messages, events_behind_front, events_by_end, events_of_content, events_of_request, call_events_of, is_call, stream_text, cancels}
 use Rattle.instance_core.specs.Calls.{IsShortRequest, IsShortEvent}
 use Rattle.served_instance.specs.Calls.{call_event_on}
-use Rattle.server_core.proofs.Texts.{all_append}
+use Rattle.instance_core.proofs.NamedTexts.{all_append}
 
 -- a message that comes is no longer than one may be
 abbrev pub IsShortCall : CallEvent → Type 0

@@ -6,7 +6,9 @@ mod call;
 mod connection;
 mod event;
 mod laws;
+mod limits;
 
 pub use connection::Connection;
 pub use event::CallEvent;
 pub use laws::{calls_on_live_streams, only_texts_of_a_connections_ranges_matter};
+pub use limits::limits_of_connections;

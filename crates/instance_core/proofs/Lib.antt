@@ -12,3 +12,4 @@ mod StatedSizes
 pub mod WriteLimits
 mod WriteAdds
 pub mod EventLimits
+pub mod NamedReplies

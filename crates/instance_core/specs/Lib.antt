@@ -11,3 +11,4 @@ pub mod Answer
 pub mod Shown
 pub mod Given
 pub mod Named
+pub mod NamedReplies

@@ -4,11 +4,22 @@ ghost use Rattle.std.specs.List.{AllByRecursion};
 ghost use Rattle.instance_core.specs.Answer.{answer};
 ghost use Rattle.instance_core.specs.Calls.{CallEventValue};
 ghost use Rattle.instance_core.specs.Named.{StoresNamed};
-ghost use Rattle.instance_core.specs.State.{InstanceState};
+ghost use Rattle.instance_core.specs.NamedReplies.{ServesNamed};
+ghost use Rattle.instance_core.specs.State.{InstanceState, WithinLimits};
 
 /// A call stores bytes only under the digest that names them, whatever its request says: a batch,
 /// and a Write too, message by message.
 pub fn calls_store_named_texts()
     ensures { (s : InstanceState) (event : CallEventValue)
         → AllByRecursion (StoresNamed s.visible) (answer s event).changes }
+{}
+
+/// What a call is answered is named by the digest that was asked for. A Read is given a range of
+/// the text that the instance itself has under the digest in the resource name (bytestream.proto);
+/// data with status OK in a reply to BatchReadBlobs, and each directory on a page of GetTree, are
+/// what their digests say; and a result that GetActionResult gives is the instance's own, of which
+/// each blob is there (remote_execution.proto).
+pub fn calls_serve_named_blobs()
+    ensures { (s : InstanceState) (event : CallEventValue) → WithinLimits s
+        → ServesNamed (record { state = s; event = event }) }
 {}

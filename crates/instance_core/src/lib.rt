@@ -11,6 +11,7 @@ mod contents;
 mod event;
 mod instance;
 mod laws;
+mod limits;
 mod methods;
 mod reading;
 mod replies;
@@ -20,4 +21,7 @@ mod writing;
 
 pub use event::{CallEvent, CallId, GivenRange, Reply, ReplyItem};
 pub use instance::Instance;
-pub use laws::calls_store_named_texts;
+pub use laws::{calls_serve_named_blobs, calls_store_named_texts};
+pub use limits::{
+    limits_of_batches_and_trees, limits_of_results, limits_of_texts, limits_of_uploads,
+};

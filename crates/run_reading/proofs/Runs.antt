@@ -13,7 +13,8 @@ use Rattle.client_reading.specs.Reads.{Reads}
 use Rattle.client_reading.proofs.Pasts.{past_read}
 use Rattle.run_reading.proofs.Connections.{HasPast}
 use Rattle.run_reading.specs.Replies.{GivenItems, state_after_happening, items_on, longest_message, ReadsText, AreRead, new_instance_of, run_happenings, run_given_items}
-use Rattle.run_reading.specs.Named.{ServesNamed, run_answerings, GivesNamed}
+use Rattle.instance_core.specs.NamedReplies.{ServesNamed}
+use Rattle.run_reading.specs.Named.{run_answerings, GivesNamed}
 use Rattle.run_reading.proofs.Owes.{OwedFrom}
 use Rattle.run_reading.proofs.Named.{IsShortHappening, all_named, all_gifts}
 use Rattle.run_reading.proofs.Lengths.{AreWithin, given_within, items_within, all_takable, longest_fits}

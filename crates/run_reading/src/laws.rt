@@ -9,7 +9,8 @@ ghost use Rattle.served_instance.specs.Lone.{sent_bytes_on};
 ghost use Rattle.server_core.specs.Runs.{run_of};
 ghost use Rattle.server_core.specs.LoneOutput.{lone_output};
 ghost use Rattle.run_reading.specs.Replies.{run_connections, run_given_items, run_state, AreRead};
-ghost use Rattle.run_reading.specs.Named.{run_answerings, ServesNamed, GivesNamed};
+ghost use Rattle.instance_core.specs.NamedReplies.{ServesNamed};
+ghost use Rattle.run_reading.specs.Named.{run_answerings, GivesNamed};
 
 /// On each connection of a run the client reads what the streams were given: frames as they were
 /// meant, HEADERS and DATA on live streams and within the windows, control frames that were caused,

@@ -4,6 +4,7 @@
 
 mod calls;
 mod instance;
+mod limits;
 mod open_connection;
 mod pool_parts;
 mod refusal;
@@ -11,4 +12,5 @@ mod release;
 mod replies;
 
 pub use instance::{CONNECTION_LIMIT, ServedInstance};
+pub use limits::limit_of_connections;
 pub use refusal::EventRefusal;

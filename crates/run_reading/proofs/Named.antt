@@ -10,6 +10,7 @@ use Rattle.instance_core.specs.Answer.{answer, state_after}
 use Rattle.instance_core.specs.Calls.{CallEventValue, tick, IsShortEvent}
 use Rattle.instance_core.specs.State.{InstanceState, WithinLimits, at_moment}
 use Rattle.served_instance.specs.Calls.{item_of, items_of as items_owed}
+use Rattle.served_instance.proofs.Limits.{moment_within}
 use Rattle.client_reading.proofs.Choices.{all_append}
 use Rattle.instance_core.proofs.EventLimits.{after_keeps}
 use Rattle.run_reading.specs.Replies.{GivenItems, items_of_reply, given_items_from}
@@ -31,9 +32,6 @@ IsShortHappening (MomentCame moment) = Unit {0}
 IsShortHappening TimePassed = Unit {0}
 IsShortHappening (RequestAnswered place stream item) = IsShortItem item
 IsShortHappening (CallEventCame place event) = IsShortEvent event
-
-pub moment_within : (moment : ℕ) (s : InstanceState) → WithinLimits s → WithinLimits (at_moment moment s)
-moment_within moment s w = record { quota = w.quota; texts = w.texts; uploads = w.uploads; results = w.results; calls = w.calls; messages = w.messages }
 
 -- what holds of each answer that is given within the limits, holds of all
 pub each_answer : (P : Answering → Type 0) (s : InstanceState) (hs : List Happening) → ((t : InstanceState) (event : CallEventValue) → WithinLimits t → P (record { state = t; event = event })) → AllByRecursion IsShortHappening hs → WithinLimits s → AllByRecursion P (answerings s hs)

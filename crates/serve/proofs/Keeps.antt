@@ -17,7 +17,7 @@ use Rattle.served_instance.specs.StandsFor.{ServedState}
 use Rattle.server_core.specs.StandsFor.{StandsAt}
 use Rattle.serve.specs.SocketEvents.{SocketEvent, PortEvent, port, what_of, moment_of, lone_of, Adds}
 use Rattle.serve.specs.Served.{IsFaithful, IsServed, Stands, IsAt, IsServing, IsAfter, WasServed, Takes}
-use Rattle.serve.proofs.Moments.{step_within, took_taken}
+use Rattle.served_instance.proofs.Moments.{step_within, took_taken}
 use Rattle.serve.proofs.Happenings.{moment_more, port_more, served_more}
 
 abbrev pub event_at : ℕ → ℕ → PortEvent → EventValue

@@ -1,4 +1,3 @@
 mod Happenings
-mod Moments
 mod Keeps
 mod Ticks

@@ -12,7 +12,7 @@ use Rattle.server_core.specs.StandsFor.{StandsAt}
 use Rattle.serve.specs.SocketEvents.{SocketEvent, clock, moment_of, lone_of, Adds}
 use Rattle.serve.specs.Served.{IsServed, IsAt, IsServing, WasServed, Takes}
 use Rattle.served_instance.specs.Refusals.{lone_step}
-use Rattle.serve.proofs.Moments.{step_within}
+use Rattle.served_instance.proofs.Moments.{step_within}
 use Rattle.serve.proofs.Happenings.{moment_more, clock_more, served_more}
 
 abbrev pub tick_at : ℕ → ℕ → EventValue

@@ -18,3 +18,6 @@ pub mod Stands
 pub mod Releasing
 pub mod Pumped
 pub mod Brought
+pub mod Growth
+pub mod Moments
+pub mod Limits

@@ -14,7 +14,7 @@ use Rattle.served_instance.specs.Lone.{sent_bytes_on}
 use Rattle.server_core.specs.declared.record.OpenRecord.{OpenRecord}
 use Rattle.server_core.specs.Records.{open_record, open_from}
 use Rattle.server_core.specs.Notes.{record_after_taking, open_records_after, sent_bytes_after}
-use Rattle.server_core.proofs.Growth.{HasGrown, AreGrown, at_is_open, connections_after}
+use Rattle.served_instance.proofs.Growth.{HasGrown, AreGrown, at_is_open, connections_after}
 
 -- ---- tests
 

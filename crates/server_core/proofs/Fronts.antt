@@ -19,7 +19,7 @@ use Rattle.served_instance.specs.Lone.{Lone, sent_bytes_on}
 use Rattle.server_core.specs.declared.record.OpenRecord.{OpenRecord}
 use Rattle.server_core.specs.Records.{open_record, open_from, IsTakenFrom}
 use Rattle.server_core.specs.Notes.{sent_bytes_after, with_more_at, pending_bytes_on, sent_bytes_with, sent_bytes_with_all, record_after_noting}
-use Rattle.server_core.proofs.Growth.{HasGrown, AreGrown, at_is_open, connections_after}
+use Rattle.served_instance.proofs.Growth.{HasGrown, AreGrown, at_is_open, connections_after}
 use Rattle.server_core.proofs.Changes.{pick_true, pick_false, none_at, known_value, known_from, new_at, took_more, taken_grown, both_true, second_true, second_false}
 
 -- ---- fronts

@@ -4,7 +4,6 @@ mod Slots
 mod Storing
 mod Pooled
 pub mod Limits
-mod Growth
 mod Changes
 mod Fronts
 mod Noted

@@ -16,7 +16,7 @@ use Rattle.server_core.specs.Runs.{Run, refusals_at, run_step}
 use Rattle.server_core.specs.declared.record.OpenRecord.{OpenRecord}
 use Rattle.server_core.specs.Records.{RecordValue, StandsFor}
 use Rattle.server_core.specs.Notes.{open_records_after, sent_bytes_after, sent_bytes_with_all, record_after_noting}
-use Rattle.server_core.proofs.Growth.{AreGrown, connections_after, accepted_more}
+use Rattle.served_instance.proofs.Growth.{AreGrown, connections_after, accepted_more}
 use Rattle.server_core.proofs.Changes.{known_from, known_after, known_grown}
 use Rattle.server_core.proofs.Fronts.{AreFronts, May, all_within, fronts_after, fronts_grown, fronts_taken, apart_after, apart_grown, all_gathered, all_counted}
 

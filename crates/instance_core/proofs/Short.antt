@@ -138,7 +138,7 @@ asked_sent own message ds h =
     let r = read_from find_missing_blobs_request_of message q.0 (readable_ok (value_of_text find_missing_blobs_request_of message) q.0 q.1) in
     let name = bind_ok (string 1 r.records) _ q.0 r.means in
     let digests = bind_ok (repeated_values digest_of 2 r.records) _ q.0 name.2 in
-    let e = ok_is (record { instance_name = name.0; blob_digests = digests.0; digest_function = Rattle.message_fields.specs.Fields.int32 3 r.records }) q.0 digests.2 in
+    let e = ok_is (record { instance_name = name.0; blob_digests = digests.0; digest_function = int32 3 r.records }) q.0 digests.2 in
     let i = bind_ok (instance_check own q.0.instance_name) _ ds q.2 in
     let f = bind_ok (function_check q.0.digest_function) _ ds i.2 in
     let same : q.0.blob_digests ≡ digests.0 = cc in

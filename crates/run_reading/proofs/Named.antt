@@ -10,7 +10,7 @@ use Rattle.instance_core.specs.Answer.{answer, state_after}
 use Rattle.instance_core.specs.Calls.{CallEventValue, tick, IsShortEvent}
 use Rattle.instance_core.specs.State.{InstanceState, WithinLimits, at_moment}
 use Rattle.served_instance.specs.Calls.{item_of, items_of as items_owed}
-use Rattle.served_instance.proofs.Limits.{moment_within}
+use Rattle.served_instance.proofs.LimitsKept.{moment_within}
 use Rattle.client_reading.proofs.Choices.{all_append}
 use Rattle.instance_core.proofs.EventLimits.{after_keeps}
 use Rattle.run_reading.specs.Replies.{GivenItems, items_of_reply, given_items_from}

@@ -20,4 +20,4 @@ pub mod Pumped
 pub mod Brought
 pub mod Growth
 pub mod Moments
-pub mod Limits
+pub mod LimitsKept

@@ -9,7 +9,7 @@ use Rattle.server_events.specs.Configs.{ConfigValue}
 use Rattle.server_events.specs.Events.{EventValue}
 use Rattle.served_instance.specs.Refusals.{refusal_of}
 use Rattle.server_core.specs.Runs.{Run, new_run, run_step, run_of}
-use Rattle.served_instance.proofs.Limits.{KeepsLimits, stepped_keeps}
+use Rattle.served_instance.proofs.LimitsKept.{KeepsLimits, stepped_keeps}
 
 runs_keep : (r : Run) (events : List EventValue) → KeepsLimits r.lone → KeepsLimits (fold run_step r events).lone
 runs_keep r [] h = h

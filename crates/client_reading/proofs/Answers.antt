@@ -9,7 +9,7 @@ use Rattle.hpack.specs.Table.{Table}
 use Rattle.hpack.specs.Block.{step}
 use Rattle.hpack.specs.declared.error.HpackError.{HpackError}
 use Rattle.http2_frames.specs.declared.codes.ErrorCode.{ErrorCode}
-use Rattle.http2_frames.specs.declared.codes.ErrorCode.TheVariants.{NoError, ProtocolError, InternalError, FlowControlError, SettingsTimeout, StreamClosed, FrameSizeError, RefusedStream, Cancel, CompressionError, ConnectError, EnhanceYourCalm, InadequateSecurity, Http11Required}
+use Rattle.http2_frames.specs.declared.codes.ErrorCode.TheVariants.{NoError, ProtocolError, FlowControlError, StreamClosed, RefusedStream}
 use Rattle.http2_frames.specs.declared.frame.RawFrame.{RawFrame}
 use Rattle.http2_frames.specs.declared.frame.Frame.{Frame}
 use Rattle.http2_frames.specs.declared.frame.Frame.TheVariants.{Data, Headers, Priority, RstStream, Settings, PushPromise, Ping, GoAway, WindowUpdate, Continuation, Unknown}
@@ -36,19 +36,7 @@ use Rattle.client_reading.proofs.Numbered.{IsNumbered, IsNumberedBlock, IsFramed
 
 pub code_low : (code : ErrorCode) → code_number code < 2 ^ 32
 code_low NoError = omega arith
-code_low ProtocolError = omega arith
-code_low InternalError = omega arith
-code_low FlowControlError = omega arith
-code_low SettingsTimeout = omega arith
-code_low StreamClosed = omega arith
-code_low FrameSizeError = omega arith
-code_low RefusedStream = omega arith
-code_low Cancel = omega arith
-code_low CompressionError = omega arith
-code_low ConnectError = omega arith
-code_low EnhanceYourCalm = omega arith
-code_low InadequateSecurity = omega arith
-code_low Http11Required = omega arith
+code_low _ = omega arith
 
 -- ---- the numbers in answers
 

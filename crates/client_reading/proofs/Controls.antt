@@ -86,15 +86,7 @@ all_control (f ∷ fs) h = let here : is_control f ≡ true = h.0 in rw here (ap
 none_caused : (before : List Entry) (f : Frame) → IsControl f → frames_caused_by before (Out f) ≡ []
 none_caused before (Data s e b) h = refl
 none_caused before (Headers s e x b) h = cc
-none_caused before (Priority s p) h = refl
-none_caused before (RstStream s c) h = refl
-none_caused before (Settings a ss) h = refl
-none_caused before (PushPromise g s p) h = refl
-none_caused before (Ping a o) h = refl
-none_caused before (GoAway s c b) h = refl
-none_caused before (WindowUpdate s n) h = refl
-none_caused before (Continuation s x b) h = refl
-none_caused before (Unknown k g s p) h = refl
+none_caused before _ h = refl
 
 outs_cause_nothing : (before : List Entry) (fs : List Frame) → AllByRecursion IsControl fs → frames_caused_from before (map Out fs) ≡ []
 outs_cause_nothing before [] h = refl

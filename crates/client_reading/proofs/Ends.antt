@@ -9,7 +9,7 @@ use Rattle.hpack.specs.Encoding.{block_text}
 use Rattle.http2_frames.specs.declared.codes.ErrorCode.TheVariants.{NoError}
 use Rattle.http2_frames.specs.declared.frame.RawFrame.{RawFrame}
 use Rattle.http2_frames.specs.declared.frame.Frame.{Frame}
-use Rattle.http2_frames.specs.declared.frame.Frame.TheVariants.{Data, Headers, Priority, RstStream, Settings, PushPromise, Ping, GoAway, WindowUpdate, Continuation, Unknown}
+use Rattle.http2_frames.specs.declared.frame.Frame.TheVariants.{Data, Headers, RstStream}
 use Rattle.http2_frames.specs.Codes.{code_number}
 use Rattle.http2_streams.specs.History.{Entry, In, Unreadable, Out, Took, received_frames, sent_frames, frame_out, highest_stream, has_failed, resets, ends, data_ends, block_ends, no_blocks, blocks_after, is_reset, is_ended_by_client, is_ended_by_server, is_not_closed}
 use Rattle.http2_streams.proofs.LiveLaw.{live_falls}
@@ -45,15 +45,7 @@ more d es none h s lives = ended_more d es s ∙ neither (is_ended_by_server d s
 control_ends : (s : ℕ) (f : Frame) → IsControl f → ends s f ≡ false
 control_ends s (Data t e b) h = cc
 control_ends s (Headers t e x b) h = cc
-control_ends s (Priority t p) h = refl
-control_ends s (RstStream t c) h = refl
-control_ends s (Settings a ss) h = refl
-control_ends s (PushPromise g t p) h = refl
-control_ends s (Ping a o) h = refl
-control_ends s (GoAway t c b) h = refl
-control_ends s (WindowUpdate t n) h = refl
-control_ends s (Continuation t x b) h = refl
-control_ends s (Unknown k g t p) h = refl
+control_ends s _ h = refl
 
 controls_end : (s : ℕ) (fs : List Frame) → AllByRecursion IsControl fs → list_any (ends s) fs ≡ false
 controls_end s [] h = refl

@@ -15,7 +15,7 @@ use Rattle.hpack.specs.Table.{Table, new_table}
 use Rattle.hpack.specs.Block.{step, answer_of}
 use Rattle.hpack.specs.Encoding.{block_text}
 use Rattle.http2_frames.specs.declared.frame.Frame.{Frame}
-use Rattle.http2_frames.specs.declared.frame.Frame.TheVariants.{Data, Headers, Priority, RstStream, Settings, PushPromise, Ping, GoAway, WindowUpdate, Continuation, Unknown}
+use Rattle.http2_frames.specs.declared.frame.Frame.TheVariants.{Data, Headers}
 use Rattle.http2_streams.specs.History.{Entry, Out, Took, sent_frames, frame_out, highest_stream, has_failed, live_streams, is_ended_by_client}
 use Rattle.grpc_calls.specs.declared.response.ResponseBlock.{ResponseBlock}
 use Rattle.grpc_calls.specs.Responses.{fields_of, is_last}
@@ -67,15 +67,7 @@ follows_more s table ps (f ∷ fs) gs h k = (h.0, follows_more s (table_after_fr
 front_more : (s : ℕ) (table : Option Table) (ps more : List Piece) (f : Frame) → FrontOf s table ps f → FrontOf s table (ps ++ more) f
 front_more s table ps more (Headers t e x fragment) h = λ same. let b = h same in record { block = b.block; rest = b.rest ++ more; is = ap (λ (qs : List Piece). qs ++ more) b.is; end = b.end; whole = b.whole; read = b.read }
 front_more s table ps more (Data t e bytes) h = λ same. let b = h same in record { left = b.left; rest = b.rest ++ more; is = ap (λ (qs : List Piece). qs ++ more) b.is; end = b.end }
-front_more s table ps more (Priority t p) h = tt
-front_more s table ps more (RstStream t c) h = tt
-front_more s table ps more (Settings a ss) h = tt
-front_more s table ps more (PushPromise g t p) h = tt
-front_more s table ps more (Ping a o) h = tt
-front_more s table ps more (GoAway t c b) h = tt
-front_more s table ps more (WindowUpdate t n) h = tt
-front_more s table ps more (Continuation t x b) h = tt
-front_more s table ps more (Unknown k g t p) h = tt
+front_more s table ps more _ h = tt
 
 cond_more : (b : Bool) (p : Piece) (rest more : List Piece) → cond b (p ∷ rest ++ more) (rest ++ more) ≡ cond b (p ∷ rest) rest ++ more
 cond_more true p rest more = refl
@@ -94,15 +86,7 @@ put_more_on s table ps more (Data t e bytes) h = elim (cases_Bool (t == s)) [
       rw (same, is) (cond_more (nat_lt (length bytes) (length (bytes ++ b.left))) (Part (drop (length bytes) (bytes ++ b.left))) b.rest more)
   | inr other ↦ rw other refl
 ]
-put_more_on s table ps more (Priority t p) h = refl
-put_more_on s table ps more (RstStream t c) h = refl
-put_more_on s table ps more (Settings a ss) h = refl
-put_more_on s table ps more (PushPromise g t p) h = refl
-put_more_on s table ps more (Ping a o) h = refl
-put_more_on s table ps more (GoAway t c b) h = refl
-put_more_on s table ps more (WindowUpdate t n) h = refl
-put_more_on s table ps more (Continuation t x b) h = refl
-put_more_on s table ps more (Unknown k g t p) h = refl
+put_more_on s table ps more _ h = refl
 
 pub follows_owed : (s : ℕ) (table : Option Table) (ps more : List Piece) (fs : List Frame) → Follows s table ps fs → Follows s table (ps ++ more) fs
 follows_owed s table ps more [] h = tt
@@ -116,15 +100,7 @@ follows_owed s table ps more (f ∷ fs) h = (
 control_front : (s : ℕ) (table : Option Table) (ps : List Piece) (f : Frame) → IsControl f → FrontOf s table ps f × (table_after_frame table f ≡ table) × (pieces_after_frame s ps f ≡ ps)
 control_front s table ps (Headers t e x fragment) h = cc
 control_front s table ps (Data t e bytes) h = cc
-control_front s table ps (Priority t p) h = (tt, refl, refl)
-control_front s table ps (RstStream t c) h = (tt, refl, refl)
-control_front s table ps (Settings a ss) h = (tt, refl, refl)
-control_front s table ps (PushPromise g t p) h = (tt, refl, refl)
-control_front s table ps (Ping a o) h = (tt, refl, refl)
-control_front s table ps (GoAway t c b) h = (tt, refl, refl)
-control_front s table ps (WindowUpdate t n) h = (tt, refl, refl)
-control_front s table ps (Continuation t x b) h = (tt, refl, refl)
-control_front s table ps (Unknown k g t p) h = (tt, refl, refl)
+control_front s table ps _ h = (tt, refl, refl)
 
 control_follows : (s : ℕ) (table : Option Table) (ps : List Piece) (fs : List Frame) → AllByRecursion IsControl fs → Follows s table ps fs
 control_follows s table ps [] h = tt

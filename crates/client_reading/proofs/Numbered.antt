@@ -9,7 +9,7 @@ use Rattle.http2_frames.specs.declared.codes.ErrorCode.{ErrorCode}
 use Rattle.http2_frames.specs.declared.codes.frame_type.TheConstants.{DATA, HEADERS, PRIORITY, RST_STREAM, SETTINGS, PUSH_PROMISE, PING, GOAWAY, WINDOW_UPDATE, CONTINUATION}
 use Rattle.http2_frames.specs.declared.frame.RawFrame.{RawFrame}
 use Rattle.http2_frames.specs.declared.frame.Frame.{Frame}
-use Rattle.http2_frames.specs.declared.frame.Frame.TheVariants.{Data, Headers, Priority, RstStream, Settings, PushPromise, Ping, GoAway, WindowUpdate, Continuation, Unknown}
+use Rattle.http2_frames.specs.declared.frame.Frame.TheVariants.{Data, Headers, WindowUpdate, Continuation}
 use Rattle.http2_frames.specs.Frames.{frame_of, content_of, is_misaddressed, is_missized, is_overpadded, is_of_a_stream}
 use Rattle.http2_frames.specs.Writing.{IsStream}
 use Rattle.http2_headers.specs.HeaderBlock.{HeaderBlock, new_block, with_continuation}
@@ -113,15 +113,7 @@ continued_numbered bs (Some b) t fragment h k = placed_numbered bs.finished t (w
 after_numbered : (bs : Blocks) (f : Frame) → IsNumbered f → AreNumbered bs → AreNumbered (blocks_after bs f)
 after_numbered bs (Headers s e t fragment) n h = placed_numbered bs.finished t (new_block s e fragment) h.finished n
 after_numbered bs (Continuation s t fragment) n h = continued_numbered bs bs.unfinished t fragment h h.unfinished
-after_numbered bs (Data s e bytes) n h = h
-after_numbered bs (Priority s p) n h = h
-after_numbered bs (RstStream s c) n h = h
-after_numbered bs (Settings a ss) n h = h
-after_numbered bs (PushPromise g s p) n h = h
-after_numbered bs (Ping a o) n h = h
-after_numbered bs (GoAway s c b) n h = h
-after_numbered bs (WindowUpdate s m) n h = h
-after_numbered bs (Unknown k g s p) n h = h
+after_numbered bs _ n h = h
 
 all_numbered : (bs : Blocks) (fs : List Frame) → AllByRecursion IsNumbered fs → AreNumbered bs → AreNumbered (fold blocks_after bs fs)
 all_numbered bs [] all h = h

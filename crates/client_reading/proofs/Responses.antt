@@ -9,7 +9,7 @@ use Rattle.std.proofs.lemmas.Grind.{flat_map-append}
 use Rattle.hpack.specs.Table.{Table, new_table}
 use Rattle.hpack.specs.Block.{step}
 use Rattle.http2_frames.specs.declared.frame.Frame.{Frame}
-use Rattle.http2_frames.specs.declared.frame.Frame.TheVariants.{Data, Headers, Priority, RstStream, Settings, PushPromise, Ping, GoAway, WindowUpdate, Continuation, Unknown}
+use Rattle.http2_frames.specs.declared.frame.Frame.TheVariants.{Data, Headers}
 use Rattle.grpc_messages.specs.Wire.{Split}
 use Rattle.grpc_messages.specs.Reading.{split}
 use Rattle.grpc_messages.specs.Writing.{framed_message}
@@ -221,15 +221,7 @@ reads_all limit s small (Data t e bytes ∷ fs) = λ table ps items ms part all 
   | inl same ↦ let p = h.0 same in reads_part limit s t e bytes fs (reads_all limit s small fs) table ps items ms part p.left p.rest all within at same p.end p.is h.1
   | inr other ↦ skips limit s (Data t e bytes) fs table ps items ms part (reads_all limit s small fs) all within at (rw other refl) (rw other refl) h.1
 ]
-reads_all limit s small (Priority t p ∷ fs) = λ table ps items ms part all within at h. reads_all limit s small fs table ps items ms part all within at h.1
-reads_all limit s small (RstStream t c ∷ fs) = λ table ps items ms part all within at h. reads_all limit s small fs table ps items ms part all within at h.1
-reads_all limit s small (Settings a ss ∷ fs) = λ table ps items ms part all within at h. reads_all limit s small fs table ps items ms part all within at h.1
-reads_all limit s small (PushPromise g t p ∷ fs) = λ table ps items ms part all within at h. reads_all limit s small fs table ps items ms part all within at h.1
-reads_all limit s small (Ping a o ∷ fs) = λ table ps items ms part all within at h. reads_all limit s small fs table ps items ms part all within at h.1
-reads_all limit s small (GoAway t c b ∷ fs) = λ table ps items ms part all within at h. reads_all limit s small fs table ps items ms part all within at h.1
-reads_all limit s small (WindowUpdate t n ∷ fs) = λ table ps items ms part all within at h. reads_all limit s small fs table ps items ms part all within at h.1
-reads_all limit s small (Continuation t x b ∷ fs) = λ table ps items ms part all within at h. reads_all limit s small fs table ps items ms part all within at h.1
-reads_all limit s small (Unknown k g t p ∷ fs) = λ table ps items ms part all within at h. reads_all limit s small fs table ps items ms part all within at h.1
+reads_all limit s small (_ ∷ fs) = λ table ps items ms part all within at h. reads_all limit s small fs table ps items ms part all within at h.1
 
 pub stream_read : (limit s : ℕ) (fs : List Frame) (items : List Single) → limit < 2 ^ 32 → AllByRecursion (IsSingleWithin limit) items → Follows s (Some new_table) (map piece_of items) fs → IsBeginning limit (stream_parts_from s (Some new_table) fs) (map part_of items)
 stream_read limit s fs items small within h =

@@ -7,7 +7,7 @@ use Rattle.std.proofs.lemmas.Bool.Decides.{nat_tests}
 use Rattle.std.proofs.lemmas.Int.{ints}
 use Rattle.http2_flow.specs.Credit.{window_left}
 use Rattle.http2_frames.specs.declared.frame.Frame.{Frame}
-use Rattle.http2_frames.specs.declared.frame.Frame.TheVariants.{Data, Headers, Priority, RstStream, Settings, PushPromise, Ping, GoAway, WindowUpdate, Continuation, Unknown}
+use Rattle.http2_frames.specs.declared.frame.Frame.TheVariants.{Data, Headers}
 use Rattle.http2_streams.specs.History.{Entry, In, Unreadable, Out, Took, live_streams, window, connection_window, highest_stream, has_failed, is_ended_by_client}
 use Rattle.http2_streams.specs.LiveStreams.{has_stream}
 use Rattle.grpc_calls.specs.Responses.{is_last}
@@ -38,15 +38,7 @@ keeps_more before (x ∷ xs) ys h k = (h.0, keeps_more (before ++ x ∷ []) xs y
 control_at : (before : List Entry) (f : Frame) → IsControl f → KeepsAt before (Out f)
 control_at before (Data s e b) h = cc
 control_at before (Headers s e x b) h = cc
-control_at before (Priority s p) h = tt
-control_at before (RstStream s c) h = tt
-control_at before (Settings a ss) h = tt
-control_at before (PushPromise g s p) h = tt
-control_at before (Ping a o) h = tt
-control_at before (GoAway s c b) h = tt
-control_at before (WindowUpdate s n) h = tt
-control_at before (Continuation s x b) h = tt
-control_at before (Unknown k g s p) h = tt
+control_at before _ h = tt
 
 control_from : (before : List Entry) (fs : List Frame) → AllByRecursion IsControl fs → KeepsFrom before (map Out fs)
 control_from before [] h = tt

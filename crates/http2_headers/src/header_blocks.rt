@@ -3,7 +3,7 @@
 ghost use Rattle.std.specs.Prelude.{◌≡◌, ◌≤◌, ◌<◌, ◌+◌, ◌++◌, length, Option, Some, None, IsSome, IfSome, OnOk, OnErr, IfOk, Ok, Err, option_map};
 ghost use Rattle.hpack.specs.Block.{step};
 ghost use Rattle.http2_headers.specs.HeaderBlock.{new_block, with_continuation, is_excessive};
-ghost use Rattle.http2_headers.specs.Shown.{block_shown};
+ghost use Rattle.http2_headers.specs.Shown.{block_shown, table_shown};
 ghost use Rattle.http2_headers.specs.Decoding.{new_state, failed_state, list_of_block, state_after_block, list_of_continuation, state_after_continuation, Gives, list_of};
 
 use crate::fault::H2Fault;
@@ -40,7 +40,7 @@ struct Fragments {
 #[derive(Drop)]
 pub struct HeaderBlocks {
     unfinished: Option<Fragments>,
-    /// None after a refusal.
+    /// None after a refusal: each call takes it out, and puts it back once the frame is taken.
     decoder: Option<Decoder>,
     alloc: Global,
 }
@@ -95,11 +95,23 @@ impl HeaderBlocks {
             (new_block stream end_stream fragment.now)) }
         ensures failed { OnErr result (self.new ≡ failed_state) }
     {
-        let outcome = self.begin_block(stream, end_stream, end_headers, fragment);
-        if outcome.is_err() {
-            self.fail();
+        self.unfinished = None;
+        let decoder = mem::replace(&mut self.decoder, None);
+        if fragment.len() > MAX_BLOCK {
+            return Err(TOO_LARGE);
         }
-        outcome
+        if end_headers {
+            return self.decode(decoder, stream, end_stream, fragment);
+        }
+        let bytes = Vec::from_slice(self.alloc, fragment)?;
+        self.unfinished = Some(Fragments {
+            stream,
+            end_stream,
+            continuations: 0,
+            bytes,
+        });
+        self.decoder = decoder;
+        Ok(None)
     }
 
     /// Takes a CONTINUATION frame of the unfinished block. Its fields are there where this has
@@ -117,62 +129,7 @@ impl HeaderBlocks {
             fragment.now) }
         ensures failed { OnErr result (self.new ≡ failed_state) }
     {
-        let outcome = self.go_on_with_block(end_headers, fragment);
-        if outcome.is_err() {
-            self.fail();
-        }
-        outcome
-    }
-
-    fn fail(&mut self)
-        ensures { self.new ≡ failed_state }
-    {
-        self.unfinished = None;
-        self.decoder = None;
-    }
-
-    fn begin_block(
-        &mut self,
-        stream: u32,
-        end_stream: bool,
-        end_headers: bool,
-        fragment: &[u8],
-    ) -> Result<Option<HeaderList>, H2Fault>
-        ensures given { Gives result (list_of_block self.old.table end_headers
-            (new_block stream end_stream fragment.now)) }
-        ensures kept { OnOk result (self.new
-            ≡ state_after_block self.old.table end_headers
-            (new_block stream end_stream fragment.now)) }
-    {
-        self.unfinished = None;
-        if fragment.len() > MAX_BLOCK {
-            return Err(TOO_LARGE);
-        }
-        if end_headers {
-            return self.decode(stream, end_stream, fragment);
-        }
-        let bytes = Vec::from_slice(self.alloc, fragment)?;
-        self.unfinished = Some(Fragments {
-            stream,
-            end_stream,
-            continuations: 0,
-            bytes,
-        });
-        Ok(None)
-    }
-
-    fn go_on_with_block(
-        &mut self,
-        end_headers: bool,
-        fragment: &[u8],
-    ) -> Result<Option<HeaderList>, H2Fault>
-        ensures given { Gives result (list_of_continuation self.old.table self.old.unfinished
-            end_headers
-            fragment.now) }
-        ensures kept { OnOk result (self.new
-            ≡ state_after_continuation self.old.table self.old.unfinished end_headers
-            fragment.now) }
-    {
+        let decoder = mem::replace(&mut self.decoder, None);
         let Some(mut block) = mem::replace(&mut self.unfinished, None) else {
             return Err(OUT_OF_PLACE);
         };
@@ -184,33 +141,40 @@ impl HeaderBlocks {
         block.bytes.extend_from_slice(fragment)?;
         block.continuations += 1;
         if end_headers {
-            return self.decode(block.stream, block.end_stream, &block.bytes);
+            return self.decode(decoder, block.stream, block.end_stream, &block.bytes);
         }
         self.unfinished = Some(block);
+        self.decoder = decoder;
         Ok(None)
     }
 
-    /// Decodes a whole block.
+    /// Decodes a whole block, and keeps the decoder where it can.
     fn decode(
         &mut self,
+        decoder: Option<Decoder>,
         stream: u32,
         end_stream: bool,
         bytes: &[u8],
     ) -> Result<Option<HeaderList>, H2Fault>
-        requires { self.old.unfinished ≡ None }
-        ensures given { Gives result (list_of stream end_stream (step self.old.table bytes.now).0) }
-        ensures kept { OnOk result (self.new
-            ≡ record { unfinished = None; table = (step self.old.table bytes.now).1 }) }
+        requires { self.old ≡ failed_state }
+        ensures given { Gives result (list_of stream end_stream
+            (step (table_shown decoder) bytes.now).0) }
+        ensures kept { OnOk result (self.new ≡ record
+            { unfinished = None; table = (step (table_shown decoder) bytes.now).1 }) }
+        ensures failed { OnErr result (self.new ≡ failed_state) }
     {
-        let Some(decoder) = &mut self.decoder else {
+        let Some(mut decoder) = decoder else {
             return Err(UNDECODABLE);
         };
         match decoder.block(bytes) {
-            Ok(fields) => Ok(Some(HeaderList {
-                stream,
-                end_stream,
-                fields,
-            })),
+            Ok(fields) => {
+                self.decoder = Some(decoder);
+                Ok(Some(HeaderList {
+                    stream,
+                    end_stream,
+                    fields,
+                }))
+            }
             Err(HpackError::NoMemory) => Err(H2Fault::NoMemory),
             Err(HpackError::ListTooLarge) => Err(TOO_LARGE),
             Err(_) => Err(UNDECODABLE),

@@ -18,5 +18,4 @@ after_answer (Err refused) output = with_fault OutOfMemory output
 abbrev pub HasPrinted : List ℕ → Output → Output → Type 0
 HasPrinted bytes old new =
     ((new.text.items ≡ old.text.items ++ bytes) × (new.fault ≡ old.fault))
-    ⊎ ((new.text.items ≡ old.text.items)
-    × (new.fault ≡ option_or old.fault (Some OutOfMemory)))
+    ⊎ ((new.text.items ≡ old.text.items) × (new.fault ≡ option_or old.fault (Some OutOfMemory)))

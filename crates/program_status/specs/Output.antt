@@ -1,5 +1,5 @@
 -- What a program's output holds.
-use Rattle.std.specs.Prelude.{◌≡◌, ◌⊎◌, ℕ, List, ◌++◌, Option, Some, Result, Ok, Err}
+use Rattle.std.specs.Prelude.{◌≡◌, ◌⊎◌, ℕ, List, ◌++◌, Some, Result, Ok, Err}
 use Rattle.std.specs.Option.{option_or}
 use Rattle.program_status.specs.declared.Fault.{Fault}
 use Rattle.program_status.specs.declared.Fault.TheVariants.{OutOfMemory}

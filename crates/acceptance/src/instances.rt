@@ -1,7 +1,6 @@
 //! The servers of cases, and the instances that cases configure themselves.
 
-use crate::output::Output;
-use program_status::Fault;
+use program_status::{Fault, Output};
 use server_core::Server;
 use server_events::{Configs, InstanceConfig};
 

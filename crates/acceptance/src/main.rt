@@ -14,12 +14,10 @@
 
 mod instances;
 mod limits;
-mod output;
 mod sockets;
 mod stored;
 
-use crate::output::Output;
-use program_status::{Status, read_all};
+use program_status::{Fault, Output, Status, read_all};
 use replay::replay;
 use script::lines;
 use std::process::ExitCode;
@@ -108,17 +106,17 @@ fn carry_out_all(rt: &HostRuntime, text: &[u8], output: &mut Output) {
     finish(rt, case, text, place, output);
 }
 
-fn run(rt: &HostRuntime) -> Status {
-    match read_all(rt.alloc(), &mut rt.stdin()) {
-        Ok(text) => {
-            let mut output = Output::new(rt.alloc());
-            carry_out_all(rt, &text, &mut output);
-            output.write_out(rt)
-        }
-        Err(fault) => fault.status(),
-    }
+fn run(rt: &HostRuntime) -> Result<(), Fault> {
+    let text = read_all(rt.alloc(), &mut rt.stdin())?;
+    let mut output = Output::new(rt.alloc());
+    carry_out_all(rt, &text, &mut output);
+    output.write_to(&mut rt.stdout())
 }
 
 fn main(rt: HostRuntime) -> ExitCode {
-    ExitCode::from(run(&rt).code())
+    let status = match run(&rt) {
+        Ok(()) => Status::Done,
+        Err(fault) => fault.status(),
+    };
+    ExitCode::from(status.code())
 }

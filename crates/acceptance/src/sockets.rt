@@ -9,12 +9,11 @@ mod fake;
 mod peers;
 
 use crate::instances::configs;
-use crate::output::Output;
 use crate::sockets::alone::{Outcome, judge};
 use crate::sockets::fake::{Client, Fake, Habits};
 use crate::sockets::peers::serve_peers;
 use hex::FromHexError;
-use program_status::{Fault, Status};
+use program_status::{Fault, Output, Status};
 use script::lines;
 use serve::{Sockets, serve};
 use server_events::Configs;

@@ -1,9 +1,7 @@
 //! How much a server holds.
 
 use crate::instances::server;
-use crate::output::Output;
-use program_status::{Fault, Status};
-use script::ScriptFault;
+use program_status::{Fault, Output, Status};
 use script::replay::{EventReader, parse};
 use server_core::Server;
 use server_events::{Configs, InstanceConfig};
@@ -56,7 +54,6 @@ fn configure(
 pub fn carry_out(text: &[u8], output: &mut Output) -> Status {
     match parse(output.alloc, text) {
         Ok(mut script) => configure(script.configs, &mut script.events, output),
-        Err(ScriptFault::BadLine(number)) => Status::BadLine(number),
-        Err(ScriptFault::NoMemory) => Status::OutOfMemory,
+        Err(fault) => Status::from(fault),
     }
 }

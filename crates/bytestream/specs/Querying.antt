@@ -33,7 +33,8 @@ status_of_upload None = Err UploadNotFound
 abbrev pub status_of : KeyValue → List Blob → UploadList →
     Result QueryWriteStatusResponseValue Refusal
 status_of key visible uploads =
-    if is_some (visible_text key.digest visible) then Ok (record { committed_size = pos key.digest.size; complete = true })
+    if is_some (visible_text key.digest visible)
+    then Ok (record { committed_size = pos key.digest.size; complete = true })
     else status_of_upload (upload_at key uploads)
 
 -- the reply's message

@@ -47,7 +47,12 @@ abbrev pub range_asked : ReadAsked → Option (List ℕ) → Result SourceValue 
 range_asked asked None = Err BlobNotFound
 range_asked asked (Some text) = do
   from ← place_of asked.offset (length text)
-  Ok (record { digest = asked.digest; text = text; from = from; until = until_of asked.limit from (length text) })
+  Ok (record {
+    digest = asked.digest;
+    text = text;
+    from = from;
+    until = until_of asked.limit from (length text);
+  })
 
 abbrev pub read_answer : List ℕ → List Blob → List ℕ → Result SourceValue Refusal
 read_answer own visible message =

@@ -54,7 +54,11 @@ first_asked own message = do
   _ ← instance_check own name.instance
   Ok (record {
     name = request.resource_name;
-    part = record { key = key_of_name name; piece = record { offset = request.write_offset; bytes = request.content }; is_last = request.finish_write };
+    part = record {
+      key = key_of_name name;
+      piece = record { offset = request.write_offset; bytes = request.content };
+      is_last = request.finish_write;
+    };
   })
 
 -- a later message names the same, byte by byte, or nothing
@@ -67,7 +71,11 @@ unfoldable pub next_asked : OpenWriteValue → List ℕ → Result PartValue Ref
 next_asked call message = do
   request ← message_or_refusal (value_of_text write_request_of message)
   _ ← same_name call.name request.resource_name
-  Ok (record { key = call.key; piece = record { offset = request.write_offset; bytes = request.content }; is_last = request.finish_write })
+  Ok (record {
+    key = call.key;
+    piece = record { offset = request.write_offset; bytes = request.content };
+    is_last = request.finish_write;
+  })
 
 -- what a piece is answered, in the first message of a call or a later one
 abbrev pub part_outcome : Bool → ℕ → PartValue → UploadList → Result Unit UploadError
@@ -76,12 +84,14 @@ part_outcome first quota part uploads = call_answer first quota part.key part.pi
 -- whether an upload whose piece was taken is complete
 abbrev pub end_answer : PartValue → UploadList → Result Bool Refusal
 end_answer part uploads =
-    if part.is_last then (upload_meaning (finish_answer part.key uploads) >>= λ _. Ok true) else Ok false
+    if part.is_last then (upload_meaning (finish_answer part.key uploads) >>= λ _. Ok true)
+    else Ok false
 
 -- whether a part completes its upload, or its refusal
 abbrev pub part_answer : Bool → ℕ → ℕ → PartValue → UploadList → Result Bool Refusal
 part_answer first quota moment part uploads =
-    upload_meaning (part_outcome first quota part uploads) >>= λ _. end_answer part (after_piece moment part.key part.piece (Ok tt) uploads)
+    upload_meaning (part_outcome first quota part uploads)
+    >>= λ _. end_answer part (after_piece moment part.key part.piece (Ok tt) uploads)
 
 -- a text that its digest names is admitted; the upload is forgotten
 abbrev pub after_last_part : ℕ → ℕ → KeyValue → Result Unit UploadError → WriteState → WriteState
@@ -144,7 +154,8 @@ first_answer own quota moment s message =
 -- and it is used
 abbrev pub after_first_part : ℕ → ℕ → ℕ → FirstAsked → WriteState → WriteState
 after_first_part limit quota moment asked s =
-    if is_some (visible_text asked.part.key.digest s.visible) then record s { visible = visible_after_use asked.part.key.digest s.visible }
+    if is_some (visible_text asked.part.key.digest s.visible)
+    then record s { visible = visible_after_use asked.part.key.digest s.visible }
     else after_part true limit quota moment asked.part s
 
 abbrev pub after_first_asked : ℕ → ℕ → ℕ → Result FirstAsked Refusal → WriteState → WriteState

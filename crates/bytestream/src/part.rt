@@ -9,7 +9,7 @@ ghost use Rattle.uploads.specs.Uploads.{WithinLimits, upload_at};
 ghost use Rattle.bytestream.specs.Refusals.{upload_error};
 ghost use Rattle.bytestream.specs.Writing.{state_of, end_answer, part_answer, after_end, after_part, IsOldOrTaken};
 ghost use Rattle.bytestream.specs.Shown.{part_shown};
-ghost use Rattle.quota_evict.specs.Kept.{quota_limit};
+ghost use Rattle.quota_evict.specs.Kept.{most_stored_bytes};
 
 use blob_pool::Pool;
 use cas_service::CallError;
@@ -47,7 +47,7 @@ fn finish_last(
     uploads: &mut Uploads,
     part: &Part<'_>,
 ) -> Result<bool, CallError>
-    requires quota { quota ≤ quota_limit }
+    requires quota { quota ≤ most_stored_bytes }
     requires kept { AreKept quota pool.old view.old }
     requires within { WithinLimits quota uploads.old }
     requires there { IsSome (upload_at (part_shown part.now).key uploads.old) }
@@ -87,7 +87,7 @@ pub(crate) fn take_part(
     uploads: &mut Uploads,
     part: &Part<'_>,
 ) -> Result<bool, CallError>
-    requires quota { quota ≤ quota_limit }
+    requires quota { quota ≤ most_stored_bytes }
     requires kept { AreKept quota pool.old view.old }
     requires within { WithinLimits quota uploads.old }
     ensures answer { Answers (λ complete. complete) result

@@ -10,7 +10,7 @@ ghost use Rattle.uploads.specs.Shown.{key_shown};
 ghost use Rattle.bytestream.specs.Writing as writing;
 ghost use Rattle.bytestream.specs.Writing.{state_of, same_name, write_reply, unfinished_reply, first_answer, next_answer, after_first, after_next, IsFirstOldOrTaken, IsNextOldOrTaken};
 ghost use Rattle.bytestream.specs.Shown.{part_shown, first_part_shown, open_write_shown, written_shown, IfGoes};
-ghost use Rattle.quota_evict.specs.Kept.{quota_limit};
+ghost use Rattle.quota_evict.specs.Kept.{most_stored_bytes};
 ghost use Rattle.resource_names.specs.declared.parse.TheConstants.{MOST_UUID};
 
 use crate::names::write_name;
@@ -148,7 +148,7 @@ pub fn write_first(
     uploads: &mut Uploads,
     message: &[u8],
 ) -> Result<Written, CallError>
-    requires quota { quota ≤ quota_limit }
+    requires quota { quota ≤ most_stored_bytes }
     requires kept { AreKept quota pool.old view.old }
     requires within { WithinLimits quota uploads.old }
     ensures answer { Answers written_shown result
@@ -202,7 +202,7 @@ pub fn write_next(
     call: &OpenWrite,
     message: &[u8],
 ) -> Result<Option<Vec<u8>>, CallError>
-    requires quota { quota ≤ quota_limit }
+    requires quota { quota ≤ most_stored_bytes }
     requires named { (open_write_shown call.now).key.digest.size < 2 ^ 63 }
     requires kept { AreKept quota pool.old view.old }
     requires within { WithinLimits quota uploads.old }

@@ -1,3 +1,5 @@
+//! Cases of resource names, and what each is read as.
+
 use digest::Digest;
 use resource_names::{NameError, parse_read, parse_write};
 

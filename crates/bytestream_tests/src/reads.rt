@@ -1,3 +1,5 @@
+//! Cases of `Read`, and the range or the refusal that each brings.
+
 ghost use Rattle.std.specs.Prelude.{◌≡◌, ◌≤◌, ◌^◌, ℕ, IfOk};
 ghost use Rattle.blob_pool.specs.Slots.{count_at};
 ghost use Rattle.instance_view.specs.Shown.{holders_seen};

@@ -1,3 +1,5 @@
+//! The tables of cases, and the tests that go through them.
+
 use crate::names::{Meaning, NameCase, Named, misread};
 use crate::reads::{Range, ReadCase, misread_range, reads_over_two_pages};
 use crate::uploads_kept::{forgets_after_ten_minutes, keeps_sixty_four};

@@ -1,3 +1,5 @@
+//! How long an upload is kept, and how many there may be.
+
 ghost use Rattle.std.specs.Prelude.{◌≡◌};
 ghost use Rattle.uploads.specs.Uploads.{WithinLimits};
 

@@ -1,3 +1,5 @@
+//! Cases of `Write`, message by message, and what each is answered.
+
 ghost use Rattle.std.specs.Prelude.{◌≡◌, ◌≤◌, ◌<◌, ◌^◌};
 ghost use Rattle.quota_evict.specs.Kept.{AreKept};
 ghost use Rattle.uploads.specs.Uploads.{WithinLimits};

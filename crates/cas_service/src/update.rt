@@ -17,7 +17,7 @@ ghost use Rattle.cas_service.specs.Requests.{batch_size_check};
 ghost use Rattle.cas_service.specs.Statuses.{status_of_result};
 ghost use Rattle.cas_service.specs.BatchUpdate.{blobs_sent, sent_size, compressor_check, digest_or_refusal, naming_check, quota_check, storage_digest, update_response, update_reply, batch_update_reply, store_of, stores, batch_update_changes};
 ghost use Rattle.cas_service.specs.Shown.{judged_request, verdict};
-ghost use Rattle.quota_evict.specs.Kept.{quota_limit};
+ghost use Rattle.quota_evict.specs.Kept.{most_stored_bytes};
 
 use crate::error::CallError;
 use crate::requests::{MOST_BATCH_BYTES, check_function, check_instance, read_digest};
@@ -208,7 +208,7 @@ fn store(
     digest: &Digest,
     bytes: &[u8],
 ) -> Result<(), AllocError>
-    requires quota { quota ≤ quota_limit }
+    requires quota { quota ≤ most_stored_bytes }
     requires kept { AreKept quota pool.old view.old }
     requires named { Names digest.now bytes.now }
     requires fits { length bytes.now ≤ quota }
@@ -234,7 +234,7 @@ fn store_judged(
     quota: u64,
     judged: &Judged<'_>,
 ) -> Result<(), AllocError>
-    requires quota { quota ≤ quota_limit }
+    requires quota { quota ≤ most_stored_bytes }
     requires kept { AreKept quota pool.old view.old }
     requires verdict { judged.now.verdict ≡ storage_digest quota (judged_request judged.now) }
     ensures ok { OnOk result (visible_in pool.new view.new
@@ -259,7 +259,7 @@ fn store_all(
     quota: u64,
     judged: &[Judged<'_>],
 ) -> Result<(), AllocError>
-    requires quota { quota ≤ quota_limit }
+    requires quota { quota ≤ most_stored_bytes }
     requires kept { AreKept quota pool.old view.old }
     requires verdicts { map verdict judged.now
         ≡ map (storage_digest quota) (map judged_request judged.now) }
@@ -292,7 +292,7 @@ pub fn batch_update(
     pool: &mut Pool,
     message: &[u8],
 ) -> Result<Vec<u8>, CallError>
-    requires quota { quota ≤ quota_limit }
+    requires quota { quota ≤ most_stored_bytes }
     requires kept { AreKept quota pool.old view.old }
     ensures reply { Answers (λ reply. reply.items) result
         (batch_update_reply own.now quota message.now) }

@@ -1,42 +1,48 @@
 -- What is read from the matches of a command line.
-use Rattle.std.proofs.Common.{◌≡◌, ◌∙◌, ◌^◌, ◌&&◌, ap, sym, refl, ℕ, Bool, List, [], ◌∷◌, length, true, false, Option, Some, None, Result, Ok, Err}
+use Rattle.std.proofs.Common.{◌≡◌, ◌∙◌, ◌^◌, ◌<◌, ◌==◌, ◌&&◌, not, arith, ap, sym, refl, ℕ, Bool, List, [], ◌∷◌, length, true, false, Option, Some, None, Result, Ok, Err}
 use Rattle.std.specs.Prelude.{nat_lt, option_and_then}
 use Rattle.std.specs.Char.{digit_value}
 use Rattle.std.specs.List.{list_all}
 use Rattle.std.specs.Result.{result_ok}
-use Rattle.std.specs.Str.Parse.{AllDigits, ParsesUnsigned, digits_value, without_leading_plus}
+use Rattle.std.specs.Str.Parse.{AllDigits, ParsesUnsigned, without_leading_plus}
 use Rattle.std.proofs.lemmas.Bool.{lt-ltb, ltb-true}
+use Rattle.std.proofs.lemmas.Bool.Decides.{nat_tests}
+use Rattle.decimals.specs.Number.{decimal_value, is_decimal, is_decimal_digit}
+use Rattle.decimals.proofs.NumberLemmas.{AllDigits-from_list_all}
 use Rattle.clap.specs.Words.{App, Text, is_simple, one_text, rows_of, subcommand_of, subcommand_rows_of, HasMatchesOf}
 use Rattle.clap.specs.Matches.{ReadsOne}
 use Rattle.clap.proofs.WalkLemmas.{both, one_text-rows}
 use Rattle.clap.specs.declared.parser.matches.ArgMatches.{ArgMatches}
 use Rattle.clap.specs.declared.parser.matches.Found.{Found}
-use Rattle.command_line.specs.CommandLine.{command_line, is_decimal, number_below, number_of, task_of}
+use Rattle.command_line.specs.CommandLine.{command_line, number_below, number_of, task_of}
 use Rattle.command_line.specs.Shown.{task_asked}
 
-digits_pass : (digits : List ℕ) → AllDigits 10 digits → list_all (λ digit. nat_lt (digit_value digit) 10) digits ≡ true
-digits_pass [] all = refl
-digits_pass (digit ∷ digits) all = rw (lt-ltb (digit_value digit) 10 all.0) (digits_pass digits all.1)
+digit_passes : (digit : ℕ) → digit_value digit < 10 → is_decimal_digit digit ≡ true
+digit_passes digit below = grind (arith, nat_tests)
 
-digits_from : (digits : List ℕ) → list_all (λ digit. nat_lt (digit_value digit) 10) digits ≡ true → AllDigits 10 digits
-digits_from [] pass = tt
-digits_from (digit ∷ digits) pass =
-    let parts = both _ _ pass in
-    (ltb-true _ _ parts.0, digits_from digits parts.1)
+digits_pass : (digits : List ℕ) → AllDigits 10 digits → list_all is_decimal_digit digits ≡ true
+digits_pass [] all = refl
+digits_pass (digit ∷ digits) all = rw (digit_passes digit all.0) (digits_pass digits all.1)
+
+some_pass : (digits : List ℕ) → 0 < length digits → not (length digits == 0) ≡ true
+some_pass digits some = grind (arith, nat_tests)
+
+some_from : (digits : List ℕ) → not (length digits == 0) ≡ true → 0 < length digits
+some_from digits pass = grind (arith, nat_tests)
 
 -- what is parsed is the number that the text writes
 number_parsed : {E : Type 0} (bits : ℕ) (text : List ℕ) (r : Result ℕ E) → ParsesUnsigned bits 10 text r → result_ok r ≡ number_below (2 ^ bits) text
 number_parsed bits text (Ok n) parsed =
     let digits = without_leading_plus text in
-    rw (lt-ltb 0 (length digits) parsed.0.0.0, digits_pass digits parsed.0.0.1, lt-ltb (digits_value 10 digits) (2 ^ bits) parsed.0.1) (ap (λ (x : ℕ). Some x) parsed.1)
-number_parsed bits text (Err e) parsed = go (is_decimal (without_leading_plus text) && nat_lt (digits_value 10 (without_leading_plus text)) (2 ^ bits)) refl
+    rw (some_pass digits parsed.0.0.0, digits_pass digits parsed.0.0.1, lt-ltb (decimal_value digits) (2 ^ bits) parsed.0.1) (ap (λ (x : ℕ). Some x) parsed.1)
+number_parsed bits text (Err e) parsed = go (is_decimal (without_leading_plus text) && nat_lt (decimal_value (without_leading_plus text)) (2 ^ bits)) refl
   where
-    go : (b : Bool) → (is_decimal (without_leading_plus text) && nat_lt (digits_value 10 (without_leading_plus text)) (2 ^ bits)) ≡ b → None ≡ number_below (2 ^ bits) text
+    go : (b : Bool) → (is_decimal (without_leading_plus text) && nat_lt (decimal_value (without_leading_plus text)) (2 ^ bits)) ≡ b → None ≡ number_below (2 ^ bits) text
     go false test = rw test refl
     go true test =
         let outer = both _ _ test in
         let inner = both _ _ outer.0 in
-        absurd (parsed ((ltb-true _ _ inner.0, digits_from (without_leading_plus text) inner.1), ltb-true _ _ outer.1))
+        absurd (parsed ((some_from _ inner.0, AllDigits-from_list_all (without_leading_plus text) inner.1), ltb-true _ _ outer.1))
 
 -- what `get_one` gives is the number of the text that it reads
 pub number_given : (E : Type 0) (G : List ℕ → Result ℕ E → Type 0) (f : Found) (name : Text) (r : Option ℕ)

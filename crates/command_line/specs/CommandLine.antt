@@ -1,9 +1,8 @@
 -- The command line as `clap` reads it, and what its words ask for.
-use Rattle.std.specs.Prelude.{ℕ, pos, true, Bool, ◌&&◌, ◌^◌, nat_lt, List, [], ◌∷◌, length, Option, Some, None, codes, if◌then◌else◌, option_map, option_and_then}
-use Rattle.std.specs.Char.{digit_value}
-use Rattle.std.specs.List.{list_all}
+use Rattle.std.specs.Prelude.{ℕ, pos, true, ◌&&◌, ◌^◌, nat_lt, List, [], ◌∷◌, Option, Some, None, codes, if◌then◌else◌, option_map, option_and_then}
 use Rattle.std.specs.Str.{bytes_eq}
-use Rattle.std.specs.Str.Parse.{digits_value, without_leading_plus}
+use Rattle.std.specs.Str.Parse.{without_leading_plus}
+use Rattle.decimals.specs.Number.{decimal_value, is_decimal}
 use Rattle.clap.specs.Words.{App, Row, Rule, Shape, Text, all_of, first_of, new_app, new_rule, one_of, with_rule, with_subcommand}
 use Rattle.clap.specs.declared.builder.action.ArgAction.TheVariants.{Append, Set}
 use Rattle.clap.specs.declared.builder.value_parser.ValueParser.{ValueParser}
@@ -87,17 +86,12 @@ pub data TaskValue : Type 0 where
   -- to send a file's bytes to a port, and to wait for so many, for so many turns
   probe : (port : ℕ) (send : Text) (want turns : ℕ) → TaskValue
 
--- one decimal digit or more, and nothing else
-abbrev pub is_decimal : Text → Bool
-is_decimal digits =
-    nat_lt 0 (length digits) && list_all (λ digit. nat_lt (digit_value digit) 10) digits
-
 -- the number below a bound that a text writes in decimal, with a plus sign or none
 abbrev pub number_below : ℕ → Text → Option ℕ
 number_below bound text =
     let digits = without_leading_plus text in
-    if is_decimal digits && nat_lt (digits_value 10 digits) bound
-    then Some (digits_value 10 digits) else None
+    if is_decimal digits && nat_lt (decimal_value digits) bound
+    then Some (decimal_value digits) else None
 
 -- the number below 2^64 that was given under a name
 abbrev pub number_of : Text → List Row → Option ℕ

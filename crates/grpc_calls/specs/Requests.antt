@@ -53,5 +53,6 @@ method_or_fault (Some m) = Ok m
 abbrev pub head_of : List Header → Result Method HeadFault
 head_of hs =
     if is_value (codes "POST") (value_of (codes ":method") hs) then
-    (if list_any is_grpc_type hs then method_or_fault (method_for (value_of (codes ":path") hs)) else Err BadContentType)
+    (if list_any is_grpc_type hs then method_or_fault (method_for (value_of (codes ":path") hs))
+    else Err BadContentType)
     else Err BadMethod

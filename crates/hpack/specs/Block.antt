@@ -34,7 +34,8 @@ AreFields bytes table (h ∷ hs) after =
 
 -- a block is size updates and then header fields: it gives the fields hs, and turns the one table
 -- into the other
-pub record IsBlock (bytes : List ℕ) (table : Table) (hs : List Header) (after : Table) : Type 0 where
+pub record IsBlock (bytes : List ℕ) (table : Table) (hs : List Header)
+    (after : Table) : Type 0 where
   pub updates : List ℕ
   pub maxima : List ℕ
   pub fields : List ℕ
@@ -59,7 +60,9 @@ update_at (b ∷ bs) =
 unfoldable pub updates_in : ℕ → Table → List ℕ → Result (Table × List ℕ) HpackError
 updates_in zero table bytes = Ok (table, bytes)
 updates_in (suc more) table bytes =
-    if begins_update bytes then (update_at bytes >>= λ m. updates_in more (table_after_resize m.0 table) m.1) else Ok (table, bytes)
+    if begins_update bytes
+    then (update_at bytes >>= λ m. updates_in more (table_after_resize m.0 table) m.1)
+    else Ok (table, bytes)
 
 -- the fields, of which there are at most so many as octets and whose sizes together are no more
 -- than the room, and the table after them

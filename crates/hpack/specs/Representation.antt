@@ -64,7 +64,9 @@ entry_or_fault None = Err Index
 
 unfoldable pub name_at : Table → ℕ → ℕ → List ℕ → Result (List ℕ × List ℕ) HpackError
 name_at table full prefix bytes =
-    integer_at full prefix bytes >>= λ i. if i.0 == 0 then string_at i.1 else (entry_or_fault (header_at table i.0) >>= λ entry. Ok (entry.name, i.1))
+    integer_at full prefix bytes >>= λ i.
+    if i.0 == 0 then string_at i.1
+    else (entry_or_fault (header_at table i.0) >>= λ entry. Ok (entry.name, i.1))
 
 unfoldable pub literal_at : Table → ℕ → ℕ → List ℕ → Result (Header × List ℕ) HpackError
 literal_at table full prefix bytes = do
@@ -85,5 +87,6 @@ field_at table (b ∷ bs) =
     if nat_lt b 16 then (literal_at table 15 b bs >>= λ x. Ok (x.0, table, x.1))
     else (if nat_lt b 32 then (literal_at table 15 (b - 16) bs >>= λ x. Ok (x.0, table, x.1))
     else (if nat_lt b 64 then (integer_at 31 (b - 32) bs >>= λ x. Err SizeUpdate)
-    else (if nat_lt b 128 then (literal_at table 63 (b - 64) bs >>= λ x. Ok (x.0, table_after_insertion x.0 table, x.1))
+    else (if nat_lt b 128
+    then (literal_at table 63 (b - 64) bs >>= λ x. Ok (x.0, table_after_insertion x.0 table, x.1))
     else (indexed_at table (b - 128) bs >>= λ x. Ok (x.0, table, x.1)))))

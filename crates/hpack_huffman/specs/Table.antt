@@ -16,7 +16,10 @@ count_to c start = (c.limit - start) / 2 ^ (30 - c.length)
 
 -- the symbol in a place has the code that stands for the place
 unfoldable pub entry_ok : Codes → ℕ → Bool
-entry_ok c more = nat_lt (c.place + more) 256 && (code_length (slice_index SYMBOLS (c.place + more)) == c.length && code_value (slice_index SYMBOLS (c.place + more)) == c.first + more)
+entry_ok c more =
+    nat_lt (c.place + more) 256
+    && (code_length (slice_index SYMBOLS (c.place + more)) == c.length
+    && code_value (slice_index SYMBOLS (c.place + more)) == c.first + more)
 
 unfoldable pub row_ok : ℕ → Codes → Bool
 row_ok start c = (nat_le c.length 30 && c.first * 2 ^ (30 - c.length) == start)

@@ -1,3 +1,5 @@
+//! A flow-control window (RFC 9113 section 6.9): what may still be sent.
+
 ghost use Rattle.std.specs.Prelude.{◌≡◌, ◌≢◌, ◌↔◌, ◌⊎◌, ◌<◌, ◌^◌, ℕ, ℤ, pos, ◌+ℤ◌, ◌-ℤ◌, ◌<ℤ◌, ◌≤ℤ◌, IsOk, OnOk, OnErr, IsErrOf, IsTrue};
 ghost use Rattle.http2_flow.specs.Credit.{Credit, window_left};
 

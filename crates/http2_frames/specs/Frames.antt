@@ -59,7 +59,8 @@ is_overpadded f = may_be_padded f && nat_lt (length f.payload - lead_length f) (
 abbrev pub content_of : RawFrame → Frame
 content_of f =
     if f.kind == DATA then Data f.stream (has_flag f END_STREAM) (unpadded_content f)
-    else if f.kind == HEADERS then Headers f.stream (has_flag f END_STREAM) (has_flag f END_HEADERS) (unpadded_content f)
+    else if f.kind == HEADERS
+    then Headers f.stream (has_flag f END_STREAM) (has_flag f END_HEADERS) (unpadded_content f)
     else if f.kind == PRIORITY then Priority f.stream f.payload
     else if f.kind == RST_STREAM then RstStream f.stream (big_number 4 f.payload)
     else if f.kind == SETTINGS then Settings (has_flag f ACK) (settings_of f.payload)

@@ -38,7 +38,8 @@ StandsFor preface reader text given =
 -- the preface has come, and the bytes at the front are a whole frame
 abbrev pub HasFrame : Result Unread FrameError → Type 0
 HasFrame (Ok u) =
-    (u.preface ≡ []) × (big_number 3 u.text ≤ MAX_FRAME_SIZE) × (9 + big_number 3 u.text ≤ length u.text)
+    (u.preface ≡ []) × (big_number 3 u.text ≤ MAX_FRAME_SIZE)
+    × (9 + big_number 3 u.text ≤ length u.text)
 HasFrame (Err e) = ⊥
 
 -- that frame

@@ -70,7 +70,8 @@ IsStream s = (0 < s) × (s < 2 ^ 31)
 -- a frame that keeps the rules of its type
 abbrev pub IsWritable : Frame → Type 0
 IsWritable (Data s end_stream bytes) = IsStream s × (length bytes ≤ MAX_FRAME_SIZE)
-IsWritable (Headers s end_stream end_headers fragment) = IsStream s × (length fragment ≤ MAX_FRAME_SIZE)
+IsWritable (Headers s end_stream end_headers fragment) =
+    IsStream s × (length fragment ≤ MAX_FRAME_SIZE)
 IsWritable (Priority s priority) = IsStream s × (length priority ≡ 5)
 IsWritable (RstStream s error_code) = IsStream s × (error_code < 2 ^ 32)
 IsWritable (Settings ack settings) =

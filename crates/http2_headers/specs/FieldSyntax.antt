@@ -46,7 +46,8 @@ is_request_pseudo name =
 -- it concerns one connection of HTTP/1.1 (section 8.2.2)
 abbrev pub is_connection_specific : List ℕ → Bool
 is_connection_specific name =
-    is_text name (codes "connection") || is_text name (codes "proxy-connection") || is_text name (codes "keep-alive")
+    is_text name (codes "connection")
+    || is_text name (codes "proxy-connection") || is_text name (codes "keep-alive")
     || is_text name (codes "transfer-encoding") || is_text name (codes "upgrade")
 
 -- `te` may only be `trailers` (section 8.2.2)

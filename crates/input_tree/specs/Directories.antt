@@ -59,8 +59,8 @@ valid_directory (Err e) = None
 -- the directory that a text spells, where it has at most MOST_DIRECTORY_BYTES
 abbrev pub directory_in : List ℕ → Option DirectoryValue
 directory_in text =
-    if nat_le (length text) MOST_DIRECTORY_BYTES then valid_directory (value_of_text directory_of text)
-    else None
+    if nat_le (length text) MOST_DIRECTORY_BYTES
+    then valid_directory (value_of_text directory_of text) else None
 
 abbrev pub child_digest : DirectoryNodeValue → Option Digest
 child_digest n = written_digest n.digest

@@ -11,7 +11,7 @@ use Rattle.tree_calls.specs.Complete.{AreWithin}
 use Rattle.instance_core.specs.State.{most_blobs}
 use Rattle.instance_core.specs.declared.contents.Settings.{Settings}
 use Rattle.instance_core.specs.declared.contents.Contents.{Contents}
-use Rattle.quota_evict.specs.Kept.{quota_limit}
+use Rattle.quota_evict.specs.Kept.{most_stored_bytes}
 
 -- contents whose texts stand in a pool are within the limits of an instance that is configured so
 pub record AreContentsWithin (settings : Settings) (p : Slots) (c : Contents) : Type 0 where
@@ -22,7 +22,7 @@ pub record AreContentsWithin (settings : Settings) (p : Slots) (c : Contents) : 
 
 -- they are within these limits, and the pool counts their texts' slots among what it holds
 pub record AreContentsKept (settings : Settings) (p : Slots) (c : Contents) : Type 0 where
-  pub quota : settings.quota ≤ quota_limit
+  pub quota : settings.quota ≤ most_stored_bytes
   pub limit : c.view.limit ≡ most_blobs
   pub kept : AreKept settings.quota p c.view
   pub uploads : WithinLimits settings.quota c.uploads

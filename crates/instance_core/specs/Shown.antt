@@ -104,7 +104,8 @@ abbrev pub state_of : Settings → ℕ → Slots → Contents → Calls → Inst
 state_of settings moment p contents calls = state_in p (slots_of settings moment contents calls)
 
 -- the changes are made, and for want of memory a front of them
-pub record Makes (result : CallResult) (changes : List Change) (old new : InstanceState) : Type 0 where
+pub record Makes (result : CallResult) (changes : List Change)
+    (old new : InstanceState) : Type 0 where
   pub whole : OnOk result (new ≡ state_after_changes changes old)
   pub memory : OnErr result (MadeInPart changes old new)
 

@@ -9,7 +9,7 @@ use Rattle.quota_evict.specs.Within.{Within}
 use Rattle.uploads.specs.Uploads.{UploadList, WithinLimits as WithinUploads}
 use Rattle.tree_calls.specs.Complete.{AreWithin}
 use Rattle.instance_core.specs.Calls.{Calls, same_call, KeepShort}
-use Rattle.quota_evict.specs.Kept.{quota_limit}
+use Rattle.quota_evict.specs.Kept.{most_stored_bytes}
 pub use Rattle.quota_evict.specs.Kept.{most_blobs}
 
 pub record InstanceState : Type 0 where
@@ -40,7 +40,7 @@ at_moment moment s = record s { moment = moment }
 
 -- the limits that an instance keeps
 pub record WithinLimits (s : InstanceState) : Type 0 where
-  pub quota : s.quota ≤ quota_limit
+  pub quota : s.quota ≤ most_stored_bytes
   pub texts : Within most_blobs s.quota s.visible
   pub uploads : WithinUploads s.quota s.uploads
   pub results : AreWithin s.results

@@ -10,7 +10,7 @@ ghost use Rattle.instance_core.specs.Changes.{MadeInPart};
 ghost use Rattle.instance_core.specs.Answer.{answer, state_after};
 ghost use Rattle.instance_core.specs.Shown.{Gives, GivesShort, event_shown};
 ghost use Rattle.instance_core.specs.Given.{holders_given};
-ghost use Rattle.quota_evict.specs.Kept.{quota_limit};
+ghost use Rattle.quota_evict.specs.Kept.{most_stored_bytes};
 
 use crate::answers::{on_end, on_fault, on_head, on_message};
 use crate::calls::Calls;
@@ -36,7 +36,7 @@ pub struct Instance {
 
 impl Model for Instance {
     ghost use Rattle.std.specs.Prelude.{◌≡◌, ◌≤◌, ◌^◌};
-    ghost use Rattle.quota_evict.specs.Kept.{most_blobs, quota_limit};
+    ghost use Rattle.quota_evict.specs.Kept.{most_blobs, most_stored_bytes};
     ghost use Rattle.instance_core.specs.Slots.{InstanceSlots};
 
     ghost Value = { InstanceSlots };
@@ -46,7 +46,7 @@ impl Model for Instance {
 
     ghost view = { λ i. slots_of i.settings i.moment i.contents i.calls };
 
-    ghost invariant = { λ i. (i.settings.quota ≤ quota_limit)
+    ghost invariant = { λ i. (i.settings.quota ≤ most_stored_bytes)
         × (i.contents.view.limit ≡ most_blobs) × AreInCourse i.calls };
 }
 
@@ -54,7 +54,7 @@ impl Instance {
     /// An instance of at most 2^40 bytes that has no texts, no uploads, no results and no calls
     /// yet.
     pub fn new(alloc: Global, name: &str, quota: u64, slots: u32) -> Result<Instance, AllocError>
-        requires { quota ≤ quota_limit }
+        requires { quota ≤ most_stored_bytes }
         ensures opened { (p : Slots) →
             IfOk result (λ instance. state_in p instance ≡ new_instance name.now quota slots) }
         ensures within { (p : Slots) →

@@ -1,6 +1,8 @@
-//! How a run of the program ends: its status and the line that says why; and the reading of a whole
-//! input or file.
+//! How a run of the program ends: its status and the line that says why; the reading of a whole
+//! input or file; and what a program writes, with the first failure of any.
 #![tactic(auto)]
+
+mod output;
 
 ghost use Rattle.std.specs.Prelude.{◌≡◌, ◌≢◌, ◌⊎◌, OnOk, IfOk, IsSome, IfSome, Ok, None};
 ghost use Rattle.std.specs.IoError.{error_kind};
@@ -8,6 +10,7 @@ ghost use Rattle.std.specs.Io.KnownBytes.{Appends};
 ghost use Rattle.program_status.specs.Status.{code_of, fault_line, status_of, status_of_fault, status_of_script_fault, unread_line};
 ghost use Rattle.program_status.specs.declared.Status.TheVariants.{Failed};
 
+pub use crate::output::Output;
 use script::ScriptFault;
 use std::alloc::{AllocError, Global};
 use std::fs;

@@ -1,3 +1,5 @@
+//! The tests, by the crates that they try.
+
 mod cases;
 mod command_line_tests;
 mod digest_tests;

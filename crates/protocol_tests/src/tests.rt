@@ -1,3 +1,5 @@
+//! The tests, by the crates that they try.
+
 mod conn_core_tests;
 mod grpc_sending_tests;
 mod http2_headers_tests;

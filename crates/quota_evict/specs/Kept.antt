@@ -11,11 +11,11 @@ pub record AreKept (quota : ℕ) (p : Slots) (v : ViewValue) : Type 0 where
   pub held : AreHeld p (holders v)
   pub within : Within v.limit quota (visible_in p v)
 
--- with no larger quota, in bytes, are sums of lengths taken; a configuration gives no more
--- (`quota_limit` of server_events)
-abbrev pub quota_limit : ℕ
-quota_limit = 2 ^ 40
-
 -- an instance has so many texts at most
 abbrev pub most_blobs : ℕ
 most_blobs = 65536
+
+-- and so many bytes of them: no quota is larger, so that sums of their lengths fit in 64 bits
+-- (`quota_limit` of server_events, the most that a configuration may give, is the same number)
+abbrev pub most_stored_bytes : ℕ
+most_stored_bytes = 2 ^ 40

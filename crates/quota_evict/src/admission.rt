@@ -13,7 +13,7 @@ ghost use Rattle.quota_evict.specs.Admission.{visible_after_admission, longest_f
 ghost use Rattle.quota_evict.specs.Within.{Within};
 ghost use Rattle.quota_evict.specs.Kept.{AreKept};
 ghost use Rattle.quota_evict.specs.declared.admission.AdmitError.TheVariants.{TooLarge, NoMemory};
-ghost use Rattle.quota_evict.specs.Kept.{quota_limit};
+ghost use Rattle.quota_evict.specs.Kept.{most_stored_bytes};
 
 use blob_pool::{Draft, Pool};
 use digest::Digest;
@@ -78,7 +78,7 @@ fn store(
     digest: &Digest,
     draft: Draft,
 ) -> Result<(), Draft>
-    requires quota { quota ≤ quota_limit }
+    requires quota { quota ≤ most_stored_bytes }
     requires kept { AreKept quota pool.old view.old }
     requires named { Names digest.now draft.text }
     requires absent { (p : Slots) → visible_text digest.now (visible_in p view.old) ≡ None }
@@ -108,7 +108,7 @@ pub fn admit_draft(
     digest: &Digest,
     draft: Draft,
 ) -> Result<(), (AdmitError, Draft)>
-    requires quota { quota ≤ quota_limit }
+    requires quota { quota ≤ most_stored_bytes }
     requires kept { AreKept quota pool.old view.old }
     requires named { Names digest.now draft.text }
     ensures ok { OnOk result (visible_in pool.new view.new
@@ -146,7 +146,7 @@ pub fn admit(
     digest: &Digest,
     bytes: &[u8],
 ) -> Result<(), AdmitError>
-    requires quota { quota ≤ quota_limit }
+    requires quota { quota ≤ most_stored_bytes }
     requires kept { AreKept quota pool.old view.old }
     requires named { Names digest.now bytes.now }
     ensures ok { OnOk result (visible_in pool.new view.new

@@ -68,7 +68,12 @@ write_request_shown m = record {
 unfoldable pub write_request_of : List Record → Result WriteRequestValue MessageError
 write_request_of rs = do
   resource_name ← string 1 rs
-  Ok (record { resource_name = resource_name; write_offset = int64 2 rs; finish_write = flag 3 rs; content = octets 10 rs })
+  Ok (record {
+    resource_name = resource_name;
+    write_offset = int64 2 rs;
+    finish_write = flag 3 rs;
+    content = octets 10 rs;
+  })
 
 abbrev pub write_request_records : WriteRequestValue → List Record
 write_request_records v =

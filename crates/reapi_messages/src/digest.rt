@@ -1,3 +1,5 @@
+//! Digest, as messages carry it (remote_execution.proto).
+
 ghost use Rattle.std.specs.Prelude.{◌≡◌};
 
 use message_fields::{Field, Message, MessageError, Writer, int64, put_int64, put_string, string};

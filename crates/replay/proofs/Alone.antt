@@ -1,5 +1,5 @@
 -- What the outputs of a run print is what each instance prints alone.
-use Rattle.std.proofs.Common.{◌≡◌, ◌∙◌, ◌+◌, ◌<◌, ◌++◌, zero, suc, ℕ, List, [], ◌∷◌, length, map, Some, None, refl, sym, ap, ap₂, subst, arith, append_assoc}
+use Rattle.std.proofs.Common.{◌≡◌, ◌∙◌, ◌+◌, ◌<◌, ◌++◌, suc, ℕ, List, [], ◌∷◌, length, map, Some, None, refl, sym, ap, ap₂, arith, append_assoc}
 use Rattle.std.specs.Prelude.{◌^◌, Result, Ok, Err, IfOk}
 use Rattle.std.specs.declared.alloc.Global.{Global}
 use Rattle.std.specs.declared.vec.Vec.{Vec}

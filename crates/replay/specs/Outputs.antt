@@ -1,5 +1,5 @@
 -- What outputs print. For the code alone: no public contract speaks of it.
-use Rattle.std.specs.Prelude.{ℕ, ◌+◌, List, [], ◌∷◌, ◌++◌, map}
+use Rattle.std.specs.Prelude.{ℕ, ◌+◌, List, [], ◌∷◌, ◌++◌}
 use Rattle.server_core.specs.Outputs.{InstanceOutputValue}
 use Rattle.replay.specs.Printed.{output_lines}
 

@@ -36,7 +36,8 @@ stray_lines (place ∷ rest) = stray_line place ++ stray_lines rest
 abbrev pub lone_lines : ℕ → List ConfigValue → List EventValue → List ℕ
 lone_lines instance [] events = []
 lone_lines instance (config ∷ configs) events =
-    output_lines instance (lone_output config (own_events instance events)) ++ lone_lines (instance + 1) configs events
+    output_lines instance (lone_output config (own_events instance events))
+    ++ lone_lines (instance + 1) configs events
 
 -- what a script prints
 abbrev pub printed_text : ReplayScriptValue → List ℕ

@@ -62,7 +62,8 @@ digest_alone (hash ∷ size ∷ []) = digest_of_segments hash size
 digest_alone segments = Err Form
 
 abbrev pub uuid_of : List ℕ → Result (List ℕ) NameError
-uuid_of uuid = if nat_le 1 (length uuid) && nat_le (length uuid) MOST_UUID then Ok uuid else Err Form
+uuid_of uuid =
+    if nat_le 1 (length uuid) && nat_le (length uuid) MOST_UUID then Ok uuid else Err Form
 
 abbrev pub blobs_place : List ℕ → Result Unit NameError
 blobs_place segment = if is_blobs segment then Ok tt else Err Form

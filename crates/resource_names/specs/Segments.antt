@@ -28,7 +28,8 @@ pub record DivisionValue : Type 0 where
 abbrev pub division_after : List (List ℕ) → (List ℕ → Bool) → List (List ℕ) → Option DivisionValue
 division_after passed divides [] = None
 division_after passed divides (segment ∷ segments) =
-    if divides segment then Some (record { before = joined_segments passed; segment = segment; after = segments })
+    if divides segment
+    then Some (record { before = joined_segments passed; segment = segment; after = segments })
     else division_after (passed ++ segment ∷ []) divides segments
 
 abbrev pub division_of : (List ℕ → Bool) → List (List ℕ) → Option DivisionValue

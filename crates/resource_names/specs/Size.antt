@@ -14,4 +14,5 @@ is_numeral text =
 -- the number below 2^63 that a segment writes, if it writes one
 abbrev pub size_in : List ℕ → Option ℕ
 size_in text =
-    if is_numeral text && nat_lt (digits_value 10 text) (2 ^ 63) then Some (digits_value 10 text) else None
+    if is_numeral text && nat_lt (digits_value 10 text) (2 ^ 63)
+    then Some (digits_value 10 text) else None

@@ -1,3 +1,5 @@
+//! Why a call is refused, and the status that says so.
+
 ghost use Rattle.std.specs.Prelude.{◌≡◌, pos};
 ghost use Rattle.rpc.specs.Status.{code_of, text_of};
 

@@ -1,15 +1,12 @@
 -- Bytes in lower-case hexadecimal, two digits a byte, the high four bits first, and `-` for no
 -- bytes.
-use Rattle.std.specs.Prelude.{ℕ, Bool, ◌&&◌, ◌||◌, nat_le, if◌then◌else◌, List, [], ◌∷◌, codes, Option, Some, None}
+use Rattle.std.specs.Prelude.{ℕ, if◌then◌else◌, List, [], ◌∷◌, codes, Option, Some, None}
 use Rattle.std.specs.List.{list_all}
 use Rattle.std.specs.Result.{result_ok}
 use Rattle.std.specs.Str.{bytes_eq}
 use Rattle.hex.specs.Hex.{decode_of, encode_lower}
 pub use Rattle.hex.specs.Hex.{IsBytes}
-
--- `0` to `9` or `a` to `f`
-abbrev pub is_lower_hex_digit : ℕ → Bool
-is_lower_hex_digit byte = (nat_le 48 byte && nat_le byte 57) || (nat_le 97 byte && nat_le byte 102)
+pub use Rattle.digest.specs.Text.{is_lower_hex_digit}
 
 -- the word that writes some bytes
 abbrev pub hex_word : List ℕ → List ℕ

@@ -48,7 +48,8 @@ Stands configs h vs =
     (i : ℕ) (config : ConfigValue) → config_at i configs ≡ Some config →
     StandsAt i vs (lone_of config i h)
 
-pub record IsAt (configs : List ConfigValue) (h : List SocketEvent) (vs : List ServedState) (m : ℕ) : Type 0 where
+pub record IsAt (configs : List ConfigValue) (h : List SocketEvent)
+    (vs : List ServedState) (m : ℕ) : Type 0 where
   pub stands : Stands configs h vs
   pub served : IsServed configs h
   -- no instance is ahead of the clock

@@ -14,7 +14,8 @@ use Rattle.served_instance.specs.declared.refusal.EventRefusal.TheVariants.{NoSu
 use Rattle.served_instance.specs.Connections.{open_ones, open_at}
 use Rattle.instance_core.specs.State.{InstanceState, at_moment}
 use Rattle.served_instance.specs.Lone.{Lone, lone_at_moment, after_event}
-use Rattle.served_instance.specs.Refusals.{connection_limit, refusal_of, refusal_of_what, after_event_unless, lone_step, IsOutcome}
+use Rattle.served_instance.specs.declared.instance.TheConstants.{CONNECTION_LIMIT}
+use Rattle.served_instance.specs.Refusals.{refusal_of, refusal_of_what, after_event_unless, lone_step, IsOutcome}
 use Rattle.served_instance.specs.StandsFor.{ServedConnection, ServedState, StandsFor, AreSettled, connection_at}
 use Rattle.served_instance.specs.declared.open_connection.OpenConnection.{OpenConnection}
 use Rattle.served_instance.specs.Slots.{ServedSlots, served_state_in}
@@ -57,7 +58,7 @@ same_ended texts None (Some p) s = absurd s
 same_ended texts (Some v) None s = absurd s
 
 abbrev to_open : Bool → ℕ → Option EventRefusal
-to_open there n = if there then Some ConnectionExists else if nat_le connection_limit n then Some TooManyConnections else None
+to_open there n = if there then Some ConnectionExists else if nat_le CONNECTION_LIMIT n then Some TooManyConnections else None
 
 same_by_what : (texts : Look) (w : WhatValue) (vs : List ServedConnection) (l : Lone) → ((c : ℕ) → SameAt texts (connection_at c vs) (open_at c l.connections)) → length vs ≡ length (open_ones l.connections) → refusal_by_what w vs ≡ refusal_of_what w l
 same_by_what texts (opened c) vs l s n =
@@ -93,7 +94,7 @@ reason_at None f h = tt
 reason_at (Some x) f h = h x
 
 reason_by_what : (w : WhatValue) (vs : List ServedConnection) → IsReason (refusal_by_what w vs)
-reason_by_what (opened c) vs = reason_if (is_some (connection_at c vs)) ConnectionExists _ tt (reason_if (nat_le connection_limit (length vs)) TooManyConnections None tt tt)
+reason_by_what (opened c) vs = reason_if (is_some (connection_at c vs)) ConnectionExists _ tt (reason_if (nat_le CONNECTION_LIMIT (length vs)) TooManyConnections None tt tt)
 reason_by_what (received c bytes) vs = reason_at (connection_at c vs) (λ x. None) (λ x. tt)
 reason_by_what (took c n) vs = reason_at (connection_at c vs) (unless_more n) (λ x. reason_if (nat_lt (length x.sending.pending) n) TookTooMuch None tt tt)
 reason_by_what (closed c) vs = reason_at (connection_at c vs) (λ x. None) (λ x. tt)

@@ -74,7 +74,8 @@ unread_at c os = option_map_or unread_length (present_at c os) 0
 -- ---- an instance and its connections
 
 -- they stand for this, with these texts of the sources of ranges
-pub record StandsBy (texts : Look) (s : InstanceState) (os : List OpenConnection) (l : Lone) : Type 0 where
+pub record StandsBy (texts : Look) (s : InstanceState) (os : List OpenConnection)
+    (l : Lone) : Type 0 where
   pub state : s ≡ l.state
   pub connections : AreServed texts (map connection_shown os) (open_ones l.connections)
 

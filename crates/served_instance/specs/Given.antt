@@ -21,7 +21,13 @@ use Rattle.served_instance.specs.Ranges.{range_holders, AreFit, HaveFew}
 abbrev pub item_by : Look → ReplyItem → ReplyItemValue
 item_by texts Begins = begins
 item_by texts (Says bytes) = says bytes.items
-item_by texts (Gives range) = gives (record { digest = range.digest; text = texts range.text; from = range.from; until = range.until })
+item_by texts (Gives range) =
+    gives (record {
+      digest = range.digest;
+      text = texts range.text;
+      from = range.from;
+      until = range.until;
+    })
 item_by texts Ends = ends
 item_by texts (Refuses refusal) = refuses refusal
 
@@ -58,7 +64,8 @@ RepliesEndWithin replies texts = AllByRecursion (λ reply. ReplyEndsWithin reply
 -- ---- what becomes of the sources
 
 -- a connection holds the given ones too, but for some of them that were released in the pool
-pub record TakesRanges (given : Holders) (IsGood : Look → Type 0) (p : Slots) (v : Present) (q : Slots) (w : Present) : Type 0 where
+pub record TakesRanges (given : Holders) (IsGood : Look → Type 0)
+    (p : Slots) (v : Present) (q : Slots) (w : Present) : Type 0 where
   pub gone : Holders
   pub fewer : (k : ℕ) → gone k ≤ given k
   pub sources : (k : ℕ) →
@@ -68,7 +75,8 @@ pub record TakesRanges (given : Holders) (IsGood : Look → Type 0) (p : Slots) 
   pub moves : Moves p q gone no_holders
 
 -- .. the connections together
-pub record TakeRanges (given : Holders) (IsGood : Look → Type 0) (p : Slots) (vs : List ServedConnection) (q : Slots) (ws : List ServedConnection) : Type 0 where
+pub record TakeRanges (given : Holders) (IsGood : Look → Type 0)
+    (p : Slots) (vs : List ServedConnection) (q : Slots) (ws : List ServedConnection) : Type 0 where
   pub gone : Holders
   pub fewer : (k : ℕ) → gone k ≤ given k
   pub sources : (k : ℕ) → range_holders ws k + gone k ≡ range_holders vs k + given k

@@ -114,7 +114,9 @@ after_bytes_on c bytes l =
 
 -- a connection opens with the server's SETTINGS
 abbrev pub after_opening : ℕ → Lone → Lone
-after_opening c l = record l { connections = l.connections ++ record { number = c; past = opening; is_open = true } ∷ [] }
+after_opening c l = record l {
+  connections = l.connections ++ record { number = c; past = opening; is_open = true } ∷ [];
+}
 
 -- a connection goes, and each call on it is given up
 abbrev pub after_closing : ℕ → Lone → Lone

@@ -6,7 +6,7 @@ use Rattle.server_events.specs.Events.{EventValue, WhatValue, opened, received, 
 use Rattle.served_instance.specs.declared.open_connection.OpenConnection.{OpenConnection}
 use Rattle.served_instance.specs.declared.refusal.EventRefusal.{EventRefusal}
 use Rattle.served_instance.specs.declared.refusal.EventRefusal.TheVariants.{TimeWentBack, ConnectionExists, TooManyConnections, NoSuchConnection, TookTooMuch, NoSuchJob}
-use Rattle.served_instance.specs.Refusals.{connection_limit}
+use Rattle.served_instance.specs.declared.instance.TheConstants.{CONNECTION_LIMIT}
 use Rattle.served_instance.specs.StandsFor.{ServedConnection, connection_at}
 use Rattle.served_instance.specs.Slots.{ServedSlots}
 
@@ -19,7 +19,7 @@ unless_present c vs = option_map_or (λ v. None) (connection_at c vs) (Some NoSu
 abbrev pub refusal_to_open : ℕ → List ServedConnection → Option EventRefusal
 refusal_to_open c vs =
     if is_some (connection_at c vs) then Some ConnectionExists
-    else if nat_le connection_limit (length vs) then Some TooManyConnections
+    else if nat_le CONNECTION_LIMIT (length vs) then Some TooManyConnections
     else None
 
 abbrev pub unless_more : ℕ → Present → Option EventRefusal

@@ -71,7 +71,8 @@ pub record KeepRanges (vs ws : List ServedConnection) : Type 0 where
   pub fit : (texts : Look) → AreFit texts vs → AreFit texts ws
 
 -- some are not held any more, and were released in the pool
-pub record Releases (p : Slots) (vs : List ServedConnection) (q : Slots) (ws : List ServedConnection) : Type 0 where
+pub record Releases (p : Slots) (vs : List ServedConnection)
+    (q : Slots) (ws : List ServedConnection) : Type 0 where
   pub gone : List ℕ
   pub sources : (k : ℕ) → range_holders ws k + count_of k gone ≡ range_holders vs k
   pub few : HaveFew vs → HaveFew ws

@@ -5,12 +5,9 @@ use Rattle.grpc_sending.specs.Bytes.{untaken_count}
 use Rattle.server_events.specs.Events.{EventValue, WhatValue, opened, received, took, closed, tick, ended}
 use Rattle.served_instance.specs.declared.refusal.EventRefusal.{EventRefusal}
 use Rattle.served_instance.specs.declared.refusal.EventRefusal.TheVariants.{TimeWentBack, ConnectionExists, TooManyConnections, NoSuchConnection, TookTooMuch, NoSuchJob, NoMemory}
+use Rattle.served_instance.specs.declared.instance.TheConstants.{CONNECTION_LIMIT}
 use Rattle.served_instance.specs.Connections.{open_ones, open_at}
 use Rattle.served_instance.specs.Lone.{Lone, after_event}
-
--- the most connections that an instance has open at a time
-abbrev pub connection_limit : ℕ
-connection_limit = 64
 
 abbrev pub unless_open : ℕ → Lone → Option EventRefusal
 unless_open c l = option_map_or (λ p. None) (open_at c l.connections) (Some NoSuchConnection)
@@ -18,7 +15,7 @@ unless_open c l = option_map_or (λ p. None) (open_at c l.connections) (Some NoS
 abbrev pub refusal_of_what : WhatValue → Lone → Option EventRefusal
 refusal_of_what (opened c) l =
     if is_some (open_at c l.connections) then Some ConnectionExists
-    else if nat_le connection_limit (length (open_ones l.connections)) then Some TooManyConnections
+    else if nat_le CONNECTION_LIMIT (length (open_ones l.connections)) then Some TooManyConnections
     else None
 refusal_of_what (received c bytes) l = unless_open c l
 -- more than was put and not taken yet

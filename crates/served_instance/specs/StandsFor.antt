@@ -7,7 +7,7 @@ use Rattle.conn_core.specs.StandsFor.{Present, StandsFor as IsConnection}
 use Rattle.instance_core.specs.State.{InstanceState, WithinLimits}
 use Rattle.served_instance.specs.Connections.{LoneConnection, open_ones}
 use Rattle.served_instance.specs.Lone.{Lone}
-use Rattle.served_instance.specs.Refusals.{connection_limit}
+use Rattle.served_instance.specs.declared.instance.TheConstants.{CONNECTION_LIMIT}
 
 -- an open connection and its number
 pub record ServedConnection : Type 0 where
@@ -41,7 +41,7 @@ pub record StandsFor (v : ServedState) (l : Lone) : Type 0 where
 -- the limits that a served instance keeps
 pub record IsWithin (v : ServedState) : Type 0 where
   pub instance : WithinLimits v.state
-  pub connections : length v.connections ≤ connection_limit
+  pub connections : length v.connections ≤ CONNECTION_LIMIT
 
 -- nothing more can be put on an open connection
 abbrev pub IsSettledConnection : LoneConnection → Type 0

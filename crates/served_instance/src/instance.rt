@@ -18,7 +18,7 @@ ghost use Rattle.instance_core.specs.Slots.{state_in};
 ghost use Rattle.served_instance.specs.Slots.{served_state_in, holders_of, IsKept, HasConnections};
 ghost use Rattle.blob_pool.specs.Slots.{Slots, text_at, count_at};
 ghost use Rattle.blob_pool.specs.Moves.{Moves, no_holders};
-ghost use Rattle.quota_evict.specs.Kept.{quota_limit};
+ghost use Rattle.quota_evict.specs.Kept.{most_stored_bytes};
 
 use crate::calls::{close, receive};
 use crate::open_connection::{OpenConnection, connection_at, connection_near, take};
@@ -60,7 +60,7 @@ impl Model for ServedInstance {
 impl ServedInstance {
     /// An instance that nothing has happened to.
     pub fn new(alloc: Global, config: &InstanceConfig) -> Result<ServedInstance, AllocError>
-        requires quota { config.now.quota ≤ quota_limit }
+        requires quota { config.now.quota ≤ most_stored_bytes }
         ensures stands { (p : Slots) → IfOk result (λ served. StandsFor (served_state_in p served)
             (new_lone (string_bytes config.now.name) config.now.quota config.now.slots)) }
         ensures within { (p : Slots) → IfOk result (λ served. IsWithin (served_state_in p served)) }

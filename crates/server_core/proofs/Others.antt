@@ -23,7 +23,7 @@ use Rattle.served_instance.specs.Lone.{Lone}
 use Rattle.served_instance.specs.Connections.{open_ones}
 use Rattle.served_instance.specs.StandsFor.{ServedConnection, ServedState, StandsFor as IsServed, IsWithin}
 use Rattle.served_instance.specs.Ranges.{served_with, sources_at, range_holders}
-use Rattle.served_instance.specs.Refusals.{connection_limit}
+use Rattle.served_instance.specs.declared.instance.TheConstants.{CONNECTION_LIMIT}
 use Rattle.grpc_sending.proofs.Agreeing.{count_append}
 use Rattle.served_instance.proofs.Ranges.{fit_agreed_each, plain_served, same_served}
 use Rattle.served_instance.specs.Slots.{ServedSlots, served_state_in, holders_of, IsKept, HasConnections}
@@ -104,7 +104,7 @@ ranges_few m (v ∷ vs) few k =
 
 -- by its entries, and by the ranges of its connections
 abbrev most_held : ℕ
-most_held = most_blobs + connection_limit * 2 ^ 64
+most_held = most_blobs + CONNECTION_LIMIT * 2 ^ 64
 
 -- an instance has no more entries than it may have texts
 holds_few : (p : Slots) (a : ServedSlots) → IsWithin (served_state_in p a) → HasRanges p a → (k : ℕ) → holders_of a k ≤ most_held
@@ -113,7 +113,7 @@ holds_few p a w r k =
     let entries = w.instance.texts.entries in
     let most = holders-few a.instance.view.entries k in
     let ranges = ranges_few (2 ^ 64) a.connections r.few k in
-    let many : length a.connections ≤ connection_limit = omega (arith, w.connections, length-map a.connections (served_with (text_at p))) in
+    let many : length a.connections ≤ CONNECTION_LIMIT = omega (arith, w.connections, length-map a.connections (served_with (text_at p))) in
     let all = mul-le-mul_right (2 ^ 64) many in
     omega (arith, long, entries, most, ranges, all)
 

@@ -18,7 +18,8 @@ pub record RunValue : Type 0 where
 
 -- a run to which these events happened, of instances with these configurations: each instance has
 -- come as far as it would have alone
-pub record HasTaken (configs : List ConfigValue) (events : List EventValue) (v : RunValue) : Type 0 where
+pub record HasTaken (configs : List ConfigValue) (events : List EventValue)
+    (v : RunValue) : Type 0 where
   pub many : length v.server.instances ≡ length configs
   pub count : v.count ≡ length events
   pub alone : (i : ℕ) (config : ConfigValue) → config_at i configs ≡ Some config

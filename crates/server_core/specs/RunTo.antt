@@ -11,6 +11,7 @@ abbrev pub IsNotedAt : ℕ → List RecordValue → Run → Type 0
 IsNotedAt i records r = (v : RecordValue) × (slice_get records i ≡ Some v) × IsRecord v r
 
 -- the instance of this number and its record have come as far as this run
-pub record HasRun (i : ℕ) (vs : List ServedState) (records : List RecordValue) (r : Run) : Type 0 where
+pub record HasRun (i : ℕ) (vs : List ServedState) (records : List RecordValue)
+    (r : Run) : Type 0 where
   pub stands : StandsAt i vs r.lone
   pub noted : IsNotedAt i records r

@@ -29,9 +29,11 @@ IsOwnFault before config (BadName number) =
 IsOwnFault before config (BadQuota number) =
     (number ≡ length before) × IsInstanceName config.name × (quota_limit < config.quota)
 IsOwnFault before config (BadSlots number) =
-    (number ≡ length before) × IsInstanceName config.name × (config.quota ≤ quota_limit) × (slots_limit < config.slots)
+    (number ≡ length before) × IsInstanceName config.name × (config.quota ≤ quota_limit)
+    × (slots_limit < config.slots)
 IsOwnFault before config (DuplicateName number) =
-    (number ≡ length before) × IsConfig config × (¬ (All (λ other. config.name ≢ other.name) before))
+    (number ≡ length before) × IsConfig config
+    × (¬ (All (λ other. config.name ≢ other.name) before))
 IsOwnFault before config TooMany = ⊥
 IsOwnFault before config NoMemory = ⊥
 
@@ -47,4 +49,5 @@ pub record IsFirstFault (configs : List ConfigValue) (fault : ConfigFault) : Typ
 -- the fault of a list: too many instances, or else the first of an instance
 abbrev pub IsFaultOf : List ConfigValue → ConfigFault → Type 0
 IsFaultOf configs fault =
-    ((fault ≡ TooMany) × (instance_limit < length configs)) ⊎ ((length configs ≤ instance_limit) × IsFirstFault configs fault)
+    ((fault ≡ TooMany) × (instance_limit < length configs))
+    ⊎ ((length configs ≤ instance_limit) × IsFirstFault configs fault)

@@ -12,7 +12,8 @@ is_name_byte byte =
 -- (remote_execution.proto, `instance_name`)
 abbrev pub resource_words : List (List ℕ)
 resource_words =
-    codes "blobs" ∷ codes "uploads" ∷ codes "actions" ∷ codes "actionResults" ∷ codes "operations" ∷ codes "capabilities"
+    codes "blobs" ∷ codes "uploads" ∷ codes "actions" ∷ codes "actionResults"
+    ∷ codes "operations" ∷ codes "capabilities"
     ∷ codes "compressed-blobs" ∷ []
 
 -- 1 to 64 of those bytes, and none of those words
@@ -25,7 +26,8 @@ pub record IsInstanceName (name : List ℕ) : Type 0 where
 -- the same as a test
 abbrev pub is_instance_name : List ℕ → Bool
 is_instance_name name =
-    not (length name == 0) && nat_le (length name) 64 && list_all is_name_byte name && not (list_any (bytes_eq name) resource_words)
+    not (length name == 0) && nat_le (length name) 64 && list_all is_name_byte name
+    && not (list_any (bytes_eq name) resource_words)
 
 -- the most bytes that an instance may be given: 2^40
 abbrev pub quota_limit : ℕ

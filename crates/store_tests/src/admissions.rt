@@ -1,3 +1,5 @@
+//! Texts that an instance admits, and those that go for them.
+
 ghost use Rattle.std.specs.Prelude.{◌≡◌, ◌≤◌, ◌^◌};
 ghost use Rattle.quota_evict.specs.Kept.{AreKept};
 

@@ -1,3 +1,5 @@
+//! Two texts beside one digest.
+
 ghost use Rattle.std.specs.Prelude.{◌≡◌, ◌<◌, ◌≤◌, ◌^◌, length, IfOk};
 ghost use Rattle.blob_pool.specs.Slots.{count_at};
 ghost use Rattle.blob_pool.specs.Moves.{Moves, HasRoom, no_holders, one_at};

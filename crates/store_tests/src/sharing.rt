@@ -1,3 +1,5 @@
+//! Texts that two instances share.
+
 ghost use Rattle.std.specs.Prelude.{◌≡◌};
 ghost use Rattle.quota_evict.specs.Kept.{AreKept};
 ghost use Rattle.store_tests.specs.Beside.{AreBeside};

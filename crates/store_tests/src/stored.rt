@@ -1,3 +1,5 @@
+//! Texts that a test stores.
+
 ghost use Rattle.quota_evict.specs.Kept.{AreKept};
 
 use blob_pool::Pool;

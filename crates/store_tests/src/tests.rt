@@ -1,2 +1,4 @@
+//! The tests: of the pool, and of trees.
+
 mod pool;
 mod trees;

@@ -1,3 +1,5 @@
+//! Texts in pieces and in pages.
+
 ghost use Rattle.std.specs.Prelude.{◌≡◌, ◌<◌, ◌+◌, ◌≤◌, ◌^◌, length, true};
 ghost use Rattle.blob_pool.specs.Slots.{count_at};
 

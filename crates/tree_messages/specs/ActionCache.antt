@@ -30,7 +30,11 @@ unfoldable pub get_action_result_request_of : List Record →
 get_action_result_request_of rs = do
   instance_name ← string 1 rs
   action_digest ← embedded_value digest_of 2 rs
-  Ok (record { instance_name = instance_name; action_digest = action_digest; digest_function = int32 6 rs })
+  Ok (record {
+    instance_name = instance_name;
+    action_digest = action_digest;
+    digest_function = int32 6 rs;
+  })
 
 abbrev pub get_action_result_request_records : GetActionResultRequestValue → List Record
 get_action_result_request_records v =
@@ -59,7 +63,12 @@ update_action_result_request_of rs = do
   instance_name ← string 1 rs
   action_digest ← embedded_value digest_of 2 rs
   action_result ← sent_bytes action_result_of 3 rs
-  Ok (record { instance_name = instance_name; action_digest = action_digest; action_result = action_result; digest_function = int32 5 rs })
+  Ok (record {
+    instance_name = instance_name;
+    action_digest = action_digest;
+    action_result = action_result;
+    digest_function = int32 5 rs;
+  })
 
 abbrev pub update_action_result_request_records : UpdateActionResultRequestValue → List Record
 update_action_result_request_records v =

@@ -33,7 +33,13 @@ get_tree_request_of rs = do
   instance_name ← string 1 rs
   root_digest ← embedded_value digest_of 2 rs
   page_token ← string 4 rs
-  Ok (record { instance_name = instance_name; root_digest = root_digest; page_size = int32 3 rs; page_token = page_token; digest_function = int32 5 rs })
+  Ok (record {
+    instance_name = instance_name;
+    root_digest = root_digest;
+    page_size = int32 3 rs;
+    page_token = page_token;
+    digest_function = int32 5 rs;
+  })
 
 abbrev pub get_tree_request_records : GetTreeRequestValue → List Record
 get_tree_request_records v =

@@ -84,7 +84,15 @@ action_result_of rs = do
   output_directories ← repeated_values output_directory_of 3 rs
   stdout_digest ← embedded_value digest_of 6 rs
   stderr_digest ← embedded_value digest_of 8 rs
-  Ok (record { output_files = output_files; output_directories = output_directories; exit_code = int32 4 rs; stdout_raw = octets 5 rs; stdout_digest = stdout_digest; stderr_raw = octets 7 rs; stderr_digest = stderr_digest })
+  Ok (record {
+    output_files = output_files;
+    output_directories = output_directories;
+    exit_code = int32 4 rs;
+    stdout_raw = octets 5 rs;
+    stdout_digest = stdout_digest;
+    stderr_raw = octets 7 rs;
+    stderr_digest = stderr_digest;
+  })
 
 abbrev pub action_result_records : ActionResultValue → List Record
 action_result_records v =

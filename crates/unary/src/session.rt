@@ -6,7 +6,7 @@ ghost use Rattle.script.specs.UnaryShown.{instance_value, command_value};
 ghost use Rattle.script.specs.UnaryLines.{instance_place};
 ghost use Rattle.rpc.specs.declared.refusal.Refusal.{Refusal};
 ghost use Rattle.unary.specs.Session.{new_store, ok_line, status_line, line_of, store_after, store_of, stores_after};
-ghost use Rattle.quota_evict.specs.Kept.{quota_limit};
+ghost use Rattle.quota_evict.specs.Kept.{most_stored_bytes};
 
 use crate::store::Store;
 use cas_service::CallError;
@@ -17,7 +17,7 @@ use std::alloc::{AllocError, Global};
 
 /// The instances of a script, with no texts yet.
 pub fn open_all(alloc: Global, instances: &[Instance]) -> Result<Vec<Store>, AllocError>
-    requires { All (λ instance. instance.quota ≤ quota_limit) instances.now }
+    requires { All (λ instance. instance.quota ≤ most_stored_bytes) instances.now }
     ensures { IfOk result (λ stores. stores.items
         ≡ map new_store (map instance_value instances.now)) }
 {

@@ -9,7 +9,7 @@ ghost use Rattle.instance_view.specs.Shown.{visible_in};
 ghost use Rattle.quota_evict.specs.Admission.{visible_after_admission};
 ghost use Rattle.quota_evict.specs.Kept.{AreKept};
 ghost use Rattle.unary.specs.Session.{new_store, reply_from_store, changes_by, is_refused, store_after_put, store_after_call};
-ghost use Rattle.quota_evict.specs.Kept.{quota_limit};
+ghost use Rattle.quota_evict.specs.Kept.{most_stored_bytes};
 
 use blob_pool::Pool;
 use cas_service::{CallError, batch_read, batch_update, find_missing};
@@ -31,7 +31,7 @@ pub struct Store {
 
 impl Model for Store {
     ghost use Rattle.std.specs.Prelude.{◌≡◌, ◌≤◌, ◌^◌, string_bytes};
-    ghost use Rattle.quota_evict.specs.Kept.{most_blobs, quota_limit};
+    ghost use Rattle.quota_evict.specs.Kept.{most_blobs, most_stored_bytes};
     ghost use Rattle.instance_view.specs.Shown.{visible_in};
     ghost use Rattle.quota_evict.specs.Kept.{AreKept};
     ghost use Rattle.unary.specs.Session.{StoreValue};
@@ -41,14 +41,14 @@ impl Model for Store {
     ghost view = { λ s. record
         { name = string_bytes s.name; quota = s.quota; visible = visible_in s.pool s.view } };
 
-    ghost invariant = { λ s. (s.quota ≤ quota_limit) × AreKept s.quota s.pool s.view
+    ghost invariant = { λ s. (s.quota ≤ most_stored_bytes) × AreKept s.quota s.pool s.view
         × (s.view.limit ≡ most_blobs) };
 }
 
 impl Store {
     /// An instance that has no texts yet.
     pub fn open(alloc: Global, instance: &Instance) -> Result<Store, AllocError>
-        requires { instance.now.quota ≤ quota_limit }
+        requires { instance.now.quota ≤ most_stored_bytes }
         ensures { IfOk result (λ store. store ≡ new_store (instance_value instance.now)) }
     {
         let name = String::from_str(alloc, &instance.name)?;
@@ -98,7 +98,7 @@ impl Store {
 
 /// Stores bytes under their digest within a quota, and says whether they are refused.
 fn put(view: &mut View, pool: &mut Pool, quota: u64, bytes: &[u8]) -> Result<bool, AllocError>
-    requires quota { quota ≤ quota_limit }
+    requires quota { quota ≤ most_stored_bytes }
     requires kept { AreKept quota pool.old view.old }
     ensures refused { IfOk result (λ refused. refused
         ≡ is_refused quota (visible_in pool.old view.old) bytes.now) }
@@ -126,7 +126,7 @@ fn call(
     method: Method,
     message: &[u8],
 ) -> Result<Vec<u8>, CallError>
-    requires quota { quota ≤ quota_limit }
+    requires quota { quota ≤ most_stored_bytes }
     requires kept { AreKept quota pool.old view.old }
     ensures reply { Answers (λ reply. reply.items) result
         (reply_from_store method (record

@@ -27,7 +27,8 @@ if_ok (Err e) next = Err e
 abbrev pub piece_answer : ℕ → KeyValue → PieceValue → UploadList → Result Unit UploadError
 piece_answer quota key piece uploads =
     if not (is_place piece.offset (length (text_so_far key uploads))) then Err Offset
-    else (if nat_lt key.digest.size (length (text_so_far key uploads) + length piece.bytes) then Err Size
+    else (if nat_lt key.digest.size (length (text_so_far key uploads) + length piece.bytes)
+    then Err Size
     else (if nat_lt quota (total_length uploads + length piece.bytes) then Err OverQuota
     else Ok tt))
 
@@ -40,7 +41,8 @@ pub record Fits (key : KeyValue) (bytes : List ℕ) (uploads : UploadList) : Typ
 abbrev pub may_begin : ℕ → KeyValue → UploadList → Result Unit UploadError
 may_begin quota key uploads =
     if nat_lt quota key.digest.size then Err OverQuota
-    else (if not (is_some (upload_at key uploads)) && nat_le MOST_UPLOADS (length uploads) then Err TooMany else Ok tt)
+    else (if not (is_some (upload_at key uploads)) && nat_le MOST_UPLOADS (length uploads)
+    then Err TooMany else Ok tt)
 
 -- the first piece of a call, of an upload that is there or is not
 abbrev pub begin_answer : ℕ → KeyValue → PieceValue → UploadList → Result Unit UploadError

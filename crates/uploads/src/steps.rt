@@ -11,7 +11,7 @@ ghost use Rattle.uploads.specs.Uploads.{total_length, upload_at, with_upload, te
 ghost use Rattle.uploads.specs.Writing as writing;
 ghost use Rattle.uploads.specs.Writing.{Answers, Fits, piece_answer, call_answer, finish_answer, after_piece, after_finish, may_begin};
 ghost use Rattle.uploads.specs.Shown.{key_shown, upload_shown, entry_shown, piece_shown, IsWhole, AreWhole};
-ghost use Rattle.quota_evict.specs.Kept.{quota_limit};
+ghost use Rattle.quota_evict.specs.Kept.{most_stored_bytes};
 
 use crate::error::UploadError;
 use crate::key::UploadKey;
@@ -70,7 +70,7 @@ fn check_piece(
     key: &UploadKey,
     piece: &Piece<'_>,
 ) -> Result<(), UploadError>
-    requires quota { quota ≤ quota_limit }
+    requires quota { quota ≤ most_stored_bytes }
     requires within { WithinLimits quota (map entry_shown table.now.entries) }
     ensures { result ≡ piece_answer quota (key_shown key.now) (piece_shown piece.now)
         (map entry_shown table.now.entries) }
@@ -176,7 +176,7 @@ fn check(
     key: &UploadKey,
     piece: &Piece<'_>,
 ) -> Result<(), UploadError>
-    requires quota { quota ≤ quota_limit }
+    requires quota { quota ≤ most_stored_bytes }
     requires within { WithinLimits quota (map entry_shown table.now.entries) }
     ensures { result ≡ call_answer first quota (key_shown key.now) (piece_shown piece.now)
         (map entry_shown table.now.entries) }
@@ -203,7 +203,7 @@ pub fn take_piece(
     key: &UploadKey,
     piece: &Piece<'_>,
 ) -> Result<(), UploadError>
-    requires quota { quota ≤ quota_limit }
+    requires quota { quota ≤ most_stored_bytes }
     requires within { WithinLimits quota (map entry_shown table.old.entries) }
     requires whole { AreWhole table.old.entries }
     ensures answer { Answers result (call_answer first quota (key_shown key.now)
@@ -234,7 +234,7 @@ pub fn finish(
     pool: &mut Pool,
     key: &UploadKey,
 ) -> Result<(), UploadError>
-    requires quota { quota ≤ quota_limit }
+    requires quota { quota ≤ most_stored_bytes }
     requires kept { AreKept quota pool.old view.old }
     requires within { WithinLimits quota (map entry_shown table.old.entries) }
     requires there { IsSome (upload_at (key_shown key.now) (map entry_shown table.old.entries)) }

@@ -9,7 +9,7 @@ ghost use Rattle.quota_evict.specs.Kept.{AreKept};
 ghost use Rattle.uploads.specs.Uploads.{upload_at, text_so_far, uploads_at, WithinLimits};
 ghost use Rattle.uploads.specs.Writing.{Answers, call_answer, finish_answer, after_piece, after_finish};
 ghost use Rattle.uploads.specs.Shown.{key_shown, piece_shown};
-ghost use Rattle.quota_evict.specs.Kept.{quota_limit};
+ghost use Rattle.quota_evict.specs.Kept.{most_stored_bytes};
 
 use crate::error::UploadError;
 use crate::key::UploadKey;
@@ -72,7 +72,7 @@ impl Uploads {
         key: &UploadKey,
         piece: &Piece<'_>,
     ) -> Result<(), UploadError>
-        requires quota { quota ≤ quota_limit }
+        requires quota { quota ≤ most_stored_bytes }
         requires within { WithinLimits quota self.old }
         ensures answer { Answers result (call_answer first quota (key_shown key.now)
             (piece_shown piece.now) self.old) }
@@ -94,7 +94,7 @@ impl Uploads {
         pool: &mut Pool,
         key: &UploadKey,
     ) -> Result<(), UploadError>
-        requires quota { quota ≤ quota_limit }
+        requires quota { quota ≤ most_stored_bytes }
         requires kept { AreKept quota pool.old view.old }
         requires within { WithinLimits quota self.old }
         requires there { IsSome (upload_at (key_shown key.now) self.old) }

@@ -3,11 +3,11 @@
 ghost use Rattle.std.specs.Prelude.{◌≡◌, ◌≤◌, length, true};
 ghost use Rattle.http2_frames.specs.Writing.{raw_of};
 
-use crate::buffer::Buffer;
 use crate::octets::octets;
 use http2_frames::{
     Frame, FrameError, FrameReader, MAX_FRAME_SIZE, RawFrame, interpret, write_frame,
 };
+use program_status::Output;
 
 fn length_of(bytes: &[u8]) -> usize
     ensures { result ≡ length bytes.now }
@@ -35,39 +35,41 @@ fn fits(frame: &Frame<'_>) -> bool
 }
 
 /// Writes how a server writes a frame: no bytes where it does not fit.
-fn show_written(frame: &Frame<'_>, out: &mut Buffer) {
-    let mut bytes = Vec::new(out.alloc());
+fn show_written(frame: &Frame<'_>, out: &mut Output) {
+    let mut bytes = Vec::new(out.alloc);
     if fits(frame) {
         out.expect(write_frame(&mut bytes, frame));
     }
-    out.push_hex(b" is ", &bytes);
+    out.print(b" is ");
+    out.print_hex(&bytes);
 }
 
 /// Writes what a frame says, or its error.
-fn show_meaning(frame: &RawFrame<'_>, out: &mut Buffer) {
+fn show_meaning(frame: &RawFrame<'_>, out: &mut Output) {
     match interpret(frame) {
         Ok(frame) => show_written(&frame, out),
-        Err(code) => out.push_display(b" error ", &code.number()),
+        Err(code) => {
+            let number = code.number();
+            out.print_text(format!(in out.alloc; " error {number}"));
+        }
     }
-    out.push(b"\n");
+    out.print(b"\n");
 }
 
 /// Writes a frame as it was read.
-fn show_frame(frame: &RawFrame<'_>, out: &mut Buffer) {
-    out.push_display(b"frame ", &frame.kind);
-    out.push_display(b" ", &frame.flags);
-    out.push_display(b" ", &frame.stream);
-    out.push_hex(b" ", frame.payload.as_slice());
+fn show_frame(frame: &RawFrame<'_>, out: &mut Output) {
+    let (kind, flags, stream) = (frame.kind, frame.flags, frame.stream);
+    out.print_text(format!(in out.alloc; "frame {kind} {flags} {stream} "));
+    out.print_hex(frame.payload.as_slice());
 }
 
-fn show_fault(fault: FrameError, out: &mut Buffer) {
-    out.push_debug(&fault);
-    out.push(b"\n");
+fn show_fault(fault: FrameError, out: &mut Output) {
+    out.print_text(format!(in out.alloc; "{fault:?}\n"));
 }
 
 /// Writes the next frame, where it is whole, or else what the reader answers; tells whether there
 /// may be more.
-fn show_next(reader: &mut FrameReader, out: &mut Buffer) -> bool {
+fn show_next(reader: &mut FrameReader, out: &mut Output) -> bool {
     match reader.find() {
         Ok(true) => {
             let frame = reader.frame();
@@ -76,14 +78,14 @@ fn show_next(reader: &mut FrameReader, out: &mut Buffer) -> bool {
             reader.pass();
             return true;
         }
-        Ok(false) => out.push(b"wait\n"),
+        Ok(false) => out.print(b"wait\n"),
         Err(fault) => show_fault(fault, out),
     }
     false
 }
 
 /// Feeds a piece, and writes the frames that are whole, and what the reader answers then.
-fn show_piece(reader: &mut FrameReader, piece: Vec<u8>, out: &mut Buffer) {
+fn show_piece(reader: &mut FrameReader, piece: Vec<u8>, out: &mut Output) {
     let most = piece.len();
     if let Err(fault) = reader.feed(piece) {
         return show_fault(fault, out);
@@ -96,21 +98,21 @@ fn show_piece(reader: &mut FrameReader, piece: Vec<u8>, out: &mut Buffer) {
 }
 
 /// Feeds each line's bytes to a reader.
-fn feed_all(reader: &mut FrameReader, operations: &[&[u8]], out: &mut Buffer) {
+fn feed_all(reader: &mut FrameReader, operations: &[&[u8]], out: &mut Output) {
     for line in operations {
         show_piece(reader, octets(line, out), out);
     }
 }
 
 /// Reads what a client sends.
-pub fn client(operations: &[&[u8]], out: &mut Buffer) {
-    feed_all(&mut FrameReader::new(out.alloc()), operations, out);
+pub fn client(operations: &[&[u8]], out: &mut Output) {
+    feed_all(&mut FrameReader::new(out.alloc), operations, out);
 }
 
 /// Reads what a server sends, which has no preface.
-pub fn server(operations: &[&[u8]], out: &mut Buffer) {
+pub fn server(operations: &[&[u8]], out: &mut Output) {
     feed_all(
-        &mut FrameReader::without_preface(out.alloc()),
+        &mut FrameReader::without_preface(out.alloc),
         operations,
         out,
     );

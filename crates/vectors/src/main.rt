@@ -6,7 +6,6 @@
 //! operations, but for empty ones. [`octets`] says how bytes are written.
 #![tactic(auto)]
 
-mod buffer;
 mod compression;
 mod frames;
 mod messages;
@@ -15,12 +14,9 @@ mod records;
 mod responses;
 mod windows;
 
-use crate::buffer::Buffer;
 use crate::octets::{BAD_LINE, named};
-use program_status::{Fault, Status, read_all};
+use program_status::{Fault, Output, Status, read_all};
 use script::{lines, words};
-use std::alloc::Global;
-use std::io::Write;
 use std::process::ExitCode;
 
 /// What a case is about.
@@ -52,7 +48,7 @@ static SUBJECTS: [(&[u8], Subject); 10] = [
 ];
 
 /// Carries out operations on a subject; the case's name, where it has one, says more of it.
-fn carry_out_on(subject: Subject, name: &[u8], operations: &[&[u8]], out: &mut Buffer) {
+fn carry_out_on(subject: Subject, name: &[u8], operations: &[&[u8]], out: &mut Output) {
     match subject {
         Subject::Records => records::records(operations, out),
         Subject::PackedNumbers => records::packed(operations, out),
@@ -82,7 +78,7 @@ fn title(header: &[u8]) -> (&[u8], &[u8]) {
 }
 
 /// Carries out the operations of a case.
-fn carry_out(case: &Case<'_>, out: &mut Buffer) {
+fn carry_out(case: &Case<'_>, out: &mut Output) {
     let (subject, name) = title(case.header);
     match named(&SUBJECTS, subject) {
         Some(subject) => carry_out_on(subject, name, &case.operations, out),
@@ -91,18 +87,18 @@ fn carry_out(case: &Case<'_>, out: &mut Buffer) {
 }
 
 /// Begins a case, once the one before it, where there is one, is carried out.
-fn begin<'a>(case: &mut Case<'a>, header: &'a [u8], out: &mut Buffer) {
+fn begin<'a>(case: &mut Case<'a>, header: &'a [u8], out: &mut Output) {
     if !case.header.is_empty() {
         carry_out(case, out);
     }
     case.header = header;
     case.operations.clear();
-    out.push(header);
-    out.push(b"\n");
+    out.print(header);
+    out.print(b"\n");
 }
 
 /// Takes a line in: it begins a case, or is an operation of the one that is begun.
-fn take_line<'a>(case: &mut Case<'a>, line: &'a [u8], out: &mut Buffer) {
+fn take_line<'a>(case: &mut Case<'a>, line: &'a [u8], out: &mut Output) {
     if line.starts_with(b"# ") {
         begin(case, line, out);
     } else if !line.is_empty() && case.operations.push(line).is_err() {
@@ -111,10 +107,10 @@ fn take_line<'a>(case: &mut Case<'a>, line: &'a [u8], out: &mut Buffer) {
 }
 
 /// Carries out the cases of a text.
-fn carry_out_all(text: &[u8], out: &mut Buffer) {
+fn carry_out_all(text: &[u8], out: &mut Output) {
     let mut case = Case {
         header: b"",
-        operations: Vec::new(out.alloc()),
+        operations: Vec::new(out.alloc),
     };
     for line in lines(text) {
         take_line(&mut case, line, out);
@@ -122,29 +118,16 @@ fn carry_out_all(text: &[u8], out: &mut Buffer) {
     carry_out(&case, out);
 }
 
-/// What is written of a text's cases.
-fn written(alloc: Global, text: &[u8]) -> Result<Vec<u8>, Fault> {
-    let mut out = Buffer::new(alloc);
-    carry_out_all(text, &mut out);
-    out.finish()
-}
-
-/// Writes a text to standard output, and gives how the run ends.
-fn write_out(rt: &HostRuntime, text: &[u8]) -> Status {
-    match rt.stdout().write_all(text) {
-        Ok(()) => Status::Done,
-        Err(error) => Fault::of(&error).status(),
-    }
-}
-
-fn run(rt: &HostRuntime) -> Result<Status, Fault> {
+fn run(rt: &HostRuntime) -> Result<(), Fault> {
     let text = read_all(rt.alloc(), &mut rt.stdin())?;
-    Ok(write_out(rt, &written(rt.alloc(), &text)?))
+    let mut out = Output::new(rt.alloc());
+    carry_out_all(&text, &mut out);
+    out.write_to(&mut rt.stdout())
 }
 
 fn main(rt: HostRuntime) -> ExitCode {
     let status = match run(&rt) {
-        Ok(status) => status,
+        Ok(()) => Status::Done,
         Err(fault) => fault.status(),
     };
     ExitCode::from(status.code())

@@ -1,10 +1,9 @@
 //! Messages of the remote execution API, and messages as gRPC frames them.
 
-use crate::buffer::Buffer;
 use crate::octets::{BAD_LINE, named, octets};
 use crate::records::word_of;
 use grpc_messages::{Messages, MessagesError};
-use program_status::Fault;
+use program_status::{Fault, Output};
 use reapi_messages::*;
 use std::alloc::Global;
 use tree_messages::*;
@@ -111,18 +110,18 @@ fn typed_more(alloc: Global, of: Type, text: &[u8]) -> Result<Vec<u8>, MessageEr
 }
 
 /// Writes how the bytes are encoded again, as a message of this type, or why they are none.
-fn show_typed(of: Type, text: &[u8], out: &mut Buffer) {
-    match typed(out.alloc(), of, text) {
-        Ok(again) => out.push_hex(b"", &again),
-        Err(MessageError::Wire(fault)) => out.push(word_of(fault)),
-        Err(MessageError::NotUtf8) => out.push(b"not-utf8"),
+fn show_typed(of: Type, text: &[u8], out: &mut Output) {
+    match typed(out.alloc, of, text) {
+        Ok(again) => out.print_hex(&again),
+        Err(MessageError::Wire(fault)) => out.print(word_of(fault)),
+        Err(MessageError::NotUtf8) => out.print(b"not-utf8"),
         Err(MessageError::NoMemory) => out.fail(Fault::OutOfMemory),
     }
-    out.push(b"\n");
+    out.print(b"\n");
 }
 
 /// Writes how each line's bytes are encoded again, as messages of the type of this name.
-pub fn messages(name: &[u8], operations: &[&[u8]], out: &mut Buffer) {
+pub fn messages(name: &[u8], operations: &[&[u8]], out: &mut Output) {
     let Some(of) = named(&TYPES, name) else {
         return out.fail(BAD_LINE);
     };
@@ -131,29 +130,29 @@ pub fn messages(name: &[u8], operations: &[&[u8]], out: &mut Buffer) {
     }
 }
 
-fn show_refusal(refusal: MessagesError, out: &mut Buffer) {
-    out.push_debug(&refusal);
-    out.push(b"\n");
+fn show_refusal(refusal: MessagesError, out: &mut Output) {
+    out.print_text(format!(in out.alloc; "{refusal:?}\n"));
 }
 
 /// Writes the next message, where it is whole, or else what the reader answers; tells whether there
 /// may be more.
-fn show_next(reader: &mut Messages, out: &mut Buffer) -> bool {
+fn show_next(reader: &mut Messages, out: &mut Output) -> bool {
     match reader.next() {
         Ok(Some(message)) => {
-            out.push_hex(b"[", message.as_slice());
-            out.push(b"] ");
+            out.print(b"[");
+            out.print_hex(message.as_slice());
+            out.print(b"] ");
             return true;
         }
-        Ok(None) if reader.is_empty() => out.push(b"wait\n"),
-        Ok(None) => out.push(b"wait begun\n"),
+        Ok(None) if reader.is_empty() => out.print(b"wait\n"),
+        Ok(None) => out.print(b"wait begun\n"),
         Err(refusal) => show_refusal(refusal, out),
     }
     false
 }
 
 /// Feeds a piece, and writes the messages that are whole, and what the reader answers then.
-fn show_piece(reader: &mut Messages, piece: &[u8], out: &mut Buffer) {
+fn show_piece(reader: &mut Messages, piece: &[u8], out: &mut Output) {
     if let Err(refusal) = reader.feed(piece) {
         return show_refusal(refusal, out);
     }
@@ -165,16 +164,16 @@ fn show_piece(reader: &mut Messages, piece: &[u8], out: &mut Buffer) {
 }
 
 /// Writes what the reader answers when what is fed has ended.
-fn show_end(reader: &mut Messages, out: &mut Buffer) {
+fn show_end(reader: &mut Messages, out: &mut Output) {
     match reader.end() {
-        Ok(()) => out.push(b"ended\n"),
+        Ok(()) => out.print(b"ended\n"),
         Err(refusal) => show_refusal(refusal, out),
     }
 }
 
 /// Splits what is fed piece by piece into messages; at a line `end`, what is fed has ended.
-pub fn framed(operations: &[&[u8]], out: &mut Buffer) {
-    let mut reader = Messages::new(out.alloc());
+pub fn framed(operations: &[&[u8]], out: &mut Output) {
+    let mut reader = Messages::new(out.alloc);
     for line in operations {
         if *line == b"end".as_slice() {
             show_end(&mut reader, out);

@@ -1,7 +1,7 @@
 //! Records of protobuf, and packed numbers.
 
-use crate::buffer::Buffer;
 use crate::octets::octets;
+use program_status::Output;
 use protobuf_wire::{Content, Field, PackedReader, Reader, WireError};
 
 /// The word for a fault.
@@ -14,79 +14,84 @@ pub fn word_of(fault: WireError) -> &'static [u8] {
     }
 }
 
-fn show_record(field: &Field<'_>, out: &mut Buffer) {
-    out.push_display(b"", &field.number);
+fn show_bytes(before: &[u8], bytes: &[u8], out: &mut Output) {
+    out.print(before);
+    out.print_hex(bytes);
+}
+
+fn show_record(field: &Field<'_>, out: &mut Output) {
+    let number = field.number;
+    out.print_text(format!(in out.alloc; "{number}"));
     match field.content {
-        Content::Varint(value) => out.push_display(b"v", &value),
-        Content::Fixed64(bytes) => out.push_hex(b"q", bytes),
-        Content::Bytes(bytes) => out.push_hex(b"b", bytes),
-        Content::Fixed32(bytes) => out.push_hex(b"d", bytes),
+        Content::Varint(value) => out.print_text(format!(in out.alloc; "v{value}")),
+        Content::Fixed64(bytes) => show_bytes(b"q", bytes, out),
+        Content::Bytes(bytes) => show_bytes(b"b", bytes, out),
+        Content::Fixed32(bytes) => show_bytes(b"d", bytes, out),
     }
-    out.push(b" ");
+    out.print(b" ");
 }
 
 /// Writes the next record, or how they end; tells whether there may be more.
-fn show_next_record(reader: &mut Reader<'_>, out: &mut Buffer) -> bool {
+fn show_next_record(reader: &mut Reader<'_>, out: &mut Output) -> bool {
     match reader.next() {
         Ok(Some(field)) => {
             show_record(&field, out);
             return true;
         }
-        Ok(None) => out.push(b"end"),
-        Err(fault) => out.push(word_of(fault)),
+        Ok(None) => out.print(b"end"),
+        Err(fault) => out.print(word_of(fault)),
     }
     false
 }
 
 /// Writes the records of a text, and twice how they end.
-fn show_records(text: &[u8], out: &mut Buffer) {
+fn show_records(text: &[u8], out: &mut Output) {
     let mut reader = Reader::new(text);
     for _ in 0..=text.len() {
         if !show_next_record(&mut reader, out) {
             break;
         }
     }
-    out.push(b" ");
+    out.print(b" ");
     show_next_record(&mut reader, out);
-    out.push(b"\n");
+    out.print(b"\n");
 }
 
 /// Writes the records of each line's bytes.
-pub fn records(operations: &[&[u8]], out: &mut Buffer) {
+pub fn records(operations: &[&[u8]], out: &mut Output) {
     for line in operations {
         show_records(&octets(line, out), out);
     }
 }
 
 /// Writes the next number, or how they end; tells whether there may be more.
-fn show_next_number(reader: &mut PackedReader<'_>, out: &mut Buffer) -> bool {
+fn show_next_number(reader: &mut PackedReader<'_>, out: &mut Output) -> bool {
     match reader.next() {
         Ok(Some(number)) => {
-            out.push_display(b"", &number);
-            out.push(b" ");
+            out.print_text(format!(in out.alloc; "{number} "));
             return true;
         }
-        Ok(None) => out.push(b"end"),
-        Err(fault) => out.push(word_of(fault)),
+        Ok(None) => out.print(b"end"),
+        Err(fault) => out.print(word_of(fault)),
     }
     false
 }
 
 /// Writes the numbers that a text is, and twice how they end.
-fn show_packed(text: &[u8], out: &mut Buffer) {
+fn show_packed(text: &[u8], out: &mut Output) {
     let mut reader = PackedReader::new(text);
     for _ in 0..=text.len() {
         if !show_next_number(&mut reader, out) {
             break;
         }
     }
-    out.push(b" ");
+    out.print(b" ");
     show_next_number(&mut reader, out);
-    out.push(b"\n");
+    out.print(b"\n");
 }
 
 /// Writes the numbers that each line's bytes are.
-pub fn packed(operations: &[&[u8]], out: &mut Buffer) {
+pub fn packed(operations: &[&[u8]], out: &mut Output) {
     for line in operations {
         show_packed(&octets(line, out), out);
     }

@@ -1,8 +1,8 @@
 //! The header blocks of responses.
 
-use crate::buffer::Buffer;
 use grpc_calls::{ResponseBlock, Status};
 use hpack::Position;
+use program_status::Output;
 use rpc::Refusal;
 
 static REFUSALS: [Refusal; 21] = [
@@ -37,31 +37,33 @@ static OTHERS: [(&[u8], ResponseBlock); 4] = [
 ];
 
 /// Writes a block as it is encoded at a position, behind these bytes.
-fn show_encoded(before: &[u8], block: ResponseBlock, position: Position, out: &mut Buffer) {
-    let mut bytes = Vec::new(out.alloc());
+fn show_encoded(before: &[u8], block: ResponseBlock, position: Position, out: &mut Output) {
+    let mut bytes = Vec::new(out.alloc);
     out.expect(block.encode_into(position, &mut bytes));
-    out.push_hex(before, &bytes);
+    out.print(before);
+    out.print_hex(&bytes);
 }
 
 /// Writes a block, as the first of a connection and as a later one.
-fn show_response(block: ResponseBlock, out: &mut Buffer) {
+fn show_response(block: ResponseBlock, out: &mut Output) {
     show_encoded(b" first ", block, Position::First, out);
     show_encoded(b" later ", block, Position::Later, out);
-    out.push(b"\n");
+    out.print(b"\n");
 }
 
 /// Writes the two blocks that tell of a refusal.
-fn show_refusal(refusal: Refusal, out: &mut Buffer) {
-    out.push_display(b"trailers ", &refusal.code());
+fn show_refusal(refusal: Refusal, out: &mut Output) {
+    let code = refusal.code();
+    out.print_text(format!(in out.alloc; "trailers {code}"));
     show_response(ResponseBlock::Trailers(Status::Refused(refusal)), out);
-    out.push_display(b"trailers-only ", &refusal.code());
+    out.print_text(format!(in out.alloc; "trailers-only {code}"));
     show_response(ResponseBlock::TrailersOnly(refusal), out);
 }
 
 /// Writes all blocks of responses.
-pub fn responses(out: &mut Buffer) {
+pub fn responses(out: &mut Output) {
     for (what, block) in &OTHERS {
-        out.push(what);
+        out.print(what);
         show_response(*block, out);
     }
     for refusal in &REFUSALS {

@@ -2,10 +2,10 @@
 
 ghost use Rattle.std.specs.Prelude.{◌≤◌, IfSome};
 
-use crate::buffer::Buffer;
 use crate::octets::{BAD_LINE, named};
 use decimals::decimal;
 use http2_flow::{FlowError, MAX_SIZE, Window};
+use program_status::Output;
 use script::words;
 
 /// The number of a word, where it is at most 2^32 - 1.
@@ -73,17 +73,17 @@ fn word_of(answer: Result<(), FlowError>) -> &'static [u8] {
 }
 
 /// Changes a window as a line says, and writes what it answers and what is left.
-fn show_change(window: &mut Window, line: &[u8], out: &mut Buffer) {
+fn show_change(window: &mut Window, line: &[u8], out: &mut Output) {
     match changed_as(window, line) {
-        Some(answer) => out.push(word_of(answer)),
+        Some(answer) => out.print(word_of(answer)),
         None => out.fail(BAD_LINE),
     }
-    out.push_display(b" left ", &window.left());
-    out.push(b"\n");
+    let left = window.left();
+    out.print_text(format!(in out.alloc; " left {left}\n"));
 }
 
 /// Changes a window of an initial size as each line says.
-pub fn window(initial: &[u8], operations: &[&[u8]], out: &mut Buffer) {
+pub fn window(initial: &[u8], operations: &[&[u8]], out: &mut Output) {
     let Some(initial) = size(initial) else {
         return out.fail(BAD_LINE);
     };

@@ -1,8 +1,8 @@
 //! What is printed of answers.
 
 use crate::limits::client::Answer;
-use crate::output::Output;
 use digest::Digest;
+use program_status::Output;
 use script::write_hex;
 use std::alloc::{AllocError, Global};
 

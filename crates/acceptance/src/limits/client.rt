@@ -1,9 +1,8 @@
 //! A client on the one connection of a server that has one instance.
 
-use crate::output::Output;
 use grpc_messages::{Message as Reply, Messages};
 use http2_frames::{FrameReader, MAX_FRAME_SIZE, RawFrame};
-use program_status::Fault;
+use program_status::{Fault, Output};
 use server_core::Server;
 use server_events::{Event, What};
 use std::alloc::{AllocError, Global};

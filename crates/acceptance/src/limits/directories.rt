@@ -1,8 +1,8 @@
 //! Directories of a wanted number or size, and the digests that name them.
 
-use crate::output::Output;
 use digest::Digest;
 use message_fields::Message;
+use program_status::Output;
 use reapi_messages::Digest as WrittenDigest;
 use tree_messages::{Directory, DirectoryNode, SymlinkNode};
 

@@ -1,8 +1,8 @@
 //! The bytes of requests.
 
 use crate::limits::directories::Blob;
-use crate::output::Output;
 use message_fields::Message;
+use program_status::Output;
 use reapi_messages::{BatchUpdateBlobsRequest, UpdateBlobRequest};
 use tree_messages::{
     ActionResult, GetActionResultRequest, GetTreeRequest, UpdateActionResultRequest,

@@ -1,8 +1,7 @@
 //! What instances give alone.
 
-use crate::output::Output;
 use crate::sockets::fake::{Client, Fake};
-use program_status::Fault;
+use program_status::{Fault, Output};
 use server_core::{Outputs, SentBytes, run};
 use server_events::Configs;
 use std::mem::replace;

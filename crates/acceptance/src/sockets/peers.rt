@@ -1,10 +1,9 @@
 //! Real sockets, whose clients are served in the turns of the server.
 
-use crate::output::Output;
 use crate::sockets::alone::sent_on;
 use host_sockets::HostSockets;
 use mio::net::TcpStream;
-use program_status::Fault;
+use program_status::{Fault, Output};
 use serve::{Socket, Sockets, serve};
 use server_core::{Outputs, run};
 use server_events::{Configs, Event, What};

@@ -1,3 +1,5 @@
+//! What command lines ask for, and which are refused.
+
 use crate::tests::cases::{Case, all_hold};
 use command_line::*;
 use std::alloc::{AllocError, Global};

@@ -1,3 +1,5 @@
+//! Digests of texts whose hashes are known, and digests that are none.
+
 use crate::tests::cases::{Case, all_hold};
 use digest::*;
 use std::test::*;

@@ -1,3 +1,5 @@
+//! Which names, quotas and slots an instance may have.
+
 use crate::tests::cases::{Case, all_hold};
 use server_events::*;
 use std::test::*;

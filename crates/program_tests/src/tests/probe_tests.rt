@@ -1,3 +1,5 @@
+//! The probe beside a peer that gives a few bytes at a time, ends or fails.
+
 use crate::tests::cases::{Case, all_hold};
 use probe::*;
 use program_status::Status;

@@ -1,3 +1,5 @@
+//! How a program ends: its number, and the line that says why.
+
 use crate::tests::cases::{Case, all_hold};
 use program_status::*;
 use std::alloc::Global;

@@ -1,3 +1,5 @@
+//! The lines that a replay writes.
+
 use script::replay_lines::*;
 use std::alloc::AllocError;
 use std::test::*;

@@ -1,3 +1,5 @@
+//! Lines, words, numbers and bytes of scripts.
+
 use crate::tests::cases::{Case, all_hold};
 use decimals::decimal;
 use script::*;

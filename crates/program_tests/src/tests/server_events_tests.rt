@@ -1,3 +1,5 @@
+//! Configurations of instances, and their faults.
+
 use crate::tests::cases::{Case, all_hold};
 use server_events::*;
 use std::alloc::{AllocError, Global};

@@ -1,3 +1,5 @@
+//! The methods that a script of calls may name.
+
 use crate::tests::cases::{Case, all_hold};
 use script::unary::*;
 use std::test::*;

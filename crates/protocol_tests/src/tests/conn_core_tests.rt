@@ -1,3 +1,5 @@
+//! A connection from its preface to the answer of a call.
+
 ghost use Rattle.grpc_sending.specs.StoredSending.{Look, Fit};
 
 use crate::tests::one_byte::OneByte;

@@ -1,3 +1,5 @@
+//! What is sent of messages and ranges, and in which pieces.
+
 ghost use Rattle.std.specs.Prelude.{◌<◌, ◌^◌, length};
 ghost use Rattle.grpc_sending.specs.StoredSending.{Look, Fit};
 

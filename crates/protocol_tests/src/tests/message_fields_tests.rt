@@ -1,3 +1,5 @@
+//! Fields of messages as they are read and written.
+
 use message_fields::*;
 use std::alloc::{AllocError, Global};
 use std::test::*;

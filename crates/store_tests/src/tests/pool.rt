@@ -1,3 +1,5 @@
+//! The tests of the pool.
+
 use crate::admissions::{keeps_the_limit, keeps_the_quota};
 use crate::one_digest::both_stand;
 use crate::sharing::{Upload, are_shared};

@@ -1,3 +1,5 @@
+//! The tests of trees, of many shapes.
+
 use crate::mixed::{Stored, mixed_ending, mixed_paths_are};
 use crate::shapes::{Ending, Shape, walked_otherwise};
 use std::test::*;

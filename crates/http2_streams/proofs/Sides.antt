@@ -6,8 +6,10 @@ use Rattle.std.proofs.lemmas.List.Sums.{fold_push, sum_by-append}
 use Rattle.std.proofs.lemmas.Bool.Decides.{nat_tests}
 use Rattle.hpack.specs.Table.{new_table}
 use Rattle.http2_flow.specs.Credit.{Credit}
+use Rattle.http2_flow.specs.declared.window.TheConstants.{INITIAL_SIZE}
 use Rattle.http2_frames.specs.declared.frame.Frame.{Frame}
 use Rattle.http2_streams.specs.declared.stream.Stream.{Stream}
+use Rattle.http2_streams.specs.declared.streams.TheConstants.{MAX_REMEMBERED}
 use Rattle.http2_streams.specs.History.{Entry, Blocks, blocks_after, no_blocks, stream_of, rising_numbers, resets, data_ends, block_ends, ends, size_after, increment_for, data_length, data_length_on, is_goaway, stream_reset_by, last_items, table_after_block, received_frames, sent_frames}
 use Rattle.http2_streams.specs.Standing.{Standing, standing}
 use Rattle.http2_streams.proofs.Lists.{any-push, filter-map, filter-filter, map-map}
@@ -35,7 +37,7 @@ abbrev pub alive : List Frame → List Frame → ℕ → Bool
 alive rs ss s = not (reset_in rs ss s) && not (ended_c rs s && ended_s ss s)
 
 abbrev pub size : List Frame → ℕ
-size rs = fold size_after 65535 rs
+size rs = fold size_after INITIAL_SIZE rs
 
 abbrev pub granted_in : List Frame → ℕ → ℕ
 granted_in rs s = sum_by (increment_for s) rs
@@ -53,7 +55,7 @@ abbrev pub streams_in : List Frame → List Frame → List Stream
 streams_in rs ss = map (at rs ss) (filter (alive rs ss) (rising_numbers 0 (numbers rs)))
 
 abbrev pub connection : List Frame → List Frame → Credit
-connection rs ss = record { initial = 65535; change = pos (sum_by (increment_for 0) rs) -ℤ pos (sum_by data_length ss) }
+connection rs ss = record { initial = INITIAL_SIZE; change = pos (sum_by (increment_for 0) rs) -ℤ pos (sum_by data_length ss) }
 
 abbrev pub std_of : List Frame → List Frame → Standing
 std_of rs ss = record {
@@ -61,7 +63,7 @@ std_of rs ss = record {
   begun = nat_lt 0 (length rs);
   highest = top rs;
   live = streams_in rs ss;
-  remembered = last_items 128 (filter_map stream_reset_by ss);
+  remembered = last_items MAX_REMEMBERED (filter_map stream_reset_by ss);
   initial_window_size = size rs;
   connection_window = connection rs ss;
   unfinished = (blocks_in rs).unfinished;
@@ -104,7 +106,7 @@ in-ended rs g t same =
     ∙ or-swap (list_any (data_ends t) rs) (list_any (block_ends t) (blocks_in rs).finished) (data_ends t g)
 
 pub in-size : (rs : List Frame) (g : Frame) → size (rs ++ g ∷ []) ≡ size_after (size rs) g
-in-size rs g = fold_push size_after 65535 rs g
+in-size rs g = fold_push size_after INITIAL_SIZE rs g
 
 pub begun_after : (rs : List Frame) (g : Frame) → nat_lt 0 (length (rs ++ g ∷ [])) ≡ true
 begun_after [] g = refl

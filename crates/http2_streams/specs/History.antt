@@ -7,6 +7,7 @@ use Rattle.std.specs.Result.{result_ok}
 use Rattle.hpack.specs.Table.{Table, new_table}
 use Rattle.hpack.specs.Block.{step}
 use Rattle.http2_flow.specs.Credit.{Credit}
+use Rattle.http2_flow.specs.declared.window.TheConstants.{INITIAL_SIZE}
 use Rattle.http2_frames.specs.declared.codes.setting.TheConstants.{INITIAL_WINDOW_SIZE}
 use Rattle.http2_frames.specs.declared.settings.Setting.{Setting}
 use Rattle.http2_frames.specs.declared.error.FrameError.{FrameError}
@@ -174,9 +175,9 @@ abbrev pub size_after : ℕ → Frame → ℕ
 size_after size (Settings ack settings) = if ack then size else fold size_set size settings
 size_after size _ = size
 
--- SETTINGS_INITIAL_WINDOW_SIZE as it was set last, at first 65,535 (section 6.9.2)
+-- SETTINGS_INITIAL_WINDOW_SIZE as it was set last, at first INITIAL_SIZE (section 6.9.2)
 abbrev pub initial_window_size : List Entry → ℕ
-initial_window_size d = fold size_after 65535 (received_frames d)
+initial_window_size d = fold size_after INITIAL_SIZE (received_frames d)
 
 -- what a WINDOW_UPDATE adds to the window of stream s, or for 0 to the connection's
 abbrev pub increment_for : ℕ → Frame → ℕ
@@ -201,7 +202,7 @@ window d s = record {
 
 abbrev pub connection_window : List Entry → Credit
 connection_window d = record {
-  initial = 65535;
+  initial = INITIAL_SIZE;
   change = pos (sum_by (increment_for 0) (received_frames d)) -ℤ pos
       (sum_by data_length (sent_frames d));
 }

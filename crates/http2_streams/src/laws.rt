@@ -30,9 +30,12 @@ pub fn other_entries_change_nothing()
         StandsFor v (d ++ e ∷ []) }
 {}
 
-/// What may be sent is what the history's two windows leave, on a live stream.
+/// What may be sent is what the history's two windows leave, on a live stream. Both begin with
+/// 65,535 bytes (RFC 9113 section 6.9.2).
 pub fn windows_follow_from_the_history()
-    ensures { (v : Standing) (d : List Entry) (s n : ℕ) → StandsFor v d → v.failed ≡ false →
+    ensures stream { (s : ℕ) → window_left (window [] s) ≡ pos 65535 }
+    ensures connection { window_left (connection_window []) ≡ pos 65535 }
+    ensures left { (v : Standing) (d : List Entry) (s n : ℕ) → StandsFor v d → v.failed ≡ false →
         CanSend v s n ↔ ((is_live_at v s ≡ true) × (pos n ≤ℤ window_left (window d s))
         × (pos n ≤ℤ window_left (connection_window d))) }
 {}

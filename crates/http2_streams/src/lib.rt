@@ -15,5 +15,6 @@ pub use laws::{
     live_streams_rise, other_entries_change_nothing, the_live_streams_after_a_frame,
     windows_follow_from_the_history,
 };
+pub use live::is_live;
 pub use stream::Stream;
 pub use streams::{MAX_STREAMS, Streams};

@@ -8,7 +8,8 @@ ghost use Rattle.http2_streams.specs.Sending.{lacks};
 
 use crate::stream::{Side, Stream};
 
-pub(crate) fn is_live(live: &[Stream], number: u32) -> bool
+/// Whether the stream is among these open and half-closed ones (RFC 9113 section 5.1).
+pub fn is_live(live: &[Stream], number: u32) -> bool
     ensures { result ≡ list_any (number_is number) live.now }
 {
     live.iter().any(|stream| stream.number == number)

@@ -9,7 +9,7 @@ use Rattle.reapi_messages.specs.ByteStream.{write_request_of, write_response_rec
 use Rattle.rpc.specs.declared.refusal.Refusal.{Refusal}
 use Rattle.rpc.specs.declared.refusal.Refusal.TheVariants.{BadResourceName}
 use Rattle.instance_view.specs.Visible.{Blob, visible_text, visible_after_use}
-use Rattle.quota_evict.specs.Admission.{visible_after_admission}
+use Rattle.cas_service.specs.Admission.{visible_after_admission}
 use Rattle.cas_service.specs.Requests.{message_or_refusal, instance_check}
 use Rattle.resource_names.specs.Names.{write_name}
 use Rattle.uploads.specs.declared.error.UploadError.{UploadError}

@@ -3,13 +3,13 @@
 ghost use Rattle.std.specs.Prelude.{◌≡◌, ◌≤◌, ◌^◌, IsSome};
 ghost use Rattle.blob_pool.specs.Moves.{Moves};
 ghost use Rattle.instance_view.specs.Shown.{visible_in, holders};
-ghost use Rattle.quota_evict.specs.Kept.{AreKept};
+ghost use Rattle.cas_service.specs.Kept.{AreKept};
 ghost use Rattle.cas_service.specs.Answers.{Answers, IfAnswered, IfNoMemory};
 ghost use Rattle.uploads.specs.Uploads.{WithinLimits, upload_at};
 ghost use Rattle.bytestream.specs.Refusals.{upload_error};
 ghost use Rattle.bytestream.specs.Writing.{state_of, end_answer, part_answer, after_end, after_part, IsOldOrTaken};
 ghost use Rattle.bytestream.specs.Shown.{part_shown};
-ghost use Rattle.quota_evict.specs.Kept.{most_stored_bytes};
+ghost use Rattle.cas_service.specs.Kept.{most_stored_bytes};
 
 use blob_pool::Pool;
 use cas_service::CallError;

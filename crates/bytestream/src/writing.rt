@@ -3,14 +3,14 @@
 ghost use Rattle.std.specs.Prelude.{◌≡◌, ◌≤◌, ◌<◌, ◌^◌, length, IfOk, option_map};
 ghost use Rattle.blob_pool.specs.Moves.{Moves};
 ghost use Rattle.instance_view.specs.Shown.{visible_in, holders};
-ghost use Rattle.quota_evict.specs.Kept.{AreKept};
+ghost use Rattle.cas_service.specs.Kept.{AreKept};
 ghost use Rattle.cas_service.specs.Answers.{Answers, IfAnswered, IfNoMemory};
 ghost use Rattle.uploads.specs.Uploads.{WithinLimits};
 ghost use Rattle.uploads.specs.Shown.{key_shown};
 ghost use Rattle.bytestream.specs.Writing as writing;
 ghost use Rattle.bytestream.specs.Writing.{state_of, same_name, write_reply, unfinished_reply, first_answer, next_answer, after_first, after_next, IsFirstOldOrTaken, IsNextOldOrTaken};
 ghost use Rattle.bytestream.specs.Shown.{part_shown, first_part_shown, open_write_shown, written_shown, IfGoes};
-ghost use Rattle.quota_evict.specs.Kept.{most_stored_bytes};
+ghost use Rattle.cas_service.specs.Kept.{most_stored_bytes};
 ghost use Rattle.resource_names.specs.declared.parse.TheConstants.{MOST_UUID};
 
 use crate::names::write_name;

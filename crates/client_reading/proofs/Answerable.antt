@@ -19,7 +19,7 @@ use Rattle.http2_streams.proofs.LiveLaw.{listed_is_live}
 use Rattle.http2_streams.specs.Standing.{standing}
 use Rattle.grpc_messages.specs.declared.error.MessagesError.{MessagesError}
 use Rattle.grpc_messages.specs.Wire.{Split}
-use Rattle.rpc.specs.declared.method.Method.{Method}
+use Rattle.grpc_calls.specs.Method.{Method}
 use Rattle.grpc_calls.specs.declared.request.HeadFault.{HeadFault}
 use Rattle.grpc_calls.specs.Requests.{head_of}
 use Rattle.grpc_sending.specs.Bytes.{untaken_count}

@@ -17,10 +17,10 @@ use Rattle.http2_frames.specs.declared.settings.Setting.{Setting}
 use Rattle.http2_frames.specs.Codes.{code_number}
 use Rattle.http2_frames.specs.Frames.{frame_of}
 use Rattle.http2_frames.specs.Writing.{IsStream, IsWritable}
-use Rattle.http2_headers.specs.HeaderBlock.{HeaderBlock, new_block, with_continuation, is_excessive}
-use Rattle.http2_headers.specs.declared.header_blocks.HeaderList.{HeaderList}
-use Rattle.http2_headers.specs.Decoding.{list_of_block, list_of_continuation, list_of}
-use Rattle.http2_headers.specs.Request.{is_well_formed_request}
+use Rattle.http2_streams.specs.HeaderBlock.{HeaderBlock, new_block, with_continuation, is_excessive}
+use Rattle.http2_streams.specs.HeaderList.{HeaderList}
+use Rattle.http2_streams.specs.Decoding.{list_of_block, list_of_continuation, list_of}
+use Rattle.http2_streams.specs.Request.{is_well_formed_request}
 use Rattle.http2_streams.specs.declared.event.Event.{Event}
 use Rattle.http2_streams.specs.declared.event.Event.TheVariants.{Nothing}
 use Rattle.http2_streams.specs.declared.event.StreamEvent.{StreamEvent}

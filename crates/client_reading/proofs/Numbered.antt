@@ -12,7 +12,7 @@ use Rattle.http2_frames.specs.declared.frame.Frame.{Frame}
 use Rattle.http2_frames.specs.declared.frame.Frame.TheVariants.{Data, Headers, WindowUpdate, Continuation}
 use Rattle.http2_frames.specs.Frames.{frame_of, content_of, is_misaddressed, is_missized, is_overpadded, is_of_a_stream}
 use Rattle.http2_frames.specs.Writing.{IsStream}
-use Rattle.http2_headers.specs.HeaderBlock.{HeaderBlock, new_block, with_continuation}
+use Rattle.http2_streams.specs.HeaderBlock.{HeaderBlock, new_block, with_continuation}
 use Rattle.http2_streams.specs.History.{Entry, In, Unreadable, Out, Took, Blocks, frame_in, received_frames, blocks_with, blocks_after, no_blocks, blocks_of, unfinished_block, stream_of, rising_numbers, opened_streams, highest_stream, live_streams, is_not_closed}
 use Rattle.client_reading.specs.Changes.{IsReceivable}
 use Rattle.client_reading.proofs.Choices.{choose, OkThen, or_none, all_append, all_filter, of_all}

@@ -3,7 +3,7 @@ use Rattle.std.proofs.Common.{◌≡◌, ℕ, ◌<◌, ◌^◌, ◌%◌, List, [
 use Rattle.std.specs.List.{AllByRecursion}
 use Rattle.std.proofs.lemmas.List.Sums.{fold-append}
 use Rattle.http2_frames.specs.declared.frame.RawFrame.{RawFrame}
-use Rattle.wire_items.specs.Grammar.{Spells}
+use Rattle.http2_frames.specs.Grammar.{Spells}
 use Rattle.http2_frames.specs.Wire.{IsFrameText, Split, IsSplit}
 use Rattle.http2_frames.specs.Reading.{split}
 use Rattle.http2_frames.proofs.Divisions.{split_found}

@@ -7,13 +7,13 @@ use Rattle.http2_frames.specs.declared.error.FrameError.{FrameError}
 use Rattle.http2_frames.specs.declared.frame.RawFrame.{RawFrame}
 use Rattle.http2_frames.specs.declared.frame.Frame.{Frame}
 use Rattle.http2_frames.specs.declared.reader.TheConstants.{CLIENT_PREFACE}
-use Rattle.wire_items.specs.Items.{behind}
+use Rattle.http2_frames.specs.Items.{behind}
 use Rattle.http2_frames.specs.Reading.{split}
 use Rattle.http2_frames.specs.Wire.{Split}
 use Rattle.http2_frames.specs.Reader.{Unread, text_left, split_left, with_more_bytes, IsFrame, front_of, StandsFor as IsReader}
-use Rattle.http2_headers.specs.declared.fault.H2Fault.{H2Fault}
-use Rattle.http2_headers.specs.declared.fault.H2Fault.TheVariants.{Connection}
-use Rattle.http2_headers.specs.Decoding.{Gives}
+use Rattle.http2_streams.specs.H2Fault.{H2Fault}
+use Rattle.http2_streams.specs.H2Fault.TheVariants.{Connection}
+use Rattle.http2_streams.specs.Decoding.{Gives}
 use Rattle.http2_streams.specs.declared.event.StreamEvent.{StreamEvent}
 use Rattle.http2_streams.specs.declared.stream.Stream.{Stream}
 use Rattle.http2_streams.specs.History.{Entry, Out, has_failed}

@@ -18,7 +18,7 @@ use Rattle.http2_streams.specs.Standing.{Standing}
 use Rattle.http2_streams.specs.StandsFor.{StandsFor as AreStreams}
 use Rattle.http2_streams.proofs.PutLaw.{no_matter}
 use Rattle.grpc_messages.specs.declared.error.MessagesError.{MessagesError}
-use Rattle.digest.specs.declared.Digest.{Digest}
+use Rattle.grpc_sending.specs.Digest.{Digest}
 use Rattle.grpc_sending.specs.Owed.{Item, OwedItem, Range, owed_with_item}
 use Rattle.grpc_sending.specs.StoredSending.{Look, StoredSending, StandsFor as IsSending}
 use Rattle.grpc_sending.proofs.Histories.{append-nil}

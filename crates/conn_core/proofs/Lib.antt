@@ -19,3 +19,6 @@ pub mod Frames
 pub mod Closed
 mod Looks
 mod Readers
+pub use Rattle.http2_frames.proofs.WireItemsDivisions as Divisions
+pub use Rattle.grpc_messages.proofs.Fronts
+pub use Rattle.http2_frames.proofs.MoreBytes

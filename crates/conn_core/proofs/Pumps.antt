@@ -6,7 +6,7 @@ use Rattle.std.specs.Option.{option_map_or}
 use Rattle.std.proofs.lemmas.Bool.{and_parts, cases_Bool}
 use Rattle.std.proofs.lemmas.List.{map-append}
 use Rattle.std.proofs.lemmas.List.Folds.{list_any-append}
-use Rattle.http2_flow.specs.Credit.{window_left}
+use Rattle.http2_streams.specs.Credit.{window_left}
 use Rattle.http2_frames.specs.declared.frame.Frame.TheVariants.{Data}
 use Rattle.grpc_calls.specs.Responses.{is_last}
 use Rattle.grpc_sending.specs.Pieces.{Piece}

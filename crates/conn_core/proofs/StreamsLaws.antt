@@ -12,7 +12,7 @@ use Rattle.http2_frames.specs.declared.frame.RawFrame.{RawFrame}
 use Rattle.http2_frames.specs.declared.frame.Frame.{Frame}
 use Rattle.http2_frames.specs.declared.frame.Frame.TheVariants.{Settings}
 use Rattle.http2_frames.specs.declared.settings.Setting.{Setting}
-use Rattle.http2_headers.specs.HeaderBlock.{HeaderBlock}
+use Rattle.http2_streams.specs.HeaderBlock.{HeaderBlock}
 use Rattle.http2_streams.specs.declared.event.Event.{Event}
 use Rattle.http2_streams.specs.declared.event.Event.TheVariants.{Request}
 use Rattle.http2_streams.specs.declared.event.StreamEvent.{StreamEvent}

@@ -9,7 +9,7 @@ use Rattle.grpc_messages.specs.Wire.{Split}
 use Rattle.grpc_messages.specs.Reading.{message_format, split}
 use Rattle.grpc_messages.specs.Reader.{bytes_left, messages_in, StandsFor as AreMessages}
 use Rattle.grpc_messages.proofs.Fronts.{steady}
-use Rattle.wire_items.proofs.Divisions.{grows}
+use Rattle.http2_frames.proofs.WireItemsDivisions.{grows}
 use Rattle.grpc_sending.proofs.Histories.{append-nil}
 use Rattle.conn_core.specs.declared.event.CallEvent.{CallEvent}
 use Rattle.conn_core.specs.declared.event.CallEvent.TheVariants.{Message, Fault}

@@ -1,8 +1,8 @@
 -- What more of a call's text brings, by what is kept of its front.
 use Rattle.std.proofs.Common.{◌≡◌, ℕ, List, [], ◌∷◌, ◌++◌, length, drop, refl, ap, ◌∙◌, sym}
 use Rattle.std.specs.Prelude.{Bool, map, Result, Ok, Err}
-use Rattle.wire_items.specs.Items.{behind, divide_left}
-use Rattle.wire_items.proofs.Divisions.{continues, divide_partial}
+use Rattle.http2_frames.specs.Items.{behind, divide_left}
+use Rattle.http2_frames.proofs.WireItemsDivisions.{continues, divide_partial}
 use Rattle.grpc_messages.specs.declared.error.MessagesError.{MessagesError}
 use Rattle.grpc_messages.specs.Wire.{Split}
 use Rattle.grpc_messages.specs.Reading.{message_format, split}

@@ -15,7 +15,7 @@ use Rattle.http2_streams.specs.StandsFor.{StandsFor as AreStreams}
 use Rattle.grpc_messages.specs.declared.error.MessagesError.{MessagesError}
 use Rattle.grpc_sending.specs.StoredSending.{Look, StoredSending, StandsFor as IsSending}
 use Rattle.grpc_sending.specs.Owed.{Item, Range}
-use Rattle.digest.specs.declared.Digest.{Digest}
+use Rattle.grpc_sending.specs.Digest.{Digest}
 use Rattle.conn_core.specs.declared.call.Call.{Call}
 use Rattle.conn_core.specs.declared.event.CallEvent.{CallEvent}
 use Rattle.conn_core.specs.Received.{received_raw_frames}

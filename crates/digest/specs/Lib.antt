@@ -3,3 +3,5 @@ pub mod Text
 pub mod Digits
 pub mod Hashed
 pub mod Hashing
+pub use Rattle.hex.specs.declared.error.FromHexError
+pub use Rattle.hex.specs.Hex

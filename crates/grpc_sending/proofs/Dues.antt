@@ -5,7 +5,7 @@ use Rattle.std.specs.List.{list_any}
 use Rattle.hpack.specs.declared.encoder.Position.TheVariants.{Later}
 use Rattle.hpack.specs.declared.encoder.Position.{Position}
 use Rattle.hpack.specs.Encoding.{block_text, block_opening}
-use Rattle.http2_flow.specs.Credit.{window_left}
+use Rattle.http2_streams.specs.Credit.{window_left}
 use Rattle.http2_frames.specs.declared.frame.Frame.TheVariants.{Data, Headers}
 use Rattle.http2_frames.specs.Writing.{text_of}
 use Rattle.http2_streams.specs.declared.stream.Stream.{Stream}

@@ -11,3 +11,4 @@ pub mod StandsFor
 pub mod Step
 pub mod Wire
 pub mod SortedQueues
+pub use Rattle.digest.specs.declared.Digest

@@ -4,7 +4,7 @@ use Rattle.std.specs.Prelude.{◌≡◌, ◌<◌, ◌≤◌, ◌-◌, ◌^◌, �
 use Rattle.std.specs.List.{flat_map, AllByRecursion}
 use Rattle.hpack.specs.declared.encoder.Position.{Position}
 use Rattle.hpack.specs.declared.encoder.Position.TheVariants.{First}
-use Rattle.http2_flow.specs.Credit.{window_left}
+use Rattle.http2_streams.specs.Credit.{window_left}
 use Rattle.http2_frames.specs.declared.frame.Frame.TheVariants.{Data}
 use Rattle.http2_frames.specs.Writing.{text_of}
 use Rattle.http2_streams.specs.History.{Entry, is_not_closed, has_failed}

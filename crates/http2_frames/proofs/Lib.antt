@@ -7,3 +7,4 @@ pub mod Divisions
 pub mod MoreBytes
 pub mod Again
 pub mod Padding
+pub use Rattle.wire_items.proofs.Divisions as WireItemsDivisions

@@ -5,3 +5,4 @@ pub mod Answers
 pub mod Texts
 pub mod Pages
 pub mod Uses
+pub use Rattle.decimals.specs.Number

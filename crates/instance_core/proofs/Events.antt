@@ -9,7 +9,7 @@ use Rattle.rpc.specs.declared.method.Method.{Method}
 use Rattle.rpc.specs.declared.method.Method.TheVariants.{FindMissingBlobs, BatchUpdateBlobs, BatchReadBlobs, GetTree, GetActionResult, UpdateActionResult, Execute, WaitExecution, GetCapabilities, Read, Write, QueryWriteStatus}
 use Rattle.rpc.specs.declared.refusal.Refusal.{Refusal}
 use Rattle.rpc.specs.declared.refusal.Refusal.TheVariants.{UnknownMethod}
-use Rattle.protobuf_wire.proofs.Tools.{bind_ok, ok_is}
+use Rattle.reapi_messages.proofs.Tools.{bind_ok, ok_is}
 use Rattle.blob_pool.specs.Slots.{Slots}
 use Rattle.instance_view.specs.Visible.{Blob, visible_text}
 use Rattle.bytestream.specs.declared.reading.ReadAsked.{ReadAsked}

@@ -13,3 +13,6 @@ pub mod WriteLimits
 mod WriteAdds
 pub mod EventLimits
 pub mod NamedReplies
+pub use Rattle.instance_view.proofs.Held
+pub use Rattle.quota_evict.proofs.Limits
+pub use Rattle.quota_evict.proofs.Steps

@@ -2,14 +2,14 @@
 use Rattle.std.proofs.Common.{◌≡◌, ℕ, ◌^◌, ◌<◌, Bool, true, false, cond, ◌&&◌, List, [], ◌∷◌, Some, None, Result, Ok, Err, refl, ltb-true}
 use Rattle.std.specs.Prelude.{nat_lt}
 use Rattle.std.specs.Str.Parse.{digits_value}
-use Rattle.protobuf_wire.proofs.Tools.{ok_is}
+use Rattle.reapi_messages.proofs.Tools.{ok_is}
 use Rattle.digest.specs.declared.Digest.{Digest}
 use Rattle.digest.specs.Text.{hash_in}
-use Rattle.resource_names.specs.declared.name.NameError.{NameError}
-use Rattle.resource_names.specs.declared.name.NameError.TheVariants.{Form, Hash, Size}
-use Rattle.resource_names.specs.Names.{◌>>=◌, WriteNameValue, or_fault, divides_write, upload_compression_check, instance_of, uuid_of, blobs_place, digest_of_segments, upload_named, write_name}
-use Rattle.resource_names.specs.Segments.{division_of, segments_of}
-use Rattle.resource_names.specs.Size.{is_numeral, size_in}
+use Rattle.bytestream.specs.NameError.{NameError}
+use Rattle.bytestream.specs.NameError.TheVariants.{Form, Hash, Size}
+use Rattle.bytestream.specs.Names.{◌>>=◌, WriteNameValue, or_fault, divides_write, upload_compression_check, instance_of, uuid_of, blobs_place, digest_of_segments, upload_named, write_name}
+use Rattle.bytestream.specs.Segments.{division_of, segments_of}
+use Rattle.bytestream.specs.Size.{is_numeral, size_in}
 use Rattle.bytestream.specs.Refusals.{name_or_refusal}
 
 -- a size that can be told (bytestream.proto, committed_size)

@@ -27,7 +27,7 @@ use Rattle.tree_calls.specs.GetTree.{texts_seen, get_tree_replies}
 use Rattle.tree_calls.specs.Results.{get_action_result_reply}
 use Rattle.tree_calls.specs.Pages.{IsNamedPage}
 use Rattle.tree_calls.proofs.Named.{pages_named, result_complete}
-use Rattle.input_tree.specs.Listing.{tree_list}
+use Rattle.tree_calls.specs.Listing.{tree_list}
 use Rattle.instance_core.specs.Replies.{ReplyItemValue, begins, gives, ends, ReplyValue, items_of, message_items, whole_reply_items, range_items, read_items}
 use Rattle.instance_core.specs.Changes.{Change}
 use Rattle.instance_core.specs.Methods.{is_served, reply_to, items_to}

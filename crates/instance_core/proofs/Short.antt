@@ -4,12 +4,12 @@ use Rattle.std.specs.Prelude.{nat_le, nat_lt}
 use Rattle.std.specs.Int.{w64, cast_unsigned}
 use Rattle.std.specs.List.{AllByRecursion, filter, concat}
 use Rattle.std.proofs.lemmas.List.{length-append}
-use Rattle.protobuf_wire.specs.Record.{Record}
-use Rattle.protobuf_wire.specs.Writing.{records_text, varint, packed_text, number_field, bytes_field, message_field}
-use Rattle.protobuf_wire.proofs.Tools.{bind_ok, ok_is}
-use Rattle.message_fields.specs.declared.error.MessageError.{MessageError}
-use Rattle.message_fields.specs.Fields.{value_of_text, payloads, each_of, string, int64, repeated_values, embedded_value, records_in, joined_value, octets, int32}
-use Rattle.message_fields.specs.Parts.{text_for, each_field, string_field, int64_field, embedded_field, repeated_field}
+use Rattle.reapi_messages.specs.Record.{Record}
+use Rattle.reapi_messages.specs.Writing.{records_text, varint, packed_text, number_field, bytes_field, message_field}
+use Rattle.reapi_messages.proofs.Tools.{bind_ok, ok_is}
+use Rattle.reapi_messages.specs.MessageError.{MessageError}
+use Rattle.reapi_messages.specs.Fields.{value_of_text, payloads, each_of, string, int64, repeated_values, embedded_value, records_in, joined_value, octets, int32}
+use Rattle.reapi_messages.specs.Parts.{text_for, each_field, string_field, int64_field, embedded_field, repeated_field}
 use Rattle.reapi_messages.specs.Digests.{DigestValue, digest_of, digest_records}
 use Rattle.reapi_messages.specs.Statuses.{StatusValue, status_records}
 use Rattle.reapi_messages.specs.Batches.{UpdateBlobRequestValue, read_blob_response_records, batch_read_blobs_request_of, update_blob_request_of, batch_update_blobs_request_of, update_blob_response_records}
@@ -22,7 +22,7 @@ use Rattle.rpc.specs.declared.refusal.Refusal.{Refusal}
 use Rattle.digest.specs.declared.Digest.{Digest}
 use Rattle.digest.specs.Text.{digest_in}
 use Rattle.reapi_messages.specs.Capabilities.{sem_ver_records, cache_capabilities_records, execution_capabilities_records}
-use Rattle.protobuf_wire.proofs.Texts.{varint_is}
+use Rattle.reapi_messages.proofs.ProtobufWireTexts.{varint_is}
 use Rattle.instance_core.specs.Capabilities.{version, cache, execution, capabilities_message, capabilities_asked, get_capabilities_reply}
 use Rattle.digest.specs.Naming.{Names, same_digest}
 use Rattle.digest.proofs.Same.{same_equal}

@@ -5,11 +5,11 @@ use Rattle.std.specs.Str.Parse.{digits_value}
 use Rattle.std.proofs.lemmas.Bool.Decides.{nat_tests}
 use Rattle.digest.specs.declared.Digest.{Digest}
 use Rattle.digest.specs.Text.{hash_in}
-use Rattle.resource_names.specs.declared.name.NameError.{NameError}
-use Rattle.resource_names.specs.declared.name.NameError.TheVariants.{Form, Hash, Size}
-use Rattle.resource_names.specs.Segments.{DivisionValue, division_of, segments_of}
-use Rattle.resource_names.specs.Size.{is_numeral, size_in}
-use Rattle.resource_names.specs.Names.{WriteNameValue, ◌>>=◌, or_fault, uuid_of, blobs_place, digest_of_segments, divides_write, upload_compression_check, instance_of, upload_named, write_name}
+use Rattle.bytestream.specs.NameError.{NameError}
+use Rattle.bytestream.specs.NameError.TheVariants.{Form, Hash, Size}
+use Rattle.bytestream.specs.Segments.{DivisionValue, division_of, segments_of}
+use Rattle.bytestream.specs.Size.{is_numeral, size_in}
+use Rattle.bytestream.specs.Names.{WriteNameValue, ◌>>=◌, or_fault, uuid_of, blobs_place, digest_of_segments, divides_write, upload_compression_check, instance_of, upload_named, write_name}
 
 size_below : (text : List ℕ) (n : ℕ) → size_in text ≡ Some n → n < 2 ^ 63
 size_below text n is = go (is_numeral text) (nat_lt (digits_value 10 text) (2 ^ 63)) refl is where

@@ -1,14 +1,14 @@
 -- Replies of Write and QueryWriteStatus are short: each tells a size below 2^63.
 use Rattle.std.proofs.Common.{◌≡◌, ℕ, pos, ◌+◌, ◌^◌, ◌<◌, ◌≤◌, Bool, true, false, cond, List, [], ◌∷◌, length, Option, Some, None, is_some, Result, Ok, Err, subst, arith}
 use Rattle.std.specs.Map.{lookup}
-use Rattle.protobuf_wire.specs.Results.{◌>>=◌}
-use Rattle.protobuf_wire.specs.Writing.{records_text, number_field}
-use Rattle.protobuf_wire.proofs.Tools.{bind_ok, ok_is}
-use Rattle.message_fields.specs.Fields.{value_of_text}
-use Rattle.message_fields.specs.Parts.{text_for, flag_field}
+use Rattle.reapi_messages.specs.Results.{◌>>=◌}
+use Rattle.reapi_messages.specs.Writing.{records_text, number_field}
+use Rattle.reapi_messages.proofs.Tools.{bind_ok, ok_is}
+use Rattle.reapi_messages.specs.Fields.{value_of_text}
+use Rattle.reapi_messages.specs.Parts.{text_for, flag_field}
 use Rattle.reapi_messages.specs.ByteStream.{write_request_of, query_write_status_request_of, query_write_status_response_records}
 use Rattle.rpc.specs.declared.refusal.Refusal.{Refusal}
-use Rattle.resource_names.specs.Names.{write_name}
+use Rattle.bytestream.specs.Names.{write_name}
 use Rattle.instance_view.specs.Visible.{Blob, visible_text}
 use Rattle.cas_service.specs.Requests.{message_or_refusal, instance_check}
 use Rattle.uploads.specs.Uploads.{KeyValue, UploadValue, UploadList, upload_at, text_so_far, text_in, total_length, WithinLimits}

@@ -11,8 +11,8 @@ use Rattle.instance_view.specs.Visible.{visible_text}
 use Rattle.quota_evict.specs.Within.{Within}
 use Rattle.quota_evict.proofs.Limits.{used_within, admitted_within}
 use Rattle.cas_service.specs.Requests.{message_or_refusal, instance_check}
-use Rattle.resource_names.specs.declared.name.NameError.{NameError}
-use Rattle.resource_names.specs.Names.{WriteNameValue, write_name}
+use Rattle.bytestream.specs.NameError.{NameError}
+use Rattle.bytestream.specs.Names.{WriteNameValue, write_name}
 use Rattle.uploads.specs.declared.error.UploadError.{UploadError}
 use Rattle.uploads.specs.declared.error.UploadError.TheVariants.{Offset, Hash as WrongHash, Size as WrongSize, TooMany, OverQuota, NoMemory}
 use Rattle.uploads.specs.Uploads.{KeyValue, UploadList, text_so_far, WithinLimits}

@@ -12,3 +12,11 @@ pub mod Shown
 pub mod Given
 pub mod Named
 pub mod NamedReplies
+pub use Rattle.quota_evict.specs.Kept
+pub use Rattle.instance_view.specs.Visible
+pub use Rattle.instance_view.specs.Shown as InstanceViewShown
+pub use Rattle.bytestream.specs.Writing
+pub use Rattle.rpc.specs.declared.method.Method
+pub use Rattle.rpc.specs.declared.refusal.Refusal
+pub use Rattle.digest.specs.declared.Digest
+pub use Rattle.digest.specs.Naming

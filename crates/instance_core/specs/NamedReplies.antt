@@ -18,7 +18,7 @@ use Rattle.tree_calls.specs.Complete.{IsCompleteReply}
 use Rattle.tree_calls.specs.Pages.{IsNamedPage}
 use Rattle.tree_calls.specs.Asking.{TreeAskedValue, tree_asked}
 use Rattle.tree_calls.specs.GetTree.{texts_seen}
-use Rattle.input_tree.specs.Listing.{tree_list}
+use Rattle.tree_calls.specs.Listing.{tree_list}
 use Rattle.rpc.specs.declared.method.Method.TheVariants.{BatchReadBlobs, GetTree, GetActionResult, Read}
 use Rattle.instance_core.specs.Calls.{ProgressValue, waits, has, writes, CallEventValue, end, call_at}
 use Rattle.instance_core.specs.Replies.{ReplyItemValue, begins, says, gives, ends, refuses, ReplyValue}

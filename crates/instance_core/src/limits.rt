@@ -1,15 +1,15 @@
 //! The limits that clauses and definitions call by their names, as numbers.
 
 ghost use Rattle.std.specs.Prelude.{◌≡◌, ◌^◌};
-ghost use Rattle.paged_text.specs.declared.text.TheConstants.{MOST_BYTES, PAGE_BYTES};
+ghost use Rattle.blob_pool.specs.TextConstants.{MOST_BYTES, PAGE_BYTES};
 ghost use Rattle.instance_view.specs.declared.view.TheConstants.{MOST_LIMIT};
-ghost use Rattle.resource_names.specs.declared.parse.TheConstants.{MOST_UUID};
+ghost use Rattle.bytestream.specs.ParseConstants.{MOST_UUID};
 ghost use Rattle.uploads.specs.declared.steps.TheConstants.{MOST_UPLOADS};
 ghost use Rattle.uploads.specs.declared.table.TheConstants.{UPLOAD_AGE};
 ghost use Rattle.cas_service.specs.declared.requests.TheConstants.{MOST_BATCH_BYTES};
-ghost use Rattle.input_tree.specs.declared.directory.TheConstants.{MOST_DIRECTORY_BYTES};
-ghost use Rattle.input_tree.specs.declared.listing.TheConstants.{MOST_DIRECTORIES};
-ghost use Rattle.input_tree.specs.declared.pages.TheConstants.{MOST_PAGE_BYTES};
+ghost use Rattle.tree_calls.specs.DirectoryConstants.{MOST_DIRECTORY_BYTES};
+ghost use Rattle.tree_calls.specs.ListingConstants.{MOST_DIRECTORIES};
+ghost use Rattle.tree_calls.specs.PagesConstants.{MOST_PAGE_BYTES};
 ghost use Rattle.action_cache.specs.declared.results.TheConstants.{MOST_RESULTS, MOST_RESULT_BYTES};
 
 /// What texts keep to: the bytes of one text and of a page of it, and how many a view may have at

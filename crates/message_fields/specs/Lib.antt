@@ -11,3 +11,4 @@ pub mod Parts
 pub mod Again
 pub mod Joining
 pub mod Pieces
+pub use Rattle.protobuf_wire.specs.declared.field.WireError

@@ -3,8 +3,8 @@ use Rattle.std.proofs.Common.{List, ◌++◌, map, refl, arith, if◌then◌else
 use Rattle.std.specs.Int.{w64, cast_unsigned}
 use Rattle.std.specs.List.{AllByRecursion}
 use Rattle.std.proofs.lemmas.Bool.{eqb-false}
-use Rattle.protobuf_wire.specs.Record.{Record}
-use Rattle.protobuf_wire.specs.Writing.{packed_text}
+use Rattle.message_fields.specs.Record.{Record}
+use Rattle.message_fields.specs.Writing.{packed_text}
 use Rattle.message_fields.specs.Parts.{string_field, int64_field, int32_field, flag_field, repeated_enum_field, embedded_field}
 use Rattle.message_fields.specs.Again.{HasField, AreReadAgain}
 use Rattle.message_fields.proofs.Places.{alone, after, before, lacks_both, lacks_bytes, lacks_number, lacks_embedded}

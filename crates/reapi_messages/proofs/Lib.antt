@@ -6,3 +6,5 @@ pub mod StatusesAgain
 pub mod BatchesAgain
 pub mod CapabilitiesAgain
 pub mod ByteStreamAgain
+pub use Rattle.message_fields.proofs.Tools
+pub use Rattle.message_fields.proofs.ProtobufWireTexts

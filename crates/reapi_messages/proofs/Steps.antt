@@ -1,7 +1,7 @@
 -- Writing one part after another, step by step.
 use Rattle.std.proofs.Common.{◌≡◌, List, ◌++◌, ap, sym, ◌∙◌}
-use Rattle.protobuf_wire.specs.Record.{Record}
-use Rattle.protobuf_wire.specs.Writing.{Written, followed_by_records}
+use Rattle.message_fields.specs.Record.{Record}
+use Rattle.message_fields.specs.Writing.{Written, followed_by_records}
 use Rattle.message_fields.proofs.Texts.{written_more}
 
 -- some parts were written before, and then one more

@@ -1,10 +1,10 @@
-pub use Rattle.protobuf_wire.specs.Results
-pub use Rattle.protobuf_wire.specs.Record
-pub use Rattle.protobuf_wire.specs.Reading
-pub use Rattle.protobuf_wire.specs.Shown
-pub use Rattle.protobuf_wire.specs.Spelling
-pub use Rattle.protobuf_wire.specs.Faults
-pub use Rattle.protobuf_wire.specs.Writing
+pub use Rattle.message_fields.specs.Results
+pub use Rattle.message_fields.specs.Record
+pub use Rattle.message_fields.specs.Reading
+pub use Rattle.message_fields.specs.Shown
+pub use Rattle.message_fields.specs.Spelling
+pub use Rattle.message_fields.specs.Faults
+pub use Rattle.message_fields.specs.Writing
 pub mod Errors
 pub use Rattle.message_fields.specs.Answers
 pub use Rattle.message_fields.specs.Fields
@@ -17,3 +17,4 @@ pub mod Statuses
 pub mod Batches
 pub mod Capabilities
 pub mod ByteStream
+pub use Rattle.message_fields.specs.declared.error.MessageError

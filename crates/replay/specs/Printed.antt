@@ -1,8 +1,8 @@
 -- What a script of events prints: the outputs of its instances, each alone, and then the events of
 -- no instance.
 use Rattle.std.specs.Prelude.{ℕ, ◌+◌, List, [], ◌∷◌, ◌++◌, Result, Ok, Err}
-use Rattle.served_instance.specs.declared.refusal.EventRefusal.{EventRefusal}
-use Rattle.served_instance.specs.Codes.{code_of}
+use Rattle.server_core.specs.EventRefusal.{EventRefusal}
+use Rattle.server_core.specs.Codes.{code_of}
 use Rattle.server_core.specs.Outputs.{InstanceOutputValue}
 use Rattle.server_core.specs.LoneOutput.{lone_output, strays}
 use Rattle.server_events.specs.Configs.{ConfigValue}

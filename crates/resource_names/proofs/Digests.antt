@@ -9,9 +9,9 @@ use Rattle.std.proofs.lemmas.Bool.{and_parts, cases_eq}
 use Rattle.std.proofs.lemmas.Bool.Decides.{nat_tests}
 use Rattle.std.proofs.lemmas.Str.Parse.{IsNumeralModel, tells_digits, numerals_by_value, digit_from_value}
 use Rattle.std.proofs.lemmas.Fmt.{decimal-digits_value, digits_value-decimal, digits_decimal, decimal_digit, decimal_nonempty, first_decimal}
-use Rattle.hex.specs.declared.error.FromHexError.{FromHexError}
-use Rattle.hex.specs.Hex.{IsBytes, encode_lower, decode_sized}
-use Rattle.hex.proofs.HexLemmas.{decode_sized-ok, decode_sized-twice, decode_of-ok}
+use Rattle.digest.specs.FromHexError.{FromHexError}
+use Rattle.digest.specs.Hex.{IsBytes, encode_lower, decode_sized}
+use Rattle.digest.proofs.HexLemmas.{decode_sized-ok, decode_sized-twice, decode_of-ok}
 use Rattle.digest.specs.declared.Digest.{Digest}
 use Rattle.digest.specs.Text.{IsWritten, hash_text, hash_in, is_lower_hex_digit, bytes_decoded, with_hash}
 use Rattle.digest.proofs.Writings.{is_written, is_read}

@@ -2,11 +2,11 @@
 use Rattle.std.proofs.Common.{◌≡◌, ℕ, List, refl}
 use Rattle.std.specs.Prelude.{Bool, true, false, Option, Some, None, Result, Ok, Err}
 use Rattle.std.specs.List.{AllByRecursion}
-use Rattle.rpc.specs.declared.method.Method.{Method}
-use Rattle.rpc.specs.declared.method.Method.TheVariants.{Write}
-use Rattle.rpc.specs.declared.refusal.Refusal.{Refusal}
-use Rattle.bytestream.specs.Writing as Writing
-use Rattle.bytestream.specs.Writing.{WrittenValue}
+use Rattle.instance_core.specs.Method.{Method}
+use Rattle.instance_core.specs.Method.TheVariants.{Write}
+use Rattle.instance_core.specs.Refusal.{Refusal}
+use Rattle.instance_core.specs.Writing as Writing
+use Rattle.instance_core.specs.Writing.{WrittenValue}
 use Rattle.instance_core.specs.declared.event.CallId.{CallId}
 use Rattle.instance_core.specs.Calls.{ProgressValue, waits, has, writes, CallValue, head, message, fault, end, call_at}
 use Rattle.instance_core.specs.State.{InstanceState}

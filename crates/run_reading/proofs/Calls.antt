@@ -4,7 +4,7 @@ use Rattle.std.specs.Prelude.{Bool, true, false, cond, ◌==◌, map, fold, Opti
 use Rattle.std.specs.List.{AllByRecursion}
 use Rattle.std.specs.Option.{option_map_or}
 use Rattle.std.proofs.lemmas.Grind.{flat_map-append}
-use Rattle.http2_streams.specs.History.{Entry}
+use Rattle.conn_core.specs.History.{Entry}
 use Rattle.grpc_sending.specs.Owed.{OwedItem, Item, item_on, items_owed_on, owed_with_item}
 use Rattle.grpc_sending.proofs.Histories.{append-nil}
 use Rattle.conn_core.specs.declared.event.CallEvent.{CallEvent}

@@ -5,18 +5,18 @@ use Rattle.std.specs.List.{AllByRecursion}
 use Rattle.std.specs.Option.{option_map_or}
 use Rattle.std.proofs.lemmas.Bool.{cases_Bool}
 use Rattle.std.proofs.lemmas.List.Sums.{fold-append}
-use Rattle.http2_frames.specs.declared.reader.TheConstants.{CLIENT_PREFACE}
-use Rattle.http2_frames.specs.declared.codes.ErrorCode.{ErrorCode}
-use Rattle.http2_frames.specs.declared.error.FrameError.{FrameError}
-use Rattle.http2_frames.specs.declared.frame.RawFrame.{RawFrame}
-use Rattle.http2_frames.specs.Reading.{split}
-use Rattle.http2_streams.specs.declared.event.Event.{Event}
-use Rattle.http2_streams.specs.declared.event.Event.TheVariants.{Nothing, Request, Content, Trailers, Cancel as StreamCancel}
-use Rattle.http2_streams.specs.History.{Entry, has_failed, live_streams}
-use Rattle.http2_streams.specs.Rules.{reading_fault}
-use Rattle.rpc.specs.declared.method.Method.{Method}
-use Rattle.grpc_calls.specs.declared.request.HeadFault.{HeadFault}
-use Rattle.grpc_calls.specs.Requests.{head_of}
+use Rattle.conn_core.specs.ReaderConstants.{CLIENT_PREFACE}
+use Rattle.conn_core.specs.ErrorCode.{ErrorCode}
+use Rattle.conn_core.specs.FrameError.{FrameError}
+use Rattle.conn_core.specs.RawFrame.{RawFrame}
+use Rattle.conn_core.specs.Reading.{split}
+use Rattle.conn_core.specs.Event.{Event}
+use Rattle.conn_core.specs.Event.TheVariants.{Nothing, Request, Content, Trailers, Cancel as StreamCancel}
+use Rattle.conn_core.specs.History.{Entry, has_failed, live_streams}
+use Rattle.conn_core.specs.Rules.{reading_fault}
+use Rattle.instance_core.specs.Method.{Method}
+use Rattle.conn_core.specs.HeadFault.{HeadFault}
+use Rattle.conn_core.specs.Requests.{head_of}
 use Rattle.grpc_sending.specs.Owed.{OwedItem, Item, items_owed_on, owed_with_item}
 use Rattle.grpc_sending.proofs.Histories.{append-nil}
 use Rattle.conn_core.specs.declared.event.CallEvent.{CallEvent}

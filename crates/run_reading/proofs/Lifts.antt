@@ -3,12 +3,12 @@ use Rattle.std.proofs.Common.{◌≡◌, ℕ, List, [], ◌∷◌, refl}
 use Rattle.std.specs.Prelude.{true, false, drop, length, zero, suc, Option, Some, None, Result, Ok, Err}
 use Rattle.std.specs.List.{AllByRecursion}
 use Rattle.std.specs.Option.{option_map_or}
-use Rattle.http2_frames.specs.declared.reader.TheConstants.{CLIENT_PREFACE}
-use Rattle.http2_frames.specs.declared.codes.ErrorCode.{ErrorCode}
-use Rattle.http2_frames.specs.declared.error.FrameError.{FrameError}
-use Rattle.http2_frames.specs.declared.frame.RawFrame.{RawFrame}
-use Rattle.http2_frames.specs.Reading.{split}
-use Rattle.http2_streams.specs.Rules.{reading_fault}
+use Rattle.conn_core.specs.ReaderConstants.{CLIENT_PREFACE}
+use Rattle.conn_core.specs.ErrorCode.{ErrorCode}
+use Rattle.conn_core.specs.FrameError.{FrameError}
+use Rattle.conn_core.specs.RawFrame.{RawFrame}
+use Rattle.conn_core.specs.Reading.{split}
+use Rattle.conn_core.specs.Rules.{reading_fault}
 use Rattle.grpc_sending.specs.Owed.{Item}
 use Rattle.conn_core.specs.declared.event.CallEvent.{CallEvent}
 use Rattle.conn_core.specs.Received.{received_raw_frames}

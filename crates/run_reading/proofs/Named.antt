@@ -2,8 +2,8 @@
 use Rattle.std.proofs.Common.{ℕ, ◌<◌, ◌^◌, List, [], ◌∷◌, sym, subst, length}
 use Rattle.std.specs.Prelude.{map, Option, Some, None}
 use Rattle.std.specs.List.{AllByRecursion}
-use Rattle.digest.specs.declared.Digest.{Digest}
-use Rattle.digest.specs.Naming.{Names}
+use Rattle.instance_core.specs.Digest.{Digest}
+use Rattle.instance_core.specs.Naming.{Names}
 use Rattle.grpc_sending.specs.Owed.{Item, Headed, Message, Range}
 use Rattle.instance_core.specs.Replies.{ReplyItemValue, begins, says, gives, ends, refuses, ReplyValue}
 use Rattle.instance_core.specs.Answer.{answer, state_after}

@@ -5,18 +5,18 @@ use Rattle.std.specs.List.{AllByRecursion}
 use Rattle.std.specs.Option.{option_map_or}
 use Rattle.std.proofs.lemmas.Bool.{cases_Bool}
 use Rattle.std.proofs.lemmas.List.Elements.{filter_map-append}
-use Rattle.http2_frames.specs.declared.reader.TheConstants.{CLIENT_PREFACE}
-use Rattle.http2_frames.specs.declared.codes.ErrorCode.{ErrorCode}
-use Rattle.http2_frames.specs.declared.error.FrameError.{FrameError}
-use Rattle.http2_frames.specs.declared.frame.RawFrame.{RawFrame}
-use Rattle.http2_frames.specs.Reading.{split}
-use Rattle.http2_frames.proofs.MoreBytes.{more_frames}
-use Rattle.http2_streams.specs.History.{Entry, Unreadable, Out, has_failed, highest_stream}
-use Rattle.http2_streams.specs.Rules.{reading_fault}
+use Rattle.conn_core.specs.ReaderConstants.{CLIENT_PREFACE}
+use Rattle.conn_core.specs.ErrorCode.{ErrorCode}
+use Rattle.conn_core.specs.FrameError.{FrameError}
+use Rattle.conn_core.specs.RawFrame.{RawFrame}
+use Rattle.conn_core.specs.Reading.{split}
+use Rattle.conn_core.proofs.MoreBytes.{more_frames}
+use Rattle.conn_core.specs.History.{Entry, Unreadable, Out, has_failed, highest_stream}
+use Rattle.conn_core.specs.Rules.{reading_fault}
 use Rattle.grpc_sending.specs.Owed.{OwedItem, Item}
 use Rattle.grpc_sending.specs.Pump.{history_after_pump}
 use Rattle.grpc_sending.proofs.Histories.{append-nil}
-use Rattle.http2_frames.specs.declared.frame.Frame.{Frame}
+use Rattle.conn_core.specs.Frame.{Frame}
 use Rattle.conn_core.specs.declared.event.CallEvent.{CallEvent}
 use Rattle.conn_core.specs.Calls.{cancels}
 use Rattle.conn_core.specs.Past.{Past, opening, with_item, with_frame, with_fault, with_taken, with_pumped, with_bytes}

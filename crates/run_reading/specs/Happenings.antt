@@ -3,12 +3,12 @@
 -- served_instance, whose steps it follows, and lists what happens in it.
 use Rattle.std.specs.Prelude.{ℕ, suc, if◌then◌else◌, List, [], ◌∷◌, ◌++◌, map, Option, Some, None, Result, Ok, Err}
 use Rattle.std.specs.Option.{option_map_or}
-use Rattle.http2_frames.specs.declared.reader.TheConstants.{CLIENT_PREFACE}
-use Rattle.http2_frames.specs.declared.codes.ErrorCode.{ErrorCode}
-use Rattle.http2_frames.specs.declared.error.FrameError.{FrameError}
-use Rattle.http2_frames.specs.declared.frame.RawFrame.{RawFrame}
-use Rattle.http2_frames.specs.Reading.{split}
-use Rattle.http2_streams.specs.Rules.{reading_fault}
+use Rattle.conn_core.specs.ReaderConstants.{CLIENT_PREFACE}
+use Rattle.conn_core.specs.ErrorCode.{ErrorCode}
+use Rattle.conn_core.specs.FrameError.{FrameError}
+use Rattle.conn_core.specs.RawFrame.{RawFrame}
+use Rattle.conn_core.specs.Reading.{split}
+use Rattle.conn_core.specs.Rules.{reading_fault}
 use Rattle.grpc_sending.specs.Owed.{Item}
 use Rattle.conn_core.specs.declared.event.CallEvent.{CallEvent}
 use Rattle.conn_core.specs.Calls.{cancels, items_at_once}

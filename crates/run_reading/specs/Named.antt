@@ -1,7 +1,7 @@
 -- The answers of an instance in a run, and what streams are given, named by their digests.
 use Rattle.std.specs.Prelude.{List, [], ◌∷◌}
 use Rattle.std.specs.List.{AllByRecursion}
-use Rattle.digest.specs.Naming.{Names}
+use Rattle.instance_core.specs.Naming.{Names}
 use Rattle.grpc_sending.specs.Owed.{Item, Headed, Message, Range}
 use Rattle.instance_core.specs.Calls.{tick}
 use Rattle.instance_core.specs.Answer.{state_after}

@@ -15,3 +15,4 @@ pub mod UnaryLines
 pub mod UnaryLinesRead
 pub mod UnaryScript
 pub mod UnaryShown
+pub use Rattle.server_events.specs.Instance

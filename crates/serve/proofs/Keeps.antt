@@ -6,8 +6,8 @@ use Rattle.std.specs.Io.{StartsWith}
 use Rattle.std.proofs.lemmas.Bool.{cases_eq, eq-eqb, ne_eqb}
 use Rattle.std.proofs.lemmas.List.{length-take-le}
 use Rattle.std.proofs.lemmas.Option.{none-some, same_Some}
-use Rattle.grpc_sending.specs.Bytes.{pending_bytes}
-use Rattle.conn_core.specs.Past.{Past}
+use Rattle.served_instance.specs.Bytes.{pending_bytes}
+use Rattle.served_instance.specs.Past.{Past}
 use Rattle.server_events.specs.Configs.{ConfigValue}
 use Rattle.server_events.specs.Events.{EventValue, took}
 use Rattle.served_instance.specs.Connections.{open_at}

@@ -2,7 +2,7 @@
 use Rattle.std.specs.Prelude.{◌≡◌, ◌≢◌, ◌≤◌, ℕ, List, length, take, Option, Some, None, Result, Ok, Err, IsSomeAnd, IfSome}
 use Rattle.std.specs.List.{slice_get}
 use Rattle.std.specs.Io.{StartsWith}
-use Rattle.grpc_sending.specs.Bytes.{pending_bytes}
+use Rattle.served_instance.specs.Bytes.{pending_bytes}
 use Rattle.server_events.specs.Configs.{ConfigValue}
 use Rattle.server_events.specs.Events.{EventValue, took}
 use Rattle.served_instance.specs.Connections.{open_at}

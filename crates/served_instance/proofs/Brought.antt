@@ -3,20 +3,20 @@ use Rattle.std.proofs.Common.{◌≡◌, ℕ, zero, suc, ◌+◌, ◌≤◌, Boo
 use Rattle.std.specs.List.{AllByRecursion}
 use Rattle.std.specs.Prelude.{filter}
 use Rattle.std.proofs.lemmas.List.{length-take}
-use Rattle.http2_streams.specs.History.{Entry, has_failed, live_streams}
-use Rattle.grpc_messages.specs.declared.error.MessagesError.{MessagesError}
-use Rattle.grpc_messages.specs.Wire.{size_of}
-use Rattle.grpc_messages.specs.Reading.{whole_at, message_at, message_format, split}
-use Rattle.grpc_messages.proofs.Fronts.{whole_is, steady}
-use Rattle.wire_items.proofs.Divisions.{all_items}
-use Rattle.rpc.specs.declared.method.Method.{Method}
-use Rattle.http2_frames.specs.declared.frame.RawFrame.{RawFrame}
+use Rattle.conn_core.specs.History.{Entry, has_failed, live_streams}
+use Rattle.conn_core.specs.MessagesError.{MessagesError}
+use Rattle.conn_core.specs.GrpcMessagesWire.{size_of}
+use Rattle.conn_core.specs.GrpcMessagesReading.{whole_at, message_at, message_format, split}
+use Rattle.conn_core.proofs.Fronts.{whole_is, steady}
+use Rattle.conn_core.proofs.Divisions.{all_items}
+use Rattle.conn_core.specs.Method.{Method}
+use Rattle.conn_core.specs.RawFrame.{RawFrame}
 use Rattle.grpc_calls.specs.declared.request.HeadFault.{HeadFault}
 use Rattle.grpc_calls.specs.Requests.{head_of}
-use Rattle.http2_streams.specs.declared.event.Event.{Event}
-use Rattle.http2_streams.specs.declared.event.Event.TheVariants.{Nothing, Request, Content, Trailers, Cancel}
-use Rattle.http2_frames.specs.declared.codes.ErrorCode.{ErrorCode}
-use Rattle.http2_frames.specs.declared.error.FrameError.{FrameError}
+use Rattle.conn_core.specs.Event.{Event}
+use Rattle.conn_core.specs.Event.TheVariants.{Nothing, Request, Content, Trailers, Cancel}
+use Rattle.conn_core.specs.ErrorCode.{ErrorCode}
+use Rattle.conn_core.specs.FrameError.{FrameError}
 use Rattle.conn_core.specs.Past.{Past, with_frame, with_fault}
 use Rattle.conn_core.specs.Received.{outcome}
 use Rattle.conn_core.specs.declared.event.CallEvent.{CallEvent}

@@ -3,7 +3,7 @@ use Rattle.std.proofs.Common.{◌≡◌, refl, sym, ap, ◌∙◌, inl, inr}
 use Rattle.std.specs.Prelude.{ℕ, if◌then◌else◌, Bool, true, false, List, [], ◌∷◌, option_map, Option, Some}
 use Rattle.std.proofs.lemmas.Bool.{cases_Bool, cond-false, cond-true}
 use Rattle.grpc_sending.specs.Owed.{Item}
-use Rattle.http2_streams.specs.History.{Entry}
+use Rattle.conn_core.specs.History.{Entry}
 use Rattle.conn_core.specs.declared.event.CallEvent.{CallEvent}
 use Rattle.conn_core.specs.Past.{Past, with_item}
 use Rattle.instance_core.specs.Replies.{ReplyValue}

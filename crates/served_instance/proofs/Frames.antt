@@ -7,15 +7,15 @@ use Rattle.std.specs.List.{list_any}
 use Rattle.std.proofs.lemmas.List.Elements.{filter_map-append}
 use Rattle.std.proofs.lemmas.List.Folds.{list_any-append}
 use Rattle.std.proofs.lemmas.Bool.{cond-false, cond-true}
-use Rattle.http2_frames.specs.declared.reader.TheConstants.{CLIENT_PREFACE}
-use Rattle.http2_frames.specs.declared.codes.ErrorCode.{ErrorCode}
-use Rattle.http2_frames.specs.declared.error.FrameError.{FrameError}
-use Rattle.http2_frames.specs.declared.frame.RawFrame.{RawFrame}
-use Rattle.http2_frames.specs.Reading.{split}
-use Rattle.http2_frames.specs.Wire.{Split}
+use Rattle.conn_core.specs.ReaderConstants.{CLIENT_PREFACE}
+use Rattle.conn_core.specs.ErrorCode.{ErrorCode}
+use Rattle.conn_core.specs.FrameError.{FrameError}
+use Rattle.conn_core.specs.RawFrame.{RawFrame}
+use Rattle.conn_core.specs.Reading.{split}
+use Rattle.conn_core.specs.Wire.{Split}
 use Rattle.grpc_sending.specs.Owed.{Item}
-use Rattle.http2_streams.specs.History.{Entry, Out, Unreadable, highest_stream, has_failed, sent_frames, frame_out, is_goaway}
-use Rattle.http2_streams.specs.Rules.{reading_fault}
+use Rattle.conn_core.specs.History.{Entry, Out, Unreadable, highest_stream, has_failed, sent_frames, frame_out, is_goaway}
+use Rattle.conn_core.specs.Rules.{reading_fault}
 use Rattle.conn_core.specs.declared.event.CallEvent.{CallEvent}
 use Rattle.conn_core.specs.Received.{raw_in, received_raw_frames, outcome, frame_entries, fault_frames, fault_entries, goaway_frame}
 use Rattle.conn_core.specs.Past.{Past, with_frame, with_fault}

@@ -3,20 +3,20 @@ use Rattle.std.proofs.Common.{◌≡◌, ℕ, List, [], ◌∷◌, ◌++◌, ref
 use Rattle.std.specs.Prelude.{Bool, true, false, cond, map, Option, Some, None, Result, Ok, Err}
 use Rattle.std.proofs.lemmas.Bool.{cases_Bool, true≢false}
 use Rattle.std.proofs.lemmas.List.Sums.{sum_by-append}
-use Rattle.http2_frames.specs.declared.codes.ErrorCode.{ErrorCode}
-use Rattle.http2_frames.specs.declared.error.FrameError.{FrameError}
-use Rattle.http2_frames.specs.declared.frame.Frame.{Frame}
-use Rattle.http2_frames.specs.declared.frame.RawFrame.{RawFrame}
-use Rattle.http2_frames.specs.declared.reader.TheConstants.{CLIENT_PREFACE}
-use Rattle.http2_frames.specs.Reading.{split}
-use Rattle.http2_streams.specs.History.{Entry, Out, has_failed}
-use Rattle.http2_streams.specs.Rules.{reading_fault}
+use Rattle.conn_core.specs.ErrorCode.{ErrorCode}
+use Rattle.conn_core.specs.FrameError.{FrameError}
+use Rattle.conn_core.specs.Frame.{Frame}
+use Rattle.conn_core.specs.RawFrame.{RawFrame}
+use Rattle.conn_core.specs.ReaderConstants.{CLIENT_PREFACE}
+use Rattle.conn_core.specs.Reading.{split}
+use Rattle.conn_core.specs.History.{Entry, Out, has_failed}
+use Rattle.conn_core.specs.Rules.{reading_fault}
 use Rattle.grpc_sending.specs.Bytes.{count_taken, count_taken_by}
 use Rattle.grpc_sending.specs.Owed.{Item}
 use Rattle.grpc_sending.proofs.Histories.{append-nil}
 use Rattle.conn_core.specs.declared.event.CallEvent.{CallEvent}
 use Rattle.conn_core.specs.Received.{outcome, frame_entries, fault_frames, fault_entries}
-use Rattle.http2_streams.specs.History.{highest_stream}
+use Rattle.conn_core.specs.History.{highest_stream}
 use Rattle.conn_core.specs.Calls.{cancels}
 use Rattle.conn_core.specs.Past.{Past, opening, with_frame, with_fault, with_item, with_taken, with_pumped, with_bytes}
 use Rattle.conn_core.proofs.Pumps.{pumped_is}

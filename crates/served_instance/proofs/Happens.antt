@@ -16,8 +16,8 @@ use Rattle.instance_core.specs.Replies.{ReplyItemValue, ReplyValue, IsShortItem,
 use Rattle.instance_core.specs.Shown.{item_shown, reply_shown}
 use Rattle.instance_core.specs.Slots.{InstanceSlots, state_in, holders_of as holders_of_instance}
 use Rattle.instance_core.specs.State.{InstanceState, WithinLimits}
-use Rattle.instance_view.specs.Visible.{Blob}
-use Rattle.instance_view.proofs.Held.{shown_same}
+use Rattle.instance_core.specs.Visible.{Blob}
+use Rattle.instance_core.proofs.Held.{shown_same}
 use Rattle.served_instance.specs.declared.open_connection.OpenConnection.{OpenConnection}
 use Rattle.served_instance.specs.Connections.{LoneConnection, open_ones}
 use Rattle.served_instance.specs.Given.{item_by, reply_by, CanBeOwed, ReplyCanBeOwed, ItemsEndWithin, RepliesEndWithin, TakeRanges}

@@ -7,8 +7,8 @@ use Rattle.blob_pool.proofs.Moves.{moves_none}
 use Rattle.grpc_sending.specs.StoredSending.{AgreeOn}
 use Rattle.instance_core.specs.Slots.{InstanceSlots, state_in, holders_of as holders_of_instance, IsKept as IsInstanceKept}
 use Rattle.instance_core.specs.State.{InstanceState, WithinLimits}
-use Rattle.instance_view.specs.Visible.{Blob}
-use Rattle.instance_view.proofs.Held.{shown_same}
+use Rattle.instance_core.specs.Visible.{Blob}
+use Rattle.instance_core.proofs.Held.{shown_same}
 use Rattle.served_instance.specs.StandsFor.{ServedConnection}
 use Rattle.served_instance.specs.Slots.{ServedSlots, holders_of, IsKept}
 use Rattle.served_instance.specs.Ranges.{KeepRanges, Releases, sources_at, range_holders, served_with}

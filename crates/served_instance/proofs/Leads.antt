@@ -3,7 +3,7 @@ use Rattle.std.proofs.Common.{◌≡◌, refl, sym, ap, ◌∙◌, subst, inl, i
 use Rattle.std.specs.Prelude.{ℕ, true, false, List, map, Option, Some, None, ◌⊎◌}
 use Rattle.std.specs.Option.{option_map_or}
 use Rattle.conn_core.specs.declared.event.CallEvent.{CallEvent}
-use Rattle.http2_streams.specs.History.{has_failed}
+use Rattle.conn_core.specs.History.{has_failed}
 use Rattle.grpc_sending.specs.StoredSending.{Look}
 use Rattle.conn_core.specs.Past.{Past, with_frame, with_fault}
 use Rattle.conn_core.specs.StandsFor.{Present, StandsFor as IsConnection, StandsAfterNext, IsRead, unread_length}

@@ -21,3 +21,5 @@ pub mod Brought
 pub mod Growth
 pub mod Moments
 pub mod LimitsKept
+pub use Rattle.grpc_sending.proofs.Agreeing
+pub use Rattle.grpc_sending.proofs.Histories

@@ -2,7 +2,7 @@
 use Rattle.std.proofs.Common.{◌≡◌, refl, sym, ap, ◌∙◌, subst}
 use Rattle.std.specs.Prelude.{ℕ, nat_le, nat_lt, if◌then◌else◌, Bool, true, false, List, length, Option, Some, None, Err}
 use Rattle.std.specs.Option.{is_some, option_map, option_map_or}
-use Rattle.http2_streams.specs.History.{has_failed}
+use Rattle.conn_core.specs.History.{has_failed}
 use Rattle.grpc_sending.specs.Bytes.{pending_bytes, untaken_count}
 use Rattle.grpc_sending.specs.StoredSending.{Look}
 use Rattle.blob_pool.specs.Slots.{Slots, text_at}

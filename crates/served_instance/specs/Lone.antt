@@ -7,13 +7,13 @@
 -- are due. `with_frame`, `with_fault`, `with_taken` and `with_pumped` say what one step adds to it.
 use Rattle.std.specs.Prelude.{ℕ, Bool, if◌then◌else◌, true, List, [], ◌∷◌, ◌++◌, length, map, drop, Option, Some, None, Result, Ok, Err}
 use Rattle.std.specs.Option.{option_map_or}
-use Rattle.http2_frames.specs.declared.reader.TheConstants.{CLIENT_PREFACE}
-use Rattle.http2_frames.specs.declared.codes.ErrorCode.{ErrorCode}
-use Rattle.http2_frames.specs.declared.error.FrameError.{FrameError}
-use Rattle.http2_frames.specs.declared.frame.RawFrame.{RawFrame}
-use Rattle.http2_frames.specs.Reading.{split}
-use Rattle.http2_streams.specs.History.{has_failed}
-use Rattle.http2_streams.specs.Rules.{reading_fault}
+use Rattle.conn_core.specs.ReaderConstants.{CLIENT_PREFACE}
+use Rattle.conn_core.specs.ErrorCode.{ErrorCode}
+use Rattle.conn_core.specs.FrameError.{FrameError}
+use Rattle.conn_core.specs.RawFrame.{RawFrame}
+use Rattle.conn_core.specs.Reading.{split}
+use Rattle.conn_core.specs.History.{has_failed}
+use Rattle.conn_core.specs.Rules.{reading_fault}
 use Rattle.grpc_sending.specs.Bytes.{bytes_put}
 use Rattle.conn_core.specs.declared.event.CallEvent.{CallEvent}
 use Rattle.conn_core.specs.Received.{received_raw_frames}

@@ -3,7 +3,7 @@
 ghost use Rattle.std.specs.Prelude.{◌≡◌, ◌≢◌, ◌≤◌, ◌<◌, ◌^◌, ℕ, List, [], None, length, map, Option, option_map, string_bytes, IfSome, IfOk, OnOk, OnErr, IfErr};
 ghost use Rattle.server_events.specs.Shown.{event_value, what_value};
 ghost use Rattle.grpc_sending.specs.Bytes.{most_untaken, pending_bytes};
-ghost use Rattle.http2_streams.specs.History.{has_failed};
+ghost use Rattle.conn_core.specs.History.{has_failed};
 ghost use Rattle.conn_core.specs.Past.{Past, with_pumped};
 ghost use Rattle.served_instance.specs.Connections.{LoneConnection, AreApart, open_at, open_ones, at_all_open};
 ghost use Rattle.served_instance.specs.Lone.{Lone, new_lone, effect_of, after_opening, after_pump};
@@ -18,7 +18,7 @@ ghost use Rattle.instance_core.specs.Slots.{state_in};
 ghost use Rattle.served_instance.specs.Slots.{served_state_in, holders_of, IsKept, HasConnections};
 ghost use Rattle.blob_pool.specs.Slots.{Slots, text_at, count_at};
 ghost use Rattle.blob_pool.specs.Moves.{Moves, no_holders};
-ghost use Rattle.quota_evict.specs.Kept.{most_stored_bytes};
+ghost use Rattle.instance_core.specs.Kept.{most_stored_bytes};
 
 use crate::calls::{close, receive};
 use crate::open_connection::{OpenConnection, connection_at, connection_near, take};

@@ -15,10 +15,10 @@ use Rattle.server_events.specs.Shown.{config_value}
 use Rattle.served_instance.specs.Lone.{new_lone}
 use Rattle.served_instance.specs.StandsFor.{ServedConnection, ServedState, StandsFor as IsServed, IsWithin}
 use Rattle.served_instance.specs.Slots.{ServedSlots, served_state_in, holders_of}
-use Rattle.grpc_sending.specs.Sources.{count_of}
-use Rattle.grpc_sending.specs.StoredSending.{Look, sources_of}
+use Rattle.served_instance.specs.Sources.{count_of}
+use Rattle.served_instance.specs.StoredSending.{Look, sources_of}
 use Rattle.served_instance.specs.Ranges.{sources_at, range_holders, AreFit, HaveFew}
-use Rattle.grpc_sending.proofs.Agreeing.{count_append}
+use Rattle.served_instance.proofs.Agreeing.{count_append}
 use Rattle.served_instance.proofs.Ranges.{fit_none}
 use Rattle.server_core.specs.Shared.{all_in, all_holders, HasRanges, IsServer}
 use Rattle.server_core.specs.Runs.{new_run}

@@ -5,9 +5,9 @@ use Rattle.std.specs.Option.{is_some}
 use Rattle.std.proofs.lemmas.Bool.{cases_Bool, true≢false, eqb-true}
 use Rattle.std.proofs.lemmas.List.{length-drop}
 use Rattle.std.proofs.lemmas.List.Sums.{sum_by-append}
-use Rattle.http2_streams.specs.History.{Entry, Took}
-use Rattle.grpc_sending.specs.Bytes.{bytes_put, count_taken, count_taken_by, untaken_count}
-use Rattle.conn_core.specs.Past.{opening, with_taken}
+use Rattle.served_instance.specs.History.{Entry, Took}
+use Rattle.served_instance.specs.Bytes.{bytes_put, count_taken, count_taken_by, untaken_count}
+use Rattle.served_instance.specs.Past.{opening, with_taken}
 use Rattle.server_events.specs.Events.{WhatValue, opened, received, took, closed, tick, ended}
 use Rattle.served_instance.specs.Connections.{LoneConnection, AreApart, is_open_at, open_at, at_open, with_closed}
 use Rattle.served_instance.specs.Lone.{sent_bytes_on}

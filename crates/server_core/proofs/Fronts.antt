@@ -8,11 +8,11 @@ use Rattle.std.proofs.lemmas.List.{length-drop, drop-append-le}
 use Rattle.std.proofs.Math.Seq.{drop-append_seam}
 use Rattle.std.proofs.lemmas.List.Elements.{filter_map-append}
 use Rattle.std.proofs.lemmas.Grind.{flat_map-append}
-use Rattle.http2_frames.specs.Writing.{text_of}
-use Rattle.http2_streams.specs.History.{Entry, Took, sent_frames, frame_out}
-use Rattle.grpc_sending.specs.Bytes.{bytes_put, count_taken, pending_bytes, untaken_count}
-use Rattle.grpc_sending.proofs.Histories.{append-nil}
-use Rattle.conn_core.specs.Past.{Past, opening, with_taken}
+use Rattle.served_instance.specs.Writing.{text_of}
+use Rattle.served_instance.specs.History.{Entry, Took, sent_frames, frame_out}
+use Rattle.served_instance.specs.Bytes.{bytes_put, count_taken, pending_bytes, untaken_count}
+use Rattle.served_instance.proofs.Histories.{append-nil}
+use Rattle.served_instance.specs.Past.{Past, opening, with_taken}
 use Rattle.server_events.specs.Events.{WhatValue, opened, received, took, closed, tick, ended}
 use Rattle.served_instance.specs.Connections.{LoneConnection, AreApart, is_open_at, open_at, at_open, with_closed, open_ones}
 use Rattle.served_instance.specs.Lone.{Lone, sent_bytes_on}

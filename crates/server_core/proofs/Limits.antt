@@ -2,7 +2,7 @@
 use Rattle.std.proofs.Common.{◌^◌, ◌≤◌, List, [], ◌∷◌, arith}
 use Rattle.std.specs.Prelude.{fold}
 use Rattle.std.specs.List.{IsDistinct}
-use Rattle.quota_evict.proofs.Limits.{nothing_within}
+use Rattle.instance_core.proofs.Limits.{nothing_within}
 use Rattle.instance_core.specs.Calls.{same_call}
 use Rattle.instance_core.specs.State.{WithinLimits, most_blobs}
 use Rattle.server_events.specs.Configs.{ConfigValue}

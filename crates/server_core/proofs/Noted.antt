@@ -3,9 +3,9 @@ use Rattle.std.proofs.Common.{◌≡◌, ℕ, suc, ◌+◌, List, [], ◌∷◌,
 use Rattle.std.specs.Prelude.{Bool, true, false, cond, map, Option, Some, None, nat_lt}
 use Rattle.std.specs.Option.{option_map_or, is_some}
 use Rattle.std.proofs.lemmas.Bool.{true≢false, ltb-false}
-use Rattle.grpc_sending.specs.Bytes.{untaken_count}
-use Rattle.grpc_sending.proofs.Histories.{append-nil}
-use Rattle.conn_core.specs.Past.{Past}
+use Rattle.served_instance.specs.Bytes.{untaken_count}
+use Rattle.served_instance.proofs.Histories.{append-nil}
+use Rattle.served_instance.specs.Past.{Past}
 use Rattle.server_events.specs.Events.{EventValue, WhatValue, opened, received, took, closed, tick, ended}
 use Rattle.served_instance.specs.declared.refusal.EventRefusal.{EventRefusal}
 use Rattle.served_instance.specs.declared.refusal.EventRefusal.TheVariants.{NoSuchConnection, ConnectionExists, TimeWentBack, TookTooMuch}

@@ -11,11 +11,11 @@ use Rattle.std.proofs.lemmas.List.{length-set, length-map}
 use Rattle.std.proofs.lemmas.Option.{slice_get-map, slice_get_within, same_Some}
 use Rattle.blob_pool.specs.Slots.{Slots, text_at}
 use Rattle.blob_pool.specs.Moves.{Moves}
-use Rattle.grpc_sending.specs.Sources.{count_of}
-use Rattle.grpc_sending.specs.StoredSending.{Look, AgreeOn, sources_of}
-use Rattle.instance_view.specs.Visible.{Blob}
-use Rattle.instance_view.proofs.Held.{shown_same, holders-few}
-use Rattle.quota_evict.proofs.Steps.{length-visible_in}
+use Rattle.served_instance.specs.Sources.{count_of}
+use Rattle.served_instance.specs.StoredSending.{Look, AgreeOn, sources_of}
+use Rattle.instance_core.specs.Visible.{Blob}
+use Rattle.instance_core.proofs.Held.{shown_same, holders-few}
+use Rattle.instance_core.proofs.Steps.{length-visible_in}
 use Rattle.instance_core.specs.State.{most_blobs}
 use Rattle.served_instance.specs.declared.refusal.EventRefusal.{EventRefusal}
 use Rattle.served_instance.specs.declared.refusal.EventRefusal.TheVariants.{NoMemory}
@@ -24,7 +24,7 @@ use Rattle.served_instance.specs.Connections.{open_ones}
 use Rattle.served_instance.specs.StandsFor.{ServedConnection, ServedState, StandsFor as IsServed, IsWithin}
 use Rattle.served_instance.specs.Ranges.{served_with, sources_at, range_holders}
 use Rattle.served_instance.specs.declared.instance.TheConstants.{CONNECTION_LIMIT}
-use Rattle.grpc_sending.proofs.Agreeing.{count_append}
+use Rattle.served_instance.proofs.Agreeing.{count_append}
 use Rattle.served_instance.proofs.Ranges.{fit_agreed_each, plain_served, same_served}
 use Rattle.served_instance.specs.Slots.{ServedSlots, served_state_in, holders_of, IsKept, HasConnections}
 use Rattle.server_core.specs.Shared.{all_in, all_holders, IsServer, HasRanges}

@@ -8,9 +8,9 @@ use Rattle.std.proofs.lemmas.List.Sums.{fold_push}
 use Rattle.std.proofs.lemmas.Bool.{true≢false}
 use Rattle.std.proofs.lemmas.Grind.{common_steps, elements}
 use Rattle.std.proofs.lemmas.List.Edits.{map_over_more}
-use Rattle.grpc_sending.specs.Bytes.{pending_bytes}
-use Rattle.grpc_sending.proofs.Histories.{append-nil}
-use Rattle.conn_core.specs.Past.{Past}
+use Rattle.served_instance.specs.Bytes.{pending_bytes}
+use Rattle.served_instance.proofs.Histories.{append-nil}
+use Rattle.served_instance.specs.Past.{Past}
 use Rattle.served_instance.specs.Connections.{open_at}
 use Rattle.served_instance.specs.Lone.{Lone}
 use Rattle.server_core.specs.declared.outputs.SentBytes.{SentBytes}

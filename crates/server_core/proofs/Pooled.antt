@@ -6,7 +6,7 @@ use Rattle.std.proofs.lemmas.Bool.Decides.{nat_tests}
 use Rattle.std.proofs.lemmas.Slice.Eq.{bytes_eq-Decides}
 use Rattle.blob_pool.specs.Slots.{Slots, held_text_at, text_at, count_at, IsShared}
 use Rattle.blob_pool.specs.Moves.{one_at}
-use Rattle.grpc_sending.specs.Sources.{count_of}
+use Rattle.served_instance.specs.Sources.{count_of}
 use Rattle.served_instance.specs.Slots.{ServedSlots}
 use Rattle.server_core.specs.Shared.{all_in, IsServer}
 use Rattle.server_core.specs.Stored.{texts_of_all, IsAmong}

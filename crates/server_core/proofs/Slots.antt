@@ -3,11 +3,11 @@ use Rattle.std.proofs.Common.{◌≡◌, ℕ, ◌+◌, List, [], ◌∷◌, ◌+
 use Rattle.std.proofs.lemmas.List.{map-append}
 use Rattle.blob_pool.specs.Slots.{Slots, text_at}
 use Rattle.blob_pool.specs.Moves.{one_at}
-use Rattle.grpc_sending.specs.Sources.{count_of}
-use Rattle.instance_view.specs.Shown.{ViewEntry, blobs_in, entry_holders}
+use Rattle.served_instance.specs.Sources.{count_of}
+use Rattle.instance_core.specs.InstanceViewShown.{ViewEntry, blobs_in, entry_holders}
 use Rattle.served_instance.specs.Ranges.{sources_at}
 use Rattle.served_instance.specs.Slots.{ServedSlots, served_state_in}
-use Rattle.grpc_sending.proofs.Agreeing.{count_append}
+use Rattle.served_instance.proofs.Agreeing.{count_append}
 use Rattle.server_core.specs.Shared.{all_in, all_holders}
 use Rattle.server_core.specs.Stored.{texts_of, own_texts, texts_of_all}
 

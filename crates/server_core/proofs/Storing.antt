@@ -5,7 +5,7 @@ use Rattle.std.proofs.lemmas.Bool.Decides.{nat_tests}
 use Rattle.std.proofs.lemmas.List.Sums.{sum_by-cons}
 use Rattle.blob_pool.specs.Slots.{HeldText, Slots, held_text_at, text_at, count_at, is_held, IsShared, texts_stored, bytes_stored}
 use Rattle.blob_pool.specs.Moves.{one_at}
-use Rattle.grpc_sending.specs.Sources.{count_of}
+use Rattle.served_instance.specs.Sources.{count_of}
 use Rattle.served_instance.specs.Slots.{ServedSlots}
 use Rattle.server_core.specs.Shared.{all_in, all_holders, IsServer}
 use Rattle.server_core.specs.Stored.{texts_of_all, IsAmong, AreDistinct, total_length, AreStored}

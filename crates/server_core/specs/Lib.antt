@@ -10,3 +10,5 @@ pub mod StandsFor
 pub mod Shared
 pub mod Stored
 pub mod Pooled
+pub use Rattle.served_instance.specs.declared.refusal.EventRefusal
+pub use Rattle.served_instance.specs.Codes

@@ -2,7 +2,7 @@
 -- it.
 use Rattle.std.specs.Prelude.{ℕ, zero, suc, ◌==◌, ◌-◌, if◌then◌else◌, not, List, [], ◌∷◌, ◌++◌, map, filter, drop, length, fold}
 use Rattle.std.specs.Option.{option_map_or}
-use Rattle.grpc_sending.specs.Bytes.{pending_bytes}
+use Rattle.served_instance.specs.Bytes.{pending_bytes}
 use Rattle.server_events.specs.Events.{WhatValue, opened, took, closed}
 use Rattle.served_instance.specs.Connections.{open_at}
 use Rattle.served_instance.specs.Lone.{Lone}

@@ -1,7 +1,7 @@
 -- What is noted of an instance's run stands for the run.
 use Rattle.std.specs.Prelude.{◌≡◌, ◌≤◌, ◌+◌, ℕ, if◌then◌else◌, List, [], ◌∷◌, length}
 use Rattle.std.specs.List.{AllByRecursion}
-use Rattle.grpc_sending.specs.Bytes.{bytes_put, count_taken, untaken_count}
+use Rattle.served_instance.specs.Bytes.{bytes_put, count_taken, untaken_count}
 use Rattle.served_instance.specs.declared.refusal.EventRefusal.{EventRefusal}
 use Rattle.served_instance.specs.Connections.{LoneConnection, AreApart, open_ones}
 use Rattle.served_instance.specs.Lone.{all_sent_bytes}

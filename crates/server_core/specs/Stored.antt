@@ -1,6 +1,6 @@
 -- The texts that the instances of a server hold, each counted once.
 use Rattle.std.specs.Prelude.{◌≡◌, ◌⊎◌, ℕ, ◌+◌, List, [], ◌∷◌, ◌++◌, length}
-use Rattle.instance_view.specs.Visible.{Blob}
+use Rattle.instance_core.specs.Visible.{Blob}
 use Rattle.served_instance.specs.StandsFor.{ServedState}
 use Rattle.server_core.specs.StandsFor.{ServerState}
 

@@ -4,9 +4,9 @@ ghost use Rattle.std.specs.Prelude.{◌≡◌, ◌≢◌, ◌<◌, ◌≤◌, �
 ghost use Rattle.std.specs.List.{AllByRecursion};
 ghost use Rattle.server_events.specs.Configs.{ConfigValue};
 ghost use Rattle.server_events.specs.Shown.{event_value};
-ghost use Rattle.grpc_sending.specs.Bytes.{most_untaken, pending_bytes};
-ghost use Rattle.http2_streams.specs.History.{has_failed};
-ghost use Rattle.conn_core.specs.Past.{Past};
+ghost use Rattle.served_instance.specs.Bytes.{most_untaken, pending_bytes};
+ghost use Rattle.served_instance.specs.History.{has_failed};
+ghost use Rattle.served_instance.specs.Past.{Past};
 ghost use Rattle.served_instance.specs.Connections.{open_at};
 ghost use Rattle.served_instance.specs.Lone.{Lone, new_lone};
 ghost use Rattle.served_instance.specs.Refusals.{NeedsNoMemory, refusal_of, lone_step, IsOutcome};

@@ -5,11 +5,11 @@ use Rattle.std.specs.List.{AllByRecursion}
 use Rattle.std.specs.Map.{lookup}
 use Rattle.message_fields.specs.declared.error.MessageError.{MessageError}
 use Rattle.message_fields.specs.Fields.{value_of_text}
-use Rattle.protobuf_wire.proofs.Tools.{bind_ok}
+use Rattle.message_fields.proofs.Tools.{bind_ok}
 use Rattle.digest.specs.declared.Digest.{Digest}
 use Rattle.digest.specs.Naming.{Names, same_digest}
 use Rattle.instance_view.specs.Visible.{Blob, visible_text}
-use Rattle.quota_evict.proofs.Seen.{named_by}
+use Rattle.cas_service.proofs.Seen.{named_by}
 use Rattle.reapi_messages.specs.Digests.{DigestValue}
 use Rattle.tree_messages.specs.Directories.{DirectoryValue, TreeValue, tree_of}
 use Rattle.tree_messages.specs.Results.{ActionResultValue, action_result_of}

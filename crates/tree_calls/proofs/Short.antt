@@ -9,7 +9,7 @@ use Rattle.std.proofs.lemmas.List.{length-append, length-drop}
 use Rattle.message_fields.specs.declared.error.MessageError.{MessageError}
 use Rattle.message_fields.specs.Fields.{value_of_text, payloads, embedded_value, sent_bytes, string, int32, joined_payloads}
 use Rattle.message_fields.specs.Parts.{repeated_octets_field, string_field}
-use Rattle.protobuf_wire.proofs.Tools.{bind_ok, ok_is}
+use Rattle.message_fields.proofs.Tools.{bind_ok, ok_is}
 use Rattle.digest.specs.declared.Digest.{Digest}
 use Rattle.digest.specs.Naming.{same_digest}
 use Rattle.instance_view.specs.Visible.{Blob, with_match_first, total_length}
@@ -22,7 +22,7 @@ use Rattle.tree_messages.specs.Results.{action_result_of}
 use Rattle.input_tree.specs.Directories.{valid_directory, child_digests}
 use Rattle.input_tree.specs.Listing.{Lookup, children_of_text}
 use Rattle.input_tree.specs.Pages.{page_bytes, page_text, place_asked, place_within, text_or_none, texts}
-use Rattle.decimals.specs.Number.{decimal_of}
+use Rattle.input_tree.specs.Number.{decimal_of}
 use Rattle.action_cache.specs.Results.{front_within}
 use Rattle.action_cache.specs.Answering.{blobs_for}
 use Rattle.cas_service.specs.Requests.{message_or_refusal, instance_check, function_check}

@@ -5,14 +5,14 @@ use Rattle.std.specs.List.{AllByRecursion}
 use Rattle.std.proofs.lemmas.Int.{of_z-to_z}
 use Rattle.std.proofs.lemmas.List.{length-append}
 use Rattle.std.proofs.lemmas.List.Concat.{flat_map-cons}
-use Rattle.base128.proofs.Groups.{some_groups}
-use Rattle.protobuf_wire.specs.declared.field.WireError.{WireError}
-use Rattle.protobuf_wire.specs.Record.{Value, Number, Eight, Payload, Four, Record}
-use Rattle.protobuf_wire.specs.Reading.{records_of}
-use Rattle.protobuf_wire.specs.Spelling.{IsContent, IsRecord, Spells}
-use Rattle.protobuf_wire.specs.Writing.{varint, record_text, records_text, number_field, bytes_field, message_field}
-use Rattle.protobuf_wire.proofs.Texts.{spells_read, varint_is}
-use Rattle.protobuf_wire.proofs.Tools.{bind_ok, ok_is}
+use Rattle.message_fields.proofs.Groups.{some_groups}
+use Rattle.message_fields.specs.WireError.{WireError}
+use Rattle.message_fields.specs.Record.{Value, Number, Eight, Payload, Four, Record}
+use Rattle.message_fields.specs.Reading.{records_of}
+use Rattle.message_fields.specs.Spelling.{IsContent, IsRecord, Spells}
+use Rattle.message_fields.specs.Writing.{varint, record_text, records_text, number_field, bytes_field, message_field}
+use Rattle.message_fields.proofs.ProtobufWireTexts.{spells_read, varint_is}
+use Rattle.message_fields.proofs.Tools.{bind_ok, ok_is}
 use Rattle.message_fields.specs.declared.error.MessageError.{MessageError}
 use Rattle.message_fields.specs.Answers.{of_wire}
 use Rattle.message_fields.specs.Fields.{records_in, value_of_text, payloads, numbers, last_or, each_of, utf8, string, int64}

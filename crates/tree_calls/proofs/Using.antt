@@ -1,15 +1,15 @@
 -- What calls change: the uses of digests, one after another.
 use Rattle.std.proofs.Common.{◌≡◌, ℕ, ℤ, List, [], ◌∷◌, map, Result, Ok, refl, sym, ap, subst, ◌∙◌, arith}
-use Rattle.protobuf_wire.proofs.Tools.{bind_ok}
+use Rattle.message_fields.proofs.Tools.{bind_ok}
 use Rattle.reapi_messages.specs.Results.{◌>>=◌}
 use Rattle.rpc.specs.declared.refusal.Refusal.{Refusal}
 use Rattle.digest.specs.declared.Digest.{Digest}
 use Rattle.blob_pool.specs.Slots.{Slots}
 use Rattle.instance_view.specs.Visible.{Blob, visible_after_use}
 use Rattle.instance_view.specs.Shown.{ViewValue, visible_in, holders}
-use Rattle.quota_evict.specs.Within.{Within}
-use Rattle.quota_evict.specs.Kept.{AreKept}
-use Rattle.quota_evict.proofs.Limits.{used_within}
+use Rattle.cas_service.specs.Within.{Within}
+use Rattle.cas_service.specs.Kept.{AreKept}
+use Rattle.cas_service.proofs.Limits.{used_within}
 use Rattle.input_tree.specs.declared.error.TreeRefusal.{TreeRefusal}
 use Rattle.input_tree.specs.declared.error.GetTreeError.{GetTreeError}
 use Rattle.input_tree.specs.declared.error.GetTreeError.TheVariants as Tree

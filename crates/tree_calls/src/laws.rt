@@ -4,7 +4,7 @@ ghost use Rattle.std.specs.Prelude.{◌≡◌, ◌<◌, ◌≤◌, ◌^◌, ℕ,
 ghost use Rattle.std.specs.List.{AllByRecursion};
 ghost use Rattle.digest.specs.declared.Digest.{Digest};
 ghost use Rattle.instance_view.specs.Visible.{Blob};
-ghost use Rattle.quota_evict.specs.Within.{Within};
+ghost use Rattle.cas_service.specs.Within.{Within};
 ghost use Rattle.input_tree.specs.Listing.{Lookup, tree_list};
 ghost use Rattle.input_tree.specs.declared.listing.TheConstants.{MOST_DIRECTORIES};
 ghost use Rattle.tree_calls.specs.Asking.{IsShortRequest};

@@ -3,7 +3,7 @@
 ghost use Rattle.std.specs.Prelude.{◌≡◌, ◌≤◌, ℕ, OnErr};
 ghost use Rattle.blob_pool.specs.Slots.{Slots, count_at};
 ghost use Rattle.instance_view.specs.Shown.{visible_in, holders};
-ghost use Rattle.quota_evict.specs.Kept.{AreKept};
+ghost use Rattle.cas_service.specs.Kept.{AreKept};
 ghost use Rattle.cas_service.specs.Answers.{Answers, IfAnswered};
 ghost use Rattle.cas_service.specs.Changes.{visible_after_changes};
 ghost use Rattle.tree_calls.specs.Results.{get_action_result_reply, get_action_result_changes, after_get, update_action_result_reply, after_update};

@@ -3,7 +3,7 @@ use Rattle.std.proofs.Common.{List, ◌++◌, refl, arith}
 use Rattle.std.specs.Int.{w64, cast_unsigned}
 use Rattle.std.specs.List.{AllByRecursion}
 use Rattle.std.proofs.lemmas.Bool.{eqb-false}
-use Rattle.protobuf_wire.specs.Record.{Record}
+use Rattle.message_fields.specs.Record.{Record}
 use Rattle.message_fields.specs.Parts.{embedded_field, int32_field, repeated_octets_field, string_field}
 use Rattle.message_fields.specs.Again.{HasField, AreReadAgain}
 use Rattle.message_fields.proofs.Places.{after, alone, before, lacks_both, lacks_bytes, lacks_each, lacks_embedded, lacks_number}

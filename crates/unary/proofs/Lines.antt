@@ -7,7 +7,7 @@ use Rattle.std.proofs.lemmas.List.{append_assoc, append-nil, length-set, drop_mo
 use Rattle.script.specs.declared.unary.command.Command.{Command}
 use Rattle.script.specs.declared.unary.command.Instance.{Instance}
 use Rattle.script.specs.UnaryShown.{command_value, instance_value}
-use Rattle.server_events.specs.Instance.{quota_limit}
+use Rattle.script.specs.Instance.{quota_limit}
 use Rattle.script.specs.UnaryScript.{InstanceValue}
 use Rattle.script.specs.UnaryLines.{instance_place}
 use Rattle.unary.specs.Session.{StoreValue, new_store, line_of, store_of, stores_after, lines_of_commands, text_of_lines}

@@ -2,7 +2,7 @@
 -- then.
 use Rattle.std.specs.Prelude.{ℕ, Bool, List, [], ◌∷◌, ◌++◌, length, map, codes, is_some, not, ◌&&◌, nat_lt, slice_index_or, slice_set, Result, Ok, Err, if◌then◌else◌}
 use Rattle.std.specs.Fmt.{decimal}
-use Rattle.reapi_messages.specs.Results.{◌>>=◌}
+use Rattle.cas_service.specs.Results.{◌>>=◌}
 use Rattle.script.specs.Hexadecimal.{hex_word}
 use Rattle.script.specs.declared.unary.method.Method.{Method}
 use Rattle.script.specs.declared.unary.method.Method.TheVariants.{FindMissingBlobs, BatchUpdateBlobs, BatchReadBlobs}

@@ -2,7 +2,7 @@
 -- `Write`).
 use Rattle.std.specs.Prelude.{◌≡◌, ℕ, ℤ, pos, negsuc, ◌+◌, ◌≤◌, Bool, true, false, ◌&&◌, ◌==◌, not, nat_le, nat_lt, is_some, if◌then◌else◌, List, ◌++◌, length, Result, Ok, Err}
 use Rattle.digest.specs.Naming.{same_digest, digest_of}
-use Rattle.paged_text.specs.declared.text.TheConstants.{MOST_BYTES}
+use Rattle.blob_pool.specs.TextConstants.{MOST_BYTES}
 use Rattle.uploads.specs.declared.error.UploadError.{UploadError}
 use Rattle.uploads.specs.declared.error.UploadError.TheVariants.{Offset, Size, Hash, TooMany, OverQuota, NoMemory}
 use Rattle.uploads.specs.declared.steps.TheConstants.{MOST_UPLOADS}

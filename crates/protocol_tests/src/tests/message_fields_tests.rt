@@ -104,7 +104,7 @@ struct Size {
 
 impl<'a> Message<'a> for Size {
     ghost use Rattle.std.specs.Prelude.{ℤ, List, Ok, Result};
-    ghost use Rattle.protobuf_wire.specs.Record.{Record};
+    ghost use Rattle.message_fields.specs.Record.{Record};
     ghost use Rattle.message_fields.specs.Fields.{int64};
     ghost use Rattle.message_fields.specs.Parts.{int64_field};
 

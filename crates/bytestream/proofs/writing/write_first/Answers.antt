@@ -1,4 +1,4 @@
-use Rattle.quota_evict.proofs.Steps.{kept_used}
+use Rattle.cas_service.proofs.Steps.{kept_used}
 use Rattle.bytestream.proofs.writing.write_first.Goals as goal
 
 pub returns-then-touch-clause-kept : goal.returns-then-touch-clause-kept

@@ -1,7 +1,7 @@
 use Rattle.std.proofs.Common.{ap, sym, subst, ◌∙◌, ◌≡◌, ◌<◌, ◌≤◌, ◌++◌, arith, length, take, List}
 use Rattle.std.specs.Prelude.{Some, None, false}
 use Rattle.std.proofs.lemmas.Bool.{true≢false}
-use Rattle.http2_flow.specs.Credit.{window_left}
+use Rattle.http2_streams.specs.Credit.{window_left}
 use Rattle.http2_frames.specs.declared.frame.Frame.TheVariants.{Data}
 use Rattle.http2_frames.specs.Writing.{text_of}
 use Rattle.http2_streams.specs.Sending.{CanSend}

@@ -1,5 +1,5 @@
 use Rattle.std.proofs.Common.{ℕ, arith, ap, ◌∙◌}
-use Rattle.paged_text.specs.Pages.{part_of}
+use Rattle.blob_pool.specs.Pages.{part_of}
 use Rattle.blob_pool.specs.Slots.{text_at}
 use Rattle.grpc_sending.proofs.Filling.{is_part}
 use Rattle.served_instance.proofs.pool_parts.PoolPartsParts.part.Goals as goal

@@ -69,8 +69,8 @@ cancels_of_short (Some p) = cancels_short p.history
 -- ---- one instance
 
 pub record KeepsLimits (l : Lone) : Type 0 where
-  within : WithinLimits l.state
-  short : AreDueShort l.connections
+  pub within : WithinLimits l.state
+  pub short : AreDueShort l.connections
 
 abbrev Keeps : Lone → Lone → Type 0
 Keeps l m = KeepsLimits l → KeepsLimits m

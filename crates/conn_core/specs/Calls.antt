@@ -7,6 +7,7 @@ use Rattle.http2_streams.specs.declared.event.Event.TheVariants.{Nothing, Reques
 use Rattle.http2_streams.specs.History.{Entry, In, live_streams, has_failed}
 use Rattle.grpc_messages.specs.declared.error.MessagesError.{MessagesError}
 use Rattle.grpc_messages.specs.declared.error.MessagesError.TheVariants.{Compressed, TooLarge}
+use Rattle.grpc_messages.specs.declared.reader.TheConstants.{MESSAGE_LIMIT}
 use Rattle.grpc_messages.specs.Wire.{Split}
 use Rattle.grpc_messages.specs.Reading.{split}
 use Rattle.rpc.specs.declared.refusal.Refusal.{Refusal}
@@ -54,7 +55,7 @@ stream_text d s = flat_map (content_on s) (events d)
 
 -- the longest message that is taken
 abbrev pub message_limit : ℕ
-message_limit = 4194304
+message_limit = MESSAGE_LIMIT
 
 abbrev pub messages_of : List ℕ → Split
 messages_of bytes = split message_limit bytes

@@ -5,6 +5,7 @@ use Rattle.http2_frames.specs.declared.error.FrameError.{FrameError}
 use Rattle.http2_frames.specs.declared.frame.RawFrame.{RawFrame}
 use Rattle.http2_frames.specs.declared.frame.Frame.TheVariants.{Settings}
 use Rattle.http2_frames.specs.declared.codes.setting.TheConstants.{MAX_CONCURRENT_STREAMS}
+use Rattle.http2_streams.specs.declared.streams.TheConstants.{MAX_STREAMS}
 use Rattle.http2_streams.specs.History.{Entry, Out, Took}
 use Rattle.grpc_sending.specs.Owed.{OwedItem, Item, owed_with_item}
 use Rattle.grpc_sending.specs.Pump.{history_after_pump}
@@ -21,9 +22,10 @@ pub record Past : Type 0 where
   -- events of calls that were not given out yet
   pub due : List CallEvent
 
--- RFC 9113 section 6.5.2
+-- SETTINGS_MAX_CONCURRENT_STREAMS is MAX_STREAMS (RFC 9113 section 6.5.2)
 abbrev pub greeting : Entry
-greeting = Out (Settings false (record { identifier = MAX_CONCURRENT_STREAMS; value = 100 } ∷ []))
+greeting =
+    Out (Settings false (record { identifier = MAX_CONCURRENT_STREAMS; value = MAX_STREAMS } ∷ []))
 
 -- a connection begins with the server's SETTINGS
 abbrev pub opening : Past

@@ -1,9 +1,7 @@
 //! The calls on one connection.
 
 ghost use Rattle.std.specs.Prelude.{◌≡◌, ◌≢◌, ◌++◌, ◌∷◌, ◌<◌, [], List, ℕ, IfOk, OnOk, OnSome, length, filter, take, drop};
-ghost use Rattle.std.specs.List.{list_any};
 ghost use Rattle.std.specs.Option.{option_to_list};
-ghost use Rattle.http2_streams.specs.Rules.{number_is};
 ghost use Rattle.grpc_messages.specs.Reader.{bytes_left};
 ghost use Rattle.grpc_messages.specs.declared.error.MessagesError.{MessagesError};
 ghost use Rattle.conn_core.specs.Calls.{messages_of, events_of_content, events_at_end, refusal_of};
@@ -14,7 +12,7 @@ ghost use Rattle.conn_core.specs.declared.event.CallEvent.TheVariants.{Fault};
 use crate::event::CallEvent;
 use grpc_calls::Method;
 use grpc_messages::{Messages, MessagesError};
-use http2_streams::Stream;
+use http2_streams::{Stream, is_live};
 use rpc::Refusal;
 use std::alloc::{AllocError, Global};
 use std::collections::VecDeque;
@@ -235,10 +233,4 @@ pub(crate) fn pop_live_call(calls: &mut Vec<Call>, live: &[Stream]) -> Option<u3
         }
     }
     None
-}
-
-pub(crate) fn is_live(live: &[Stream], stream: u32) -> bool
-    ensures { result ≡ list_any (number_is stream) live.now }
-{
-    live.iter().any(|live| live.number == stream)
 }

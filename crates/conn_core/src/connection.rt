@@ -20,9 +20,7 @@ ghost use Rattle.http2_streams.specs.declared.event.Event.TheVariants.{Request, 
 ghost use Rattle.http2_frames.specs.declared.reader.TheConstants.{MAX_FRAME_SIZE};
 ghost use Rattle.grpc_sending.specs.declared.sender.TheConstants.{CONTROL_LIMIT};
 
-use crate::call::{
-    Call, begin_call, cancel_call, drop_closed_if_fewer, is_live, pop_live_call, take_more,
-};
+use crate::call::{Call, begin_call, cancel_call, drop_closed_if_fewer, pop_live_call, take_more};
 use crate::event::CallEvent;
 use grpc_calls::{ResponseBlock, head};
 use grpc_sending::{Parts, Sender};
@@ -30,7 +28,7 @@ use hpack::Headers;
 use http2_frames::{
     ErrorCode, Frame, FrameError, FrameReader, Octets, RawFrame, SettingsList, setting,
 };
-use http2_streams::{Event, H2Fault, Stream, StreamEvent, Streams};
+use http2_streams::{Event, H2Fault, Stream, StreamEvent, Streams, is_live};
 use std::alloc::{AllocError, Global};
 use std::collections::VecDeque;
 use std::marker::Model;

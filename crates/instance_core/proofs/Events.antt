@@ -128,17 +128,7 @@ next_written_short id changes (Err refusal) f = ((tt, tt), tt)
 first_message_short : (s : InstanceState) (id : CallId) (method : Method) (bytes : List ℕ) → AllByRecursion IsShortReply (first_message_answer s id method bytes).replies
 first_message_short s id Write bytes =
     first_written_short id Write (first_changes s bytes) (first_outcome s bytes) (λ reply h. first_short s.name s.quota s.moment (Rattle.instance_core.specs.Writes.write_state s) bytes reply h)
-first_message_short s id FindMissingBlobs bytes = tt
-first_message_short s id BatchUpdateBlobs bytes = tt
-first_message_short s id BatchReadBlobs bytes = tt
-first_message_short s id GetTree bytes = tt
-first_message_short s id GetActionResult bytes = tt
-first_message_short s id UpdateActionResult bytes = tt
-first_message_short s id Execute bytes = tt
-first_message_short s id WaitExecution bytes = tt
-first_message_short s id GetCapabilities bytes = tt
-first_message_short s id Read bytes = tt
-first_message_short s id QueryWriteStatus bytes = tt
+first_message_short s id _ bytes = tt
 
 message_short : (s : InstanceState) (id : CallId) (bytes : List ℕ) (o : Option CallValue) → IfSome o (λ call. IsShortProgress call.progress) → AllByRecursion IsShortReply (message_answer s id bytes o).replies
 message_short s id bytes None h = tt

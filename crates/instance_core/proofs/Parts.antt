@@ -5,7 +5,7 @@ use Rattle.std.specs.declared.alloc.Global.{Global}
 use Rattle.std.specs.declared.alloc.AllocError.{AllocError}
 use Rattle.std.specs.declared.vec.Vec.{Vec}
 use Rattle.rpc.specs.declared.method.Method.{Method}
-use Rattle.rpc.specs.declared.method.Method.TheVariants.{FindMissingBlobs, BatchUpdateBlobs, BatchReadBlobs, GetTree, GetActionResult, UpdateActionResult, Execute, WaitExecution, GetCapabilities, Read, Write, QueryWriteStatus}
+use Rattle.rpc.specs.declared.method.Method.TheVariants.{GetActionResult, UpdateActionResult}
 use Rattle.reapi_messages.specs.Results.{◌>>=◌}
 use Rattle.rpc.specs.declared.refusal.Refusal.{Refusal}
 use Rattle.digest.specs.declared.Digest.{Digest}
@@ -142,16 +142,7 @@ leaves_same s visible visible' results results' p q = rw (p, q) refl
 no_results : (method : Method) (s : InstanceState) (message : List ℕ) → LeavesResults method → result_changes method s message ≡ []
 no_results GetActionResult s message h = absurd (h.0 refl)
 no_results UpdateActionResult s message h = absurd (h.1 refl)
-no_results FindMissingBlobs s message h = refl
-no_results BatchUpdateBlobs s message h = refl
-no_results BatchReadBlobs s message h = refl
-no_results GetTree s message h = refl
-no_results Execute s message h = refl
-no_results WaitExecution s message h = refl
-no_results GetCapabilities s message h = refl
-no_results Read s message h = refl
-no_results Write s message h = refl
-no_results QueryWriteStatus s message h = refl
+no_results _ s message h = refl
 
 -- a method that leaves the results as they are
 pub texts_make : (r : Result (Vec Reply Global) AllocError) (method : Method) (s : InstanceState) (message : List ℕ) (new results : List Blob) → LeavesResults method

@@ -1,7 +1,7 @@
 -- What a Read does to an instance's texts.
 use Rattle.std.proofs.Common.{◌≡◌, ℕ, ◌≤◌, List, [], ◌∷◌, ◌++◌, Result, Ok, Err, refl, sym, ap, subst, arith}
 use Rattle.rpc.specs.declared.method.Method.{Method}
-use Rattle.rpc.specs.declared.method.Method.TheVariants.{FindMissingBlobs, BatchUpdateBlobs, BatchReadBlobs, GetTree, GetActionResult, UpdateActionResult, Execute, WaitExecution, GetCapabilities, Read, Write, QueryWriteStatus}
+use Rattle.rpc.specs.declared.method.Method.TheVariants.{GetTree, Read}
 use Rattle.rpc.specs.declared.refusal.Refusal.{Refusal}
 use Rattle.blob_pool.specs.Slots.{Slots, count_at}
 use Rattle.blob_pool.specs.Moves.{Holders, Moves, no_holders, HasRoom}
@@ -63,13 +63,4 @@ room_kept quota p v kept limit =
 pub items_plain : (method : Method) (s : InstanceState) (message : List ℕ) → IsPlain method → items_to method s message ≡ items_of (reply_to method s message)
 items_plain Read s message h = absurd (h.1 refl)
 items_plain GetTree s message h = absurd (h.2 refl)
-items_plain FindMissingBlobs s message h = refl
-items_plain BatchUpdateBlobs s message h = refl
-items_plain BatchReadBlobs s message h = refl
-items_plain GetActionResult s message h = refl
-items_plain UpdateActionResult s message h = refl
-items_plain Execute s message h = refl
-items_plain WaitExecution s message h = refl
-items_plain GetCapabilities s message h = refl
-items_plain Write s message h = refl
-items_plain QueryWriteStatus s message h = refl
+items_plain _ s message h = refl

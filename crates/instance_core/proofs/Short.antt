@@ -1,5 +1,5 @@
 -- How long replies are, beside the messages that ask for them.
-use Rattle.std.proofs.Common.{◌≡◌, ℕ, ℤ, pos, ◌+◌, ◌*◌, ◌^◌, ◌<◌, ◌≤◌, Bool, true, false, cond, List, [], ◌∷◌, ◌++◌, length, map, Option, Some, None, Result, Ok, Err, refl, sym, arith, leb-true}
+use Rattle.std.proofs.Common.{◌≡◌, ℕ, ℤ, pos, ◌+◌, ◌*◌, ◌^◌, ◌<◌, ◌≤◌, Bool, true, false, cond, List, [], ◌∷◌, ◌++◌, length, map, Option, Some, None, Result, Ok, Err, refl, sym, subst, arith, leb-true}
 use Rattle.std.specs.Prelude.{nat_le, nat_lt}
 use Rattle.std.specs.Int.{w64, cast_unsigned}
 use Rattle.std.specs.List.{AllByRecursion, filter, concat}
@@ -13,7 +13,7 @@ use Rattle.reapi_messages.specs.Parts.{text_for, each_field, string_field, int64
 use Rattle.reapi_messages.specs.Digests.{DigestValue, digest_of, digest_records}
 use Rattle.reapi_messages.specs.Statuses.{StatusValue, status_records}
 use Rattle.reapi_messages.specs.Batches.{UpdateBlobRequestValue, read_blob_response_records, batch_read_blobs_request_of, update_blob_request_of, batch_update_blobs_request_of, update_blob_response_records}
-use Rattle.rpc.specs.declared.refusal.Refusal.TheVariants.{UnknownMethod, CompressedMessage, MessageTooLarge, MessageCutOff, NoMessage, MoreThanOneMessage, MalformedMessage, UnknownInstance, UnsupportedDigestFunction, UnsupportedCompressor, BadDigest, BatchTooLarge, DigestDoesNotMatch, QuotaExceeded, BlobNotFound, BadResourceName, NegativeLimit, OffsetOutOfRange, WrongOffset, TooManyUploads, UploadNotFound, BadPage, BadDirectory, TreeTooLarge, NoResult}
+use Rattle.rpc.specs.declared.refusal.Refusal.TheVariants.{UnknownMethod, BatchTooLarge, BlobNotFound}
 use Rattle.rpc.specs.Status.{code_of, text_of}
 use Rattle.cas_service.specs.Statuses.{ok_status, refused_status, status_of_result}
 use Rattle.cas_service.specs.BatchUpdate.{blobs_sent, sent_size, storage_digest, update_response, update_reply, batch_update_reply}
@@ -76,18 +76,23 @@ digest_read t v h =
     let fits = int64_narrow 2 r.records r.narrow in
     rw (← e) (omega arith, fits)
 
-pub digests_read : (ps : List (List ℕ)) (vs : List DigestValue) → each_of (value_of_text digest_of) ps ≡ Ok vs → (digest_sizes vs ≤ sizes ps) × AllByRecursion FitsSize vs
+-- what holds of nothing read, and of one value more where it is read, holds of all that is read
+each_read : {V : Type 0} (read : List ℕ → Result V MessageError) (IsRead : List (List ℕ) → List V → Type 0) → IsRead [] [] → ((p : List ℕ) (v : V) (ps : List (List ℕ)) (vs : List V) → read p ≡ Ok v → IsRead ps vs → IsRead (p ∷ ps) (v ∷ vs)) →
+    (ps : List (List ℕ)) (vs : List V) → each_of read ps ≡ Ok vs → IsRead ps vs
 unfolding each_of
-digests_read [] vs h = let e : [] ≡ vs = ok_is [] vs h in rw (← e) (omega arith, tt)
-digests_read (p ∷ ps) vs h =
-    let first = bind_ok (value_of_text digest_of p) _ vs h in
-    let rest = bind_ok (each_of (value_of_text digest_of) ps) _ vs first.2 in
-    let ih = digests_read ps rest.0 rest.1 in
+each_read read IsRead none more [] vs h = let e : [] ≡ vs = ok_is [] vs h in subst (λ xs. IsRead [] xs) e none
+each_read read IsRead none more (p ∷ ps) vs h =
+    let first = bind_ok (read p) _ vs h in
+    let rest = bind_ok (each_of read ps) _ vs first.2 in
     let e = ok_is (first.0 ∷ rest.0) vs rest.2 in
-    let one = digest_read p first.0 first.1 in
+    subst (λ xs. IsRead (p ∷ ps) xs) e (more p first.0 ps rest.0 first.1 (each_read read IsRead none more ps rest.0 rest.1))
+
+pub digests_read : (ps : List (List ℕ)) (vs : List DigestValue) → each_of (value_of_text digest_of) ps ≡ Ok vs → (digest_sizes vs ≤ sizes ps) × AllByRecursion FitsSize vs
+digests_read = each_read (value_of_text digest_of) (λ ps vs. (digest_sizes vs ≤ sizes ps) × AllByRecursion FitsSize vs) (omega arith, tt) (λ p v ps vs read ih.
+    let one = digest_read p v read in
     let a = ih.0 in
     let b = one.0 in
-    rw (← e) (omega arith, (one.1, ih.1))
+    (omega arith, (one.1, ih.1)))
 
 well_formed_is : (o : Option Digest) (d : Digest) → form_check o ≡ Ok d → o ≡ Some d
 well_formed_is None d h = absurd (cc)
@@ -185,57 +190,11 @@ find_missing_short own visible message reply short h =
 
 code_small : (r : Refusal) → code_of r < 17
 code_small UnknownMethod = omega arith
-code_small CompressedMessage = omega arith
-code_small MessageTooLarge = omega arith
-code_small MessageCutOff = omega arith
-code_small NoMessage = omega arith
-code_small MoreThanOneMessage = omega arith
-code_small MalformedMessage = omega arith
-code_small UnknownInstance = omega arith
-code_small UnsupportedDigestFunction = omega arith
-code_small UnsupportedCompressor = omega arith
-code_small BadDigest = omega arith
-code_small BatchTooLarge = omega arith
-code_small DigestDoesNotMatch = omega arith
-code_small QuotaExceeded = omega arith
-code_small BlobNotFound = omega arith
-code_small BadResourceName = omega arith
-code_small NegativeLimit = omega arith
-code_small OffsetOutOfRange = omega arith
-code_small WrongOffset = omega arith
-code_small TooManyUploads = omega arith
-code_small UploadNotFound = omega arith
-code_small BadPage = omega arith
-code_small BadDirectory = omega arith
-code_small TreeTooLarge = omega arith
-code_small NoResult = omega arith
+code_small _ = omega arith
 
 text_small : (r : Refusal) → length (text_of r) ≤ 40
 text_small UnknownMethod = omega arith
-text_small CompressedMessage = omega arith
-text_small MessageTooLarge = omega arith
-text_small MessageCutOff = omega arith
-text_small NoMessage = omega arith
-text_small MoreThanOneMessage = omega arith
-text_small MalformedMessage = omega arith
-text_small UnknownInstance = omega arith
-text_small UnsupportedDigestFunction = omega arith
-text_small UnsupportedCompressor = omega arith
-text_small BadDigest = omega arith
-text_small BatchTooLarge = omega arith
-text_small DigestDoesNotMatch = omega arith
-text_small QuotaExceeded = omega arith
-text_small BlobNotFound = omega arith
-text_small BadResourceName = omega arith
-text_small NegativeLimit = omega arith
-text_small OffsetOutOfRange = omega arith
-text_small WrongOffset = omega arith
-text_small TooManyUploads = omega arith
-text_small UploadNotFound = omega arith
-text_small BadPage = omega arith
-text_small BadDirectory = omega arith
-text_small TreeTooLarge = omega arith
-text_small NoResult = omega arith
+text_small _ = omega arith
 
 plain_status_written : (n : ℕ) (m : List ℕ) → n < 2 ^ 64 → length m ≤ 40 → length (text_for status_records (record { code = pos n; message = m; details = [] })) ≤ 80
 plain_status_written n m fits small =
@@ -310,17 +269,12 @@ FitSets : List UpdateBlobRequestValue → Type 0
 FitSets rs = AllByRecursion (λ (r : UpdateBlobRequestValue). FitsSet r.digest) rs
 
 updates_read : (ps : List (List ℕ)) (rs : List UpdateBlobRequestValue) → each_of (value_of_text update_blob_request_of) ps ≡ Ok rs → (update_sizes rs ≤ sizes ps) × FitSets rs
-unfolding each_of update_sizes FitSets
-updates_read [] rs h = let e : [] ≡ rs = ok_is [] rs h in rw (← e) (omega arith, tt)
-updates_read (p ∷ ps) rs h =
-    let first = bind_ok (value_of_text update_blob_request_of p) _ rs h in
-    let rest = bind_ok (each_of (value_of_text update_blob_request_of) ps) _ rs first.2 in
-    let ih = updates_read ps rest.0 rest.1 in
-    let e = ok_is (first.0 ∷ rest.0) rs rest.2 in
-    let one = update_request_read p first.0 first.1 in
+unfolding update_sizes FitSets
+updates_read = each_read (value_of_text update_blob_request_of) (λ ps rs. (update_sizes rs ≤ sizes ps) × FitSets rs) (omega arith, tt) (λ p r ps rs read ih.
+    let one = update_request_read p r read in
     let a = ih.0 in
     let b = one.0 in
-    rw (← e) (omega arith, (one.1, ih.1))
+    (omega arith, (one.1, ih.1)))
 
 update_response_written : (quota : ℕ) (r : UpdateBlobRequestValue) → hash_size r.digest < 2 ^ 40 → FitsSet r.digest → length (text_for update_blob_response_records (update_response quota r)) ≤ 160 + hash_size r.digest
 update_response_written quota r small fits =

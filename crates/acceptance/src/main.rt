@@ -1,13 +1,13 @@
 //! Carries out the cases of standard input one by one, and writes what becomes of each.
 //!
-//! A line `# KIND NAME` begins a case. The lines below it, up to the next such line, are its script,
-//! which ends without a newline: one that ends with a newline has an empty line as its last. KIND
-//! says what carries the script out:
+//! A line `# KIND NAME` begins a case. The lines below it, up to the next such line, are its
+//! script, which ends without a newline: one that ends with a newline has an empty line as its
+//! last. KIND says what carries the script out:
 //!
 //! | kind | what is carried out |
 //! |---|---|
 //! | `unary`, `replay` | what the program does for a script of calls, and for one of events |
-//! | `stored` | a script of events: after each, how many texts the server holds, of how many bytes |
+//! | `stored` | a script of events: after each, how many texts the server has, of how many bytes |
 //! | `limits` | lines that reach each limit of trees and of results, and pass it by one |
 //! | `sockets` | clients over fake sockets and over real ones, each of which sends a line's bytes |
 #![tactic(auto)]

@@ -1,8 +1,8 @@
 //! A message as a function of its records.
 
-ghost use Rattle.std.specs.Prelude.{◌≡◌, ◌<◌, ◌^◌, ℕ, List, [], Result, Ok, Err, Option, None, Some, map, option_map, length, OnOk, IfOk};
+ghost use Rattle.std.specs.Prelude.{◌≡◌, ◌<◌, ℕ, List, [], Result, Ok, Err, Option, None, Some, map, option_map, length, OnOk, IfOk};
 ghost use Rattle.protobuf_wire.specs.Writing.{records_text, message_field, followed_by, followed_by_records};
-ghost use Rattle.protobuf_wire.specs.Record.{Record};
+ghost use Rattle.protobuf_wire.specs.Record.{Record, field_number_limit};
 ghost use Rattle.protobuf_wire.specs.Shown.{record_shown};
 ghost use Rattle.message_fields.specs.declared.error.MessageError.{MessageError};
 ghost use Rattle.message_fields.specs.Answers.{Means};
@@ -161,7 +161,7 @@ fn put_message<'a, M: Message<'a>>(
     message: &M,
 ) -> Result<(), AllocError>
     requires positive { 0 < field }
-    requires small { field < 2 ^ 29 }
+    requires small { field < field_number_limit }
     ensures { OnOk result (writer.new ≡ followed_by_records writer.old
         (message_field field (text_for M.records_for (M.shown message.now)))) }
 {
@@ -178,7 +178,7 @@ pub fn put_embedded<'a, M: Message<'a>>(
     message: &Option<M>,
 ) -> Result<(), AllocError>
     requires positive { 0 < field }
-    requires small { field < 2 ^ 29 }
+    requires small { field < field_number_limit }
     ensures { OnOk result (writer.new ≡ followed_by_records writer.old
         (embedded_field M.records_for field (option_map M.shown message.now))) }
 {
@@ -195,7 +195,7 @@ pub fn put_repeated<'a, M: Message<'a>>(
     messages: &[M],
 ) -> Result<(), AllocError>
     requires positive { 0 < field }
-    requires small { field < 2 ^ 29 }
+    requires small { field < field_number_limit }
     ensures { OnOk result (writer.new ≡ followed_by_records writer.old
         (repeated_field M.records_for field (map M.shown messages.now))) }
 {

@@ -1,8 +1,9 @@
 -- Which bytes begin with no record, and why: the first fault from left to right.
-use Rattle.std.specs.Prelude.{◌≡◌, ◌⊎◌, ℕ, ◌+◌, ◌*◌, ◌^◌, ◌<◌, ◌≤◌, List, ◌++◌, length}
+use Rattle.std.specs.Prelude.{◌≡◌, ◌⊎◌, ℕ, ◌+◌, ◌*◌, ◌<◌, ◌≤◌, List, ◌++◌, length}
 use Rattle.std.specs.List.{AllByRecursion}
 use Rattle.protobuf_wire.specs.declared.field.WireError.{WireError}
 use Rattle.protobuf_wire.specs.declared.field.WireError.TheVariants.{Truncated, Overlong, BadWireType, BadField}
+use Rattle.protobuf_wire.specs.Record.{field_number_limit}
 use Rattle.protobuf_wire.specs.Spelling.{IsVarint, Sequence}
 
 -- a number that ends before its last byte, or that has so many bytes and goes on
@@ -43,7 +44,7 @@ abbrev pub IsBadWireType : ℕ → Type 0
 IsBadWireType wire_type = (wire_type ≡ 3) ⊎ (wire_type ≡ 4) ⊎ (6 ≤ wire_type)
 
 abbrev pub IsBadNumber : ℕ → Type 0
-IsBadNumber number = (number ≡ 0) ⊎ (2 ^ 29 ≤ number)
+IsBadNumber number = (number ≡ 0) ⊎ (field_number_limit ≤ number)
 
 -- the wire type is looked at first, then the field's number, then the content
 abbrev pub FaultsBehindTag : ℕ → ℕ → List ℕ → WireError → Type 0

@@ -3,7 +3,7 @@ use Rattle.std.specs.Prelude.{ℕ, zero, suc, ◌+◌, ◌-◌, ◌*◌, ◌/◌
 use Rattle.protobuf_wire.specs.declared.field.WireError.{WireError}
 use Rattle.protobuf_wire.specs.declared.field.WireError.TheVariants.{Truncated, Overlong, BadWireType, BadField}
 use Rattle.protobuf_wire.specs.Results.{◌>>=◌}
-use Rattle.protobuf_wire.specs.Record.{Value, Number, Eight, Payload, Four, Record}
+use Rattle.protobuf_wire.specs.Record.{Value, Number, Eight, Payload, Four, Record, field_number_limit}
 
 -- ---- one item at the front, and the bytes after it
 
@@ -30,7 +30,7 @@ unfoldable pub record_at : List ℕ → Result (Record × List ℕ) WireError
 record_at bytes = do
   tag ← varint_at 10 bytes
   if (tag.0 % 8 == 3) || (tag.0 % 8 == 4) || nat_le 6 (tag.0 % 8) then Err BadWireType
-      else (if (tag.0 / 8 == 0) || nat_le (2 ^ 29) (tag.0 / 8) then Err BadField
+      else (if (tag.0 / 8 == 0) || nat_le field_number_limit (tag.0 / 8) then Err BadField
       else (content_at (tag.0 % 8) tag.1 >>= λ x. Ok (record { number = tag.0 / 8; value = x.0 }, x.1)))
 
 unfoldable pub number_at : List ℕ → Result (ℕ × List ℕ) WireError

@@ -3,7 +3,7 @@ use Rattle.std.specs.Prelude.{◌≡◌, ℕ, ◌+◌, ◌-◌, ◌*◌, ◌^◌
 use Rattle.std.specs.List.{flat_map}
 unfoldable pub use Rattle.base128.specs.Groups.{groups_in, groups as varint}
 pub use Rattle.base128.specs.Groups.{BeginsWith}
-use Rattle.protobuf_wire.specs.Record.{Value, Number, Eight, Payload, Four, Record}
+use Rattle.protobuf_wire.specs.Record.{Value, Number, Eight, Payload, Four, Record, field_number_limit}
 use Rattle.protobuf_wire.specs.Spelling.{wire_type}
 
 abbrev pub content_text : Value → List ℕ
@@ -82,5 +82,5 @@ FitsContent (Four bytes) = length bytes ≡ 4
 
 pub record IsWritable (r : Record) : Type 0 where
   pub positive : 0 < r.number
-  pub small : r.number < 2 ^ 29
+  pub small : r.number < field_number_limit
   pub value : FitsContent r.value

@@ -3,7 +3,8 @@
 //! What is written goes into a text, or is only measured, so that a text's length is known before
 //! the text is written.
 
-ghost use Rattle.std.specs.Prelude.{◌≡◌, ◌+◌, ◌-◌, ◌*◌, ◌^◌, ◌<◌, ◌++◌, ℕ, List, [], take, length, OnOk, OnErr, IfOk};
+ghost use Rattle.std.specs.Prelude.{◌≡◌, ◌+◌, ◌-◌, ◌*◌, ◌<◌, ◌++◌, ℕ, List, [], take, length, OnOk, OnErr, IfOk};
+ghost use Rattle.protobuf_wire.specs.Record.{field_number_limit};
 ghost use Rattle.protobuf_wire.specs.Writing.{varint, records_text, number_field, bytes_field, message_field, payload_head, BeginsWith, Written, Text, Room, followed_by, followed_by_records, whole_room, written_text, IsText};
 ghost use Rattle.protobuf_wire.specs.Shown.{output_shown};
 
@@ -14,7 +15,7 @@ use std::marker::Model;
 /// Adds a record of wire type 2, or a part of it where memory is refused.
 #[tactic(auto, using(base128::proofs::Fronts::begins_itself, base128::proofs::Fronts::begins_more, base128::proofs::Fronts::begins_behind))]
 fn push_payload(out: &mut Vec<u8>, number: u32, payload: &[u8]) -> Result<(), AllocError>
-    requires { number < 2 ^ 29 }
+    requires { number < field_number_limit }
     ensures ok { OnOk result (out.new.items ≡ out.old.items
         ++ records_text (message_field number payload.now)) }
     ensures err { OnErr result (BeginsWith out.new.items out.old.items) }
@@ -28,7 +29,7 @@ fn push_payload(out: &mut Vec<u8>, number: u32, payload: &[u8]) -> Result<(), Al
 /// Adds what stands before a payload of so many bytes, or a part of it where memory is refused.
 #[tactic(auto, using(base128::proofs::Fronts::begins_itself, base128::proofs::Fronts::begins_more, base128::proofs::Fronts::begins_behind))]
 fn push_head(out: &mut Vec<u8>, number: u32, count: usize) -> Result<(), AllocError>
-    requires { number < 2 ^ 29 }
+    requires { number < field_number_limit }
     ensures ok { OnOk result (out.new.items ≡ out.old.items ++ payload_head number count) }
     ensures err { OnErr result (BeginsWith out.new.items out.old.items) }
 {
@@ -39,7 +40,7 @@ fn push_head(out: &mut Vec<u8>, number: u32, count: usize) -> Result<(), AllocEr
 /// Adds a record of wire type 0, or nothing for 0, or a part of the record where memory is refused.
 #[tactic(auto, using(base128::proofs::Fronts::begins_itself, base128::proofs::Fronts::begins_more, base128::proofs::Fronts::begins_behind))]
 fn push_number(out: &mut Vec<u8>, number: u32, value: u64) -> Result<(), AllocError>
-    requires { number < 2 ^ 29 }
+    requires { number < field_number_limit }
     ensures ok { OnOk result (out.new.items ≡ out.old.items
         ++ records_text (number_field number value)) }
     ensures err { OnErr result (BeginsWith out.new.items out.old.items) }
@@ -76,7 +77,7 @@ fn add_varint(out: &mut Vec<u8>, value: u64) -> Result<(), AllocError>
 
 #[tactic(auto, using(base128::proofs::Fronts::begins_back))]
 fn add_head(out: &mut Vec<u8>, number: u32, count: usize) -> Result<(), AllocError>
-    requires { number < 2 ^ 29 }
+    requires { number < field_number_limit }
     ensures ok { OnOk result (out.new.items ≡ out.old.items ++ payload_head number count) }
     ensures err { OnErr result (out.new.items ≡ out.old.items) }
 {
@@ -87,7 +88,7 @@ fn add_head(out: &mut Vec<u8>, number: u32, count: usize) -> Result<(), AllocErr
 
 #[tactic(auto, using(base128::proofs::Fronts::begins_back))]
 fn add_payload(out: &mut Vec<u8>, number: u32, payload: &[u8]) -> Result<(), AllocError>
-    requires { number < 2 ^ 29 }
+    requires { number < field_number_limit }
     ensures ok { OnOk result (out.new.items ≡ out.old.items
         ++ records_text (message_field number payload.now)) }
     ensures err { OnErr result (out.new.items ≡ out.old.items) }
@@ -99,7 +100,7 @@ fn add_payload(out: &mut Vec<u8>, number: u32, payload: &[u8]) -> Result<(), All
 
 #[tactic(auto, using(base128::proofs::Fronts::begins_back))]
 fn add_number(out: &mut Vec<u8>, number: u32, value: u64) -> Result<(), AllocError>
-    requires { number < 2 ^ 29 }
+    requires { number < field_number_limit }
     ensures ok { OnOk result (out.new.items ≡ out.old.items
         ++ records_text (number_field number value)) }
     ensures err { OnErr result (out.new.items ≡ out.old.items) }
@@ -124,7 +125,7 @@ fn room_after_varint(room: usize, value: u64) -> usize
 
 /// What the bytes before a payload leave of a room.
 fn room_after_head(room: usize, number: u32, count: usize) -> usize
-    requires { number < 2 ^ 29 }
+    requires { number < field_number_limit }
     ensures { result ≡ room - length (payload_head number count) }
 {
     let room = room_after_varint(room, u64::from(number) * 8 + 2);
@@ -133,7 +134,7 @@ fn room_after_head(room: usize, number: u32, count: usize) -> usize
 
 /// What a record of wire type 2 leaves of a room.
 fn room_after_payload(room: usize, number: u32, payload: &[u8]) -> usize
-    requires { number < 2 ^ 29 }
+    requires { number < field_number_limit }
     ensures { result ≡ room - length (records_text (message_field number payload.now)) }
 {
     room_after_head(room, number, payload.len()).saturating_sub(payload.len())
@@ -141,7 +142,7 @@ fn room_after_payload(room: usize, number: u32, payload: &[u8]) -> usize
 
 /// What a record of wire type 0 leaves of a room, or all of it for 0.
 fn room_after_number(room: usize, number: u32, value: u64) -> usize
-    requires { number < 2 ^ 29 }
+    requires { number < field_number_limit }
     ensures { result ≡ room - length (records_text (number_field number value)) }
 {
     if value == 0 {
@@ -176,7 +177,7 @@ fn put_varint(out: &mut Output, value: u64) -> Result<(), AllocError>
 
 #[tactic(auto, unfolding(crate::specs::Writing::followed_by))]
 fn put_head(out: &mut Output, number: u32, count: usize) -> Result<(), AllocError>
-    requires { number < 2 ^ 29 }
+    requires { number < field_number_limit }
     ensures ok { OnOk result (output_shown out.new
         ≡ followed_by (output_shown out.old) (payload_head number count)) }
     ensures err { OnErr result (output_shown out.new ≡ output_shown out.old) }
@@ -207,7 +208,7 @@ fn put_bytes(out: &mut Output, bytes: &[u8]) -> Result<(), AllocError>
 
 #[tactic(auto, unfolding(crate::specs::Writing::followed_by))]
 fn put_payload(out: &mut Output, number: u32, payload: &[u8]) -> Result<(), AllocError>
-    requires { number < 2 ^ 29 }
+    requires { number < field_number_limit }
     ensures ok { OnOk result (output_shown out.new
         ≡ followed_by_records (output_shown out.old) (message_field number payload.now)) }
     ensures err { OnErr result (output_shown out.new ≡ output_shown out.old) }
@@ -223,7 +224,7 @@ fn put_payload(out: &mut Output, number: u32, payload: &[u8]) -> Result<(), Allo
 
 #[tactic(auto, unfolding(crate::specs::Writing::followed_by))]
 fn put_number(out: &mut Output, number: u32, value: u64) -> Result<(), AllocError>
-    requires { number < 2 ^ 29 }
+    requires { number < field_number_limit }
     ensures ok { OnOk result (output_shown out.new
         ≡ followed_by_records (output_shown out.old) (number_field number value)) }
     ensures err { OnErr result (output_shown out.new ≡ output_shown out.old) }
@@ -317,7 +318,7 @@ impl Writer {
     /// Adds a record of a number, or nothing for 0, which is the default.
     pub fn varint(&mut self, field: u32, value: u64) -> Result<(), AllocError>
         requires positive { 0 < field }
-        requires small { field < 2 ^ 29 }
+        requires small { field < field_number_limit }
         ensures ok { OnOk result (self.new
             ≡ followed_by_records self.old (number_field field value)) }
         ensures err { OnErr result (self.new ≡ self.old) }
@@ -329,7 +330,7 @@ impl Writer {
     #[tactic(auto, using(crate::proofs::Written::followed_by_none))]
     pub fn bytes(&mut self, field: u32, payload: &[u8]) -> Result<(), AllocError>
         requires positive { 0 < field }
-        requires small { field < 2 ^ 29 }
+        requires small { field < field_number_limit }
         ensures ok { OnOk result (self.new
             ≡ followed_by_records self.old (bytes_field field payload.now)) }
         ensures err { OnErr result (self.new ≡ self.old) }
@@ -343,7 +344,7 @@ impl Writer {
     /// Adds a record of an embedded message or of an item of a repeated field, also an empty one.
     pub fn message(&mut self, field: u32, payload: &[u8]) -> Result<(), AllocError>
         requires positive { 0 < field }
-        requires small { field < 2 ^ 29 }
+        requires small { field < field_number_limit }
         ensures ok { OnOk result (self.new
             ≡ followed_by_records self.old (message_field field payload.now)) }
         ensures err { OnErr result (self.new ≡ self.old) }
@@ -355,7 +356,7 @@ impl Writer {
     /// be added next.
     pub fn payload_head(&mut self, field: u32, count: usize) -> Result<(), AllocError>
         requires positive { 0 < field }
-        requires small { field < 2 ^ 29 }
+        requires small { field < field_number_limit }
         ensures ok { OnOk result (self.new ≡ followed_by self.old (payload_head field count)) }
         ensures err { OnErr result (self.new ≡ self.old) }
     {

@@ -1,5 +1,6 @@
 #!/usr/bin/env python3
-"""bazel_cache.py PROGRAM [--actions N] [--jobs N]: two builds by Bazel, of which the second takes all from the cache.
+"""bazel_cache.py PROGRAM [--actions N] [--jobs N]: three builds by Bazel, of which the second takes
+all from the cache and the third, of another instance, none.
 
 PROGRAM is the built `remoted`. A workspace with N actions (120 if not given) is made: genrules, some of them over the
 outputs of others, one in ten with an output of a megabyte, and one in ten a rule whose output is a directory. Bazel

@@ -9,7 +9,7 @@ use Rattle.http2_frames.specs.declared.frame.RawFrame.{RawFrame}
 use Rattle.http2_frames.specs.declared.frame.Frame.{Frame}
 use Rattle.http2_frames.specs.declared.frame.Frame.TheVariants.{Data, Headers, RstStream, Settings, GoAway, WindowUpdate, Continuation}
 use Rattle.http2_frames.specs.Frames.{frame_of}
-use Rattle.http2_headers.specs.HeaderBlock.{new_block}
+use Rattle.http2_headers.specs.HeaderBlock.{HeaderBlock, new_block}
 use Rattle.http2_headers.specs.declared.header_blocks.HeaderList.{HeaderList}
 use Rattle.http2_headers.specs.Decoding.{HeaderState, list_of_block, state_after_block, list_of_continuation, state_after_continuation}
 use Rattle.http2_streams.specs.declared.stream.Side.{Side}
@@ -89,6 +89,19 @@ after_header_list v (Ok (Some list)) = after_block v list.stream list.end_stream
 after_header_list v (Ok None) = v
 after_header_list v (Err code) = v
 
+-- a header block begins with this part
+abbrev pub after_new_block : Standing → Bool → HeaderBlock → Standing
+after_new_block v end_headers block =
+    after_header_list (with_headers v (state_after_block v.table end_headers block))
+    (list_of_block v.table end_headers block)
+
+-- the header block that is unfinished goes on with this part
+abbrev pub after_continuation : Standing → Bool → List ℕ → Standing
+after_continuation v end_headers fragment =
+    after_header_list
+    (with_headers v (state_after_continuation v.table v.unfinished end_headers fragment))
+    (list_of_continuation v.table v.unfinished end_headers fragment)
+
 -- the last SETTINGS_INITIAL_WINDOW_SIZE in the list
 abbrev pub size_after_setting : Option ℕ → Setting → Option ℕ
 size_after_setting size s = if s.identifier == INITIAL_WINDOW_SIZE then Some s.value else size
@@ -107,11 +120,13 @@ after_window_update v s n =
 
 abbrev pub after_frame_in : Standing → Frame → Standing
 after_frame_in v (Data s end_stream bytes) = after_client_end v s end_stream
-after_frame_in v (Headers s end_stream end_headers fragment) = after_header_list (with_headers v (state_after_block v.table end_headers (new_block s end_stream fragment))) (list_of_block v.table end_headers (new_block s end_stream fragment))
+after_frame_in v (Headers s end_stream end_headers fragment) =
+    after_new_block v end_headers (new_block s end_stream fragment)
 after_frame_in v (RstStream s code) = with_live v (without_stream s v.live)
 after_frame_in v (Settings ack settings) = if ack then v else after_settings v settings
 after_frame_in v (WindowUpdate s n) = after_window_update v s n
-after_frame_in v (Continuation s end_headers fragment) = after_header_list (with_headers v (state_after_continuation v.table v.unfinished end_headers fragment)) (list_of_continuation v.table v.unfinished end_headers fragment)
+after_frame_in v (Continuation s end_headers fragment) =
+    after_continuation v end_headers fragment
 after_frame_in v _ = v
 
 -- ---- put

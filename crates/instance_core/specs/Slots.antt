@@ -1,6 +1,6 @@
 -- What an instance keeps of its own: of each text its digest, and the slot where a pool that it
 -- shares with other instances has the text; of each result its bytes.
-use Rattle.std.specs.Prelude.{ℕ, List}
+use Rattle.std.specs.Prelude.{◌≡◌, ℕ, List}
 use Rattle.blob_pool.specs.Slots.{Slots}
 use Rattle.blob_pool.specs.Moves.{Holders, AreHeld}
 use Rattle.instance_view.specs.Visible.{Blob}
@@ -31,6 +31,10 @@ state_in p i = record {
   results = i.results;
   calls = i.calls;
 }
+
+-- what it was configured with stays: its name, its quota and how many actions it runs at once
+abbrev pub KeepsConfig : InstanceSlots → InstanceSlots → Type 0
+KeepsConfig old new = (new.name ≡ old.name) × (new.quota ≡ old.quota) × (new.slots ≡ old.slots)
 
 -- how often the instance holds each slot of the pool
 abbrev pub holders_of : InstanceSlots → Holders

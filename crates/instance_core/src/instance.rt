@@ -5,7 +5,7 @@ ghost use Rattle.blob_pool.specs.Slots.{Slots};
 ghost use Rattle.blob_pool.specs.Moves.{Moves};
 ghost use Rattle.instance_core.specs.Calls.{IsShortEvent, cancel, tick};
 ghost use Rattle.instance_core.specs.State.{WithinLimits, new_instance, at_moment};
-ghost use Rattle.instance_core.specs.Slots.{state_in, holders_of, IsKept};
+ghost use Rattle.instance_core.specs.Slots.{KeepsConfig, state_in, holders_of, IsKept};
 ghost use Rattle.instance_core.specs.Changes.{MadeInPart};
 ghost use Rattle.instance_core.specs.Answer.{answer, state_after};
 ghost use Rattle.instance_core.specs.Shown.{Gives, GivesShort, event_shown};
@@ -89,8 +89,7 @@ impl Instance {
             state_in p self.new ≡ at_moment moment (state_in p self.old) }
         ensures holders { (k : ℕ) → holders_of self.new k ≡ holders_of self.old k }
         ensures kept { (p : Slots) → IsKept p self.old → IsKept p self.new }
-        ensures config { (self.new.name ≡ self.old.name) × (self.new.quota ≡ self.old.quota)
-            × (self.new.slots ≡ self.old.slots) }
+        ensures config { KeepsConfig self.old self.new }
     {
         self.moment = moment;
     }
@@ -117,8 +116,7 @@ impl Instance {
         ensures moves { Moves pool.old pool.new (holders_of self.old)
             (λ k. holders_of self.new k + holders_given result k) }
         ensures within { WithinLimits (state_in pool.new self.new) }
-        ensures config { (self.new.name ≡ self.old.name) × (self.new.quota ≡ self.old.quota)
-            × (self.new.slots ≡ self.old.slots) }
+        ensures config { KeepsConfig self.old self.new }
         ensures short { GivesShort pool.new result }
     {
         match event {
@@ -161,8 +159,7 @@ impl Instance {
             ≡ state_after (state_in p self.old) tick }
         ensures holders { (k : ℕ) → holders_of self.new k ≡ holders_of self.old k }
         ensures kept { (p : Slots) → IsKept p self.old → IsKept p self.new }
-        ensures config { (self.new.name ≡ self.old.name) × (self.new.quota ≡ self.old.quota)
-            × (self.new.slots ≡ self.old.slots) }
+        ensures config { KeepsConfig self.old self.new }
     {
         self.contents.uploads.expire(self.moment);
     }
@@ -175,8 +172,7 @@ impl Instance {
             state_in p self.new ≡ state_after (state_in p self.old) (cancel call) }
         ensures holders { (k : ℕ) → holders_of self.new k ≡ holders_of self.old k }
         ensures kept { (p : Slots) → IsKept p self.old → IsKept p self.new }
-        ensures config { (self.new.name ≡ self.old.name) × (self.new.quota ≡ self.old.quota)
-            × (self.new.slots ≡ self.old.slots) }
+        ensures config { KeepsConfig self.old self.new }
     {
         self.calls.end(call);
     }

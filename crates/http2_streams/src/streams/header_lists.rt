@@ -1,10 +1,10 @@
 //! Header lists: HEADERS and CONTINUATION (RFC 9113 sections 6.2 and 6.10).
 
 ghost use Rattle.std.specs.Prelude.{◌≡◌, ◌<◌, ◌++◌, ◌∷◌, [], length, true, IfOk, OnErr};
-ghost use Rattle.http2_headers.specs.Decoding.{Gives, list_of_block, state_after_block, list_of_continuation, state_after_continuation};
+ghost use Rattle.http2_headers.specs.Decoding.{Gives, list_of_block, list_of_continuation};
 ghost use Rattle.http2_headers.specs.HeaderBlock.{new_block};
 ghost use Rattle.http2_streams.specs.Rules.{is_receiving, on_header_list, on_block, on_request, on_trailers};
-ghost use Rattle.http2_streams.specs.Step.{after_answer, after_block, after_header_list, with_headers, after_client_end, with_live, new_stream};
+ghost use Rattle.http2_streams.specs.Step.{after_answer, after_block, after_new_block, after_continuation, after_client_end, with_live, new_stream};
 
 use crate::event::{Event, StreamEvent};
 use crate::live;
@@ -26,12 +26,8 @@ impl Streams {
         ensures answer { Gives result (on_header_list self.old
             (list_of_block self.old.table end_headers (new_block stream end_stream fragment.now))) }
         ensures state { IfOk result (λ a. self.new
-            ≡ after_answer a (after_header_list
-            (with_headers self.old
-            (state_after_block self.old.table end_headers
-            (new_block stream end_stream fragment.now)))
-            (list_of_block self.old.table end_headers
-            (new_block stream end_stream fragment.now)))) }
+            ≡ after_answer a (after_new_block self.old end_headers
+            (new_block stream end_stream fragment.now))) }
         ensures live { OnErr result (self.new.live ≡ self.old.live) }
         ensures highest { OnErr result (self.new.highest ≡ self.old.highest) }
     {
@@ -52,10 +48,7 @@ impl Streams {
         ensures answer { Gives result (on_header_list self.old
             (list_of_continuation self.old.table self.old.unfinished end_headers fragment.now)) }
         ensures state { IfOk result (λ a. self.new
-            ≡ after_answer a (after_header_list
-            (with_headers self.old
-            (state_after_continuation self.old.table self.old.unfinished end_headers fragment.now))
-            (list_of_continuation self.old.table self.old.unfinished end_headers fragment.now))) }
+            ≡ after_answer a (after_continuation self.old end_headers fragment.now)) }
         ensures live { OnErr result (self.new.live ≡ self.old.live) }
         ensures highest { OnErr result (self.new.highest ≡ self.old.highest) }
     {

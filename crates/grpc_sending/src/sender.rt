@@ -1,11 +1,12 @@
 //! Sending on one connection.
 
-ghost use Rattle.std.specs.Prelude.{◌≡◌, ◌≤◌, ◌<◌, ◌+◌, ◌-◌, ◌^◌, ◌++◌, ◌∷◌, ◌↔◌, [], ℕ, List, true, false, IsTrue, IfOk, OnOk, OnErr, MatchOption, length, take, drop, Some, None};
+ghost use Rattle.std.specs.Prelude.{◌≡◌, ◌≤◌, ◌<◌, ◌+◌, ◌-◌, ◌++◌, ◌∷◌, ◌↔◌, [], ℕ, List, true, false, IsTrue, IfOk, OnOk, OnErr, MatchOption, length, take, drop, Some, None};
 ghost use Rattle.http2_frames.specs.Writing.{raw_of, text_of};
 ghost use Rattle.http2_frames.specs.declared.frame.Frame.TheVariants.{Data, RstStream};
 ghost use Rattle.http2_streams.specs.History.{Entry, Out, Took, is_not_closed, has_failed};
 ghost use Rattle.digest.specs.declared.Digest.{Digest};
 ghost use Rattle.http2_streams.specs.StandsFor.{StandsFor as AreStreams};
+ghost use Rattle.grpc_messages.specs.Wire.{message_length_limit};
 ghost use Rattle.grpc_sending.specs.Bytes.{most_untaken};
 ghost use Rattle.grpc_sending.specs.Owed.{OwedItem, Headed, Message, Range, owed_with_item};
 ghost use Rattle.grpc_sending.specs.Pump.{history_after_pump, next_frames};
@@ -172,7 +173,7 @@ impl Sender {
         stream: u32,
         message: Vec<u8>,
     ) -> Result<(), AllocError>
-        requires { length message.items < 2 ^ 32 }
+        requires { length message.items < message_length_limit }
         ensures ok { OnOk result (Owes streams.now stream (Message message.items) self.old
             self.new) }
         ensures fit { KeepsFit self.old self.new }

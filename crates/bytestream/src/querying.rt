@@ -1,12 +1,13 @@
 //! `QueryWriteStatus`: how many bytes of an upload are there.
 
-ghost use Rattle.std.specs.Prelude.{◌≡◌, ◌<◌, ◌^◌, IfOk};
+ghost use Rattle.std.specs.Prelude.{◌≡◌, ◌<◌, IfOk};
 ghost use Rattle.reapi_messages.specs.Results.{Gives};
 ghost use Rattle.reapi_messages.specs.ByteStream.{query_write_status_response_shown};
 ghost use Rattle.blob_pool.specs.Slots.{Slots};
 ghost use Rattle.instance_view.specs.Shown.{visible_in};
 ghost use Rattle.cas_service.specs.Answers.{Answers};
 ghost use Rattle.uploads.specs.Shown.{key_shown};
+ghost use Rattle.resource_names.specs.Size.{size_limit};
 ghost use Rattle.bytestream.specs.Querying as querying;
 ghost use Rattle.bytestream.specs.Querying.{status_of, query_reply};
 
@@ -22,7 +23,7 @@ use uploads::{UploadKey, Uploads};
 #[tactic(auto, unfolding(crate::specs::Querying::query_asked))]
 fn query_asked(alloc: Global, own: &str, message: &[u8]) -> Result<UploadKey, CallError>
     ensures key { Answers key_shown result (querying.query_asked own.now message.now) }
-    ensures most { IfOk result (λ key. (key_shown key).digest.size < 2 ^ 63) }
+    ensures most { IfOk result (λ key. (key_shown key).digest.size < size_limit) }
 {
     let request = QueryWriteStatusRequest::decode(alloc, message)?;
     let name = write_name(request.resource_name)?;
@@ -36,7 +37,7 @@ fn status(
     uploads: &Uploads,
     key: &UploadKey,
 ) -> Result<QueryWriteStatusResponse, Refusal>
-    requires { (key_shown key.now).digest.size < 2 ^ 63 }
+    requires { (key_shown key.now).digest.size < size_limit }
     ensures { (p : Slots) → Gives query_write_status_response_shown result
         (status_of (key_shown key.now) (visible_in p view.now) uploads.now) }
 {

@@ -1,6 +1,6 @@
 //! `Write`: what becomes of an upload with each message, and the reply.
 
-ghost use Rattle.std.specs.Prelude.{◌≡◌, ◌≤◌, ◌<◌, ◌^◌, length, IfOk, option_map};
+ghost use Rattle.std.specs.Prelude.{◌≡◌, ◌≤◌, ◌<◌, length, IfOk, option_map};
 ghost use Rattle.blob_pool.specs.Moves.{Moves};
 ghost use Rattle.instance_view.specs.Shown.{visible_in, holders};
 ghost use Rattle.cas_service.specs.Kept.{AreKept};
@@ -11,6 +11,7 @@ ghost use Rattle.bytestream.specs.Writing as writing;
 ghost use Rattle.bytestream.specs.Writing.{state_of, same_name, write_reply, unfinished_reply, first_answer, next_answer, after_first, after_next, IsFirstOldOrTaken, IsNextOldOrTaken};
 ghost use Rattle.bytestream.specs.Shown.{part_shown, first_part_shown, open_write_shown, written_shown, IfGoes};
 ghost use Rattle.cas_service.specs.Kept.{most_stored_bytes};
+ghost use Rattle.resource_names.specs.Size.{size_limit};
 ghost use Rattle.resource_names.specs.declared.parse.TheConstants.{MOST_UUID};
 
 use crate::names::write_name;
@@ -56,7 +57,7 @@ pub struct FirstPart<'a> {
 #[tactic(auto, unfolding(crate::specs::Writing::first_asked))]
 fn first_asked<'a>(alloc: Global, own: &str, message: &'a [u8]) -> Result<FirstPart<'a>, CallError>
     ensures asked { Answers first_part_shown result (writing.first_asked own.now message.now) }
-    ensures most { IfOk result (λ first. first.digest.size < 2 ^ 63) }
+    ensures most { IfOk result (λ first. first.digest.size < size_limit) }
     ensures uuid { IfOk result (λ first. length first.uuid.now ≤ MOST_UUID) }
 {
     let request = WriteRequest::decode(alloc, message)?;
@@ -109,7 +110,7 @@ fn next_asked<'a>(
 
 /// The message that tells how many bytes are there.
 fn reply_of(alloc: Global, committed: u64) -> Result<Vec<u8>, AllocError>
-    requires { committed < 2 ^ 63 }
+    requires { committed < size_limit }
     ensures { IfOk result (λ reply. reply.items ≡ write_reply committed) }
 {
     let response = WriteResponse {
@@ -154,7 +155,7 @@ pub fn write_first(
     ensures answer { Answers written_shown result
         (first_answer own.now quota moment
         (state_of (visible_in pool.old view.old) uploads.old) message.now) }
-    ensures named { IfGoes result (λ call. (open_write_shown call).key.digest.size < 2 ^ 63) }
+    ensures named { IfGoes result (λ call. (open_write_shown call).key.digest.size < size_limit) }
     ensures visible { IfAnswered result (visible_in pool.new view.new
         ≡ (after_first own.now view.old.limit quota moment message.now
         (state_of (visible_in pool.old view.old) uploads.old)).visible) }
@@ -203,7 +204,7 @@ pub fn write_next(
     message: &[u8],
 ) -> Result<Option<Vec<u8>>, CallError>
     requires quota { quota ≤ most_stored_bytes }
-    requires named { (open_write_shown call.now).key.digest.size < 2 ^ 63 }
+    requires named { (open_write_shown call.now).key.digest.size < size_limit }
     requires kept { AreKept quota pool.old view.old }
     requires within { WithinLimits quota uploads.old }
     ensures answer { Answers (option_map (λ reply. reply.items)) result

@@ -1,8 +1,9 @@
 //! Cases of `Write`, message by message, and what each is answered.
 
-ghost use Rattle.std.specs.Prelude.{◌≡◌, ◌≤◌, ◌<◌, ◌^◌};
+ghost use Rattle.std.specs.Prelude.{◌≡◌, ◌≤◌, ◌<◌};
 ghost use Rattle.quota_evict.specs.Kept.{AreKept};
 ghost use Rattle.uploads.specs.Uploads.{WithinLimits};
+ghost use Rattle.resource_names.specs.Size.{size_limit};
 ghost use Rattle.bytestream.specs.Shown.{open_write_shown};
 
 use blob_pool::Pool;
@@ -151,7 +152,7 @@ fn is_next_as_said(
     call: &OpenWrite,
     case: &WriteCase,
 ) -> Result<bool, AllocError>
-    requires named { (open_write_shown call.now).key.digest.size < 2 ^ 63 }
+    requires named { (open_write_shown call.now).key.digest.size < size_limit }
     requires kept { AreKept 10 pool.old view.old }
     requires within { WithinLimits 10 uploads.old }
     ensures kept { AreKept 10 pool.new view.new }
@@ -172,7 +173,7 @@ fn misanswered_next(
     call: &OpenWrite,
     cases: &[WriteCase],
 ) -> Result<Option<&'static str>, AllocError>
-    requires named { (open_write_shown call.now).key.digest.size < 2 ^ 63 }
+    requires named { (open_write_shown call.now).key.digest.size < size_limit }
     requires kept { AreKept 10 pool.old view.old }
     requires within { WithinLimits 10 uploads.old }
 {

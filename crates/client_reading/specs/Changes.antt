@@ -1,9 +1,10 @@
 -- The pasts that a connection can have: what is made of its opening by these changes.
-use Rattle.std.specs.Prelude.{◌≡◌, ◌<◌, ◌≤◌, ◌^◌, ℕ, List, ◌++◌, length, fold, Some}
+use Rattle.std.specs.Prelude.{◌≡◌, ◌<◌, ◌≤◌, ℕ, List, ◌++◌, length, fold, Some}
 use Rattle.std.specs.List.{AllByRecursion}
 use Rattle.http2_frames.specs.declared.codes.ErrorCode.{ErrorCode}
 use Rattle.http2_frames.specs.declared.error.FrameError.{FrameError}
 use Rattle.http2_frames.specs.declared.frame.RawFrame.{RawFrame}
+use Rattle.http2_frames.specs.Wire.{stream_limit}
 use Rattle.http2_streams.specs.Rules.{reading_fault}
 use Rattle.grpc_sending.specs.Owed.{Item}
 use Rattle.conn_core.specs.declared.event.CallEvent.{CallEvent}
@@ -37,7 +38,7 @@ past_after_change p (EventsGiven left) = record p { due = left }
 
 -- a frame as it can be read: section 4.2 for its length, section 4.1 for its stream
 abbrev pub IsReceivable : RawFrame → Type 0
-IsReceivable f = (length f.payload ≤ MAX_FRAME_SIZE) × (f.stream < 2 ^ 31)
+IsReceivable f = (length f.payload ≤ MAX_FRAME_SIZE) × (f.stream < stream_limit)
 
 -- what a change supposes: frames are frames, and an error is that of its fault
 abbrev pub IsChange : Change → Type 0

@@ -1,5 +1,5 @@
 -- What a client reads of the bytes that were put on a connection (RFC 9113).
-use Rattle.std.specs.Prelude.{◌≡◌, ◌<◌, ◌^◌, if◌then◌else◌, ℕ, Bool, true, false, not, List, [], ◌∷◌, ◌++◌, length, map, filter, Ok, pos, ◌≤ℤ◌}
+use Rattle.std.specs.Prelude.{◌≡◌, ◌<◌, if◌then◌else◌, ℕ, Bool, true, false, not, List, [], ◌∷◌, ◌++◌, length, map, filter, Ok, pos, ◌≤ℤ◌}
 use Rattle.std.specs.List.{AllByRecursion}
 use Rattle.std.specs.Option.{option_map_or}
 use Rattle.http2_streams.specs.Credit.{window_left}
@@ -11,6 +11,7 @@ use Rattle.http2_frames.specs.Reading.{split}
 use Rattle.http2_streams.specs.History.{Entry, In, Unreadable, Out, sent_frames, live_streams, window, connection_window, highest_stream, has_failed, is_ended_by_client}
 use Rattle.http2_streams.specs.LiveStreams.{has_stream}
 use Rattle.http2_streams.specs.Rules.{reading_fault}
+use Rattle.grpc_messages.specs.Wire.{message_length_limit}
 use Rattle.grpc_sending.specs.Bytes.{bytes_put}
 use Rattle.grpc_sending.specs.Owed.{items_owed_on}
 use Rattle.grpc_sending.specs.Pump.{reset_after}
@@ -80,7 +81,7 @@ ReadsControl d =
 -- it
 abbrev pub ReadsResponses : Past → Type 0
 ReadsResponses p =
-    (limit : ℕ) → limit < 2 ^ 32 → IsTakable limit p.owed → (s : ℕ) →
+    (limit : ℕ) → limit < message_length_limit → IsTakable limit p.owed → (s : ℕ) →
     IsBeginning limit (stream_parts p.history s) (response_of (items_owed_on s p.owed))
 
 pub record Reads (p : Past) : Type 0 where

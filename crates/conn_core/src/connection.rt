@@ -1,8 +1,9 @@
 //! One connection.
 
-ghost use Rattle.std.specs.Prelude.{◌≡◌, ◌≢◌, ◌≤◌, ◌<◌, ◌-◌, ◌^◌, ◌++◌, ◌∷◌, ◌==◌, [], map, true, false, option_to_list, IsTrue, IfOk, OnOk, OnErr, OnSome, MatchOption, None, Err, length, take, drop};
+ghost use Rattle.std.specs.Prelude.{◌≡◌, ◌≢◌, ◌≤◌, ◌<◌, ◌-◌, ◌++◌, ◌∷◌, ◌==◌, [], map, true, false, option_to_list, IsTrue, IfOk, OnOk, OnErr, OnSome, MatchOption, None, Err, length, take, drop};
 ghost use Rattle.http2_frames.specs.Reader.{HasFrame, text_left};
 ghost use Rattle.http2_frames.specs.Writing.{raw_of};
+ghost use Rattle.grpc_messages.specs.Wire.{message_length_limit};
 ghost use Rattle.grpc_sending.specs.Step.{IsControl};
 ghost use Rattle.http2_frames.specs.declared.error.FrameError.{FrameError};
 ghost use Rattle.grpc_sending.specs.Bytes.{most_untaken};
@@ -165,7 +166,7 @@ impl Connection {
 
     /// Owes a message to the stream, where it is live. An error changes nothing.
     pub fn owe_message(&mut self, stream: u32, message: Vec<u8>) -> Result<(), AllocError>
-        requires { length message.items < 2 ^ 32 }
+        requires { length message.items < message_length_limit }
         ensures stands { OnOk result (Owes stream (Message message.items) self.old self.new) }
         ensures fit { KeepsFit self.old.sending self.new.sending }
         ensures sources { KeepsSources self.old.sending self.new.sending }

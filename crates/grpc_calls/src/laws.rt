@@ -8,7 +8,7 @@ ghost use Rattle.hpack.specs.Encoding.{block_text};
 ghost use Rattle.hpack.specs.declared.encoder.Position.{Position};
 ghost use Rattle.hpack.specs.declared.encoder.Position.TheVariants.{First, Later};
 ghost use Rattle.rpc.specs.declared.refusal.Refusal.{Refusal};
-ghost use Rattle.rpc.specs.Status.{code_of, text_of};
+ghost use Rattle.rpc.specs.Status.{code_count, code_of, text_of};
 ghost use Rattle.rpc.specs.declared.method.Method.{Method};
 ghost use Rattle.grpc_calls.specs.declared.request.HeadFault.{HeadFault};
 ghost use Rattle.grpc_calls.specs.declared.response.ResponseBlock.{ResponseBlock};
@@ -56,5 +56,5 @@ pub fn status_messages_need_no_encoding()
 
 /// The code of a refusal is one of gRPC's, and never OK.
 pub fn a_refusal_is_never_ok()
-    ensures { (r : Refusal) → (0 < code_of r) × (code_of r < 17) }
+    ensures { (r : Refusal) → (0 < code_of r) × (code_of r < code_count) }
 {}

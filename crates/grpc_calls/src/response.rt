@@ -2,7 +2,7 @@
 
 ghost use Rattle.std.specs.Prelude.{◌≡◌, ◌<◌, ◌++◌, Option, OnOk, OnErr, codes, option_map};
 ghost use Rattle.std.specs.Fmt.{decimal};
-ghost use Rattle.rpc.specs.Status.{code_of, text_of};
+ghost use Rattle.rpc.specs.Status.{code_count, code_of, text_of};
 ghost use Rattle.hpack.specs.Encoding.{block_text};
 ghost use Rattle.hpack.specs.Shown.{field_shown};
 ghost use Rattle.grpc_calls.specs.Responses.{fields_of, is_last, header, percent_encoding, constant_text};
@@ -147,7 +147,7 @@ fn message(refusal: Refusal) -> Field<'static>
 
 /// A code of gRPC in decimal digits.
 fn code_text(code: u8) -> &'static [u8]
-    requires { code < 17 }
+    requires { code < code_count }
     ensures { result.now ≡ decimal code }
 {
     match code {

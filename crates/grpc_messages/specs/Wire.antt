@@ -1,11 +1,15 @@
 -- Messages on the wire (gRPC over HTTP2, Length-Prefixed-Message): which bytes are a message, and
 -- how the data of a call divides into messages.
-use Rattle.std.specs.Prelude.{◌≡◌, ◌≢◌, ℕ, ◌+◌, ◌<◌, ◌≤◌, ◌⊎◌, List, [], ◌∷◌, ◌++◌, length, drop, slice_index, Result, Ok, Err}
+use Rattle.std.specs.Prelude.{◌≡◌, ◌≢◌, ℕ, ◌+◌, ◌^◌, ◌<◌, ◌≤◌, ◌⊎◌, List, [], ◌∷◌, ◌++◌, length, drop, slice_index, Result, Ok, Err}
 use Rattle.byteorder.specs.Endian.{big_number}
 use Rattle.wire_items.specs.Items.{Division}
 use Rattle.wire_items.specs.Grammar.{IsDivision}
 use Rattle.grpc_messages.specs.declared.error.MessagesError.{MessagesError}
 use Rattle.grpc_messages.specs.declared.error.MessagesError.TheVariants.{Compressed, TooLarge, CutOff, NoMemory}
+
+-- the length of a message is below this limit: it is written in four bytes (Message-Length)
+abbrev pub message_length_limit : ℕ
+message_length_limit = 2 ^ 32
 
 -- the flag 0 (Compressed-Flag), four bytes of length (Message-Length), and the message
 pub record IsMessageText (limit : ℕ) (text message : List ℕ) : Type 0 where

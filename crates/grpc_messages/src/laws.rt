@@ -1,10 +1,10 @@
 //! What holds of every text, whatever is read or written.
 
-ghost use Rattle.std.specs.Prelude.{◌≡◌, ◌++◌, ◌<◌, ◌≤◌, ◌^◌, List, ℕ, Ok, Err, length};
+ghost use Rattle.std.specs.Prelude.{◌≡◌, ◌++◌, ◌<◌, ◌≤◌, List, ℕ, Ok, Err, length};
 ghost use Rattle.std.specs.List.{AllByRecursion, flat_map};
 ghost use Rattle.wire_items.specs.Items.{behind};
 ghost use Rattle.grpc_messages.specs.declared.error.MessagesError.{MessagesError};
-ghost use Rattle.grpc_messages.specs.Wire.{Split, IsSplit};
+ghost use Rattle.grpc_messages.specs.Wire.{message_length_limit, Split, IsSplit};
 ghost use Rattle.grpc_messages.specs.Reading.{split};
 ghost use Rattle.grpc_messages.specs.Writing.{framed_message};
 
@@ -27,13 +27,13 @@ pub fn more_bytes_add_messages()
 /// Messages that were framed one after another are split again, whatever follows them; and where
 /// one has come in part, that part is the rest.
 pub fn framed_messages_are_split_again()
-    ensures whole { (limit : ℕ) (messages : List (List ℕ)) (rest : List ℕ) → limit < 2 ^ 32 →
-        AllByRecursion (λ m. length m ≤ limit) messages →
+    ensures whole { (limit : ℕ) (messages : List (List ℕ)) (rest : List ℕ) →
+        limit < message_length_limit → AllByRecursion (λ m. length m ≤ limit) messages →
         split limit (flat_map framed_message messages ++ rest)
         ≡ behind messages (split limit rest) }
     ensures part { (limit : ℕ) (messages : List (List ℕ)) (message part more : List ℕ) →
-        limit < 2 ^ 32 → AllByRecursion (λ m. length m ≤ limit) messages → length message ≤ limit →
-        framed_message message ≡ part ++ more → 0 < length more →
+        limit < message_length_limit → AllByRecursion (λ m. length m ≤ limit) messages →
+        length message ≤ limit → framed_message message ≡ part ++ more → 0 < length more →
         split limit (flat_map framed_message messages ++ part)
         ≡ record { items = messages; end = Ok part } }
 {}

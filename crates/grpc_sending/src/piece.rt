@@ -1,10 +1,11 @@
 //! What is to be put of an item of a response.
 
-ghost use Rattle.std.specs.Prelude.{◌≡◌, ◌≤◌, ◌<◌, ◌^◌, ◌+◌, ◌++◌, ◌∷◌, [], List, true, false, IfOk, length, drop, vec_capacity};
+ghost use Rattle.std.specs.Prelude.{◌≡◌, ◌≤◌, ◌<◌, ◌+◌, ◌++◌, ◌∷◌, [], List, true, false, IfOk, length, drop, vec_capacity};
 ghost use Rattle.std.specs.Cow.{cow_slice_items};
 ghost use Rattle.hpack.specs.Encoding.{block_text};
 ghost use Rattle.hpack.specs.declared.encoder.Position.TheVariants.{Later};
 ghost use Rattle.grpc_calls.specs.Responses.{fields_of, is_last};
+ghost use Rattle.grpc_messages.specs.Wire.{message_length_limit};
 ghost use Rattle.grpc_messages.specs.Writing.{framed_message};
 ghost use Rattle.grpc_sending.specs.declared.piece.StoredPiece.{StoredPiece};
 ghost use Rattle.grpc_sending.specs.StoredSending.{stored_front};
@@ -130,7 +131,7 @@ impl Model for FramedMessage {
 
 impl FramedMessage {
     pub(crate) fn new(message: Vec<u8>) -> FramedMessage
-        requires { length message.items < 2 ^ 32 }
+        requires { length message.items < message_length_limit }
         ensures { result ≡ framed_message message.items }
     {
         let mut size = [0u8; 4];

@@ -1,11 +1,12 @@
 //! Sending on one connection.
 
-ghost use Rattle.std.specs.Prelude.{◌≡◌, ◌≤◌, ◌<◌, ◌+◌, ◌-◌, ◌^◌, ◌++◌, ◌∷◌, ◌↔◌, [], ℕ, List, true, false, IsTrue, IfOk, OnOk, OnErr, MatchOption, length, take, drop, Some, None};
+ghost use Rattle.std.specs.Prelude.{◌≡◌, ◌≤◌, ◌<◌, ◌+◌, ◌-◌, ◌++◌, ◌∷◌, ◌↔◌, [], ℕ, List, true, false, IsTrue, IfOk, OnOk, OnErr, MatchOption, length, take, drop, Some, None};
 ghost use Rattle.http2_frames.specs.Writing.{raw_of, text_of};
 ghost use Rattle.http2_frames.specs.declared.frame.Frame.TheVariants.{Data, RstStream};
 ghost use Rattle.http2_streams.specs.History.{Entry, Out, Took, is_not_closed, has_failed};
 ghost use Rattle.digest.specs.declared.Digest.{Digest};
 ghost use Rattle.http2_streams.specs.StandsFor.{StandsFor as AreStreams};
+ghost use Rattle.grpc_messages.specs.Wire.{message_length_limit};
 ghost use Rattle.grpc_sending.specs.Bytes.{most_untaken};
 ghost use Rattle.grpc_sending.specs.Owed.{OwedItem, Headed, Message, Range, owed_with_item};
 ghost use Rattle.grpc_sending.specs.Pump.{history_after_pump, next_frames};
@@ -23,7 +24,7 @@ use crate::range::Cursor;
 use crate::turn::{Due, next_due};
 use grpc_calls::ResponseBlock;
 use hpack::Position;
-use http2_frames::{ErrorCode, Frame, payload_length};
+use http2_frames::{ErrorCode, Frame, HEADER_LENGTH, payload_length};
 use http2_streams::Streams;
 use std::alloc::{AllocError, Global};
 use std::marker::Model;
@@ -91,22 +92,23 @@ impl Sender {
     pub fn has_room(&self, frame: &Frame<'_>) -> bool
         requires { length (raw_of frame.now).payload ≤ MAX_FRAME_SIZE }
         ensures { IsTrue result ↔ ((length self.now.pending +
-            (9 + length (raw_of frame.now).payload)) ≤ CONTROL_LIMIT) }
+            (HEADER_LENGTH + length (raw_of frame.now).payload)) ≤ CONTROL_LIMIT) }
     {
         // Behind a GOAWAY more than CONTROL_LIMIT may be pending: then nothing has room.
-        9 + payload_length(frame) <= CONTROL_LIMIT - self.buffer.len().min(CONTROL_LIMIT)
+        HEADER_LENGTH + payload_length(frame)
+            <= CONTROL_LIMIT - self.buffer.len().min(CONTROL_LIMIT)
     }
 
     /// Puts a control frame.
     pub fn put_control(&mut self, frame: &Frame<'_>)
         requires control { IsControl frame.now }
         requires short { length (raw_of frame.now).payload ≤ MAX_FRAME_SIZE }
-        requires room { (length self.old.pending + (9 + length (raw_of frame.now).payload))
-            ≤ CAPACITY }
+        requires room { length self.old.pending
+            + (HEADER_LENGTH + length (raw_of frame.now).payload) ≤ CAPACITY }
         ensures stands { Enters self.old (Out frame.now) self.new }
         ensures pending { self.new.pending ≡ self.old.pending ++ text_of frame.now }
         ensures size { length self.new.pending
-            ≡ length self.old.pending + (9 + length (raw_of frame.now).payload) }
+            ≡ length self.old.pending + (HEADER_LENGTH + length (raw_of frame.now).payload) }
         ensures rest { self.new ≡ record self.old { pending = self.new.pending } }
     {
         self.buffer.put(frame);
@@ -172,7 +174,7 @@ impl Sender {
         stream: u32,
         message: Vec<u8>,
     ) -> Result<(), AllocError>
-        requires { length message.items < 2 ^ 32 }
+        requires { length message.items < message_length_limit }
         ensures ok { OnOk result (Owes streams.now stream (Message message.items) self.old
             self.new) }
         ensures fit { KeepsFit self.old self.new }
@@ -295,13 +297,13 @@ impl Sender {
     /// The last block of a response was put on the stream: nothing follows but, where the client
     /// has not ended the stream, RST_STREAM (RFC 9113 section 8.1).
     fn finish(&mut self, streams: &mut Streams, stream: u32, ended_by_client: bool)
-        requires { length self.old.pending + 13 ≤ CAPACITY }
+        requires { length self.old.pending + (HEADER_LENGTH + 4) ≤ CAPACITY }
         ensures finishes { FinishesBy streams.old self.old stream ended_by_client streams.new
             self.new }
         ensures fit { KeepsFit self.old self.new }
         ensures sources { KeepsSources self.old self.new }
         ensures grows { length self.old.pending ≤ length self.new.pending }
-        ensures size { length self.new.pending ≤ length self.old.pending + 13 }
+        ensures size { length self.new.pending ≤ length self.old.pending + (HEADER_LENGTH + 4) }
     {
         if ended_by_client {
             self.forget(stream);
@@ -312,12 +314,12 @@ impl Sender {
     }
 
     fn put_reset(&mut self, streams: &mut Streams, stream: u32)
-        requires { length self.old.pending + 13 ≤ CAPACITY }
+        requires { length self.old.pending + (HEADER_LENGTH + 4) ≤ CAPACITY }
         ensures stands { ResetsBy streams.old self.old stream streams.new self.new }
         ensures fit { KeepsFit self.old self.new }
         ensures sources { KeepsSources self.old self.new }
         ensures grows { length self.old.pending ≤ length self.new.pending }
-        ensures size { length self.new.pending ≤ length self.old.pending + 13 }
+        ensures size { length self.new.pending ≤ length self.old.pending + (HEADER_LENGTH + 4) }
     {
         if stream > streams.highest() {
             return;
@@ -351,10 +353,10 @@ fn put_content<P: Parts>(
     requires there { count ≤ length (front_bytes (P.text_of parts.now)
         (stored_on stream queues.now)) }
     requires short { count ≤ MAX_FRAME_SIZE }
-    requires room { length buffer.old + (9 + count) ≤ CAPACITY }
+    requires room { length buffer.old + (HEADER_LENGTH + count) ≤ CAPACITY }
     ensures bytes { buffer.new ≡ buffer.old
         ++ front_frame (P.text_of parts.now) stream count (stored_on stream queues.now) }
-    ensures size { length buffer.new ≡ length buffer.old + (9 + count) }
+    ensures size { length buffer.new ≡ length buffer.old + (HEADER_LENGTH + count) }
 {
     let first = queue::first_on(queues, stream);
     match first {
@@ -374,10 +376,10 @@ fn put_piece<P: Parts>(
     requires fit { IsFit (P.text_of parts.now) piece.now }
     requires there { count ≤ length (front_bytes (P.text_of parts.now) (piece.now ∷ [])) }
     requires short { count ≤ MAX_FRAME_SIZE }
-    requires room { length buffer.old + (9 + count) ≤ CAPACITY }
+    requires room { length buffer.old + (HEADER_LENGTH + count) ≤ CAPACITY }
     ensures bytes { buffer.new ≡ buffer.old
         ++ front_frame (P.text_of parts.now) stream count (piece.now ∷ []) }
-    ensures size { length buffer.new ≡ length buffer.old + (9 + count) }
+    ensures size { length buffer.new ≡ length buffer.old + (HEADER_LENGTH + count) }
 {
     match piece {
         StoredPiece::Encoded(_) => {}

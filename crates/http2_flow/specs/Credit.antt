@@ -1,5 +1,9 @@
 -- What a flow-control window holds (RFC 9113, sections 5.2 and 6.9).
-use Rattle.std.specs.Prelude.{ℕ, ℤ, pos, ◌+ℤ◌}
+use Rattle.std.specs.Prelude.{ℕ, ◌^◌, ℤ, pos, ◌+ℤ◌}
+
+-- windows are below this limit: a window is at most 2^31 - 1 bytes (section 6.9.1)
+abbrev pub window_limit : ℕ
+window_limit = 2 ^ 31
 
 -- the initial size in force (SETTINGS_INITIAL_WINDOW_SIZE), and what was granted less what was
 -- spent

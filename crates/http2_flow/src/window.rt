@@ -1,7 +1,7 @@
 //! A flow-control window (RFC 9113 section 6.9): what may still be sent.
 
-ghost use Rattle.std.specs.Prelude.{◌≡◌, ◌≢◌, ◌↔◌, ◌⊎◌, ◌<◌, ◌^◌, ℕ, ℤ, pos, ◌+ℤ◌, ◌-ℤ◌, ◌<ℤ◌, ◌≤ℤ◌, IsOk, OnOk, OnErr, IsErrOf, IsTrue};
-ghost use Rattle.http2_flow.specs.Credit.{Credit, window_left};
+ghost use Rattle.std.specs.Prelude.{◌≡◌, ◌≢◌, ◌↔◌, ◌⊎◌, ◌<◌, ℕ, ℤ, pos, ◌+ℤ◌, ◌-ℤ◌, ◌<ℤ◌, ◌≤ℤ◌, IsOk, OnOk, OnErr, IsErrOf, IsTrue};
+ghost use Rattle.http2_flow.specs.Credit.{Credit, window_left, window_limit};
 
 use std::marker::Model;
 
@@ -32,21 +32,21 @@ pub struct Window {
 }
 
 impl Model for Window {
-    ghost use Rattle.std.specs.Prelude.{◌<◌, ◌^◌, ℤ, pos, ◌+ℤ◌, ◌<ℤ◌};
-    ghost use Rattle.http2_flow.specs.Credit.{Credit};
+    ghost use Rattle.std.specs.Prelude.{◌<◌, ℤ, pos, ◌+ℤ◌, ◌<ℤ◌};
+    ghost use Rattle.http2_flow.specs.Credit.{Credit, window_limit};
 
     ghost Value = { Credit };
 
     ghost view = { λ w. record { initial = w.initial; change = w.change } };
 
-    ghost invariant = { λ w. (w.initial < 2 ^ 31) × (pos 0 <ℤ (w.change +ℤ pos (2 ^ 31)))
-        × ((pos w.initial +ℤ w.change) <ℤ pos (2 ^ 31)) };
+    ghost invariant = { λ w. (w.initial < window_limit) × (pos 0 <ℤ (w.change +ℤ pos window_limit))
+        × ((pos w.initial +ℤ w.change) <ℤ pos window_limit) };
 }
 
 impl Window {
     /// A window of `initial` bytes, of which none was spent.
     pub fn new(initial: u32) -> Window
-        requires { initial < 2 ^ 31 }
+        requires { initial < window_limit }
         ensures { result ≡ record { initial = initial; change = pos 0 } }
     {
         Window { initial, change: 0 }
@@ -55,8 +55,8 @@ impl Window {
     /// How many bytes may be sent. It is below 0 where the initial size was lowered too late.
     pub fn left(&self) -> i64
         ensures value { result ≡ window_left self.now }
-        ensures high { window_left self.now <ℤ pos (2 ^ 31) }
-        ensures low { pos 0 <ℤ (window_left self.now +ℤ pos (2 ^ 31)) }
+        ensures high { window_left self.now <ℤ pos window_limit }
+        ensures low { pos 0 <ℤ (window_left self.now +ℤ pos window_limit) }
     {
         self.initial as i64 + self.change
     }
@@ -68,7 +68,7 @@ impl Window {
             ≡ record self.old { change = self.old.change +ℤ pos increment }) }
         ensures zero { IsErrOf result FlowError.Zero ↔ (increment ≡ 0) }
         ensures too_large { IsErrOf result FlowError.TooLarge
-            ↔ ((increment ≢ 0) × (pos (2 ^ 31) ≤ℤ (window_left self.old +ℤ pos increment))) }
+            ↔ ((increment ≢ 0) × (pos window_limit ≤ℤ (window_left self.old +ℤ pos increment))) }
         ensures enough { IsErrOf result FlowError.NotEnough → ⊥ }
         ensures err { OnErr result (self.new ≡ self.old) }
     {
@@ -101,8 +101,8 @@ impl Window {
 
     /// Whether the window stays within its limit at this initial size.
     pub fn can_shift(&self, initial: u32) -> bool
-        requires { initial < 2 ^ 31 }
-        ensures { IsTrue result ↔ ((pos initial +ℤ self.now.change) <ℤ pos (2 ^ 31)) }
+        requires { initial < window_limit }
+        ensures { IsTrue result ↔ ((pos initial +ℤ self.now.change) <ℤ pos window_limit) }
     {
         initial as i64 + self.change <= MAX_SIZE as i64
     }
@@ -110,10 +110,10 @@ impl Window {
     /// Puts a new initial size in the old one's place, so that what is left changes by their
     /// difference (RFC 9113, section 6.9.2). An error changes nothing.
     pub fn shift(&mut self, initial: u32) -> Result<(), FlowError>
-        requires { initial < 2 ^ 31 }
+        requires { initial < window_limit }
         ensures ok { OnOk result (self.new ≡ record self.old { initial = initial }) }
         ensures too_large { IsErrOf result FlowError.TooLarge
-            ↔ (pos (2 ^ 31) ≤ℤ (pos initial +ℤ self.old.change)) }
+            ↔ (pos window_limit ≤ℤ (pos initial +ℤ self.old.change)) }
         ensures kind { IsOk result ⊎ IsErrOf result FlowError.TooLarge }
         ensures err { OnErr result (self.new ≡ self.old) }
     {

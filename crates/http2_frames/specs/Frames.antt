@@ -1,5 +1,5 @@
 -- What a frame says by its type (RFC 9113, section 6), and which frames are malformed.
-use Rattle.std.specs.Prelude.{◌≡◌, ◌++◌, ℕ, ◌+◌, ◌-◌, ◌%◌, ◌^◌, ◌==◌, ◌||◌, ◌&&◌, not, Bool, nat_lt, if◌then◌else◌, List, length, drop, slice_index, slice_range, bit_and, Result, Ok, Err}
+use Rattle.std.specs.Prelude.{◌≡◌, ◌++◌, ℕ, ◌+◌, ◌-◌, ◌%◌, ◌==◌, ◌||◌, ◌&&◌, not, Bool, nat_lt, if◌then◌else◌, List, length, drop, slice_index, slice_range, bit_and, Result, Ok, Err}
 use Rattle.byteorder.specs.Endian.{big_number}
 use Rattle.http2_frames.specs.declared.codes.frame_type.TheConstants.{DATA, HEADERS, PRIORITY, RST_STREAM, SETTINGS, PUSH_PROMISE, PING, GOAWAY, WINDOW_UPDATE, CONTINUATION}
 use Rattle.http2_frames.specs.declared.codes.flag.TheConstants.{END_STREAM, ACK, END_HEADERS, PADDED, PRIORITY as PRIORITY_FLAG}
@@ -9,6 +9,7 @@ use Rattle.http2_frames.specs.declared.frame.RawFrame.{RawFrame}
 use Rattle.http2_frames.specs.declared.frame.Frame.{Frame}
 use Rattle.http2_frames.specs.declared.frame.Frame.TheVariants.{Data, Headers, Priority, RstStream, Settings, PushPromise, Ping, GoAway, WindowUpdate, Continuation, Unknown}
 use Rattle.http2_frames.specs.Settings.{settings_of}
+use Rattle.http2_frames.specs.Wire.{stream_limit, increment_limit}
 
 abbrev pub has_flag : RawFrame → ℕ → Bool
 has_flag f bit = not (bit_and f.flags bit == 0)
@@ -66,8 +67,11 @@ content_of f =
     else if f.kind == SETTINGS then Settings (has_flag f ACK) (settings_of f.payload)
     else if f.kind == PUSH_PROMISE then PushPromise f.flags f.stream f.payload
     else if f.kind == PING then Ping (has_flag f ACK) f.payload
-    else if f.kind == GOAWAY then GoAway (big_number 4 f.payload % 2 ^ 31) (big_number 4 (drop 4 f.payload)) (drop 8 f.payload)
-    else if f.kind == WINDOW_UPDATE then WindowUpdate f.stream (big_number 4 f.payload % 2 ^ 31)
+    else if f.kind == GOAWAY
+    then GoAway (big_number 4 f.payload % stream_limit) (big_number 4 (drop 4 f.payload))
+    (drop 8 f.payload)
+    else if f.kind == WINDOW_UPDATE
+    then WindowUpdate f.stream (big_number 4 f.payload % increment_limit)
     else if f.kind == CONTINUATION then Continuation f.stream (has_flag f END_HEADERS) f.payload
     else Unknown f.kind f.flags f.stream f.payload
 

@@ -4,7 +4,7 @@ use Rattle.byteorder.specs.Endian.{big_number}
 use Rattle.wire_items.specs.Items.{fault_only, AreGiven}
 use Rattle.http2_frames.specs.declared.error.FrameError.{FrameError}
 use Rattle.http2_frames.specs.declared.frame.RawFrame.{RawFrame}
-use Rattle.http2_frames.specs.Wire.{Split}
+use Rattle.http2_frames.specs.Wire.{Split, stream_limit}
 use Rattle.http2_frames.specs.Reading.{frame_at, split}
 use Rattle.http2_frames.specs.declared.reader.TheConstants.{MAX_FRAME_SIZE}
 
@@ -51,5 +51,5 @@ front_of (Err e) = frame_at []
 pub record IsFrame (f : RawFrame) : Type 0 where
   pub kind : f.kind < 2 ^ 8
   pub flags : f.flags < 2 ^ 8
-  pub stream : f.stream < 2 ^ 31
+  pub stream : f.stream < stream_limit
   pub short : length f.payload ≤ MAX_FRAME_SIZE

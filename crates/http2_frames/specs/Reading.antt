@@ -1,12 +1,12 @@
 -- Dividing a text into frames from left to right, and what a reader holds of it.
-use Rattle.std.specs.Prelude.{ℕ, ◌+◌, ◌%◌, ◌^◌, nat_lt, nat_eq, if◌then◌else◌, List, length, take, drop, slice_index, Option, Some, None, Result, Ok, Err}
+use Rattle.std.specs.Prelude.{ℕ, ◌+◌, ◌%◌, nat_lt, nat_eq, if◌then◌else◌, List, length, take, drop, slice_index, Option, Some, None, Result, Ok, Err}
 use Rattle.std.specs.List.{starts_with}
 use Rattle.byteorder.specs.Endian.{big_number}
 use Rattle.wire_items.specs.Items.{Format, rest_only, fault_only, divide}
 use Rattle.http2_frames.specs.declared.error.FrameError.{FrameError}
 use Rattle.http2_frames.specs.declared.error.FrameError.TheVariants.{Preface, Size}
 use Rattle.http2_frames.specs.declared.frame.RawFrame.{RawFrame}
-use Rattle.http2_frames.specs.Wire.{Split}
+use Rattle.http2_frames.specs.Wire.{Split, stream_limit}
 use Rattle.http2_frames.specs.declared.reader.TheConstants.{MAX_FRAME_SIZE}
 
 -- the payload length of the whole frame at the front, if one is there
@@ -22,7 +22,7 @@ abbrev pub frame_at : List ℕ → RawFrame
 frame_at bytes = record {
   kind = slice_index bytes 3;
   flags = slice_index bytes 4;
-  stream = big_number 4 (drop 5 bytes) % 2 ^ 31;
+  stream = big_number 4 (drop 5 bytes) % stream_limit;
   payload = take (big_number 3 bytes) (drop 9 bytes);
 }
 

@@ -45,9 +45,13 @@ behind_front (Ok u) =
     Ok (record { preface = u.preface; text = drop (9 + big_number 3 u.text) u.text })
 behind_front (Err e) = Err e
 
+-- the bytes of what a client sends before its first frame (RFC 9113, section 3.4)
+abbrev pub preface_length : ℕ
+preface_length = 24
+
 -- what waits for its preface is no longer than that
 abbrev pub WaitsShortly : Result Unread FrameError → Type 0
-WaitsShortly (Ok u) = u.preface ≢ [] → length u.text ≤ 24
+WaitsShortly (Ok u) = u.preface ≢ [] → length u.text ≤ preface_length
 WaitsShortly (Err e) = Unit {0}
 
 -- one whole frame and nothing else, behind the preface; or nothing

@@ -9,6 +9,14 @@ use Rattle.http2_frames.specs.declared.error.FrameError.TheVariants.{Preface, Si
 use Rattle.http2_frames.specs.declared.frame.RawFrame.{RawFrame}
 use Rattle.http2_frames.specs.declared.reader.TheConstants.{MAX_FRAME_SIZE}
 
+-- stream numbers are below this limit: they have 31 bits, behind a reserved one
+abbrev pub stream_limit : ℕ
+stream_limit = 2 ^ 31
+
+-- so are the increments of windows (section 6.9)
+abbrev pub increment_limit : ℕ
+increment_limit = 2 ^ 31
+
 -- 24 bits of length, 8 of type, 8 of flags, a reserved bit, 31 of stream number, and the payload
 pub record IsFrameText (text : List ℕ) (f : RawFrame) : Type 0 where
   pub size : List ℕ
@@ -18,7 +26,7 @@ pub record IsFrameText (text : List ℕ) (f : RawFrame) : Type 0 where
   pub sized : big_number 3 size ≡ length f.payload
   pub four : length number ≡ 4
   -- the reserved bit is ignored
-  pub stream : big_number 4 number % 2 ^ 31 ≡ f.stream
+  pub stream : big_number 4 number % stream_limit ≡ f.stream
   -- no more than the initial value of SETTINGS_MAX_FRAME_SIZE (section 4.2)
   pub short : length f.payload ≤ MAX_FRAME_SIZE
 

@@ -10,6 +10,7 @@ use Rattle.http2_frames.specs.declared.frame.Frame.{Frame}
 use Rattle.http2_frames.specs.declared.frame.Frame.TheVariants.{Data, Headers, Priority, RstStream, Settings, PushPromise, Ping, GoAway, WindowUpdate, Continuation, Unknown}
 use Rattle.http2_frames.specs.declared.settings.Setting.{Setting}
 use Rattle.http2_frames.specs.Settings.{settings_text}
+use Rattle.http2_frames.specs.Wire.{stream_limit, increment_limit}
 use Rattle.http2_frames.specs.declared.reader.TheConstants.{MAX_FRAME_SIZE}
 
 -- section 4.1: the length, the type, the flags and the stream number, in nine bytes
@@ -65,7 +66,7 @@ abbrev pub IsSetting : Setting → Type 0
 IsSetting s = (s.identifier < 2 ^ 16) × (s.value < 2 ^ 32)
 
 abbrev pub IsStream : ℕ → Type 0
-IsStream s = (0 < s) × (s < 2 ^ 31)
+IsStream s = (0 < s) × (s < stream_limit)
 
 -- a frame that keeps the rules of its type
 abbrev pub IsWritable : Frame → Type 0
@@ -76,11 +77,11 @@ IsWritable (Priority s priority) = IsStream s × (length priority ≡ 5)
 IsWritable (RstStream s error_code) = IsStream s × (error_code < 2 ^ 32)
 IsWritable (Settings ack settings) =
     AllByRecursion IsSetting settings × (6 * length settings ≤ MAX_FRAME_SIZE) × (ack ≡ true → settings ≡ [])
-IsWritable (PushPromise flags s payload) = (s < 2 ^ 31) × (length payload ≤ MAX_FRAME_SIZE)
+IsWritable (PushPromise flags s payload) = (s < stream_limit) × (length payload ≤ MAX_FRAME_SIZE)
 IsWritable (Ping ack opaque_data) = length opaque_data ≡ 8
 IsWritable (GoAway last_stream error_code debug_data) =
-    (last_stream < 2 ^ 31) × (error_code < 2 ^ 32) × (8 + length debug_data ≤ MAX_FRAME_SIZE)
-IsWritable (WindowUpdate s increment) = (s < 2 ^ 31) × (increment < 2 ^ 31)
+    (last_stream < stream_limit) × (error_code < 2 ^ 32) × (8 + length debug_data ≤ MAX_FRAME_SIZE)
+IsWritable (WindowUpdate s increment) = (s < stream_limit) × (increment < increment_limit)
 IsWritable (Continuation s end_headers fragment) = IsStream s × (length fragment ≤ MAX_FRAME_SIZE)
 IsWritable (Unknown kind flags s payload) =
-    (CONTINUATION < kind) × (s < 2 ^ 31) × (length payload ≤ MAX_FRAME_SIZE)
+    (CONTINUATION < kind) × (s < stream_limit) × (length payload ≤ MAX_FRAME_SIZE)

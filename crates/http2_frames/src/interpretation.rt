@@ -1,7 +1,8 @@
 //! What a received frame says, after the rules on its stream number, its length and its padding.
 
-ghost use Rattle.std.specs.Prelude.{◌≡◌, ◌-◌, ◌≤◌, ◌%◌, ◌^◌, length, drop, slice_range, Ok, Err, false};
+ghost use Rattle.std.specs.Prelude.{◌≡◌, ◌-◌, ◌≤◌, ◌%◌, length, drop, slice_range, Ok, Err, false};
 ghost use Rattle.byteorder.specs.Endian.{big_number};
+ghost use Rattle.http2_frames.specs.Wire.{stream_limit};
 ghost use Rattle.http2_frames.specs.Frames.{has_flag, lead_length, pad_length, unpadded_content, is_misaddressed, is_missized, is_overpadded, may_be_padded, content_of, frame_of};
 
 use crate::codes::{ErrorCode, flag, frame_type};
@@ -166,7 +167,7 @@ fn unpadded<'a>(frame: &RawFrame<'a>) -> &'a [u8]
 
 fn go_away(payload: &[u8]) -> Frame<'_>
     requires { 8 ≤ length payload.now }
-    ensures { result ≡ Frame.GoAway (big_number 4 payload.now % 2 ^ 31)
+    ensures { result ≡ Frame.GoAway (big_number 4 payload.now % stream_limit)
         (big_number 4 (drop 4 payload.now)) (drop 8 payload.now) }
 {
     Frame::GoAway {

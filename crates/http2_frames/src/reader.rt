@@ -45,13 +45,13 @@ impl Model for FrameReader {
     ghost use Rattle.http2_frames.specs.declared.error.FrameError.{FrameError};
     ghost use Rattle.http2_frames.specs.declared.error.FrameError.TheVariants.{NoMemory};
     ghost use Rattle.http2_frames.specs.Reader.{Unread, unread_of};
-    ghost use Rattle.http2_frames.specs.Step.{IsJoined};
+    ghost use Rattle.http2_frames.specs.Step.{preface_length, IsJoined};
 
     ghost Value = { Result Unread FrameError };
 
     ghost view = { λ r. unread_of r.preface.now (r.joined ++ r.received) r.fault };
 
-    ghost invariant = { λ r. (length r.preface.now ≤ 24) × (r.fault ≢ Some NoMemory)
+    ghost invariant = { λ r. (length r.preface.now ≤ preface_length) × (r.fault ≢ Some NoMemory)
         × IsJoined r.preface.now r.joined };
 }
 

@@ -1,6 +1,6 @@
 //! Writing frames.
 
-ghost use Rattle.std.specs.Prelude.{◌≡◌, ◌+◌, ◌++◌, ◌<◌, ◌≤◌, ◌^◌, length, vec_len, vec_capacity, OnOk, OnErr};
+ghost use Rattle.std.specs.Prelude.{◌≡◌, ◌+◌, ◌++◌, ◌≤◌, length, vec_len, vec_capacity, OnOk, OnErr};
 ghost use Rattle.byteorder.specs.Endian.{big_bytes};
 ghost use Rattle.http2_frames.specs.declared.frame.Frame.{Frame};
 ghost use Rattle.http2_frames.specs.Writing.{header_text, set_if, raw_of, text_of};
@@ -14,7 +14,7 @@ use std::alloc::AllocError;
 /// Appends the nine bytes that stand before a payload of `size` bytes. There is room for them, so
 /// no memory is asked for.
 pub fn put_header(out: &mut Vec<u8>, size: usize, kind: u8, flags: u8, stream: u32)
-    requires room { vec_len out.old + 9 ≤ vec_capacity out.old }
+    requires room { vec_len out.old + HEADER_LENGTH ≤ vec_capacity out.old }
     requires short { size ≤ MAX_FRAME_SIZE }
     ensures items { out.new.items ≡ out.old.items ++ header_text size kind flags stream }
     ensures capacity { vec_capacity out.old ≤ vec_capacity out.new }
@@ -35,7 +35,7 @@ fn set_if(is: bool, flag: u8) -> u8
 }
 
 fn put(out: &mut Vec<u8>, kind: u8, flags: u8, stream: u32, payload: &[u8])
-    requires room { vec_len out.old + (9 + length payload.now) ≤ vec_capacity out.old }
+    requires room { vec_len out.old + (HEADER_LENGTH + length payload.now) ≤ vec_capacity out.old }
     requires short { length payload.now ≤ MAX_FRAME_SIZE }
     ensures items { out.new.items ≡ out.old.items
         ++ (header_text (length payload.now) kind flags stream ++ payload.now) }
@@ -46,7 +46,7 @@ fn put(out: &mut Vec<u8>, kind: u8, flags: u8, stream: u32, payload: &[u8])
 }
 
 fn put_number(out: &mut Vec<u8>, kind: u8, stream: u32, number: u32)
-    requires { vec_len out.old + 13 ≤ vec_capacity out.old }
+    requires { vec_len out.old + (HEADER_LENGTH + 4) ≤ vec_capacity out.old }
     ensures items { out.new.items ≡ out.old.items
         ++ (header_text 4 kind 0 stream ++ big_bytes 4 number) }
     ensures capacity { vec_capacity out.old ≤ vec_capacity out.new }
@@ -71,7 +71,8 @@ fn put_numbers(out: &mut Vec<u8>, last_stream: u32, error_code: u32)
 }
 
 fn put_go_away(out: &mut Vec<u8>, last_stream: u32, error_code: u32, debug_data: &[u8])
-    requires room { vec_len out.old + (17 + length debug_data.now) ≤ vec_capacity out.old }
+    requires room { vec_len out.old + (HEADER_LENGTH + (8 + length debug_data.now))
+        ≤ vec_capacity out.old }
     requires short { 8 + length debug_data.now ≤ MAX_FRAME_SIZE }
     ensures items { out.new.items ≡ out.old.items
         ++ text_of (Frame.GoAway last_stream error_code debug_data.now) }
@@ -107,7 +108,7 @@ pub fn payload_length(frame: &Frame<'_>) -> usize
 
 /// Appends the frame. There is room for it, so no memory is asked for.
 pub fn put_frame(out: &mut Vec<u8>, frame: &Frame<'_>)
-    requires room { vec_len out.old + (9 + length (raw_of frame.now).payload)
+    requires room { vec_len out.old + (HEADER_LENGTH + length (raw_of frame.now).payload)
         ≤ vec_capacity out.old }
     requires short { length (raw_of frame.now).payload ≤ MAX_FRAME_SIZE }
     ensures items { out.new.items ≡ out.old.items ++ text_of frame.now }

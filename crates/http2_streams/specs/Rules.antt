@@ -1,10 +1,10 @@
 -- What a received frame causes, by what the history comes to. Sections are those of RFC 9113. The
 -- tests stand in the order in which they are made.
-use Rattle.std.specs.Prelude.{ℕ, ◌%◌, ◌^◌, ◌==◌, nat_lt, nat_le, if◌then◌else◌, Bool, true, not, ◌&&◌, ◌||◌, List, [], ◌∷◌, length, Option, Some, None, Result, Ok, Err, pos, ◌+ℤ◌}
+use Rattle.std.specs.Prelude.{ℕ, ◌%◌, ◌==◌, nat_lt, nat_le, if◌then◌else◌, Bool, true, not, ◌&&◌, ◌||◌, List, [], ◌∷◌, length, Option, Some, None, Result, Ok, Err, pos, ◌+ℤ◌}
 use Rattle.std.specs.List.{list_any}
 use Rattle.std.specs.Option.{option_map_or}
 use Rattle.std.specs.Int.Signed.{lt_z}
-use Rattle.http2_flow.specs.Credit.{Credit, window_left}
+use Rattle.http2_flow.specs.Credit.{Credit, window_left, window_limit}
 use Rattle.http2_frames.specs.declared.codes.frame_type.TheConstants.{SETTINGS, CONTINUATION}
 use Rattle.http2_frames.specs.declared.codes.flag.TheConstants.{ACK}
 use Rattle.http2_frames.specs.declared.codes.setting.TheConstants.{ENABLE_PUSH, INITIAL_WINDOW_SIZE, MAX_FRAME_SIZE}
@@ -141,15 +141,23 @@ on_header_list v (Ok (Some block)) = on_block v block
 -- ---- SETTINGS (section 6.5)
 
 abbrev pub is_above : ℕ → Stream → Bool
-is_above size x = not (lt_z (pos size +ℤ x.window.change) (pos (2 ^ 31)))
+is_above size x = not (lt_z (pos size +ℤ x.window.change) (pos window_limit))
+
+-- the least and the most that SETTINGS_MAX_FRAME_SIZE may be, in bytes (section 6.5.2)
+abbrev pub least_frame_limit : ℕ
+least_frame_limit = 16384
+
+abbrev pub most_frame_limit : ℕ
+most_frame_limit = 16777215
 
 abbrev pub setting_fault : List Stream → Setting → Option ErrorCode
 setting_fault live s =
     if s.identifier == ENABLE_PUSH && nat_lt 1 s.value then Some ProtocolError
-    else if s.identifier == MAX_FRAME_SIZE && (nat_lt s.value 16384 || nat_lt 16777215 s.value)
+    else if s.identifier == MAX_FRAME_SIZE
+    && (nat_lt s.value least_frame_limit || nat_lt most_frame_limit s.value)
     then Some ProtocolError
     else if s.identifier == INITIAL_WINDOW_SIZE
-    && (nat_le (2 ^ 31) s.value || list_any (is_above s.value) live)
+    && (nat_le window_limit s.value || list_any (is_above s.value) live)
     then Some FlowControlError
     else None
 
@@ -174,9 +182,9 @@ on_ping ack opaque_data =
 abbrev pub on_reset : Standing → ℕ → Result StreamEvent ErrorCode
 on_reset v s = if is_idle v s then Err ProtocolError else Ok (event_only (cancel_event v s))
 
--- the window stays below 2^31 (section 6.9.1)
+-- the window stays below its limit (section 6.9.1)
 abbrev pub may_grow : ℕ → Credit → Bool
-may_grow n w = lt_z (window_left w +ℤ pos n) (pos (2 ^ 31))
+may_grow n w = lt_z (window_left w +ℤ pos n) (pos window_limit)
 
 abbrev pub overflows : ℕ → ℕ → Stream → Bool
 overflows s n x = x.number == s && not (may_grow n x.window)

@@ -1,7 +1,8 @@
 //! The live streams as a list.
 
-ghost use Rattle.std.specs.Prelude.{◌≡◌, ◌≢◌, ◌<◌, ◌^◌, ◌≤◌, ◌==◌, ◌&&◌, not, true, false, filter, length, map, vec_capacity};
+ghost use Rattle.std.specs.Prelude.{◌≡◌, ◌≢◌, ◌<◌, ◌≤◌, ◌==◌, ◌&&◌, not, true, false, filter, length, map, vec_capacity};
 ghost use Rattle.std.specs.List.{list_any};
+ghost use Rattle.http2_flow.specs.Credit.{window_limit};
 ghost use Rattle.http2_streams.specs.Rules.{number_is, receives, overflows, is_above};
 ghost use Rattle.http2_streams.specs.Step.{without_stream, is_ended_by, streams_after_end, with_end, stream_after_grant, stream_after_spending, stream_after_resize};
 ghost use Rattle.http2_streams.specs.Sending.{lacks};
@@ -29,7 +30,7 @@ pub(crate) fn overflows(live: &[Stream], number: u32, increment: u32) -> bool
 }
 
 pub(crate) fn is_above_limit(live: &[Stream], initial_size: u32) -> bool
-    requires { initial_size < 2 ^ 31 }
+    requires { initial_size < window_limit }
     ensures { result ≡ list_any (is_above initial_size) live.now }
 {
     live.iter()
@@ -97,7 +98,7 @@ pub(crate) fn spend(live: &mut [Stream], number: u32, count: u32)
 }
 
 pub(crate) fn resize(live: &mut [Stream], initial_size: u32)
-    requires small { initial_size < 2 ^ 31 }
+    requires small { initial_size < window_limit }
     requires within { list_any (is_above initial_size) live.old ≡ false }
     ensures { live.new ≡ map (stream_after_resize initial_size) live.old }
 {

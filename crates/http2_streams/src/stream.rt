@@ -1,7 +1,7 @@
 //! One live stream.
 
-ghost use Rattle.std.specs.Prelude.{◌≡◌, ◌≢◌, ◌<◌, ◌^◌, ◌==◌, ◌&&◌, true, false, pos, ◌≤ℤ◌};
-ghost use Rattle.http2_flow.specs.Credit.{window_left};
+ghost use Rattle.std.specs.Prelude.{◌≡◌, ◌≢◌, ◌<◌, ◌==◌, ◌&&◌, true, false, pos, ◌≤ℤ◌};
+ghost use Rattle.http2_flow.specs.Credit.{window_left, window_limit};
 ghost use Rattle.http2_streams.specs.Rules.{number_is, receives, overflows, is_above, may_grow};
 ghost use Rattle.http2_streams.specs.Sending.{lacks};
 ghost use Rattle.http2_streams.specs.Step.{is_ended_by, other, with_end, stream_after_grant, stream_after_spending, stream_after_resize};
@@ -53,7 +53,7 @@ impl Stream {
     }
 
     pub(crate) fn is_above_limit(&self, initial_size: u32) -> bool
-        requires { initial_size < 2 ^ 31 }
+        requires { initial_size < window_limit }
         ensures { result ≡ is_above initial_size self.now }
     {
         !self.window.can_shift(initial_size)
@@ -113,7 +113,7 @@ impl Stream {
     }
 
     pub(crate) fn resize(&mut self, initial_size: u32)
-        requires small { initial_size < 2 ^ 31 }
+        requires small { initial_size < window_limit }
         requires within { is_above initial_size self.old ≡ false }
         ensures { self.new ≡ stream_after_resize initial_size self.old }
     {

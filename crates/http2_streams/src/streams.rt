@@ -1,7 +1,8 @@
 //! The streams of one connection.
 
-ghost use Rattle.std.specs.Prelude.{◌≡◌, ◌<◌, ◌≤◌, ◌^◌, ◌++◌, ◌∷◌, List, [], length, Bool, true, IfOk, OnErr, ℕ, IsTrue, ◌↔◌};
+ghost use Rattle.std.specs.Prelude.{◌≡◌, ◌<◌, ◌≤◌, ◌++◌, ◌∷◌, List, [], length, Bool, true, IfOk, OnErr, ℕ, IsTrue, ◌↔◌};
 ghost use Rattle.http2_flow.specs.Credit.{window_left};
+ghost use Rattle.http2_frames.specs.Wire.{increment_limit};
 ghost use Rattle.http2_frames.specs.declared.frame.Frame.TheVariants.{Data, Headers, RstStream};
 ghost use Rattle.http2_headers.specs.Decoding.{Gives};
 ghost use Rattle.http2_streams.specs.History.{Entry, Out, has_failed};
@@ -51,8 +52,9 @@ pub struct Streams {
 }
 
 impl Model for Streams {
-    ghost use Rattle.std.specs.Prelude.{◌≡◌, ◌<◌, ◌≤◌, ◌^◌, length, vec_capacity};
+    ghost use Rattle.std.specs.Prelude.{◌≡◌, ◌<◌, ◌≤◌, length, vec_capacity};
     ghost use Rattle.std.specs.VecDeque.{deque_len, deque_capacity};
+    ghost use Rattle.http2_flow.specs.Credit.{window_limit};
     ghost use Rattle.http2_streams.specs.Standing.{Standing};
     ghost use Rattle.http2_streams.specs.declared.streams.TheConstants.{MAX_STREAMS, MAX_REMEMBERED};
 
@@ -75,7 +77,7 @@ impl Model for Streams {
         × (deque_len s.remembered ≡ length s.remembered.items)
         × (deque_len s.remembered ≤ MAX_REMEMBERED)
         × (MAX_REMEMBERED ≤ deque_capacity s.remembered)
-        × (s.initial_window_size < 2 ^ 31) };
+        × (s.initial_window_size < window_limit) };
 }
 
 impl Streams {
@@ -266,7 +268,7 @@ impl Streams {
     }
 
     fn on_content<'a>(&mut self, length: u32, frame: Frame<'a>) -> Result<StreamEvent<'a>, H2Fault>
-        requires { length < 2 ^ 31 }
+        requires { length < increment_limit }
         ensures answer { Gives result (on_content self.old length frame.entry) }
         ensures state { IfOk result (λ a. self.new
             ≡ after_answer a (after_frame_in self.old frame.entry)) }

@@ -1,9 +1,10 @@
 -- The calls in course of an instance.
-use Rattle.std.specs.Prelude.{ℕ, ◌<◌, ◌^◌, Bool, ◌==◌, ◌&&◌, if◌then◌else◌, List, [], ◌∷◌, Option}
+use Rattle.std.specs.Prelude.{ℕ, ◌<◌, Bool, ◌==◌, ◌&&◌, if◌then◌else◌, List, [], ◌∷◌, Option}
 use Rattle.std.specs.List.{AllByRecursion, IsDistinct}
 use Rattle.std.specs.Map.{lookup, remove_entry, keys_of}
 use Rattle.rpc.specs.declared.method.Method.{Method}
 use Rattle.rpc.specs.declared.refusal.Refusal.{Refusal}
+use Rattle.bytestream.specs.Size.{size_limit}
 use Rattle.bytestream.specs.Writing.{OpenWriteValue}
 pub use Rattle.tree_calls.specs.Asking.{IsShortRequest}
 use Rattle.instance_core.specs.declared.event.CallId.{CallId}
@@ -59,7 +60,7 @@ IsShortEvent _ = Unit {0}
 abbrev pub IsShortProgress : ProgressValue → Type 0
 IsShortProgress waits = Unit {0}
 IsShortProgress (has bytes) = IsShortRequest bytes
-IsShortProgress (writes write) = write.key.digest.size < 2 ^ 63
+IsShortProgress (writes write) = write.key.digest.size < size_limit
 
 abbrev pub KeepShort : Calls → Type 0
 KeepShort calls = AllByRecursion (λ (c : CallId × CallValue). IsShortProgress c.1.progress) calls

@@ -1,6 +1,7 @@
 -- What an instance sends in answer to a call, item by item.
-use Rattle.std.specs.Prelude.{ℕ, ◌<◌, ◌≤◌, ◌^◌, nat_lt, if◌then◌else◌, List, [], ◌∷◌, ◌++◌, map, length, Result, Ok, Err}
+use Rattle.std.specs.Prelude.{ℕ, ◌<◌, ◌≤◌, nat_lt, if◌then◌else◌, List, [], ◌∷◌, ◌++◌, map, length, Result, Ok, Err}
 use Rattle.std.specs.List.{AllByRecursion}
+use Rattle.rpc.specs.Messages.{message_length_limit}
 use Rattle.rpc.specs.declared.refusal.Refusal.{Refusal}
 use Rattle.bytestream.specs.Reading.{SourceValue}
 use Rattle.instance_core.specs.declared.event.CallId.{CallId}
@@ -29,7 +30,7 @@ pub record IsRange (source : SourceValue) : Type 0 where
 
 -- a message's length can be written in four bytes (gRPC over HTTP2, Length-Prefixed-Message)
 abbrev pub IsShortItem : ReplyItemValue → Type 0
-IsShortItem (says bytes) = length bytes < 2 ^ 32
+IsShortItem (says bytes) = length bytes < message_length_limit
 IsShortItem (gives source) = IsRange source
 IsShortItem _ = Unit {0}
 

@@ -7,6 +7,7 @@ ghost use Rattle.bytestream.specs.ParseConstants.{MOST_UUID};
 ghost use Rattle.uploads.specs.declared.steps.TheConstants.{MOST_UPLOADS};
 ghost use Rattle.uploads.specs.declared.table.TheConstants.{UPLOAD_AGE};
 ghost use Rattle.cas_service.specs.declared.requests.TheConstants.{MOST_BATCH_BYTES};
+ghost use Rattle.tree_calls.specs.Asking.{longest_request};
 ghost use Rattle.tree_calls.specs.DirectoryConstants.{MOST_DIRECTORY_BYTES};
 ghost use Rattle.tree_calls.specs.ListingConstants.{MOST_DIRECTORIES};
 ghost use Rattle.tree_calls.specs.PagesConstants.{MOST_PAGE_BYTES};
@@ -28,9 +29,11 @@ pub fn limits_of_uploads()
     ensures age { UPLOAD_AGE ≡ 600000 }
 {}
 
-/// What batches and trees keep to: the bytes of the blobs of a batch, of a directory, and of the
-/// directories on a page of a tree's list, and how many directories that list has.
+/// What batches and trees keep to: the bytes of a message of a request, of the blobs of a batch, of
+/// a directory, and of the directories on a page of a tree's list, and how many directories that
+/// list has.
 pub fn limits_of_batches_and_trees()
+    ensures request { longest_request ≡ 4194304 }
     ensures batch { MOST_BATCH_BYTES ≡ 4000000 }
     ensures directory { MOST_DIRECTORY_BYTES ≡ 67108864 }
     ensures page { MOST_PAGE_BYTES ≡ 4000000 }

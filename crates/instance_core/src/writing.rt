@@ -1,12 +1,13 @@
 //! What the messages of a `Write` are answered.
 
-ghost use Rattle.std.specs.Prelude.{◌≡◌, ◌<◌, ◌^◌, ℕ, List, [], Option, option_map, Result, OnOk, OnErr};
+ghost use Rattle.std.specs.Prelude.{◌≡◌, ◌<◌, ℕ, List, [], Option, option_map, Result, OnOk, OnErr};
 ghost use Rattle.blob_pool.specs.Slots.{Slots};
 ghost use Rattle.blob_pool.specs.Moves.{Moves};
 ghost use Rattle.rpc.specs.declared.method.Method.TheVariants.{Write};
 ghost use Rattle.rpc.specs.declared.refusal.Refusal.{Refusal};
 ghost use Rattle.instance_view.specs.Shown.{holders};
 ghost use Rattle.cas_service.specs.Answers.{Answers, IfNoMemory};
+ghost use Rattle.bytestream.specs.Size.{size_limit};
 ghost use Rattle.bytestream.specs.Writing.{WrittenValue};
 ghost use Rattle.bytestream.specs.Shown.{open_write_shown, written_shown, IfGoes};
 ghost use Rattle.instance_core.specs.Calls.{without_call, AreInCourse};
@@ -55,7 +56,8 @@ fn settle_first(
     written: Result<Written, CallError>,
 ) -> Result<Vec<Reply>, AllocError>
     requires calls { AreInCourse calls.old }
-    requires named { IfGoes written (λ write. (open_write_shown write).key.digest.size < 2 ^ 63) }
+    requires named { IfGoes written
+        (λ write. (open_write_shown write).key.digest.size < size_limit) }
     ensures replies { (answer : Result WrittenValue Refusal) → Answers written_shown written answer
         → (p : Slots) → Gives p result (first_write_answer id Write [] answer).replies }
     ensures given { (k : ℕ) → holders_given result k ≡ 0 }

@@ -11,8 +11,13 @@ is_numeral text =
     bytes_eq text (codes "0")
     || (not (length text == 0) && not (starts_with nat_eq text (codes "0")) && list_all is_decimal_digit text)
 
--- the number below 2^63 that a segment writes, if it writes one
+-- sizes are below this limit: what an int64 can tell, as `size_bytes` of a digest does
+-- (remote_execution.proto, "Digest")
+abbrev pub size_limit : ℕ
+size_limit = 2 ^ 63
+
+-- the size that a segment writes, if it writes one
 abbrev pub size_in : List ℕ → Option ℕ
 size_in text =
-    if is_numeral text && nat_lt (digits_value 10 text) (2 ^ 63)
+    if is_numeral text && nat_lt (digits_value 10 text) size_limit
     then Some (digits_value 10 text) else None

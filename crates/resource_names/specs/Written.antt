@@ -1,11 +1,12 @@
 -- Resource names as they are written (remote_execution.proto, "ContentAddressableStorage").
-use Rattle.std.specs.Prelude.{◌≡◌, ℕ, ◌==◌, ◌≤◌, ◌<◌, ◌^◌, Bool, false, List, [], ◌∷◌, ◌++◌, length, codes}
+use Rattle.std.specs.Prelude.{◌≡◌, ℕ, ◌==◌, ◌≤◌, ◌<◌, Bool, false, List, [], ◌∷◌, ◌++◌, length, codes}
 use Rattle.std.specs.List.{AllByRecursion}
 use Rattle.std.specs.Fmt.{decimal}
 use Rattle.digest.specs.Hex.{IsBytes}
 use Rattle.digest.specs.declared.Digest.{Digest}
 use Rattle.digest.specs.Text.{hash_text}
 use Rattle.resource_names.specs.declared.parse.TheConstants.{MOST_UUID}
+use Rattle.resource_names.specs.Size.{size_limit}
 use Rattle.resource_names.specs.Segments.{segments_of}
 use Rattle.resource_names.specs.Names.{ReadNameValue, WriteNameValue, divides_read, divides_write}
 
@@ -40,11 +41,11 @@ abbrev pub AreFurther : List ℕ → Type 0
 AreFurther [] = Unit {0}
 AreFurther (byte ∷ more) = byte ≡ 47
 
--- a digest that names can write: a hash of 32 bytes, and a size below 2^63
+-- a digest that names can write: a hash of 32 bytes, and a size below the limit
 pub record IsNameable (d : Digest) : Type 0 where
   pub hash : length d.hash ≡ 32
   pub bytes : IsBytes d.hash
-  pub size : d.size < 2 ^ 63
+  pub size : d.size < size_limit
 
 -- a text writes the name of a blob for a Read, in whose instance no segment is `blobs` or
 -- `compressed-blobs`

@@ -1,9 +1,10 @@
 //! How a resource name is read.
 
-ghost use Rattle.std.specs.Prelude.{◌≡◌, ◌<◌, ◌≤◌, ◌^◌, ◌∷◌, [], length, IfOk, OnErr, IfErr};
+ghost use Rattle.std.specs.Prelude.{◌≡◌, ◌<◌, ◌≤◌, ◌∷◌, [], length, IfOk, OnErr, IfErr};
 ghost use Rattle.std.specs.Option.{option_copied};
 ghost use Rattle.resource_names.specs.Names as names;
 ghost use Rattle.resource_names.specs.Names.{Gives, read_name, write_name, digest_of_segments, instance_of, compression_check, upload_compression_check, upload_named};
+ghost use Rattle.resource_names.specs.Size.{size_limit};
 ghost use Rattle.resource_names.specs.Segments.{segments_left};
 ghost use Rattle.resource_names.specs.Shown.{read_name_shown, write_name_shown};
 ghost use Rattle.resource_names.specs.declared.name.NameError.TheVariants.{Form};
@@ -54,7 +55,7 @@ fn instance(before: Option<&str>) -> Result<&str, NameError>
 #[tactic(auto, unfolding(crate::specs::Names::digest_of_segments))]
 fn digest(hash: &str, size_text: &str) -> Result<Digest, NameError>
     ensures value { result ≡ digest_of_segments hash.now size_text.now }
-    ensures most { IfOk result (λ digest. digest.size < 2 ^ 63) }
+    ensures most { IfOk result (λ digest. digest.size < size_limit) }
 {
     let digest = Digest::parse(hash, 0).ok_or(NameError::Hash)?;
     let size = size(size_text).ok_or(NameError::Size)?;
@@ -64,7 +65,7 @@ fn digest(hash: &str, size_text: &str) -> Result<Digest, NameError>
 /// The digest of a name that ends with it.
 fn digest_alone(left: Option<&str>) -> Result<Digest, NameError>
     ensures value { result ≡ names.digest_alone (segments_left left.entry) }
-    ensures most { IfOk result (λ digest. digest.size < 2 ^ 63) }
+    ensures most { IfOk result (λ digest. digest.size < size_limit) }
 {
     let (hash, left) = next_segment(left)?;
     let (size, left) = next_segment(left)?;
@@ -79,7 +80,7 @@ fn digest_alone(left: Option<&str>) -> Result<Digest, NameError>
 #[tactic(auto, unfolding(crate::specs::Names::read_name))]
 pub fn parse_read(text: &str) -> Result<ReadName<'_>, NameError>
     ensures name { Gives read_name_shown result (read_name text.now) }
-    ensures most { IfOk result (λ name. name.digest.size < 2 ^ 63) }
+    ensures most { IfOk result (λ name. name.digest.size < size_limit) }
 {
     let division = divide(text, Divider::Blobs).ok_or(NameError::Form)?;
     check_uncompressed(division.segment)?;
@@ -105,7 +106,7 @@ fn check_uncompressed_upload(left: Option<&str>) -> Result<(), NameError>
 fn upload<'a>(instance: &'a str, left: Option<&'a str>) -> Result<WriteName<'a>, NameError>
     ensures name { Gives write_name_shown result
         (upload_named instance.now (segments_left left.entry)) }
-    ensures most { IfOk result (λ name. name.digest.size < 2 ^ 63) }
+    ensures most { IfOk result (λ name. name.digest.size < size_limit) }
     ensures uuid { IfOk result (λ name. length name.uuid.now ≤ MOST_UUID) }
 {
     let (uuid, left) = next_segment(left)?;
@@ -128,7 +129,7 @@ fn upload<'a>(instance: &'a str, left: Option<&'a str>) -> Result<WriteName<'a>,
 #[tactic(auto, unfolding(crate::specs::Names::write_name))]
 pub fn parse_write(text: &str) -> Result<WriteName<'_>, NameError>
     ensures name { Gives write_name_shown result (write_name text.now) }
-    ensures most { IfOk result (λ name. name.digest.size < 2 ^ 63) }
+    ensures most { IfOk result (λ name. name.digest.size < size_limit) }
     ensures uuid { IfOk result (λ name. length name.uuid.now ≤ MOST_UUID) }
 {
     let division = divide(text, Divider::Uploads).ok_or(NameError::Form)?;

@@ -1,8 +1,8 @@
 //! The size that a segment writes.
 
-ghost use Rattle.std.specs.Prelude.{◌≡◌, ◌<◌, ◌^◌, IfSome};
+ghost use Rattle.std.specs.Prelude.{◌≡◌, ◌<◌, IfSome};
 ghost use Rattle.resource_names.specs.Size as sizes;
-ghost use Rattle.resource_names.specs.Size.{size_in};
+ghost use Rattle.resource_names.specs.Size.{size_in, size_limit};
 
 use decimals::are_digits;
 
@@ -17,7 +17,7 @@ fn is_numeral(text: &str) -> bool
 /// The size that a segment writes: at most 2^63 - 1, as `size_bytes` of a digest.
 pub(crate) fn size(text: &str) -> Option<u64>
     ensures value { result ≡ size_in text.now }
-    ensures most { IfSome result (λ size. size < 2 ^ 63) }
+    ensures most { IfSome result (λ size. size < size_limit) }
 {
     if !is_numeral(text) {
         return None;

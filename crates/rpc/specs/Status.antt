@@ -3,6 +3,10 @@ use Rattle.std.specs.Prelude.{ℕ, List, codes}
 use Rattle.rpc.specs.declared.refusal.Refusal.{Refusal}
 use Rattle.rpc.specs.declared.refusal.Refusal.TheVariants.{UnknownMethod, CompressedMessage, MessageTooLarge, MessageCutOff, NoMessage, MoreThanOneMessage, MalformedMessage, UnknownInstance, UnsupportedDigestFunction, UnsupportedCompressor, BadDigest, BatchTooLarge, DigestDoesNotMatch, QuotaExceeded, BlobNotFound, BadResourceName, NegativeLimit, OffsetOutOfRange, WrongOffset, TooManyUploads, UploadNotFound, BadPage, BadDirectory, TreeTooLarge, NoResult}
 
+-- how many codes gRPC has: from 0, OK, to 16, UNAUTHENTICATED
+abbrev pub code_count : ℕ
+code_count = 17
+
 abbrev pub invalid_argument : ℕ
 invalid_argument = 3
 

@@ -2,11 +2,12 @@
 -- call the answer to it, and at an event of a call what the instance replies (`answer` of
 -- instance_core). Its state is a run of such answers, of the moments at which they are given and of
 -- the passing of time, and of nothing else.
-use Rattle.std.specs.Prelude.{◌≡◌, ℕ, ◌==◌, ◌&&◌, suc, if◌then◌else◌, List, [], ◌∷◌, ◌++◌, map, fold}
+use Rattle.std.specs.Prelude.{◌≡◌, ℕ, ◌-◌, ◌==◌, ◌&&◌, suc, if◌then◌else◌, List, [], ◌∷◌, ◌++◌, map, fold}
 use Rattle.std.specs.List.{flat_map}
 use Rattle.conn_core.specs.ReaderConstants.{CLIENT_PREFACE}
 use Rattle.conn_core.specs.RawFrame.{RawFrame}
 use Rattle.conn_core.specs.Reading.{split}
+use Rattle.conn_core.specs.GrpcMessagesWire.{message_length_limit}
 use Rattle.grpc_sending.specs.Owed.{Item, items_owed_on}
 use Rattle.conn_core.specs.Past.{Past}
 use Rattle.conn_core.specs.Received.{received_raw_frames}
@@ -84,7 +85,7 @@ run_connections config events = (run_of config events).lone.connections
 -- the longest message that the four bytes in front of it can state (gRPC over HTTP2,
 -- Length-Prefixed-Message)
 abbrev pub longest_message : ℕ
-longest_message = 4294967295
+longest_message = message_length_limit - 1
 
 -- the frames that were received are those of the bytes that came, in order; some may be left behind
 -- an error

@@ -9,17 +9,25 @@ abbrev pub decimal_below : ℕ → List ℕ → Option ℕ
 decimal_below limit word =
     option_and_then (λ number. if nat_lt number limit then Some number else None) (decimal_of word)
 
--- the number below 2^32 that a word writes in decimal
-abbrev pub number_of : List ℕ → Option ℕ
-number_of word = decimal_below (2 ^ 32) word
+-- connections, instances, slots and counts of bytes are numbers below this limit, of 32 bits
+abbrev pub number_limit : ℕ
+number_limit = 2 ^ 32
 
--- the number from -2^31 to 2^31 - 1 that a word writes in decimal, perhaps with a minus (byte 45)
--- before it
+-- the number below it that a word writes in decimal
+abbrev pub number_of : List ℕ → Option ℕ
+number_of word = decimal_below number_limit word
+
+-- exit codes are below this limit, and no less than its negative: numbers of 32 bits with a sign
+abbrev pub exit_code_limit : ℕ
+exit_code_limit = 2 ^ 31
+
+-- the exit code that a word writes in decimal, perhaps with a minus (byte 45) before it
 abbrev pub exit_code_of : List ℕ → Option ℤ
 exit_code_of [] = None
 exit_code_of (byte ∷ word) =
-    if byte == 45 then option_map (λ number. neg_ℤ (pos number)) (decimal_below (2 ^ 31 + 1) word)
-    else option_map pos (decimal_below (2 ^ 31) (byte ∷ word))
+    if byte == 45
+    then option_map (λ number. neg_ℤ (pos number)) (decimal_below (exit_code_limit + 1) word)
+    else option_map pos (decimal_below exit_code_limit (byte ∷ word))
 
 -- ---- so many words
 

@@ -1,9 +1,10 @@
 -- Which lines are good, and which is the first bad one, in words of their own.
-use Rattle.std.specs.Prelude.{◌≡◌, ◌≢◌, ℕ, ℤ, pos, neg_ℤ, ◌+◌, ◌^◌, ◌<◌, ◌⊎◌, false, List, [], ◌∷◌, ◌++◌, length, codes, Some}
+use Rattle.std.specs.Prelude.{◌≡◌, ◌≢◌, ℕ, ℤ, pos, neg_ℤ, ◌+◌, ◌<◌, ◌⊎◌, false, List, [], ◌∷◌, ◌++◌, length, codes, Some}
 use Rattle.std.specs.Char.{is_ascii}
 use Rattle.std.specs.List.{All, AllPass}
 use Rattle.script.specs.Hexadecimal.{IsBytes, hex_word}
 use Rattle.decimals.specs.Number.{decimal_of}
+use Rattle.script.specs.Arguments.{number_limit, exit_code_limit}
 use Rattle.script.specs.Parts.{spaced_line}
 use Rattle.server_events.specs.Configs.{instance_limit}
 use Rattle.server_events.specs.Events.{OutputValue, WhatValue, opened, received, took, closed, tick, ended, failed, exited}
@@ -26,9 +27,9 @@ pub record IsNumber (limit : ℕ) (word : List ℕ) (number : ℕ) : Type 0 wher
 -- a word is a 32-bit number, perhaps with a minus (byte 45) before its digits
 abbrev pub IsExitCode : List ℕ → ℤ → Type 0
 IsExitCode word code =
-    ((number : ℕ) × IsNumber (2 ^ 31) word number × (code ≡ pos number))
+    ((number : ℕ) × IsNumber exit_code_limit word number × (code ≡ pos number))
     ⊎ ((digits : List ℕ) × (number : ℕ) × (word ≡ 45 ∷ digits)
-    × IsNumber (2 ^ 31 + 1) digits number × (code ≡ neg_ℤ (pos number)))
+    × IsNumber (exit_code_limit + 1) digits number × (code ≡ neg_ℤ (pos number)))
 
 -- a word of ASCII, PATH=HEX, is a file that may not be executed; its path may have `=` (byte 61) in
 -- it
@@ -62,18 +63,18 @@ pub record IsExit (arguments : List (List ℕ)) (job : ℕ) (code : ℤ) (stdout
 abbrev pub Tells : List ℕ → List (List ℕ) → WhatValue → Type 0
 Tells kind arguments (opened connection) =
     (kind ≡ codes "open")
-    × ((word : List ℕ) × (arguments ≡ word ∷ []) × IsNumber (2 ^ 32) word connection)
+    × ((word : List ℕ) × (arguments ≡ word ∷ []) × IsNumber number_limit word connection)
 Tells kind arguments (received connection bytes) =
     (kind ≡ codes "bytes")
     × ((word : List ℕ) × (arguments ≡ word ∷ hex_word bytes ∷ [])
-    × IsNumber (2 ^ 32) word connection × IsBytes bytes)
+    × IsNumber number_limit word connection × IsBytes bytes)
 Tells kind arguments (took connection count) =
     (kind ≡ codes "took")
     × ((word : List ℕ) × (digits : List ℕ) × (arguments ≡ word ∷ digits ∷ [])
-    × IsNumber (2 ^ 32) word connection × IsNumber (2 ^ 32) digits count)
+    × IsNumber number_limit word connection × IsNumber number_limit digits count)
 Tells kind arguments (closed connection) =
     (kind ≡ codes "closed")
-    × ((word : List ℕ) × (arguments ≡ word ∷ []) × IsNumber (2 ^ 32) word connection)
+    × ((word : List ℕ) × (arguments ≡ word ∷ []) × IsNumber number_limit word connection)
 Tells kind arguments tick = (kind ≡ codes "tick") × (arguments ≡ [])
 Tells kind arguments (ended job failed) =
     (kind ≡ codes "fail")
@@ -113,7 +114,7 @@ pub record IsEventLine (before : ReplayScriptValue) (words : List (List ℕ))
   pub what : WhatValue
   pub form : words ≡ kind ∷ moment ∷ instance ∷ arguments
   pub moment_number : decimal_of moment ≡ Some at
-  pub instance_number : IsNumber (2 ^ 32) instance number
+  pub instance_number : IsNumber number_limit instance number
   pub tells : Tells kind arguments what
   pub adds : after ≡ with_event before (event_at at number what)
 

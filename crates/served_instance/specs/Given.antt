@@ -1,11 +1,12 @@
 -- What the items of replies owe with the texts of their ranges, and what becomes of the sources
 -- that they hold. For the code alone: no public contract speaks of it.
-use Rattle.std.specs.Prelude.{◌≡◌, ◌+◌, ◌≤◌, ◌<◌, ◌^◌, ℕ, List, length, map}
+use Rattle.std.specs.Prelude.{◌≡◌, ◌+◌, ◌≤◌, ◌<◌, ℕ, List, length, map}
 use Rattle.std.specs.List.{AllByRecursion}
 use Rattle.blob_pool.specs.Slots.{Slots}
 use Rattle.blob_pool.specs.Moves.{Holders, Moves, no_holders}
 use Rattle.grpc_sending.specs.StoredSending.{Look, Fit, HasFew, sources_of}
 use Rattle.grpc_sending.specs.Sources.{count_of}
+use Rattle.conn_core.specs.GrpcMessagesWire.{message_length_limit}
 use Rattle.conn_core.specs.Past.{Past}
 use Rattle.conn_core.specs.StandsFor.{Present}
 use Rattle.instance_core.specs.declared.event.Reply.{Reply}
@@ -40,7 +41,7 @@ with_owed s items texts = with_items s (items_of (map (item_by texts) items))
 
 -- a message's length can be written in four bytes, and a range does not end before it begins
 abbrev pub CanBeOwed : ReplyItem → Type 0
-CanBeOwed (Says bytes) = length bytes.items < 2 ^ 32
+CanBeOwed (Says bytes) = length bytes.items < message_length_limit
 CanBeOwed (Gives range) = range.from ≤ range.until
 CanBeOwed item = Unit {0}
 

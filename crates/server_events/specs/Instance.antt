@@ -16,17 +16,21 @@ resource_words =
     ∷ codes "operations" ∷ codes "capabilities"
     ∷ codes "compressed-blobs" ∷ []
 
--- 1 to 64 of those bytes, and none of those words
+-- the most bytes of an instance's name
+abbrev pub longest_name : ℕ
+longest_name = 64
+
+-- some of those bytes, not too many, and none of those words
 pub record IsInstanceName (name : List ℕ) : Type 0 where
   pub not_empty : 0 < length name
-  pub short : length name ≤ 64
+  pub short : length name ≤ longest_name
   pub plain : AllPass is_name_byte name
   pub no_resource_word : ¬ (Contains resource_words name)
 
 -- the same as a test
 abbrev pub is_instance_name : List ℕ → Bool
 is_instance_name name =
-    not (length name == 0) && nat_le (length name) 64 && list_all is_name_byte name
+    not (length name == 0) && nat_le (length name) longest_name && list_all is_name_byte name
     && not (list_any (bytes_eq name) resource_words)
 
 -- the most bytes that an instance may be given: 2^40

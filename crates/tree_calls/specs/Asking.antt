@@ -12,9 +12,13 @@ use Rattle.cas_service.specs.BatchUpdate.{digest_or_refusal}
 use Rattle.tree_calls.specs.declared.asking.TreeAsked.{TreeAsked}
 use Rattle.tree_calls.specs.declared.asking.ResultSent.{ResultSent}
 
--- a message of a request has at most 4,194,304 bytes
+-- the most bytes of a message of a request
+abbrev pub longest_request : ℕ
+longest_request = 4194304
+
+-- a message of a request is no longer
 abbrev pub IsShortRequest : List ℕ → Type 0
-IsShortRequest bytes = length bytes ≤ 4194304
+IsShortRequest bytes = length bytes ≤ longest_request
 
 -- the tree of a root, so many directories a page at most, from the place of a token on
 pub record TreeAskedValue : Type 0 where

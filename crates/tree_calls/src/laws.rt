@@ -1,7 +1,8 @@
 //! What the definitions say, for every instance.
 
-ghost use Rattle.std.specs.Prelude.{◌≡◌, ◌<◌, ◌≤◌, ◌^◌, ℕ, List, length, Ok};
+ghost use Rattle.std.specs.Prelude.{◌≡◌, ◌<◌, ◌≤◌, ℕ, List, length, Ok};
 ghost use Rattle.std.specs.List.{AllByRecursion};
+ghost use Rattle.rpc.specs.Messages.{message_length_limit};
 ghost use Rattle.digest.specs.declared.Digest.{Digest};
 ghost use Rattle.instance_view.specs.Visible.{Blob};
 ghost use Rattle.cas_service.specs.Within.{Within};
@@ -59,15 +60,15 @@ pub fn results_stay_within()
         AreWithin results → AreWithin (after_update own results request) }
 {}
 
-/// Each message of a reply is shorter than 2^32 bytes, so that its length can be written before it.
+/// Each message of a reply is so short that its length can be written before it.
 pub fn replies_are_short()
     ensures tree { (own request : List ℕ) (visible : List Blob) (messages : List (List ℕ)) →
         get_tree_replies own visible request ≡ Ok messages →
-        AllByRecursion (λ message. length message < 2 ^ 32) messages }
+        AllByRecursion (λ message. length message < message_length_limit) messages }
     ensures get { (own request reply : List ℕ) (visible results : List Blob) →
         AreWithin results → get_action_result_reply own visible results request ≡ Ok reply →
-        length reply < 2 ^ 32 }
+        length reply < message_length_limit }
     ensures update { (own request reply : List ℕ) →
         IsShortRequest request → update_action_result_reply own request ≡ Ok reply →
-        length reply < 2 ^ 32 }
+        length reply < message_length_limit }
 {}

@@ -1,7 +1,8 @@
 //! SETTINGS (RFC 9113 section 6.5).
 
-ghost use Rattle.std.specs.Prelude.{◌≡◌, ◌<◌, ◌^◌, [], true, false, Some, None, IfOk, OnOk, OnErr, IfSome, IfErr, fold, if◌then◌else◌};
+ghost use Rattle.std.specs.Prelude.{◌≡◌, ◌<◌, [], true, false, Some, None, IfOk, OnOk, OnErr, IfSome, IfErr, fold, if◌then◌else◌};
 ghost use Rattle.std.specs.List.{list_any};
+ghost use Rattle.http2_flow.specs.Credit.{window_limit};
 ghost use Rattle.http2_frames.specs.declared.frame.Frame.TheVariants.{Settings};
 ghost use Rattle.http2_headers.specs.Decoding.{Gives};
 ghost use Rattle.http2_streams.specs.Rules.{no_effect, on_settings, is_above, setting_fault, settings_fault};
@@ -40,7 +41,7 @@ impl Streams {
 
     /// Sets the initial size of all streams' windows.
     fn resize(&mut self, initial_window_size: u32)
-        requires small { initial_window_size < 2 ^ 31 }
+        requires small { initial_window_size < window_limit }
         requires within { list_any (is_above initial_window_size) self.old.live ≡ false }
         ensures { self.new ≡ after_resize self.old initial_window_size }
     {
@@ -67,7 +68,7 @@ fn read_settings(live: &[Stream], mut settings: SettingsList<'_>) -> Result<Opti
     ensures faultless { OnOk result (settings_fault live.now settings.entry ≡ None) }
     ensures size { IfOk result (λ size. size ≡ fold size_after_setting None settings.entry) }
     ensures fits { IfOk result (λ size. IfSome size
-        (λ n. (n < 2 ^ 31) × (list_any (is_above n) live.now ≡ false))) }
+        (λ n. (n < window_limit) × (list_any (is_above n) live.now ≡ false))) }
 {
     let mut size = None;
     while let Some(setting) = settings.pop_first() {

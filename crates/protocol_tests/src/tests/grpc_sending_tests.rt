@@ -1,6 +1,7 @@
 //! What is sent of messages and ranges, and in which pieces.
 
-ghost use Rattle.std.specs.Prelude.{◌<◌, ◌^◌, length};
+ghost use Rattle.std.specs.Prelude.{◌<◌, length};
+ghost use Rattle.conn_core.specs.GrpcMessagesWire.{message_length_limit};
 ghost use Rattle.grpc_sending.specs.StoredSending.{Look, Fit};
 
 use crate::tests::one_byte::OneByte;
@@ -64,7 +65,7 @@ fn owe_message(
     message: Vec<u8>,
 ) -> Result<(), AllocError>
     requires fit { (texts : Look) → Fit texts sender.old.queues }
-    requires short { length message.items < 2 ^ 32 }
+    requires short { length message.items < message_length_limit }
     ensures { (texts : Look) → Fit texts sender.new.queues }
 {
     sender.owe_message(streams, stream, message)

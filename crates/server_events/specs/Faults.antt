@@ -3,7 +3,7 @@ use Rattle.std.specs.Prelude.{◌≡◌, ◌≢◌, ◌<◌, ◌≤◌, ◌⊎�
 use Rattle.std.specs.List.{All, AllPairs}
 use Rattle.server_events.specs.Instance.{IsInstanceName, quota_limit, slots_limit}
 use Rattle.server_events.specs.declared.fault.ConfigFault.{ConfigFault}
-use Rattle.server_events.specs.declared.fault.ConfigFault.TheVariants.{BadName, BadQuota, BadSlots, DuplicateName, TooMany, NoMemory}
+use Rattle.server_events.specs.declared.fault.ConfigFault.TheVariants.{BadName, BadQuota, BadSlots, DuplicateName, TooMany}
 use Rattle.server_events.specs.Configs.{ConfigValue, instance_limit}
 
 -- what one instance must have for itself
@@ -35,7 +35,6 @@ IsOwnFault before config (DuplicateName number) =
     (number ≡ length before) × IsConfig config
     × (¬ (All (λ other. config.name ≢ other.name) before))
 IsOwnFault before config TooMany = ⊥
-IsOwnFault before config NoMemory = ⊥
 
 -- an instance of the list has that fault, and those before it have none
 pub record IsFirstFault (configs : List ConfigValue) (fault : ConfigFault) : Type 0 where

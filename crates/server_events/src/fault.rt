@@ -15,6 +15,4 @@ pub enum ConfigFault {
     DuplicateName(usize),
     /// There are more instances than a server has.
     TooMany,
-    /// Memory was refused.
-    NoMemory,
 }

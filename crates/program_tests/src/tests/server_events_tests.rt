@@ -35,7 +35,6 @@ fn told(fault: ConfigFault) -> Told {
         ConfigFault::BadSlots(number) => ("slots", number),
         ConfigFault::DuplicateName(number) => ("duplicate", number),
         ConfigFault::TooMany => ("many", 0),
-        ConfigFault::NoMemory => ("memory", 0),
     }
 }
 

@@ -68,6 +68,7 @@ fn add_holder(slots: &mut Slab<Slot>, slot: usize)
               slot + 1;
         })) }
 {
+    // A slot with a holder is there; for any other there is nothing to do.
     if let Some(held) = slots.get_mut(slot) {
         held.add_holder();
     }
@@ -95,6 +96,7 @@ fn take_holder(slots: &mut Slab<Slot>, slot: usize)
               slot - 1;
         })) }
 {
+    // A slot with two holders is there; for any other there is nothing to do.
     if let Some(held) = slots.get_mut(slot) {
         held.take_holder();
     }
@@ -175,6 +177,7 @@ fn more_bytes(slots: &Slab<Slot>, bytes: u128, text: &PagedText) -> u128
     requires bytes { bytes ≡ bytes_stored slots.now.slots }
     ensures { result ≡ bytes + length text.now }
 {
+    // A call with the slots is where the prover learns that they are fewer than 2^64.
     let _texts = slots.len();
     bytes + text.len() as u128
 }
@@ -200,6 +203,7 @@ fn drop_text(slots: &mut Slab<Slot>, index: &mut Index, bytes: &mut u128, slot: 
     ensures pool { IsPool slots.new.slots index.new bytes.new }
     ensures moves { Moves slots.old.slots slots.new.slots (one_at slot) no_holders }
 {
+    // A slot with a holder is there; for any other there is nothing to do.
     if let Some(held) = slots.try_remove(slot) {
         index.unlist(&held.digest(), slot);
         *bytes -= held.text().len() as u128;

@@ -1,4 +1,5 @@
-//! Numbers in decimal digits, as scripts, page tokens and resource names write them.
+//! Numbers in decimal digits, as scripts, page tokens, resource names and the command line write
+//! them.
 #![tactic(auto)]
 
 mod number;

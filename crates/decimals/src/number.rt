@@ -14,6 +14,7 @@ pub fn decimal(word: &[u8]) -> Option<u64>
     if !are_digits(word) {
         return None;
     }
+    // Digits are UTF-8, which `parse` asks for by its type.
     match str::from_utf8(word) {
         Ok(digits) => digits.parse().ok(),
         Err(_) => None,

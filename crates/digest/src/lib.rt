@@ -83,6 +83,8 @@ const DIGIT_VALUES: [u8; 256] = [
     255, 255, 255, 255,
 ];
 
+// A digest is read for each blob that a client asks for, so its digits go by a table into 32 bytes of its own: `hex`
+// would ask for memory, and takes upper-case digits too.
 // The table is an argument so that no proof has its numbers before it.
 fn digit_by(values: &[u8; 256], digit: u8) -> Option<u8>
     requires { AreDigitValues values.now }

@@ -167,6 +167,7 @@ fn code_text(code: u8) -> &'static [u8]
         13 => b"13",
         14 => b"14",
         15 => b"15",
+        // There is no code above 16.
         _ => b"16",
     }
 }

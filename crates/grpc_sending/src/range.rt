@@ -116,6 +116,7 @@ impl Cursor {
         ensures is { result ≡ span_count most_read self.now }
         ensures short { result ≤ most_read }
     {
+        // A range that is over is empty, also as a number.
         self.until.saturating_sub(self.from).min(MOST_READ) as u32
     }
 
@@ -133,6 +134,7 @@ impl Cursor {
     {
         let count = self.count();
         let whole = (6 + length_size(count) + count) as usize;
+        // No more was put than the message has.
         whole.saturating_sub(self.put)
     }
 

@@ -321,6 +321,7 @@ impl Sender {
         ensures grows { length self.old.pending ≤ length self.new.pending }
         ensures size { length self.new.pending ≤ length self.old.pending + (HEADER_LENGTH + 4) }
     {
+        // A stream that is reset was opened, so this does not end early.
         if stream > streams.highest() {
             return;
         }

@@ -1,5 +1,5 @@
 -- How a field list is kept: all names and values in one text, and how many octets each of them has.
--- For the code alone: no public contract speaks of it.
+-- For the code alone, but for `headers_in`, as which a `HeaderIter` is seen.
 use Rattle.std.specs.Prelude.{◌≡◌, ℕ, ◌+◌, List, [], ◌∷◌, ◌++◌, length, take, drop}
 use Rattle.hpack.specs.declared.headers.FieldLengths.{FieldLengths}
 use Rattle.hpack.specs.Header.{Header}

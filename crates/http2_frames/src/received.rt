@@ -88,6 +88,7 @@ fn extend(bytes: &mut Vec<u8>, read: &mut usize, more: &[u8]) -> Result<(), Allo
     ensures err { OnErr result (drop read.new bytes.new.items
         ≡ drop read.old bytes.old.items) }
 {
+    // The capacity is never below the length.
     if bytes.capacity().saturating_sub(bytes.len()) < more.len() {
         drop_front(bytes, *read);
         *read = 0;

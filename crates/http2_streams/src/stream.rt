@@ -92,6 +92,7 @@ impl Stream {
         ensures { self.new ≡ stream_after_grant number increment self.old }
     {
         if self.number == number {
+            // `within` leaves out that the window overflows.
             let _ = self.window.grant(increment);
         }
     }
@@ -108,6 +109,7 @@ impl Stream {
         ensures { self.new ≡ stream_after_spending number count self.old }
     {
         if self.number == number {
+            // The window is for so many bytes.
             let _ = self.window.spend(count);
         }
     }
@@ -117,6 +119,7 @@ impl Stream {
         requires within { is_above initial_size self.old ≡ false }
         ensures { self.new ≡ stream_after_resize initial_size self.old }
     {
+        // `within` leaves out that the window overflows.
         let _ = self.window.shift(initial_size);
     }
 }

@@ -211,6 +211,7 @@ impl Streams {
         ensures { self.new ≡ after_server_end (after_data self.old stream count) stream end_stream }
     {
         live::spend(&mut self.live, stream, count);
+        // `CanSend` says that the window is for so many bytes.
         let _ = self.connection_window.spend(count);
         self.end_by_server(stream, end_stream);
     }

@@ -96,6 +96,7 @@ fn reply_to(
             &contents.uploads,
             message,
         ),
+        // Methods that are not served; the messages of a Write are answered elsewhere.
         _ => Err(CallError::Refused(Refusal::UnknownMethod)),
     }
 }

@@ -58,6 +58,7 @@ fn content(wire_type: u64, bytes: &[u8]) -> Result<(Content<'_>, &[u8]), WireErr
             let (payload, rest) = split(length, rest)?;
             Ok((Content::Bytes(payload), rest))
         }
+        // 5: others are refused before.
         _ => {
             let (four, rest) = split(4, bytes)?;
             Ok((Content::Fixed32(four), rest))

@@ -14,7 +14,8 @@ fn is_numeral(text: &str) -> bool
         || (!text.is_empty() && !text.as_bytes().starts_with(b"0") && are_digits(text.as_bytes()))
 }
 
-/// The size that a segment writes: at most 2^63 - 1, as `size_bytes` of a digest.
+/// The size that a segment writes: at most 2^63 - 1, as `size_bytes` of a digest. A numeral has no
+/// leading zeros, so that a size is written in one way, which `decimals::decimal` does not ask for.
 pub(crate) fn size(text: &str) -> Option<u64>
     ensures value { result ≡ size_in text.now }
     ensures most { IfSome result (λ size. size < size_limit) }

@@ -1,5 +1,5 @@
--- For proofs: what has to be known of the lines of a script so far to tell whether the next is
--- good, namely its instances, and whether there was an event.
+-- What has to be known of the lines of a script so far to tell whether the next is good, namely its
+-- instances, and whether there was an event. For the code alone: no public contract speaks of it.
 use Rattle.std.specs.Prelude.{ℕ, Bool, true, not, ◌==◌, if◌then◌else◌, List, [], ◌∷◌, ◌++◌, length, codes, Option, Some, None, option_map}
 use Rattle.std.specs.Str.{bytes_eq}
 use Rattle.server_events.specs.Configs.{ConfigValue}

@@ -1,4 +1,5 @@
--- For proofs: what the lines of a script that were read so far say.
+-- What the lines of a script that were read so far say. For the code alone: no public contract
+-- speaks of it.
 use Rattle.std.specs.Prelude.{map}
 use Rattle.script.specs.declared.unary.parser.UnaryLines.{UnaryLines}
 use Rattle.script.specs.UnaryScript.{UnaryScriptValue}

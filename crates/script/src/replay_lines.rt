@@ -1,6 +1,6 @@
 //! The lines that tell what a server did with a script of events: for each instance the bytes that
-//! it sent on each connection, the orders that it gave and the events that it refused; and the
-//! events that were no instance's.
+//! it sent on each connection and the events that it refused; and the events that were no
+//! instance's. Lines of orders are written by nothing yet, since no call starts a job.
 ghost use Rattle.std.specs.Prelude.{◌≡◌, ◌++◌, OnOk, OnErr};
 ghost use Rattle.script.specs.ResultLines.{sent_line, start_line, kill_line, refusal_line, stray_line};
 

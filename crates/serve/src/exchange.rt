@@ -48,6 +48,7 @@ pub(crate) fn tell(
 fn with_room(alloc: Global, bytes: &[u8]) -> Result<Vec<u8>, AllocError>
     ensures { IfOk result (λ piece. piece.items ≡ bytes.now) }
 {
+    // Pieces are short; of any length, room is only asked for, and nothing said of it.
     let mut piece = Vec::with_capacity(alloc, bytes.len().saturating_mul(2))?;
     piece.extend_from_slice(bytes)?;
     Ok(piece)

@@ -218,6 +218,7 @@ pub fn serve<S: Sockets>(
             idle_turns = 0;
         } else {
             sockets.rest(idle_turns);
+            // There are no more idle turns than turns, which fit in 64 bits.
             idle_turns = idle_turns.saturating_add(1);
         }
     }

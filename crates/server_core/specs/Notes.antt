@@ -1,5 +1,5 @@
--- What an event changes of what is noted of a run. For the code alone: no public contract speaks of
--- it.
+-- What an event changes of what is noted of a run. For the code alone, but for `connection_change`,
+-- which `InstanceRecord::note` asks for.
 use Rattle.std.specs.Prelude.{ℕ, zero, suc, ◌==◌, ◌-◌, if◌then◌else◌, not, List, [], ◌∷◌, ◌++◌, map, filter, drop, length, fold}
 use Rattle.std.specs.Option.{option_map_or}
 use Rattle.served_instance.specs.Bytes.{pending_bytes}

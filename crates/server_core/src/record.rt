@@ -193,6 +193,7 @@ fn take_from(connection: &mut OpenRecord, number: u32, count: usize)
     ensures { connection.new ≡ record_after_taking number count connection.old }
 {
     if connection.number == number {
+        // An event that takes more than waits is refused, and is not counted here.
         connection.untaken = connection.untaken.saturating_sub(count);
     }
 }
@@ -214,6 +215,7 @@ fn gather(
         → map sent_shown sent.new.items
         ≡ sent_bytes_with_all l live.now (map sent_shown sent.old.items)) }
 {
+    // A place in a slice is below its length, so no sum of places is cut off.
     let mut at: usize = 0;
     for connection in live {
         gather_from(sent, connection, at, instance)?;
@@ -262,6 +264,7 @@ fn count_untaken(live: &mut [OpenRecord], instance: &ServedInstance)
     ensures { (l : Lone) → HasConnections instance.now l → AreApart l.connections
         → live.new ≡ map (record_after_noting l) live.old }
 {
+    // A place in a slice is below its length, so no sum of places is cut off.
     let mut at: usize = 0;
     for connection in live.iter_mut() {
         count_on(connection, at, instance);
@@ -274,6 +277,7 @@ fn count_on(connection: &mut OpenRecord, at: usize, instance: &ServedInstance)
     ensures { (l : Lone) → HasConnections instance.now l → AreApart l.connections
         → connection.new ≡ record_after_noting l connection.old }
 {
+    // The record's open connections are those of the instance, so one is found.
     connection.untaken = instance
         .pending_near(at, connection.number)
         .map_or(0, |pending| pending.len());

@@ -1,6 +1,6 @@
-//! What a server of build instances is started with and what happens to it: the configurations of
-//! its instances, which names, quotas and slot counts these may have, and the events of its
-//! connections, its clock and the programs that it runs.
+//! What a server is started with and what happens to it: the configurations of its instances, which
+//! names, quotas and slot counts these may have, and the events of its connections and its clock,
+//! and of the programs of jobs, of which it runs none yet.
 #![tactic(auto)]
 
 mod configs;

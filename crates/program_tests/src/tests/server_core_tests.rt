@@ -1,5 +1,5 @@
-//! Frames come from outside (RFC 9113). What whole runs print is shown by the stored scripts of
-//! `acceptance`.
+//! A server of two instances, event by event: one that opens, a stray, a refused one, and an error
+//! of the connection. What whole runs print is shown by the stored scripts of `acceptance`.
 
 use script::replay::parse;
 use served_instance::EventRefusal;

@@ -1,4 +1,5 @@
-//! The limits of a header block are shown by the stored scripts of `acceptance`.
+//! Header blocks, whole and cut, and a decoder that stays refused. The limits of a block are shown
+//! by the stored scripts of `acceptance`.
 
 use http2_frames::ErrorCode;
 use http2_headers::*;

@@ -47,6 +47,7 @@ fn path_and_content(word: &[u8]) -> Option<(&str, &str)>
     if !are_ascii(word) {
         return None;
     }
+    // ASCII is UTF-8, which `rsplit_once` asks for by its type.
     match str::from_utf8(word) {
         Ok(text) => text.rsplit_once('='),
         Err(_) => None,

@@ -126,6 +126,7 @@ fn read_instance(alloc: Global, known: &Quotas, words: Parts) -> Result<Instance
     if !is_instance_name(name) || !is_quota(quota) || place(known, name).is_some() {
         return Err(LineFault::Bad);
     }
+    // An instance's name is ASCII, so it is UTF-8, which a `String` asks for by its type.
     let Ok(name) = str::from_utf8(name) else {
         return Err(LineFault::Bad);
     };

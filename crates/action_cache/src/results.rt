@@ -4,7 +4,7 @@ ghost use Rattle.std.specs.Prelude.{◌≡◌, ◌+◌, ◌-◌, ◌<◌, ◌≤
 ghost use Rattle.std.specs.Option.{option_copied};
 ghost use Rattle.std.specs.Map.{lookup, remove_entry};
 ghost use Rattle.digest.specs.Naming.{same_digest};
-ghost use Rattle.instance_view.specs.Visible.{with_match_first, total_length, text_length, without_oldest};
+ghost use Rattle.instance_view.specs.Visible.{with_match_first, blobs_length, text_length, without_oldest};
 ghost use Rattle.action_cache.specs.Results.{result_shown, front_within, results_after_store, length_or_zero};
 
 use digest::Digest;
@@ -28,8 +28,8 @@ type Cache = LruCache<Digest, Vec<u8>>;
 fn promote(cache: &mut Cache, digest: &Digest)
     ensures used { map result_shown cache.new.entries
         ≡ with_match_first (same_digest digest.now) (map result_shown cache.old.entries) }
-    ensures total { total_length (map result_shown cache.new.entries)
-        ≡ total_length (map result_shown cache.old.entries) }
+    ensures total { blobs_length (map result_shown cache.new.entries)
+        ≡ blobs_length (map result_shown cache.old.entries) }
     ensures length { length cache.new.entries ≡ length cache.old.entries }
     ensures cap { cache.new.cap ≡ cache.old.cap }
 {
@@ -74,8 +74,8 @@ fn put(cache: &mut Cache, digest: Digest, text: Vec<u8>) -> Result<usize, AllocE
     ensures put { OnOk result (map result_shown cache.new.entries ≡ (digest, text.items)
         ∷ remove_entry (same_digest digest) (map result_shown cache.old.entries)) }
     ensures dropped { IfOk result (λ dropped.
-        total_length (map result_shown cache.new.entries) + dropped
-        ≡ total_length (map result_shown cache.old.entries) + length text.items) }
+        blobs_length (map result_shown cache.new.entries) + dropped
+        ≡ blobs_length (map result_shown cache.old.entries) + length text.items) }
     ensures cap { cache.new.cap ≡ cache.old.cap }
     ensures err { OnErr result (cache.new ≡ cache.old) }
 {
@@ -87,8 +87,8 @@ fn put(cache: &mut Cache, digest: Digest, text: Vec<u8>) -> Result<usize, AllocE
 fn pop(cache: &mut Cache) -> usize
     ensures shorter { map result_shown cache.new.entries
         ≡ without_oldest (map result_shown cache.old.entries) }
-    ensures dropped { total_length (map result_shown cache.new.entries) + result
-        ≡ total_length (map result_shown cache.old.entries) }
+    ensures dropped { blobs_length (map result_shown cache.new.entries) + result
+        ≡ blobs_length (map result_shown cache.old.entries) }
     ensures length { length cache.new.entries ≡ length cache.old.entries - 1 }
     ensures cap { cache.new.cap ≡ cache.old.cap }
 {
@@ -107,10 +107,10 @@ fn is_over(cache: &Cache, bytes: u64) -> bool
 
 /// Takes out the least recently used pairs until the limits are kept.
 fn trim(cache: &mut Cache, bytes: &mut u64)
-    requires bytes { bytes.old ≡ total_length (map result_shown cache.old.entries) }
+    requires bytes { bytes.old ≡ blobs_length (map result_shown cache.old.entries) }
     ensures entries { map result_shown cache.new.entries
         ≡ front_within MOST_RESULTS MOST_RESULT_BYTES (map result_shown cache.old.entries) }
-    ensures bytes { bytes.new ≡ total_length (map result_shown cache.new.entries) }
+    ensures bytes { bytes.new ≡ blobs_length (map result_shown cache.new.entries) }
     ensures few { length cache.new.entries ≤ MOST_RESULTS }
     ensures short { bytes.new ≤ MOST_RESULT_BYTES }
     ensures cap { cache.new.cap ≡ cache.old.cap }
@@ -127,7 +127,7 @@ fn store(
     digest: Digest,
     text: Vec<u8>,
 ) -> Result<(), AllocError>
-    requires bytes { bytes.old ≡ total_length (map result_shown cache.old.entries) }
+    requires bytes { bytes.old ≡ blobs_length (map result_shown cache.old.entries) }
     requires cap { cache.old.cap ≡ CAPACITY }
     requires few { length cache.old.entries ≤ MOST_RESULTS }
     requires short { bytes.old ≤ MOST_RESULT_BYTES }
@@ -136,7 +136,7 @@ fn store(
         ≡ front_within MOST_RESULTS MOST_RESULT_BYTES
         ((digest, text.items)
         ∷ remove_entry (same_digest digest) (map result_shown cache.old.entries))) }
-    ensures bytes { bytes.new ≡ total_length (map result_shown cache.new.entries) }
+    ensures bytes { bytes.new ≡ blobs_length (map result_shown cache.new.entries) }
     ensures few { length cache.new.entries ≤ MOST_RESULTS }
     ensures short { bytes.new ≤ MOST_RESULT_BYTES }
     ensures cap { cache.new.cap ≡ cache.old.cap }
@@ -161,14 +161,14 @@ pub struct Results {
 impl Model for Results {
     ghost use Rattle.std.specs.Prelude.{◌≡◌, ◌≤◌, List, length, map};
     ghost use Rattle.action_cache.specs.declared.results.TheConstants.{MOST_RESULTS, MOST_RESULT_BYTES, CAPACITY};
-    ghost use Rattle.instance_view.specs.Visible.{Blob, total_length};
+    ghost use Rattle.instance_view.specs.Visible.{Blob, blobs_length};
     ghost use Rattle.action_cache.specs.Results.{result_shown};
 
     ghost Value = { List Blob };
 
     ghost view = { λ r. map result_shown r.cache.entries };
 
-    ghost invariant = { λ r. (r.bytes ≡ total_length (map result_shown r.cache.entries))
+    ghost invariant = { λ r. (r.bytes ≡ blobs_length (map result_shown r.cache.entries))
         × (r.cache.cap ≡ CAPACITY)
         × (length r.cache.entries ≤ MOST_RESULTS) × (r.bytes ≤ MOST_RESULT_BYTES) };
 }

@@ -4,7 +4,7 @@ ghost use Rattle.std.specs.Prelude.{◌≡◌, ◌≢◌, ◌⊎◌, ℕ, [], So
 ghost use Rattle.std.specs.Map.{lookup};
 ghost use Rattle.digest.specs.declared.Digest.{Digest};
 ghost use Rattle.digest.specs.Naming.{same_digest};
-ghost use Rattle.blob_pool.specs.Listed.{Listing, IsListed};
+ghost use Rattle.blob_pool.specs.Listed.{Listing, IsInListing};
 
 use digest::Digest;
 use std::alloc::{AllocError, Global};
@@ -108,9 +108,9 @@ impl Index {
 
     /// Lists a slot under its digest.
     pub fn list(&mut self, digest: &Digest, slot: usize) -> Result<(), AllocError>
-        ensures listed { OnOk result (IsListed self.new digest.now slot) }
-        ensures kept { OnOk result ((d : Digest) (k : ℕ) → IsListed self.old d k →
-            IsListed self.new d k) }
+        ensures listed { OnOk result (IsInListing self.new digest.now slot) }
+        ensures kept { OnOk result ((d : Digest) (k : ℕ) → IsInListing self.old d k →
+            IsInListing self.new d k) }
         ensures err { OnErr result (self.new ≡ self.old) }
     {
         list(&mut self.firsts, &mut self.others, digest, slot)
@@ -119,8 +119,8 @@ impl Index {
     /// Takes a slot off the list. It takes no memory.
     pub fn unlist(&mut self, digest: &Digest, slot: usize)
         ensures off { lookup (same_digest digest.now) self.new.firsts ≢ Some slot }
-        ensures kept { (d : Digest) (k : ℕ) → k ≢ slot → IsListed self.old d k →
-            IsListed self.new d k }
+        ensures kept { (d : Digest) (k : ℕ) → k ≢ slot → IsInListing self.old d k →
+            IsInListing self.new d k }
     {
         unlist(&mut self.firsts, &mut self.others, digest, slot);
     }

@@ -6,7 +6,7 @@ ghost use Rattle.digest.specs.Naming.{digest_of};
 ghost use Rattle.paged_text.specs.declared.text.TheConstants.{MOST_BYTES};
 ghost use Rattle.blob_pool.specs.Slots.{held_text_at, text_at, count_at, Puts, bytes_stored};
 ghost use Rattle.blob_pool.specs.Moves.{Moves, HasRoom, no_holders, one_at};
-ghost use Rattle.blob_pool.specs.Listed.{Listing, IsListed, IsPool};
+ghost use Rattle.blob_pool.specs.Listed.{Listing, IsInListing, IsPool};
 
 use crate::draft::Draft;
 use crate::index::Index;
@@ -30,7 +30,7 @@ fn has_text(slots: &Slab<Slot>, slot: usize, text: &PagedText) -> bool
 fn find(slots: &Slab<Slot>, index: &Index, digest: &Digest, text: &PagedText) -> Option<usize>
     ensures found { IfSome result (λ k. (0 < count_at slots.now.slots k)
         × (text_at slots.now.slots k ≡ text.now)) }
-    ensures none { IfNone result ((k : ℕ) → IsListed index.now digest.now k →
+    ensures none { IfNone result ((k : ℕ) → IsInListing index.now digest.now k →
         0 < count_at slots.now.slots k → text_at slots.now.slots k ≡ text.now → ⊥) }
 {
     if let Some(first) = index.first(digest) {

@@ -34,9 +34,9 @@ read_asked own message = do
   Ok (record { digest = name.digest; offset = request.read_offset; limit = limit })
 
 -- a place in a text of this size, or at its end
-abbrev pub place_of : ℤ → ℕ → Result ℕ Refusal
-place_of (pos n) size = if nat_le n size then Ok n else Err OffsetOutOfRange
-place_of (negsuc n) size = Err OffsetOutOfRange
+abbrev pub offset_check : ℤ → ℕ → Result ℕ Refusal
+offset_check (pos n) size = if nat_le n size then Ok n else Err OffsetOutOfRange
+offset_check (negsuc n) size = Err OffsetOutOfRange
 
 -- where a range ends; the limit 0 is none
 abbrev pub until_of : ℕ → ℕ → ℕ → ℕ
@@ -46,7 +46,7 @@ until_of limit from size = if limit == 0 then size else min size (from + limit)
 abbrev pub range_asked : ReadAsked → Option (List ℕ) → Result SourceValue Refusal
 range_asked asked None = Err BlobNotFound
 range_asked asked (Some text) = do
-  from ← place_of asked.offset (length text)
+  from ← offset_check asked.offset (length text)
   Ok (record {
     digest = asked.digest;
     text = text;

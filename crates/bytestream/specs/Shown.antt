@@ -25,7 +25,11 @@ part_shown part =
 abbrev pub first_part_shown : FirstPart → FirstAsked
 first_part_shown first = record {
   name = first.name.now;
-  part = record { key = record { uuid = first.uuid.now; digest = first.digest }; piece = piece_shown first.piece; is_last = first.is_last };
+  part = record {
+    key = record { uuid = first.uuid.now; digest = first.digest };
+    piece = piece_shown first.piece;
+    is_last = first.is_last;
+  };
 }
 
 abbrev pub open_write_shown : OpenWrite → OpenWriteValue

@@ -39,8 +39,8 @@ pub record WriteState : Type 0 where
   pub visible : List Blob
   pub uploads : UploadList
 
-abbrev pub state_of : List Blob → UploadList → WriteState
-state_of visible uploads = record { visible = visible; uploads = uploads }
+abbrev pub write_state_with : List Blob → UploadList → WriteState
+write_state_with visible uploads = record { visible = visible; uploads = uploads }
 
 pub record FirstAsked : Type 0 where
   pub name : List ℕ
@@ -108,7 +108,8 @@ after_end limit quota part s =
 
 abbrev pub after_taking : ℕ → ℕ → ℕ → PartValue → Result Unit UploadError → WriteState → WriteState
 after_taking limit quota moment part (Ok u) s =
-    after_end limit quota part (record s { uploads = after_piece moment part.key part.piece (Ok u) s.uploads })
+    after_end limit quota part
+    (record s { uploads = after_piece moment part.key part.piece (Ok u) s.uploads })
 after_taking limit quota moment part (Err e) s =
     record s { uploads = after_piece moment part.key part.piece (Err e) s.uploads }
 
@@ -121,7 +122,9 @@ after_part first limit quota moment part s =
 -- not ended
 abbrev pub IsOldOrTaken : Bool → ℕ → ℕ → PartValue → UploadList → UploadList → Type 0
 IsOldOrTaken first quota moment part old new =
-    (new ≡ old) ⊎ ((part_outcome first quota part old ≡ Ok tt) × (new ≡ after_piece moment part.key part.piece (Ok tt) old))
+    (new ≡ old)
+    ⊎ ((part_outcome first quota part old ≡ Ok tt)
+    × (new ≡ after_piece moment part.key part.piece (Ok tt) old))
 
 -- the same of a call's first message
 abbrev pub IsFirstOldOrTaken : ℕ → ℕ → Result FirstAsked Refusal → UploadList → UploadList → Type 0
@@ -145,7 +148,8 @@ reply_first asked false = Goes (record { name = asked.name; key = asked.part.key
 abbrev pub first_part_answer : ℕ → ℕ → FirstAsked → WriteState → Result WrittenValue Refusal
 first_part_answer quota moment asked s =
     if is_some (visible_text asked.part.key.digest s.visible) then Ok (reply_first asked true)
-    else (part_answer true quota moment asked.part s.uploads >>= λ complete. Ok (reply_first asked complete))
+    else (part_answer true quota moment asked.part s.uploads >>=
+    λ complete. Ok (reply_first asked complete))
 
 abbrev pub first_answer : List ℕ → ℕ → ℕ → WriteState → List ℕ → Result WrittenValue Refusal
 first_answer own quota moment s message =

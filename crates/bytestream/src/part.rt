@@ -3,13 +3,13 @@
 ghost use Rattle.std.specs.Prelude.{◌≡◌, ◌≤◌, ◌^◌, IsSome};
 ghost use Rattle.blob_pool.specs.Moves.{Moves};
 ghost use Rattle.instance_view.specs.Shown.{visible_in, holders};
-ghost use Rattle.cas_service.specs.Kept.{AreKept};
+ghost use Rattle.cas_service.specs.InPool.{IsViewInPool};
 ghost use Rattle.cas_service.specs.Answers.{Answers, IfAnswered, IfNoMemory};
-ghost use Rattle.uploads.specs.Uploads.{WithinLimits, upload_at};
+ghost use Rattle.uploads.specs.Uploads.{AreUploadsWithin, upload_at};
 ghost use Rattle.bytestream.specs.Refusals.{upload_error};
-ghost use Rattle.bytestream.specs.Writing.{state_of, end_answer, part_answer, after_end, after_part, IsOldOrTaken};
+ghost use Rattle.bytestream.specs.Writing.{write_state_with, end_answer, part_answer, after_end, after_part, IsOldOrTaken};
 ghost use Rattle.bytestream.specs.Shown.{part_shown};
-ghost use Rattle.cas_service.specs.Kept.{most_stored_bytes};
+ghost use Rattle.cas_service.specs.Within.{most_stored_bytes};
 
 use blob_pool::Pool;
 use cas_service::CallError;
@@ -48,22 +48,22 @@ fn finish_last(
     part: &Part<'_>,
 ) -> Result<bool, CallError>
     requires quota { quota ≤ most_stored_bytes }
-    requires kept { AreKept quota pool.old view.old }
-    requires within { WithinLimits quota uploads.old }
+    requires kept { IsViewInPool quota pool.old view.old }
+    requires within { AreUploadsWithin quota uploads.old }
     requires there { IsSome (upload_at (part_shown part.now).key uploads.old) }
     ensures answer { Answers (λ complete. complete) result
         (end_answer (part_shown part.now) uploads.old) }
     ensures visible { IfAnswered result (visible_in pool.new view.new
         ≡ (after_end view.old.limit quota (part_shown part.now)
-        (state_of (visible_in pool.old view.old) uploads.old)).visible) }
+        (write_state_with (visible_in pool.old view.old) uploads.old)).visible) }
     ensures uploads { IfAnswered result (uploads.new
         ≡ (after_end view.old.limit quota (part_shown part.now)
-        (state_of (visible_in pool.old view.old) uploads.old)).uploads) }
+        (write_state_with (visible_in pool.old view.old) uploads.old)).uploads) }
     ensures memory { IfNoMemory result ((view.new ≡ view.old) × (pool.new ≡ pool.old)
         × (uploads.new ≡ uploads.old)) }
-    ensures within { WithinLimits quota uploads.new }
+    ensures within { AreUploadsWithin quota uploads.new }
     ensures moves { Moves pool.old pool.new (holders view.old) (holders view.new) }
-    ensures kept { AreKept quota pool.new view.new }
+    ensures kept { IsViewInPool quota pool.new view.new }
     ensures limit { view.new.limit ≡ view.old.limit }
 {
     if !part.is_last {
@@ -88,21 +88,21 @@ pub(crate) fn take_part(
     part: &Part<'_>,
 ) -> Result<bool, CallError>
     requires quota { quota ≤ most_stored_bytes }
-    requires kept { AreKept quota pool.old view.old }
-    requires within { WithinLimits quota uploads.old }
+    requires kept { IsViewInPool quota pool.old view.old }
+    requires within { AreUploadsWithin quota uploads.old }
     ensures answer { Answers (λ complete. complete) result
         (part_answer first quota moment (part_shown part.now) uploads.old) }
     ensures visible { IfAnswered result (visible_in pool.new view.new
         ≡ (after_part first view.old.limit quota moment (part_shown part.now)
-        (state_of (visible_in pool.old view.old) uploads.old)).visible) }
+        (write_state_with (visible_in pool.old view.old) uploads.old)).visible) }
     ensures uploads { IfAnswered result (uploads.new
         ≡ (after_part first view.old.limit quota moment (part_shown part.now)
-        (state_of (visible_in pool.old view.old) uploads.old)).uploads) }
+        (write_state_with (visible_in pool.old view.old) uploads.old)).uploads) }
     ensures memory { IfNoMemory result ((view.new ≡ view.old) × (pool.new ≡ pool.old)
         × IsOldOrTaken first quota moment (part_shown part.now) uploads.old uploads.new) }
-    ensures within { WithinLimits quota uploads.new }
+    ensures within { AreUploadsWithin quota uploads.new }
     ensures moves { Moves pool.old pool.new (holders view.old) (holders view.new) }
-    ensures kept { AreKept quota pool.new view.new }
+    ensures kept { IsViewInPool quota pool.new view.new }
     ensures limit { view.new.limit ≡ view.old.limit }
 {
     match uploads.take_piece(alloc, quota, moment, first, part.key, &part.piece) {

@@ -8,7 +8,7 @@ ghost use Rattle.instance_view.specs.Visible.{visible_text, visible_after_use};
 ghost use Rattle.instance_view.specs.Shown.{visible_in, holders, holders_seen, text_seen};
 ghost use Rattle.cas_service.specs.Answers.{Answers, IfAnswered, IfNoMemory};
 ghost use Rattle.bytestream.specs.Reading as reading;
-ghost use Rattle.bytestream.specs.Reading.{limit_of, place_of, until_of, range_asked, read_answer, after_read};
+ghost use Rattle.bytestream.specs.Reading.{limit_of, offset_check, until_of, range_asked, read_answer, after_read};
 ghost use Rattle.bytestream.specs.Shown.{source_shown};
 
 use crate::names::read_name;
@@ -78,7 +78,7 @@ fn read_asked(alloc: Global, own: &str, message: &[u8]) -> Result<ReadAsked, Cal
 
 /// A place in a text of this size, or at its end.
 fn place(offset: i64, size: u64) -> Result<u64, Refusal>
-    ensures value { result ≡ place_of offset size }
+    ensures value { result ≡ offset_check offset size }
     ensures within { IfOk result (λ place. place ≤ size) }
 {
     if offset < 0 || offset as u64 > size {

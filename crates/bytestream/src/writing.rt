@@ -3,14 +3,14 @@
 ghost use Rattle.std.specs.Prelude.{◌≡◌, ◌≤◌, ◌<◌, length, IfOk, option_map};
 ghost use Rattle.blob_pool.specs.Moves.{Moves};
 ghost use Rattle.instance_view.specs.Shown.{visible_in, holders};
-ghost use Rattle.cas_service.specs.Kept.{AreKept};
+ghost use Rattle.cas_service.specs.InPool.{IsViewInPool};
 ghost use Rattle.cas_service.specs.Answers.{Answers, IfAnswered, IfNoMemory};
-ghost use Rattle.uploads.specs.Uploads.{WithinLimits};
+ghost use Rattle.uploads.specs.Uploads.{AreUploadsWithin};
 ghost use Rattle.uploads.specs.Shown.{key_shown};
 ghost use Rattle.bytestream.specs.Writing as writing;
-ghost use Rattle.bytestream.specs.Writing.{state_of, same_name, write_reply, unfinished_reply, first_answer, next_answer, after_first, after_next, IsFirstOldOrTaken, IsNextOldOrTaken};
+ghost use Rattle.bytestream.specs.Writing.{write_state_with, same_name, write_reply, unfinished_reply, first_answer, next_answer, after_first, after_next, IsFirstOldOrTaken, IsNextOldOrTaken};
 ghost use Rattle.bytestream.specs.Shown.{part_shown, first_part_shown, open_write_shown, written_shown, IfGoes};
-ghost use Rattle.cas_service.specs.Kept.{most_stored_bytes};
+ghost use Rattle.cas_service.specs.Within.{most_stored_bytes};
 ghost use Rattle.resource_names.specs.Size.{size_limit};
 ghost use Rattle.resource_names.specs.declared.parse.TheConstants.{MOST_UUID};
 
@@ -150,24 +150,24 @@ pub fn write_first(
     message: &[u8],
 ) -> Result<Written, CallError>
     requires quota { quota ≤ most_stored_bytes }
-    requires kept { AreKept quota pool.old view.old }
-    requires within { WithinLimits quota uploads.old }
+    requires kept { IsViewInPool quota pool.old view.old }
+    requires within { AreUploadsWithin quota uploads.old }
     ensures answer { Answers written_shown result
         (first_answer own.now quota moment
-        (state_of (visible_in pool.old view.old) uploads.old) message.now) }
+        (write_state_with (visible_in pool.old view.old) uploads.old) message.now) }
     ensures named { IfGoes result (λ call. (open_write_shown call).key.digest.size < size_limit) }
     ensures visible { IfAnswered result (visible_in pool.new view.new
         ≡ (after_first own.now view.old.limit quota moment message.now
-        (state_of (visible_in pool.old view.old) uploads.old)).visible) }
+        (write_state_with (visible_in pool.old view.old) uploads.old)).visible) }
     ensures uploads { IfAnswered result (uploads.new
         ≡ (after_first own.now view.old.limit quota moment message.now
-        (state_of (visible_in pool.old view.old) uploads.old)).uploads) }
+        (write_state_with (visible_in pool.old view.old) uploads.old)).uploads) }
     ensures memory { IfNoMemory result ((view.new ≡ view.old) × (pool.new ≡ pool.old)
         × IsFirstOldOrTaken quota moment (writing.first_asked own.now message.now)
         uploads.old uploads.new) }
-    ensures within { WithinLimits quota uploads.new }
+    ensures within { AreUploadsWithin quota uploads.new }
     ensures moves { Moves pool.old pool.new (holders view.old) (holders view.new) }
-    ensures kept { AreKept quota pool.new view.new }
+    ensures kept { IsViewInPool quota pool.new view.new }
     ensures limit { view.new.limit ≡ view.old.limit }
 {
     let first = first_asked(alloc, own, message)?;
@@ -205,23 +205,23 @@ pub fn write_next(
 ) -> Result<Option<Vec<u8>>, CallError>
     requires quota { quota ≤ most_stored_bytes }
     requires named { (open_write_shown call.now).key.digest.size < size_limit }
-    requires kept { AreKept quota pool.old view.old }
-    requires within { WithinLimits quota uploads.old }
+    requires kept { IsViewInPool quota pool.old view.old }
+    requires within { AreUploadsWithin quota uploads.old }
     ensures answer { Answers (option_map (λ reply. reply.items)) result
         (next_answer (open_write_shown call.now) quota moment uploads.old message.now) }
     ensures visible { IfAnswered result (visible_in pool.new view.new
         ≡ (after_next (open_write_shown call.now) view.old.limit quota moment message.now
-        (state_of (visible_in pool.old view.old) uploads.old)).visible) }
+        (write_state_with (visible_in pool.old view.old) uploads.old)).visible) }
     ensures uploads { IfAnswered result (uploads.new
         ≡ (after_next (open_write_shown call.now) view.old.limit quota moment message.now
-        (state_of (visible_in pool.old view.old) uploads.old)).uploads) }
+        (write_state_with (visible_in pool.old view.old) uploads.old)).uploads) }
     ensures memory { IfNoMemory result ((view.new ≡ view.old) × (pool.new ≡ pool.old)
         × IsNextOldOrTaken quota moment
         (writing.next_asked (open_write_shown call.now) message.now)
         uploads.old uploads.new) }
-    ensures within { WithinLimits quota uploads.new }
+    ensures within { AreUploadsWithin quota uploads.new }
     ensures moves { Moves pool.old pool.new (holders view.old) (holders view.new) }
-    ensures kept { AreKept quota pool.new view.new }
+    ensures kept { IsViewInPool quota pool.new view.new }
     ensures limit { view.new.limit ≡ view.old.limit }
 {
     let part = next_asked(alloc, call, message)?;

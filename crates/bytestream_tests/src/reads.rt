@@ -3,7 +3,7 @@
 ghost use Rattle.std.specs.Prelude.{◌≡◌, ◌≤◌, ◌^◌, ℕ, IfOk};
 ghost use Rattle.blob_pool.specs.Slots.{count_at};
 ghost use Rattle.instance_view.specs.Shown.{holders_seen};
-ghost use Rattle.quota_evict.specs.Kept.{AreKept};
+ghost use Rattle.quota_evict.specs.InPool.{IsViewInPool};
 
 use blob_pool::{Pool, keep};
 use bytestream::{Source, read};
@@ -77,7 +77,7 @@ fn answer_beside(
     text: &[u8],
     message: &[u8],
 ) -> Result<Source, CallError>
-    requires kept { AreKept 1000000 pool.old view.old }
+    requires kept { IsViewInPool 1000000 pool.old view.old }
     requires few { view.old.limit ≤ 100 }
     ensures held { (k : ℕ) → IfOk result
         (λ source. holders_seen source.text k ≤ count_at pool.new k) }

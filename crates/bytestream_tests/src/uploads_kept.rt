@@ -1,7 +1,7 @@
 //! How long an upload is kept, and how many there may be.
 
 ghost use Rattle.std.specs.Prelude.{◌≡◌};
-ghost use Rattle.uploads.specs.Uploads.{WithinLimits};
+ghost use Rattle.uploads.specs.Uploads.{AreUploadsWithin};
 
 use digest::Digest;
 use std::alloc::Global;
@@ -19,7 +19,7 @@ fn is_kept_and_forgotten(
     kept: u64,
     forgotten: u64,
 ) -> bool
-    requires { WithinLimits 100 uploads.old }
+    requires { AreUploadsWithin 100 uploads.old }
 {
     let key = UploadKey::new("u", Digest::of(b"abc"));
     let piece = Piece {
@@ -44,8 +44,8 @@ pub fn forgets_after_ten_minutes(alloc: Global, written: u64, kept: u64, forgott
 
 /// Begins the upload of a uuid and a size.
 fn begin(uploads: &mut Uploads, alloc: Global, size: u64) -> Result<(), UploadError>
-    requires { WithinLimits 100 uploads.old }
-    ensures { WithinLimits 100 uploads.new }
+    requires { AreUploadsWithin 100 uploads.old }
+    ensures { AreUploadsWithin 100 uploads.new }
 {
     let digest = Digest::of(b"abc");
     let key = UploadKey::new("u", Digest { size, ..digest });
@@ -58,8 +58,8 @@ fn begin(uploads: &mut Uploads, alloc: Global, size: u64) -> Result<(), UploadEr
 
 /// Begins uploads of the sizes below this one.
 fn begin_all(uploads: &mut Uploads, alloc: Global, count: u64) -> Result<(), UploadError>
-    requires { WithinLimits 100 uploads.old }
-    ensures { WithinLimits 100 uploads.new }
+    requires { AreUploadsWithin 100 uploads.old }
+    ensures { AreUploadsWithin 100 uploads.new }
 {
     for size in 0..count {
         begin(uploads, alloc, size)?;
@@ -69,7 +69,7 @@ fn begin_all(uploads: &mut Uploads, alloc: Global, count: u64) -> Result<(), Upl
 
 /// Whether so many uploads begin and no further one, while those that are there go on.
 fn is_full_after(uploads: &mut Uploads, alloc: Global, count: u64) -> bool
-    requires { WithinLimits 100 uploads.old }
+    requires { AreUploadsWithin 100 uploads.old }
 {
     let begun = begin_all(uploads, alloc, count);
     let another = begin(uploads, alloc, count);

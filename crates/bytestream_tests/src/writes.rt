@@ -1,8 +1,8 @@
 //! Cases of `Write`, message by message, and what each is answered.
 
 ghost use Rattle.std.specs.Prelude.{◌≡◌, ◌≤◌, ◌<◌};
-ghost use Rattle.quota_evict.specs.Kept.{AreKept};
-ghost use Rattle.uploads.specs.Uploads.{WithinLimits};
+ghost use Rattle.quota_evict.specs.InPool.{IsViewInPool};
+ghost use Rattle.uploads.specs.Uploads.{AreUploadsWithin};
 ghost use Rattle.resource_names.specs.Size.{size_limit};
 ghost use Rattle.bytestream.specs.Shown.{open_write_shown};
 
@@ -102,10 +102,10 @@ fn is_first_as_said(
     uploads: &mut Uploads,
     case: &WriteCase,
 ) -> Result<bool, AllocError>
-    requires kept { AreKept 10 pool.old view.old }
-    requires within { WithinLimits 10 uploads.old }
-    ensures kept { AreKept 10 pool.new view.new }
-    ensures within { WithinLimits 10 uploads.new }
+    requires kept { IsViewInPool 10 pool.old view.old }
+    requires within { AreUploadsWithin 10 uploads.old }
+    ensures kept { IsViewInPool 10 pool.new view.new }
+    ensures within { AreUploadsWithin 10 uploads.new }
 {
     let message = message_of(alloc, case)?;
     let written = write_first(alloc, OWN, QUOTA, 0, view, pool, uploads, &message);
@@ -121,8 +121,8 @@ fn misanswered_by(
     uploads: &mut Uploads,
     cases: &[WriteCase],
 ) -> Result<Option<&'static str>, AllocError>
-    requires kept { AreKept 10 pool.old view.old }
-    requires within { WithinLimits 10 uploads.old }
+    requires kept { IsViewInPool 10 pool.old view.old }
+    requires within { AreUploadsWithin 10 uploads.old }
 {
     for case in cases {
         if !is_first_as_said(alloc, view, pool, uploads, case)? {
@@ -153,10 +153,10 @@ fn is_next_as_said(
     case: &WriteCase,
 ) -> Result<bool, AllocError>
     requires named { (open_write_shown call.now).key.digest.size < size_limit }
-    requires kept { AreKept 10 pool.old view.old }
-    requires within { WithinLimits 10 uploads.old }
-    ensures kept { AreKept 10 pool.new view.new }
-    ensures within { WithinLimits 10 uploads.new }
+    requires kept { IsViewInPool 10 pool.old view.old }
+    requires within { AreUploadsWithin 10 uploads.old }
+    ensures kept { IsViewInPool 10 pool.new view.new }
+    ensures within { AreUploadsWithin 10 uploads.new }
 {
     let message = message_of(alloc, case)?;
     let written = write_next(alloc, QUOTA, 0, view, pool, uploads, call, &message);
@@ -174,8 +174,8 @@ fn misanswered_next(
     cases: &[WriteCase],
 ) -> Result<Option<&'static str>, AllocError>
     requires named { (open_write_shown call.now).key.digest.size < size_limit }
-    requires kept { AreKept 10 pool.old view.old }
-    requires within { WithinLimits 10 uploads.old }
+    requires kept { IsViewInPool 10 pool.old view.old }
+    requires within { AreUploadsWithin 10 uploads.old }
 {
     for case in cases {
         if !is_next_as_said(alloc, view, pool, uploads, call, case)? {
@@ -194,8 +194,8 @@ fn misanswered_after(
     first: &WriteCase,
     cases: &[WriteCase],
 ) -> Result<Option<&'static str>, AllocError>
-    requires kept { AreKept 10 pool.old view.old }
-    requires within { WithinLimits 10 uploads.old }
+    requires kept { IsViewInPool 10 pool.old view.old }
+    requires within { AreUploadsWithin 10 uploads.old }
 {
     let message = message_of(alloc, first)?;
     match write_first(alloc, OWN, QUOTA, 0, view, pool, uploads, &message) {

@@ -6,7 +6,7 @@ ghost use Rattle.reapi_messages.specs.Digests.{digest_shown};
 ghost use Rattle.blob_pool.specs.Slots.{Slots};
 ghost use Rattle.instance_view.specs.Visible.{visible_text};
 ghost use Rattle.instance_view.specs.Shown.{visible_in, holders};
-ghost use Rattle.quota_evict.specs.Kept.{AreKept};
+ghost use Rattle.quota_evict.specs.InPool.{IsViewInPool};
 ghost use Rattle.cas_service.specs.Answers.{Answers};
 ghost use Rattle.cas_service.specs.Changes.{visible_after_changes};
 ghost use Rattle.cas_service.specs.Requests.{digest_value};
@@ -98,7 +98,8 @@ pub fn find_missing(
         (visible_in p view.old)) }
     ensures err { OnErr result (view.new ≡ view.old) }
     ensures holders { (k : ℕ) → holders view.new k ≡ holders view.old k }
-    ensures kept { (p : Slots) (quota : ℕ) → AreKept quota p view.old → AreKept quota p view.new }
+    ensures kept { (p : Slots) (quota : ℕ) → IsViewInPool quota p view.old →
+        IsViewInPool quota p view.new }
     ensures limit { view.new.limit ≡ view.old.limit }
 {
     let asked = read_request(alloc, own, message)?;

@@ -7,7 +7,7 @@ ghost use Rattle.reapi_messages.specs.Pieces.{pieces_text};
 ghost use Rattle.instance_view.specs.Visible.{visible_text};
 ghost use Rattle.blob_pool.specs.Slots.{Slots, count_at, text_at};
 ghost use Rattle.instance_view.specs.Shown.{visible_in, holders, holders_seen, text_seen};
-ghost use Rattle.quota_evict.specs.Kept.{AreKept};
+ghost use Rattle.quota_evict.specs.InPool.{IsViewInPool};
 ghost use Rattle.cas_service.specs.Answers.{Answers};
 ghost use Rattle.cas_service.specs.Changes.{visible_after_changes};
 ghost use Rattle.cas_service.specs.Requests.{digest_value, batch_size_check};
@@ -240,7 +240,8 @@ pub fn batch_read(
         (visible_in p view.old)) }
     ensures err { OnErr result (view.new ≡ view.old) }
     ensures holders { (k : ℕ) → holders view.new k ≡ holders view.old k }
-    ensures kept { (p : Slots) (quota : ℕ) → AreKept quota p view.old → AreKept quota p view.new }
+    ensures kept { (p : Slots) (quota : ℕ) → IsViewInPool quota p view.old →
+        IsViewInPool quota p view.new }
     ensures limit { view.new.limit ≡ view.old.limit }
 {
     let asked = read_request(alloc, own, message)?;

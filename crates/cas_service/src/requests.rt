@@ -4,7 +4,7 @@ ghost use Rattle.std.specs.Prelude.{◌≡◌, ℕ, List, map, OnOk, OnErr, IfOk
 ghost use Rattle.reapi_messages.specs.Digests.{DigestValue, digest_shown};
 ghost use Rattle.blob_pool.specs.Slots.{Slots};
 ghost use Rattle.instance_view.specs.Shown.{visible_in, holders};
-ghost use Rattle.quota_evict.specs.Kept.{AreKept};
+ghost use Rattle.quota_evict.specs.InPool.{IsViewInPool};
 ghost use Rattle.cas_service.specs.Answers.{Answers};
 ghost use Rattle.cas_service.specs.Changes.{Use, visible_after_changes};
 ghost use Rattle.cas_service.specs.Requests.{instance_check, function_check, digest_sent, digests_sent, digest_value};
@@ -90,7 +90,8 @@ pub fn use_all(view: &mut View, asked: &[Asked<'_>])
         ≡ visible_after_changes view.old.limit quota (map Use (map asked_digest asked.now))
         (visible_in p view.old) }
     ensures holders { (k : ℕ) → holders view.new k ≡ holders view.old k }
-    ensures kept { (p : Slots) (quota : ℕ) → AreKept quota p view.old → AreKept quota p view.new }
+    ensures kept { (p : Slots) (quota : ℕ) → IsViewInPool quota p view.old →
+        IsViewInPool quota p view.new }
     ensures limit { view.new.limit ≡ view.old.limit }
 {
     let mut left = asked;

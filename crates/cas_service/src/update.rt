@@ -9,7 +9,7 @@ ghost use Rattle.digest.specs.Naming.{Names};
 ghost use Rattle.quota_evict.specs.Admission.{visible_after_admission};
 ghost use Rattle.blob_pool.specs.Moves.{Moves};
 ghost use Rattle.instance_view.specs.Shown.{visible_in, holders};
-ghost use Rattle.quota_evict.specs.Kept.{AreKept};
+ghost use Rattle.quota_evict.specs.InPool.{IsViewInPool};
 ghost use Rattle.cas_service.specs.declared.error.CallError.TheVariants.{Refused};
 ghost use Rattle.cas_service.specs.Answers.{Answers};
 ghost use Rattle.cas_service.specs.Changes.{MadeInPart, visible_after_changes};
@@ -17,7 +17,7 @@ ghost use Rattle.cas_service.specs.Requests.{batch_size_check};
 ghost use Rattle.cas_service.specs.Statuses.{status_of_result};
 ghost use Rattle.cas_service.specs.BatchUpdate.{blobs_sent, sent_size, compressor_check, digest_or_refusal, naming_check, quota_check, storage_digest, update_response, update_reply, batch_update_reply, store_of, stores, batch_update_changes};
 ghost use Rattle.cas_service.specs.Shown.{judged_request, verdict};
-ghost use Rattle.quota_evict.specs.Kept.{most_stored_bytes};
+ghost use Rattle.quota_evict.specs.Within.{most_stored_bytes};
 
 use crate::error::CallError;
 use crate::requests::{MOST_BATCH_BYTES, check_function, check_instance, read_digest};
@@ -209,7 +209,7 @@ fn store(
     bytes: &[u8],
 ) -> Result<(), AllocError>
     requires quota { quota ≤ most_stored_bytes }
-    requires kept { AreKept quota pool.old view.old }
+    requires kept { IsViewInPool quota pool.old view.old }
     requires named { Names digest.now bytes.now }
     requires fits { length bytes.now ≤ quota }
     ensures ok { OnOk result (visible_in pool.new view.new
@@ -217,7 +217,7 @@ fn store(
         (visible_in pool.old view.old)) }
     ensures err { OnErr result ((view.new ≡ view.old) × (pool.new ≡ pool.old)) }
     ensures moves { Moves pool.old pool.new (holders view.old) (holders view.new) }
-    ensures kept { AreKept quota pool.new view.new }
+    ensures kept { IsViewInPool quota pool.new view.new }
     ensures limit { view.new.limit ≡ view.old.limit }
 {
     match admit(view, pool, quota, digest, bytes) {
@@ -235,7 +235,7 @@ fn store_judged(
     judged: &Judged<'_>,
 ) -> Result<(), AllocError>
     requires quota { quota ≤ most_stored_bytes }
-    requires kept { AreKept quota pool.old view.old }
+    requires kept { IsViewInPool quota pool.old view.old }
     requires verdict { judged.now.verdict ≡ storage_digest quota (judged_request judged.now) }
     ensures ok { OnOk result (visible_in pool.new view.new
         ≡ visible_after_changes view.old.limit quota
@@ -243,7 +243,7 @@ fn store_judged(
         (visible_in pool.old view.old)) }
     ensures err { OnErr result ((view.new ≡ view.old) × (pool.new ≡ pool.old)) }
     ensures moves { Moves pool.old pool.new (holders view.old) (holders view.new) }
-    ensures kept { AreKept quota pool.new view.new }
+    ensures kept { IsViewInPool quota pool.new view.new }
     ensures limit { view.new.limit ≡ view.old.limit }
 {
     match judged.verdict {
@@ -260,7 +260,7 @@ fn store_all(
     judged: &[Judged<'_>],
 ) -> Result<(), AllocError>
     requires quota { quota ≤ most_stored_bytes }
-    requires kept { AreKept quota pool.old view.old }
+    requires kept { IsViewInPool quota pool.old view.old }
     requires verdicts { map verdict judged.now
         ≡ map (storage_digest quota) (map judged_request judged.now) }
     ensures stored { OnOk result (visible_in pool.new view.new
@@ -270,7 +270,7 @@ fn store_all(
         (stores quota (map judged_request judged.now)) (visible_in pool.old view.old)
         (visible_in pool.new view.new)) }
     ensures moves { Moves pool.old pool.new (holders view.old) (holders view.new) }
-    ensures kept { AreKept quota pool.new view.new }
+    ensures kept { IsViewInPool quota pool.new view.new }
     ensures limit { view.new.limit ≡ view.old.limit }
 {
     let mut left = judged;
@@ -293,7 +293,7 @@ pub fn batch_update(
     message: &[u8],
 ) -> Result<Vec<u8>, CallError>
     requires quota { quota ≤ most_stored_bytes }
-    requires kept { AreKept quota pool.old view.old }
+    requires kept { IsViewInPool quota pool.old view.old }
     ensures reply { Answers (λ reply. reply.items) result
         (batch_update_reply own.now quota message.now) }
     ensures stored { OnOk result (visible_in pool.new view.new
@@ -306,7 +306,7 @@ pub fn batch_update(
         (batch_update_changes own.now quota message.now) (visible_in pool.old view.old)
         (visible_in pool.new view.new)) }
     ensures moves { Moves pool.old pool.new (holders view.old) (holders view.new) }
-    ensures kept { AreKept quota pool.new view.new }
+    ensures kept { IsViewInPool quota pool.new view.new }
     ensures limit { view.new.limit ≡ view.old.limit }
 {
     let requests = read_request(alloc, own, message)?;

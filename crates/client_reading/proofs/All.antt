@@ -7,9 +7,9 @@ use Rattle.hpack.specs.Table.{new_table}
 use Rattle.grpc_sending.specs.Pieces.{Piece}
 use Rattle.grpc_sending.specs.Owed.{OwedItem, Item, item_on, items_owed_on}
 use Rattle.conn_core.specs.Past.{Past}
-use Rattle.client_reading.specs.Changes.{Change, past_of, IsChange}
+use Rattle.client_reading.specs.Changes.{PastChange, past_of, IsChange}
 use Rattle.client_reading.specs.Responses.{stream_parts, IsItemWithin, IsTakable, IsBeginning}
-use Rattle.client_reading.specs.Reads.{ReadsResponses, Reads}
+use Rattle.client_reading.specs.Reads.{ReadsResponses, IsReadByClient}
 use Rattle.client_reading.proofs.Choices.{choose, all_append}
 use Rattle.client_reading.proofs.Written.{frames_read}
 use Rattle.client_reading.proofs.Turns.{turns_past}
@@ -24,7 +24,7 @@ on_stream limit s (o ∷ os) h = all_append (IsItemWithin limit) (item_on s o) (
 
 -- ---- all of it
 
-responses_past : (cs : List Change) → AllByRecursion IsChange cs → ReadsResponses (past_of cs)
+responses_past : (cs : List PastChange) → AllByRecursion IsChange cs → ReadsResponses (past_of cs)
 responses_past cs all limit small takable s =
     let p : Past = past_of cs in
     let items : List Item = items_owed_on s p.owed in
@@ -32,5 +32,5 @@ responses_past cs all limit small takable s =
     let follows : Follows s (Some new_table) (map piece_of (all_singles items)) (sent_frames p.history) = subst (λ (ps : List Piece). Follows s (Some new_table) ps (sent_frames p.history)) (all_pieces items) ((streams_past cs all).follows s) in
     subst (IsBeginning limit (stream_parts p.history s)) (sym (all_parts items)) (stream_read limit s (sent_frames p.history) (all_singles items) small within follows)
 
-pub reads_past : (cs : List Change) → AllByRecursion IsChange cs → Reads (past_of cs)
+pub reads_past : (cs : List PastChange) → AllByRecursion IsChange cs → IsReadByClient (past_of cs)
 reads_past cs all = record { frames = frames_read cs all; turns = turns_past cs; control = control_past cs all; responses = responses_past cs all }

@@ -28,7 +28,7 @@ use Rattle.http2_streams.specs.History.{Entry}
 use Rattle.http2_streams.specs.Standing.{Standing, standing}
 use Rattle.http2_streams.specs.Rules.{is_idle, is_live_at, is_receiving, is_remembered, window_update, event_only, no_effect, stream_error, on_data, on_header_list, on_request, on_trailers, on_settings, settings_fault, on_ping, on_connection_update, on_stream_update, overflows, may_grow, on_content, on_frame_of, is_in_turn, answer_to, answer_after}
 use Rattle.http2_streams.specs.Entries.{control_frames}
-use Rattle.http2_streams.specs.ControlAnswers.{IsAnswer}
+use Rattle.http2_streams.specs.ControlAnswers.{IsControlAnswer}
 use Rattle.http2_streams.proofs.ControlLaw.{EachAnswer, IfFrame, answer_elim, answers_are_control, each_answer}
 use Rattle.client_reading.specs.Changes.{IsReceivable}
 use Rattle.client_reading.proofs.Choices.{choose, OkThen, all_both}
@@ -154,10 +154,10 @@ answer_fit v f is u =
 
 -- ---- answers are written
 
-answer_writable : (g : Frame) → IsAnswer g → IsFit g → IsWritable g
+answer_writable : (g : Frame) → IsControlAnswer g → IsFit g → IsWritable g
 answer_writable = answer_elim (λ g. IsFit g → IsWritable g) (λ ack settings h fit. rw h.1 (tt, omega arith, λ (e : ack ≡ true). refl)) (λ ack o h fit. h.1) (λ s n fit. fit) (λ s code fit. fit)
 
 pub answers_writable : (d : List Entry) (f : RawFrame) (a : StreamEvent) → AllByRecursion IsFramed d → IsReceivable f → answer_after d f ≡ Ok a → AllByRecursion IsWritable (control_frames a)
 answers_writable d f a framed is h =
     let fit : AreFit a = subst Fit h (answer_fit (standing d) f is (unfinished_numbered d framed)) in
-    all_both IsAnswer IsFit IsWritable (control_frames a) answer_writable (answers_are_control (standing d) f a h) (each_answer IsFit a fit)
+    all_both IsControlAnswer IsFit IsWritable (control_frames a) answer_writable (answers_are_control (standing d) f a h) (each_answer IsFit a fit)

@@ -16,8 +16,8 @@ use Rattle.http2_streams.specs.declared.event.StreamEvent.{StreamEvent}
 use Rattle.http2_streams.specs.History.{Entry, In, Unreadable, Out, Took, sent_frames, frame_out, highest_stream, has_failed, is_ended_by_client}
 use Rattle.http2_streams.specs.Standing.{standing}
 use Rattle.http2_streams.specs.Rules.{reading_fault, answer_after}
-use Rattle.http2_streams.specs.Entries.{control_frames}
-use Rattle.http2_streams.specs.ControlAnswers.{IsAnswer}
+use Rattle.http2_streams.specs.Entries.{control_frames, goaway_frame}
+use Rattle.http2_streams.specs.ControlAnswers.{IsControlAnswer}
 use Rattle.http2_streams.proofs.ControlLaw.{answers_are_control}
 use Rattle.grpc_calls.specs.Responses.{fields_of, is_last}
 use Rattle.grpc_sending.specs.Pieces.{Piece}
@@ -25,9 +25,9 @@ use Rattle.grpc_sending.specs.Bytes.{position, untaken_count}
 use Rattle.grpc_sending.specs.Owed.{OwedItem, pieces_left_on}
 use Rattle.grpc_sending.specs.Pump.{reset_after}
 use Rattle.grpc_sending.proofs.Histories.{sent_more, append-nil}
-use Rattle.conn_core.specs.Past.{Past, opening, greeting}
-use Rattle.conn_core.specs.Received.{Outcome, outcome, outcome_of, may_put, frames_to_put, may_put_all, goaway_frame, fault_frames, frame_entries, fault_entries}
-use Rattle.client_reading.specs.Changes.{Change, past_after_change, past_of, IsChange, BytesReceived, FrameRead, FaultMet, ItemGiven, BytesTaken, FramesPut, EventsGiven}
+use Rattle.conn_core.specs.Past.{Past, new_past, greeting}
+use Rattle.conn_core.specs.Received.{Outcome, outcome, outcome_of, may_put, frames_to_put, may_put_all, fault_frames, frame_entries, fault_entries}
+use Rattle.client_reading.specs.Changes.{PastChange, past_after_change, past_of, IsChange, BytesReceived, FrameRead, FaultMet, ItemGiven, BytesTaken, FramesPut, EventsGiven}
 use Rattle.client_reading.specs.Reads.{is_control, frames_caused_by, frames_caused_from, ReadsControl}
 use Rattle.client_reading.proofs.Choices.{choose, all_append, all_by, fold_keeps}
 use Rattle.client_reading.proofs.Nexts.{Next, IsFront, pump_keeps}
@@ -37,7 +37,7 @@ IsControl f = is_control f ≡ true
 
 -- ---- answers are control frames
 
-answer_control : (g : Frame) → IsAnswer g → IsControl g
+answer_control : (g : Frame) → IsControlAnswer g → IsControl g
 answer_control (Settings ack settings) h = refl
 answer_control (Ping ack o) h = refl
 answer_control (WindowUpdate s n) h = refl
@@ -64,7 +64,7 @@ outcome_by n before after (Ok a) h =
     (λ _. all_append IsControl (frames_to_put n (control_frames a)) (goaway_frame after EnhanceYourCalm ∷ []) (fitting_control n (control_frames a) (h a refl)) (refl, tt))
 
 pub outcome_control : (d : List Entry) (f : RawFrame) → AllByRecursion IsControl (outcome d f).put
-outcome_control d f = outcome_by (untaken_count d) (highest_stream d) (highest_stream (d ++ In f ∷ [])) (answer_after d f) (λ a h. all_by IsAnswer IsControl (control_frames a) answer_control (answers_are_control (standing d) f a h))
+outcome_control d f = outcome_by (untaken_count d) (highest_stream d) (highest_stream (d ++ In f ∷ [])) (answer_after d f) (λ a h. all_by IsControlAnswer IsControl (control_frames a) answer_control (answers_are_control (standing d) f a h))
 
 pub fault_control : (failed : Bool) (last : ℕ) (code : ErrorCode) → AllByRecursion IsControl (fault_frames failed last code)
 fault_control true last code = tt
@@ -141,7 +141,7 @@ control_turn os d fs n r = grows d (map Out fs) (front_caused d n.stream (pieces
 
 -- ---- every past
 
-control_change : (p : Past) (c : Change) → IsChange c → ReadsControl p.history → ReadsControl (past_after_change p c).history
+control_change : (p : Past) (c : PastChange) → IsChange c → ReadsControl p.history → ReadsControl (past_after_change p c).history
 control_change p (BytesReceived bytes) is r = r
 control_change p (FrameRead f) is r = control_frame p.history f r
 control_change p (FaultMet e code) is r = control_fault p.history e code is r
@@ -150,5 +150,5 @@ control_change p (BytesTaken n) is r = grows p.history (Took n ∷ []) refl r
 control_change p FramesPut is r = pump_keeps ReadsControl p.owed (control_turn p.owed) p.history r
 control_change p (EventsGiven left) is r = r
 
-pub control_past : (cs : List Change) → AllByRecursion IsChange cs → ReadsControl (past_of cs).history
-control_past cs all = fold_keeps (λ (p : Past). ReadsControl p.history) IsChange past_after_change opening cs control_change all ([], refl, refl)
+pub control_past : (cs : List PastChange) → AllByRecursion IsChange cs → ReadsControl (past_of cs).history
+control_past cs all = fold_keeps (λ (p : Past). ReadsControl p.history) IsChange past_after_change new_past cs control_change all ([], refl, refl)

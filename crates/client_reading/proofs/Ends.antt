@@ -19,10 +19,10 @@ use Rattle.grpc_sending.specs.Bytes.{position}
 use Rattle.grpc_sending.specs.Owed.{OwedItem, pieces_left_on}
 use Rattle.grpc_sending.specs.Pump.{reset_after}
 use Rattle.grpc_sending.proofs.Histories.{sent_more, received_more}
-use Rattle.conn_core.specs.Past.{Past, opening}
+use Rattle.conn_core.specs.Past.{Past, new_past}
 use Rattle.conn_core.specs.Received.{outcome, fault_frames, frame_entries}
 use Rattle.conn_core.proofs.Numbers.{any_later, same_number}
-use Rattle.client_reading.specs.Changes.{Change, past_after_change, past_of, IsChange, BytesReceived, FrameRead, FaultMet, ItemGiven, BytesTaken, FramesPut, EventsGiven}
+use Rattle.client_reading.specs.Changes.{PastChange, past_after_change, past_of, IsChange, BytesReceived, FrameRead, FaultMet, ItemGiven, BytesTaken, FramesPut, EventsGiven}
 use Rattle.client_reading.proofs.Choices.{fold_keeps}
 use Rattle.client_reading.proofs.Controls.{IsControl, out_sent, outcome_control, fault_control, reset_control}
 use Rattle.client_reading.proofs.Nexts.{Next, IsFront, portion, pump_keeps}
@@ -123,7 +123,7 @@ turn_ends os d fs n h = front_ends d n.stream (pieces_left_on d os n.stream) fs 
 pub ends_frame : (d : List Entry) (f : RawFrame) → EndsLive d → EndsLive (d ++ frame_entries d f)
 ends_frame d f h = behind d (In f) (outcome d f).put refl (outcome_control d f) h
 
-ends_change : (p : Past) (c : Change) → IsChange c → EndsLive p.history → EndsLive (past_after_change p c).history
+ends_change : (p : Past) (c : PastChange) → IsChange c → EndsLive p.history → EndsLive (past_after_change p c).history
 ends_change p (BytesReceived bytes) is h = h
 ends_change p (FrameRead f) is h = ends_frame p.history f h
 ends_change p (FaultMet e code) is h = behind p.history (Unreadable e) (fault_frames (has_failed p.history) (highest_stream p.history) code) refl (fault_control (has_failed p.history) (highest_stream p.history) code) h
@@ -132,5 +132,5 @@ ends_change p (BytesTaken n) is h = more p.history (Took n ∷ []) (λ s lives. 
 ends_change p FramesPut is h = pump_keeps EndsLive p.owed (turn_ends p.owed) p.history h
 ends_change p (EventsGiven left) is h = h
 
-pub ends_past : (cs : List Change) → AllByRecursion IsChange cs → EndsLive (past_of cs).history
-ends_past cs all = fold_keeps (λ (p : Past). EndsLive p.history) IsChange past_after_change opening cs ends_change all (λ s lives. refl)
+pub ends_past : (cs : List PastChange) → AllByRecursion IsChange cs → EndsLive (past_of cs).history
+ends_past cs all = fold_keeps (λ (p : Past). EndsLive p.history) IsChange past_after_change new_past cs ends_change all (λ s lives. refl)

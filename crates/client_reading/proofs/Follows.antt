@@ -25,10 +25,10 @@ use Rattle.grpc_sending.specs.Pieces.{Block, Part}
 use Rattle.grpc_sending.specs.Bytes.{position}
 use Rattle.grpc_sending.specs.Owed.{OwedItem, Item, item_on, items_owed_on, pieces_of, pieces_after_frame, pieces_after_frames, pieces_left_on, owed_with_item}
 use Rattle.grpc_sending.specs.Pump.{reset_after}
-use Rattle.conn_core.specs.Past.{Past, opening, owed_with_items}
+use Rattle.conn_core.specs.Past.{Past, new_past, owed_with_items}
 use Rattle.conn_core.specs.Calls.{items_at_once}
 use Rattle.conn_core.specs.Received.{outcome, fault_frames, frame_entries, fault_entries}
-use Rattle.client_reading.specs.Changes.{Change, past_after_change, past_of, IsChange, BytesReceived, FrameRead, FaultMet, ItemGiven, BytesTaken, FramesPut, EventsGiven}
+use Rattle.client_reading.specs.Changes.{PastChange, past_after_change, past_of, IsChange, BytesReceived, FrameRead, FaultMet, ItemGiven, BytesTaken, FramesPut, EventsGiven}
 use Rattle.client_reading.specs.Responses.{table_after_frame}
 use Rattle.client_reading.proofs.Choices.{choose, fold_keeps}
 use Rattle.client_reading.proofs.Nexts.{Next, IsFront, portion, pump_keeps}
@@ -193,7 +193,7 @@ streams_turn os d fs n h = streams_put d (map Out fs) os fs (out_sent fs) (λ ta
 
 -- ---- every past
 
-streams_change : (p : Past) (c : Change) → IsChange c → Streams p.history p.owed → Streams (past_after_change p c).history (past_after_change p c).owed
+streams_change : (p : Past) (c : PastChange) → IsChange c → Streams p.history p.owed → Streams (past_after_change p c).history (past_after_change p c).owed
 streams_change p (BytesReceived bytes) is h = h
 streams_change p (FrameRead f) is h =
     streams_owe_all (p.history ++ frame_entries p.history f) (p.history ++ frame_entries p.history f) p.owed (items_at_once (outcome p.history f).event)
@@ -205,5 +205,5 @@ streams_change p (BytesTaken n) is h = streams_control p.history (Took n ∷ [])
 streams_change p FramesPut is h = pump_keeps (λ (d : List Entry). Streams d p.owed) p.owed (streams_turn p.owed) p.history h
 streams_change p (EventsGiven left) is h = h
 
-pub streams_past : (cs : List Change) → AllByRecursion IsChange cs → Streams (past_of cs).history (past_of cs).owed
-streams_past cs all = fold_keeps (λ (p : Past). Streams p.history p.owed) IsChange past_after_change opening cs streams_change all (record { table = new_table; read = refl; follows = λ s. (tt, tt) })
+pub streams_past : (cs : List PastChange) → AllByRecursion IsChange cs → Streams (past_of cs).history (past_of cs).owed
+streams_past cs all = fold_keeps (λ (p : Past). Streams p.history p.owed) IsChange past_after_change new_past cs streams_change all (record { table = new_table; read = refl; follows = λ s. (tt, tt) })

@@ -7,9 +7,9 @@ use Rattle.http2_frames.specs.Grammar.{Spells}
 use Rattle.http2_frames.specs.Wire.{IsFrameText, Split, IsSplit}
 use Rattle.http2_frames.specs.Reading.{split}
 use Rattle.http2_frames.proofs.Divisions.{split_found}
-use Rattle.conn_core.specs.Past.{Past, opening}
-use Rattle.client_reading.specs.Changes.{Change, past_after_change, IsReceivable, IsChange, IsPast}
-use Rattle.client_reading.specs.Reads.{Reads}
+use Rattle.conn_core.specs.Past.{Past, new_past}
+use Rattle.client_reading.specs.Changes.{PastChange, past_after_change, IsReceivable, IsChange, IsPast}
+use Rattle.client_reading.specs.Reads.{IsReadByClient}
 use Rattle.client_reading.proofs.Choices.{all_append}
 use Rattle.client_reading.proofs.All.{reads_past}
 
@@ -28,11 +28,11 @@ split_frames p text s (inr (inr h)) = subst (λ (x : Split). AllByRecursion IsRe
 pub frames_received : (p text : List ℕ) → AllByRecursion IsReceivable (split p text).items
 frames_received p text = split_frames p text (split p text) (split_found p text)
 
-pub first_past : IsPast opening
+pub first_past : IsPast new_past
 first_past = ([], tt, refl)
 
-pub next_past : (p : Past) (c : Change) → IsChange c → IsPast p → IsPast (past_after_change p c)
-next_past p c is h = (h.0 ++ c ∷ [], all_append IsChange h.0 (c ∷ []) h.1 (is, tt), ap (λ (q : Past). past_after_change q c) h.2 ∙ sym (fold-append past_after_change opening h.0 (c ∷ [])))
+pub next_past : (p : Past) (c : PastChange) → IsChange c → IsPast p → IsPast (past_after_change p c)
+next_past p c is h = (h.0 ++ c ∷ [], all_append IsChange h.0 (c ∷ []) h.1 (is, tt), ap (λ (q : Past). past_after_change q c) h.2 ∙ sym (fold-append past_after_change new_past h.0 (c ∷ [])))
 
-pub past_read : (p : Past) → IsPast p → Reads p
-past_read p h = subst (λ (q : Past). Reads q) (sym h.2) (reads_past h.0 h.1)
+pub past_read : (p : Past) → IsPast p → IsReadByClient p
+past_read p h = subst (λ (q : Past). IsReadByClient q) (sym h.2) (reads_past h.0 h.1)

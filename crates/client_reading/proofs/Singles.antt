@@ -10,7 +10,7 @@ use Rattle.grpc_calls.specs.Responses.{fields_of, is_last}
 use Rattle.grpc_sending.specs.Pieces.{Piece}
 use Rattle.grpc_sending.specs.Pieces.{Block as BlockPiece, Part, most_read, read_piece, message_pieces}
 use Rattle.grpc_sending.specs.Owed as Owed
-use Rattle.client_reading.specs.Responses.{messages_cut, read_messages, ResponsePart, Block, WholeMessage, response_parts, response_of, IsWithin, IsItemWithin}
+use Rattle.client_reading.specs.Responses.{messages_cut, read_messages, ResponsePart, Block, WholeMessage, response_parts, response_of, IsPartWithin, IsItemWithin}
 use Rattle.client_reading.proofs.Choices.{all_append}
 
 pub data Single : Type 0 where
@@ -76,7 +76,7 @@ abbrev pub IsSingleWithin : ℕ → Single → Type 0
 IsSingleWithin limit (Headed block) = Unit {0}
 IsSingleWithin limit (Message message) = length message ≤ limit
 
-singles_within : (limit : ℕ) (xs : List Single) → AllByRecursion (IsWithin limit) (map part_of xs) → AllByRecursion (IsSingleWithin limit) xs
+singles_within : (limit : ℕ) (xs : List Single) → AllByRecursion (IsPartWithin limit) (map part_of xs) → AllByRecursion (IsSingleWithin limit) xs
 singles_within limit [] h = tt
 singles_within limit (Headed block ∷ xs) h = (tt, singles_within limit xs h.1)
 singles_within limit (Message message ∷ xs) h = (h.0, singles_within limit xs h.1)
@@ -85,4 +85,4 @@ pub all_within : (limit : ℕ) (items : List Owed.Item) → AllByRecursion (IsIt
 all_within limit [] h = tt
 all_within limit (item ∷ items) h =
     all_append (IsSingleWithin limit) (singles_of item) (all_singles items)
-    (singles_within limit (singles_of item) (subst (AllByRecursion (IsWithin limit)) (item_parts item) h.0)) (all_within limit items h.1)
+    (singles_within limit (singles_of item) (subst (AllByRecursion (IsPartWithin limit)) (item_parts item) h.0)) (all_within limit items h.1)

@@ -16,9 +16,9 @@ use Rattle.http2_streams.specs.declared.event.StreamEvent.{StreamEvent}
 use Rattle.http2_streams.specs.History.{Entry, In, Unreadable, Out, Took, live_streams, highest_stream, has_failed, is_goaway, is_ended_by_client}
 use Rattle.http2_streams.specs.LiveStreams.{has_stream}
 use Rattle.http2_streams.specs.Rules.{number_is, is_live_at, answer_after}
-use Rattle.http2_streams.specs.Entries.{control_frames, entries_of}
+use Rattle.http2_streams.specs.Entries.{control_frames, entries_of, goaway_frame}
 use Rattle.http2_streams.specs.Standing.{Standing, standing, stream_at}
-use Rattle.http2_streams.specs.StandsFor.{StandsFor}
+use Rattle.http2_streams.specs.StandsFor.{AreStreams}
 use Rattle.http2_streams.specs.Step.{after_reset, after_server_end, after_data}
 use Rattle.http2_streams.proofs.Law.{IsIdle, at_law, has_failed-append}
 use Rattle.http2_streams.proofs.LiveLaw.{listed_is_live, highest_rises}
@@ -28,10 +28,10 @@ use Rattle.grpc_sending.specs.Pieces.{Piece}
 use Rattle.grpc_sending.specs.Bytes.{position, untaken_count}
 use Rattle.grpc_sending.specs.Owed.{OwedItem, pieces_left_on}
 use Rattle.grpc_sending.specs.Pump.{reset_after}
-use Rattle.conn_core.specs.Past.{Past, opening, greeting}
-use Rattle.conn_core.specs.Received.{Outcome, outcome, fault_outcome, frames_to_put, may_put_all, goaway_frame, fault_frames, frame_entries}
+use Rattle.conn_core.specs.Past.{Past, new_past, greeting}
+use Rattle.conn_core.specs.Received.{Outcome, outcome, fault_outcome, frames_to_put, may_put_all, fault_frames, frame_entries}
 use Rattle.conn_core.proofs.Answered.{outcome_good, outcome_cut, outcome_fault, entries_caused}
-use Rattle.client_reading.specs.Changes.{Change, past_after_change, past_of, IsChange, BytesReceived, FrameRead, FaultMet, ItemGiven, BytesTaken, FramesPut, EventsGiven}
+use Rattle.client_reading.specs.Changes.{PastChange, past_after_change, past_of, IsChange, BytesReceived, FrameRead, FaultMet, ItemGiven, BytesTaken, FramesPut, EventsGiven}
 use Rattle.client_reading.proofs.Choices.{or_none, fold_keeps}
 use Rattle.client_reading.proofs.Controls.{out_sent}
 use Rattle.client_reading.proofs.Nexts.{Next, IsFront, portion, pump_keeps}
@@ -39,10 +39,10 @@ use Rattle.client_reading.proofs.Nexts.{Next, IsFront, portion, pump_keeps}
 abbrev pub Stands : List Entry → Type 0
 Stands d = has_failed d ≡ false → IsIdle d
 
-pub as_kept : (d : List Entry) → Stands d → StandsFor (standing d) d
+pub as_kept : (d : List Entry) → Stands d → AreStreams (standing d) d
 as_kept d h = record { fault = refl; state = λ fine. record { is = refl; idle = h fine } }
 
-of_kept : (v : Standing) (d : List Entry) → StandsFor v d → Stands d
+of_kept : (v : Standing) (d : List Entry) → AreStreams v d → Stands d
 of_kept v d h fine = (h.state fine).idle
 
 -- ---- errors of the connection
@@ -133,7 +133,7 @@ stands_turn os d fs n h = stands_front d n.stream (pieces_left_on d os n.stream)
 
 -- ---- every past
 
-stands_change : (p : Past) (c : Change) → IsChange c → Stands p.history → Stands (past_after_change p c).history
+stands_change : (p : Past) (c : PastChange) → IsChange c → Stands p.history → Stands (past_after_change p c).history
 stands_change p (BytesReceived bytes) is h = h
 stands_change p (FrameRead f) is h = stands_frame p.history f h
 stands_change p (FaultMet e code) is h = stands_fault p.history e code (has_failed p.history) refl
@@ -142,8 +142,8 @@ stands_change p (BytesTaken n) is h = stands_aside p.history n h
 stands_change p FramesPut is h = pump_keeps Stands p.owed (stands_turn p.owed) p.history h
 stands_change p (EventsGiven left) is h = h
 
-first_stands : Stands opening.history
+first_stands : Stands new_past.history
 first_stands = of_kept (standing []) (greeting ∷ []) (no_matter (standing []) [] greeting tt (record { fault = refl; state = λ fine. record { is = refl; idle = λ s above. record { unreset = refl; unended_by_client = refl; unended_by_server = refl; granted = refl; spent = refl } } }))
 
-pub stands_past : (cs : List Change) → AllByRecursion IsChange cs → Stands (past_of cs).history
-stands_past cs all = fold_keeps (λ (p : Past). Stands p.history) IsChange past_after_change opening cs stands_change all first_stands
+pub stands_past : (cs : List PastChange) → AllByRecursion IsChange cs → Stands (past_of cs).history
+stands_past cs all = fold_keeps (λ (p : Past). Stands p.history) IsChange past_after_change new_past cs stands_change all first_stands

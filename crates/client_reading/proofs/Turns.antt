@@ -15,16 +15,16 @@ use Rattle.grpc_sending.specs.Pieces.{Piece}
 use Rattle.grpc_sending.specs.Owed.{OwedItem, pieces_left_on}
 use Rattle.grpc_sending.specs.Pump.{natural_part, reset_after}
 use Rattle.grpc_sending.proofs.Histories.{append-nil}
-use Rattle.conn_core.specs.Past.{Past, opening}
+use Rattle.conn_core.specs.Past.{Past, new_past}
 use Rattle.conn_core.specs.Received.{outcome, fault_frames, frame_entries, fault_entries}
-use Rattle.client_reading.specs.Changes.{Change, past_after_change, past_of, BytesReceived, FrameRead, FaultMet, ItemGiven, BytesTaken, FramesPut, EventsGiven}
-use Rattle.client_reading.specs.Reads.{IsDataInTurn, IsInTurn, ReadsInTurn}
+use Rattle.client_reading.specs.Changes.{PastChange, past_after_change, past_of, BytesReceived, FrameRead, FaultMet, ItemGiven, BytesTaken, FramesPut, EventsGiven}
+use Rattle.client_reading.specs.Reads.{IsDataInTurn, MayBePut, ReadsInTurn}
 use Rattle.client_reading.proofs.Choices.{fold_keeps}
 use Rattle.client_reading.proofs.Nexts.{Next, IsFront, portion, pump_keeps}
 use Rattle.client_reading.proofs.Controls.{IsControl, outcome_control, fault_control, reset_control}
 
 abbrev KeepsAt : List Entry → Entry → Type 0
-KeepsAt before (Out f) = IsInTurn before f
+KeepsAt before (Out f) = MayBePut before f
 KeepsAt before _ = Unit {0}
 
 abbrev KeepsFrom : List Entry → List Entry → Type 0
@@ -73,7 +73,7 @@ keeps_turn os d fs n h = keeps_more [] d (map Out fs) h (front_in_turn d n.strea
 
 -- ---- every past
 
-keeps_change : (p : Past) (c : Change) → Unit {0} → Keeps p.history → Keeps (past_after_change p c).history
+keeps_change : (p : Past) (c : PastChange) → Unit {0} → Keeps p.history → Keeps (past_after_change p c).history
 keeps_change p (BytesReceived bytes) u h = h
 keeps_change p (FrameRead f) u h = keeps_more [] p.history (frame_entries p.history f) h (tt, control_from (p.history ++ In f ∷ []) (outcome p.history f).put (outcome_control p.history f))
 keeps_change p (FaultMet e code) u h = keeps_more [] p.history (fault_entries p.history e code) h (tt, control_from (p.history ++ Unreadable e ∷ []) (fault_frames (has_failed p.history) (highest_stream p.history) code) (fault_control (has_failed p.history) (highest_stream p.history) code))
@@ -82,7 +82,7 @@ keeps_change p (BytesTaken n) u h = keeps_more [] p.history (Took n ∷ []) h (t
 keeps_change p FramesPut u h = pump_keeps Keeps p.owed (keeps_turn p.owed) p.history h
 keeps_change p (EventsGiven left) u h = h
 
-any_changes : (cs : List Change) → AllByRecursion (λ (c : Change). Unit {0}) cs
+any_changes : (cs : List PastChange) → AllByRecursion (λ (c : PastChange). Unit {0}) cs
 any_changes [] = tt
 any_changes (c ∷ cs) = (tt, any_changes cs)
 
@@ -90,7 +90,7 @@ keeps_at : (b0 before after : List Entry) (x : Entry) → KeepsFrom b0 (before +
 keeps_at b0 [] after x h = subst (λ (b : List Entry). KeepsAt b x) (sym (append-nil b0)) h.0
 keeps_at b0 (y ∷ before) after x h = subst (λ (b : List Entry). KeepsAt b x) (append_assoc b0 (y ∷ []) before) (keeps_at (b0 ++ y ∷ []) before after x h.1)
 
-pub turns_past : (cs : List Change) → ReadsInTurn (past_of cs).history
+pub turns_past : (cs : List PastChange) → ReadsInTurn (past_of cs).history
 turns_past cs before after f is =
-    let h = fold_keeps (λ (p : Past). Keeps p.history) (λ (c : Change). Unit {0}) past_after_change opening cs keeps_change (any_changes cs) (tt, tt) in
+    let h = fold_keeps (λ (p : Past). Keeps p.history) (λ (c : PastChange). Unit {0}) past_after_change new_past cs keeps_change (any_changes cs) (tt, tt) in
     keeps_at [] before after (Out f) (subst Keeps is h)

@@ -17,7 +17,7 @@ use Rattle.http2_frames.proofs.Again.{again, texts_again}
 use Rattle.http2_streams.specs.declared.event.StreamEvent.{StreamEvent}
 use Rattle.http2_streams.specs.History.{Entry, In, Unreadable, Out, Took, sent_frames, frame_out, highest_stream, has_failed, window, connection_window, is_ended_by_client}
 use Rattle.http2_streams.specs.Rules.{answer_after}
-use Rattle.http2_streams.specs.Entries.{control_frames}
+use Rattle.http2_streams.specs.Entries.{control_frames, goaway_frame}
 use Rattle.grpc_calls.specs.Responses.{is_last}
 use Rattle.grpc_calls.proofs.Blocks.{short}
 use Rattle.grpc_sending.specs.Pieces.{Piece}
@@ -25,9 +25,9 @@ use Rattle.grpc_sending.specs.Bytes.{position, untaken_count}
 use Rattle.grpc_sending.specs.Owed.{OwedItem, pieces_left_on}
 use Rattle.grpc_sending.specs.Pump.{natural_part, block_frame, reset_after, history_after_pump}
 use Rattle.grpc_sending.proofs.Histories.{sent_more}
-use Rattle.conn_core.specs.Past.{Past, opening}
-use Rattle.conn_core.specs.Received.{Outcome, outcome, outcome_of, may_put, frames_to_put, may_put_all, goaway_frame, fault_frames, frame_entries, fault_entries}
-use Rattle.client_reading.specs.Changes.{Change, past_after_change, past_of, IsReceivable, IsChange, BytesReceived, FrameRead, FaultMet, ItemGiven, BytesTaken, FramesPut, EventsGiven}
+use Rattle.conn_core.specs.Past.{Past, new_past}
+use Rattle.conn_core.specs.Received.{Outcome, outcome, outcome_of, may_put, frames_to_put, may_put_all, fault_frames, frame_entries, fault_entries}
+use Rattle.client_reading.specs.Changes.{PastChange, past_after_change, past_of, IsReceivable, IsChange, BytesReceived, FrameRead, FaultMet, ItemGiven, BytesTaken, FramesPut, EventsGiven}
 use Rattle.client_reading.specs.Reads.{ReadsFrames}
 use Rattle.client_reading.proofs.Choices.{choose, all_append, all_by, fold_keeps}
 use Rattle.client_reading.proofs.Numbered.{IsFramed, highest_low, live_numbered}
@@ -130,7 +130,7 @@ sound_pumped d os s = pump_keeps Sound os (sound_turn os) d s
 
 -- ---- every past
 
-pub sound_change : (p : Past) (c : Change) → IsChange c → Sound p.history → Sound (past_after_change p c).history
+pub sound_change : (p : Past) (c : PastChange) → IsChange c → Sound p.history → Sound (past_after_change p c).history
 sound_change p (BytesReceived bytes) is s = s
 sound_change p (FrameRead f) is s = sound_frame p.history f is s
 sound_change p (FaultMet e code) is s = sound_fault p.history e code s
@@ -139,14 +139,14 @@ sound_change p (BytesTaken n) is s = sound_entry p.history (Took n) refl tt s
 sound_change p FramesPut is s = sound_pumped p.history p.owed s
 sound_change p (EventsGiven left) is s = s
 
-sound_opening : Sound opening.history
+sound_opening : Sound new_past.history
 sound_opening = record { framed = (tt, tt); written = ((((omega arith, omega arith), tt), omega arith, λ h. cc), tt) }
 
-pub sound_past : (cs : List Change) → AllByRecursion IsChange cs → Sound (past_of cs).history
-sound_past cs all = fold_keeps (λ (p : Past). Sound p.history) IsChange past_after_change opening cs sound_change all sound_opening
+pub sound_past : (cs : List PastChange) → AllByRecursion IsChange cs → Sound (past_of cs).history
+sound_past cs all = fold_keeps (λ (p : Past). Sound p.history) IsChange past_after_change new_past cs sound_change all sound_opening
 
 pub sound_reads : (d : List Entry) → Sound d → ReadsFrames d
 sound_reads d s = record { divided = texts_again [] (sent_frames d) s.written; understood = all_by IsWritable (λ f. frame_of (raw_of f) ≡ Ok f) (sent_frames d) again s.written }
 
-pub frames_read : (cs : List Change) → AllByRecursion IsChange cs → ReadsFrames (past_of cs).history
+pub frames_read : (cs : List PastChange) → AllByRecursion IsChange cs → ReadsFrames (past_of cs).history
 frames_read cs all = sound_reads (past_of cs).history (sound_past cs all)

@@ -31,10 +31,10 @@ CanGoOn p = (has_failed p.history ≡ false) × (p.due ≡ [])
 abbrev pub AreAnswerableCalls : Past → Type 0
 AreAnswerableCalls p = AllByRecursion (IsAnswerable p.history) p.due
 
-abbrev pub IsAnswered : Past → ℕ × Item → Type 0
-IsAnswered p x = IsAnswerableStream p.history x.0
+abbrev pub IsItemAnswerable : Past → ℕ × Item → Type 0
+IsItemAnswerable p x = IsAnswerableStream p.history x.0
 
 -- the streams that are answered at once for a frame
 abbrev pub AnswersOnStreams : Past → RawFrame → Type 0
 AnswersOnStreams p f =
-    AllByRecursion (IsAnswered (with_frame p f)) (items_at_once (outcome p.history f).event)
+    AllByRecursion (IsItemAnswerable (with_frame p f)) (items_at_once (outcome p.history f).event)

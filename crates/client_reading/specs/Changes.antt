@@ -8,26 +8,26 @@ use Rattle.http2_frames.specs.Wire.{stream_limit}
 use Rattle.http2_streams.specs.Rules.{reading_fault}
 use Rattle.grpc_sending.specs.Owed.{Item}
 use Rattle.conn_core.specs.declared.event.CallEvent.{CallEvent}
-use Rattle.conn_core.specs.Past.{Past, opening, with_frame, with_fault, with_item, with_taken, with_pumped}
+use Rattle.conn_core.specs.Past.{Past, new_past, with_frame, with_fault, with_item, with_taken, with_pumped}
 use Rattle.http2_frames.specs.declared.reader.TheConstants.{MAX_FRAME_SIZE}
 
-pub data Change : Type 0 where
+pub data PastChange : Type 0 where
   -- bytes were received
-  BytesReceived : List ℕ → Change
+  BytesReceived : List ℕ → PastChange
   -- the next frame of them was read
-  FrameRead : RawFrame → Change
+  FrameRead : RawFrame → PastChange
   -- they are no frame
-  FaultMet : FrameError → ErrorCode → Change
+  FaultMet : FrameError → ErrorCode → PastChange
   -- an item was given to a stream
-  ItemGiven : ℕ → Item → Change
+  ItemGiven : ℕ → Item → PastChange
   -- the client took so many bytes
-  BytesTaken : ℕ → Change
+  BytesTaken : ℕ → PastChange
   -- all was put that could be put
-  FramesPut : Change
+  FramesPut : PastChange
   -- of the events of calls that are due these are left
-  EventsGiven : List CallEvent → Change
+  EventsGiven : List CallEvent → PastChange
 
-abbrev pub past_after_change : Past → Change → Past
+abbrev pub past_after_change : Past → PastChange → Past
 past_after_change p (BytesReceived bytes) = record p { text = p.text ++ bytes }
 past_after_change p (FrameRead f) = with_frame p f
 past_after_change p (FaultMet e code) = with_fault p e code
@@ -41,14 +41,14 @@ abbrev pub IsReceivable : RawFrame → Type 0
 IsReceivable f = (length f.payload ≤ MAX_FRAME_SIZE) × (f.stream < stream_limit)
 
 -- what a change supposes: frames are frames, and an error is that of its fault
-abbrev pub IsChange : Change → Type 0
+abbrev pub IsChange : PastChange → Type 0
 IsChange (FrameRead f) = IsReceivable f
 IsChange (FaultMet e code) = reading_fault e ≡ Some code
 IsChange _ = Unit {0}
 
-abbrev pub past_of : List Change → Past
-past_of cs = fold past_after_change opening cs
+abbrev pub past_of : List PastChange → Past
+past_of cs = fold past_after_change new_past cs
 
 -- what such changes made of the opening
 abbrev pub IsPast : Past → Type 0
-IsPast p = (cs : List Change) × AllByRecursion IsChange cs × (p ≡ past_of cs)
+IsPast p = (cs : List PastChange) × AllByRecursion IsChange cs × (p ≡ past_of cs)

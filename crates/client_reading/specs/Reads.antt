@@ -37,14 +37,15 @@ pub record IsDataInTurn (before : List Entry) (s : ℕ) (bytes : List ℕ) : Typ
   pub connection_window : pos (length bytes) ≤ℤ window_left (connection_window before)
 
 -- what HEADERS and DATA have to keep to when they are put behind these entries
-abbrev pub IsInTurn : List Entry → Frame → Type 0
-IsInTurn before (Headers s end_stream end_headers fragment) = has_stream (live_streams before) s ≡ true
-IsInTurn before (Data s end_stream bytes) = IsDataInTurn before s bytes
-IsInTurn before _ = Unit {0}
+abbrev pub MayBePut : List Entry → Frame → Type 0
+MayBePut before (Headers s end_stream end_headers fragment) =
+    has_stream (live_streams before) s ≡ true
+MayBePut before (Data s end_stream bytes) = IsDataInTurn before s bytes
+MayBePut before _ = Unit {0}
 
 abbrev pub ReadsInTurn : List Entry → Type 0
 ReadsInTurn d =
-    (before after : List Entry) (f : Frame) → d ≡ before ++ Out f ∷ after → IsInTurn before f
+    (before after : List Entry) (f : Frame) → d ≡ before ++ Out f ∷ after → MayBePut before f
 
 -- ---- control frames
 
@@ -84,7 +85,7 @@ ReadsResponses p =
     (limit : ℕ) → limit < message_length_limit → IsTakable limit p.owed → (s : ℕ) →
     IsBeginning limit (stream_parts p.history s) (response_of (items_owed_on s p.owed))
 
-pub record Reads (p : Past) : Type 0 where
+pub record IsReadByClient (p : Past) : Type 0 where
   pub frames : ReadsFrames p.history
   pub turns : ReadsInTurn p.history
   pub control : ReadsControl p.history

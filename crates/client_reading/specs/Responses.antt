@@ -103,7 +103,8 @@ read_messages bytes = messages_cut most_read (length bytes) bytes
 abbrev pub response_parts : Item → List ResponsePart
 response_parts (Headed block) = Block (is_last block) (fields_of block) ∷ []
 response_parts (Message message) = WholeMessage message ∷ []
-response_parts (Range digest text from count) = map WholeMessage (read_messages (take count (drop from text)))
+response_parts (Range digest text from count) =
+    map WholeMessage (read_messages (take count (drop from text)))
 
 -- the whole response to a stream that was given these items
 abbrev pub response_of : List Item → List ResponsePart
@@ -118,19 +119,20 @@ IsMessageFront _ later = ⊥
 
 -- what is read is a beginning of this response: some of its parts whole, then perhaps a front of
 -- the next
-pub record IsBeginning (limit : ℕ) (received : List StreamPart) (response : List ResponsePart) : Type 0 where
+pub record IsBeginning (limit : ℕ) (received : List StreamPart)
+    (response : List ResponsePart) : Type 0 where
   pub later : List ResponsePart
   pub divided : response ≡ response_from limit [] received ++ later
   pub rest : IsMessageFront (message_rest limit [] received) later
 
 -- ---- the longest message that a client takes
 
-abbrev pub IsWithin : ℕ → ResponsePart → Type 0
-IsWithin limit (WholeMessage message) = length message ≤ limit
-IsWithin limit _ = Unit {0}
+abbrev pub IsPartWithin : ℕ → ResponsePart → Type 0
+IsPartWithin limit (WholeMessage message) = length message ≤ limit
+IsPartWithin limit _ = Unit {0}
 
 abbrev pub IsItemWithin : ℕ → Item → Type 0
-IsItemWithin limit item = AllByRecursion (IsWithin limit) (response_parts item)
+IsItemWithin limit item = AllByRecursion (IsPartWithin limit) (response_parts item)
 
 -- no message that was ever owed is longer
 abbrev pub IsTakable : ℕ → List OwedItem → Type 0

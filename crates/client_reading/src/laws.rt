@@ -5,12 +5,12 @@ ghost use Rattle.std.specs.List.{AllByRecursion};
 ghost use Rattle.http2_frames.specs.Reading.{split};
 ghost use Rattle.http2_frames.specs.declared.frame.RawFrame.{RawFrame};
 ghost use Rattle.grpc_sending.specs.Pieces.{most_read};
-ghost use Rattle.conn_core.specs.Past.{Past, opening, with_frame};
+ghost use Rattle.conn_core.specs.Past.{Past, new_past, with_frame};
 ghost use Rattle.client_reading.specs.Answerable.{CanGoOn, AreAnswerableCalls, AnswersOnStreams};
-ghost use Rattle.client_reading.specs.Changes.{Change, past_after_change, IsReceivable, IsChange, IsPast};
+ghost use Rattle.client_reading.specs.Changes.{PastChange, past_after_change, IsReceivable, IsChange, IsPast};
 ghost use Rattle.client_reading.specs.Responses.{read_messages};
 ghost use Rattle.client_reading.specs.Ranges.{BringBytes};
-ghost use Rattle.client_reading.specs.Reads.{Reads};
+ghost use Rattle.client_reading.specs.Reads.{IsReadByClient};
 
 /// Whatever bytes come, the frames that they divide into are frames (RFC 9113 sections 4.1 and
 /// 4.2).
@@ -20,8 +20,8 @@ pub fn received_frames_are_frames()
 
 /// A connection begins with a past, and each change of one makes another.
 pub fn changes_make_pasts()
-    ensures opening { IsPast opening }
-    ensures change { (p : Past) (c : Change) → IsChange c → IsPast p →
+    ensures opening { IsPast new_past }
+    ensures change { (p : Past) (c : PastChange) → IsChange c → IsPast p →
         IsPast (past_after_change p c) }
 {}
 
@@ -30,7 +30,7 @@ pub fn changes_make_pasts()
 /// order, and on each stream a beginning of what was owed to it (RFC 7541 for its header blocks,
 /// gRPC over HTTP2 for its messages).
 pub fn what_a_client_reads()
-    ensures { (p : Past) → IsPast p → Reads p }
+    ensures { (p : Past) → IsPast p → IsReadByClient p }
 {}
 
 /// The messages that are read of a range bring all its bytes, in order: each is a ReadResponse

@@ -11,52 +11,55 @@ use Rattle.clap.specs.declared.builder.value_parser.ValueParser.TheVariants.{Sig
 -- ---- what there is
 
 -- a file that has to be named
-abbrev pub file : Rule
-file = record (new_rule (codes "FILE")) { required = true; action = Some Set }
+abbrev pub file_rule : Rule
+file_rule = record (new_rule (codes "FILE")) { required = true; action = Some Set }
 
 -- `--name VALUE`
 abbrev pub long_option : Text → Rule
 long_option name = record (new_rule name) { long = Some name; value_names = 1; action = Some Set }
 
 -- a whole number from 0 to 2^63 - 1
-abbrev pub count : ValueParser
-count = Unsigned 0 9223372036854775807
+abbrev pub count_parser : ValueParser
+count_parser = Unsigned 0 9223372036854775807
 
-abbrev pub port : Rule
-port =
+abbrev pub port_rule : Rule
+port_rule =
     record (long_option (codes "port"))
     { required = true; parser = Some (Signed (pos 1) (pos 65535)) }
 
-abbrev pub send : Rule
-send = record (long_option (codes "send")) { required = true }
+abbrev pub send_rule : Rule
+send_rule = record (long_option (codes "send")) { required = true }
 
-abbrev pub want : Rule
-want = record (long_option (codes "want")) { required = true; parser = Some count }
+abbrev pub want_rule : Rule
+want_rule = record (long_option (codes "want")) { required = true; parser = Some count_parser }
 
-abbrev pub turns : Rule
-turns =
-    record (long_option (codes "turns")) { parser = Some count; defaults = codes "1000000000" ∷ [] }
+abbrev pub turns_rule : Rule
+turns_rule =
+    record (long_option (codes "turns"))
+    { parser = Some count_parser; defaults = codes "1000000000" ∷ [] }
 
-abbrev pub work : Rule
-work = record (long_option (codes "work")) { required = true }
+abbrev pub work_rule : Rule
+work_rule = record (long_option (codes "work")) { required = true }
 
 -- one word or more for instances
-abbrev pub instances : Rule
-instances =
+abbrev pub instances_rule : Rule
+instances_rule =
     record (new_rule (codes "NAME:PORT:QUOTA:SLOTS")) { required = true; action = Some Append }
 
 -- a command that carries out the script of a file
 abbrev pub script_command : Text → Shape
-script_command name = (with_rule (new_app name) file).top
+script_command name = (with_rule (new_app name) file_rule).top
 
 abbrev pub probe_command : Shape
 probe_command =
-    (with_rule (with_rule (with_rule (with_rule (new_app (codes "probe")) port) send) want)
-    turns).top
+    (with_rule (with_rule (with_rule (with_rule (new_app (codes "probe"))
+    port_rule) send_rule) want_rule)
+    turns_rule).top
 
 abbrev pub serve_command : Shape
 serve_command =
-    (with_rule (with_rule (with_rule (new_app (codes "serve")) work) turns) instances).top
+    (with_rule (with_rule (with_rule (new_app (codes "serve"))
+    work_rule) turns_rule) instances_rule).top
 
 -- a command that tells its version
 abbrev pub with_version : App → App

@@ -4,7 +4,7 @@
 ghost use Rattle.std.specs.Prelude.{◌≡◌, ◌≢◌, ◌⊎◌, ℕ, List, Some, None, map, string_bytes, IfOk, IfErr, option_map};
 ghost use Rattle.clap.specs.Words.{all_of, app_of, first_of, found_of, kind_of, new_app, rows_of, subcommand_rows_of};
 ghost use Rattle.clap.specs.declared.error.kind.ErrorKind.TheVariants.{DisplayHelp, DisplayVersion};
-ghost use Rattle.command_line.specs.CommandLine.{command_line, file, long_option, number_of, port, send, want, turns, script_command, probe_command, probe_of, work, instances, with_scripts, serve_command, serve_of, file_or_probe_by, task_by, task_of};
+ghost use Rattle.command_line.specs.CommandLine.{command_line, file_rule, long_option, number_of, port_rule, send_rule, want_rule, turns_rule, script_command, probe_command, probe_of, work_rule, instances_rule, with_scripts, serve_command, serve_of, file_or_probe_by, task_by, task_of};
 ghost use Rattle.command_line.specs.Shown.{task_value, task_asked, HasApp, HasNoFault, HasRule, HasShape, IsFaultOf, IsFrom};
 
 use clap::error::ErrorKind;
@@ -61,7 +61,7 @@ pub enum Task<'a> {
 }
 
 fn file<'a>(alloc: Global, lines: &'a str) -> Arg<'a>
-    ensures { HasRule file result }
+    ensures { HasRule file_rule result }
 {
     Arg::new(alloc, "FILE")
         .help(lines)
@@ -81,7 +81,7 @@ fn long_option<'a>(alloc: Global, name: &'a str, value: &'a str, help: &'a str) 
 }
 
 fn instances<'a>(alloc: Global) -> Arg<'a>
-    ensures { HasRule instances result }
+    ensures { HasRule instances_rule result }
 {
     Arg::new(alloc, INSTANCES)
         .help(
@@ -92,20 +92,20 @@ fn instances<'a>(alloc: Global) -> Arg<'a>
 }
 
 fn send<'a>(alloc: Global) -> Arg<'a>
-    ensures { HasRule send result }
+    ensures { HasRule send_rule result }
 {
     long_option(alloc, "send", "FILE", "The file whose bytes are sent").required(true)
 }
 
 fn work<'a>(alloc: Global) -> Arg<'a>
-    ensures { HasRule work result }
+    ensures { HasRule work_rule result }
 {
     let help = "The folder for the work of actions; it is made if it is not there";
     long_option(alloc, "work", "DIR", help).required(true)
 }
 
 fn port<'a>(alloc: Global) -> Arg<'a>
-    ensures { HasRule port result }
+    ensures { HasRule port_rule result }
 {
     long_option(alloc, "port", "P", "The port of 127.0.0.1 to connect to")
         .required(true)
@@ -113,7 +113,7 @@ fn port<'a>(alloc: Global) -> Arg<'a>
 }
 
 fn turns<'a>(alloc: Global) -> Arg<'a>
-    ensures { HasRule turns result }
+    ensures { HasRule turns_rule result }
 {
     long_option(alloc, "turns", "T", "How many turns to take at most")
         .value_parser(value_parser!(u64).range(..=i64::MAX))
@@ -121,7 +121,7 @@ fn turns<'a>(alloc: Global) -> Arg<'a>
 }
 
 fn want<'a>(alloc: Global) -> Arg<'a>
-    ensures { HasRule want result }
+    ensures { HasRule want_rule result }
 {
     long_option(alloc, "want", "N", "How many bytes to wait for")
         .required(true)

@@ -10,22 +10,22 @@ use Rattle.http2_frames.specs.declared.frame.RawFrame.{RawFrame}
 use Rattle.http2_frames.specs.declared.frame.Frame.{Frame}
 use Rattle.http2_frames.specs.declared.frame.Frame.TheVariants.{Data, Headers, Priority, RstStream, Settings, PushPromise, Ping, GoAway, WindowUpdate, Continuation, Unknown}
 use Rattle.http2_frames.specs.declared.reader.TheConstants.{CLIENT_PREFACE}
-use Rattle.http2_frames.specs.Reader.{StandsFor as IsReader}
+use Rattle.http2_frames.specs.Reader.{IsReader}
 use Rattle.http2_streams.specs.declared.event.StreamEvent.{StreamEvent}
 use Rattle.http2_streams.specs.History.{Entry, In, Out, sent_frames, frame_out, has_failed, is_goaway, is_not_closed, opened_streams, highest_stream}
 use Rattle.http2_streams.specs.Standing.{Standing, standing}
-use Rattle.http2_streams.specs.StandsFor.{StandsFor as AreStreams}
+use Rattle.http2_streams.specs.StandsFor.{AreStreams}
 use Rattle.http2_streams.specs.Rules.{answer_after}
 use Rattle.http2_streams.specs.Entries.{control_frames, frames_put, entries_of}
 use Rattle.grpc_sending.specs.Bytes.{untaken_count}
-use Rattle.grpc_sending.specs.StoredSending.{Look, sending_in, StoredSending, StandsFor as IsSending}
+use Rattle.grpc_sending.specs.StoredSending.{SourceTexts, sending_in, StoredSending, IsStoredSending}
 use Rattle.grpc_sending.proofs.Histories.{append-nil}
 use Rattle.grpc_sending.proofs.Received.{frame_heard}
 use Rattle.conn_core.specs.Received.{received_raw_frames, raw_in, Outcome, outcome, outcome_of, frame_entries, fault_outcome, frames_to_put, may_put_all}
 use Rattle.conn_core.specs.Past.{Past}
-use Rattle.conn_core.specs.StandsFor.{Present}
+use Rattle.conn_core.specs.StandsFor.{ConnectionValue}
 use Rattle.conn_core.specs.Step.{AreCalls, ChangesStreams, HasBrought, after_frame}
-use Rattle.conn_core.specs.Putting.{Puts, IsAnswered, is_answer, are_answers}
+use Rattle.conn_core.specs.Putting.{Puts, AwaitsItsAnswer, has_answer_form, have_answer_form}
 use Rattle.conn_core.proofs.Events.{raw_out}
 use Rattle.conn_core.proofs.Pumps.{failed_same}
 use Rattle.conn_core.proofs.Putting.{fitting_all, with_sending}
@@ -59,7 +59,7 @@ in_front d f fs = sym (append_assoc d (In f ∷ []) (map Out fs))
 sent_in : (d : List Entry) (f : RawFrame) → sent_frames (d ++ In f ∷ []) ≡ sent_frames d
 sent_in d f = filter_map-append frame_out d (In f ∷ []) ∙ append-nil (sent_frames d)
 
-no_goaway : (f : Frame) → is_answer f ≡ true → is_goaway f ≡ false
+no_goaway : (f : Frame) → has_answer_form f ≡ true → is_goaway f ≡ false
 no_goaway (GoAway s c b) h = cc
 no_goaway (Data s e b) h = refl
 no_goaway (Headers s e x b) h = refl
@@ -72,11 +72,11 @@ no_goaway (WindowUpdate s n) h = refl
 no_goaway (Continuation s x b) h = refl
 no_goaway (Unknown k f s p) h = refl
 
-pub answers_quiet : (fs : List Frame) → are_answers fs ≡ true → list_any is_goaway fs ≡ false
+pub answers_quiet : (fs : List Frame) → have_answer_form fs ≡ true → list_any is_goaway fs ≡ false
 answers_quiet [] h = refl
-answers_quiet (f ∷ fs) h = elim (cases_Bool (is_answer f)) [
+answers_quiet (f ∷ fs) h = elim (cases_Bool (has_answer_form f)) [
   | inl is ↦
-      let h' : are_answers fs ≡ true = rw is at h in
+      let h' : have_answer_form fs ≡ true = rw is at h in
       ap (λ b. b || list_any is_goaway fs) (no_goaway f is) ∙ answers_quiet fs h'
   | inr other ↦ let no : false ≡ true = rw other at h in cc
 ]
@@ -108,10 +108,10 @@ changes u d f a at fine h = record {
 
 -- ---- all of it
 
-kept_calls : (v : Present) (w : StoredSending) (d : List Entry) → AreCalls v d → AreCalls (with_sending v w) d
+kept_calls : (v : ConnectionValue) (w : StoredSending) (d : List Entry) → AreCalls v d → AreCalls (with_sending v w) d
 kept_calls v w d h = record { calls = h.calls; order = h.order }
 
-has_brought : (texts : Look) (v : Present) (p : Past) (f : RawFrame) (a : StreamEvent) (w : StoredSending) → IsAnswered texts v p f a → may_put_all (untaken_count p.history) (control_frames a) ≡ true → IsSending texts w (p.history ++ In f ∷ map Out (control_frames a)) p.owed → HasBrought texts (with_sending v w) p f a.event
+has_brought : (texts : SourceTexts) (v : ConnectionValue) (p : Past) (f : RawFrame) (a : StreamEvent) (w : StoredSending) → AwaitsItsAnswer texts v p f a → may_put_all (untaken_count p.history) (control_frames a) ≡ true → IsStoredSending texts w (p.history ++ In f ∷ map Out (control_frames a)) p.owed → HasBrought texts (with_sending v w) p f a.event
 has_brought texts v p f a w h fit sending =
     let o : outcome p.history f ≡ good a = outcome_good p.history f a h.causes fit in
     let es : frame_entries p.history f ≡ In f ∷ map Out (control_frames a) = ap (λ (x : Outcome). In f ∷ map Out x.put) o in
@@ -124,25 +124,25 @@ has_brought texts v p f a w h fit sending =
       lives = ap has_failed is ∙ failed_after p.history f (control_frames a) (answers_quiet (control_frames a) (answers_are p.history f a h.causes)) ∙ h.lives;
       reader = subst (λ (rs : List RawFrame). IsReader CLIENT_PREFACE.now v.reader p.text rs) (sym (ap received_raw_frames is ∙ raw_after p.history f (control_frames a))) h.reader;
       streams = subst (λ (x : List Entry). AreStreams v.streams x) same h.streams;
-      sending = subst (λ (x : List Entry). IsSending texts w x p.owed) (sym is) sending;
+      sending = subst (λ (x : List Entry). IsStoredSending texts w x p.owed) (sym is) sending;
       due = h.due;
       calls = kept_calls v w p.history h.calls;
       change = subst (λ (x : List Entry). ChangesStreams p.history x a.event) same (changes h.before p.history f a h.stood h.lives h.causes);
     }
 
-pub fits_of : (texts : Look) (v : Present) (p : Past) (f : RawFrame) (a : StreamEvent) (w : Present) (b : Bool) → IsAnswered texts v p f a → Puts v (control_frames a) b w → may_put_all (untaken_count p.history) (control_frames a) ≡ b
+pub fits_of : (texts : SourceTexts) (v : ConnectionValue) (p : Past) (f : RawFrame) (a : StreamEvent) (w : ConnectionValue) (b : Bool) → AwaitsItsAnswer texts v p f a → Puts v (control_frames a) b w → may_put_all (untaken_count p.history) (control_frames a) ≡ b
 fits_of texts v p f a w b h puts = ap (λ n. may_put_all n (control_frames a)) (sym (ap length h.sending.pending)) ∙ sym puts.all
 
 -- what was put stands behind the frame
-pub put_behind : (texts : Look) (v : Present) (p : Past) (f : RawFrame) (a : StreamEvent) (w : Present) (b : Bool) → IsAnswered texts v p f a → Puts v (control_frames a) b w → IsSending texts w.sending (p.history ++ In f ∷ map Out (frames_to_put (untaken_count p.history) (control_frames a))) p.owed
+pub put_behind : (texts : SourceTexts) (v : ConnectionValue) (p : Past) (f : RawFrame) (a : StreamEvent) (w : ConnectionValue) (b : Bool) → AwaitsItsAnswer texts v p f a → Puts v (control_frames a) b w → IsStoredSending texts w.sending (p.history ++ In f ∷ map Out (frames_to_put (untaken_count p.history) (control_frames a))) p.owed
 put_behind texts v p f a w b h puts =
     let n : length v.sending.pending ≡ untaken_count p.history = ap length h.sending.pending in
     let there = puts.sending texts (p.history ++ In f ∷ []) p.owed (frame_heard (sending_in texts v.sending) p.history p.owed f h.sending) in
-    let there' : IsSending texts w.sending ((p.history ++ In f ∷ []) ++ map Out (frames_to_put (untaken_count p.history) (control_frames a))) p.owed = subst (λ (m : ℕ). IsSending texts w.sending ((p.history ++ In f ∷ []) ++ map Out (frames_to_put m (control_frames a))) p.owed) n there in
-    subst (λ (x : List Entry). IsSending texts w.sending x p.owed) (sym (in_front p.history f (frames_to_put (untaken_count p.history) (control_frames a)))) there'
+    let there' : IsStoredSending texts w.sending ((p.history ++ In f ∷ []) ++ map Out (frames_to_put (untaken_count p.history) (control_frames a))) p.owed = subst (λ (m : ℕ). IsStoredSending texts w.sending ((p.history ++ In f ∷ []) ++ map Out (frames_to_put m (control_frames a))) p.owed) n there in
+    subst (λ (x : List Entry). IsStoredSending texts w.sending x p.owed) (sym (in_front p.history f (frames_to_put (untaken_count p.history) (control_frames a)))) there'
 
-pub answered_fits : (texts : Look) (v w : Present) (p : Past) (f : RawFrame) (a : StreamEvent) → IsAnswered texts v p f a → Puts v (control_frames a) true w → HasBrought texts w p f a.event
+pub answered_fits : (texts : SourceTexts) (v w : ConnectionValue) (p : Past) (f : RawFrame) (a : StreamEvent) → AwaitsItsAnswer texts v p f a → Puts v (control_frames a) true w → HasBrought texts w p f a.event
 answered_fits texts v w p f a h puts =
     let fit = fits_of texts v p f a w true h puts in
-    let sending : IsSending texts w.sending (p.history ++ In f ∷ map Out (control_frames a)) p.owed = subst (λ (fs : List Frame). IsSending texts w.sending (p.history ++ In f ∷ map Out fs) p.owed) (fitting_all (untaken_count p.history) (control_frames a) fit) (put_behind texts v p f a w true h puts) in
-    subst (λ (y : Present). HasBrought texts y p f a.event) (sym puts.rest) (has_brought texts v p f a w.sending h fit sending)
+    let sending : IsStoredSending texts w.sending (p.history ++ In f ∷ map Out (control_frames a)) p.owed = subst (λ (fs : List Frame). IsStoredSending texts w.sending (p.history ++ In f ∷ map Out fs) p.owed) (fitting_all (untaken_count p.history) (control_frames a) fit) (put_behind texts v p f a w true h puts) in
+    subst (λ (y : ConnectionValue). HasBrought texts y p f a.event) (sym puts.rest) (has_brought texts v p f a w.sending h fit sending)

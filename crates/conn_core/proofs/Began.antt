@@ -18,7 +18,7 @@ use Rattle.grpc_calls.specs.Requests.{head_of}
 use Rattle.grpc_sending.proofs.Histories.{append-nil}
 use Rattle.conn_core.specs.declared.call.Call.{Call}
 use Rattle.conn_core.specs.Calls.{is_call, stream_text, messages_of}
-use Rattle.conn_core.specs.StandsFor.{IsCall, KeepsOpen, call_on, stream_of, members_of}
+use Rattle.conn_core.specs.StandsFor.{IsRestOfCall, KeepsOpen, call_on, call_stream, members_of}
 use Rattle.conn_core.specs.Step.{ChangesStreams}
 use Rattle.conn_core.proofs.Numbers.{or_none, any_later, filter_agree, filter_less, filter-append, same_number}
 use Rattle.conn_core.proofs.Places.{kept_on, none_kept, kept_streams, more_on, last_on, not_among}
@@ -67,15 +67,15 @@ no_last os s t xs none h = elim (cases_Bool (s == t)) [
 
 -- ---- a request that is no call
 
-pub after_refused : (d e : List Entry) (s : ℕ) (fields : List Header) (end_stream : Bool) (cs : List Call) → Brings d e (Request s fields end_stream) → is_ok (head_of fields) ≡ false → ChangesStreams d e (Request s fields end_stream) → Holds d cs → IsOrdered d (map stream_of cs) → After e cs
+pub after_refused : (d e : List Entry) (s : ℕ) (fields : List Header) (end_stream : Bool) (cs : List Call) → Brings d e (Request s fields end_stream) → is_ok (head_of fields) ≡ false → ChangesStreams d e (Request s fields end_stream) → Holds d cs → IsOrdered d (map call_stream cs) → After e cs
 after_refused d e s fields end_stream cs brings refused change holds order =
     let new : IsNew d e s cs = new_stream d e s fields end_stream cs change holds in
     let same : (t : ℕ) → is_call e t ≡ is_call d t = λ t. call_frame d e (Request s fields end_stream) t brings ∙ ap (λ b. is_call d t || ((s == t) && b)) refused ∙ or_false (is_call d t) (s == t) in
     record {
       calls = λ t lives. call_same d e t (call_on t cs) (same t) (text_frame d e (Request s fields end_stream) t brings ∙ append-nil (stream_text d t)) (holds t (change.falls t lives));
       order =
-          ap (λ (ss : List ℕ). members_of ss (map stream_of cs)) change.streams
-          ∙ filter_agree (λ t. list_any (λ u. u == t) (live_streams d ++ s ∷ [])) (λ t. list_any (λ u. u == t) (live_streams d)) (map stream_of cs) (λ t h. any_last (live_streams d) s t ∙ no_last (live_streams d) s t (map stream_of cs) (not_among s cs new.none) h)
+          ap (λ (ss : List ℕ). members_of ss (map call_stream cs)) change.streams
+          ∙ filter_agree (λ t. list_any (λ u. u == t) (live_streams d ++ s ∷ [])) (λ t. list_any (λ u. u == t) (live_streams d)) (map call_stream cs) (λ t h. any_last (live_streams d) s t ∙ no_last (live_streams d) s t (map call_stream cs) (not_among s cs new.none) h)
           ∙ order
           ∙ filter_agree (is_call d) (is_call e) (live_streams d) (λ t h. sym (same t))
           ∙ sym (append-nil (filter (is_call e) (live_streams d)))
@@ -94,19 +94,19 @@ after_refused d e s fields end_stream cs brings refused change holds order =
 pub record IsThinned (d : List Entry) (cs kept : List Call) : Type 0 where
   pub calls : (t : ℕ) → is_not_closed d t ≡ true → call_on t kept ≡ call_on t cs
   pub nothing : (t : ℕ) → call_on t cs ≡ None → call_on t kept ≡ None
-  pub order : members_of (live_streams d) (map stream_of kept) ≡ members_of (live_streams d) (map stream_of cs)
+  pub order : members_of (live_streams d) (map call_stream kept) ≡ members_of (live_streams d) (map call_stream cs)
 
 any_grows : (d e : List Entry) (s t : ℕ) → live_streams e ≡ live_streams d ++ s ∷ [] → list_any (λ u. u == t) (live_streams d) ≡ true → list_any (λ u. u == t) (live_streams e) ≡ true
 any_grows d e s t lives h = ap (list_any (λ u. u == t)) lives ∙ any_last (live_streams d) s t ∙ ap (λ b. b || (s == t)) h
 
-pub none_left : (d : List Entry) (cs kept : List Call) (t : ℕ) (o : Kept) → call_on t cs ≡ o → IsCall d t o → (is_call d t ≡ true → ⊥) → (call_on t cs ≡ None → call_on t kept ≡ None) → call_on t kept ≡ call_on t cs
+pub none_left : (d : List Entry) (cs kept : List Call) (t : ℕ) (o : Kept) → call_on t cs ≡ o → IsRestOfCall d t o → (is_call d t ≡ true → ⊥) → (call_on t cs ≡ None → call_on t kept ≡ None) → call_on t kept ≡ call_on t cs
 none_left d cs kept t None at call never nothing = nothing at ∙ sym at
 none_left d cs kept t (Some m) at call never nothing = absurd (never call.0)
 
 pub thinned : (d e : List Entry) (s : ℕ) (fields : List Header) (end_stream : Bool) (streams : List Stream) (cs kept : List Call) → ChangesStreams d e (Request s fields end_stream) → Holds d cs → ((t : ℕ) → list_any (number_is t) streams ≡ list_any (λ u. u == t) (live_streams e)) → KeepsOpen streams cs kept → IsThinned d cs kept
 thinned d e s fields end_stream streams cs kept change holds listed' (inl all) =
     let same : (t : ℕ) → call_on t kept ≡ call_on t cs = λ t. ap (λ (xs : List Call). call_on t xs) all in
-    record { calls = λ t lives. same t; nothing = λ t none. same t ∙ none; order = ap (λ (xs : List Call). members_of (live_streams d) (map stream_of xs)) all }
+    record { calls = λ t lives. same t; nothing = λ t none. same t ∙ none; order = ap (λ (xs : List Call). members_of (live_streams d) (map call_stream xs)) all }
 thinned d e s fields end_stream streams cs kept change holds listed' (inr some) =
     let q : ℕ → Bool = λ t. list_any (number_is t) streams in
     let nothing' : (t : ℕ) → call_on t cs ≡ None → call_on t kept ≡ None = λ t none. ap (λ (xs : List Call). call_on t xs) some ∙ none_kept (λ n. list_any (number_is n) streams) t cs none in
@@ -117,12 +117,12 @@ thinned d e s fields end_stream streams cs kept change holds listed' (inr some) 
       ];
       nothing = nothing';
       order =
-          ap (λ (xs : List Call). members_of (live_streams d) (map stream_of xs)) some
+          ap (λ (xs : List Call). members_of (live_streams d) (map call_stream xs)) some
           ∙ ap (λ (ns : List ℕ). members_of (live_streams d) ns) (kept_streams (λ n. list_any (number_is n) streams) cs)
-          ∙ filter_less (λ t. list_any (λ u. u == t) (live_streams d)) (λ n. list_any (number_is n) streams) (map stream_of cs) (λ t h. listed' t ∙ any_grows d e s t change.streams h);
+          ∙ filter_less (λ t. list_any (λ u. u == t) (live_streams d)) (λ n. list_any (number_is n) streams) (map call_stream cs) (λ t h. listed' t ∙ any_grows d e s t change.streams h);
     }
 
-pub after_begun : (d e : List Entry) (s : ℕ) (fields : List Header) (end_stream : Bool) (cs kept : List Call) (c : Call) → Brings d e (Request s fields end_stream) → is_ok (head_of fields) ≡ true → ChangesStreams d e (Request s fields end_stream) → Holds d cs → IsOrdered d (map stream_of cs) → IsThinned d cs kept → c.stream ≡ s → c.messages ≡ (messages_of []).end → After e (kept ++ c ∷ [])
+pub after_begun : (d e : List Entry) (s : ℕ) (fields : List Header) (end_stream : Bool) (cs kept : List Call) (c : Call) → Brings d e (Request s fields end_stream) → is_ok (head_of fields) ≡ true → ChangesStreams d e (Request s fields end_stream) → Holds d cs → IsOrdered d (map call_stream cs) → IsThinned d cs kept → c.stream ≡ s → c.messages ≡ (messages_of []).end → After e (kept ++ c ∷ [])
 after_begun d e s fields end_stream cs kept c brings ok change holds order thin stream messages =
     let new : IsNew d e s cs = new_stream d e s fields end_stream cs change holds in
     let none : call_on s kept ≡ None = thin.nothing s new.none in
@@ -133,20 +133,20 @@ after_begun d e s fields end_stream cs kept c brings ok change holds order thin 
       calls = λ t lives. elim (cases_Bool (s == t)) [
         | inl at ↦
             let is : s ≡ t = eqb-true s t at in
-            subst (λ (n : ℕ). IsCall e n (call_on n (kept ++ c ∷ []))) is
-            (subst (λ (x : Kept). IsCall e s x) (sym (last_on s kept c none stream))
+            subst (λ (n : ℕ). IsRestOfCall e n (call_on n (kept ++ c ∷ []))) is
+            (subst (λ (x : Kept). IsRestOfCall e s x) (sym (last_on s kept c none stream))
             (at_s, messages ∙ ap (λ (x : List ℕ). (messages_of x).end) (sym (texts s ∙ new.no_text))))
         | inr other ↦
             let apart : (c.stream == t) ≡ false = ap (λ (n : ℕ). n == t) stream ∙ other in
             let before : is_not_closed d t ≡ true = change.falls t lives in
-            subst (λ (x : Kept). IsCall e t x) (sym (more_on t kept c apart ∙ thin.calls t before)) (call_same d e t (call_on t cs) (other_call t other) (texts t) (holds t before))
+            subst (λ (x : Kept). IsRestOfCall e t x) (sym (more_on t kept c apart ∙ thin.calls t before)) (call_same d e t (call_on t cs) (other_call t other) (texts t) (holds t before))
       ];
       order =
-          ap (λ (ss : List ℕ). members_of ss (map stream_of (kept ++ c ∷ []))) change.streams
-          ∙ ap (λ (ns : List ℕ). members_of (live_streams d ++ s ∷ []) ns) (map-append stream_of kept (c ∷ []) ∙ ap (λ (n : ℕ). map stream_of kept ++ n ∷ []) stream)
-          ∙ filter-append (λ t. list_any (λ u. u == t) (live_streams d ++ s ∷ [])) (map stream_of kept) (s ∷ [])
-          ∙ ap (λ (b : Bool). members_of (live_streams d ++ s ∷ []) (map stream_of kept) ++ cond b (s ∷ []) []) (any_last (live_streams d) s s ∙ any_later (list_any (λ u. u == s) (live_streams d)) (s == s) (same_number s))
-          ∙ ap (λ (ns : List ℕ). ns ++ s ∷ []) (filter_agree (λ t. list_any (λ u. u == t) (live_streams d ++ s ∷ [])) (λ t. list_any (λ u. u == t) (live_streams d)) (map stream_of kept) (λ t h. any_last (live_streams d) s t ∙ no_last (live_streams d) s t (map stream_of kept) (not_among s kept none) h))
+          ap (λ (ss : List ℕ). members_of ss (map call_stream (kept ++ c ∷ []))) change.streams
+          ∙ ap (λ (ns : List ℕ). members_of (live_streams d ++ s ∷ []) ns) (map-append call_stream kept (c ∷ []) ∙ ap (λ (n : ℕ). map call_stream kept ++ n ∷ []) stream)
+          ∙ filter-append (λ t. list_any (λ u. u == t) (live_streams d ++ s ∷ [])) (map call_stream kept) (s ∷ [])
+          ∙ ap (λ (b : Bool). members_of (live_streams d ++ s ∷ []) (map call_stream kept) ++ cond b (s ∷ []) []) (any_last (live_streams d) s s ∙ any_later (list_any (λ u. u == s) (live_streams d)) (s == s) (same_number s))
+          ∙ ap (λ (ns : List ℕ). ns ++ s ∷ []) (filter_agree (λ t. list_any (λ u. u == t) (live_streams d ++ s ∷ [])) (λ t. list_any (λ u. u == t) (live_streams d)) (map call_stream kept) (λ t h. any_last (live_streams d) s t ∙ no_last (live_streams d) s t (map call_stream kept) (not_among s kept none) h))
           ∙ ap (λ (ns : List ℕ). ns ++ s ∷ []) (thin.order ∙ order ∙ filter_agree (is_call d) (is_call e) (live_streams d) (λ t h. sym (other_call t (new.apart t h))))
           ∙ ap (λ (b : Bool). filter (is_call e) (live_streams d) ++ cond b (s ∷ []) []) (sym at_s)
           ∙ sym (filter-append (is_call e) (live_streams d) (s ∷ []))

@@ -17,11 +17,11 @@ use Rattle.http2_streams.specs.declared.event.StreamEvent.{StreamEvent}
 use Rattle.http2_streams.specs.declared.stream.Stream.{Stream}
 use Rattle.http2_streams.specs.History.{Entry, In, Unreadable, Out, sent_frames, has_failed, is_goaway, live_streams, highest_stream, is_ended_by_server, blocks_after, no_blocks, stream_of}
 use Rattle.http2_streams.specs.Standing.{Standing}
-use Rattle.http2_streams.specs.StandsFor.{StandsFor as AreStreams}
+use Rattle.http2_streams.specs.StandsFor.{AreStreams}
 use Rattle.http2_streams.specs.Rules.{number_is, answer_after}
-use Rattle.http2_streams.specs.Entries.{control_frames, entries_of}
+use Rattle.http2_streams.specs.Entries.{control_frames, entries_of, goaway_frame}
 use Rattle.grpc_sending.specs.Bytes.{untaken_count}
-use Rattle.grpc_sending.specs.StoredSending.{Look, sending_in, StandsFor as IsSending}
+use Rattle.grpc_sending.specs.StoredSending.{SourceTexts, sending_in, IsStoredSending}
 use Rattle.grpc_sending.proofs.Histories.{received_more, sent_more}
 use Rattle.grpc_sending.proofs.Received.{frame_heard, fault_heard}
 use Rattle.grpc_sending.proofs.Takes.{live_is}
@@ -29,13 +29,13 @@ use Rattle.grpc_messages.specs.declared.error.MessagesError.{MessagesError}
 use Rattle.conn_core.specs.declared.call.Call.{Call}
 use Rattle.conn_core.specs.declared.event.CallEvent.{CallEvent}
 use Rattle.conn_core.specs.declared.event.CallEvent.TheVariants.{Cancel as CallCancel}
-use Rattle.conn_core.specs.Received.{Outcome, outcome, fault_outcome, frames_to_put, goaway_frame, fault_frames, fault_entries}
+use Rattle.conn_core.specs.Received.{Outcome, outcome, fault_outcome, frames_to_put, fault_frames, fault_entries}
 use Rattle.conn_core.specs.Calls.{is_call, cancels, call_events_of, items_at_once}
 use Rattle.conn_core.specs.Past.{Past, owed_with_items, with_frame, with_fault}
-use Rattle.conn_core.specs.StandsFor.{Present, StandsFor, IsCall, call_on, members_of, stream_of as call_stream}
+use Rattle.conn_core.specs.StandsFor.{ConnectionValue, IsConnection, IsRestOfCall, call_on, members_of, call_stream}
 use Rattle.conn_core.specs.Step.{AreCalls, IsTaking}
 use Rattle.http2_streams.specs.LiveStreams.{IsOnItsStream, live_after, other_streams, stream_of_event}
-use Rattle.conn_core.specs.Putting.{Puts, Fails, IsAnswered, is_that, is_ending, ended_calls}
+use Rattle.conn_core.specs.Putting.{Puts, Fails, AwaitsItsAnswer, is_that, is_ending, ended_calls}
 use Rattle.conn_core.proofs.Numbers.{any_kept}
 use Rattle.http2_streams.proofs.EventLaw.{live_after_frame, event_on_stream}
 use Rattle.http2_streams.proofs.LiveLaw.{idle_is_live}
@@ -77,7 +77,7 @@ and_all true = refl
 and_all false = refl
 
 -- all calls on live streams
-pub all_end : (u : Standing) (streams : List Stream) (d : List Entry) (v : Present) → AreStreams u d → has_failed d ≡ false → streams ≡ u.live → AreCalls v d → ended_calls streams None (map call_stream v.calls) ≡ cancels d
+pub all_end : (u : Standing) (streams : List Stream) (d : List Entry) (v : ConnectionValue) → AreStreams u d → has_failed d ≡ false → streams ≡ u.live → AreCalls v d → ended_calls streams None (map call_stream v.calls) ≡ cancels d
 all_end u streams d v at fine same calls = cancels_are d (map call_stream v.calls) streams None fine calls.order (λ s h.
     or_none (list_any (number_is s) streams) ∙ ap (list_any (number_is s)) same ∙ live_is u d s at (at.fault ∙ fine))
 
@@ -110,7 +110,7 @@ ends_with d (Content t content false) s h k = with_that (live_streams d) s t fal
 ends_with d (Trailers t) s h k = with_that (live_streams d) s t (is_ended_by_server d t) h
 ends_with d (Cancel t) s h k = with_that (live_streams d) s t true h
 
-no_call : (d : List Entry) (s : ℕ) (o : Option (Result (List ℕ) MessagesError)) → IsCall d s o → is_call d s ≡ false → o ≡ None
+no_call : (d : List Entry) (s : ℕ) (o : Option (Result (List ℕ) MessagesError)) → IsRestOfCall d s o → is_call d s ≡ false → o ≡ None
 no_call d s None h k = refl
 no_call d s (Some m) h k = let no : true ≡ false = sym h.0 ∙ k in absurd (let z : ⊥ = cc in z)
 
@@ -121,7 +121,7 @@ not_among s (c ∷ cs) h = elim (cases_Bool (c.stream == s)) [
   | inr other ↦ let h' : call_on s cs ≡ None = rw other at h in rw other (not_among s cs h')
 ]
 
-other_than : (u : Standing) (d : List Entry) (v : Present) (event : Event) (s : ℕ) → AreStreams u d → has_failed d ≡ false → AreCalls v d → IsOnItsStream d event → list_any (λ t. t == s) (map call_stream v.calls) ≡ true → IsOther event s
+other_than : (u : Standing) (d : List Entry) (v : ConnectionValue) (event : Event) (s : ℕ) → AreStreams u d → has_failed d ≡ false → AreCalls v d → IsOnItsStream d event → list_any (λ t. t == s) (map call_stream v.calls) ≡ true → IsOther event s
 other_than u d v Nothing s at fine calls h member = tt
 other_than u d v (Content t content end_stream) s at fine calls h member = tt
 other_than u d v (Trailers t) s at fine calls h member = tt
@@ -135,10 +135,10 @@ other_than u d v (Request t fields end_stream) s at fine calls h member = elim (
   | inr other ↦ other
 ]
 
-failing_fine : (texts : Look) (v : Present) (p : Past) (f : RawFrame) (a : StreamEvent) → IsAnswered texts v p f a → has_failed (p.history ++ entries_of p.history f) ≡ false
+failing_fine : (texts : SourceTexts) (v : ConnectionValue) (p : Past) (f : RawFrame) (a : StreamEvent) → AwaitsItsAnswer texts v p f a → has_failed (p.history ++ entries_of p.history f) ≡ false
 failing_fine texts v p f a h = ap (λ (es : List Entry). has_failed (p.history ++ es)) (entries_caused p.history f a h.causes) ∙ failed_after p.history f (control_frames a) (answers_quiet (control_frames a) (answers_are p.history f a h.causes)) ∙ h.lives
 
-cut_end : (texts : Look) (v : Present) (p : Past) (f : RawFrame) (a : StreamEvent) → IsAnswered texts v p f a → ended_calls v.streams.live (stream_of_event a.event) (map call_stream v.calls) ≡ cancels p.history
+cut_end : (texts : SourceTexts) (v : ConnectionValue) (p : Past) (f : RawFrame) (a : StreamEvent) → AwaitsItsAnswer texts v p f a → ended_calls v.streams.live (stream_of_event a.event) (map call_stream v.calls) ≡ cancels p.history
 cut_end texts v p f a h =
     let fine : has_failed (p.history ++ entries_of p.history f) ≡ false = failing_fine texts v p f a h in
     let of : IsOnItsStream p.history a.event = event_on_stream p.history f a h.causes in
@@ -154,7 +154,7 @@ top rs = fold max 0 (map stream_of (fold blocks_after no_blocks rs).finished)
 highest_in : (d : List Entry) (f : RawFrame) (fs : List Frame) → highest_stream (d ++ In f ∷ map Out fs) ≡ highest_stream (d ++ In f ∷ [])
 highest_in d f fs = ap highest_stream (in_front d f fs) ∙ ap top (received_more (d ++ In f ∷ []) fs)
 
-highest_after : (texts : Look) (v : Present) (p : Past) (f : RawFrame) (a : StreamEvent) → IsAnswered texts v p f a → v.streams.highest ≡ highest_stream (p.history ++ In f ∷ [])
+highest_after : (texts : SourceTexts) (v : ConnectionValue) (p : Past) (f : RawFrame) (a : StreamEvent) → AwaitsItsAnswer texts v p f a → v.streams.highest ≡ highest_stream (p.history ++ In f ∷ [])
 highest_after texts v p f a h =
     ap (λ (u : Standing). u.highest) (h.streams.state (failing_fine texts v p f a h)).is
     ∙ ap (λ (es : List Entry). highest_stream (p.history ++ es)) (entries_caused p.history f a h.causes) ∙ highest_in p.history f (control_frames a)
@@ -164,13 +164,13 @@ highest_after texts v p f a h =
 pub failed_with : (d : List Entry) (h : ℕ) (code : ErrorCode) → has_failed (d ++ Out (goaway_frame h code) ∷ []) ≡ true
 failed_with d h code = ap (list_any is_goaway) (sent_more d (goaway_frame h code ∷ [])) ∙ list_any-append is_goaway (sent_frames d) (goaway_frame h code ∷ []) ∙ or_all (list_any is_goaway (sent_frames d))
 
-ended_stands : (texts : Look) (v x : Present) (code : ErrorCode) (reset : Option ℕ) (d : List Entry) (q : Past) → Fails v code reset x → q.history ≡ d ++ Out (goaway_frame v.streams.highest code) ∷ [] → IsSending texts v.sending d q.owed → q.due ≡ v.due ++ ended_calls v.streams.live reset (map call_stream v.calls) → StandsFor texts x q
+ended_stands : (texts : SourceTexts) (v x : ConnectionValue) (code : ErrorCode) (reset : Option ℕ) (d : List Entry) (q : Past) → Fails v code reset x → q.history ≡ d ++ Out (goaway_frame v.streams.highest code) ∷ [] → IsStoredSending texts v.sending d q.owed → q.due ≡ v.due ++ ended_calls v.streams.live reset (map call_stream v.calls) → IsConnection texts x q
 ended_stands texts v x code reset d q h is sending due =
     let failed : has_failed q.history ≡ true = ap has_failed is ∙ failed_with d v.streams.highest code in
     record {
       ended = h.ended ∙ sym failed;
       streams = h.streams q.history failed;
-      sending = subst (λ (es : List Entry). IsSending texts x.sending es q.owed) (sym is) (h.sending texts d q.owed sending);
+      sending = subst (λ (es : List Entry). IsStoredSending texts x.sending es q.owed) (sym is) (h.sending texts d q.owed sending);
       due = h.due ∙ sym due;
       alive = λ alive. let no : true ≡ false = sym failed ∙ alive in absurd (let z : ⊥ = cc in z);
     }
@@ -182,33 +182,33 @@ frame_by p f o = record p {
   due = p.due ++ cond o.fails (cancels p.history) (call_events_of p.history o.event);
 }
 
-fails_frame : (texts : Look) (v x : Present) (p : Past) (f : RawFrame) (fs : List Frame) (n : ℕ) (code : ErrorCode) (reset : Option ℕ) → outcome p.history f ≡ fault_outcome fs n code → v.streams.highest ≡ n → IsSending texts v.sending (p.history ++ In f ∷ map Out fs) p.owed → v.due ≡ p.due → ended_calls v.streams.live reset (map call_stream v.calls) ≡ cancels p.history → Fails v code reset x → StandsFor texts x (with_frame p f)
+fails_frame : (texts : SourceTexts) (v x : ConnectionValue) (p : Past) (f : RawFrame) (fs : List Frame) (n : ℕ) (code : ErrorCode) (reset : Option ℕ) → outcome p.history f ≡ fault_outcome fs n code → v.streams.highest ≡ n → IsStoredSending texts v.sending (p.history ++ In f ∷ map Out fs) p.owed → v.due ≡ p.due → ended_calls v.streams.live reset (map call_stream v.calls) ≡ cancels p.history → Fails v code reset x → IsConnection texts x (with_frame p f)
 fails_frame texts v x p f fs n code reset o top-is sending due ended h =
     let history : p.history ++ In f ∷ map Out (fs ++ goaway_frame n code ∷ []) ≡ (p.history ++ In f ∷ map Out fs) ++ Out (goaway_frame v.streams.highest code) ∷ [] =
     ap (λ (es : List Entry). p.history ++ In f ∷ es) (map-append Out fs (goaway_frame n code ∷ [])) ∙ sym (append_assoc p.history (In f ∷ map Out fs) (Out (goaway_frame n code) ∷ [])) ∙ ap (λ (m : ℕ). (p.history ++ In f ∷ map Out fs) ++ Out (goaway_frame m code) ∷ []) (sym top-is) in
     let q : Past = frame_by p f (fault_outcome fs n code) in
-    subst (λ (y : Outcome). StandsFor texts x (frame_by p f y)) (sym o)
+    subst (λ (y : Outcome). IsConnection texts x (frame_by p f y)) (sym o)
     (ended_stands texts v x code reset (p.history ++ In f ∷ map Out fs) (frame_by p f (fault_outcome fs n code)) h history sending (ap (λ (es : List CallEvent). es ++ cancels p.history) (sym due) ∙ ap (λ (es : List CallEvent). v.due ++ es) (sym ended)))
 
 -- the answer of a frame does not fit
-pub answered_cut : (texts : Look) (v w x : Present) (p : Past) (f : RawFrame) (a : StreamEvent) → IsAnswered texts v p f a → Puts v (control_frames a) false w → Fails w EnhanceYourCalm (stream_of_event a.event) x → StandsFor texts x (with_frame p f)
+pub answered_cut : (texts : SourceTexts) (v w x : ConnectionValue) (p : Past) (f : RawFrame) (a : StreamEvent) → AwaitsItsAnswer texts v p f a → Puts v (control_frames a) false w → Fails w EnhanceYourCalm (stream_of_event a.event) x → IsConnection texts x (with_frame p f)
 answered_cut texts v w x p f a h puts fails =
     let o = outcome_cut p.history f a h.causes (fits_of texts v p f a w false h puts) in
-    let streams : w.streams ≡ v.streams = ap (λ (y : Present). y.streams) puts.rest in
-    let calls : w.calls ≡ v.calls = ap (λ (y : Present). y.calls) puts.rest in
-    let due : w.due ≡ p.due = ap (λ (y : Present). y.due) puts.rest ∙ h.due in
+    let streams : w.streams ≡ v.streams = ap (λ (y : ConnectionValue). y.streams) puts.rest in
+    let calls : w.calls ≡ v.calls = ap (λ (y : ConnectionValue). y.calls) puts.rest in
+    let due : w.due ≡ p.due = ap (λ (y : ConnectionValue). y.due) puts.rest ∙ h.due in
     let ended : ended_calls w.streams.live (stream_of_event a.event) (map call_stream w.calls) ≡ cancels p.history =
     ap (λ (u : Standing). ended_calls u.live (stream_of_event a.event) (map call_stream w.calls)) streams ∙ ap (λ (cs : List Call). ended_calls v.streams.live (stream_of_event a.event) (map call_stream cs)) calls ∙ cut_end texts v p f a h in
     fails_frame texts w x p f (frames_to_put (untaken_count p.history) (control_frames a)) (highest_stream (p.history ++ In f ∷ [])) EnhanceYourCalm (stream_of_event a.event) o (ap (λ (u : Standing). u.highest) streams ∙ highest_after texts v p f a h) (put_behind texts v p f a w false h puts) due ended fails
 
 -- a frame is an error of the connection
-pub taken_fault : (texts : Look) (v x : Present) (u : Standing) (p : Past) (f : RawFrame) (code : ErrorCode) → IsTaking texts v p f → answer_after p.history f ≡ Err code → u.live ≡ v.streams.live → u.highest ≡ v.streams.highest → Fails (record v { streams = u }) code None x → StandsFor texts x (with_frame p f)
+pub taken_fault : (texts : SourceTexts) (v x : ConnectionValue) (u : Standing) (p : Past) (f : RawFrame) (code : ErrorCode) → IsTaking texts v p f → answer_after p.history f ≡ Err code → u.live ≡ v.streams.live → u.highest ≡ v.streams.highest → Fails (record v { streams = u }) code None x → IsConnection texts x (with_frame p f)
 taken_fault texts v x u p f code h is same top-is fails =
     let high : u.highest ≡ highest_stream p.history = top-is ∙ ap (λ (s : Standing). s.highest) (h.streams.state h.lives).is in
     fails_frame texts (record v { streams = u }) x p f [] (highest_stream p.history) code None (outcome_fault p.history f code is) high (frame_heard (sending_in texts v.sending) p.history p.owed f h.sending) h.due (all_end v.streams u.live p.history v h.streams h.lives same h.calls) fails
 
 -- bytes that are no frame
-pub read_fault : (texts : Look) (v x : Present) (p : Past) (e : FrameError) (code : ErrorCode) → has_failed p.history ≡ false → AreStreams v.streams p.history → IsSending texts v.sending p.history p.owed → v.due ≡ p.due → AreCalls v p.history → Fails v code None x → StandsFor texts x (with_fault p e code)
+pub read_fault : (texts : SourceTexts) (v x : ConnectionValue) (p : Past) (e : FrameError) (code : ErrorCode) → has_failed p.history ≡ false → AreStreams v.streams p.history → IsStoredSending texts v.sending p.history p.owed → v.due ≡ p.due → AreCalls v p.history → Fails v code None x → IsConnection texts x (with_fault p e code)
 read_fault texts v x p e code fine at sending due calls h =
     let high : v.streams.highest ≡ highest_stream p.history = ap (λ (s : Standing). s.highest) (at.state fine).is in
     let history : p.history ++ fault_entries p.history e code ≡ (p.history ++ Unreadable e ∷ []) ++ Out (goaway_frame v.streams.highest code) ∷ [] =

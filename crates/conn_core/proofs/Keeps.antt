@@ -10,29 +10,29 @@ use Rattle.http2_frames.specs.declared.settings.Setting.{Setting}
 use Rattle.http2_frames.specs.declared.frame.Frame.TheVariants.{Settings}
 use Rattle.http2_frames.specs.declared.frame.Frame.{Frame}
 use Rattle.http2_frames.specs.declared.frame.RawFrame.{RawFrame}
-use Rattle.http2_frames.specs.Reader.{Unread, StandsFor as IsReader}
+use Rattle.http2_frames.specs.Reader.{FrameReaderValue, IsReader}
 use Rattle.http2_frames.specs.Reading.{split}
 use Rattle.http2_streams.specs.declared.event.Event.{Event}
 use Rattle.http2_streams.specs.History.{Entry, Out, Took, sent_frames, received_frames, frame_in, frame_out, has_failed, is_goaway, is_not_closed, live_streams, resets, data_ends, block_ends, ends, rising_numbers, stream_of, blocks_after, no_blocks}
 use Rattle.http2_streams.specs.Standing.{Standing}
-use Rattle.http2_streams.specs.StandsFor.{StandsFor as AreStreams}
+use Rattle.http2_streams.specs.StandsFor.{AreStreams}
 use Rattle.http2_streams.proofs.PutLaw.{no_matter}
 use Rattle.grpc_messages.specs.declared.error.MessagesError.{MessagesError}
 use Rattle.grpc_sending.specs.Digest.{Digest}
 use Rattle.grpc_sending.specs.Owed.{Item, OwedItem, Range, owed_with_item}
-use Rattle.grpc_sending.specs.StoredSending.{Look, StoredSending, StandsFor as IsSending}
+use Rattle.grpc_sending.specs.StoredSending.{SourceTexts, StoredSending, IsStoredSending}
 use Rattle.grpc_sending.proofs.Histories.{append-nil}
 use Rattle.conn_core.specs.declared.call.Call.{Call}
 use Rattle.conn_core.specs.declared.event.CallEvent.{CallEvent}
 use Rattle.conn_core.specs.Received.{received_raw_frames}
 use Rattle.conn_core.specs.Calls.{events, begins_call, content_on, messages_of}
-use Rattle.conn_core.specs.Past.{Past, greeting, opening, with_item, with_taken}
-use Rattle.conn_core.specs.StandsFor.{Present, StandsFor, IsAlive, IsCall, call_on, members_of, stream_of as call_stream}
+use Rattle.conn_core.specs.Past.{Past, greeting, new_past, with_item, with_taken}
+use Rattle.conn_core.specs.StandsFor.{ConnectionValue, IsConnection, IsAlive, IsRestOfCall, call_on, members_of, call_stream}
 use Rattle.conn_core.proofs.Events.{events_took, raw_took}
 
 -- ---- an item
 
-pub item_kept : (texts : Look) (v : Present) (w : StoredSending) (p : Past) (s : ℕ) (item : Item) → StandsFor texts v p → IsSending texts w p.history (owed_with_item p.history p.owed s item) → StandsFor texts (record { reader = v.reader; streams = v.streams; sending = w; calls = v.calls; due = v.due; ended = v.ended }) (with_item p s item)
+pub item_kept : (texts : SourceTexts) (v : ConnectionValue) (w : StoredSending) (p : Past) (s : ℕ) (item : Item) → IsConnection texts v p → IsStoredSending texts w p.history (owed_with_item p.history p.owed s item) → IsConnection texts (record { reader = v.reader; streams = v.streams; sending = w; calls = v.calls; due = v.due; ended = v.ended }) (with_item p s item)
 item_kept texts v w p s item st sending = record {
   ended = st.ended;
   streams = st.streams;
@@ -41,18 +41,18 @@ item_kept texts v w p s item st sending = record {
   alive = λ alive. let a = st.alive alive in record { reader = a.reader; calls = a.calls; order = a.order };
 }
 
-pub item_by : (texts : Look) {T E : Type 0} (r : Result T E) (v old : Present) (w : StoredSending) (s : ℕ) (item : Item) → v ≡ old →
-    OnOk r ((d : List Entry) (os : List OwedItem) → AreStreams v.streams d → IsSending texts v.sending d os → IsSending texts w d (owed_with_item d os s item)) →
-    OnOk r ((p : Past) → StandsFor texts old p → StandsFor texts (record { reader = v.reader; streams = v.streams; sending = w; calls = v.calls; due = v.due; ended = v.ended }) (with_item p s item))
+pub item_by : (texts : SourceTexts) {T E : Type 0} (r : Result T E) (v old : ConnectionValue) (w : StoredSending) (s : ℕ) (item : Item) → v ≡ old →
+    OnOk r ((d : List Entry) (os : List OwedItem) → AreStreams v.streams d → IsStoredSending texts v.sending d os → IsStoredSending texts w d (owed_with_item d os s item)) →
+    OnOk r ((p : Past) → IsConnection texts old p → IsConnection texts (record { reader = v.reader; streams = v.streams; sending = w; calls = v.calls; due = v.due; ended = v.ended }) (with_item p s item))
 item_by texts (Err e) v old w s item is h = tt
 item_by texts (Ok x) v old w s item is h = λ p st0.
-    let st : StandsFor texts v p = subst (λ (y : Present). StandsFor texts y p) (sym is) st0 in
+    let st : IsConnection texts v p = subst (λ (y : ConnectionValue). IsConnection texts y p) (sym is) st0 in
     item_kept texts v w p s item st (h p.history p.owed st.streams st.sending)
 
 -- a range, whatever digest names its text
-pub for_digest : {T E : Type 0} (r : Result T E) (v old : Present) (w : StoredSending) (s : ℕ) (text : List ℕ) (from count : ℕ) (texts : Look) → v ≡ old →
-    OnOk r ((digest : Digest) (d : List Entry) (os : List OwedItem) → AreStreams v.streams d → IsSending texts v.sending d os → IsSending texts w d (owed_with_item d os s (Range digest text from count))) →
-    OnOk r ((digest : Digest) (p : Past) → StandsFor texts old p → StandsFor texts (record { reader = v.reader; streams = v.streams; sending = w; calls = v.calls; due = v.due; ended = v.ended }) (with_item p s (Range digest text from count)))
+pub for_digest : {T E : Type 0} (r : Result T E) (v old : ConnectionValue) (w : StoredSending) (s : ℕ) (text : List ℕ) (from count : ℕ) (texts : SourceTexts) → v ≡ old →
+    OnOk r ((digest : Digest) (d : List Entry) (os : List OwedItem) → AreStreams v.streams d → IsStoredSending texts v.sending d os → IsStoredSending texts w d (owed_with_item d os s (Range digest text from count))) →
+    OnOk r ((digest : Digest) (p : Past) → IsConnection texts old p → IsConnection texts (record { reader = v.reader; streams = v.streams; sending = w; calls = v.calls; due = v.due; ended = v.ended }) (with_item p s (Range digest text from count)))
 for_digest (Err e) v old w s text from count texts is h = tt
 for_digest {T = T} {E = E} (Ok x) v old w s text from count texts is h = λ digest. item_by texts {T = T} {E = E} (Ok x) v old w s (Range digest text from count) is (h digest)
 
@@ -83,7 +83,7 @@ same_live d e s h = ap (λ (rs : List Frame). lives_by rs (sent_frames e) s) h.r
 same_lives : (d e : List Entry) → IsSame d e → live_streams e ≡ live_streams d
 same_lives d e h = ap (λ (rs : List Frame). live_by rs (sent_frames e)) h.received ∙ ap (λ (ss : List Frame). live_by (received_frames d) ss) h.sent
 
-pub same_call : (d e : List Entry) (s : ℕ) (o : Option (Result (List ℕ) MessagesError)) → events e ≡ events d → IsCall d s o → IsCall e s o
+pub same_call : (d e : List Entry) (s : ℕ) (o : Option (Result (List ℕ) MessagesError)) → events e ≡ events d → IsRestOfCall d s o → IsRestOfCall e s o
 same_call d e s None h call = ap (λ (es : List Event). list_any (begins_call s) es) h ∙ call
 same_call d e s (Some m) h call = (
   ap (λ (es : List Event). list_any (begins_call s) es) h ∙ call.0,
@@ -93,7 +93,7 @@ same_call d e s (Some m) h call = (
 abbrev calls_by : List Event → List ℕ → List ℕ
 calls_by es ss = filter (λ s. list_any (begins_call s) es) ss
 
-pub same_alive : (v : Present) (w : StoredSending) (p q : Past) → q.text ≡ p.text → IsSame p.history q.history → IsAlive v p → IsAlive (record { reader = v.reader; streams = v.streams; sending = w; calls = v.calls; due = v.due; ended = v.ended }) q
+pub same_alive : (v : ConnectionValue) (w : StoredSending) (p q : Past) → q.text ≡ p.text → IsSame p.history q.history → IsAlive v p → IsAlive (record { reader = v.reader; streams = v.streams; sending = w; calls = v.calls; due = v.due; ended = v.ended }) q
 same_alive v w p q text_is h a = record {
   reader = subst (λ (t : List ℕ). IsReader CLIENT_PREFACE.now v.reader t (received_raw_frames q.history)) (sym text_is) (subst (λ (fs : List RawFrame). IsReader CLIENT_PREFACE.now v.reader p.text fs) (sym h.raw) a.reader);
   calls = λ s lives. same_call p.history q.history s (call_on s v.calls) h.events (a.calls s (sym (same_live p.history q.history s h) ∙ lives));
@@ -103,7 +103,7 @@ same_alive v w p q text_is h a = record {
 took_same : (d : List Entry) (n : ℕ) → IsSame d (d ++ Took n ∷ [])
 took_same d n = record { received = took_received d n; sent = took_sent d n; events = events_took d n; raw = raw_took d n }
 
-pub took_kept : (texts : Look) (v : Present) (w : StoredSending) (p : Past) (n : ℕ) → StandsFor texts v p → IsSending texts w (p.history ++ Took n ∷ []) p.owed → StandsFor texts (record { reader = v.reader; streams = v.streams; sending = w; calls = v.calls; due = v.due; ended = v.ended }) (with_taken p n)
+pub took_kept : (texts : SourceTexts) (v : ConnectionValue) (w : StoredSending) (p : Past) (n : ℕ) → IsConnection texts v p → IsStoredSending texts w (p.history ++ Took n ∷ []) p.owed → IsConnection texts (record { reader = v.reader; streams = v.streams; sending = w; calls = v.calls; due = v.due; ended = v.ended }) (with_taken p n)
 took_kept texts v w p n st sending = record {
   ended = st.ended ∙ ap (λ (ss : List Frame). list_any is_goaway ss) (sym (took_sent p.history n));
   streams = no_matter v.streams p.history (Took n) tt st.streams;
@@ -112,14 +112,14 @@ took_kept texts v w p n st sending = record {
   alive = λ alive. same_alive v w p (with_taken p n) refl (took_same p.history n) (st.alive (ap (λ (ss : List Frame). list_any is_goaway ss) (sym (took_sent p.history n)) ∙ alive));
 }
 
-pub took_by : (texts : Look) (v old : Present) (w : StoredSending) (n : ℕ) → v ≡ old → ((d : List Entry) (os : List OwedItem) → IsSending texts v.sending d os → IsSending texts w (d ++ Took n ∷ []) os) → (p : Past) → StandsFor texts old p → StandsFor texts (record { reader = v.reader; streams = v.streams; sending = w; calls = v.calls; due = v.due; ended = v.ended }) (with_taken p n)
+pub took_by : (texts : SourceTexts) (v old : ConnectionValue) (w : StoredSending) (n : ℕ) → v ≡ old → ((d : List Entry) (os : List OwedItem) → IsStoredSending texts v.sending d os → IsStoredSending texts w (d ++ Took n ∷ []) os) → (p : Past) → IsConnection texts old p → IsConnection texts (record { reader = v.reader; streams = v.streams; sending = w; calls = v.calls; due = v.due; ended = v.ended }) (with_taken p n)
 took_by texts v old w n is h p st0 =
-    let st : StandsFor texts v p = subst (λ (y : Present). StandsFor texts y p) (sym is) st0 in
+    let st : IsConnection texts v p = subst (λ (y : ConnectionValue). IsConnection texts y p) (sym is) st0 in
     took_kept texts v w p n st (h p.history p.owed st.sending)
 
 -- ---- a new connection
 
-pub new_stands : (texts : Look) (reader : Result Unread FrameError) (streams : Standing) (w : StoredSending) → IsReader CLIENT_PREFACE.now reader [] [] → AreStreams streams [] → IsSending texts w (greeting ∷ []) [] → StandsFor texts (record { reader = reader; streams = streams; sending = w; calls = []; due = []; ended = false }) opening
+pub new_stands : (texts : SourceTexts) (reader : Result FrameReaderValue FrameError) (streams : Standing) (w : StoredSending) → IsReader CLIENT_PREFACE.now reader [] [] → AreStreams streams [] → IsStoredSending texts w (greeting ∷ []) [] → IsConnection texts (record { reader = reader; streams = streams; sending = w; calls = []; due = []; ended = false }) new_past
 new_stands texts reader streams w read at sending = record {
   ended = refl;
   streams = no_matter streams [] greeting tt at;
@@ -130,7 +130,7 @@ new_stands texts reader streams w read at sending = record {
 
 -- ---- more bytes
 
-pub more_kept : (texts : Look) (v : Present) (r : Result Unread FrameError) (p : Past) (piece : List ℕ) → StandsFor texts v p → (has_failed p.history ≡ false → IsReader CLIENT_PREFACE.now r (p.text ++ piece) (received_raw_frames p.history)) → StandsFor texts (record { reader = r; streams = v.streams; sending = v.sending; calls = v.calls; due = v.due; ended = v.ended }) (record p { text = p.text ++ piece })
+pub more_kept : (texts : SourceTexts) (v : ConnectionValue) (r : Result FrameReaderValue FrameError) (p : Past) (piece : List ℕ) → IsConnection texts v p → (has_failed p.history ≡ false → IsReader CLIENT_PREFACE.now r (p.text ++ piece) (received_raw_frames p.history)) → IsConnection texts (record { reader = r; streams = v.streams; sending = v.sending; calls = v.calls; due = v.due; ended = v.ended }) (record p { text = p.text ++ piece })
 more_kept texts v r p piece st read = record {
   ended = st.ended;
   streams = st.streams;
@@ -143,30 +143,30 @@ more_kept texts v r p piece st read = record {
 pub refused_more : (preface text piece : List ℕ) (given : List RawFrame) (e : FrameError) → IsReader preface (Err e) text given → IsReader preface (Err e) (text ++ piece) given
 refused_more preface text piece given e h = λ more. ap (split preface) (append_assoc text piece more) ∙ h (piece ++ more)
 
-pub new_by : (texts : Look) (reader : Result Unread FrameError) (streams : Standing) (w : StoredSending) (calls : List Call) (due : List CallEvent) (ss : List Setting) → calls ≡ [] → due ≡ [] → ss ≡ record { identifier = 3; value = 100 } ∷ [] → IsReader CLIENT_PREFACE.now reader [] [] → AreStreams streams [] → IsSending texts w (Out (Settings false ss) ∷ []) [] → StandsFor texts (record { reader = reader; streams = streams; sending = w; calls = calls; due = due; ended = false }) opening
+pub new_by : (texts : SourceTexts) (reader : Result FrameReaderValue FrameError) (streams : Standing) (w : StoredSending) (calls : List Call) (due : List CallEvent) (ss : List Setting) → calls ≡ [] → due ≡ [] → ss ≡ record { identifier = 3; value = 100 } ∷ [] → IsReader CLIENT_PREFACE.now reader [] [] → AreStreams streams [] → IsStoredSending texts w (Out (Settings false ss) ∷ []) [] → IsConnection texts (record { reader = reader; streams = streams; sending = w; calls = calls; due = due; ended = false }) new_past
 new_by texts reader streams w calls due ss none none' settings read at sending =
-    let f : List Call → List CallEvent → Present = λ cs es. record { reader = reader; streams = streams; sending = w; calls = cs; due = es; ended = false } in
-    let s : IsSending texts w (greeting ∷ []) [] = subst (λ (xs : List Setting). IsSending texts w (Out (Settings false xs) ∷ []) []) settings sending in
-    subst (λ (cs : List Call). StandsFor texts (f cs due) opening) (sym none) (subst (λ (es : List CallEvent). StandsFor texts (f [] es) opening) (sym none') (new_stands texts reader streams w read at s))
+    let f : List Call → List CallEvent → ConnectionValue = λ cs es. record { reader = reader; streams = streams; sending = w; calls = cs; due = es; ended = false } in
+    let s : IsStoredSending texts w (greeting ∷ []) [] = subst (λ (xs : List Setting). IsStoredSending texts w (Out (Settings false xs) ∷ []) []) settings sending in
+    subst (λ (cs : List Call). IsConnection texts (f cs due) new_past) (sym none) (subst (λ (es : List CallEvent). IsConnection texts (f [] es) new_past) (sym none') (new_stands texts reader streams w read at s))
 
-pub fed : (r : Result Unit FrameError) (old new : Result Unread FrameError) (preface text piece : List ℕ) (given : List RawFrame) → OnOk r ((p t : List ℕ) (g : List RawFrame) → IsReader p old t g → IsReader p new (t ++ piece) g) → OnErr r (new ≡ old) → IfErr r (λ fault. (fault ≡ NoMemory → ⊥) → old ≡ Err fault) → (r ≡ Err NoMemory → ⊥) → IsReader preface old text given → IsReader preface new (text ++ piece) given
+pub fed : (r : Result Unit FrameError) (old new : Result FrameReaderValue FrameError) (preface text piece : List ℕ) (given : List RawFrame) → OnOk r ((p t : List ℕ) (g : List RawFrame) → IsReader p old t g → IsReader p new (t ++ piece) g) → OnErr r (new ≡ old) → IfErr r (λ fault. (fault ≡ NoMemory → ⊥) → old ≡ Err fault) → (r ≡ Err NoMemory → ⊥) → IsReader preface old text given → IsReader preface new (text ++ piece) given
 fed (Ok u) old new preface text piece given ok err refused memory h = ok preface text given h
 fed (Err e) old new preface text piece given ok err refused memory h =
     let is : old ≡ Err e = refused (λ k. memory (ap Err k)) in
-    let h' : IsReader preface (Err e) text given = subst (λ (o : Result Unread FrameError). IsReader preface o text given) is h in
-    subst (λ (o : Result Unread FrameError). IsReader preface o (text ++ piece) given) (sym (err ∙ is)) (refused_more preface text piece given e h')
+    let h' : IsReader preface (Err e) text given = subst (λ (o : Result FrameReaderValue FrameError). IsReader preface o text given) is h in
+    subst (λ (o : Result FrameReaderValue FrameError). IsReader preface o (text ++ piece) given) (sym (err ∙ is)) (refused_more preface text piece given e h')
 
-pub fed_by : (texts : Look) (v old : Present) (r : Result Unit FrameError) (new : Result Unread FrameError) (piece : List ℕ) → v ≡ old → OnOk r ((p t : List ℕ) (g : List RawFrame) → IsReader p v.reader t g → IsReader p new (t ++ piece) g) → OnErr r (new ≡ v.reader) → IfErr r (λ fault. (fault ≡ NoMemory → ⊥) → v.reader ≡ Err fault) → (r ≡ Err NoMemory → ⊥) → (p : Past) → StandsFor texts old p → StandsFor texts (record { reader = new; streams = v.streams; sending = v.sending; calls = v.calls; due = v.due; ended = v.ended }) (record p { text = p.text ++ piece })
+pub fed_by : (texts : SourceTexts) (v old : ConnectionValue) (r : Result Unit FrameError) (new : Result FrameReaderValue FrameError) (piece : List ℕ) → v ≡ old → OnOk r ((p t : List ℕ) (g : List RawFrame) → IsReader p v.reader t g → IsReader p new (t ++ piece) g) → OnErr r (new ≡ v.reader) → IfErr r (λ fault. (fault ≡ NoMemory → ⊥) → v.reader ≡ Err fault) → (r ≡ Err NoMemory → ⊥) → (p : Past) → IsConnection texts old p → IsConnection texts (record { reader = new; streams = v.streams; sending = v.sending; calls = v.calls; due = v.due; ended = v.ended }) (record p { text = p.text ++ piece })
 fed_by texts v old r new piece is ok err refused memory p st0 =
-    let st : StandsFor texts v p = subst (λ (y : Present). StandsFor texts y p) (sym is) st0 in
+    let st : IsConnection texts v p = subst (λ (y : ConnectionValue). IsConnection texts y p) (sym is) st0 in
     more_kept texts v new p piece st (λ alive. fed r v.reader new CLIENT_PREFACE.now p.text piece (received_raw_frames p.history) ok err refused memory (st.alive alive).reader)
 
-pub fed_ended : (texts : Look) (v old : Present) (piece : List ℕ) → v ≡ old → v.ended ≡ true → (p : Past) → StandsFor texts old p → StandsFor texts v (record p { text = p.text ++ piece })
+pub fed_ended : (texts : SourceTexts) (v old : ConnectionValue) (piece : List ℕ) → v ≡ old → v.ended ≡ true → (p : Past) → IsConnection texts old p → IsConnection texts v (record p { text = p.text ++ piece })
 fed_ended texts v old piece is ended p st0 =
-    let st : StandsFor texts v p = subst (λ (y : Present). StandsFor texts y p) (sym is) st0 in
+    let st : IsConnection texts v p = subst (λ (y : ConnectionValue). IsConnection texts y p) (sym is) st0 in
     let failed : has_failed p.history ≡ true = sym st.ended ∙ ended in
     more_kept texts v v.reader p piece st (λ alive. let no : true ≡ false = sym failed ∙ alive in absurd (let z : ⊥ = cc in z))
 
-pub fed_ok : (texts : Look) {T E : Type 0} (o : Result T E) (v old : Present) (r : Result Unit FrameError) (new : Result Unread FrameError) (piece : List ℕ) → v ≡ old → OnOk r ((p t : List ℕ) (g : List RawFrame) → IsReader p v.reader t g → IsReader p new (t ++ piece) g) → OnErr r (new ≡ v.reader) → IfErr r (λ fault. (fault ≡ NoMemory → ⊥) → v.reader ≡ Err fault) → OnOk o (r ≡ Err NoMemory → ⊥) → OnOk o ((p : Past) → StandsFor texts old p → StandsFor texts (record { reader = new; streams = v.streams; sending = v.sending; calls = v.calls; due = v.due; ended = v.ended }) (record p { text = p.text ++ piece }))
+pub fed_ok : (texts : SourceTexts) {T E : Type 0} (o : Result T E) (v old : ConnectionValue) (r : Result Unit FrameError) (new : Result FrameReaderValue FrameError) (piece : List ℕ) → v ≡ old → OnOk r ((p t : List ℕ) (g : List RawFrame) → IsReader p v.reader t g → IsReader p new (t ++ piece) g) → OnErr r (new ≡ v.reader) → IfErr r (λ fault. (fault ≡ NoMemory → ⊥) → v.reader ≡ Err fault) → OnOk o (r ≡ Err NoMemory → ⊥) → OnOk o ((p : Past) → IsConnection texts old p → IsConnection texts (record { reader = new; streams = v.streams; sending = v.sending; calls = v.calls; due = v.due; ended = v.ended }) (record p { text = p.text ++ piece }))
 fed_ok texts (Err e) v old r new piece is ok err refused memory = tt
 fed_ok texts (Ok x) v old r new piece is ok err refused memory = fed_by texts v old r new piece is ok err refused memory

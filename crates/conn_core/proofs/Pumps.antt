@@ -15,22 +15,22 @@ use Rattle.grpc_sending.proofs.Options.{if_some, first_at}
 use Rattle.http2_frames.specs.declared.frame.Frame.{Frame}
 use Rattle.http2_frames.specs.declared.frame.RawFrame.{RawFrame}
 use Rattle.http2_frames.specs.declared.reader.TheConstants.{CLIENT_PREFACE}
-use Rattle.http2_frames.specs.Reader.{StandsFor as IsReader}
+use Rattle.http2_frames.specs.Reader.{IsReader}
 use Rattle.http2_streams.specs.declared.event.Event.{Event}
 use Rattle.http2_streams.specs.History.{Entry, Out, sent_frames, received_frames, window, connection_window, is_ended_by_client, is_goaway, has_failed, is_not_closed, live_streams, opened_streams, rising_numbers, stream_of, blocks_after, no_blocks}
 use Rattle.http2_streams.specs.Standing.{Standing}
-use Rattle.http2_streams.specs.StandsFor.{StandsFor as AreStreams}
+use Rattle.http2_streams.specs.StandsFor.{AreStreams}
 use Rattle.http2_streams.proofs.LiveLaw.{live_falls}
 use Rattle.grpc_sending.specs.Bytes.{untaken_count}
 use Rattle.grpc_sending.specs.Owed.{OwedItem, pieces_left_on}
 use Rattle.grpc_sending.specs.Pump.{part_size, block_frames, reset_after, frames_on, frames_for, next_frames, history_after_puts, history_after_pump}
-use Rattle.grpc_sending.specs.StoredSending.{Look, StoredSending, Fit, IsAtRest, StandsFor as IsSending}
+use Rattle.grpc_sending.specs.StoredSending.{SourceTexts, StoredSending, QueuesEndWithin, IsAtRest, IsStoredSending}
 use Rattle.grpc_sending.proofs.Pumps.{pumped_none}
 use Rattle.grpc_sending.proofs.Histories.{append-nil, sent_more, received_more}
 use Rattle.grpc_sending.proofs.Entries.{failed_before}
 use Rattle.conn_core.specs.Calls.{events, begins_call, is_call}
 use Rattle.conn_core.specs.Past.{Past, with_pumped}
-use Rattle.conn_core.specs.StandsFor.{Present, StandsFor, call_on, members_of, stream_of as call_stream}
+use Rattle.conn_core.specs.StandsFor.{ConnectionValue, IsConnection, call_on, members_of, call_stream}
 use Rattle.conn_core.proofs.Events.{events_out, raw_out}
 use Rattle.conn_core.proofs.Keeps.{same_call}
 use Rattle.conn_core.proofs.Numbers.{any_kept, any_later, filter_less, or_none, same_number}
@@ -133,7 +133,7 @@ order_kept d e xs same brought less order =
     ∙ ap (λ (ss : List ℕ). filter (is_call d) ss) (sym le)
     ∙ ap (λ (es : List Event). filter (λ s. list_any (begins_call s) es) (live_streams e)) (sym brought)
 
-put_kept : (texts : Look) (v : Present) (streams : Standing) (w : StoredSending) (p : Past) (fs : List Frame) → StandsFor texts v p → AreStreams streams (p.history ++ map Out fs) → IsSending texts w (p.history ++ map Out fs) p.owed → v.ended ≡ has_failed (p.history ++ map Out fs) → StandsFor texts (record { reader = v.reader; streams = streams; sending = w; calls = v.calls; due = v.due; ended = v.ended }) (record p { history = p.history ++ map Out fs })
+put_kept : (texts : SourceTexts) (v : ConnectionValue) (streams : Standing) (w : StoredSending) (p : Past) (fs : List Frame) → IsConnection texts v p → AreStreams streams (p.history ++ map Out fs) → IsStoredSending texts w (p.history ++ map Out fs) p.owed → v.ended ≡ has_failed (p.history ++ map Out fs) → IsConnection texts (record { reader = v.reader; streams = streams; sending = w; calls = v.calls; due = v.due; ended = v.ended }) (record p { history = p.history ++ map Out fs })
 put_kept texts v streams w p fs st at sending ended = record {
   ended = ended;
   streams = at;
@@ -148,18 +148,18 @@ put_kept texts v streams w p fs st at sending ended = record {
       };
 }
 
-pub pumped_by : (texts : Look) (v old : Present) (streams : Standing) (w : StoredSending) → v ≡ old → ((d : List Entry) (os : List OwedItem) → AreStreams v.streams d → IsSending texts v.sending d os → AreStreams streams (history_after_pump d os)) → ((d : List Entry) (os : List OwedItem) → AreStreams v.streams d → IsSending texts v.sending d os → IsSending texts w (history_after_pump d os) os) → (p : Past) → StandsFor texts old p → StandsFor texts (record { reader = v.reader; streams = streams; sending = w; calls = v.calls; due = v.due; ended = v.ended }) (with_pumped p)
+pub pumped_by : (texts : SourceTexts) (v old : ConnectionValue) (streams : Standing) (w : StoredSending) → v ≡ old → ((d : List Entry) (os : List OwedItem) → AreStreams v.streams d → IsStoredSending texts v.sending d os → AreStreams streams (history_after_pump d os)) → ((d : List Entry) (os : List OwedItem) → AreStreams v.streams d → IsStoredSending texts v.sending d os → IsStoredSending texts w (history_after_pump d os) os) → (p : Past) → IsConnection texts old p → IsConnection texts (record { reader = v.reader; streams = streams; sending = w; calls = v.calls; due = v.due; ended = v.ended }) (with_pumped p)
 pumped_by texts v old streams w is at sending p st0 =
-    let st : StandsFor texts v p = subst (λ (y : Present). StandsFor texts y p) (sym is) st0 in
+    let st : IsConnection texts v p = subst (λ (y : ConnectionValue). IsConnection texts y p) (sym is) st0 in
     let f = pumped_is p.history p.owed in
     let a : AreStreams streams (p.history ++ map Out f.0) = subst (λ (d : List Entry). AreStreams streams d) f.1 (at p.history p.owed st.streams st.sending) in
-    let b : IsSending texts w (p.history ++ map Out f.0) p.owed = subst (λ (d : List Entry). IsSending texts w d p.owed) f.1 (sending p.history p.owed st.streams st.sending) in
+    let b : IsStoredSending texts w (p.history ++ map Out f.0) p.owed = subst (λ (d : List Entry). IsStoredSending texts w d p.owed) f.1 (sending p.history p.owed st.streams st.sending) in
     let c : v.ended ≡ has_failed (p.history ++ map Out f.0) = st.ended ∙ sym (failed_same p.history f.0 f.2) in
-    subst (λ (d : List Entry). StandsFor texts (record { reader = v.reader; streams = streams; sending = w; calls = v.calls; due = v.due; ended = v.ended }) (record p { history = d })) (sym f.1) (put_kept texts v streams w p f.0 st a b c)
+    subst (λ (d : List Entry). IsConnection texts (record { reader = v.reader; streams = streams; sending = w; calls = v.calls; due = v.due; ended = v.ended }) (record p { history = d })) (sym f.1) (put_kept texts v streams w p f.0 st a b c)
 
 -- where nothing can be put, the pump changes nothing
-pub rested_by : (texts : Look) (v old : Present) → v ≡ old → IsAtRest v.streams v.sending → Fit texts old.sending.queues → (p : Past) → StandsFor texts old p → StandsFor texts old (with_pumped p)
+pub rested_by : (texts : SourceTexts) (v old : ConnectionValue) → v ≡ old → IsAtRest v.streams v.sending → QueuesEndWithin texts old.sending.queues → (p : Past) → IsConnection texts old p → IsConnection texts old (with_pumped p)
 rested_by texts v old is rests fit p st =
-    let at : IsAtRest old.streams old.sending = subst (λ (y : Present). IsAtRest y.streams y.sending) is rests in
+    let at : IsAtRest old.streams old.sending = subst (λ (y : ConnectionValue). IsAtRest y.streams y.sending) is rests in
     let none : next_frames p.history p.owed ≡ None = at texts fit p.history p.owed st.streams st.sending in
-    subst (λ (d : List Entry). StandsFor texts old (record p { history = d })) (sym (pumped_none p.history p.owed none)) st
+    subst (λ (d : List Entry). IsConnection texts old (record p { history = d })) (sym (pumped_none p.history p.owed none)) st

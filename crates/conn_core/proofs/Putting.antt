@@ -12,11 +12,11 @@ use Rattle.http2_streams.specs.History.{Entry, Out}
 use Rattle.http2_streams.specs.declared.event.StreamEvent.{StreamEvent}
 use Rattle.http2_streams.specs.Entries.{control_frames}
 use Rattle.grpc_sending.specs.Owed.{OwedItem}
-use Rattle.grpc_sending.specs.StoredSending.{Look, StoredSending, StandsFor as IsSending}
+use Rattle.grpc_sending.specs.StoredSending.{SourceTexts, StoredSending, IsStoredSending}
 use Rattle.grpc_sending.proofs.Histories.{append-nil, text_length}
 use Rattle.conn_core.specs.Received.{may_put, frames_to_put, may_put_all}
-use Rattle.conn_core.specs.StandsFor.{Present}
-use Rattle.conn_core.specs.Putting.{Puts, is_answer, are_answers}
+use Rattle.conn_core.specs.StandsFor.{ConnectionValue}
+use Rattle.conn_core.specs.Putting.{Puts, has_answer_form, have_answer_form}
 
 -- ---- the frames that fit, of two lists
 
@@ -62,18 +62,18 @@ frames_to_put-append n (f ∷ fs) gs h = elim (cases_Bool (may_put n f)) [
 
 -- ---- one frame after another
 
-abbrev pub with_sending : Present → StoredSending → Present
+abbrev pub with_sending : ConnectionValue → StoredSending → ConnectionValue
 with_sending v w = record { reader = v.reader; streams = v.streams; sending = w; calls = v.calls; due = v.due; ended = v.ended }
 
-pub puts_none : (v : Present) → Puts v [] true v
+pub puts_none : (v : ConnectionValue) → Puts v [] true v
 puts_none v = record {
   all = refl;
-  sending = λ texts d os st. subst (λ (e : List Entry). IsSending texts v.sending e os) (sym (append-nil d)) st;
+  sending = λ texts d os st. subst (λ (e : List Entry). IsStoredSending texts v.sending e os) (sym (append-nil d)) st;
   size = omega arith;
   rest = refl;
 }
 
-pub puts_more : (v w x : Present) (fs gs : List Frame) (all : Bool) → Puts v fs true w → Puts w gs all x → Puts v (fs ++ gs) all x
+pub puts_more : (v w x : ConnectionValue) (fs gs : List Frame) (all : Bool) → Puts v fs true w → Puts w gs all x → Puts v (fs ++ gs) all x
 puts_more v w x fs gs all a b =
     let n : ℕ = length v.sending.pending in
     let fit : may_put_all (length v.sending.pending) fs ≡ true = sym a.all in
@@ -83,21 +83,21 @@ puts_more v w x fs gs all a b =
     record {
       all = b.all ∙ ap (λ m. may_put_all m gs) size ∙ sym (may_put_all-append (length v.sending.pending) fs gs fit);
       sending = λ texts d os st.
-          let one : IsSending texts w.sending (d ++ map Out fs) os = subst (λ (xs : List Frame). IsSending texts w.sending (d ++ map Out xs) os) whole (a.sending texts d os st) in
+          let one : IsStoredSending texts w.sending (d ++ map Out fs) os = subst (λ (xs : List Frame). IsStoredSending texts w.sending (d ++ map Out xs) os) whole (a.sending texts d os st) in
           let two = b.sending texts (d ++ map Out fs) os one in
           let e : (d ++ map Out fs) ++ map Out (frames_to_put (length w.sending.pending) gs) ≡ d ++ map Out (frames_to_put (length v.sending.pending) (fs ++ gs)) =
           append_assoc d (map Out fs) (map Out (frames_to_put (length w.sending.pending) gs)) ∙ ap (λ (es : List Entry). d ++ es) (sym (map-append Out fs (frames_to_put (length w.sending.pending) gs))) ∙ ap (λ (xs : List Frame). d ++ map Out xs) (sym joined) in
-          subst (λ (e : List Entry). IsSending texts x.sending e os) e two;
+          subst (λ (e : List Entry). IsStoredSending texts x.sending e os) e two;
       size = omega (arith, b.size, size, ap (λ (xs : List Frame). length (flat_map text_of xs)) joined, ap length (flat_map-append text_of fs (frames_to_put (length w.sending.pending) gs)), length-append (flat_map text_of fs) (flat_map text_of (frames_to_put (length w.sending.pending) gs)));
-      rest = b.rest ∙ ap (λ (y : Present). with_sending y x.sending) a.rest;
+      rest = b.rest ∙ ap (λ (y : ConnectionValue). with_sending y x.sending) a.rest;
     }
 
-pub puts_short : (v w : Present) (fs gs : List Frame) → Puts v fs false w → Puts v (fs ++ gs) false w
+pub puts_short : (v w : ConnectionValue) (fs gs : List Frame) → Puts v fs false w → Puts v (fs ++ gs) false w
 puts_short v w fs gs a =
     let e = none_more (length v.sending.pending) fs gs (sym a.all) in
     record {
       all = sym e.0;
-      sending = λ texts d os st. subst (λ (xs : List Frame). IsSending texts w.sending (d ++ map Out xs) os) (sym e.1) (a.sending texts d os st);
+      sending = λ texts d os st. subst (λ (xs : List Frame). IsStoredSending texts w.sending (d ++ map Out xs) os) (sym e.1) (a.sending texts d os st);
       size = a.size ∙ ap (λ (xs : List Frame). length v.sending.pending + length (flat_map text_of xs)) (sym e.1);
       rest = a.rest;
     }
@@ -114,45 +114,45 @@ fits_is n f false h = elim (cases_Bool (may_put n f)) [
   | inr many ↦ many
 ]
 
-pub puts_one : (v old : Present) (w : StoredSending) (f : Frame) (b : Bool) → v ≡ old → b ≡ true → (IsTrue b ↔ ((length v.sending.pending + (9 + length (raw_of f).payload)) ≤ 131055)) → ((texts : Look) (d : List Entry) (os : List OwedItem) → IsSending texts v.sending d os → IsSending texts w (d ++ Out f ∷ []) os) → length w.pending ≡ length v.sending.pending + (9 + length (raw_of f).payload) → Puts old (f ∷ []) true (with_sending v w)
+pub puts_one : (v old : ConnectionValue) (w : StoredSending) (f : Frame) (b : Bool) → v ≡ old → b ≡ true → (IsTrue b ↔ ((length v.sending.pending + (9 + length (raw_of f).payload)) ≤ 131055)) → ((texts : SourceTexts) (d : List Entry) (os : List OwedItem) → IsStoredSending texts v.sending d os → IsStoredSending texts w (d ++ Out f ∷ []) os) → length w.pending ≡ length v.sending.pending + (9 + length (raw_of f).payload) → Puts old (f ∷ []) true (with_sending v w)
 puts_one v old w f b is room-is room stands size =
     let fit : may_put (length v.sending.pending) f ≡ true = fits_is (length v.sending.pending) f b room ∙ room-is in
     let one : frames_to_put (length v.sending.pending) (f ∷ []) ≡ f ∷ [] = rw fit refl in
-    subst (λ (y : Present). Puts y (f ∷ []) true (with_sending v w)) is (record {
+    subst (λ (y : ConnectionValue). Puts y (f ∷ []) true (with_sending v w)) is (record {
       all = sym (rw fit refl);
-      sending = λ texts d os st. subst (λ (xs : List Frame). IsSending texts w (d ++ map Out xs) os) (sym one) (stands texts d os st);
+      sending = λ texts d os st. subst (λ (xs : List Frame). IsStoredSending texts w (d ++ map Out xs) os) (sym one) (stands texts d os st);
       size = omega (arith, size, ap (λ (xs : List Frame). length (flat_map text_of xs)) one, ap length (append-nil (text_of f)), text_length (raw_of f));
       rest = refl;
     })
 
-pub puts_not : (v old : Present) (f : Frame) (b : Bool) → v ≡ old → b ≡ false → (IsTrue b ↔ ((length v.sending.pending + (9 + length (raw_of f).payload)) ≤ 131055)) → Puts old (f ∷ []) false v
+pub puts_not : (v old : ConnectionValue) (f : Frame) (b : Bool) → v ≡ old → b ≡ false → (IsTrue b ↔ ((length v.sending.pending + (9 + length (raw_of f).payload)) ≤ 131055)) → Puts old (f ∷ []) false v
 puts_not v old f b is room-is room =
     let fit : may_put (length v.sending.pending) f ≡ false = fits_is (length v.sending.pending) f b room ∙ room-is in
     let none : frames_to_put (length v.sending.pending) (f ∷ []) ≡ [] = rw fit refl in
-    subst (λ (y : Present). Puts y (f ∷ []) false v) is (record {
+    subst (λ (y : ConnectionValue). Puts y (f ∷ []) false v) is (record {
       all = sym (rw fit refl);
-      sending = λ texts d os st. subst (λ (xs : List Frame). IsSending texts v.sending (d ++ map Out xs) os) (sym none) (subst (λ (e : List Entry). IsSending texts v.sending e os) (sym (append-nil d)) st);
+      sending = λ texts d os st. subst (λ (xs : List Frame). IsStoredSending texts v.sending (d ++ map Out xs) os) (sym none) (subst (λ (e : List Entry). IsStoredSending texts v.sending e os) (sym (append-nil d)) st);
       size = omega (arith, ap (λ (xs : List Frame). length (flat_map text_of xs)) none);
       rest = refl;
     })
 
 -- ---- the four of an answer
 
-are_parts : (fs gs : List Frame) → are_answers (fs ++ gs) ≡ true → (are_answers fs ≡ true) × (are_answers gs ≡ true)
+are_parts : (fs gs : List Frame) → have_answer_form (fs ++ gs) ≡ true → (have_answer_form fs ≡ true) × (have_answer_form gs ≡ true)
 are_parts [] gs h = (refl, h)
-are_parts (f ∷ fs) gs h = elim (cases_Bool (is_answer f)) [
-  | inl is ↦ let h' : are_answers (fs ++ gs) ≡ true = rw is at h in let p = are_parts fs gs h' in rw is (p.0, p.1)
+are_parts (f ∷ fs) gs h = elim (cases_Bool (has_answer_form f)) [
+  | inl is ↦ let h' : have_answer_form (fs ++ gs) ≡ true = rw is at h in let p = are_parts fs gs h' in rw is (p.0, p.1)
   | inr other ↦ let no : false ≡ true = rw other at h in cc
 ]
 
-abbrev pub PutsIf : Present → List Frame → Bool → Present → Type 0
-PutsIf v fs b w = are_answers fs ≡ true → Puts v fs b w
+abbrev pub PutsIf : ConnectionValue → List Frame → Bool → ConnectionValue → Type 0
+PutsIf v fs b w = have_answer_form fs ≡ true → Puts v fs b w
 
-pub puts_next : (v w x : Present) (fs gs : List Frame) (b c : Bool) → b ≡ true → PutsIf v fs b w → PutsIf w gs c x → PutsIf v (fs ++ gs) c x
+pub puts_next : (v w x : ConnectionValue) (fs gs : List Frame) (b c : Bool) → b ≡ true → PutsIf v fs b w → PutsIf w gs c x → PutsIf v (fs ++ gs) c x
 puts_next v w x fs gs true c is one two h = let p = are_parts fs gs h in puts_more v w x fs gs c (one p.0) (two p.1)
 puts_next v w x fs gs false c is one two h = cc
 
-pub puts_stop : (v w : Present) (fs gs : List Frame) (b : Bool) → b ≡ false → PutsIf v fs b w → PutsIf v (fs ++ gs) false w
+pub puts_stop : (v w : ConnectionValue) (fs gs : List Frame) (b : Bool) → b ≡ false → PutsIf v fs b w → PutsIf v (fs ++ gs) false w
 puts_stop v w fs gs true is one h = cc
 puts_stop v w fs gs false is one h = puts_short v w fs gs (one (are_parts fs gs h).0)
 
@@ -168,16 +168,16 @@ third a = option_to_list a.stream_update
 abbrev fourth : StreamEvent → List Frame
 fourth a = option_to_list a.reset
 
-pub stops_first : (a : StreamEvent) (v w : Present) (b : Bool) → b ≡ false → PutsIf v (first a) b w → PutsIf v (control_frames a) false w
+pub stops_first : (a : StreamEvent) (v w : ConnectionValue) (b : Bool) → b ≡ false → PutsIf v (first a) b w → PutsIf v (control_frames a) false w
 stops_first a v w b is one = puts_stop v w (first a) (second a ++ (third a ++ fourth a)) b is one
 
-pub stops_second : (a : StreamEvent) (v w x : Present) (b c : Bool) → b ≡ true → c ≡ false → PutsIf v (first a) b w → PutsIf w (second a) c x → PutsIf v (control_frames a) false x
+pub stops_second : (a : StreamEvent) (v w x : ConnectionValue) (b c : Bool) → b ≡ true → c ≡ false → PutsIf v (first a) b w → PutsIf w (second a) c x → PutsIf v (control_frames a) false x
 stops_second a v w x b c is stops one two = puts_next v w x (first a) (second a ++ (third a ++ fourth a)) b false is one (puts_stop w x (second a) (third a ++ fourth a) c stops two)
 
-pub stops_third : (a : StreamEvent) (v w x y : Present) (b c d : Bool) → b ≡ true → c ≡ true → d ≡ false → PutsIf v (first a) b w → PutsIf w (second a) c x → PutsIf x (third a) d y → PutsIf v (control_frames a) false y
+pub stops_third : (a : StreamEvent) (v w x y : ConnectionValue) (b c d : Bool) → b ≡ true → c ≡ true → d ≡ false → PutsIf v (first a) b w → PutsIf w (second a) c x → PutsIf x (third a) d y → PutsIf v (control_frames a) false y
 stops_third a v w x y b c d is is' stops one two three =
     puts_next v w y (first a) (second a ++ (third a ++ fourth a)) b false is one (puts_next w x y (second a) (third a ++ fourth a) c false is' two (puts_stop x y (third a) (fourth a) d stops three))
 
-pub comes_to_end : (a : StreamEvent) (v w x y z : Present) (b c d e : Bool) → b ≡ true → c ≡ true → d ≡ true → PutsIf v (first a) b w → PutsIf w (second a) c x → PutsIf x (third a) d y → PutsIf y (fourth a) e z → PutsIf v (control_frames a) e z
+pub comes_to_end : (a : StreamEvent) (v w x y z : ConnectionValue) (b c d e : Bool) → b ≡ true → c ≡ true → d ≡ true → PutsIf v (first a) b w → PutsIf w (second a) c x → PutsIf x (third a) d y → PutsIf y (fourth a) e z → PutsIf v (control_frames a) e z
 comes_to_end a v w x y z b c d e is is' is'' one two three four =
     puts_next v w z (first a) (second a ++ (third a ++ fourth a)) b e is one (puts_next w x z (second a) (third a ++ fourth a) c e is' two (puts_next x y z (third a) (fourth a) d e is'' three four))

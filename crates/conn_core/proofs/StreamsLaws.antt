@@ -21,27 +21,27 @@ use Rattle.http2_streams.specs.Standing.{standing}
 use Rattle.http2_streams.specs.Rules.{answer_after}
 use Rattle.http2_streams.specs.Entries.{control_frames}
 use Rattle.http2_streams.specs.LiveStreams.{IsOnItsStream}
-use Rattle.http2_streams.specs.ControlAnswers.{IsAnswer}
+use Rattle.http2_streams.specs.ControlAnswers.{IsControlAnswer}
 use Rattle.http2_streams.proofs.EventLaw.{event_on_stream, request_is_highest}
 use Rattle.http2_streams.proofs.LiveLaw.{blocks_stay}
 use Rattle.http2_streams.proofs.ControlLaw.{answer_elim, answers_are_control}
-use Rattle.conn_core.specs.Putting.{is_answer, are_answers}
+use Rattle.conn_core.specs.Putting.{has_answer_form, have_answer_form}
 use Rattle.conn_core.proofs.Numbers.{any_kept}
 
 -- ---- answers
 
-settings_one : (ack : Bool) (settings : List Setting) → IsAnswer (Settings ack settings) → is_answer (Settings ack settings) ≡ true
+settings_one : (ack : Bool) (settings : List Setting) → IsControlAnswer (Settings ack settings) → has_answer_form (Settings ack settings) ≡ true
 settings_one ack [] h = refl
 settings_one ack (x ∷ xs) h = let none = h.1 in cc
 
-is_one : (f : Frame) → IsAnswer f → is_answer f ≡ true
-is_one = answer_elim (λ f. is_answer f ≡ true) settings_one (λ ack o h. ap (λ (n : ℕ). n == 8) h.1) (λ s n. refl) (λ s code. refl)
+is_one : (f : Frame) → IsControlAnswer f → has_answer_form f ≡ true
+is_one = answer_elim (λ f. has_answer_form f ≡ true) settings_one (λ ack o h. ap (λ (n : ℕ). n == 8) h.1) (λ s n. refl) (λ s code. refl)
 
-are_all : (fs : List Frame) → AllByRecursion IsAnswer fs → are_answers fs ≡ true
+are_all : (fs : List Frame) → AllByRecursion IsControlAnswer fs → have_answer_form fs ≡ true
 are_all [] h = refl
-are_all (f ∷ fs) h = let is : is_answer f ≡ true = is_one f h.0 in rw is (are_all fs h.1)
+are_all (f ∷ fs) h = let is : has_answer_form f ≡ true = is_one f h.0 in rw is (are_all fs h.1)
 
-pub answers_are : (d : List Entry) (f : RawFrame) (a : StreamEvent) → answer_after d f ≡ Ok a → are_answers (control_frames a) ≡ true
+pub answers_are : (d : List Entry) (f : RawFrame) (a : StreamEvent) → answer_after d f ≡ Ok a → have_answer_form (control_frames a) ≡ true
 answers_are d f a h = are_all (control_frames a) (answers_are_control (standing d) f a h)
 
 pub in_live : (d : List Entry) (s : ℕ) → list_any (λ t. t == s) (live_streams d) ≡ (list_any (λ t. t == s) (opened_streams d) && is_not_closed d s)

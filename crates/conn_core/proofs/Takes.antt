@@ -7,13 +7,13 @@ use Rattle.grpc_messages.specs.declared.error.MessagesError.{MessagesError}
 use Rattle.grpc_messages.specs.declared.error.MessagesError.TheVariants.{NoMemory}
 use Rattle.grpc_messages.specs.Wire.{Split}
 use Rattle.grpc_messages.specs.Reading.{message_format, split}
-use Rattle.grpc_messages.specs.Reader.{bytes_left, messages_in, StandsFor as AreMessages}
+use Rattle.grpc_messages.specs.Reader.{bytes_left, messages_in, AreMessages}
 use Rattle.grpc_messages.proofs.Fronts.{steady}
 use Rattle.http2_frames.proofs.WireItemsDivisions.{grows}
 use Rattle.grpc_sending.proofs.Histories.{append-nil}
 use Rattle.conn_core.specs.declared.event.CallEvent.{CallEvent}
 use Rattle.conn_core.specs.declared.event.CallEvent.TheVariants.{Message, Fault}
-use Rattle.conn_core.specs.Calls.{message_limit, messages_of, events_at_end, events_behind_messages, events_of_content, refusal_of}
+use Rattle.conn_core.specs.Calls.{message_limit, messages_of, events_at_end, events_behind_messages, events_of_content, message_refusal}
 use Rattle.conn_core.specs.CallSteps.{GaveMessages, GaveAll, TakesAll}
 use Rattle.conn_core.proofs.Texts.{rest_is, no_more, more_is, stands_behind}
 
@@ -68,7 +68,7 @@ gave_all_by given s t old mid new before after r h is stands none =
     (λ text gs st. subst (λ (x : Result (Option (List ℕ)) MessagesError). AreMessages message_limit new text (gs ++ messages_in x)) is (stands text gs st))
     (subst (λ (x : Result (Option (List ℕ)) MessagesError). IfOk x (λ o. IfNone o ((text : List ℕ) (gs : List (List ℕ)) → AreMessages message_limit mid text gs → split message_limit text ≡ record { items = gs; end = Ok (bytes_left new) }))) is none)
 
-pub gave_fault : (given : List (List ℕ)) (s t : ℕ) (old mid new : Kept) (before after later : List CallEvent) (fault : MessagesError) → GaveMessages given s t old mid before after → ((text : List ℕ) (gs : List (List ℕ)) → AreMessages message_limit mid text gs → split message_limit text ≡ record { items = gs; end = Err fault }) → new ≡ Err fault → later ≡ after ++ Fault t (refusal_of fault) ∷ [] → TakesAll s false old new before later
+pub gave_fault : (given : List (List ℕ)) (s t : ℕ) (old mid new : Kept) (before after later : List CallEvent) (fault : MessagesError) → GaveMessages given s t old mid before after → ((text : List ℕ) (gs : List (List ℕ)) → AreMessages message_limit mid text gs → split message_limit text ≡ record { items = gs; end = Err fault }) → new ≡ Err fault → later ≡ after ++ Fault t (message_refusal fault) ∷ [] → TakesAll s false old new before later
 gave_fault given s t old mid new before after later fault h refused is events u earlier st =
     let at : AreMessages message_limit mid u (earlier ++ given) = h.stands u earlier st in
     let split_is = refused u (earlier ++ given) at in
@@ -79,14 +79,14 @@ gave_fault given s t old mid new before after later fault h refused is events u 
         end = is ∙ sym end;
         whole = ap (λ (e : Kept). is_ok e) end;
         events = events
-            ∙ ap (λ (es : List CallEvent). es ++ Fault t (refusal_of fault) ∷ []) h.events
-            ∙ append_assoc before (map (Message s) given) (Fault t (refusal_of fault) ∷ [])
-            ∙ ap (λ (n : ℕ). before ++ (map (Message s) given ++ Fault n (refusal_of fault) ∷ [])) h.stream
+            ∙ ap (λ (es : List CallEvent). es ++ Fault t (message_refusal fault) ∷ []) h.events
+            ∙ append_assoc before (map (Message s) given) (Fault t (message_refusal fault) ∷ [])
+            ∙ ap (λ (n : ℕ). before ++ (map (Message s) given ++ Fault n (message_refusal fault) ∷ [])) h.stream
             ∙ ap (λ (e : Kept). before ++ (map (Message s) given ++ events_behind_messages s false e)) (sym end);
       },
     )
 
-pub gave_fault_by : (given : List (List ℕ)) (s t : ℕ) (old mid new : Kept) (before after later : List CallEvent) (fault : MessagesError) (r : Result (Option (List ℕ)) MessagesError) → GaveMessages given s t old mid before after → r ≡ Err fault → fault ≢ NoMemory → IfErr r (λ e. e ≢ NoMemory → (text : List ℕ) (gs : List (List ℕ)) → AreMessages message_limit mid text gs → split message_limit text ≡ record { items = gs; end = Err e }) → IfErr r (λ e. e ≢ NoMemory → new ≡ Err e) → later ≡ after ++ Fault t (refusal_of fault) ∷ [] → TakesAll s false old new before later
+pub gave_fault_by : (given : List (List ℕ)) (s t : ℕ) (old mid new : Kept) (before after later : List CallEvent) (fault : MessagesError) (r : Result (Option (List ℕ)) MessagesError) → GaveMessages given s t old mid before after → r ≡ Err fault → fault ≢ NoMemory → IfErr r (λ e. e ≢ NoMemory → (text : List ℕ) (gs : List (List ℕ)) → AreMessages message_limit mid text gs → split message_limit text ≡ record { items = gs; end = Err e }) → IfErr r (λ e. e ≢ NoMemory → new ≡ Err e) → later ≡ after ++ Fault t (message_refusal fault) ∷ [] → TakesAll s false old new before later
 gave_fault_by given s t old mid new before after later fault r h is other refused lasts events =
     gave_fault given s t old mid new before after later fault h
     (subst (λ (x : Result (Option (List ℕ)) MessagesError). IfErr x (λ e. e ≢ NoMemory → (text : List ℕ) (gs : List (List ℕ)) → AreMessages message_limit mid text gs → split message_limit text ≡ record { items = gs; end = Err e })) is refused other)

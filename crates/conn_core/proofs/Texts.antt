@@ -6,7 +6,7 @@ use Rattle.http2_frames.proofs.WireItemsDivisions.{continues, divide_partial}
 use Rattle.grpc_messages.specs.declared.error.MessagesError.{MessagesError}
 use Rattle.grpc_messages.specs.Wire.{Split}
 use Rattle.grpc_messages.specs.Reading.{message_format, split}
-use Rattle.grpc_messages.specs.Reader.{split_left, with_more_bytes, bytes_left, StandsFor as AreMessages}
+use Rattle.grpc_messages.specs.Reader.{split_left, with_more_bytes, bytes_left, AreMessages}
 use Rattle.grpc_messages.proofs.Fronts.{steady}
 use Rattle.grpc_messages.proofs.Steps.{left_now}
 use Rattle.conn_core.specs.declared.event.CallEvent.TheVariants.{Message}

@@ -5,25 +5,27 @@ use Rattle.std.specs.List.{list_any}
 use Rattle.std.specs.Result.{is_ok}
 use Rattle.http2_streams.specs.declared.stream.Stream.{Stream}
 use Rattle.grpc_messages.specs.declared.error.MessagesError.{MessagesError}
-use Rattle.grpc_messages.specs.Reader.{StandsFor as AreMessages}
+use Rattle.grpc_messages.specs.Reader.{AreMessages}
 use Rattle.rpc.specs.declared.method.Method.{Method}
 use Rattle.conn_core.specs.declared.call.Call.{Call}
 use Rattle.conn_core.specs.declared.event.CallEvent.{CallEvent}
 use Rattle.conn_core.specs.declared.event.CallEvent.TheVariants.{Head, Message, Cancel}
 use Rattle.conn_core.specs.Calls.{message_limit, messages_of, events_behind_messages, events_of_content}
-use Rattle.conn_core.specs.StandsFor.{KeepsOpen, call_on, stream_of}
+use Rattle.conn_core.specs.StandsFor.{KeepsOpen, call_on, call_stream}
 
 -- ---- the text of one call
 
 -- these messages were taken of what is kept, of whatever text it was
-pub record GaveMessages (given : List (List ℕ)) (s t : ℕ) (old new : Result (List ℕ) MessagesError) (before after : List CallEvent) : Type 0 where
+pub record GaveMessages (given : List (List ℕ)) (s t : ℕ)
+    (old new : Result (List ℕ) MessagesError) (before after : List CallEvent) : Type 0 where
   pub stream : t ≡ s
   pub events : after ≡ before ++ map (Message s) given
   pub stands : (u : List ℕ) (earlier : List (List ℕ)) → AreMessages message_limit old u earlier →
       AreMessages message_limit new u (earlier ++ given)
 
 -- behind those that were given earlier, the others were given
-pub record GaveAll (given earlier : List (List ℕ)) (u : List ℕ) (s : ℕ) (is_whole : Bool) (new : Result (List ℕ) MessagesError) (before after : List CallEvent) : Type 0 where
+pub record GaveAll (given earlier : List (List ℕ)) (u : List ℕ) (s : ℕ) (is_whole : Bool)
+    (new : Result (List ℕ) MessagesError) (before after : List CallEvent) : Type 0 where
   pub all : (messages_of u).items ≡ earlier ++ given
   pub end : new ≡ (messages_of u).end
   pub whole : is_ok (messages_of u).end ≡ is_whole
@@ -40,20 +42,22 @@ TakesAll s whole old new before after =
 -- ---- one call among others
 
 -- its place, or the number of all calls
-abbrev pub place_of : ℕ → List Call → ℕ
-place_of s [] = 0
-place_of s (c ∷ cs) = if c.stream == s then 0 else suc (place_of s cs)
+abbrev pub call_place : ℕ → List Call → ℕ
+call_place s [] = 0
+call_place s (c ∷ cs) = if c.stream == s then 0 else suc (call_place s cs)
 
 -- more of the text of the stream was taken, if it has a call
-pub record TakesOn (s : ℕ) (content : List ℕ) (end_stream : Bool) (old new : List Call) (before after : List CallEvent) : Type 0 where
-  pub streams : map stream_of new ≡ map stream_of old
+pub record TakesOn (s : ℕ) (content : List ℕ) (end_stream : Bool) (old new : List Call)
+    (before after : List CallEvent) : Type 0 where
+  pub streams : map call_stream new ≡ map call_stream old
   pub others : (t : ℕ) → (s == t) ≡ false → call_on t new ≡ call_on t old
   pub no_call : call_on s old ≡ None → (call_on s new ≡ None) × (after ≡ before)
   pub call : (u : List ℕ) → call_on s old ≡ Some (messages_of u).end →
       (call_on s new ≡ Some (messages_of (u ++ content)).end)
       × (after ≡ before ++ events_of_content s u content end_stream)
 
-pub record BeginsCall (s : ℕ) (method : Method) (end_stream : Bool) (live : List Stream) (old new : List Call) (before after : List CallEvent) : Type 0 where
+pub record BeginsCall (s : ℕ) (method : Method) (end_stream : Bool) (live : List Stream)
+    (old new : List Call) (before after : List CallEvent) : Type 0 where
   pub kept : List Call
   pub keeps : KeepsOpen live old kept
   pub call : Call

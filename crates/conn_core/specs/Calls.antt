@@ -62,10 +62,10 @@ messages_of bytes = split message_limit bytes
 
 -- a compressed message is refused otherwise than one that is too large; a text of messages has no
 -- other fault
-abbrev pub refusal_of : MessagesError → Refusal
-refusal_of Compressed = CompressedMessage
-refusal_of TooLarge = MessageTooLarge
-refusal_of _ = MessageCutOff
+abbrev pub message_refusal : MessagesError → Refusal
+message_refusal Compressed = CompressedMessage
+message_refusal TooLarge = MessageTooLarge
+message_refusal _ = MessageCutOff
 
 -- how the request ends, where these bytes are no whole message
 abbrev pub events_at_end : ℕ → List ℕ → List CallEvent
@@ -75,7 +75,7 @@ events_at_end s (b ∷ bs) = Fault s MessageCutOff ∷ []
 -- what stands behind the messages
 abbrev pub events_behind_messages : ℕ → Bool → Result (List ℕ) MessagesError → List CallEvent
 events_behind_messages s end_stream (Ok rest) = if end_stream then events_at_end s rest else []
-events_behind_messages s end_stream (Err e) = Fault s (refusal_of e) ∷ []
+events_behind_messages s end_stream (Err e) = Fault s (message_refusal e) ∷ []
 
 -- what stands in a text behind a front of it that had so many messages: the messages after these,
 -- and then the first fault or the end
@@ -93,7 +93,10 @@ events_unless_fault before events = events_by_end before.end events
 
 -- what more of the text of a stream brings its call
 abbrev pub events_of_content : ℕ → List ℕ → List ℕ → Bool → List CallEvent
-events_of_content s before content end_stream = events_unless_fault (messages_of before) (events_behind_front s end_stream (length (messages_of before).items) (messages_of (before ++ content)))
+events_of_content s before content end_stream =
+    events_unless_fault (messages_of before)
+    (events_behind_front s end_stream (length (messages_of before).items)
+    (messages_of (before ++ content)))
 
 -- ---- the events of calls
 

@@ -13,6 +13,7 @@ pub use Rattle.http2_frames.specs.Reading
 pub use Rattle.http2_frames.specs.Wire
 pub use Rattle.http2_frames.specs.declared.frame.Frame
 pub use Rattle.http2_streams.specs.History
+pub use Rattle.http2_streams.specs.Entries
 pub use Rattle.http2_streams.specs.Rules
 pub use Rattle.http2_streams.specs.declared.event.Event
 pub use Rattle.grpc_messages.specs.declared.error.MessagesError

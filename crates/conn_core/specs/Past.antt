@@ -28,8 +28,8 @@ greeting =
     Out (Settings false (record { identifier = MAX_CONCURRENT_STREAMS; value = MAX_STREAMS } ∷ []))
 
 -- a connection begins with the server's SETTINGS
-abbrev pub opening : Past
-opening = record { text = []; history = greeting ∷ []; owed = []; due = [] }
+abbrev pub new_past : Past
+new_past = record { text = []; history = greeting ∷ []; owed = []; due = [] }
 
 abbrev pub owed_with_items : List Entry → List OwedItem → List (ℕ × Item) → List OwedItem
 owed_with_items d os [] = os
@@ -46,12 +46,17 @@ with_frame p f = record p {
   history = p.history ++ frame_entries p.history f;
   owed = owed_with_items (p.history ++ frame_entries p.history f) p.owed
       (items_at_once (outcome p.history f).event);
-  due = p.due ++ (if (outcome p.history f).fails then cancels p.history else call_events_of p.history (outcome p.history f).event);
+  due = p.due ++
+      (if (outcome p.history f).fails then cancels p.history
+      else call_events_of p.history (outcome p.history f).event);
 }
 
 -- bytes that are no frame, which is an error of this code
 abbrev pub with_fault : Past → FrameError → ErrorCode → Past
-with_fault p e code = record p { history = p.history ++ fault_entries p.history e code; due = p.due ++ cancels p.history }
+with_fault p e code = record p {
+  history = p.history ++ fault_entries p.history e code;
+  due = p.due ++ cancels p.history;
+}
 
 -- an item of a response
 abbrev pub with_item : Past → ℕ → Item → Past

@@ -7,15 +7,13 @@ use Rattle.http2_frames.specs.declared.codes.ErrorCode.TheVariants.{EnhanceYourC
 use Rattle.http2_frames.specs.declared.error.FrameError.{FrameError}
 use Rattle.http2_frames.specs.declared.frame.RawFrame.{RawFrame}
 use Rattle.http2_frames.specs.declared.frame.Frame.{Frame}
-use Rattle.http2_frames.specs.declared.frame.Frame.TheVariants.{GoAway}
-use Rattle.http2_frames.specs.Codes.{code_number}
 use Rattle.http2_frames.specs.Writing.{text_of}
 use Rattle.http2_streams.specs.declared.event.Event.{Event}
 use Rattle.http2_streams.specs.declared.event.Event.TheVariants.{Nothing}
 use Rattle.http2_streams.specs.declared.event.StreamEvent.{StreamEvent}
 use Rattle.http2_streams.specs.History.{Entry, In, Unreadable, Out, highest_stream, has_failed}
 use Rattle.http2_streams.specs.Rules.{answer_after}
-use Rattle.http2_streams.specs.Entries.{control_frames}
+use Rattle.http2_streams.specs.Entries.{control_frames, goaway_frame}
 use Rattle.grpc_sending.specs.Bytes.{untaken_count}
 use Rattle.grpc_sending.specs.declared.sender.TheConstants.{CONTROL_LIMIT}
 
@@ -40,10 +38,6 @@ abbrev pub may_put_all : ℕ → List Frame → Bool
 may_put_all n [] = true
 may_put_all n (f ∷ fs) = if may_put n f then may_put_all (n + length (text_of f)) fs else false
 
--- RFC 9113 section 6.8: the last stream number is the highest that was opened
-abbrev pub goaway_frame : ℕ → ErrorCode → Frame
-goaway_frame last_stream code = GoAway last_stream (code_number code) []
-
 -- the frames that are put for a received frame, and what it brings
 pub record Outcome : Type 0 where
   pub put : List Frame
@@ -60,7 +54,8 @@ fault_outcome put last_stream code =
 abbrev pub outcome_of : ℕ → ℕ → ℕ → Result StreamEvent ErrorCode → Outcome
 outcome_of n highest_before highest_after (Err code) = fault_outcome [] highest_before code
 outcome_of n highest_before highest_after (Ok a) =
-    if may_put_all n (control_frames a) then record { put = control_frames a; event = a.event; fails = false }
+    if may_put_all n (control_frames a)
+    then record { put = control_frames a; event = a.event; fails = false }
     else fault_outcome (frames_to_put n (control_frames a)) highest_after EnhanceYourCalm
 
 abbrev pub outcome : List Entry → RawFrame → Outcome

@@ -5,32 +5,33 @@ use Rattle.std.specs.List.{list_any}
 use Rattle.http2_frames.specs.declared.error.FrameError.{FrameError}
 use Rattle.http2_frames.specs.declared.frame.RawFrame.{RawFrame}
 use Rattle.http2_frames.specs.declared.reader.TheConstants.{CLIENT_PREFACE}
-use Rattle.http2_frames.specs.Reader.{Unread, StandsFor as IsReader}
+use Rattle.http2_frames.specs.Reader.{FrameReaderValue, IsReader}
 use Rattle.http2_streams.specs.declared.event.Event.{Event}
 use Rattle.http2_streams.specs.History.{Entry, live_streams, is_not_closed, has_failed, highest_stream}
 use Rattle.http2_streams.specs.LiveStreams.{IsOnItsStream, live_after}
-use Rattle.http2_streams.specs.StandsFor.{StandsFor as AreStreams}
-use Rattle.grpc_sending.specs.StoredSending.{Look, StandsFor as IsSending}
+use Rattle.http2_streams.specs.StandsFor.{AreStreams}
+use Rattle.grpc_sending.specs.StoredSending.{SourceTexts, IsStoredSending}
 use Rattle.conn_core.specs.Received.{received_raw_frames, outcome, frame_entries}
 use Rattle.conn_core.specs.Calls.{is_call, stream_text}
 use Rattle.conn_core.specs.Past.{Past, with_frame}
-use Rattle.conn_core.specs.StandsFor.{StandsFor, Present, IsCall, call_on, members_of, stream_of}
+use Rattle.conn_core.specs.StandsFor.{IsConnection, ConnectionValue, IsRestOfCall, call_on, members_of, call_stream}
 use Rattle.http2_frames.specs.declared.reader.TheConstants.{MAX_FRAME_SIZE}
 
 -- what is kept of the calls, by the history before the frame
-pub record AreCalls (v : Present) (d : List Entry) : Type 0 where
-  pub calls : (s : ℕ) → is_not_closed d s ≡ true → IsCall d s (call_on s v.calls)
-  pub order : members_of (live_streams d) (map stream_of v.calls)
+pub record AreCalls (v : ConnectionValue) (d : List Entry) : Type 0 where
+  pub calls : (s : ℕ) → is_not_closed d s ≡ true → IsRestOfCall d s (call_on s v.calls)
+  pub order : members_of (live_streams d) (map call_stream v.calls)
       ≡ filter (is_call d) (live_streams d)
 
 -- the frame was read, and nothing else was done yet
-pub record IsTaking (texts : Look) (v : Present) (p : Past) (f : RawFrame) : Type 0 where
+pub record IsTaking (texts : SourceTexts) (v : ConnectionValue) (p : Past)
+    (f : RawFrame) : Type 0 where
   pub ended : v.ended ≡ false
   pub lives : has_failed p.history ≡ false
   pub short : length f.payload ≤ MAX_FRAME_SIZE
   pub reader : IsReader CLIENT_PREFACE.now v.reader p.text (received_raw_frames p.history ++ f ∷ [])
   pub streams : AreStreams v.streams p.history
-  pub sending : IsSending texts v.sending p.history p.owed
+  pub sending : IsStoredSending texts v.sending p.history p.owed
   pub due : v.due ≡ p.due
   pub calls : AreCalls v p.history
 
@@ -52,34 +53,35 @@ pub record ChangesStreams (d e : List Entry) (brought : Event) : Type 0 where
       (s ≤ highest_stream d) × (is_not_closed d s ≡ true)
 
 -- the answers of the frame were put, all of them, and it brought this; calls are as before
-pub record HasBrought (texts : Look) (v : Present) (p : Past) (f : RawFrame) (event : Event) : Type 0 where
+pub record HasBrought (texts : SourceTexts) (v : ConnectionValue) (p : Past)
+    (f : RawFrame) (event : Event) : Type 0 where
   pub ended : v.ended ≡ false
   pub is_event : (outcome p.history f).event ≡ event
   pub fits : (outcome p.history f).fails ≡ false
   pub lives : has_failed (after_frame p f) ≡ false
   pub reader : IsReader CLIENT_PREFACE.now v.reader p.text (received_raw_frames (after_frame p f))
   pub streams : AreStreams v.streams (after_frame p f)
-  pub sending : IsSending texts v.sending (after_frame p f) p.owed
+  pub sending : IsStoredSending texts v.sending (after_frame p f) p.owed
   pub due : v.due ≡ p.due
   pub calls : AreCalls v p.history
   pub change : ChangesStreams p.history (after_frame p f) event
 
 -- the reader that lends the frame is apart from what acts on it, which does the same beside each
-abbrev pub with_reader : Result Unread FrameError → Present → Present
+abbrev pub with_reader : Result FrameReaderValue FrameError → ConnectionValue → ConnectionValue
 with_reader reader v = record v { reader = reader }
 
-abbrev pub TakesFrame : Present → RawFrame → Present → Type 0
+abbrev pub TakesFrame : ConnectionValue → RawFrame → ConnectionValue → Type 0
 TakesFrame v f w =
-    (reader : Result Unread FrameError) (texts : Look) (p : Past) →
+    (reader : Result FrameReaderValue FrameError) (texts : SourceTexts) (p : Past) →
     IsTaking texts (with_reader reader v) p f →
-    StandsFor texts (with_reader reader w) (with_frame p f)
+    IsConnection texts (with_reader reader w) (with_frame p f)
 
-abbrev pub Brings : Present → Event → Present → Type 0
-Brings v event w =
-    (reader : Result Unread FrameError) (texts : Look) (p : Past) (f : RawFrame) →
+abbrev pub BringsEvent : ConnectionValue → Event → ConnectionValue → Type 0
+BringsEvent v event w =
+    (reader : Result FrameReaderValue FrameError) (texts : SourceTexts) (p : Past) (f : RawFrame) →
     HasBrought texts (with_reader reader v) p f event →
-    StandsFor texts (with_reader reader w) (with_frame p f)
+    IsConnection texts (with_reader reader w) (with_frame p f)
 
 -- neither what is still to be read nor the streams change
-abbrev pub ChangesCalls : Present → Present → Type 0
+abbrev pub ChangesCalls : ConnectionValue → ConnectionValue → Type 0
 ChangesCalls v w = w ≡ record v { sending = w.sending; calls = w.calls; due = w.due }

@@ -4,9 +4,9 @@ ghost use Rattle.std.specs.Prelude.{◌≡◌, ◌≢◌, ◌++◌, ◌∷◌, �
 ghost use Rattle.std.specs.Option.{option_to_list};
 ghost use Rattle.grpc_messages.specs.Reader.{bytes_left};
 ghost use Rattle.grpc_messages.specs.declared.error.MessagesError.{MessagesError};
-ghost use Rattle.conn_core.specs.Calls.{messages_of, events_of_content, events_at_end, refusal_of};
+ghost use Rattle.conn_core.specs.Calls.{messages_of, events_of_content, events_at_end, message_refusal};
 ghost use Rattle.conn_core.specs.StandsFor.{KeepsOpen, has_live_stream, live_numbers};
-ghost use Rattle.conn_core.specs.CallSteps.{TakesAll, TakesOn, BeginsCall, place_of, without_call, cancel_if, has_call};
+ghost use Rattle.conn_core.specs.CallSteps.{TakesAll, TakesOn, BeginsCall, call_place, without_call, cancel_if, has_call};
 ghost use Rattle.conn_core.specs.declared.event.CallEvent.TheVariants.{Fault};
 
 use crate::event::CallEvent;
@@ -103,7 +103,8 @@ fn push_fault(
     fault: MessagesError,
     due: &mut VecDeque<CallEvent>,
 ) -> Result<(), AllocError>
-    ensures events { OnOk result (due.new.items ≡ due.old.items ++ Fault stream (refusal_of fault)
+    ensures events { OnOk result (due.new.items ≡ due.old.items
+        ++ Fault stream (message_refusal fault)
         ∷ []) }
     ensures memory { OnOk result (fault ≢ MessagesError.NoMemory) }
 {
@@ -119,7 +120,7 @@ fn push_fault(
 
 /// The place of the stream's call, or the number of all calls.
 fn place_of(calls: &[Call], stream: u32) -> usize
-    ensures { result ≡ place_of stream calls.now }
+    ensures { result ≡ call_place stream calls.now }
 {
     let mut left = calls;
     let mut place = 0;

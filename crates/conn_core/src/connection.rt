@@ -7,14 +7,13 @@ ghost use Rattle.grpc_messages.specs.Wire.{message_length_limit};
 ghost use Rattle.grpc_sending.specs.Step.{IsControl};
 ghost use Rattle.http2_frames.specs.declared.error.FrameError.{FrameError};
 ghost use Rattle.grpc_sending.specs.Bytes.{most_untaken};
-ghost use Rattle.grpc_sending.specs.StoredSending.{Look, Fit, Tells, KeepsFit, KeepsFitWith, KeepsSources, HoldsMore, HasFew, sources_of};
+ghost use Rattle.grpc_sending.specs.StoredSending.{SourceTexts, QueuesEndWithin, Tells, KeepsFit, KeepsFitWith, KeepsSources, HoldsMore, HasFewSources, sources_of};
 ghost use Rattle.grpc_sending.specs.Owed.{Headed, Message};
-ghost use Rattle.conn_core.specs.Past.{opening, with_bytes, with_taken};
-ghost use Rattle.conn_core.specs.StandsFor.{StandsFor, Becomes, Owes, OwesRange, Pumps, Pops, ReadsFrame, KeepsOpen, unread_length, live_calls, stream_of};
-ghost use Rattle.conn_core.specs.Step.{TakesFrame, Brings, ChangesCalls};
-ghost use Rattle.conn_core.specs.Received.{goaway_frame};
-ghost use Rattle.conn_core.specs.Putting.{Puts, Fails, Answers, is_answer, are_answers, is_ending, ended_calls};
-ghost use Rattle.http2_streams.specs.Entries.{control_frames};
+ghost use Rattle.conn_core.specs.Past.{new_past, with_bytes, with_taken};
+ghost use Rattle.conn_core.specs.StandsFor.{IsConnection, Becomes, Owes, OwesRange, Pumps, PopsOne, ReadsOneFrame, KeepsOpen, unread_length, live_calls, call_stream};
+ghost use Rattle.conn_core.specs.Step.{TakesFrame, BringsEvent, ChangesCalls};
+ghost use Rattle.conn_core.specs.Putting.{Puts, Fails, Answers, has_answer_form, have_answer_form, is_ending, ended_calls};
+ghost use Rattle.http2_streams.specs.Entries.{control_frames, goaway_frame};
 ghost use Rattle.http2_streams.specs.LiveStreams.{stream_of_event};
 ghost use Rattle.http2_frames.specs.declared.frame.RawFrame.{RawFrame};
 ghost use Rattle.http2_streams.specs.declared.event.Event.TheVariants.{Request, Content, Trailers, Cancel};
@@ -29,7 +28,7 @@ use hpack::Headers;
 use http2_frames::{
     ErrorCode, Frame, FrameError, FrameReader, Octets, RawFrame, SettingsList, setting,
 };
-use http2_streams::{Event, H2Fault, Stream, StreamEvent, Streams, is_live};
+use http2_streams::{ConnectionFault, Event, Stream, StreamEvent, Streams, is_live};
 use std::alloc::{AllocError, Global};
 use std::collections::VecDeque;
 use std::marker::Model;
@@ -59,9 +58,9 @@ impl Model for Connection {
     ghost use Rattle.std.specs.Prelude.{◌≡◌, ◌≤◌, true, false, length};
     ghost use Rattle.grpc_sending.specs.declared.sender.TheConstants.{CONTROL_LIMIT};
     ghost use Rattle.grpc_sending.specs.StoredSending.{IsAtRest};
-    ghost use Rattle.conn_core.specs.StandsFor.{Present};
+    ghost use Rattle.conn_core.specs.StandsFor.{ConnectionValue};
 
-    ghost Value = { Present };
+    ghost Value = { ConnectionValue };
 
     ghost view = { λ c. record {
       reader = c.reader;
@@ -80,9 +79,10 @@ impl Model for Connection {
 impl Connection {
     /// A connection that puts the server's SETTINGS. Takes the room for all bytes that can wait.
     pub fn new(alloc: Global) -> Result<Connection, AllocError>
-        ensures stands { IfOk result (λ c. (texts : Look) → StandsFor texts c opening) }
+        ensures stands { IfOk result (λ c. (texts : SourceTexts) → IsConnection texts c new_past) }
         ensures sources { IfOk result (λ c. sources_of c.sending ≡ []) }
-        ensures fit { IfOk result (λ c. (texts : Look) → Fit texts c.sending.queues) }
+        ensures fit { IfOk result (λ c. (texts : SourceTexts) →
+            QueuesEndWithin texts c.sending.queues) }
     {
         let mut sender = Sender::new(alloc)?;
         sender.put_control(&Frame::Settings {
@@ -114,7 +114,7 @@ impl Connection {
 
     /// Gives the next event of a call that is due.
     pub fn pop_event(&mut self) -> Option<CallEvent>
-        ensures event { Pops self.old result self.new }
+        ensures event { PopsOne self.old result self.new }
         ensures fewer { OnSome result (length self.new.due < length self.old.due) }
         ensures rest { self.new ≡ record self.old { due = self.new.due } }
     {
@@ -125,7 +125,7 @@ impl Connection {
     /// one. Nothing follows an error of the connection. Where memory is refused the connection
     /// stands for no past any more: it is to be closed, and holds each source as before.
     pub fn read_frame(&mut self) -> Result<bool, AllocError>
-        ensures frame { IfOk result (λ read. ReadsFrame self.old read self.new) }
+        ensures frame { IfOk result (λ read. ReadsOneFrame self.old read self.new) }
         ensures fewer { IfOk result (λ read. IsTrue read →
             unread_length self.new < unread_length self.old) }
         ensures fit { KeepsFit self.old.sending self.new.sending }
@@ -192,7 +192,7 @@ impl Connection {
         ensures stands { OnOk result (OwesRange stream source from until self.old self.new) }
         ensures fit { KeepsFitWith source until self.old.sending self.new.sending }
         ensures sources { OnOk result (HoldsMore source self.old.sending self.new.sending) }
-        ensures few { OnOk result (HasFew self.new.sending) }
+        ensures few { OnOk result (HasFewSources self.new.sending) }
         ensures rest { self.new ≡ record self.old { sending = self.new.sending } }
         ensures err { OnErr result (self.new ≡ self.old) }
     {
@@ -217,7 +217,7 @@ impl Connection {
     /// Puts all that can be put. Where that ends streams, their calls are let go of, with what had
     /// come of messages that no reply waits for.
     pub fn pump<P: Parts>(&mut self, parts: &P)
-        requires fit { Fit (P.text_of parts.now) self.old.sending.queues }
+        requires fit { QueuesEndWithin (P.text_of parts.now) self.old.sending.queues }
         ensures stands { Pumps (P.text_of parts.now) self.old self.new }
         ensures fit { KeepsFit self.old.sending self.new.sending }
         ensures sources { KeepsSources self.old.sending self.new.sending }
@@ -290,7 +290,7 @@ impl Connection {
     fn take_front(&mut self) -> Result<(), AllocError>
         requires alive { self.old.ended ≡ false }
         requires whole { HasFrame self.old.reader }
-        ensures frame { OnOk result (ReadsFrame self.old true self.new) }
+        ensures frame { OnOk result (ReadsOneFrame self.old true self.new) }
         ensures shorter { OnOk result (length (text_left self.new.reader)
             < length (text_left self.old.reader)) }
         ensures fit { KeepsFit self.old.sending self.new.sending }
@@ -315,8 +315,8 @@ impl Connection {
         self.at_rest = false;
         match self.streams.on_frame(frame) {
             Ok(answer) => self.take_answer(answer),
-            Err(H2Fault::Connection(code)) => self.fail(code, None),
-            Err(H2Fault::NoMemory) => Err(AllocError),
+            Err(ConnectionFault::Connection(code)) => self.fail(code, None),
+            Err(ConnectionFault::NoMemory) => Err(AllocError),
         }
     }
 
@@ -337,7 +337,7 @@ impl Connection {
 
     /// Acts on what a frame brought, whose answers were put.
     fn bring(&mut self, event: Event<'_>) -> Result<(), AllocError>
-        ensures stands { OnOk result (Brings self.old event.entry self.new) }
+        ensures stands { OnOk result (BringsEvent self.old event.entry self.new) }
         ensures rest { OnOk result (ChangesCalls self.old self.new) }
         ensures fit { KeepsFit self.old.sending self.new.sending }
         ensures sources { KeepsSources self.old.sending self.new.sending }
@@ -361,7 +361,7 @@ impl Connection {
 
     /// Puts the control frames of an answer, up to the first for which there is no room.
     fn put_all(&mut self, answer: &StreamEvent<'_>) -> bool
-        ensures puts { are_answers (control_frames answer.now) ≡ true →
+        ensures puts { have_answer_form (control_frames answer.now) ≡ true →
             Puts self.old (control_frames answer.now) result self.new }
         ensures rest { self.new ≡ record self.old { sending = self.new.sending } }
         ensures fit { KeepsFit self.old.sending self.new.sending }
@@ -380,7 +380,7 @@ impl Connection {
     }
 
     fn put_one(&mut self, frame: &Option<Frame<'_>>) -> bool
-        ensures puts { are_answers (option_to_list frame.now) ≡ true →
+        ensures puts { have_answer_form (option_to_list frame.now) ≡ true →
             Puts self.old (option_to_list frame.now) result self.new }
         ensures rest { self.new ≡ record self.old { sending = self.new.sending } }
         ensures fit { KeepsFit self.old.sending self.new.sending }
@@ -393,7 +393,8 @@ impl Connection {
     }
 
     fn put_answer(&mut self, frame: &Frame<'_>) -> bool
-        ensures puts { is_answer frame.now ≡ true → Puts self.old (frame.now ∷ []) result self.new }
+        ensures puts { has_answer_form frame.now ≡ true →
+            Puts self.old (frame.now ∷ []) result self.new }
         ensures rest { self.new ≡ record self.old { sending = self.new.sending } }
         ensures fit { KeepsFit self.old.sending self.new.sending }
         ensures sources { KeepsSources self.old.sending self.new.sending }
@@ -412,7 +413,7 @@ impl Connection {
 
     /// A request came: a call begins, or the answer to what is no call is owed.
     fn begin(&mut self, stream: u32, fields: &Headers, end_stream: bool) -> Result<(), AllocError>
-        ensures stands { OnOk result (Brings self.old
+        ensures stands { OnOk result (BringsEvent self.old
             (Request stream fields.now end_stream) self.new) }
         ensures rest { OnOk result (ChangesCalls self.old self.new) }
         ensures fit { KeepsFit self.old.sending self.new.sending }
@@ -436,7 +437,7 @@ impl Connection {
     }
 
     fn take_text(&mut self, stream: u32, content: &[u8], end_stream: bool) -> Result<(), AllocError>
-        ensures stands { OnOk result (Brings self.old
+        ensures stands { OnOk result (BringsEvent self.old
             (Content stream content.now end_stream) self.new) }
         ensures rest { OnOk result (ChangesCalls self.old self.new) }
         ensures fit { KeepsFit self.old.sending self.new.sending }
@@ -447,7 +448,7 @@ impl Connection {
 
     /// Trailers end the request.
     fn take_trailers(&mut self, stream: u32) -> Result<(), AllocError>
-        ensures stands { OnOk result (Brings self.old (Trailers stream) self.new) }
+        ensures stands { OnOk result (BringsEvent self.old (Trailers stream) self.new) }
         ensures rest { OnOk result (ChangesCalls self.old self.new) }
         ensures fit { KeepsFit self.old.sending self.new.sending }
         ensures sources { KeepsSources self.old.sending self.new.sending }
@@ -456,7 +457,7 @@ impl Connection {
     }
 
     fn cancel(&mut self, stream: u32) -> Result<(), AllocError>
-        ensures stands { OnOk result (Brings self.old (Cancel stream) self.new) }
+        ensures stands { OnOk result (BringsEvent self.old (Cancel stream) self.new) }
         ensures rest { OnOk result (ChangesCalls self.old self.new) }
         ensures fit { KeepsFit self.old.sending self.new.sending }
         ensures sources { KeepsSources self.old.sending self.new.sending }
@@ -505,7 +506,7 @@ fn end_calls(
     due: &mut VecDeque<CallEvent>,
 ) -> Result<(), AllocError>
     ensures { OnOk result (due.new.items ≡ due.old.items
-        ++ ended_calls live.now reset (map stream_of calls.now)) }
+        ++ ended_calls live.now reset (map call_stream calls.now)) }
 {
     for call in calls {
         end_call(call.stream, live, reset, due)?;
@@ -550,7 +551,7 @@ fn named(event: &Event<'_>) -> Option<u32>
 
 /// A control frame that answers one.
 fn is_answer(frame: &Frame<'_>) -> bool
-    ensures answer { result ≡ is_answer frame.now }
+    ensures answer { result ≡ has_answer_form frame.now }
     ensures control { IsTrue result → IsControl frame.now }
     ensures short { IsTrue result → length (raw_of frame.now).payload ≤ MAX_FRAME_SIZE }
 {

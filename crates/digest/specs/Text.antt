@@ -15,7 +15,7 @@ abbrev pub is_lower_hex_digit : ℕ → Bool
 is_lower_hex_digit c = (nat_le 48 c && nat_le c 57) || (nat_le 97 c && nat_le c 102)
 
 -- a text and a number write the digest
-pub record IsWritten (d : Digest) (hash : List ℕ) (size : ℤ) : Type 0 where
+pub record IsDigestWritten (d : Digest) (hash : List ℕ) (size : ℤ) : Type 0 where
   pub hash_is : hash ≡ hash_text d
   pub size_is : size ≡ pos d.size
 

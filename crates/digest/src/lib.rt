@@ -4,7 +4,7 @@
 ghost use Rattle.std.specs.Prelude.{◌≡◌, ◌↔◌, ◌<◌, ◌^◌, ◌++◌, ℕ, List, [], length, IsTrue, IfSome, IsNone};
 ghost use Rattle.digest.specs.Naming.{Names, digest_of, is_digest_of, is_empty_digest, same_digest};
 ghost use Rattle.hex.specs.Hex.{IsBytes};
-ghost use Rattle.digest.specs.Text.{IsWritten, digest_in, hash_in, unsigned_of};
+ghost use Rattle.digest.specs.Text.{IsDigestWritten, digest_in, hash_in, unsigned_of};
 ghost use Rattle.digest.specs.Digits.{AreDigitValues, lower_digit_value, lower_pair};
 ghost use Rattle.digest.specs.Hashing.{Holds};
 
@@ -35,10 +35,10 @@ impl Digest {
     /// negative.
     pub fn parse(hash: &str, size: i64) -> Option<Digest>
         ensures value { result ≡ digest_in hash.now size }
-        ensures written { IfSome result (λ d. IsWritten d hash.now size) }
+        ensures written { IfSome result (λ d. IsDigestWritten d hash.now size) }
         // Nothing else is refused.
         ensures refused { IsNone result → (d : Digest) → length d.hash ≡ 32 → IsBytes d.hash →
-            ¬ (IsWritten d hash.now size) }
+            ¬ (IsDigestWritten d hash.now size) }
     {
         read(hash, size)
     }
@@ -83,9 +83,9 @@ const DIGIT_VALUES: [u8; 256] = [
     255, 255, 255, 255,
 ];
 
-// A digest is read for each blob that a client asks for, so its digits go by a table into 32 bytes of its own: `hex`
-// would ask for memory, and takes upper-case digits too.
-// The table is an argument so that no proof has its numbers before it.
+// A digest is read for each blob that a client asks for, so its digits go by a table into 32 bytes
+// of its own: `hex` would ask for memory, and takes upper-case digits too. The table is an argument
+// so that no proof has its numbers before it.
 fn digit_by(values: &[u8; 256], digit: u8) -> Option<u8>
     requires { AreDigitValues values.now }
     ensures value { result ≡ lower_digit_value digit }
@@ -167,9 +167,9 @@ pub struct Hasher {
 }
 
 impl Model for Hasher {
-    ghost use Rattle.digest.specs.Hashing.{Hashing};
+    ghost use Rattle.digest.specs.Hashing.{HasherValue};
 
-    ghost Value = { Hashing };
+    ghost Value = { HasherValue };
 
     ghost view = { λ h. record { hash = h.hash; count = h.count } };
 }

@@ -1,6 +1,6 @@
 -- What a reader of messages holds, and what that stands for.
 use Rattle.std.specs.Prelude.{ℕ, List, [], ◌∷◌, ◌++◌, Option, Some, None, Result, Ok, Err}
-use Rattle.wire_items.specs.Items.{fault_only, AreGiven}
+use Rattle.wire_items.specs.Items.{fault_only, AreItemsSoFar}
 use Rattle.grpc_messages.specs.declared.error.MessagesError.{MessagesError}
 use Rattle.grpc_messages.specs.Wire.{Split}
 use Rattle.grpc_messages.specs.Reading.{split}
@@ -23,9 +23,9 @@ split_left limit (Ok bytes) = split limit bytes
 split_left limit (Err e) = fault_only e
 
 -- the reader has given these messages of the text, and will give the others, whatever follows
-abbrev pub StandsFor : ℕ → Result (List ℕ) MessagesError → List ℕ → List (List ℕ) → Type 0
-StandsFor limit reader text given =
-    AreGiven (split limit) (λ more. split_left limit (with_more_bytes reader more)) text given
+abbrev pub AreMessages : ℕ → Result (List ℕ) MessagesError → List ℕ → List (List ℕ) → Type 0
+AreMessages limit reader text given =
+    AreItemsSoFar (split limit) (λ more. split_left limit (with_more_bytes reader more)) text given
 
 -- the messages in an answer
 abbrev pub messages_in : Result (Option (List ℕ)) MessagesError → List (List ℕ)

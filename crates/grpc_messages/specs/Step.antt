@@ -17,13 +17,14 @@ step limit (Ok bytes) = step_by_front (whole_at limit bytes) bytes
 step limit (Err e) = (Err e, Err e)
 
 -- the answer and what is held then are those of the definition, or memory was refused for a message
-abbrev pub Takes : ℕ → Result (List ℕ) MessagesError → Result (Option (List ℕ)) MessagesError →
+abbrev pub TakesMessage : ℕ → Result (List ℕ) MessagesError →
+    Result (Option (List ℕ)) MessagesError →
     Result (List ℕ) MessagesError → Type 0
-Takes limit old (Ok o) new = step limit old ≡ (Ok o, new)
-Takes limit old (Err Compressed) new = step limit old ≡ (Err Compressed, new)
-Takes limit old (Err TooLarge) new = step limit old ≡ (Err TooLarge, new)
-Takes limit old (Err CutOff) new = step limit old ≡ (Err CutOff, new)
-Takes limit old (Err NoMemory) new = (new ≡ old) × (messages_in (step limit old).0 ≢ [])
+TakesMessage limit old (Ok o) new = step limit old ≡ (Ok o, new)
+TakesMessage limit old (Err Compressed) new = step limit old ≡ (Err Compressed, new)
+TakesMessage limit old (Err TooLarge) new = step limit old ≡ (Err TooLarge, new)
+TakesMessage limit old (Err CutOff) new = step limit old ≡ (Err CutOff, new)
+TakesMessage limit old (Err NoMemory) new = (new ≡ old) × (messages_in (step limit old).0 ≢ [])
 
 -- whether a request may end where the front is so
 abbrev pub end_by_front : Result (Option ℕ) MessagesError → List ℕ → Result Unit MessagesError

@@ -4,8 +4,8 @@ ghost use Rattle.std.specs.Prelude.{◌≡◌, ◌≢◌, ◌↔◌, IsTrue, ◌
 ghost use Rattle.grpc_messages.specs.declared.error.MessagesError.{MessagesError};
 ghost use Rattle.grpc_messages.specs.Wire.{end_of_rest};
 ghost use Rattle.grpc_messages.specs.Reading.{split, whole_at};
-ghost use Rattle.grpc_messages.specs.Reader.{StandsFor, bytes_left, with_more_bytes, messages_in, split_left};
-ghost use Rattle.grpc_messages.specs.Step.{Takes, ends_at, after_end};
+ghost use Rattle.grpc_messages.specs.Reader.{AreMessages, bytes_left, with_more_bytes, messages_in, split_left};
+ghost use Rattle.grpc_messages.specs.Step.{TakesMessage, ends_at, after_end};
 
 use crate::error::MessagesError;
 use crate::message::Message;
@@ -59,7 +59,7 @@ impl Messages {
     /// A reader of a request of which nothing has come.
     pub fn new(alloc: Global) -> Messages
         ensures nothing { result ≡ Ok [] }
-        ensures stands { StandsFor MESSAGE_LIMIT result [] [] }
+        ensures stands { AreMessages MESSAGE_LIMIT result [] [] }
     {
         Messages {
             prefix: ArrayVec::new(),
@@ -73,8 +73,8 @@ impl Messages {
     pub fn feed(&mut self, piece: &[u8]) -> Result<(), MessagesError>
         ensures ok { OnOk result (self.new ≡ with_more_bytes self.old piece.now) }
         ensures stands { OnOk result ((text : List ℕ) (given : List (List ℕ)) →
-            StandsFor MESSAGE_LIMIT self.old text given →
-            StandsFor MESSAGE_LIMIT self.new (text ++ piece.now) given) }
+            AreMessages MESSAGE_LIMIT self.old text given →
+            AreMessages MESSAGE_LIMIT self.new (text ++ piece.now) given) }
         ensures repeated { IfErr self.old (λ refusal. result ≡ Err refusal) }
         ensures refused { IsOk self.old → IfErr result
             (λ refusal. refusal ≡ MessagesError.NoMemory) }
@@ -117,8 +117,8 @@ impl Messages {
     /// refusal.
     pub fn next(&mut self) -> Result<Option<Message>, MessagesError>
         ensures stands { (text : List ℕ) (given : List (List ℕ)) →
-            StandsFor MESSAGE_LIMIT self.old text given →
-            StandsFor MESSAGE_LIMIT self.new text (given ++ messages_in result) }
+            AreMessages MESSAGE_LIMIT self.old text given →
+            AreMessages MESSAGE_LIMIT self.new text (given ++ messages_in result) }
         ensures message { IfOk result (λ message. IfSome message
             (λ bytes. length bytes ≤ MESSAGE_LIMIT)) }
         ensures shorter { IfOk result (λ message. OnSome message
@@ -126,7 +126,8 @@ impl Messages {
 
         // At the end all messages of the text were given, and less than a message is kept.
         ensures none { IfOk result (λ message. IfNone message
-            ((text : List ℕ) (given : List (List ℕ)) → StandsFor MESSAGE_LIMIT self.old text given →
+            ((text : List ℕ) (given : List (List ℕ)) →
+            AreMessages MESSAGE_LIMIT self.old text given →
             split MESSAGE_LIMIT text
             ≡ record { items = given; end = Ok (bytes_left self.new) })) }
         ensures unfinished { IfOk result (λ message. IfNone message
@@ -134,7 +135,8 @@ impl Messages {
 
         // A fault stands where the messages end, and is there for good.
         ensures refused { IfErr result (λ refusal. refusal ≢ MessagesError.NoMemory →
-            (text : List ℕ) (given : List (List ℕ)) → StandsFor MESSAGE_LIMIT self.old text given →
+            (text : List ℕ) (given : List (List ℕ)) →
+            AreMessages MESSAGE_LIMIT self.old text given →
             split MESSAGE_LIMIT text ≡ record { items = given; end = Err refusal }) }
         ensures lasts { IfErr result (λ refusal. refusal ≢ MessagesError.NoMemory →
             self.new ≡ Err refusal) }
@@ -148,7 +150,7 @@ impl Messages {
     }
 
     fn take(&mut self) -> Result<Option<Message>, MessagesError>
-        ensures { Takes MESSAGE_LIMIT self.old result self.new }
+        ensures { TakesMessage MESSAGE_LIMIT self.old result self.new }
     {
         if let Some(refusal) = self.refusal {
             return Err(refusal);
@@ -171,11 +173,11 @@ impl Messages {
     /// it ends with a message, or else why not. A message that was not taken counts as cut off.
     pub fn end(&mut self) -> Result<(), MessagesError>
         ensures answer { (text : List ℕ) (given : List (List ℕ))
-            (end : Result (List ℕ) MessagesError) → StandsFor MESSAGE_LIMIT self.old text given →
+            (end : Result (List ℕ) MessagesError) → AreMessages MESSAGE_LIMIT self.old text given →
             split MESSAGE_LIMIT text ≡ record { items = given; end = end } →
             result ≡ end_of_rest end }
         ensures whole { OnOk result ((text : List ℕ) (given : List (List ℕ)) →
-            StandsFor MESSAGE_LIMIT self.old text given →
+            AreMessages MESSAGE_LIMIT self.old text given →
             split MESSAGE_LIMIT text ≡ record { items = given; end = Ok [] }) }
         ensures untaken { (split_left MESSAGE_LIMIT self.old).items ≢ [] →
             result ≡ Err MessagesError.CutOff }

@@ -11,7 +11,7 @@ use Rattle.http2_frames.specs.Writing.{text_of}
 use Rattle.http2_streams.specs.declared.stream.Stream.{Stream}
 use Rattle.http2_streams.specs.History.{Entry, Out}
 use Rattle.http2_streams.specs.Standing.{Standing}
-use Rattle.http2_streams.specs.StandsFor.{StandsFor as AreStreams}
+use Rattle.http2_streams.specs.StandsFor.{AreStreams}
 use Rattle.http2_streams.specs.Rules.{number_is}
 use Rattle.http2_streams.specs.Sending.{CanSend}
 use Rattle.grpc_calls.specs.declared.response.ResponseBlock.{ResponseBlock}
@@ -21,7 +21,7 @@ use Rattle.grpc_sending.specs.declared.turn.Due.TheVariants.{Opens, Gives}
 use Rattle.grpc_sending.specs.Pieces.{Block, Part, Queue, Head, Content}
 use Rattle.grpc_sending.specs.StandsFor.{Sending, pieces_on}
 use Rattle.grpc_sending.specs.Step.{next_turn, without_first_at, without_front_at, Puts, Rests, Finishes}
-use Rattle.grpc_sending.specs.StoredSending.{Look, StoredSending, Fit, queue_in, sending_in, stored_on, stored_first_at, stored_front_at, front_bytes, next_due}
+use Rattle.grpc_sending.specs.StoredSending.{SourceTexts, StoredSending, QueuesEndWithin, queue_in, sending_in, stored_on, stored_first_at, stored_front_at, front_bytes, next_due}
 use Rattle.grpc_sending.proofs.Takes.{stands_same}
 use Rattle.grpc_sending.proofs.Stored.{turn_none, turn_head, turn_content, block_removed, part_removed, front_is}
 use Rattle.grpc_sending.proofs.Rounds.{has_turn, head_turn, content_of, head_lives, HasPut, puts_block_by, puts_last_by, puts_part_by, rests_none, rests_lacking}
@@ -39,7 +39,7 @@ finishes_same v v1 w1 s ended bs p rs qs same finish = λ d os low closed at st.
 
 -- ---- a turn with content
 
-pub record IsGiven (texts : Look) (qs : List StoredQueue) (cw : ℤ) (xs : List Stream) (s n : ℕ) : Type 0 where
+pub record IsGiven (texts : SourceTexts) (qs : List StoredQueue) (cw : ℤ) (xs : List Stream) (s n : ℕ) : Type 0 where
   pub part : List ℕ
   pub turn : next_turn (map (queue_in texts) qs) cw xs ≡ Some (Content s part)
   pub size : length part ≡ n
@@ -49,7 +49,7 @@ pub record IsGiven (texts : Look) (qs : List StoredQueue) (cw : ℤ) (xs : List 
   pub front : part ≡ take n (front_bytes texts (stored_on s qs))
   pub removed : (t : ℕ) → pieces_on t (map (queue_in texts) (map (stored_front_at s n) qs)) ≡ pieces_on t (map (without_front_at s n) (map (queue_in texts) qs))
 
-pub given : (texts : Look) (qs : List StoredQueue) (cw : ℤ) (xs : List Stream) (s n : ℕ) → Fit texts qs → next_due qs cw xs ≡ Some (Gives s n) → IsGiven texts qs cw xs s n
+pub given : (texts : SourceTexts) (qs : List StoredQueue) (cw : ℤ) (xs : List Stream) (s n : ℕ) → QueuesEndWithin texts qs → next_due qs cw xs ≡ Some (Gives s n) → IsGiven texts qs cw xs s n
 given texts qs cw xs s n fit h =
     let c = turn_content texts qs cw xs s n fit h in
     let t = has_turn (map (queue_in texts) qs) cw xs (Content s c.part) c.turn in
@@ -68,7 +68,7 @@ given texts qs cw xs s n fit h =
       removed = part_removed texts s n qs i.bytes i.rest fit ps fits';
     }
 
-pub puts_given : (texts : Look) (v v1 : Standing) (w old : StoredSending) (s n : ℕ) (bytes : List ℕ) (rs : List StoredQueue) → w ≡ old → v.failed ≡ false → length w.pending < 65536 → Fit texts w.queues → next_due w.queues (window_left v.connection_window) v.live ≡ Some (Gives s n) →
+pub puts_given : (texts : SourceTexts) (v v1 : Standing) (w old : StoredSending) (s n : ℕ) (bytes : List ℕ) (rs : List StoredQueue) → w ≡ old → v.failed ≡ false → length w.pending < 65536 → QueuesEndWithin texts w.queues → next_due w.queues (window_left v.connection_window) v.live ≡ Some (Gives s n) →
     ((d : List Entry) (content : List ℕ) → length content ≡ n → AreStreams v d → AreStreams v1 (d ++ Out (Data s false content) ∷ [])) →
     bytes ≡ w.pending ++ text_of (Data s false (take n (front_bytes texts (stored_on s w.queues)))) → rs ≡ map (stored_front_at s n) w.queues →
     Puts v (sending_in texts old) v1 (record { pending = bytes; position = w.position; queues = map (queue_in texts) rs })
@@ -80,21 +80,21 @@ puts_given texts v v1 w old s n bytes rs is alive room fit turn put new queues =
     (λ t. ap (λ (qs : List StoredQueue). pieces_on t (map (queue_in texts) qs)) queues ∙ i.removed t)
     (puts_part_by v v1 (sending_in texts w) (sending_in texts old) s n i.part bytes (map (without_front_at s n) (map (queue_in texts) w.queues)) (ap (sending_in texts) is) alive room i.turn (sym i.size) put b refl)
 
-pub rests_given : (texts : Look) (v : Standing) (w old : StoredSending) (s n : ℕ) → w ≡ old → v.failed ≡ false → Fit texts w.queues → next_due w.queues (window_left v.connection_window) v.live ≡ Some (Gives s n) → (CanSend v s n → ⊥) → Rests v (sending_in texts old)
+pub rests_given : (texts : SourceTexts) (v : Standing) (w old : StoredSending) (s n : ℕ) → w ≡ old → v.failed ≡ false → QueuesEndWithin texts w.queues → next_due w.queues (window_left v.connection_window) v.live ≡ Some (Gives s n) → (CanSend v s n → ⊥) → Rests v (sending_in texts old)
 rests_given texts v w old s n is alive fit turn lacking =
     let i = given texts w.queues (window_left v.connection_window) v.live s n fit turn in
     subst (λ (x : StoredSending). Rests v (sending_in texts x)) is (rests_lacking v (sending_in texts w) s i.part alive i.turn (λ can. lacking (subst (λ m. CanSend v s m) i.size can)))
 
-pub rests_undue : (texts : Look) (v : Standing) (w old : StoredSending) → w ≡ old → v.failed ≡ false → length w.pending < 65536 → Fit texts w.queues → next_due w.queues (window_left v.connection_window) v.live ≡ None → Rests v (sending_in texts old)
+pub rests_undue : (texts : SourceTexts) (v : Standing) (w old : StoredSending) → w ≡ old → v.failed ≡ false → length w.pending < 65536 → QueuesEndWithin texts w.queues → next_due w.queues (window_left v.connection_window) v.live ≡ None → Rests v (sending_in texts old)
 rests_undue texts v w old is alive room fit turn =
     subst (λ (x : StoredSending). Rests v (sending_in texts x)) is (rests_none v (sending_in texts w) alive room (turn_none texts w.queues (window_left v.connection_window) v.live fit turn))
 
 -- ---- a turn with a block
 
-pub opens_lives : (texts : Look) (qs : List StoredQueue) (cw : ℤ) (xs : List Stream) (s : ℕ) (block : ResponseBlock) (ended : Bool) → Fit texts qs → next_due qs cw xs ≡ Some (Opens s block ended) → list_any (number_is s) xs ≡ true
+pub opens_lives : (texts : SourceTexts) (qs : List StoredQueue) (cw : ℤ) (xs : List Stream) (s : ℕ) (block : ResponseBlock) (ended : Bool) → QueuesEndWithin texts qs → next_due qs cw xs ≡ Some (Opens s block ended) → list_any (number_is s) xs ≡ true
 opens_lives texts qs cw xs s block ended fit h = head_lives (map (queue_in texts) qs) cw xs s block ended (turn_head texts qs cw xs s block ended fit h)
 
-removed : (texts : Look) (qs : List StoredQueue) (cw : ℤ) (xs : List Stream) (s : ℕ) (block : ResponseBlock) (ended : Bool) → Fit texts qs → next_due qs cw xs ≡ Some (Opens s block ended) →
+removed : (texts : SourceTexts) (qs : List StoredQueue) (cw : ℤ) (xs : List Stream) (s : ℕ) (block : ResponseBlock) (ended : Bool) → QueuesEndWithin texts qs → next_due qs cw xs ≡ Some (Opens s block ended) →
     (t : ℕ) → pieces_on t (map (queue_in texts) (map (stored_first_at s) qs)) ≡ pieces_on t (map (without_first_at s) (map (queue_in texts) qs))
 removed texts qs cw xs s block ended fit h =
     let turn = turn_head texts qs cw xs s block ended fit h in
@@ -110,7 +110,7 @@ pub record HasOpened (w : StoredSending) (s : ℕ) (block : ResponseBlock) (is_e
   pub put : bytes ≡ w.pending ++ text_of (Headers s is_end true (block_opening w.position ++ text))
   pub queues : rs ≡ map (stored_first_at s) w.queues
 
-pub opens_block : (texts : Look) (v v1 : Standing) (w old : StoredSending) (s : ℕ) (block : ResponseBlock) (ended last : Bool) (text bytes : List ℕ) (rs : List StoredQueue) → w ≡ old → v.failed ≡ false → length w.pending < 65536 → Fit texts w.queues → next_due w.queues (window_left v.connection_window) v.live ≡ Some (Opens s block ended) → last ≡ false →
+pub opens_block : (texts : SourceTexts) (v v1 : Standing) (w old : StoredSending) (s : ℕ) (block : ResponseBlock) (ended last : Bool) (text bytes : List ℕ) (rs : List StoredQueue) → w ≡ old → v.failed ≡ false → length w.pending < 65536 → QueuesEndWithin texts w.queues → next_due w.queues (window_left v.connection_window) v.live ≡ Some (Opens s block ended) → last ≡ false →
     ((d : List Entry) (end_headers : Bool) (fragment : List ℕ) → AreStreams v d → AreStreams v1 (d ++ Out (Headers s last end_headers fragment) ∷ [])) → HasOpened w s block last text bytes rs →
     Puts v (sending_in texts old) v1 (record { pending = bytes; position = Later; queues = map (queue_in texts) rs })
 opens_block texts v v1 w old s block ended last text bytes rs is alive room fit turn goes_on put h =
@@ -119,7 +119,7 @@ opens_block texts v v1 w old s block ended last text bytes rs is alive room fit 
     (λ t. ap (λ (qs : List StoredQueue). pieces_on t (map (queue_in texts) qs)) h.queues ∙ removed texts w.queues (window_left v.connection_window) v.live s block ended fit turn t)
     (puts_block_by v v1 (sending_in texts w) (sending_in texts old) s block ended last text bytes (map (without_first_at s) (map (queue_in texts) w.queues)) (ap (sending_in texts) is) alive room (turn_head texts w.queues (window_left v.connection_window) v.live s block ended fit turn) goes_on put h')
 
-pub opens_last : (texts : Look) (v v1 v2 : Standing) (w old : StoredSending) (w2 : Sending) (s : ℕ) (block : ResponseBlock) (ended last : Bool) (text bytes : List ℕ) (rs : List StoredQueue) → w ≡ old → v.failed ≡ false → length w.pending < 65536 → Fit texts w.queues → next_due w.queues (window_left v.connection_window) v.live ≡ Some (Opens s block ended) → last ≡ true →
+pub opens_last : (texts : SourceTexts) (v v1 v2 : Standing) (w old : StoredSending) (w2 : Sending) (s : ℕ) (block : ResponseBlock) (ended last : Bool) (text bytes : List ℕ) (rs : List StoredQueue) → w ≡ old → v.failed ≡ false → length w.pending < 65536 → QueuesEndWithin texts w.queues → next_due w.queues (window_left v.connection_window) v.live ≡ Some (Opens s block ended) → last ≡ true →
     ((d : List Entry) (end_headers : Bool) (fragment : List ℕ) → AreStreams v d → AreStreams v1 (d ++ Out (Headers s last end_headers fragment) ∷ [])) → v1.highest ≡ v.highest → HasOpened w s block last text bytes rs →
     Finishes v1 (record { pending = bytes; position = Later; queues = map (queue_in texts) rs }) s ended v2 w2 → Puts v (sending_in texts old) v2 w2
 opens_last texts v v1 v2 w old w2 s block ended last text bytes rs is alive room fit turn ends_it put high h finish =

@@ -14,7 +14,7 @@ use Rattle.grpc_sending.specs.declared.piece.StoredPiece.{StoredPiece}
 use Rattle.grpc_sending.specs.declared.queue.Removal.{Removal}
 use Rattle.grpc_sending.specs.declared.queue.StoredQueue.{StoredQueue}
 use Rattle.grpc_sending.specs.Sources.{AreSame, sum_over, sources_in, sources_held, source_of, Spends, SpendsOf}
-use Rattle.grpc_sending.specs.SortedQueues.{AreAbove, AreSorted, IsAt, IsGapFor}
+use Rattle.grpc_sending.specs.SortedQueues.{AreAbove, AreSorted, IsQueueAt, IsGapFor}
 use Rattle.grpc_sending.specs.StoredSending.{stored_on, first_at, pieces_left, left_at, with_piece}
 use Rattle.grpc_sending.proofs.Pushes.{Pushed, pushed_at_by}
 use Rattle.grpc_sending.proofs.Sources.{sum_append, same_set, few_at, pushed_sources}
@@ -87,22 +87,22 @@ gap_sorted s ps (q ∷ qs) (suc i) sorted h = (gap_above q.stream s ps qs i h.0 
 
 -- ---- the queue of a stream
 
-pub at_below : (s : ℕ) (qs : List StoredQueue) (i : ℕ) → IsAt s qs i → i < length qs
+pub at_below : (s : ℕ) (qs : List StoredQueue) (i : ℕ) → IsQueueAt s qs i → i < length qs
 at_below s [] i h = absurd h
 at_below s (q ∷ qs) zero h = omega arith
 at_below s (q ∷ qs) (suc i) h = let lt = at_below s qs i h.1 in omega (arith, lt)
 
-pub at_first : (s : ℕ) (qs : List StoredQueue) (i : ℕ) → IsAt s qs i → i ≡ first_at s qs
+pub at_first : (s : ℕ) (qs : List StoredQueue) (i : ℕ) → IsQueueAt s qs i → i ≡ first_at s qs
 at_first s [] i h = absurd h
 at_first s (q ∷ qs) zero h = let here = itself s q h.0 in rw here refl
 at_first s (q ∷ qs) (suc i) h = let off = other s q h.0 in rw off (ap suc (at_first s qs i h.1))
 
-pub at_stored : (s : ℕ) (qs : List StoredQueue) (i : ℕ) (d : StoredQueue) → IsAt s qs i → (get_or qs i d).pieces ≡ stored_on s qs
+pub at_stored : (s : ℕ) (qs : List StoredQueue) (i : ℕ) (d : StoredQueue) → IsQueueAt s qs i → (get_or qs i d).pieces ≡ stored_on s qs
 at_stored s [] i d h = absurd h
 at_stored s (q ∷ qs) zero d h = let here = itself s q h.0 in rw here refl
 at_stored s (q ∷ qs) (suc i) d h = let off = other s q h.0 in rw off (at_stored s qs i d h.1)
 
-pub at_left : (r : Removal) (s : ℕ) (qs : List StoredQueue) (i : ℕ) (d : StoredQueue) (ps : List StoredPiece) → IsAt s qs i → ps ≡ pieces_left r (get_or qs i d).pieces →
+pub at_left : (r : Removal) (s : ℕ) (qs : List StoredQueue) (i : ℕ) (d : StoredQueue) (ps : List StoredPiece) → IsQueueAt s qs i → ps ≡ pieces_left r (get_or qs i d).pieces →
     set qs i (record { stream = (get_or qs i d).stream; pieces = ps }) ≡ map (left_at r s) qs
 at_left r s [] i d ps h is = absurd h
 at_left r s (q ∷ qs) zero d ps h is =
@@ -110,7 +110,7 @@ at_left r s (q ∷ qs) zero d ps h is =
     rw here (ap (λ (xs : List StoredPiece). record { stream = q.stream; pieces = xs } ∷ qs) is ∙ ap (λ (xs : List StoredQueue). record { stream = q.stream; pieces = pieces_left r q.pieces } ∷ xs) (sym (above_left r s qs h.1)))
 at_left r s (q ∷ qs) (suc i) d ps h is = let off = other s q h.0 in rw off (ap (λ (xs : List StoredQueue). q ∷ xs) (at_left r s qs i d ps h.1 is))
 
-pub at_kept : (s : ℕ) (qs : List StoredQueue) (i : ℕ) → IsAt s qs i → remove qs i ≡ filter (λ (q : StoredQueue). not (q.stream == s)) qs
+pub at_kept : (s : ℕ) (qs : List StoredQueue) (i : ℕ) → IsQueueAt s qs i → remove qs i ≡ filter (λ (q : StoredQueue). not (q.stream == s)) qs
 at_kept s [] i h = absurd h
 at_kept s (q ∷ qs) zero h = let here = itself s q h.0 in rw here (sym (above_kept s qs h.1))
 at_kept s (q ∷ qs) (suc i) h = let off = other s q h.0 in rw off (ap (λ (xs : List StoredQueue). q ∷ xs) (at_kept s qs i h.1))
@@ -177,7 +177,7 @@ comparisons_rise qs s h = IsNonDecreasingBy-from_default (λ (q : StoredQueue). 
     let rise = streams_rise qs i j h le lt in
     grind (arith, nat_tests))
 
-found_at : (qs : List StoredQueue) (s i : ℕ) → AreSorted qs → i < length qs → stream_at qs i ≡ s → IsAt s qs i
+found_at : (qs : List StoredQueue) (s i : ℕ) → AreSorted qs → i < length qs → stream_at qs i ≡ s → IsQueueAt s qs i
 found_at [] s i h lt is = absurd (omega (arith, lt))
 found_at (q ∷ qs) s zero h lt is = (is, subst (λ (n : ℕ). AreAbove n qs) is h.0)
 found_at (q ∷ qs) s (suc i) h lt is = (let a = above_at q.stream qs i h.0 (omega (arith, lt)) in omega (arith, a, is), found_at qs s i h.1 (omega (arith, lt)) is)
@@ -192,7 +192,7 @@ gap_at [] s (suc i) le below above = absurd (omega (arith, le))
 gap_at (q ∷ qs) s (suc i) le below above = (below 0 (omega arith), gap_at qs s i (omega (arith, le)) (λ k lt. below (suc k) (omega (arith, lt))) (λ k le' lt. above (suc k) (omega (arith, le')) (omega (arith, lt))))
 
 pub searched : (qs : List StoredQueue) (s : ℕ) (r : Result ℕ ℕ) → AreSorted qs → IsSearchInRange r (length qs) → IsBinarySearchResult (λ (q : StoredQueue). nat_cmp q.stream s) qs r →
-    record { found : IfOk r (IsAt s qs); absent : IfErr r (IsGapFor s qs) }
+    record { found : IfOk r (IsQueueAt s qs); absent : IfErr r (IsGapFor s qs) }
 searched qs s (Ok i) sorted in_range equal = record { found = found_at qs s i sorted in_range (ranked _ s _ (sym (equal (record { stream = 0; pieces = [] })))); absent = tt }
 searched qs s (Err i) sorted in_range parted = record {
   found = tt;
@@ -213,7 +213,7 @@ below_to qs s i j d sorted lt le below k before =
     let same = same_stream qs i d lt in
     omega (arith, rise, same, below)
 
-pub walked_to : (qs : List StoredQueue) (s i : ℕ) (d : StoredQueue) → AreSorted qs → i < length qs → (get_or qs i d).stream ≡ s → IsAt s qs i
+pub walked_to : (qs : List StoredQueue) (s i : ℕ) (d : StoredQueue) → AreSorted qs → i < length qs → (get_or qs i d).stream ≡ s → IsQueueAt s qs i
 walked_to qs s i d sorted lt is = found_at qs s i sorted lt (sym (same_stream qs i d lt) ∙ is)
 
 pub walked_past : (qs : List StoredQueue) (s i : ℕ) (d : StoredQueue) → AreSorted qs → i < length qs → s < (get_or qs i d).stream → ((k : ℕ) → k < i → stream_at qs k < s) → IsGapFor s qs i
@@ -266,21 +266,21 @@ inserted_takes qs s i p f =
 -- ---- the same by what the code holds
 
 -- x stands at place i
-pub changed_here : (r : Removal) (s : ℕ) (qs ds : List StoredQueue) (i : ℕ) (x : StoredQueue) (ps : List StoredPiece) → ds ≡ qs → IsAt s ds i → x ≡ get_or qs i x → ps ≡ pieces_left r x.pieces →
+pub changed_here : (r : Removal) (s : ℕ) (qs ds : List StoredQueue) (i : ℕ) (x : StoredQueue) (ps : List StoredPiece) → ds ≡ qs → IsQueueAt s ds i → x ≡ get_or qs i x → ps ≡ pieces_left r x.pieces →
     set qs i (record { stream = x.stream; pieces = ps }) ≡ map (left_at r s) qs
 changed_here r s qs ds i x ps same at is left =
     ap (λ (y : StoredQueue). set qs i (record { stream = y.stream; pieces = ps })) is
-    ∙ at_left r s qs i x ps (subst (λ (ys : List StoredQueue). IsAt s ys i) same at) (left ∙ ap (λ (y : StoredQueue). pieces_left r y.pieces) is)
+    ∙ at_left r s qs i x ps (subst (λ (ys : List StoredQueue). IsQueueAt s ys i) same at) (left ∙ ap (λ (y : StoredQueue). pieces_left r y.pieces) is)
 
-pub spends_here : (s : ℕ) (qs ds : List StoredQueue) (old new : List ℕ) (i : ℕ) (x : StoredQueue) (ps : List StoredPiece) → ds ≡ qs → IsAt s ds i → x ≡ get_or qs i x → SpendsOf x.pieces old ps new →
+pub spends_here : (s : ℕ) (qs ds : List StoredQueue) (old new : List ℕ) (i : ℕ) (x : StoredQueue) (ps : List StoredPiece) → ds ≡ qs → IsQueueAt s ds i → x ≡ get_or qs i x → SpendsOf x.pieces old ps new →
     Spends qs old (set qs i (record { stream = x.stream; pieces = ps })) new
 spends_here s qs ds old new i x ps same at is step =
     subst (λ (y : StoredQueue). Spends qs old (set qs i (record { stream = y.stream; pieces = ps })) new) (sym is)
-    (at_spends qs old new i x ps (at_below s qs i (subst (λ (ys : List StoredQueue). IsAt s ys i) same at)) (subst (λ (y : StoredQueue). SpendsOf y.pieces old ps new) is step))
+    (at_spends qs old new i x ps (at_below s qs i (subst (λ (ys : List StoredQueue). IsQueueAt s ys i) same at)) (subst (λ (y : StoredQueue). SpendsOf y.pieces old ps new) is step))
 
-pub room_here : (s : ℕ) (qs ds : List StoredQueue) (i n room : ℕ) (x : StoredQueue) → ds ≡ qs → IsAt s ds i → x ≡ get_or qs i x → length (sources_held qs) + n ≤ room → length (sources_in x.pieces) + n ≤ room
+pub room_here : (s : ℕ) (qs ds : List StoredQueue) (i n room : ℕ) (x : StoredQueue) → ds ≡ qs → IsQueueAt s ds i → x ≡ get_or qs i x → length (sources_held qs) + n ≤ room → length (sources_in x.pieces) + n ≤ room
 room_here s qs ds i n room x same at is fits =
-    let few = few_at qs i x (at_below s qs i (subst (λ (ys : List StoredQueue). IsAt s ys i) same at)) in
+    let few = few_at qs i x (at_below s qs i (subst (λ (ys : List StoredQueue). IsQueueAt s ys i) same at)) in
     let e : length (sources_in x.pieces) ≡ length (sources_in (get_or qs i x).pieces) = ap (λ (y : StoredQueue). length (sources_in y.pieces)) is in
     omega (arith, few, e, fits)
 
@@ -288,22 +288,22 @@ pub sorted_here : (qs : List StoredQueue) (i : ℕ) (x : StoredQueue) (ps : List
 sorted_here qs i x ps is h = subst (λ (y : StoredQueue). AreSorted (set qs i (record { stream = y.stream; pieces = ps }))) (sym is) (sorted_set qs i x ps h)
 
 -- it is removed
-pub kept_here : (s : ℕ) (qs ds rs : List StoredQueue) (i : ℕ) → ds ≡ qs → IsAt s ds i → rs ≡ remove qs i → rs ≡ filter (λ (q : StoredQueue). not (q.stream == s)) qs
-kept_here s qs ds rs i same at is = is ∙ at_kept s qs i (subst (λ (ys : List StoredQueue). IsAt s ys i) same at)
+pub kept_here : (s : ℕ) (qs ds rs : List StoredQueue) (i : ℕ) → ds ≡ qs → IsQueueAt s ds i → rs ≡ remove qs i → rs ≡ filter (λ (q : StoredQueue). not (q.stream == s)) qs
+kept_here s qs ds rs i same at is = is ∙ at_kept s qs i (subst (λ (ys : List StoredQueue). IsQueueAt s ys i) same at)
 
-pub removed_here : (s : ℕ) (qs ds rs : List StoredQueue) (old new : List ℕ) (i : ℕ) (x : StoredQueue) → ds ≡ qs → IsAt s ds i → rs ≡ remove qs i → x ≡ get_or qs i x → SpendsOf x.pieces old [] new → Spends qs old rs new
+pub removed_here : (s : ℕ) (qs ds rs : List StoredQueue) (old new : List ℕ) (i : ℕ) (x : StoredQueue) → ds ≡ qs → IsQueueAt s ds i → rs ≡ remove qs i → x ≡ get_or qs i x → SpendsOf x.pieces old [] new → Spends qs old rs new
 removed_here s qs ds rs old new i x same at gone is step =
     subst (λ (ys : List StoredQueue). Spends qs old ys new) (sym gone)
-    (removed_spends qs old new i x (at_below s qs i (subst (λ (ys : List StoredQueue). IsAt s ys i) same at)) (subst (λ (y : StoredQueue). SpendsOf y.pieces old [] new) is step))
+    (removed_spends qs old new i x (at_below s qs i (subst (λ (ys : List StoredQueue). IsQueueAt s ys i) same at)) (subst (λ (y : StoredQueue). SpendsOf y.pieces old [] new) is step))
 
 -- a piece is appended to it
-pub pushed_here : {T E : Type 0} (r : Result T E) (s : ℕ) (qs ds rs : List StoredQueue) (i : ℕ) (p : StoredPiece) → ds ≡ qs → IsAt s ds i → OnOk r ((q : StoredQueue) → rs ≡ slice_set qs i (with_piece p (slice_index_or qs i q))) → OnOk r (Pushed qs rs s p)
+pub pushed_here : {T E : Type 0} (r : Result T E) (s : ℕ) (qs ds rs : List StoredQueue) (i : ℕ) (p : StoredPiece) → ds ≡ qs → IsQueueAt s ds i → OnOk r ((q : StoredQueue) → rs ≡ slice_set qs i (with_piece p (slice_index_or qs i q))) → OnOk r (Pushed qs rs s p)
 pushed_here r s qs ds rs i p same at h =
-    let at' : IsAt s qs i = subst (λ (ys : List StoredQueue). IsAt s ys i) same at in
+    let at' : IsQueueAt s qs i = subst (λ (ys : List StoredQueue). IsQueueAt s ys i) same at in
     pushed_at_by r qs rs s i (length qs) p (at_first s qs i at') (at_below s qs i at') refl h
 
-pub takes_here : {T E : Type 0} (r : Result T E) (s : ℕ) (qs ds rs : List StoredQueue) (i : ℕ) (p : StoredPiece) → ds ≡ qs → IsAt s ds i → OnOk r ((q : StoredQueue) → rs ≡ slice_set qs i (with_piece p (slice_index_or qs i q))) → OnOk r (AreSame (source_of p ++ sources_held qs) (sources_held rs))
-takes_here r s qs ds rs i p same at h = pushed_sources r qs rs i (length qs) p (at_below s qs i (subst (λ (ys : List StoredQueue). IsAt s ys i) same at)) refl h
+pub takes_here : {T E : Type 0} (r : Result T E) (s : ℕ) (qs ds rs : List StoredQueue) (i : ℕ) (p : StoredPiece) → ds ≡ qs → IsQueueAt s ds i → OnOk r ((q : StoredQueue) → rs ≡ slice_set qs i (with_piece p (slice_index_or qs i q))) → OnOk r (AreSame (source_of p ++ sources_held qs) (sources_held rs))
+takes_here r s qs ds rs i p same at h = pushed_sources r qs rs i (length qs) p (at_below s qs i (subst (λ (ys : List StoredQueue). IsQueueAt s ys i) same at)) refl h
 
 -- a queue was made for its first piece, and stands in the gap
 pub record IsMade (s i : ℕ) (p : StoredPiece) (qs ds rs : List StoredQueue) (old ps : List StoredPiece) : Type 0 where

@@ -5,7 +5,7 @@ use Rattle.std.specs.Prelude.{slice_index_or, slice_set, Result, Ok, Err, OnOk, 
 use Rattle.std.proofs.lemmas.Grind.{flat_map-append}
 use Rattle.grpc_sending.specs.declared.piece.StoredPiece.{StoredPiece}
 use Rattle.grpc_sending.specs.declared.queue.StoredQueue.{StoredQueue}
-use Rattle.grpc_sending.specs.Sources.{sum_over, AreSame, source_of, sources_in, sources_held, Waiting, sources_waiting}
+use Rattle.grpc_sending.specs.Sources.{sum_over, AreSame, source_of, sources_in, sources_held, BacklogValue, sources_waiting}
 use Rattle.grpc_sending.specs.StoredSending.{with_piece}
 
 pub sum_append : (f : ℕ → ℕ) (ms ns : List ℕ) → sum_over f (ms ++ ns) ≡ sum_over f ms + sum_over f ns
@@ -124,10 +124,10 @@ push_room (Ok x) qs rs p n room none same h fits =
     omega (arith, e, z, fits)
 push_room (Err e) qs rs p n room none h same fits = let z : length (sources_held rs) ≡ length (sources_held qs) = ap (λ (xs : List StoredQueue). length (sources_held xs)) same in omega (arith, z, fits)
 
-pub push_same : {T E : Type 0} (r : Result T E) (w v : Waiting) (rs : List StoredQueue) (p : StoredPiece) → w ≡ v → source_of p ≡ [] → OnOk r (AreSame (source_of p ++ sources_held w.queues) (sources_held rs)) → OnOk r (AreSame (sources_waiting v) (sources_held rs ++ w.spent))
+pub push_same : {T E : Type 0} (r : Result T E) (w v : BacklogValue) (rs : List StoredQueue) (p : StoredPiece) → w ≡ v → source_of p ≡ [] → OnOk r (AreSame (source_of p ++ sources_held w.queues) (sources_held rs)) → OnOk r (AreSame (sources_waiting v) (sources_held rs ++ w.spent))
 push_same (Err e) w v rs p is none h = tt
 push_same (Ok x) w v rs p is none h = λ f.
-    let a : sum_over f (sources_waiting v) ≡ sum_over f (sources_waiting w) = ap (λ (u : Waiting). sum_over f (sources_waiting u)) (sym is) in
+    let a : sum_over f (sources_waiting v) ≡ sum_over f (sources_waiting w) = ap (λ (u : BacklogValue). sum_over f (sources_waiting u)) (sym is) in
     let b = sum_append f (sources_held w.queues) w.spent in
     let c = sum_append f (sources_held rs) w.spent in
     let e : sum_over f (source_of p ++ sources_held w.queues) ≡ sum_over f (sources_held w.queues) = ap (λ (ns : List ℕ). sum_over f (ns ++ sources_held w.queues)) none in
@@ -138,9 +138,9 @@ range_room qs rs s spent old sources room same is fits room_is =
     let e : length (sources_held rs) ≡ length (s ∷ sources_held qs) = same_length (s ∷ sources_held qs) (sources_held rs) same in
     (omega (arith, e, ap length is, fits), omega (arith, room_is))
 
-pub range_same : (w v : Waiting) (rs : List StoredQueue) (s : ℕ) (spent : List ℕ) → w ≡ v → AreSame (s ∷ sources_held w.queues) (sources_held rs) → spent ≡ w.spent → AreSame (s ∷ sources_waiting v) (sources_held rs ++ spent)
+pub range_same : (w v : BacklogValue) (rs : List StoredQueue) (s : ℕ) (spent : List ℕ) → w ≡ v → AreSame (s ∷ sources_held w.queues) (sources_held rs) → spent ≡ w.spent → AreSame (s ∷ sources_waiting v) (sources_held rs ++ spent)
 range_same w v rs s spent is same kept f =
-    let a : sum_over f (sources_waiting v) ≡ sum_over f (sources_waiting w) = ap (λ (u : Waiting). sum_over f (sources_waiting u)) (sym is) in
+    let a : sum_over f (sources_waiting v) ≡ sum_over f (sources_waiting w) = ap (λ (u : BacklogValue). sum_over f (sources_waiting u)) (sym is) in
     let b = sum_append f (sources_held w.queues) w.spent in
     let c = sum_append f (sources_held rs) spent in
     let e : sum_over f spent ≡ sum_over f w.spent = ap (sum_over f) kept in

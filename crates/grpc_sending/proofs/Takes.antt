@@ -15,7 +15,7 @@ use Rattle.http2_frames.specs.declared.frame.Frame.TheVariants.{Data, Headers, P
 use Rattle.http2_frames.specs.Writing.{text_of}
 use Rattle.http2_streams.specs.History.{Entry, Out, Took, sent_frames, received_frames, frame_in, frame_out, has_failed, is_not_closed, is_goaway, resets, data_ends, block_ends, blocks_after, no_blocks, ends, live_streams}
 use Rattle.http2_streams.specs.Standing.{Standing, standing, stream_at}
-use Rattle.http2_streams.specs.StandsFor.{StandsFor as AreStreams}
+use Rattle.http2_streams.specs.StandsFor.{AreStreams}
 use Rattle.http2_streams.specs.Rules.{number_is}
 use Rattle.grpc_sending.specs.Pieces.{Piece, most_read, read_pieces}
 use Rattle.grpc_sending.specs.Pieces.{Queue}
@@ -33,7 +33,7 @@ use Rattle.grpc_sending.specs.declared.piece.StoredPiece.TheVariants.{Ranged}
 use Rattle.grpc_sending.specs.Spans.{Span, span_text}
 use Rattle.grpc_sending.proofs.Spans.{without_none}
 use Rattle.grpc_sending.specs.declared.queue.StoredQueue.{StoredQueue}
-use Rattle.grpc_sending.specs.StoredSending.{Look, StoredSending, pieces_in, queue_in, sending_in, stored_on}
+use Rattle.grpc_sending.specs.StoredSending.{SourceTexts, StoredSending, pieces_in, queue_in, sending_in, stored_on}
 
 not_headers : (f : Frame) → IsControl f → is_headers f ≡ false
 not_headers (Data s e bytes) h = refl
@@ -176,25 +176,25 @@ stands_same w d os rs same st = record {
 
 -- ---- the same by what the code holds
 
-pub took_by : (texts : Look) (w v : StoredSending) (n : ℕ) (bs : List ℕ) → w ≡ v → n ≤ length v.pending → bs ≡ drop n w.pending → (d : List Entry) (os : List OwedItem) → IsSending (sending_in texts v) d os → IsSending (record { pending = bs; position = w.position; queues = map (queue_in texts) w.queues }) (d ++ Took n ∷ []) os
+pub took_by : (texts : SourceTexts) (w v : StoredSending) (n : ℕ) (bs : List ℕ) → w ≡ v → n ≤ length v.pending → bs ≡ drop n w.pending → (d : List Entry) (os : List OwedItem) → IsSending (sending_in texts v) d os → IsSending (record { pending = bs; position = w.position; queues = map (queue_in texts) w.queues }) (d ++ Took n ∷ []) os
 took_by texts w v n bs is few new d os st =
     subst (λ (xs : List ℕ). IsSending (record { pending = xs; position = w.position; queues = map (queue_in texts) w.queues }) (d ++ Took n ∷ []) os) (sym new)
     (stands_took (sending_in texts w) d os n (omega (arith, few, ap (λ (x : StoredSending). length x.pending) is)) (subst (λ (x : StoredSending). IsSending (sending_in texts x) d os) (sym is) st))
 
-pub forget_by : (texts : Look) (w v : StoredSending) (s : ℕ) (rs : List StoredQueue) → w ≡ v → rs ≡ filter (λ q. not (q.stream == s)) w.queues → (d : List Entry) (os : List OwedItem) → is_not_closed d s ≡ false → IsSending (sending_in texts v) d os → IsSending (record { pending = w.pending; position = w.position; queues = map (queue_in texts) rs }) d os
+pub forget_by : (texts : SourceTexts) (w v : StoredSending) (s : ℕ) (rs : List StoredQueue) → w ≡ v → rs ≡ filter (λ q. not (q.stream == s)) w.queues → (d : List Entry) (os : List OwedItem) → is_not_closed d s ≡ false → IsSending (sending_in texts v) d os → IsSending (record { pending = w.pending; position = w.position; queues = map (queue_in texts) rs }) d os
 forget_by texts w v s rs is new d os closed st =
     subst (λ (xs : List Queue). IsSending (record { pending = w.pending; position = w.position; queues = xs }) d os) (sym (ap (map (queue_in texts)) new ∙ filter_in texts s w.queues))
     (stands_forget (sending_in texts w) d os s closed (subst (λ (x : StoredSending). IsSending (sending_in texts x) d os) (sym is) st))
 
-pub control_by : (texts : Look) (w v : StoredSending) (f : Frame) (bs : List ℕ) → w ≡ v → IsControl f → bs ≡ w.pending ++ text_of f → (d : List Entry) (os : List OwedItem) → IsSending (sending_in texts v) d os → IsSending (record { pending = bs; position = w.position; queues = map (queue_in texts) w.queues }) (d ++ Out f ∷ []) os
+pub control_by : (texts : SourceTexts) (w v : StoredSending) (f : Frame) (bs : List ℕ) → w ≡ v → IsControl f → bs ≡ w.pending ++ text_of f → (d : List Entry) (os : List OwedItem) → IsSending (sending_in texts v) d os → IsSending (record { pending = bs; position = w.position; queues = map (queue_in texts) w.queues }) (d ++ Out f ∷ []) os
 control_by texts w v f bs is control new d os st =
     subst (λ (xs : List ℕ). IsSending (record { pending = xs; position = w.position; queues = map (queue_in texts) w.queues }) (d ++ Out f ∷ []) os) (sym new)
     (stands_control (sending_in texts w) d os f control (subst (λ (x : StoredSending). IsSending (sending_in texts x) d os) (sym is) st))
 
-same_in : (texts : Look) (qs rs : List StoredQueue) → ((t : ℕ) → stored_on t rs ≡ stored_on t qs) → (t : ℕ) → pieces_on t (map (queue_in texts) rs) ≡ pieces_on t (map (queue_in texts) qs)
+same_in : (texts : SourceTexts) (qs rs : List StoredQueue) → ((t : ℕ) → stored_on t rs ≡ stored_on t qs) → (t : ℕ) → pieces_on t (map (queue_in texts) rs) ≡ pieces_on t (map (queue_in texts) qs)
 same_in texts qs rs h t = on_in texts t rs ∙ ap (flat_map (pieces_in texts)) (h t) ∙ sym (on_in texts t qs)
 
-given_in : (texts : Look) (qs rs : List StoredQueue) (s : ℕ) (p : StoredPiece) → Pushed qs rs s p → Given (map (queue_in texts) qs) (map (queue_in texts) rs) s (pieces_in texts p)
+given_in : (texts : SourceTexts) (qs rs : List StoredQueue) (s : ℕ) (p : StoredPiece) → Pushed qs rs s p → Given (map (queue_in texts) qs) (map (queue_in texts) rs) s (pieces_in texts p)
 given_in texts qs rs s p h t =
     let back : (b : Bool) → flat_map (pieces_in texts) (cond b (stored_on t qs ++ p ∷ []) (stored_on t qs)) ≡ cond b (flat_map (pieces_in texts) (stored_on t qs) ++ pieces_in texts p) (flat_map (pieces_in texts) (stored_on t qs)) = elim [
       | true ↦ flat_map-append (pieces_in texts) (stored_on t qs) (p ∷ []) ∙ ap (λ ps. flat_map (pieces_in texts) (stored_on t qs) ++ ps) (append-nil (pieces_in texts p))
@@ -202,9 +202,9 @@ given_in texts qs rs s p h t =
     ] in
     on_in texts t rs ∙ ap (flat_map (pieces_in texts)) (h t) ∙ back (s == t) ∙ ap (λ (ps : List Piece). cond (s == t) (ps ++ pieces_in texts p) ps) (sym (on_in texts t qs))
 
-pub owe_by : {T E : Type 0} (streams : Standing) (w v : StoredSending) (rs : List StoredQueue) (s : ℕ) (item : Item) (p : StoredPiece) (r : Result T E) → w ≡ v → streams.failed ≡ false → list_any (number_is s) streams.live ≡ true → ((texts : Look) → pieces_in texts p ≡ pieces_of item) →
+pub owe_by : {T E : Type 0} (streams : Standing) (w v : StoredSending) (rs : List StoredQueue) (s : ℕ) (item : Item) (p : StoredPiece) (r : Result T E) → w ≡ v → streams.failed ≡ false → list_any (number_is s) streams.live ≡ true → ((texts : SourceTexts) → pieces_in texts p ≡ pieces_of item) →
     OnOk r (Pushed w.queues rs s p) →
-    OnOk r ((texts : Look) (d : List Entry) (os : List OwedItem) → AreStreams streams d → IsSending (sending_in texts v) d os → IsSending (record { pending = w.pending; position = w.position; queues = map (queue_in texts) rs }) d (owed_with_item d os s item))
+    OnOk r ((texts : SourceTexts) (d : List Entry) (os : List OwedItem) → AreStreams streams d → IsSending (sending_in texts v) d os → IsSending (record { pending = w.pending; position = w.position; queues = map (queue_in texts) rs }) d (owed_with_item d os s item))
 owe_by streams w v rs s item p (Err e) is alive lives piece h = tt
 owe_by streams w v rs s item p (Ok x) is alive lives piece h = λ texts d os at st.
     stands_owed streams (sending_in texts w) d os s item (map (queue_in texts) rs) alive lives (subst (λ (y : List Piece). Given (map (queue_in texts) w.queues) (map (queue_in texts) rs) s y) (piece texts) (given_in texts w.queues rs s p h)) at (subst (λ (x : StoredSending). IsSending (sending_in texts x) d os) (sym is) st)
@@ -212,7 +212,7 @@ owe_by streams w v rs s item p (Ok x) is alive lives piece h = λ texts d os at 
 -- a range is the text of its source
 pub owe_range_by : {T E : Type 0} (streams : Standing) (w v : StoredSending) (rs : List StoredQueue) (s : ℕ) (p : Span) (r : Result T E) → w ≡ v → streams.failed ≡ false → list_any (number_is s) streams.live ≡ true → p.put ≡ 0 →
     OnOk r (Pushed w.queues rs s (Ranged p)) →
-    OnOk r ((texts : Look) (digest : Digest) (d : List Entry) (os : List OwedItem) → AreStreams streams d → IsSending (sending_in texts v) d os → IsSending (record { pending = w.pending; position = w.position; queues = map (queue_in texts) rs }) d (owed_with_item d os s (Range digest (texts p.source) p.from (p.until - p.from))))
+    OnOk r ((texts : SourceTexts) (digest : Digest) (d : List Entry) (os : List OwedItem) → AreStreams streams d → IsSending (sending_in texts v) d os → IsSending (record { pending = w.pending; position = w.position; queues = map (queue_in texts) rs }) d (owed_with_item d os s (Range digest (texts p.source) p.from (p.until - p.from))))
 owe_range_by streams w v rs s p (Err e) is alive lives none h = tt
 owe_range_by streams w v rs s p (Ok x) is alive lives none h = λ texts digest d os at st.
     let piece : pieces_in texts (Ranged p) ≡ pieces_of (Range digest (texts p.source) p.from (p.until - p.from)) = ap (λ k. without_front k (read_pieces (span_text p (texts p.source)))) none ∙ without_none most_read (length (span_text p (texts p.source))) (span_text p (texts p.source)) in
@@ -241,7 +241,7 @@ stands_nothing v w d os s digest text from until (inr (inl failed)) at st = stan
 stands_nothing v w d os s digest text from until (inr (inr dead)) at st = stands_unowed v w d os s (Range digest text from (until - from)) dead at st
 
 pub owe_nothing_by : (streams : Standing) (w v : StoredSending) (rs : List StoredQueue) (s source from until : ℕ) → w ≡ v → rs ≡ w.queues → IsNothing streams s from until →
-    (texts : Look) (digest : Digest) (d : List Entry) (os : List OwedItem) → AreStreams streams d → IsSending (sending_in texts v) d os → IsSending (record { pending = w.pending; position = w.position; queues = map (queue_in texts) rs }) d (owed_with_item d os s (Range digest (texts source) from (until - from)))
+    (texts : SourceTexts) (digest : Digest) (d : List Entry) (os : List OwedItem) → AreStreams streams d → IsSending (sending_in texts v) d os → IsSending (record { pending = w.pending; position = w.position; queues = map (queue_in texts) rs }) d (owed_with_item d os s (Range digest (texts source) from (until - from)))
 owe_nothing_by streams w v rs s source from until is same nothing texts digest d os at st =
     subst (λ (qs : List StoredQueue). IsSending (record { pending = w.pending; position = w.position; queues = map (queue_in texts) qs }) d (owed_with_item d os s (Range digest (texts source) from (until - from)))) (sym same)
     (stands_nothing streams (sending_in texts w) d os s digest (texts source) from until nothing at (subst (λ (x : StoredSending). IsSending (sending_in texts x) d os) (sym is) st))
@@ -255,5 +255,5 @@ stands_ended w d os rs failed st = record {
   queues = λ alive s lives more. let no : true ≡ false = sym failed ∙ alive in absurd (let z : ⊥ = cc in z);
 }
 
-pub ended_by : (texts : Look) (w v : StoredSending) (rs : List StoredQueue) → w ≡ v → (d : List Entry) (os : List OwedItem) → has_failed d ≡ true → IsSending (sending_in texts v) d os → IsSending (record { pending = w.pending; position = w.position; queues = map (queue_in texts) rs }) d os
+pub ended_by : (texts : SourceTexts) (w v : StoredSending) (rs : List StoredQueue) → w ≡ v → (d : List Entry) (os : List OwedItem) → has_failed d ≡ true → IsSending (sending_in texts v) d os → IsSending (record { pending = w.pending; position = w.position; queues = map (queue_in texts) rs }) d os
 ended_by texts w v rs is d os failed st = stands_ended (sending_in texts w) d os (map (queue_in texts) rs) failed (subst (λ (x : StoredSending). IsSending (sending_in texts x) d os) (sym is) st)

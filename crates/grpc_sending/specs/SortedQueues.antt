@@ -15,10 +15,10 @@ AreSorted (q ∷ qs) = AreAbove q.stream qs × AreSorted qs
 
 -- the queue at place i is that of stream s: those before are of lower streams, those behind of
 -- higher ones
-abbrev pub IsAt : ℕ → List StoredQueue → ℕ → Type 0
-IsAt s [] i = ⊥
-IsAt s (q ∷ qs) zero = (q.stream ≡ s) × AreAbove s qs
-IsAt s (q ∷ qs) (suc i) = (q.stream < s) × IsAt s qs i
+abbrev pub IsQueueAt : ℕ → List StoredQueue → ℕ → Type 0
+IsQueueAt s [] i = ⊥
+IsQueueAt s (q ∷ qs) zero = (q.stream ≡ s) × AreAbove s qs
+IsQueueAt s (q ∷ qs) (suc i) = (q.stream < s) × IsQueueAt s qs i
 
 -- stream s has no queue: those before place i are of lower streams, the others of higher ones
 abbrev pub IsGapFor : ℕ → List StoredQueue → ℕ → Type 0

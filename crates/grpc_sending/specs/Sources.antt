@@ -41,20 +41,20 @@ abbrev pub Spends : List StoredQueue → List ℕ → List StoredQueue → List 
 Spends qs old rs new = AreSame (sources_held qs ++ old) (sources_held rs ++ new)
 
 -- more are held than before
-abbrev pub Takes : List ℕ → List StoredQueue → List StoredQueue → Type 0
-Takes ns qs rs = AreSame (ns ++ sources_held qs) (sources_held rs)
+abbrev pub HoldsSourcesToo : List ℕ → List StoredQueue → List StoredQueue → Type 0
+HoldsSourcesToo ns qs rs = AreSame (ns ++ sources_held qs) (sources_held rs)
 
 -- all could be spent
-abbrev pub HasRoomOf : List StoredPiece → List ℕ → ℕ → Type 0
-HasRoomOf ps spent capacity = length (sources_in ps) + length spent ≤ capacity
+abbrev pub HasRoomForPieces : List StoredPiece → List ℕ → ℕ → Type 0
+HasRoomForPieces ps spent capacity = length (sources_in ps) + length spent ≤ capacity
 
-abbrev pub HasRoom : List StoredQueue → List ℕ → ℕ → Type 0
-HasRoom qs spent capacity = length (sources_held qs) + length spent ≤ capacity
+abbrev pub HasRoomForSources : List StoredQueue → List ℕ → ℕ → Type 0
+HasRoomForSources qs spent capacity = length (sources_held qs) + length spent ≤ capacity
 
 -- what waits to be put, and the sources of ranges that are over
-pub record Waiting : Type 0 where
+pub record BacklogValue : Type 0 where
   pub queues : List StoredQueue
   pub spent : List ℕ
 
-abbrev pub sources_waiting : Waiting → List ℕ
+abbrev pub sources_waiting : BacklogValue → List ℕ
 sources_waiting w = sources_held w.queues ++ w.spent

@@ -7,7 +7,7 @@ use Rattle.http2_frames.specs.declared.frame.Frame.TheVariants.{Data, Headers, R
 use Rattle.http2_streams.specs.declared.stream.Stream.{Stream}
 use Rattle.http2_streams.specs.History.{Entry, Out, is_not_closed}
 use Rattle.http2_streams.specs.Standing.{Standing}
-use Rattle.http2_streams.specs.StandsFor.{StandsFor as AreStreams}
+use Rattle.http2_streams.specs.StandsFor.{AreStreams}
 use Rattle.grpc_sending.specs.Pieces.{Piece}
 use Rattle.grpc_sending.specs.Pieces.{Block, Part}
 use Rattle.grpc_sending.specs.Pieces.{Queue}

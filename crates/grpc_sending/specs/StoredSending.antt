@@ -10,7 +10,7 @@ use Rattle.http2_frames.specs.Writing.{text_of}
 use Rattle.http2_streams.specs.History.{Entry, is_not_closed, has_failed}
 use Rattle.http2_streams.specs.declared.stream.Stream.{Stream}
 use Rattle.http2_streams.specs.Standing.{Standing}
-use Rattle.http2_streams.specs.StandsFor.{StandsFor as AreStreams}
+use Rattle.http2_streams.specs.StandsFor.{AreStreams}
 use Rattle.digest.specs.declared.Digest.{Digest}
 use Rattle.grpc_sending.specs.declared.piece.StoredPiece.{StoredPiece}
 use Rattle.grpc_sending.specs.declared.piece.StoredPiece.TheVariants.{Encoded, Framed, Ranged}
@@ -28,8 +28,8 @@ use Rattle.grpc_sending.specs.Step.{Puts, Rests, Resets, Finishes}
 use Rattle.grpc_sending.specs.StandsFor.{Sending, IsSending}
 
 -- the text of each source
-abbrev pub Look : Type 0
-Look = ℕ → List ℕ
+abbrev pub SourceTexts : Type 0
+SourceTexts = ℕ → List ℕ
 
 pub record StoredSending : Type 0 where
   -- the bytes that were put and not taken
@@ -46,21 +46,21 @@ new_stored_sending = record { pending = []; position = First; queues = []; spent
 
 -- ---- as it is seen
 
-abbrev pub pieces_in : Look → StoredPiece → List Piece
+abbrev pub pieces_in : SourceTexts → StoredPiece → List Piece
 pieces_in texts (Encoded block) = Block block ∷ []
 pieces_in texts (Framed bytes) = Part bytes ∷ []
 pieces_in texts (Ranged s) = span_pieces most_read s (texts s.source)
 
-abbrev pub queue_in : Look → StoredQueue → Queue
+abbrev pub queue_in : SourceTexts → StoredQueue → Queue
 queue_in texts q = record { stream = q.stream; pieces = flat_map (pieces_in texts) q.pieces }
 
-abbrev pub sending_in : Look → StoredSending → Sending
+abbrev pub sending_in : SourceTexts → StoredSending → Sending
 sending_in texts w =
     record { pending = w.pending; position = w.position; queues = map (queue_in texts) w.queues }
 
 -- what is kept stands for a history and for all that was ever owed
-abbrev pub StandsFor : Look → StoredSending → List Entry → List OwedItem → Type 0
-StandsFor texts w d os = IsSending (sending_in texts w) d os
+abbrev pub IsStoredSending : SourceTexts → StoredSending → List Entry → List OwedItem → Type 0
+IsStoredSending texts w d os = IsSending (sending_in texts w) d os
 
 -- ---- sources
 
@@ -70,11 +70,11 @@ abbrev pub sources_of : StoredSending → List ℕ
 sources_of w = sources_held w.queues ++ w.spent
 
 -- two look-ups have the same text for each of these sources
-abbrev pub AgreeOn : List ℕ → Look → Look → Type 0
+abbrev pub AgreeOn : List ℕ → SourceTexts → SourceTexts → Type 0
 AgreeOn ns texts others = (n : ℕ) → 0 < count_of n ns → texts n ≡ others n
 
 -- .. for each source of a range
-abbrev pub AgreeFor : Look → Look → StoredSending → Type 0
+abbrev pub AgreeFor : SourceTexts → SourceTexts → StoredSending → Type 0
 AgreeFor texts others w = AgreeOn (sources_held w.queues) texts others
 
 -- the same sources are held, each as often
@@ -82,8 +82,8 @@ abbrev pub KeepsSources : StoredSending → StoredSending → Type 0
 KeepsSources v w = (k : ℕ) → count_of k (sources_of w) ≡ count_of k (sources_of v)
 
 -- each is held fewer times than 64 bits can count
-abbrev pub HasFew : StoredSending → Type 0
-HasFew w = (k : ℕ) → count_of k (sources_of w) < 2 ^ 64
+abbrev pub HasFewSources : StoredSending → Type 0
+HasFewSources w = (k : ℕ) → count_of k (sources_of w) < 2 ^ 64
 
 -- one more is held
 abbrev pub HoldsMore : ℕ → StoredSending → StoredSending → Type 0
@@ -100,99 +100,105 @@ stored_on s [] = []
 stored_on s (q ∷ qs) = if q.stream == s then q.pieces else stored_on s qs
 
 -- each range that is kept ends within the text of its source
-abbrev pub IsFit : Look → StoredPiece → Type 0
-IsFit texts (Encoded block) = Unit {0}
-IsFit texts (Framed bytes) = Unit {0}
-IsFit texts (Ranged s) = IsSpan most_read s (texts s.source)
+abbrev pub EndsWithinText : SourceTexts → StoredPiece → Type 0
+EndsWithinText texts (Encoded block) = Unit {0}
+EndsWithinText texts (Framed bytes) = Unit {0}
+EndsWithinText texts (Ranged s) = IsSpan most_read s (texts s.source)
 
-abbrev pub AreFit : Look → List StoredPiece → Type 0
-AreFit texts ps = AllByRecursion (IsFit texts) ps
+abbrev pub EndWithinTexts : SourceTexts → List StoredPiece → Type 0
+EndWithinTexts texts ps = AllByRecursion (EndsWithinText texts) ps
 
-abbrev pub Fit : Look → List StoredQueue → Type 0
-Fit texts qs = (s : ℕ) → AreFit texts (stored_on s qs)
+abbrev pub QueuesEndWithin : SourceTexts → List StoredQueue → Type 0
+QueuesEndWithin texts qs = (s : ℕ) → EndWithinTexts texts (stored_on s qs)
 
 -- ---- what a call comes to, whatever the texts are
 
 -- what is kept stands by the one look-up for all that it stands for by the other
-abbrev pub StandsAlike : Look → Look → StoredSending → Type 0
+abbrev pub StandsAlike : SourceTexts → SourceTexts → StoredSending → Type 0
 StandsAlike texts others w =
-    (d : List Entry) (os : List OwedItem) → StandsFor texts w d os → StandsFor others w d os
+    (d : List Entry) (os : List OwedItem) → IsStoredSending texts w d os →
+    IsStoredSending others w d os
 
-abbrev pub FitsAlike : Look → Look → StoredSending → Type 0
-FitsAlike texts others w = Fit texts w.queues → Fit others w.queues
+abbrev pub FitsAlike : SourceTexts → SourceTexts → StoredSending → Type 0
+FitsAlike texts others w = QueuesEndWithin texts w.queues → QueuesEndWithin others w.queues
 
 -- an entry was added to the history
 abbrev pub Enters : StoredSending → Entry → StoredSending → Type 0
 Enters v e w =
-    (texts : Look) (d : List Entry) (os : List OwedItem) → StandsFor texts v d os →
-    StandsFor texts w (d ++ e ∷ []) os
+    (texts : SourceTexts) (d : List Entry) (os : List OwedItem) → IsStoredSending texts v d os →
+    IsStoredSending texts w (d ++ e ∷ []) os
 
 -- what was dropped is owed to no live stream: stream s is closed, or the connection met an error
 abbrev pub DropsClosed : ℕ → StoredSending → StoredSending → Type 0
 DropsClosed s v w =
-    (texts : Look) (d : List Entry) (os : List OwedItem) → is_not_closed d s ≡ false →
-    StandsFor texts v d os → StandsFor texts w d os
+    (texts : SourceTexts) (d : List Entry) (os : List OwedItem) → is_not_closed d s ≡ false →
+    IsStoredSending texts v d os → IsStoredSending texts w d os
 
 abbrev pub DropsAll : StoredSending → StoredSending → Type 0
 DropsAll v w =
-    (texts : Look) (d : List Entry) (os : List OwedItem) → has_failed d ≡ true →
-    StandsFor texts v d os → StandsFor texts w d os
+    (texts : SourceTexts) (d : List Entry) (os : List OwedItem) → has_failed d ≡ true →
+    IsStoredSending texts v d os → IsStoredSending texts w d os
 
 -- an item is owed to stream s
 abbrev pub Owes : Standing → ℕ → Item → StoredSending → StoredSending → Type 0
 Owes streams s item v w =
-    (texts : Look) (d : List Entry) (os : List OwedItem) → AreStreams streams d →
-    StandsFor texts v d os → StandsFor texts w d (owed_with_item d os s item)
+    (texts : SourceTexts) (d : List Entry) (os : List OwedItem) → AreStreams streams d →
+    IsStoredSending texts v d os → IsStoredSending texts w d (owed_with_item d os s item)
 
 -- the text of a source from a place until another is, by whatever digest names it
 abbrev pub OwesRange : Standing → ℕ → ℕ → ℕ → ℕ → StoredSending → StoredSending → Type 0
 OwesRange streams s source from until v w =
-    (texts : Look) (digest : Digest) (d : List Entry) (os : List OwedItem) → AreStreams streams d →
-    StandsFor texts v d os →
-    StandsFor texts w d (owed_with_item d os s (Range digest (texts source) from (until - from)))
+    (texts : SourceTexts) (digest : Digest) (d : List Entry) (os : List OwedItem) →
+    AreStreams streams d →
+    IsStoredSending texts v d os →
+    IsStoredSending texts w d
+    (owed_with_item d os s (Range digest (texts source) from (until - from)))
 
 -- all was put that can be
-abbrev pub PumpsStreams : Look → Standing → StoredSending → Standing → Type 0
+abbrev pub PumpsStreams : SourceTexts → Standing → StoredSending → Standing → Type 0
 PumpsStreams texts streams v after =
-    (d : List Entry) (os : List OwedItem) → AreStreams streams d → StandsFor texts v d os →
+    (d : List Entry) (os : List OwedItem) → AreStreams streams d → IsStoredSending texts v d os →
     AreStreams after (history_after_pump d os)
 
-abbrev pub PumpsSending : Look → Standing → StoredSending → StoredSending → Type 0
+abbrev pub PumpsSending : SourceTexts → Standing → StoredSending → StoredSending → Type 0
 PumpsSending texts streams v w =
-    (d : List Entry) (os : List OwedItem) → AreStreams streams d → StandsFor texts v d os →
-    StandsFor texts w (history_after_pump d os) os
+    (d : List Entry) (os : List OwedItem) → AreStreams streams d → IsStoredSending texts v d os →
+    IsStoredSending texts w (history_after_pump d os) os
 
 -- nothing more can be put, whatever the texts are
 abbrev pub IsAtRest : Standing → StoredSending → Type 0
-IsAtRest streams w = (texts : Look) → Fit texts w.queues → Rests streams (sending_in texts w)
+IsAtRest streams w =
+    (texts : SourceTexts) → QueuesEndWithin texts w.queues → Rests streams (sending_in texts w)
 
 -- what one turn does
-abbrev pub PutsBy : Look → Standing → StoredSending → Standing → StoredSending → Type 0
+abbrev pub PutsBy : SourceTexts → Standing → StoredSending → Standing → StoredSending → Type 0
 PutsBy texts streams v after w = Puts streams (sending_in texts v) after (sending_in texts w)
 
 abbrev pub ResetsBy : Standing → StoredSending → ℕ → Standing → StoredSending → Type 0
 ResetsBy streams v s after w =
-    (texts : Look) → Resets streams (sending_in texts v) s after (sending_in texts w)
+    (texts : SourceTexts) → Resets streams (sending_in texts v) s after (sending_in texts w)
 
 abbrev pub FinishesBy : Standing → StoredSending → ℕ → Bool → Standing → StoredSending → Type 0
 FinishesBy streams v s ended_by_client after w =
-    (texts : Look) → Finishes streams (sending_in texts v) s ended_by_client after
+    (texts : SourceTexts) → Finishes streams (sending_in texts v) s ended_by_client after
     (sending_in texts w)
 
 -- what is kept for a live stream is what is left of all that was owed to it
-abbrev pub KeepsWhatIsLeft : Look → StoredSending → List Entry → List OwedItem → Type 0
+abbrev pub KeepsWhatIsLeft : SourceTexts → StoredSending → List Entry → List OwedItem → Type 0
 KeepsWhatIsLeft texts w d os =
-    StandsFor texts w d os → has_failed d ≡ false → (s : ℕ) → is_not_closed d s ≡ true →
+    IsStoredSending texts w d os → has_failed d ≡ false → (s : ℕ) → is_not_closed d s ≡ true →
     flat_map (pieces_in texts) (stored_on s w.queues) ≡ pieces_left_on d os s
 
 -- each range that is kept stays within the text of its source
 abbrev pub KeepsFit : StoredSending → StoredSending → Type 0
-KeepsFit v w = (texts : Look) → Fit texts v.queues → Fit texts w.queues
+KeepsFit v w =
+    (texts : SourceTexts) → QueuesEndWithin texts v.queues → QueuesEndWithin texts w.queues
 
 -- where the text of a source goes on until there
 abbrev pub KeepsFitWith : ℕ → ℕ → StoredSending → StoredSending → Type 0
 KeepsFitWith source until v w =
-    (texts : Look) → until ≤ length (texts source) → Fit texts v.queues → Fit texts w.queues
+    (texts : SourceTexts) → until ≤ length (texts source) →
+    QueuesEndWithin texts v.queues → QueuesEndWithin texts w.queues
 
 -- ---- changes of the queues
 
@@ -233,22 +239,22 @@ left_at removal s q =
     if q.stream == s then record q { pieces = pieces_left removal q.pieces } else q
 
 -- the bytes that are left of the first message of a range
-abbrev pub front_in : Look → Span → List ℕ
+abbrev pub front_in : SourceTexts → Span → List ℕ
 front_in texts s = span_front most_read s (texts s.source)
 
 -- a DATA frame with n of them
-abbrev pub range_frame : Look → ℕ → ℕ → Span → List ℕ
+abbrev pub range_frame : SourceTexts → ℕ → ℕ → Span → List ℕ
 range_frame texts stream n s = text_of (Data stream false (take n (front_in texts s)))
 
 -- the bytes of the first piece
-abbrev pub front_bytes : Look → List StoredPiece → List ℕ
+abbrev pub front_bytes : SourceTexts → List StoredPiece → List ℕ
 front_bytes texts [] = []
 front_bytes texts (Encoded block ∷ ps) = []
 front_bytes texts (Framed bytes ∷ ps) = bytes
 front_bytes texts (Ranged s ∷ ps) = span_front most_read s (texts s.source)
 
 -- a DATA frame with n of them
-abbrev pub front_frame : Look → ℕ → ℕ → List StoredPiece → List ℕ
+abbrev pub front_frame : SourceTexts → ℕ → ℕ → List StoredPiece → List ℕ
 front_frame texts stream n ps = text_of (Data stream false (take n (front_bytes texts ps)))
 
 -- ---- whose turn it is

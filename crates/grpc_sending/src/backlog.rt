@@ -28,13 +28,13 @@ pub(crate) struct Backlog {
 impl Model for Backlog {
     ghost use Rattle.std.specs.Prelude.{◌≤◌, ◌+◌, length, vec_capacity};
     ghost use Rattle.grpc_sending.specs.SortedQueues.{AreSorted};
-    ghost use Rattle.grpc_sending.specs.Sources.{Waiting, HasRoom};
+    ghost use Rattle.grpc_sending.specs.Sources.{BacklogValue, HasRoomForSources};
 
-    ghost Value = { Waiting };
+    ghost Value = { BacklogValue };
 
     ghost view = { λ b. record { queues = b.queues.items; spent = b.spent.items } };
 
-    ghost invariant = { λ b. HasRoom b.queues.items b.spent.items b.sources
+    ghost invariant = { λ b. HasRoomForSources b.queues.items b.spent.items b.sources
         × (b.sources ≤ vec_capacity b.spent) × AreSorted b.queues.items };
 }
 

@@ -9,7 +9,7 @@ ghost use Rattle.grpc_sending.specs.Owed.{OwedItem};
 ghost use Rattle.grpc_sending.specs.Pump.{history_after_pump};
 ghost use Rattle.grpc_sending.specs.Wire.{IsFieldTen};
 ghost use Rattle.grpc_sending.specs.Settled.{IsSettled};
-ghost use Rattle.grpc_sending.specs.StoredSending.{Look, StoredSending, Enters, AgreeFor, StandsAlike, FitsAlike, KeepsWhatIsLeft};
+ghost use Rattle.grpc_sending.specs.StoredSending.{SourceTexts, StoredSending, Enters, AgreeFor, StandsAlike, FitsAlike, KeepsWhatIsLeft};
 
 /// The pump leaves nothing that could be put.
 pub fn the_pump_settles()
@@ -25,14 +25,14 @@ pub fn received_bytes_put_nothing()
 
 /// What is kept stands for the same by any look-up that has the texts of the sources of ranges.
 pub fn only_texts_of_ranges_matter()
-    ensures stands { (t u : Look) (w : StoredSending) → AgreeFor t u w → StandsAlike t u w }
-    ensures fit { (t u : Look) (w : StoredSending) → AgreeFor t u w → FitsAlike t u w }
+    ensures stands { (t u : SourceTexts) (w : StoredSending) → AgreeFor t u w → StandsAlike t u w }
+    ensures fit { (t u : SourceTexts) (w : StoredSending) → AgreeFor t u w → FitsAlike t u w }
 {}
 
 /// What is kept for a live stream is what is left of all that was owed to it: of each range, what
 /// was not put.
 pub fn what_is_kept_is_what_is_left()
-    ensures { (texts : Look) (w : StoredSending) (d : List Entry) (os : List OwedItem) →
+    ensures { (texts : SourceTexts) (w : StoredSending) (d : List Entry) (os : List OwedItem) →
         KeepsWhatIsLeft texts w d os }
 {}
 

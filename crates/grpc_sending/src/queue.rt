@@ -2,9 +2,9 @@
 
 ghost use Rattle.std.specs.Prelude.{◌≡◌, ◌≤◌, ◌<◌, ◌==◌, ◌+◌, ◌++◌, ◌∷◌, [], ℕ, List, IfOk, IfErr, OnOk, OnErr, MatchOption, length, drop, map, filter, not, slice_set, slice_index_or, if◌then◌else◌, vec_capacity};
 ghost use Rattle.grpc_sending.specs.StoredSending.{Appends, stored_on, stored_front, pieces_left, left_at, with_piece};
-ghost use Rattle.grpc_sending.specs.SortedQueues.{AreSorted, IsAt, IsGapFor};
+ghost use Rattle.grpc_sending.specs.SortedQueues.{AreSorted, IsQueueAt, IsGapFor};
 ghost use Rattle.std.specs.List.Sorted.{IsSearchInRange};
-ghost use Rattle.grpc_sending.specs.Sources.{Spends, SpendsOf, HasRoom, HasRoomOf, Takes, source_of};
+ghost use Rattle.grpc_sending.specs.Sources.{Spends, SpendsOf, HasRoomForSources, HasRoomForPieces, HoldsSourcesToo, source_of};
 ghost use Rattle.grpc_sending.specs.declared.piece.StoredPiece.{StoredPiece};
 ghost use Rattle.grpc_sending.specs.declared.queue.StoredQueue.{StoredQueue};
 
@@ -62,7 +62,7 @@ impl Pieces {
 
     /// Bytes of the first piece were put.
     fn take_off(&mut self, count: usize, spent: &mut Vec<usize>)
-        requires room { HasRoomOf self.old spent.old.items (vec_capacity spent.old) }
+        requires room { HasRoomForPieces self.old spent.old.items (vec_capacity spent.old) }
         ensures pieces { self.new ≡ stored_front count self.old }
         ensures sources { SpendsOf self.old spent.old.items self.new spent.new.items }
         ensures capacity { vec_capacity spent.old ≤ vec_capacity spent.new }
@@ -78,7 +78,7 @@ impl Pieces {
 
     /// Nothing of them is to be put any more.
     fn clear(&mut self, spent: &mut Vec<usize>)
-        requires room { HasRoomOf self.old spent.old.items (vec_capacity spent.old) }
+        requires room { HasRoomForPieces self.old spent.old.items (vec_capacity spent.old) }
         ensures pieces { self.new ≡ [] }
         ensures sources { SpendsOf self.old spent.old.items [] spent.new.items }
         ensures capacity { vec_capacity spent.old ≤ vec_capacity spent.new }
@@ -87,7 +87,7 @@ impl Pieces {
     }
 
     fn remove(&mut self, removal: Removal, spent: &mut Vec<usize>)
-        requires room { HasRoomOf self.old spent.old.items (vec_capacity spent.old) }
+        requires room { HasRoomForPieces self.old spent.old.items (vec_capacity spent.old) }
         ensures pieces { self.new ≡ pieces_left removal self.old }
         ensures sources { SpendsOf self.old spent.old.items self.new spent.new.items }
         ensures capacity { vec_capacity spent.old ≤ vec_capacity spent.new }
@@ -100,7 +100,7 @@ impl Pieces {
 }
 
 fn spend_first(pieces: &mut VecDeque<StoredPiece>, spent: &mut Vec<usize>)
-    requires room { HasRoomOf pieces.old.items spent.old.items (vec_capacity spent.old) }
+    requires room { HasRoomForPieces pieces.old.items spent.old.items (vec_capacity spent.old) }
     ensures pieces { pieces.new.items ≡ drop 1 pieces.old.items }
     ensures sources { SpendsOf pieces.old.items spent.old.items pieces.new.items spent.new.items }
     ensures capacity { vec_capacity spent.old ≤ vec_capacity spent.new }
@@ -111,7 +111,7 @@ fn spend_first(pieces: &mut VecDeque<StoredPiece>, spent: &mut Vec<usize>)
 }
 
 fn spend_all(pieces: &mut VecDeque<StoredPiece>, spent: &mut Vec<usize>)
-    requires room { HasRoomOf pieces.old.items spent.old.items (vec_capacity spent.old) }
+    requires room { HasRoomForPieces pieces.old.items spent.old.items (vec_capacity spent.old) }
     ensures pieces { pieces.new.items ≡ [] }
     ensures sources { SpendsOf pieces.old.items spent.old.items [] spent.new.items }
     ensures capacity { vec_capacity spent.old ≤ vec_capacity spent.new }
@@ -131,7 +131,7 @@ pub(crate) struct StoredQueue {
 /// The place of the stream's queue, or the place where it would stand.
 fn find(queues: &[StoredQueue], stream: u32) -> Result<usize, usize>
     requires sorted { AreSorted queues.now }
-    ensures found { IfOk result (IsAt stream queues.now) }
+    ensures found { IfOk result (IsQueueAt stream queues.now) }
     ensures absent { IfErr result (IsGapFor stream queues.now) }
     ensures bound { IsSearchInRange result (length queues.now) }
 {
@@ -142,7 +142,7 @@ fn find(queues: &[StoredQueue], stream: u32) -> Result<usize, usize>
 /// past those that are.
 fn find_from(queues: &[StoredQueue], hint: usize, stream: u32) -> Result<usize, usize>
     requires sorted { AreSorted queues.now }
-    ensures found { IfOk result (IsAt stream queues.now) }
+    ensures found { IfOk result (IsQueueAt stream queues.now) }
     ensures absent { IfErr result (IsGapFor stream queues.now) }
     ensures bound { IsSearchInRange result (length queues.now) }
 {
@@ -171,7 +171,7 @@ pub(crate) fn remove_on(
     spent: &mut Vec<usize>,
 )
     requires sorted { AreSorted queues.old.items }
-    requires room { HasRoom queues.old.items spent.old.items (vec_capacity spent.old) }
+    requires room { HasRoomForSources queues.old.items spent.old.items (vec_capacity spent.old) }
     ensures queues { queues.new.items ≡ map (left_at removal stream) queues.old.items }
     ensures sources { Spends queues.old.items spent.old.items queues.new.items spent.new.items }
     ensures capacity { vec_capacity spent.old ≤ vec_capacity spent.new }
@@ -184,7 +184,7 @@ pub(crate) fn remove_on(
 /// Nothing more is to be put on the stream.
 pub(crate) fn forget(queues: &mut Vec<StoredQueue>, stream: u32, spent: &mut Vec<usize>)
     requires sorted { AreSorted queues.old.items }
-    requires room { HasRoom queues.old.items spent.old.items (vec_capacity spent.old) }
+    requires room { HasRoomForSources queues.old.items spent.old.items (vec_capacity spent.old) }
     ensures queues { queues.new.items ≡ filter (λ q. not (q.stream == stream)) queues.old.items }
     ensures sources { Spends queues.old.items spent.old.items queues.new.items spent.new.items }
     ensures capacity { vec_capacity spent.old ≤ vec_capacity spent.new }
@@ -197,7 +197,7 @@ pub(crate) fn forget(queues: &mut Vec<StoredQueue>, stream: u32, spent: &mut Vec
 
 /// Nothing more is to be put on any stream.
 pub(crate) fn forget_all(queues: &mut Vec<StoredQueue>, spent: &mut Vec<usize>)
-    requires room { HasRoom queues.old.items spent.old.items (vec_capacity spent.old) }
+    requires room { HasRoomForSources queues.old.items spent.old.items (vec_capacity spent.old) }
     ensures queues { queues.new.items ≡ [] }
     ensures sources { Spends queues.old.items spent.old.items [] spent.new.items }
     ensures capacity { vec_capacity spent.old ≤ vec_capacity spent.new }
@@ -260,7 +260,8 @@ pub(crate) fn push(
 ) -> Result<(), AllocError>
     requires sorted { AreSorted queues.old.items }
     ensures ok { OnOk result (Appends stream piece queues.old.items queues.new.items) }
-    ensures sources { OnOk result (Takes (source_of piece) queues.old.items queues.new.items) }
+    ensures sources { OnOk result (HoldsSourcesToo
+        (source_of piece) queues.old.items queues.new.items) }
     ensures sorted { AreSorted queues.new.items }
     ensures err { OnErr result (queues.new.items ≡ queues.old.items) }
 {

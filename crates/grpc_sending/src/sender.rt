@@ -5,12 +5,12 @@ ghost use Rattle.http2_frames.specs.Writing.{raw_of, text_of};
 ghost use Rattle.http2_frames.specs.declared.frame.Frame.TheVariants.{Data, RstStream};
 ghost use Rattle.http2_streams.specs.History.{Entry, Out, Took, is_not_closed, has_failed};
 ghost use Rattle.digest.specs.declared.Digest.{Digest};
-ghost use Rattle.http2_streams.specs.StandsFor.{StandsFor as AreStreams};
+ghost use Rattle.http2_streams.specs.StandsFor.{AreStreams};
 ghost use Rattle.grpc_messages.specs.Wire.{message_length_limit};
 ghost use Rattle.grpc_sending.specs.Bytes.{most_untaken};
 ghost use Rattle.grpc_sending.specs.Owed.{OwedItem, Headed, Message, Range, owed_with_item};
 ghost use Rattle.grpc_sending.specs.Pump.{history_after_pump, next_frames};
-ghost use Rattle.grpc_sending.specs.StoredSending.{Tells, Enters, DropsClosed, DropsAll, Owes, OwesRange, IsAtRest, PumpsStreams, PumpsSending, PutsBy, ResetsBy, FinishesBy, KeepsFit, KeepsFitWith, Look, StoredSending, StandsFor, Fit, IsFit, KeepsSources, HoldsMore, HasFew, new_stored_sending, sending_in, stored_on, front_bytes, front_frame};
+ghost use Rattle.grpc_sending.specs.StoredSending.{Tells, Enters, DropsClosed, DropsAll, Owes, OwesRange, IsAtRest, PumpsStreams, PumpsSending, PutsBy, ResetsBy, FinishesBy, KeepsFit, KeepsFitWith, SourceTexts, StoredSending, IsStoredSending, QueuesEndWithin, EndsWithinText, KeepsSources, HoldsMore, HasFewSources, new_stored_sending, sending_in, stored_on, front_bytes, front_frame};
 ghost use Rattle.grpc_sending.specs.SortedQueues.{AreSorted};
 ghost use Rattle.grpc_sending.specs.Step.{Puts, Rests, IsControl, Finishes, Resets};
 ghost use Rattle.http2_frames.specs.declared.reader.TheConstants.{MAX_FRAME_SIZE};
@@ -61,7 +61,7 @@ impl Model for Sender {
 impl Sender {
     /// Takes the room for all bytes that can wait.
     pub fn new(alloc: Global) -> Result<Sender, AllocError>
-        ensures stands { IfOk result (λ s. (texts : Look) → StandsFor texts s [] []) }
+        ensures stands { IfOk result (λ s. (texts : SourceTexts) → IsStoredSending texts s [] []) }
         ensures kept { IfOk result (λ s. s ≡ new_stored_sending) }
     {
         Ok(Sender {
@@ -206,7 +206,7 @@ impl Sender {
             self.new) }
         ensures fit { KeepsFitWith source until self.old self.new }
         ensures sources { OnOk result (HoldsMore source self.old self.new) }
-        ensures few { OnOk result (HasFew self.new) }
+        ensures few { OnOk result (HasFewSources self.new) }
         ensures pending { self.new.pending ≡ self.old.pending }
         ensures err { OnErr result (self.new ≡ self.old) }
     {
@@ -224,7 +224,7 @@ impl Sender {
 
     /// Puts all that can be put.
     pub fn pump<P: Parts>(&mut self, streams: &mut Streams, parts: &P)
-        requires fit { Fit (P.text_of parts.now) self.old.queues }
+        requires fit { QueuesEndWithin (P.text_of parts.now) self.old.queues }
         ensures streams { PumpsStreams (P.text_of parts.now) streams.old self.old streams.new }
         ensures sending { PumpsSending (P.text_of parts.now) streams.old self.old self.new }
         ensures rests { IsAtRest streams.new self.new }
@@ -240,7 +240,7 @@ impl Sender {
 
     /// Puts what comes next, if anything can be put.
     fn put_next<P: Parts>(&mut self, streams: &mut Streams, parts: &P) -> bool
-        requires fit { Fit (P.text_of parts.now) self.old.queues }
+        requires fit { QueuesEndWithin (P.text_of parts.now) self.old.queues }
         ensures puts { IsTrue result → PutsBy
             (P.text_of parts.now) streams.old self.old streams.new self.new }
         ensures grows { IsTrue result → ((length self.old.pending < length self.new.pending)
@@ -350,7 +350,7 @@ fn put_content<P: Parts>(
 )
     requires sorted { AreSorted queues.now }
     requires some { 0 < count }
-    requires fit { Fit (P.text_of parts.now) queues.now }
+    requires fit { QueuesEndWithin (P.text_of parts.now) queues.now }
     requires there { count ≤ length (front_bytes (P.text_of parts.now)
         (stored_on stream queues.now)) }
     requires short { count ≤ MAX_FRAME_SIZE }
@@ -374,7 +374,7 @@ fn put_piece<P: Parts>(
     parts: &P,
 )
     requires some { 0 < count }
-    requires fit { IsFit (P.text_of parts.now) piece.now }
+    requires fit { EndsWithinText (P.text_of parts.now) piece.now }
     requires there { count ≤ length (front_bytes (P.text_of parts.now) (piece.now ∷ [])) }
     requires short { count ≤ MAX_FRAME_SIZE }
     requires room { length buffer.old + (HEADER_LENGTH + count) ≤ CAPACITY }

@@ -13,9 +13,9 @@ abbrev pub headers_in : List FieldLengths → List ℕ → List Header
 headers_in [] text = []
 headers_in (l ∷ ls) text = header_in l text ∷ headers_in ls (drop l.value (drop l.name text))
 
-abbrev pub total_length : List FieldLengths → ℕ
-total_length [] = 0
-total_length (l ∷ ls) = l.name + l.value + total_length ls
+abbrev pub fields_length : List FieldLengths → ℕ
+fields_length [] = 0
+fields_length (l ∷ ls) = l.name + l.value + fields_length ls
 
 -- what stands in a text behind the one that it was before
 abbrev pub text_behind : List ℕ → List ℕ → List ℕ

@@ -44,7 +44,8 @@ unfoldable pub string_at : List ℕ → Result (List ℕ × List ℕ) HpackError
 string_at [] = Err TooShort
 string_at (b ∷ bs) =
     if nat_lt b 128 then (integer_at 127 b bs >>= λ n. octets_at n.0 n.1)
-    else (integer_at 127 (b - 128) bs >>= λ n. octets_at n.0 n.1 >>= λ s. expansion s.0 >>= λ text. Ok (text, s.1))
+    else (integer_at 127 (b - 128) bs >>= λ n. octets_at n.0 n.1 >>=
+    λ s. expansion s.0 >>= λ text. Ok (text, s.1))
 
 -- ---- writing a string, always as it is
 

@@ -4,7 +4,7 @@ ghost use Rattle.std.specs.Prelude.{◌≡◌, ◌+◌, ◌==◌, ◌<◌, ◌�
 ghost use Rattle.std.specs.Iterator.{YieldsFirst, item_count};
 ghost use Rattle.std.specs.Option.{option_copied};
 ghost use Rattle.hpack.specs.Header.{value_of};
-ghost use Rattle.hpack.specs.FieldLists.{header_in, headers_in, total_length};
+ghost use Rattle.hpack.specs.FieldLists.{header_in, headers_in, fields_length};
 
 use crate::header::HeaderField;
 use std::marker::Model;
@@ -40,13 +40,13 @@ pub struct HeaderIter<'a> {
 impl<'a> Model for HeaderIter<'a> {
     ghost use Rattle.std.specs.Prelude.{◌≡◌, List, length};
     ghost use Rattle.hpack.specs.Header.{Header};
-    ghost use Rattle.hpack.specs.FieldLists.{headers_in, total_length};
+    ghost use Rattle.hpack.specs.FieldLists.{headers_in, fields_length};
 
     ghost Value = { List Header };
 
     ghost view = { λ i. headers_in i.lengths.now i.text.now };
 
-    ghost invariant = { λ i. total_length i.lengths.now ≡ length i.text.now };
+    ghost invariant = { λ i. fields_length i.lengths.now ≡ length i.text.now };
 }
 
 impl<'a> Iterator for HeaderIter<'a> {
@@ -78,18 +78,19 @@ pub struct Headers {
 impl Model for Headers {
     ghost use Rattle.std.specs.Prelude.{◌≡◌, List, length};
     ghost use Rattle.hpack.specs.Header.{Header};
-    ghost use Rattle.hpack.specs.FieldLists.{headers_in, total_length};
+    ghost use Rattle.hpack.specs.FieldLists.{headers_in, fields_length};
 
     ghost Value = { List Header };
 
     ghost view = { λ headers. headers_in headers.lengths.items headers.text.items };
 
-    ghost invariant = { λ headers. total_length headers.lengths.items ≡ length headers.text.items };
+    ghost invariant = { λ headers. fields_length headers.lengths.items
+        ≡ length headers.text.items };
 }
 
 impl Headers {
     pub(crate) fn new(lengths: Vec<FieldLengths>, text: Vec<u8>) -> Headers
-        requires { total_length lengths.items ≡ length text.items }
+        requires { fields_length lengths.items ≡ length text.items }
         ensures { result ≡ headers_in lengths.items text.items }
     {
         Headers { text, lengths }

@@ -8,25 +8,25 @@ use Rattle.hpack_huffman.specs.declared.code.TheConstants.{SHORT_LENGTHS, SHORT_
 use Rattle.hpack_huffman.specs.Lengths.{lengths}
 use Rattle.hpack_huffman.specs.Code.{bits, code_length, count_of, first_code, code_value, code}
 use Rattle.hpack_huffman.proofs.BitLists.{bits-add}
-use Rattle.hpack_huffman.specs.Table.{all_below, count_to, entry_ok, row_ok, rows_ok, IsAmong, IsIn, AreShort, OpensWith}
+use Rattle.hpack_huffman.specs.Table.{all_below, count_to, entry_ok, row_ok, rows_ok, IsInRows, IsIn, AreShort, OpensWith}
 use Rattle.hpack_huffman.proofs.Canonical.{all_below_at}
 
 table_ok : rows_ok 0 CODES ≡ true
 unfolding lengths code_length count_of first_code code_value entry_ok row_ok rows_ok
 table_ok = refl
 
-pub among_all : (window : ℕ) → IsAmong window CODES
+pub among_all : (window : ℕ) → IsInRows window CODES
 among_all window = record { start = 0; above = omega arith; rows = table_ok }
 
-among_none : (window : ℕ) → window < EOS → IsAmong window [] → ⊥
+among_none : (window : ℕ) → window < EOS → IsInRows window [] → ⊥
 unfolding rows_ok
 among_none window lt h = let end = eqb-true h.start EOS h.rows in let above = h.above in omega arith
 
-among_rest : (window : ℕ) (c : Codes) (cs : List Codes) → c.limit ≤ window → IsAmong window (c ∷ cs) → IsAmong window cs
+among_rest : (window : ℕ) (c : Codes) (cs : List Codes) → c.limit ≤ window → IsInRows window (c ∷ cs) → IsInRows window cs
 unfolding rows_ok
 among_rest window c cs le h = record { start = c.limit; above = le; rows = (and_parts (row_ok h.start c) (rows_ok c.limit cs) h.rows).1 }
 
-among_here : (window : ℕ) (c : Codes) (cs : List Codes) → window < c.limit → IsAmong window (c ∷ cs) → IsIn window c
+among_here : (window : ℕ) (c : Codes) (cs : List Codes) → window < c.limit → IsInRows window (c ∷ cs) → IsIn window c
 unfolding rows_ok row_ok entry_ok code
 among_here window c cs lt h =
     let low = 2 ^ (30 - c.length) in
@@ -63,13 +63,13 @@ among_here window c cs lt h =
     }
 
 -- the same at a place of the whole table
-pub among_at : (window : ℕ) (rows : List Codes) (i : ℕ) (d : Codes) → i < length rows → window < (get_or rows i d).limit → IsAmong window (drop i rows) → IsIn window (get_or rows i d)
+pub among_at : (window : ℕ) (rows : List Codes) (i : ℕ) (d : Codes) → i < length rows → window < (get_or rows i d).limit → IsInRows window (drop i rows) → IsIn window (get_or rows i d)
 among_at window rows i d there lt h = among_here window (get_or rows i d) (drop (i + 1) rows) lt (rw (← drop_more rows i d there) h)
 
-pub among_next : (window : ℕ) (rows : List Codes) (i : ℕ) (d : Codes) → i < length rows → (get_or rows i d).limit ≤ window → IsAmong window (drop i rows) → IsAmong window (drop (i + 1) rows)
+pub among_next : (window : ℕ) (rows : List Codes) (i : ℕ) (d : Codes) → i < length rows → (get_or rows i d).limit ≤ window → IsInRows window (drop i rows) → IsInRows window (drop (i + 1) rows)
 among_next window rows i d there le h = among_rest window (get_or rows i d) (drop (i + 1) rows) le (rw (← drop_more rows i d there) h)
 
-pub among_end : (window : ℕ) (rows : List Codes) (i : ℕ) → window < EOS → length rows ≤ i → IsAmong window (drop i rows) → ⊥
+pub among_end : (window : ℕ) (rows : List Codes) (i : ℕ) → window < EOS → length rows ≤ i → IsInRows window (drop i rows) → ⊥
 among_end window rows i lt past h = among_none window lt (rw (← drop_all i rows past) h)
 
 -- ---- codes that are not longer than an octet

@@ -23,7 +23,8 @@ entry_ok c more =
 
 unfoldable pub row_ok : ℕ → Codes → Bool
 row_ok start c = (nat_le c.length 30 && c.first * 2 ^ (30 - c.length) == start)
-    && (c.limit == (c.first + count_to c start) * 2 ^ (30 - c.length) && all_below (entry_ok c) (count_to c start))
+    && (c.limit == (c.first + count_to c start) * 2 ^ (30 - c.length)
+    && all_below (entry_ok c) (count_to c start))
 
 -- the rows follow one another up to EOS
 unfoldable pub rows_ok : ℕ → List Codes → Bool
@@ -31,7 +32,7 @@ rows_ok start [] = start == EOS
 rows_ok start (c ∷ cs) = row_ok start c && rows_ok c.limit cs
 
 -- the window is none of the codes before these rows
-pub record IsAmong (window : ℕ) (left : List Codes) : Type 0 where
+pub record IsInRows (window : ℕ) (left : List Codes) : Type 0 where
   pub start : ℕ
   pub above : start ≤ window
   pub rows : rows_ok start left ≡ true
@@ -43,17 +44,18 @@ pub record OpensWith (window symbol length : ℕ) : Type 0 where
   pub opens : bits 30 window ≡ code symbol ++ bits (30 - length) window
 
 -- where a row says that the symbol of a window stands
-abbrev pub place_of : Codes → ℕ → ℕ
-place_of c window = c.place + (window / 2 ^ (30 - c.length) - c.first)
+abbrev pub symbol_place : Codes → ℕ → ℕ
+symbol_place c window = c.place + (window / 2 ^ (30 - c.length) - c.first)
 
 -- a row has the code of a window
 pub record IsIn (window : ℕ) (c : Codes) : Type 0 where
   pub short : c.length ≤ 30
   pub above : c.first ≤ window / 2 ^ (30 - c.length)
-  pub listed : place_of c window < 256
-  pub code : OpensWith window (slice_index SYMBOLS (place_of c window)) c.length
+  pub listed : symbol_place c window < 256
+  pub code : OpensWith window (slice_index SYMBOLS (symbol_place c window)) c.length
 
 -- where the tables by the first octet of a window have a code, it is the window's
 abbrev pub AreShort : List ℕ → List ℕ → Type 0
 AreShort lengths symbols = (window : ℕ) → window < EOS → slice_index lengths (window / 2 ^ 22) ≢ 0
-    → OpensWith window (slice_index symbols (window / 2 ^ 22)) (slice_index lengths (window / 2 ^ 22))
+    → OpensWith window (slice_index symbols (window / 2 ^ 22))
+    (slice_index lengths (window / 2 ^ 22))

@@ -2,7 +2,7 @@
 //! numbers.
 
 ghost use Rattle.std.specs.Prelude.{◌<◌};
-ghost use Rattle.hpack_huffman.specs.Table.{AreShort, IsAmong, IsIn, OpensWith};
+ghost use Rattle.hpack_huffman.specs.Table.{AreShort, IsInRows, IsIn, OpensWith};
 
 /// The most bits that a code has.
 pub(crate) const LONGEST: u32 = 30;
@@ -210,7 +210,7 @@ fn symbol_in(codes: &Codes, window: u32) -> (u8, u32)
 
 fn symbol_among(rows: &[Codes], window: u32) -> (u8, u32)
     requires code { window < EOS }
-    requires among { IsAmong window rows.now }
+    requires among { IsInRows window rows.now }
     ensures { OpensWith window result.0 result.1 }
 {
     for codes in rows {

@@ -11,13 +11,13 @@ use Rattle.http2_frames.specs.declared.error.FrameError.TheVariants.{Preface}
 use Rattle.http2_frames.specs.declared.frame.RawFrame.{RawFrame}
 use Rattle.http2_frames.specs.Wire.{Split}
 use Rattle.http2_frames.specs.Reading.{whole_at, frame_at, frame_format, split_frames, split}
-use Rattle.http2_frames.specs.Reader.{Unread, unread_of, text_left, split_left, with_more_bytes, StandsFor, HasFrame, front_of}
+use Rattle.http2_frames.specs.Reader.{FrameReaderValue, unread_of, text_left, split_left, with_more_bytes, IsReader, HasFrame, front_of}
 use Rattle.http2_frames.specs.Step.{IsJoined, first_of, frames_from, after_preface, is_whole, after_look, look_behind_preface, look, behind_front, WaitsShortly}
 use Rattle.http2_frames.proofs.Fronts.{partial_is, steady, joined_first}
 use Rattle.http2_frames.proofs.Splits.{short, past_more, off_more}
 
 abbrev Reader : Type 0
-Reader = Result Unread FrameError
+Reader = Result FrameReaderValue FrameError
 
 -- what is left when more bytes follow
 abbrev left : Reader → List ℕ → Split
@@ -44,7 +44,7 @@ abbrev step : Reader → Result (Option RawFrame) FrameError × Reader
 step (Ok u) = step_behind_preface u.preface u.text
 step (Err e) = (Err e, Err e)
 
-abbrev chosen_preface : Bool → Bool → Unread → Reader
+abbrev chosen_preface : Bool → Bool → FrameReaderValue → Reader
 chosen_preface a b u = cond a (frames_from (drop (length u.preface) u.text)) (cond b (Ok u) (Err Preface))
 
 past_follows : (v : Reader) (more : List ℕ) → split_left (with_more_bytes v more) ≡ split_left (with_more_bytes (after_preface v) more)
@@ -101,7 +101,7 @@ taken_as : (old : Reader) (r : Result (Option RawFrame) FrameError) (new : Reade
 taken_as old r new e more = taken_follows old more ∙ ap (λ (x : Result (Option RawFrame) FrameError × Reader). behind (frames_in x.0) (split_left (with_more_bytes x.1 more))) e
 
 stands_after : (old : Reader) (r : Result (Option RawFrame) FrameError) (new : Reader) → step (after_preface old) ≡ (r, new)
-    → (p t : List ℕ) (gs : List RawFrame) → StandsFor p old t gs → StandsFor p new t (gs ++ frames_in r)
+    → (p t : List ℕ) (gs : List RawFrame) → IsReader p old t gs → IsReader p new t (gs ++ frames_in r)
 stands_after old r new h p t gs stands = given_more (split p) (left old) t gs stands (left new) (frames_in r) (λ more. past_follows old more ∙ taken_as (after_preface old) r new h more)
 
 followed_by_none : (v : Reader) → with_more_bytes v [] ≡ v
@@ -116,10 +116,10 @@ says_end : (old : Reader) (r : Result (Option RawFrame) FrameError) (new : Reade
 says_end old r new h = subst (λ (x : Result (Option RawFrame) FrameError × Reader). SaysEnd (after_preface old) x.0 x.1) h (taken_ends (after_preface old) (past_is old))
 
 abbrev IsAllGiven : Reader → Reader → Type 0
-IsAllGiven old new = (p t : List ℕ) (gs : List RawFrame) → StandsFor p old t gs → split p t ≡ record { items = gs; end = Ok (text_left new) }
+IsAllGiven old new = (p t : List ℕ) (gs : List RawFrame) → IsReader p old t gs → split p t ≡ record { items = gs; end = Ok (text_left new) }
 
 abbrev IsFaultOf : Reader → FrameError → Type 0
-IsFaultOf old e = (p t : List ℕ) (gs : List RawFrame) → StandsFor p old t gs → split p t ≡ record { items = gs; end = Err e }
+IsFaultOf old e = (p t : List ℕ) (gs : List RawFrame) → IsReader p old t gs → split p t ≡ record { items = gs; end = Err e }
 
 none_after : (old new : Reader) → step (after_preface old) ≡ (Ok None, new) → IsAllGiven old new
 none_after old new h p t gs stands = given_all (split p) (left old) t gs stands (text_left new) (left_now old ∙ says_end old (Ok None) new h)
@@ -152,19 +152,19 @@ found_by v r is = subst (λ (x : Result Bool FrameError). Found v x) (sym is) (f
 
 -- ---- the clauses of `find`
 
-follows_preface : (old : Reader) (p t : List ℕ) (gs : List RawFrame) → StandsFor p old t gs → StandsFor p (after_preface old) t gs
+follows_preface : (old : Reader) (p t : List ℕ) (gs : List RawFrame) → IsReader p old t gs → IsReader p (after_preface old) t gs
 follows_preface old p t gs stands more = stands more ∙ ap (behind gs) (past_follows old more)
 
 abbrev StandsAlike : Reader → Reader → Type 0
-StandsAlike old new = (p t : List ℕ) (gs : List RawFrame) → StandsFor p old t gs → StandsFor p new t gs
+StandsAlike old new = (p t : List ℕ) (gs : List RawFrame) → IsReader p old t gs → IsReader p new t gs
 
 none_more : (old new : Reader) (r : Result (Option RawFrame) FrameError) → frames_in r ≡ [] → step (after_preface old) ≡ (r, new) → StandsAlike old new
 none_more old new r none h p t gs stands =
-    subst (λ (fs : List RawFrame). StandsFor p new t fs) (ap (λ (fs : List RawFrame). gs ++ fs) none ∙ append-nil gs) (stands_after old r new h p t gs stands)
+    subst (λ (fs : List RawFrame). IsReader p new t fs) (ap (λ (fs : List RawFrame). gs ++ fs) none ∙ append-nil gs) (stands_after old r new h p t gs stands)
 
 pub stands_found : (old : Reader) (r : Result Bool FrameError) (new : Reader) → r ≡ look (after_preface old) → new ≡ after_look r (after_preface old) → StandsAlike old new
-stands_found old (Ok whole) new is after p t gs stands = subst (λ (v : Reader). StandsFor p v t gs) (sym after) (follows_preface old p t gs stands)
-stands_found old (Err e) new is after p t gs stands = subst (λ (v : Reader). StandsFor p v t gs) (sym after) (none_more old (Err e) (Err e) refl (found_by (after_preface old) (Err e) is) p t gs stands)
+stands_found old (Ok whole) new is after p t gs stands = subst (λ (v : Reader). IsReader p v t gs) (sym after) (follows_preface old p t gs stands)
+stands_found old (Err e) new is after p t gs stands = subst (λ (v : Reader). IsReader p v t gs) (sym after) (none_more old (Err e) (Err e) refl (found_by (after_preface old) (Err e) is) p t gs stands)
 
 pub whole_found : (old : Reader) (r : Result Bool FrameError) (new : Reader) → r ≡ look (after_preface old) → new ≡ after_look r (after_preface old) → IfOk r (λ whole. IsTrue whole → HasFrame new)
 whole_found old (Ok true) new is after = λ t. subst HasFrame (sym after) (found_by (after_preface old) (Ok true) is)
@@ -221,9 +221,9 @@ steps (Ok u) has =
     let whole : whole_at u.text ≡ Ok (Some (big_number 3 u.text)) = grind arith in
     ap (λ (q : List ℕ). step_behind_preface q u.text) has.0 ∙ ap (λ (x : Result (Option ℕ) FrameError). step_by_front x u.text) whole ∙ ap (λ (q : List ℕ). (Ok (Some (frame_at u.text)), Ok (record { preface = q; text = drop (9 + big_number 3 u.text) u.text }))) (sym has.0)
 
-pub stands_passed : (old new : Reader) → HasFrame old → new ≡ behind_front old → (p t : List ℕ) (gs : List RawFrame) → StandsFor p old t gs → StandsFor p new t (gs ++ front_of old ∷ [])
+pub stands_passed : (old new : Reader) → HasFrame old → new ≡ behind_front old → (p t : List ℕ) (gs : List RawFrame) → IsReader p old t gs → IsReader p new t (gs ++ front_of old ∷ [])
 stands_passed old new has after p t gs stands =
-    subst (λ (v : Reader). StandsFor p v t (gs ++ front_of old ∷ [])) (sym after)
+    subst (λ (v : Reader). IsReader p v t (gs ++ front_of old ∷ [])) (sym after)
     (given_more (split p) (left old) t gs stands (left (behind_front old)) (front_of old ∷ []) (taken_as old (Ok (Some (front_of old))) (behind_front old) (steps old has)))
 
 pub less_is_left : (old new : Reader) → HasFrame old → new ≡ behind_front old → length (text_left new) < length (text_left old)

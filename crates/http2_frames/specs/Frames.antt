@@ -50,7 +50,8 @@ is_missized f =
     || (((f.kind == RST_STREAM) || (f.kind == WINDOW_UPDATE)) && not (length f.payload == 4))
     || ((f.kind == PING) && not (length f.payload == 8))
     || ((f.kind == GOAWAY) && nat_lt (length f.payload) 8)
-    || ((f.kind == SETTINGS) && (not (length f.payload % 6 == 0) || (has_flag f ACK && not (length f.payload == 0))))
+    || ((f.kind == SETTINGS)
+    && (not (length f.payload % 6 == 0) || (has_flag f ACK && not (length f.payload == 0))))
     || (may_be_padded f && nat_lt (length f.payload) (lead_length f))
 
 -- more padding than the rest of the payload

@@ -6,14 +6,14 @@ use Rattle.byteorder.specs.Endian.{big_number}
 use Rattle.http2_frames.specs.declared.error.FrameError.{FrameError}
 use Rattle.http2_frames.specs.declared.error.FrameError.TheVariants.{Preface}
 use Rattle.http2_frames.specs.Reading.{whole_at}
-use Rattle.http2_frames.specs.Reader.{Unread}
+use Rattle.http2_frames.specs.Reader.{FrameReaderValue}
 use Rattle.http2_frames.specs.declared.reader.TheConstants.{MAX_FRAME_SIZE}
 
-abbrev pub frames_from : List ℕ → Result Unread FrameError
+abbrev pub frames_from : List ℕ → Result FrameReaderValue FrameError
 frames_from bytes = Ok (record { preface = []; text = bytes })
 
 -- the preface is dropped where it is whole
-abbrev pub after_preface : Result Unread FrameError → Result Unread FrameError
+abbrev pub after_preface : Result FrameReaderValue FrameError → Result FrameReaderValue FrameError
 after_preface (Ok u) =
     if starts_with nat_eq u.text u.preface then frames_from (drop (length u.preface) u.text)
     else if starts_with nat_eq u.preface u.text then Ok u
@@ -26,8 +26,8 @@ is_whole (Ok (Some n)) = Ok true
 is_whole (Err e) = Err e
 
 -- a fault is there for good
-abbrev pub after_look : Result Bool FrameError → Result Unread FrameError →
-    Result Unread FrameError
+abbrev pub after_look : Result Bool FrameError → Result FrameReaderValue FrameError →
+    Result FrameReaderValue FrameError
 after_look (Ok whole) old = old
 after_look (Err e) old = Err e
 
@@ -36,12 +36,12 @@ abbrev pub look_behind_preface : List ℕ → List ℕ → Result Bool FrameErro
 look_behind_preface [] bytes = is_whole (whole_at bytes)
 look_behind_preface (p ∷ ps) bytes = Ok false
 
-abbrev pub look : Result Unread FrameError → Result Bool FrameError
+abbrev pub look : Result FrameReaderValue FrameError → Result Bool FrameError
 look (Ok u) = look_behind_preface u.preface u.text
 look (Err e) = Err e
 
 -- the bytes behind the frame at the front
-abbrev pub behind_front : Result Unread FrameError → Result Unread FrameError
+abbrev pub behind_front : Result FrameReaderValue FrameError → Result FrameReaderValue FrameError
 behind_front (Ok u) =
     Ok (record { preface = u.preface; text = drop (9 + big_number 3 u.text) u.text })
 behind_front (Err e) = Err e
@@ -51,7 +51,7 @@ abbrev pub preface_length : ℕ
 preface_length = 24
 
 -- what waits for its preface is no longer than that
-abbrev pub WaitsShortly : Result Unread FrameError → Type 0
+abbrev pub WaitsShortly : Result FrameReaderValue FrameError → Type 0
 WaitsShortly (Ok u) = u.preface ≢ [] → length u.text ≤ preface_length
 WaitsShortly (Err e) = Unit {0}
 

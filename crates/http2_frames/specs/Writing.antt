@@ -76,7 +76,8 @@ IsWritable (Headers s end_stream end_headers fragment) =
 IsWritable (Priority s priority) = IsStream s × (length priority ≡ 5)
 IsWritable (RstStream s error_code) = IsStream s × (error_code < 2 ^ 32)
 IsWritable (Settings ack settings) =
-    AllByRecursion IsSetting settings × (6 * length settings ≤ MAX_FRAME_SIZE) × (ack ≡ true → settings ≡ [])
+    AllByRecursion IsSetting settings × (6 * length settings ≤ MAX_FRAME_SIZE)
+    × (ack ≡ true → settings ≡ [])
 IsWritable (PushPromise flags s payload) = (s < stream_limit) × (length payload ≤ MAX_FRAME_SIZE)
 IsWritable (Ping ack opaque_data) = length opaque_data ≡ 8
 IsWritable (GoAway last_stream error_code debug_data) =

@@ -6,7 +6,7 @@ ghost use Rattle.byteorder.specs.Endian.{big_number};
 ghost use Rattle.http2_frames.specs.declared.frame.RawFrame.{RawFrame};
 ghost use Rattle.http2_frames.specs.declared.error.FrameError.{FrameError};
 ghost use Rattle.http2_frames.specs.Reading.{split, whole_at, frame_at};
-ghost use Rattle.http2_frames.specs.Reader.{StandsFor, IsFrame, HasFrame, front_of, with_more_bytes, text_left};
+ghost use Rattle.http2_frames.specs.Reader.{IsReader, IsFrame, HasFrame, front_of, with_more_bytes, text_left};
 ghost use Rattle.http2_frames.specs.Step.{IsJoined, after_preface, after_look, behind_front, first_of, is_whole, look, WaitsShortly};
 
 use crate::error::FrameError;
@@ -44,10 +44,10 @@ impl Model for FrameReader {
     ghost use Rattle.std.specs.Prelude.{◌≡◌, ◌≤◌, ◌≢◌, ◌++◌, [], Result, Some, length};
     ghost use Rattle.http2_frames.specs.declared.error.FrameError.{FrameError};
     ghost use Rattle.http2_frames.specs.declared.error.FrameError.TheVariants.{NoMemory};
-    ghost use Rattle.http2_frames.specs.Reader.{Unread, unread_of};
+    ghost use Rattle.http2_frames.specs.Reader.{FrameReaderValue, unread_of};
     ghost use Rattle.http2_frames.specs.Step.{preface_length, IsJoined};
 
-    ghost Value = { Result Unread FrameError };
+    ghost Value = { Result FrameReaderValue FrameError };
 
     ghost view = { λ r. unread_of r.preface.now (r.joined ++ r.received) r.fault };
 
@@ -58,7 +58,7 @@ impl Model for FrameReader {
 impl FrameReader {
     /// A reader of what a client sends: the preface, then frames.
     pub fn new(alloc: Global) -> FrameReader
-        ensures stands { StandsFor CLIENT_PREFACE.now result [] [] }
+        ensures stands { IsReader CLIENT_PREFACE.now result [] [] }
     {
         FrameReader {
             preface: CLIENT_PREFACE,
@@ -70,7 +70,7 @@ impl FrameReader {
 
     /// A reader of what a server sends: frames, with no preface before them.
     pub fn without_preface(alloc: Global) -> FrameReader
-        ensures stands { StandsFor [] result [] [] }
+        ensures stands { IsReader [] result [] [] }
     {
         FrameReader {
             preface: &[],
@@ -87,8 +87,8 @@ impl FrameReader {
     /// received.
     pub fn feed(&mut self, piece: Vec<u8>) -> Result<(), FrameError>
         ensures stands { OnOk result ((preface text : List ℕ) (given : List RawFrame) →
-            StandsFor preface self.old text given →
-            StandsFor preface self.new (text ++ piece.items) given) }
+            IsReader preface self.old text given →
+            IsReader preface self.new (text ++ piece.items) given) }
         ensures ok { OnOk result (self.new ≡ with_more_bytes self.old piece.items) }
 
         // It is refused for want of memory, or as before.
@@ -113,21 +113,21 @@ impl FrameReader {
     /// This takes no memory.
     pub fn find(&mut self) -> Result<bool, FrameError>
         ensures stands { (preface text : List ℕ) (given : List RawFrame) →
-            StandsFor preface self.old text given → StandsFor preface self.new text given }
+            IsReader preface self.old text given → IsReader preface self.new text given }
         ensures whole { IfOk result (λ whole. IsTrue whole → HasFrame self.new) }
         ensures no_longer { length (text_left self.new) ≤ length (text_left self.old) }
 
         // At the end all frames of the text were given, and less than a frame is kept.
         ensures none { IfOk result (λ whole. whole ≡ false →
             (preface text : List ℕ) (given : List RawFrame) →
-            StandsFor preface self.old text given →
+            IsReader preface self.old text given →
             split preface text ≡ record { items = given; end = Ok (text_left self.new) }) }
         ensures kept { IfOk result (λ whole. whole ≡ false →
             length (text_left self.new) < 9 + MAX_FRAME_SIZE) }
 
         // A fault stands where the frames end, and is there for good.
         ensures refused { IfErr result (λ fault. (preface text : List ℕ) (given : List RawFrame) →
-            StandsFor preface self.old text given →
+            IsReader preface self.old text given →
             split preface text ≡ record { items = given; end = Err fault }) }
         ensures lasts { IfErr result (λ fault. self.new ≡ Err fault) }
         ensures repeats { (fault : FrameError) → self.old ≡ Err fault →
@@ -151,8 +151,8 @@ impl FrameReader {
     pub fn pass(&mut self)
         requires { HasFrame self.old }
         ensures stands { (preface text : List ℕ) (given : List RawFrame) →
-            StandsFor preface self.old text given →
-            StandsFor preface self.new text (given ++ front_of self.old ∷ []) }
+            IsReader preface self.old text given →
+            IsReader preface self.new text (given ++ front_of self.old ∷ []) }
         ensures shorter { length (text_left self.new) < length (text_left self.old) }
     {
         self.pass_front();

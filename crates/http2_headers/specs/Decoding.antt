@@ -7,8 +7,8 @@ use Rattle.hpack.specs.Table.{Table, new_table}
 use Rattle.hpack.specs.Block.{step}
 use Rattle.http2_frames.specs.declared.codes.ErrorCode.{ErrorCode}
 use Rattle.http2_frames.specs.declared.codes.ErrorCode.TheVariants.{ProtocolError, CompressionError, EnhanceYourCalm}
-use Rattle.http2_headers.specs.declared.fault.H2Fault.{H2Fault}
-use Rattle.http2_headers.specs.declared.fault.H2Fault.TheVariants.{Connection, NoMemory}
+use Rattle.http2_headers.specs.declared.fault.ConnectionFault.{ConnectionFault}
+use Rattle.http2_headers.specs.declared.fault.ConnectionFault.TheVariants.{Connection, NoMemory}
 use Rattle.http2_headers.specs.declared.header_blocks.HeaderList.{HeaderList}
 use Rattle.http2_headers.specs.HeaderBlock.{HeaderBlock, with_continuation, is_excessive}
 
@@ -62,10 +62,10 @@ state_after_continuation table (Some b) end_headers fragment =
     state_after_block table end_headers (with_continuation fragment b)
 
 -- the fault is the one that the frame meets; want of memory says nothing of the frame
-abbrev pub Fails : {A : Type 0} → H2Fault → Result A ErrorCode → Type 0
+abbrev pub Fails : {A : Type 0} → ConnectionFault → Result A ErrorCode → Type 0
 Fails NoMemory given = Unit {0}
 Fails (Connection code) given = given ≡ Err code
 
-abbrev pub Gives : {A : Type 0} → Result A H2Fault → Result A ErrorCode → Type 0
+abbrev pub Gives : {A : Type 0} → Result A ConnectionFault → Result A ErrorCode → Type 0
 Gives (Ok x) given = given ≡ Ok x
 Gives (Err fault) given = Fails fault given

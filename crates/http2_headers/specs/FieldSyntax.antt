@@ -11,13 +11,14 @@ abbrev pub is_colon : ℕ → Bool
 is_colon b = b == 0x3a
 
 -- a visible ASCII character that is no upper-case letter (section 8.2.1)
-abbrev pub is_name_byte : ℕ → Bool
-is_name_byte b = nat_lt 0x20 b && nat_lt b 0x7f && not (nat_le 0x41 b && nat_le b 0x5a)
+abbrev pub is_field_name_byte : ℕ → Bool
+is_field_name_byte b = nat_lt 0x20 b && nat_lt b 0x7f && not (nat_le 0x41 b && nat_le b 0x5a)
 
 -- not empty, and with a colon in front only, where it marks a pseudo-header field
 abbrev pub is_valid_name : List ℕ → Bool
 is_valid_name name =
-    nat_lt 0 (length name) && list_all is_name_byte name && not (list_any is_colon (drop 1 name))
+    nat_lt 0 (length name) && list_all is_field_name_byte name
+    && not (list_any is_colon (drop 1 name))
 
 -- NUL, LF or CR
 abbrev pub is_forbidden : ℕ → Bool

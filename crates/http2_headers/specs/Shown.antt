@@ -18,6 +18,6 @@ table_shown None = None
 table_shown (Some t) = t
 
 -- what is kept of a block is no more than is taken
-abbrev pub IsBounded : Option HeaderBlock → Type 0
-IsBounded None = Unit {0}
-IsBounded (Some b) = (b.continuations ≤ MAX_CONTINUATIONS) × (length b.fragment ≤ MAX_BLOCK)
+abbrev pub IsBlockBounded : Option HeaderBlock → Type 0
+IsBlockBounded None = Unit {0}
+IsBlockBounded (Some b) = (b.continuations ≤ MAX_CONTINUATIONS) × (length b.fragment ≤ MAX_BLOCK)

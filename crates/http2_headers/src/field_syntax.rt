@@ -1,7 +1,7 @@
 //! Field names and values, by themselves (RFC 9113 section 8.2).
 
 ghost use Rattle.std.specs.Prelude.{◌≡◌, codes};
-ghost use Rattle.http2_headers.specs.FieldSyntax.{is_text, is_name_byte, is_valid_name, is_forbidden, is_blank, is_valid_value, is_pseudo, is_request_pseudo, is_connection_specific, is_allowed_te, is_request_field, is_colon};
+ghost use Rattle.http2_headers.specs.FieldSyntax.{is_text, is_field_name_byte, is_valid_name, is_forbidden, is_blank, is_valid_value, is_pseudo, is_request_pseudo, is_connection_specific, is_allowed_te, is_request_field, is_colon};
 ghost use Rattle.std.specs.List.{list_any, list_all};
 
 const COLON: u8 = b':';
@@ -24,7 +24,7 @@ fn has_valid_name(name: &[u8]) -> bool
 }
 
 fn has_name_bytes(name: &[u8]) -> bool
-    ensures { result ≡ list_all is_name_byte name.now }
+    ensures { result ≡ list_all is_field_name_byte name.now }
 {
     name.iter().all(|byte| may_stand_in_name(*byte))
 }
@@ -36,7 +36,7 @@ fn has_colon(text: &[u8]) -> bool
 }
 
 fn may_stand_in_name(byte: u8) -> bool
-    ensures { result ≡ is_name_byte byte }
+    ensures { result ≡ is_field_name_byte byte }
 {
     0x20 < byte && byte < 0x7f && !(b'A' <= byte && byte <= b'Z')
 }

@@ -6,7 +6,7 @@ ghost use Rattle.http2_headers.specs.HeaderBlock.{new_block, with_continuation, 
 ghost use Rattle.http2_headers.specs.Shown.{block_shown, table_shown};
 ghost use Rattle.http2_headers.specs.Decoding.{new_state, failed_state, list_of_block, state_after_block, list_of_continuation, state_after_continuation, Gives, list_of};
 
-use crate::fault::H2Fault;
+use crate::fault::ConnectionFault;
 use hpack::{Decoder, Headers, HpackError};
 use http2_frames::ErrorCode;
 use std::alloc::Global;
@@ -48,14 +48,14 @@ pub struct HeaderBlocks {
 impl Model for HeaderBlocks {
     ghost use Rattle.std.specs.Prelude.{option_map};
     ghost use Rattle.http2_headers.specs.Decoding.{HeaderState};
-    ghost use Rattle.http2_headers.specs.Shown.{block_shown, table_shown, IsBounded};
+    ghost use Rattle.http2_headers.specs.Shown.{block_shown, table_shown, IsBlockBounded};
 
     ghost Value = { HeaderState };
 
     ghost view = { λ h. record
         { unfinished = option_map block_shown h.unfinished; table = table_shown h.decoder } };
 
-    ghost invariant = { λ h. IsBounded (option_map block_shown h.unfinished) };
+    ghost invariant = { λ h. IsBlockBounded (option_map block_shown h.unfinished) };
 }
 
 impl HeaderBlocks {
@@ -87,7 +87,7 @@ impl HeaderBlocks {
         end_stream: bool,
         end_headers: bool,
         fragment: &[u8],
-    ) -> Result<Option<HeaderList>, H2Fault>
+    ) -> Result<Option<HeaderList>, ConnectionFault>
         ensures given { Gives result (list_of_block self.old.table end_headers
             (new_block stream end_stream fragment.now)) }
         ensures kept { OnOk result (self.new
@@ -120,7 +120,7 @@ impl HeaderBlocks {
         &mut self,
         end_headers: bool,
         fragment: &[u8],
-    ) -> Result<Option<HeaderList>, H2Fault>
+    ) -> Result<Option<HeaderList>, ConnectionFault>
         ensures given { Gives result (list_of_continuation self.old.table self.old.unfinished
             end_headers
             fragment.now) }
@@ -155,7 +155,7 @@ impl HeaderBlocks {
         stream: u32,
         end_stream: bool,
         bytes: &[u8],
-    ) -> Result<Option<HeaderList>, H2Fault>
+    ) -> Result<Option<HeaderList>, ConnectionFault>
         requires { self.old ≡ failed_state }
         ensures given { Gives result (list_of stream end_stream
             (step (table_shown decoder) bytes.now).0) }
@@ -175,15 +175,15 @@ impl HeaderBlocks {
                     fields,
                 }))
             }
-            Err(HpackError::NoMemory) => Err(H2Fault::NoMemory),
+            Err(HpackError::NoMemory) => Err(ConnectionFault::NoMemory),
             Err(HpackError::ListTooLarge) => Err(TOO_LARGE),
             Err(_) => Err(UNDECODABLE),
         }
     }
 }
 
-const OUT_OF_PLACE: H2Fault = H2Fault::Connection(ErrorCode::ProtocolError);
+const OUT_OF_PLACE: ConnectionFault = ConnectionFault::Connection(ErrorCode::ProtocolError);
 
-const TOO_LARGE: H2Fault = H2Fault::Connection(ErrorCode::EnhanceYourCalm);
+const TOO_LARGE: ConnectionFault = ConnectionFault::Connection(ErrorCode::EnhanceYourCalm);
 
-const UNDECODABLE: H2Fault = H2Fault::Connection(ErrorCode::CompressionError);
+const UNDECODABLE: ConnectionFault = ConnectionFault::Connection(ErrorCode::CompressionError);

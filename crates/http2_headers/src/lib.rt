@@ -7,6 +7,6 @@ mod field_syntax;
 mod header_blocks;
 mod request;
 
-pub use fault::H2Fault;
+pub use fault::ConnectionFault;
 pub use header_blocks::{HeaderBlocks, HeaderList, MAX_BLOCK, MAX_CONTINUATIONS};
 pub use request::is_well_formed_request;

@@ -23,7 +23,7 @@ use Rattle.http2_streams.specs.declared.event.StreamEvent.{StreamEvent}
 use Rattle.http2_streams.specs.Standing.{Standing}
 use Rattle.http2_streams.specs.Rules.{is_idle, is_live_at, is_receiving, is_remembered, window_update, event_only, no_effect, stream_error, on_data, on_header_list, on_request, on_trailers, on_settings, settings_fault, on_ping, on_connection_update, on_stream_update, overflows, may_grow, on_content, on_frame_of, is_in_turn, answer_to}
 use Rattle.http2_streams.specs.Entries.{control_frames}
-use Rattle.http2_streams.specs.ControlAnswers.{IsAnswer}
+use Rattle.http2_streams.specs.ControlAnswers.{IsControlAnswer}
 use Rattle.http2_streams.proofs.Bools.{not_false, or_parts}
 use Rattle.http2_streams.proofs.Law.{OkThen, split}
 
@@ -89,10 +89,10 @@ each_answer P a h =
     (with_frame P a.stream_update _ h.stream_update (one_frame P a.reset h.reset)))
 
 abbrev IsControl : StreamEvent → Type 0
-IsControl a = EachAnswer IsAnswer a
+IsControl a = EachAnswer IsControlAnswer a
 
-update_control : (s n : ℕ) → IfFrame IsAnswer (window_update s n)
-update_control s n = split (IfFrame IsAnswer) (n == 0) None (Some (WindowUpdate s n)) (λ _. tt) (λ _. tt)
+update_control : (s n : ℕ) → IfFrame IsControlAnswer (window_update s n)
+update_control s n = split (IfFrame IsControlAnswer) (n == 0) None (Some (WindowUpdate s n)) (λ _. tt) (λ _. tt)
 
 event_control : (e : Event) → IsControl (event_only e)
 event_control e = record { acknowledgement = tt; connection_update = tt; stream_update = tt; reset = tt }
@@ -106,7 +106,7 @@ AreControl r = OkThen IsControl r
 data_control : (v : Standing) (n s : ℕ) (e : Bool) (bytes : List ℕ) → AreControl (on_data v n s e bytes)
 data_control v n s e bytes =
     split AreControl (is_idle v s) _ _ (λ _. tt)
-    (λ _. split AreControl (is_receiving v s) _ _ (λ _. record { acknowledgement = tt; connection_update = update_control 0 n; stream_update = split (IfFrame IsAnswer) e None (window_update s n) (λ _. tt) (λ _. update_control s n); reset = tt })
+    (λ _. split AreControl (is_receiving v s) _ _ (λ _. record { acknowledgement = tt; connection_update = update_control 0 n; stream_update = split (IfFrame IsControlAnswer) e None (window_update s n) (λ _. tt) (λ _. update_control s n); reset = tt })
     (λ _. split AreControl (is_remembered v s) _ _ (λ _. record { acknowledgement = tt; connection_update = update_control 0 n; stream_update = tt; reset = tt })
     (λ _. record { acknowledgement = tt; connection_update = update_control 0 n; stream_update = tt; reset = tt })))
 
@@ -172,8 +172,8 @@ answer_control v f =
     split AreControl v.failed _ _ (λ _. event_control Nothing)
     (λ _. split AreControl (is_in_turn v f) _ _ (λ _. frame_control v (length f.payload) (frame_of f) (frame_sized f)) (λ _. tt))
 
-pub answers_are_control : (v : Standing) (f : RawFrame) (a : StreamEvent) → answer_to v f ≡ Ok a → AllByRecursion IsAnswer (control_frames a)
-answers_are_control v f a is = each_answer IsAnswer a (subst AreControl is (answer_control v f))
+pub answers_are_control : (v : Standing) (f : RawFrame) (a : StreamEvent) → answer_to v f ≡ Ok a → AllByRecursion IsControlAnswer (control_frames a)
+answers_are_control v f a is = each_answer IsControlAnswer a (subst AreControl is (answer_control v f))
 
 -- ---- their payloads
 
@@ -181,8 +181,8 @@ abbrev pub IsShort : Frame → Type 0
 IsShort g = length (raw_of g).payload ≤ 8
 
 -- by the four frames that answer
-pub answer_elim : (P : Frame → Type 0) → ((ack : Bool) (settings : List Setting) → IsAnswer (Settings ack settings) → P (Settings ack settings)) → ((ack : Bool) (o : List ℕ) → IsAnswer (Ping ack o) → P (Ping ack o))
-    → ((s n : ℕ) → P (WindowUpdate s n)) → ((s code : ℕ) → P (RstStream s code)) → (g : Frame) → IsAnswer g → P g
+pub answer_elim : (P : Frame → Type 0) → ((ack : Bool) (settings : List Setting) → IsControlAnswer (Settings ack settings) → P (Settings ack settings)) → ((ack : Bool) (o : List ℕ) → IsControlAnswer (Ping ack o) → P (Ping ack o))
+    → ((s n : ℕ) → P (WindowUpdate s n)) → ((s code : ℕ) → P (RstStream s code)) → (g : Frame) → IsControlAnswer g → P g
 answer_elim P settings ping update reset (Settings ack list) h = settings ack list h
 answer_elim P settings ping update reset (Ping ack o) h = ping ack o h
 answer_elim P settings ping update reset (WindowUpdate s n) h = update s n
@@ -195,10 +195,10 @@ answer_elim P settings ping update reset (GoAway s c b) h = absurd h
 answer_elim P settings ping update reset (Continuation s x b) h = absurd h
 answer_elim P settings ping update reset (Unknown k f s p) h = absurd h
 
-pub answer_is_short : (g : Frame) → IsAnswer g → IsShort g
+pub answer_is_short : (g : Frame) → IsControlAnswer g → IsShort g
 answer_is_short = answer_elim IsShort (λ ack settings h. rw h.1 (omega arith)) (λ ack o h. rw h.1 (omega arith)) (λ s n. omega arith) (λ s code. omega arith)
 
-all_short : (fs : List Frame) → AllByRecursion IsAnswer fs → AllByRecursion IsShort fs
+all_short : (fs : List Frame) → AllByRecursion IsControlAnswer fs → AllByRecursion IsShort fs
 all_short [] h = tt
 all_short (f ∷ fs) h = (answer_is_short f h.0, all_short fs h.1)
 

@@ -21,13 +21,13 @@ use Rattle.http2_streams.specs.Standing.{Standing, standing, stream_at}
 use Rattle.http2_streams.specs.Rules.{number_is, no_effect, on_content, on_frame_of, is_in_turn, on_raw_frame, answer_after}
 use Rattle.http2_streams.specs.Entries.{control_frames, frames_put, entries_of}
 use Rattle.http2_streams.specs.Step.{after_content, step_by, after_frame_in}
-use Rattle.http2_streams.specs.StandsFor.{StandsFor}
+use Rattle.http2_streams.specs.StandsFor.{AreStreams}
 use Rattle.http2_streams.specs.LiveStreams.{stream_of_event, has_stream, IsOnItsStream, other_streams, live_after_end, live_after}
 use Rattle.http2_streams.proofs.Lists.{filter-map}
 use Rattle.http2_streams.proofs.Sides.{top}
 use Rattle.http2_streams.proofs.Law.{OkThen, at_law, cond_is_true, cond_is_false, has_failed-append, all_sent}
 use Rattle.http2_streams.proofs.LiveLaw.{listed_is_live, highest_rises}
-use Rattle.http2_streams.specs.ControlAnswers.{IsAnswer}
+use Rattle.http2_streams.specs.ControlAnswers.{IsControlAnswer}
 use Rattle.http2_streams.proofs.ControlLaw.{answers_are_control}
 use Rattle.http2_streams.proofs.Events.{numbers_of, numbers_after, unclosed, IsOnAt, Told, content_told}
 
@@ -147,7 +147,7 @@ request_is_highest d f a s fields end_stream is = elim (cases_Bool (has_failed d
 
 -- ---- the live streams
 
-no_goaway : (fs : List Frame) → AllByRecursion IsAnswer fs → list_any is_goaway fs ≡ false
+no_goaway : (fs : List Frame) → AllByRecursion IsControlAnswer fs → list_any is_goaway fs ≡ false
 no_goaway [] h = refl
 no_goaway (Settings a ss ∷ fs) h = no_goaway fs h.1
 no_goaway (Ping a o ∷ fs) h = no_goaway fs h.1
@@ -171,10 +171,10 @@ stays_whole d f a fine is =
     ∙ ap (list_any is_goaway) (all_sent (control_frames a))
     ∙ none
 
-pub live_after_frame : (v : Standing) (d : List Entry) (f : RawFrame) (a : StreamEvent) → StandsFor v d → has_failed d ≡ false → answer_after d f ≡ Ok a → live_streams (d ++ entries_of d f) ≡ live_after d a.event
+pub live_after_frame : (v : Standing) (d : List Entry) (f : RawFrame) (a : StreamEvent) → AreStreams v d → has_failed d ≡ false → answer_after d f ≡ Ok a → live_streams (d ++ entries_of d f) ≡ live_after d a.event
 live_after_frame v d f a h fine is =
     let e = d ++ entries_of d f in
-    let there : StandsFor (step_by (standing d) f a) e = at_law d f a fine (h.state fine).idle is in
+    let there : AreStreams (step_by (standing d) f a) e = at_law d f a fine (h.state fine).idle is in
     let same : step_by (standing d) f a ≡ standing e = (there.state (stays_whole d f a fine is)).is in
     let step : step_by (standing d) f a ≡ after_content (standing d) a (frame_of f) = cond_is_false (has_failed d) (standing d) (after_content (standing d) a (frame_of f)) fine in
     sym (at_numbers e (live_streams e))

@@ -17,8 +17,8 @@ use Rattle.http2_frames.specs.declared.settings.Setting.{Setting}
 use Rattle.http2_frames.specs.Frames.{frame_of}
 use Rattle.http2_headers.specs.HeaderBlock.{HeaderBlock, new_block, with_continuation}
 use Rattle.http2_headers.specs.declared.header_blocks.HeaderList.{HeaderList}
-use Rattle.http2_headers.specs.declared.fault.H2Fault.{H2Fault}
-use Rattle.http2_headers.specs.declared.fault.H2Fault.TheVariants.{Connection, NoMemory}
+use Rattle.http2_headers.specs.declared.fault.ConnectionFault.{ConnectionFault}
+use Rattle.http2_headers.specs.declared.fault.ConnectionFault.TheVariants.{Connection, NoMemory}
 use Rattle.http2_headers.specs.Decoding.{list_of_block, state_after_block, list_of_continuation, state_after_continuation, Gives}
 use Rattle.http2_headers.specs.Request.{is_well_formed_request}
 use Rattle.http2_streams.specs.declared.event.Event.{Event}
@@ -28,7 +28,7 @@ use Rattle.http2_streams.specs.History.{Entry, In, Out, blocks_after, blocks_wit
 use Rattle.http2_streams.specs.Standing.{Standing, standing}
 use Rattle.http2_streams.specs.Rules.{is_idle, is_receiving, is_remembered, is_live_at, window_update, stream_error, event_only, no_effect, on_data, on_header_list, on_block, on_request, on_trailers, on_settings, settings_fault, on_ping, on_reset, on_connection_update, on_stream_update, overflows, may_grow, on_content, is_in_turn, on_frame_of, on_raw_frame, answer_to, answer_after}
 use Rattle.http2_streams.specs.Entries.{control_frames, frames_put, entries_of}
-use Rattle.http2_streams.specs.StandsFor.{IsUntouched, IsAt, StandsFor, InMemory}
+use Rattle.http2_streams.specs.StandsFor.{IsUntouched, IsStandingOf, AreStreams, InMemory}
 use Rattle.http2_streams.specs.Step.{after_frame_in, after_frame_out, after_block, after_header_list, with_headers, after_client_end, after_answer, after_begin, after_content, step_by}
 use Rattle.http2_streams.proofs.Lists.{append-nil}
 use Rattle.http2_streams.proofs.Bools.{or_parts, or_true, and_false}
@@ -354,27 +354,27 @@ idle_by d rs ss r-is s-is idle s above =
     record { unreset = u.unreset; unended_by_client = u.unended_c; unended_by_server = u.unended_s; granted = u.ungranted; spent = u.unspent }
 
 -- a state that is that of two lists of frames stands for a history with these frames
-pub stands_by : (d : List Entry) (v : Standing) (rs ss : List Frame) → received_frames d ≡ rs → sent_frames d ≡ ss → std_of rs ss ≡ v → Idle rs ss → StandsFor v d
+pub stands_by : (d : List Entry) (v : Standing) (rs ss : List Frame) → received_frames d ≡ rs → sent_frames d ≡ ss → std_of rs ss ≡ v → Idle rs ss → AreStreams v d
 stands_by d v rs ss r-is s-is is idle =
     let same : standing d ≡ v = ap (λ xs. std_of xs (sent_frames d)) r-is ∙ ap (λ xs. std_of rs xs) s-is ∙ is in
     record { fault = ap (λ (w : Standing). w.failed) (sym same); state = λ _. record { is = sym same; idle = idle_by d rs ss r-is s-is idle } }
 
 -- after a connection error only that there was one is kept
-pub stands_failed : (d : List Entry) (v : Standing) → v.failed ≡ true → has_failed d ≡ true → StandsFor v d
+pub stands_failed : (d : List Entry) (v : Standing) → v.failed ≡ true → has_failed d ≡ true → AreStreams v d
 stands_failed d v bad failed = record { fault = bad ∙ sym failed; state = λ fine. absurd (true≢false (sym failed ∙ fine)) }
 
-frame_law : (d : List Entry) (f : RawFrame) (g : Frame) (a : StreamEvent) → IsIdle d → frame_of f ≡ Ok g → on_content (standing d) (length f.payload) g ≡ Ok a → StandsFor (after_begin (after_answer a (after_frame_in (standing d) g))) (d ++ In f ∷ map Out (control_frames a))
+frame_law : (d : List Entry) (f : RawFrame) (g : Frame) (a : StreamEvent) → IsIdle d → frame_of f ≡ Ok g → on_content (standing d) (length f.payload) g ≡ Ok a → AreStreams (after_begin (after_answer a (after_frame_in (standing d) g))) (d ++ In f ∷ map Out (control_frames a))
 frame_law d f g a idle says causes-is =
     let P : Result StreamEvent ErrorCode → Type 0 = OkThen (Follows (received_frames d) (sent_frames d) g) in
     let there : Follows (received_frames d) (sent_frames d) g a = subst P causes-is (content_follows (received_frames d) (sent_frames d) (length f.payload) g (idle_of d idle)) in
     stands_by (d ++ In f ∷ map Out (control_frames a)) _ (received_frames d ++ g ∷ []) (sent_frames d ++ control_frames a) (received_more d f g (control_frames a) says) (sent_more d f (control_frames a)) there.0 there.1
 
 -- what the tests before the frame's content leave
-read_law : (d : List Entry) (f : RawFrame) (r : Result Frame ErrorCode) (a : StreamEvent) → IsIdle d → frame_of f ≡ r → on_frame_of (standing d) (length f.payload) r ≡ Ok a → StandsFor (after_content (standing d) a r) (d ++ In f ∷ map Out (control_frames a))
+read_law : (d : List Entry) (f : RawFrame) (r : Result Frame ErrorCode) (a : StreamEvent) → IsIdle d → frame_of f ≡ r → on_frame_of (standing d) (length f.payload) r ≡ Ok a → AreStreams (after_content (standing d) a r) (d ++ In f ∷ map Out (control_frames a))
 read_law d f (Ok g) a idle says h = frame_law d f g a idle says h
 read_law d f (Err code) a idle says h = cc
 
-turn_law : (d : List Entry) (f : RawFrame) (a : StreamEvent) (b : Bool) → IsIdle d → cond b (on_frame_of (standing d) (length f.payload) (frame_of f)) (Err ProtocolError) ≡ Ok a → StandsFor (after_content (standing d) a (frame_of f)) (d ++ In f ∷ map Out (control_frames a))
+turn_law : (d : List Entry) (f : RawFrame) (a : StreamEvent) (b : Bool) → IsIdle d → cond b (on_frame_of (standing d) (length f.payload) (frame_of f)) (Err ProtocolError) ≡ Ok a → AreStreams (after_content (standing d) a (frame_of f)) (d ++ In f ∷ map Out (control_frames a))
 turn_law d f a true idle h = read_law d f (frame_of f) a idle refl h
 turn_law d f a false idle h = cc
 
@@ -386,32 +386,32 @@ pub cond_is_false : {A : Type 0} (b : Bool) (x y : A) → b ≡ false → cond b
 cond_is_false true x y h = cc
 cond_is_false false x y h = refl
 
-pub at_law : (d : List Entry) (f : RawFrame) (a : StreamEvent) → has_failed d ≡ false → IsIdle d → answer_after d f ≡ Ok a → StandsFor (step_by (standing d) f a) (d ++ entries_of d f)
+pub at_law : (d : List Entry) (f : RawFrame) (a : StreamEvent) → has_failed d ≡ false → IsIdle d → answer_after d f ≡ Ok a → AreStreams (step_by (standing d) f a) (d ++ entries_of d f)
 at_law d f a fine idle h =
     let caused-is : on_raw_frame (standing d) f ≡ Ok a = sym (cond_is_false (has_failed d) (Ok no_effect) (on_raw_frame (standing d) f) fine) ∙ h in
     let there = turn_law d f a (is_in_turn (standing d) f) idle caused-is in
-    let P : Standing → Type 0 = λ w. StandsFor w (d ++ In f ∷ map Out (control_frames a)) in
-    let Q : Result StreamEvent ErrorCode → Type 0 = λ r. StandsFor (step_by (standing d) f a) (d ++ In f ∷ map Out (frames_put (standing d) r)) in
+    let P : Standing → Type 0 = λ w. AreStreams w (d ++ In f ∷ map Out (control_frames a)) in
+    let Q : Result StreamEvent ErrorCode → Type 0 = λ r. AreStreams (step_by (standing d) f a) (d ++ In f ∷ map Out (frames_put (standing d) r)) in
     subst Q (sym h) (subst P (sym (cond_is_false (has_failed d) (standing d) (after_content (standing d) a (frame_of f)) fine)) there)
 
 -- a state that stands for a history before a connection error is that of the history
-pub before_failure : (v : Standing) (d : List Entry) → StandsFor v d → v.failed ≡ false → (has_failed d ≡ false) × IsAt v d
+pub before_failure : (v : Standing) (d : List Entry) → AreStreams v d → v.failed ≡ false → (has_failed d ≡ false) × IsStandingOf v d
 before_failure v d h fine = let same : has_failed d ≡ false = sym h.fault ∙ fine in (same, h.state same)
 
-step_law : (v : Standing) (d : List Entry) (f : RawFrame) (a : StreamEvent) → StandsFor v d → answer_to v f ≡ Ok a → StandsFor (step_by v f a) (d ++ entries_of d f)
+step_law : (v : Standing) (d : List Entry) (f : RawFrame) (a : StreamEvent) → AreStreams v d → answer_to v f ≡ Ok a → AreStreams (step_by v f a) (d ++ entries_of d f)
 step_law v d f a h good = elim (cases_Bool v.failed) [
   | inl bad ↦
-      let P : Standing → Type 0 = λ w. StandsFor w (d ++ entries_of d f) in
+      let P : Standing → Type 0 = λ w. AreStreams w (d ++ entries_of d f) in
       subst P (sym (cond_is_true v.failed v (after_content v a (frame_of f)) bad)) (stands_failed (d ++ entries_of d f) v bad (has_failed-append d (entries_of d f) ∙ ap (λ b. b || has_failed (entries_of d f)) (sym h.fault ∙ bad)))
   | inr fine ↦
       let at = before_failure v d h fine in
       let P : Standing → Type 0 = λ w. answer_to w f ≡ Ok a in
-      let Q : Standing → Type 0 = λ w. StandsFor (step_by w f a) (d ++ entries_of d f) in
+      let Q : Standing → Type 0 = λ w. AreStreams (step_by w f a) (d ++ entries_of d f) in
       subst Q (sym at.1.is) (at_law d f a at.0 at.1.idle (subst P at.1.is good))
 ]
 
 -- a connection error, which is put
-failure_law : (v w : Standing) (d : List Entry) (f : RawFrame) (code : ErrorCode) → StandsFor v d → answer_to v f ≡ Err code → w.failed ≡ true → StandsFor w (d ++ entries_of d f)
+failure_law : (v w : Standing) (d : List Entry) (f : RawFrame) (code : ErrorCode) → AreStreams v d → answer_to v f ≡ Err code → w.failed ≡ true → AreStreams w (d ++ entries_of d f)
 failure_law v w d f code h bad failed = elim (cases_Bool v.failed) [
   | inl before ↦ let wrong = rw before at bad in cc
   | inr fine ↦
@@ -425,13 +425,13 @@ failure_law v w d f code h bad failed = elim (cases_Bool v.failed) [
 -- ---- the same of a call's result
 
 abbrev Stands : Standing → Standing → RawFrame → Type 0
-Stands v w f = (d : List Entry) → StandsFor v d → StandsFor w (d ++ entries_of d f)
+Stands v w f = (d : List Entry) → AreStreams v d → AreStreams w (d ++ entries_of d f)
 
-pub stands_after_ok : (r : Result StreamEvent H2Fault) (v w : Standing) (f : RawFrame) → Gives r (answer_to v f) → IfOk r (λ a. w ≡ step_by v f a) → is_err r ≡ false → InMemory r (Stands v w f)
+pub stands_after_ok : (r : Result StreamEvent ConnectionFault) (v w : Standing) (f : RawFrame) → Gives r (answer_to v f) → IfOk r (λ a. w ≡ step_by v f a) → is_err r ≡ false → InMemory r (Stands v w f)
 stands_after_ok (Ok a) v w f gives is fine = λ d h. rw is (step_law v d f a h gives)
 stands_after_ok (Err e) v w f gives is fine = cc
 
-pub stands_after_err : (r : Result StreamEvent H2Fault) (v w : Standing) (f : RawFrame) → Gives r (answer_to v f) → is_err r ≡ true → w.failed ≡ true → InMemory r (Stands v w f)
+pub stands_after_err : (r : Result StreamEvent ConnectionFault) (v w : Standing) (f : RawFrame) → Gives r (answer_to v f) → is_err r ≡ true → w.failed ≡ true → InMemory r (Stands v w f)
 stands_after_err (Ok a) v w f gives bad failed = cc
 stands_after_err (Err (Connection code)) v w f gives bad failed = λ d h. failure_law v w d f code h gives failed
 stands_after_err (Err NoMemory) v w f gives bad failed = tt

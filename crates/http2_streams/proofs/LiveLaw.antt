@@ -12,7 +12,7 @@ use Rattle.http2_frames.specs.declared.frame.Frame.TheVariants.{Data, Headers, P
 use Rattle.http2_headers.specs.HeaderBlock.{HeaderBlock, new_block, with_continuation}
 use Rattle.http2_streams.specs.History.{Entry, Blocks, blocks_after, no_blocks, blocks_with, stream_of, frame_in, frame_out, received_frames, sent_frames, has_failed, highest_stream, live_streams, is_not_closed, opened_streams, rising_numbers, resets, data_ends, block_ends, ends}
 use Rattle.http2_streams.specs.Standing.{Standing}
-use Rattle.http2_streams.specs.StandsFor.{StandsFor}
+use Rattle.http2_streams.specs.StandsFor.{AreStreams}
 use Rattle.http2_streams.specs.LiveStreams.{has_stream}
 use Rattle.http2_streams.proofs.Lists.{append-nil, map-append, max_from}
 use Rattle.http2_streams.proofs.Sides.{blocks_in, numbers, top, alive}
@@ -146,7 +146,7 @@ listed_is_live d s h =
     let k = kept_both (is_not_closed d) s (opened_streams d) h in
     (k.0, rising_below 0 s (numbers (received_frames d)) k.1)
 
-pub idle_is_live : (v : Standing) (d : List Entry) (s : ℕ) → StandsFor v d → has_failed d ≡ false → highest_stream d < s → is_not_closed d s ≡ true
+pub idle_is_live : (v : Standing) (d : List Entry) (s : ℕ) → AreStreams v d → has_failed d ≡ false → highest_stream d < s → is_not_closed d s ≡ true
 idle_is_live v d s h fine above =
     let u = (h.state fine).idle s above in
     let r = u.unreset in

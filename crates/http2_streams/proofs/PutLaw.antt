@@ -15,7 +15,7 @@ use Rattle.http2_streams.specs.History.{Entry, In, Unreadable, Out, Took, frame_
 use Rattle.http2_streams.specs.Standing.{Standing, standing, stream_at}
 use Rattle.http2_streams.specs.Rules.{number_is, is_live_at}
 use Rattle.http2_streams.specs.Sending.{lacks, CanSend, IsNoMatter}
-use Rattle.http2_streams.specs.StandsFor.{StandsFor}
+use Rattle.http2_streams.specs.StandsFor.{AreStreams}
 use Rattle.http2_streams.specs.Step.{after_reset, after_server_end, after_data}
 use Rattle.http2_streams.proofs.Lists.{max_from, append-nil}
 use Rattle.http2_streams.proofs.Bools.{and_false}
@@ -67,7 +67,7 @@ live_below_from rs ss s m (x ∷ xs) h = elim (cases_Bool (nat_lt m x)) [
 live_below : (d : List Entry) (s : ℕ) → is_live_at (standing d) s ≡ true → s ≤ highest_stream d
 live_below d s h = live_below_from (received_frames d) (sent_frames d) s 0 (numbers (received_frames d)) h
 
-pub live_is_opened : (v : Standing) (d : List Entry) (s : ℕ) → StandsFor v d → v.failed ≡ false → is_live_at v s ≡ true → s ≤ v.highest
+pub live_is_opened : (v : Standing) (d : List Entry) (s : ℕ) → AreStreams v d → v.failed ≡ false → is_live_at v s ≡ true → s ≤ v.highest
 live_is_opened v d s h fine lives =
     let here = before_failure v d h fine in
     let P : Standing → Type 0 = λ w. is_live_at w s ≡ true in
@@ -79,7 +79,7 @@ live_is_opened v d s h fine lives =
 abbrev Leaves : Standing → Frame → Standing → Type 0
 Leaves v f w = (d : List Entry) → v ≡ standing d → IsIdle d → (std_of (received_frames d) (sent_frames d ++ f ∷ []) ≡ w) × Idle (received_frames d) (sent_frames d ++ f ∷ [])
 
-put_law : (v w : Standing) (d : List Entry) (f : Frame) → StandsFor v d → w.failed ≡ v.failed → Leaves v f w → StandsFor w (d ++ Out f ∷ [])
+put_law : (v w : Standing) (d : List Entry) (f : Frame) → AreStreams v d → w.failed ≡ v.failed → Leaves v f w → AreStreams w (d ++ Out f ∷ [])
 put_law v w d f h same leaves = elim (cases_Bool v.failed) [
   | inl bad ↦ stands_failed (d ++ Out f ∷ []) w (same ∙ bad) (has_failed-append d (Out f ∷ []) ∙ ap (λ b. b || has_failed (Out f ∷ [])) (sym h.fault ∙ bad))
   | inr fine ↦
@@ -92,7 +92,7 @@ server_ends_failed : (v : Standing) (s : ℕ) (e : Bool) → (after_server_end v
 server_ends_failed v s true = refl
 server_ends_failed v s false = refl
 
-pub reset_put_law : (v w : Standing) (d : List Entry) (s code : ℕ) → s ≤ v.highest → w ≡ after_reset v s → StandsFor v d → StandsFor w (d ++ Out (RstStream s code) ∷ [])
+pub reset_put_law : (v w : Standing) (d : List Entry) (s code : ℕ) → s ≤ v.highest → w ≡ after_reset v s → AreStreams v d → AreStreams w (d ++ Out (RstStream s code) ∷ [])
 reset_put_law v w d s code low is h =
     put_law v w d (RstStream s code) h (ap (λ (x : Standing). x.failed) is) (λ e v-is idle.
     let high : v.highest ≡ highest_stream e = ap (λ (x : Standing). x.highest) v-is in (
@@ -100,7 +100,7 @@ reset_put_law v w d s code low is h =
       idle_put (received_frames e) (sent_frames e) (RstStream s code) (idle_of e idle) (λ t above. let differs : (s == t) ≡ false = grind (arith, nat_tests) in record { unreset = differs; unended = refl; unspent = refl }),
     ))
 
-pub headers_put_law : (v w : Standing) (d : List Entry) (s : ℕ) (end_stream end_headers : Bool) (fragment : List ℕ) → is_live_at v s ≡ true → w ≡ after_server_end v s end_stream → StandsFor v d → StandsFor w (d ++ Out (Headers s end_stream end_headers fragment) ∷ [])
+pub headers_put_law : (v w : Standing) (d : List Entry) (s : ℕ) (end_stream end_headers : Bool) (fragment : List ℕ) → is_live_at v s ≡ true → w ≡ after_server_end v s end_stream → AreStreams v d → AreStreams w (d ++ Out (Headers s end_stream end_headers fragment) ∷ [])
 headers_put_law v w d s end_stream end_headers fragment lives is h =
     put_law v w d (Headers s end_stream end_headers fragment) h (ap (λ (x : Standing). x.failed) is ∙ server_ends_failed v s end_stream) (λ e v-is idle.
     let P : Standing → Type 0 = λ x. is_live_at x s ≡ true in
@@ -109,7 +109,7 @@ headers_put_law v w d s end_stream end_headers fragment lives is h =
       idle_put (received_frames e) (sent_frames e) (Headers s end_stream end_headers fragment) (idle_of e idle) (λ t above. let differs : (s == t) ≡ false = grind (arith, nat_tests) in record { unreset = refl; unended = ap (λ b. end_stream && b) differs ∙ and_false end_stream; unspent = refl }),
     ))
 
-pub data_put_law : (v w : Standing) (d : List Entry) (s n : ℕ) (end_stream : Bool) (content : List ℕ) → is_live_at v s ≡ true → w ≡ after_server_end (after_data v s n) s end_stream → length content ≡ n → StandsFor v d → StandsFor w (d ++ Out (Data s end_stream content) ∷ [])
+pub data_put_law : (v w : Standing) (d : List Entry) (s n : ℕ) (end_stream : Bool) (content : List ℕ) → is_live_at v s ≡ true → w ≡ after_server_end (after_data v s n) s end_stream → length content ≡ n → AreStreams v d → AreStreams w (d ++ Out (Data s end_stream content) ∷ [])
 data_put_law v w d s n end_stream content lives is count h =
     put_law v w d (Data s end_stream content) h (ap (λ (x : Standing). x.failed) is ∙ server_ends_failed (after_data v s n) s end_stream) (λ e v-is idle.
     let P : Standing → Type 0 = λ x. is_live_at x s ≡ true in
@@ -120,7 +120,7 @@ data_put_law v w d s n end_stream content lives is count h =
 
 -- ---- other entries
 
-silent : (v : Standing) (d : List Entry) (e : Entry) → frame_in e ≡ None → frame_out e ≡ None → StandsFor v d → StandsFor v (d ++ e ∷ [])
+silent : (v : Standing) (d : List Entry) (e : Entry) → frame_in e ≡ None → frame_out e ≡ None → AreStreams v d → AreStreams v (d ++ e ∷ [])
 silent v d e none none' h =
     let one : filter_map frame_out (e ∷ []) ≡ [] = rw none' refl in
     let s-is : sent_frames (d ++ e ∷ []) ≡ sent_frames d = filter_map-append frame_out d (e ∷ []) ∙ ap (λ xs. sent_frames d ++ xs) one ∙ append-nil (sent_frames d) in
@@ -131,10 +131,10 @@ silent v d e none none' h =
           stands_by (d ++ e ∷ []) v (received_frames d) (sent_frames d) (received_one d e none) s-is (sym here.1.is) (idle_of d here.1.idle)
     ]
 
-quietly : (v : Standing) (d : List Entry) (f : Frame) → IsQuietPut f → StandsFor v d → StandsFor v (d ++ Out f ∷ [])
+quietly : (v : Standing) (d : List Entry) (f : Frame) → IsQuietPut f → AreStreams v d → AreStreams v (d ++ Out f ∷ [])
 quietly v d f q h = put_law v v d f h refl (λ e v-is idle. (quiet_put (received_frames e) (sent_frames e) f q ∙ sym v-is, idle_put (received_frames e) (sent_frames e) f (idle_of e idle) (λ t _. record { unreset = q.unreset t; unended = q.unended t; unspent = q.unspent t })))
 
-pub no_matter : (v : Standing) (d : List Entry) (e : Entry) → IsNoMatter e → StandsFor v d → StandsFor v (d ++ e ∷ [])
+pub no_matter : (v : Standing) (d : List Entry) (e : Entry) → IsNoMatter e → AreStreams v d → AreStreams v (d ++ e ∷ [])
 no_matter v d (Took n) q h = silent v d (Took n) refl refl h
 no_matter v d (Unreadable x) q h = silent v d (Unreadable x) refl refl h
 no_matter v d (Out (Settings a ss)) q h = quietly v d (Settings a ss) (record { goes_on = refl; unreset = λ t. refl; unended = λ t. refl; unspent = λ t. refl; no_data = refl; resets_none = refl }) h
@@ -217,7 +217,7 @@ window_at d s n = (
   λ all. record { live = all.0; stream = lacks_live d s n all.0 ∙ (let w = all.1 in grind (arith, ints)); connection = all.2 },
 )
 
-pub window_read : (v : Standing) (d : List Entry) (s n : ℕ) → StandsFor v d → v.failed ≡ false → CanSend v s n ↔ Allows v d s n
+pub window_read : (v : Standing) (d : List Entry) (s n : ℕ) → AreStreams v d → v.failed ≡ false → CanSend v s n ↔ Allows v d s n
 window_read v d s n h fine =
     let here = before_failure v d h fine in
     let Q : Standing → Type 0 = λ w. CanSend w s n ↔ Allows w d s n in

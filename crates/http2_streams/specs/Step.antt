@@ -78,7 +78,11 @@ after_client_end v s end_stream =
 
 abbrev pub after_block : Standing → ℕ → Bool → Standing
 after_block v s end_stream =
-    if nat_lt v.highest s then record v { highest = s; live = v.live ++ new_stream v.initial_window_size s end_stream ∷ [] }
+    if nat_lt v.highest s
+    then record v {
+      highest = s;
+      live = v.live ++ new_stream v.initial_window_size s end_stream ∷ [];
+    }
     else after_client_end v s end_stream
 
 abbrev pub with_headers : Standing → HeaderState → Standing
@@ -142,7 +146,10 @@ after_server_end v s end_stream =
     if end_stream then with_live v (streams_after_end Server s v.live) else v
 
 abbrev pub after_data : Standing → ℕ → ℕ → Standing
-after_data v s n = record v { live = map (stream_after_spending s n) v.live; connection_window = credit_after_spending n v.connection_window }
+after_data v s n = record v {
+  live = map (stream_after_spending s n) v.live;
+  connection_window = credit_after_spending n v.connection_window;
+}
 
 abbrev pub after_frame_out : Standing → Frame → Standing
 after_frame_out v (Data s end_stream bytes) =

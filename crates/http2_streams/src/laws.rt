@@ -9,25 +9,25 @@ ghost use Rattle.http2_frames.specs.declared.frame.RawFrame.{RawFrame};
 ghost use Rattle.http2_streams.specs.declared.event.StreamEvent.{StreamEvent};
 ghost use Rattle.http2_streams.specs.History.{Entry, In, has_failed, highest_stream, live_streams, is_not_closed, window, connection_window};
 ghost use Rattle.http2_streams.specs.Standing.{Standing};
-ghost use Rattle.http2_streams.specs.StandsFor.{StandsFor};
+ghost use Rattle.http2_streams.specs.StandsFor.{AreStreams};
 ghost use Rattle.http2_streams.specs.Rules.{is_live_at, answer_after};
 ghost use Rattle.http2_streams.specs.Entries.{control_frames, entries_of};
 ghost use Rattle.http2_streams.specs.Sending.{CanSend, IsNoMatter};
 ghost use Rattle.http2_streams.specs.LiveStreams.{stream_of_event, has_stream, IsOnItsStream, live_after};
-ghost use Rattle.http2_streams.specs.ControlAnswers.{IsAnswer};
+ghost use Rattle.http2_streams.specs.ControlAnswers.{IsControlAnswer};
 
 /// The live streams stand in rising order, each once, and none is above the highest that was
 /// opened.
 pub fn live_streams_rise()
     ensures rise { (d : List Entry) → IsStrictlyIncreasing (live_streams d) }
-    ensures opened { (v : Standing) (d : List Entry) (s : ℕ) → StandsFor v d → v.failed ≡ false →
+    ensures opened { (v : Standing) (d : List Entry) (s : ℕ) → AreStreams v d → v.failed ≡ false →
         is_live_at v s ≡ true → s ≤ v.highest }
 {}
 
 /// What is kept stands for the history with an entry that is no matter of streams, too.
 pub fn other_entries_change_nothing()
-    ensures { (v : Standing) (d : List Entry) (e : Entry) → IsNoMatter e → StandsFor v d →
-        StandsFor v (d ++ e ∷ []) }
+    ensures { (v : Standing) (d : List Entry) (e : Entry) → IsNoMatter e → AreStreams v d →
+        AreStreams v (d ++ e ∷ []) }
 {}
 
 /// What may be sent is what the history's two windows leave, on a live stream. Both begin with
@@ -35,7 +35,7 @@ pub fn other_entries_change_nothing()
 pub fn windows_follow_from_the_history()
     ensures stream { (s : ℕ) → window_left (window [] s) ≡ pos 65535 }
     ensures connection { window_left (connection_window []) ≡ pos 65535 }
-    ensures left { (v : Standing) (d : List Entry) (s n : ℕ) → StandsFor v d → v.failed ≡ false →
+    ensures left { (v : Standing) (d : List Entry) (s n : ℕ) → AreStreams v d → v.failed ≡ false →
         CanSend v s n ↔ ((is_live_at v s ≡ true) × (pos n ≤ℤ window_left (window d s))
         × (pos n ≤ℤ window_left (connection_window d))) }
 {}
@@ -43,7 +43,7 @@ pub fn windows_follow_from_the_history()
 /// A frame that is no fault opens the stream of a request, closes that of a cancel or of a
 /// request's end that the server's end came before, and leaves all other live streams.
 pub fn the_live_streams_after_a_frame()
-    ensures { (v : Standing) (d : List Entry) (f : RawFrame) (a : StreamEvent) → StandsFor v d →
+    ensures { (v : Standing) (d : List Entry) (f : RawFrame) (a : StreamEvent) → AreStreams v d →
         has_failed d ≡ false → answer_after d f ≡ Ok a →
         live_streams (d ++ entries_of d f) ≡ live_after d a.event }
 {}
@@ -66,7 +66,7 @@ pub fn closed_streams_stay_closed()
         is_not_closed d s ≡ true }
     ensures listed { (d : List Entry) (s : ℕ) → has_stream (live_streams d) s ≡ true →
         (is_not_closed d s ≡ true) × (s ≤ highest_stream d) }
-    ensures idle { (v : Standing) (d : List Entry) (s : ℕ) → StandsFor v d → has_failed d ≡ false →
+    ensures idle { (v : Standing) (d : List Entry) (s : ℕ) → AreStreams v d → has_failed d ≡ false →
         highest_stream d < s → is_not_closed d s ≡ true }
 {}
 
@@ -74,7 +74,7 @@ pub fn closed_streams_stay_closed()
 /// with a payload of more than 8 bytes.
 pub fn answers_are_control_frames()
     ensures kinds { (d : List Entry) (f : RawFrame) (a : StreamEvent) → answer_after d f ≡ Ok a →
-        AllByRecursion IsAnswer (control_frames a) }
+        AllByRecursion IsControlAnswer (control_frames a) }
     ensures short { (d : List Entry) (f : RawFrame) (a : StreamEvent) → answer_after d f ≡ Ok a →
         AllByRecursion (λ g. length (raw_of g).payload ≤ 8) (control_frames a) }
 {}

@@ -9,7 +9,7 @@ mod stream;
 mod streams;
 
 pub use event::{Event, StreamEvent};
-pub use http2_headers::H2Fault;
+pub use http2_headers::ConnectionFault;
 pub use laws::{
     answers_are_control_frames, closed_streams_stay_closed, events_name_opened_streams,
     live_streams_rise, other_entries_change_nothing, the_live_streams_after_a_frame,

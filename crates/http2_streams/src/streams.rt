@@ -7,7 +7,7 @@ ghost use Rattle.http2_frames.specs.declared.frame.Frame.TheVariants.{Data, Head
 ghost use Rattle.http2_headers.specs.Decoding.{Gives};
 ghost use Rattle.http2_streams.specs.History.{Entry, Out, has_failed};
 ghost use Rattle.http2_streams.specs.Sending.{CanSend};
-ghost use Rattle.http2_streams.specs.StandsFor.{StandsFor, InMemory};
+ghost use Rattle.http2_streams.specs.StandsFor.{AreStreams, InMemory};
 ghost use Rattle.http2_streams.specs.Rules.{answer_after, answer_to, is_idle, is_live_at, is_in_turn, on_content};
 ghost use Rattle.http2_streams.specs.Entries.{entries_of};
 ghost use Rattle.http2_streams.specs.Step.{step_by, after_answer, after_frame_in, after_server_end, after_data};
@@ -25,7 +25,7 @@ use crate::stream::{Side, Stream};
 use crate::streams::answers::{PROTOCOL_ERROR, nothing, on_ping};
 use http2_flow::{INITIAL_SIZE, Window};
 use http2_frames::{Frame, MAX_FRAME_SIZE, RawFrame, flag, frame_type, interpret};
-use http2_headers::{H2Fault, HeaderBlocks};
+use http2_headers::{ConnectionFault, HeaderBlocks};
 use std::alloc::{AllocError, Global};
 use std::collections::VecDeque;
 use std::marker::Model;
@@ -83,7 +83,7 @@ impl Model for Streams {
 impl Streams {
     /// The streams of a new connection.
     pub fn new(alloc: Global) -> Result<Self, AllocError>
-        ensures { IfOk result (λ streams. StandsFor streams []) }
+        ensures { IfOk result (λ streams. AreStreams streams []) }
     {
         Ok(Streams {
             failed: false,
@@ -99,12 +99,12 @@ impl Streams {
 
     /// Takes a frame of the client. What it causes follows from all that passed on the connection
     /// before.
-    pub fn on_frame<'a>(&mut self, frame: &RawFrame<'a>) -> Result<StreamEvent<'a>, H2Fault>
+    pub fn on_frame<'a>(&mut self, frame: &RawFrame<'a>) -> Result<StreamEvent<'a>, ConnectionFault>
         requires { length frame.now.payload ≤ MAX_FRAME_SIZE }
-        ensures causes { (d : List Entry) → StandsFor self.old d →
+        ensures causes { (d : List Entry) → AreStreams self.old d →
             Gives result (answer_after d frame.now) }
-        ensures stands { InMemory result ((d : List Entry) → StandsFor self.old d →
-            StandsFor self.new (d ++ entries_of d frame.now)) }
+        ensures stands { InMemory result ((d : List Entry) → AreStreams self.old d →
+            AreStreams self.new (d ++ entries_of d frame.now)) }
 
         // After an error the streams stand as they did, for those who have to end them.
         ensures failed { OnErr result (self.new.failed ≡ true) }
@@ -168,8 +168,8 @@ impl Streams {
     pub fn on_data_put(&mut self, stream: u32, count: u32, end_stream: bool)
         requires { CanSend self.old stream count }
         ensures stands { (d : List Entry) (content : List ℕ) → length content ≡ count →
-            StandsFor self.old d →
-            StandsFor self.new (d ++ Out (Data stream end_stream content) ∷ []) }
+            AreStreams self.old d →
+            AreStreams self.new (d ++ Out (Data stream end_stream content) ∷ []) }
         ensures highest { self.new.highest ≡ self.old.highest }
     {
         self.put_data(stream, count, end_stream);
@@ -179,8 +179,8 @@ impl Streams {
     pub fn on_headers_put(&mut self, stream: u32, end_stream: bool)
         requires { is_live_at self.old stream ≡ true }
         ensures stands { (d : List Entry) (end_headers : Bool) (fragment : List ℕ) →
-            StandsFor self.old d →
-            StandsFor self.new (d ++ Out (Headers stream end_stream end_headers fragment) ∷ []) }
+            AreStreams self.old d →
+            AreStreams self.new (d ++ Out (Headers stream end_stream end_headers fragment) ∷ []) }
         ensures highest { self.new.highest ≡ self.old.highest }
     {
         self.end_by_server(stream, end_stream);
@@ -189,8 +189,8 @@ impl Streams {
     /// RST_STREAM was put, beside those that answer frames. The stream is remembered.
     pub fn on_reset_put(&mut self, stream: u32)
         requires { stream ≤ self.old.highest }
-        ensures stands { (d : List Entry) (code : ℕ) → StandsFor self.old d →
-            StandsFor self.new (d ++ Out (RstStream stream code) ∷ []) }
+        ensures stands { (d : List Entry) (code : ℕ) → AreStreams self.old d →
+            AreStreams self.new (d ++ Out (RstStream stream code) ∷ []) }
         ensures highest { self.new.highest ≡ self.old.highest }
     {
         self.reset(stream);
@@ -200,7 +200,7 @@ impl Streams {
     /// found no room. Of such an event a `Cancel` still has to be acted on, beside the end of each
     /// live stream, since its stream is not live any more; nothing else of it has.
     pub fn fail(&mut self)
-        ensures stands { (d : List Entry) → has_failed d ≡ true → StandsFor self.new d }
+        ensures stands { (d : List Entry) → has_failed d ≡ true → AreStreams self.new d }
         ensures rest { self.new ≡ record self.old { failed = true } }
     {
         self.failed = true;
@@ -224,7 +224,7 @@ impl Streams {
         }
     }
 
-    fn apply<'a>(&mut self, frame: &RawFrame<'a>) -> Result<StreamEvent<'a>, H2Fault>
+    fn apply<'a>(&mut self, frame: &RawFrame<'a>) -> Result<StreamEvent<'a>, ConnectionFault>
         requires { length frame.now.payload ≤ MAX_FRAME_SIZE }
         ensures answer { Gives result (answer_to self.old frame.now) }
         ensures state { IfOk result (λ a. self.new ≡ step_by self.old frame.now a) }
@@ -244,7 +244,7 @@ impl Streams {
                 self.begun = true;
                 Ok(event)
             }
-            Err(code) => Err(H2Fault::Connection(code)),
+            Err(code) => Err(ConnectionFault::Connection(code)),
         }
     }
 
@@ -268,7 +268,11 @@ impl Streams {
         stream > self.highest || (stream % 2 == 0 && stream != 0)
     }
 
-    fn on_content<'a>(&mut self, length: u32, frame: Frame<'a>) -> Result<StreamEvent<'a>, H2Fault>
+    fn on_content<'a>(
+        &mut self,
+        length: u32,
+        frame: Frame<'a>,
+    ) -> Result<StreamEvent<'a>, ConnectionFault>
         requires { length < increment_limit }
         ensures answer { Gives result (on_content self.old length frame.entry) }
         ensures state { IfOk result (λ a. self.new

@@ -6,8 +6,8 @@ use Rattle.std.specs.Cmp.Lexicographic.{slice_cmp}
 use Rattle.std.specs.Str.{bytes_eq}
 
 -- neither `/` nor NUL
-abbrev pub is_name_byte : ℕ → Bool
-is_name_byte b = not (b == 47) && not (b == 0)
+abbrev pub is_node_name_byte : ℕ → Bool
+is_node_name_byte b = not (b == 47) && not (b == 0)
 
 -- `.` or `..`
 abbrev pub is_dots : List ℕ → Bool
@@ -15,7 +15,7 @@ is_dots t = bytes_eq t (46 ∷ []) || bytes_eq t (46 ∷ 46 ∷ [])
 
 -- a name is not empty, `.` or `..`, and has no `/` and no NUL
 abbrev pub is_name : List ℕ → Bool
-is_name t = not (length t == 0) && (not (is_dots t) && list_all is_name_byte t)
+is_name t = not (length t == 0) && (not (is_dots t) && list_all is_node_name_byte t)
 
 -- a target is not empty and does not begin with `/`
 abbrev pub is_target : List ℕ → Bool

@@ -30,7 +30,7 @@ pub trait Node: Sized {
 }
 
 fn is_name_byte(byte: u8) -> bool
-    ensures { result ≡ names.is_name_byte byte }
+    ensures { result ≡ names.is_node_name_byte byte }
 {
     byte != b'/' && byte != 0
 }
@@ -43,7 +43,7 @@ fn is_dots(name: &str) -> bool
 
 /// Whether each byte may stand in a name.
 fn has_name_bytes(name: &str) -> bool
-    ensures { result ≡ list_all names.is_name_byte name.now }
+    ensures { result ≡ list_all names.is_node_name_byte name.now }
 {
     name.as_bytes().iter().all(|byte| is_name_byte(*byte))
 }

@@ -15,12 +15,12 @@ use Rattle.bytestream.specs.Writing as Writing
 use Rattle.bytestream.specs.Writing.{OpenWriteValue, WrittenValue, first_asked, next_asked}
 use Rattle.instance_core.specs.declared.event.CallId.{CallId}
 use Rattle.instance_core.specs.Calls.{Calls, ProgressValue, waits, has, writes, CallValue, CallEventValue, head, message, fault, end, cancel, tick, same_call, call_at, with_call, without_call, IsShortEvent, IsShortProgress}
-use Rattle.instance_core.specs.State.{InstanceState, WithinLimits, most_blobs}
-use Rattle.tree_calls.specs.Complete.{AreWithin}
+use Rattle.instance_core.specs.State.{InstanceState, IsInstanceWithin, most_blobs}
+use Rattle.tree_calls.specs.Complete.{AreResultsWithin}
 use Rattle.tree_calls.specs.Results.{after_get, after_update}
 use Rattle.tree_calls.proofs.Short.{get_stays_within, update_stays_within}
 use Rattle.instance_core.specs.Methods.{is_served, text_changes, result_changes, request_changes}
-use Rattle.instance_core.specs.Changes.{Change, Text, Goes, Ends, Wrote, Keeps, Expires, state_after_change, state_after_changes}
+use Rattle.instance_core.specs.Changes.{InstanceChange, Text, Goes, Ends, Wrote, Keeps, Expires, state_after_change, state_after_changes}
 use Rattle.instance_core.specs.Writes.{write_state, part_of, first_changes, next_changes, first_outcome, next_outcome}
 use Rattle.instance_core.proofs.Entries.{with_short, without_short}
 use Rattle.instance_core.specs.Answer.{answer, state_after, head_answer, first_write_answer, next_write_answer, first_message_answer, answer_by_progress, message_answer, fault_answer, end_answer_by_progress, request_end_answer}
@@ -81,15 +81,15 @@ without_once id (c ∷ cs) once =
 
 -- what is stored is named, what a Write leaves and the results are within the limits, and what is kept
 -- of a request is short
-abbrev KeepsLimits : ℕ → Change → Type 0
+abbrev KeepsLimits : ℕ → InstanceChange → Type 0
 KeepsLimits quota (Text c) = StoresNamedText c
 KeepsLimits quota (Goes id call) = IsShortProgress call.progress
 KeepsLimits quota (Ends id) = Unit {0}
 KeepsLimits quota (Wrote w) = IsWithin quota w
-KeepsLimits quota (Keeps results) = AreWithin results
+KeepsLimits quota (Keeps results) = AreResultsWithin results
 KeepsLimits quota Expires = Unit {0}
 
-change_keeps : (c : Change) (s : InstanceState) → KeepsLimits s.quota c → WithinLimits s → WithinLimits (state_after_change c s)
+change_keeps : (c : InstanceChange) (s : InstanceState) → KeepsLimits s.quota c → IsInstanceWithin s → IsInstanceWithin (state_after_change c s)
 change_keeps (Text c) s good w = record { quota = w.quota; texts = change_within most_blobs s.quota c s.visible (omega arith) good w.texts; uploads = w.uploads; results = w.results; calls = w.calls; messages = w.messages }
 change_keeps (Goes id call) s good w = record { quota = w.quota; texts = w.texts; uploads = w.uploads; results = w.results; calls = with_once id call s.calls w.calls; messages = with_short id call s.calls good w.messages }
 change_keeps (Ends id) s good w = record { quota = w.quota; texts = w.texts; uploads = w.uploads; results = w.results; calls = without_once id s.calls w.calls; messages = without_short id s.calls w.messages }
@@ -97,7 +97,7 @@ change_keeps (Wrote left) s good w = record { quota = w.quota; texts = good.text
 change_keeps (Keeps results) s good w = record { quota = w.quota; texts = w.texts; uploads = w.uploads; results = good; calls = w.calls; messages = w.messages }
 change_keeps Expires s good w = record { quota = w.quota; texts = w.texts; uploads = within_unexpired s.quota s.moment s.uploads w.uploads; results = w.results; calls = w.calls; messages = w.messages }
 
-same_quota : (c : Change) (s : InstanceState) → s.quota ≡ (state_after_change c s).quota
+same_quota : (c : InstanceChange) (s : InstanceState) → s.quota ≡ (state_after_change c s).quota
 same_quota (Text c) s = refl
 same_quota (Goes id call) s = refl
 same_quota (Ends id) s = refl
@@ -105,7 +105,7 @@ same_quota (Wrote left) s = refl
 same_quota (Keeps results) s = refl
 same_quota Expires s = refl
 
-changes_keep : (cs : List Change) (s : InstanceState) → AllByRecursion (KeepsLimits s.quota) cs → WithinLimits s → WithinLimits (state_after_changes cs s)
+changes_keep : (cs : List InstanceChange) (s : InstanceState) → AllByRecursion (KeepsLimits s.quota) cs → IsInstanceWithin s → IsInstanceWithin (state_after_changes cs s)
 changes_keep [] s good w = w
 changes_keep (c ∷ cs) s good w =
     changes_keep cs (state_after_change c s) (subst (λ (quota : ℕ). AllByRecursion (KeepsLimits quota) cs) (same_quota c s) good.1) (change_keeps c s good.0 w)
@@ -113,8 +113,8 @@ changes_keep (c ∷ cs) s good w =
 -- ---- answers, whatever is to hold of their changes
 
 -- what is to hold of changes of an instance in this state
-record Allows (s : InstanceState) (P : Change → Type 0) : Type 0 where
-  texts : (c : Texts.Change) → StoresNamedText c → P (Text c)
+record Allows (s : InstanceState) (P : InstanceChange → Type 0) : Type 0 where
+  texts : (c : Texts.TextChange) → StoresNamedText c → P (Text c)
   begun : (id : CallId) (method : Method) → P (Goes id (record { method = method; progress = waits }))
   written : (id : CallId) (method : Method) (write : OpenWriteValue) → write.key.digest.size < 2 ^ 63 → P (Goes id (record { method = method; progress = writes write }))
   ended : (id : CallId) → P (Ends id)
@@ -125,10 +125,10 @@ record Allows (s : InstanceState) (P : Change → Type 0) : Type 0 where
   next : (write : OpenWriteValue) (bytes : List ℕ) → AllByRecursion P (next_changes s write bytes)
 
 -- and of a message that is kept
-abbrev KeepsMessage : (Change → Type 0) → CallId → List ℕ → Type 0
+abbrev KeepsMessage : (InstanceChange → Type 0) → CallId → List ℕ → Type 0
 KeepsMessage P id bytes = (method : Method) → P (Goes id (record { method = method; progress = has bytes }))
 
-abbrev KeepsMessageOf : (Change → Type 0) → CallEventValue → Type 0
+abbrev KeepsMessageOf : (InstanceChange → Type 0) → CallEventValue → Type 0
 KeepsMessageOf P (message id bytes) = KeepsMessage P id bytes
 KeepsMessageOf P (head id method) = Unit {0}
 KeepsMessageOf P (fault id refusal) = Unit {0}
@@ -136,14 +136,14 @@ KeepsMessageOf P (end id) = Unit {0}
 KeepsMessageOf P (cancel id) = Unit {0}
 KeepsMessageOf P tick = Unit {0}
 
-abbrev AllAre : (Change → Type 0) → List Change → Type 0
+abbrev AllAre : (InstanceChange → Type 0) → List InstanceChange → Type 0
 AllAre P cs = AllByRecursion P cs
 
-texts_hold : (s : InstanceState) (P : Change → Type 0) → Allows s P → (cs : List Texts.Change) → AllByRecursion StoresNamedText cs → AllAre P (map Text cs)
+texts_hold : (s : InstanceState) (P : InstanceChange → Type 0) → Allows s P → (cs : List Texts.TextChange) → AllByRecursion StoresNamedText cs → AllAre P (map Text cs)
 texts_hold s P a [] named = tt
 texts_hold s P a (c ∷ cs) named = (a.texts c named.0, texts_hold s P a cs named.1)
 
-head_holds : (s : InstanceState) (P : Change → Type 0) → Allows s P → (id : CallId) (method : Method) (o : Option CallValue) → AllAre P (head_answer id method o).changes
+head_holds : (s : InstanceState) (P : InstanceChange → Type 0) → Allows s P → (id : CallId) (method : Method) (o : Option CallValue) → AllAre P (head_answer id method o).changes
 head_holds s P a id method (Some call) = tt
 head_holds s P a id method None = go (is_served method) refl where
   go : (b : Bool) → is_served method ≡ b → AllAre P (head_answer id method None).changes
@@ -151,60 +151,60 @@ head_holds s P a id method None = go (is_served method) refl where
   go false is = rw is tt
 
 -- a Write
-ends_hold : (s : InstanceState) (P : Change → Type 0) → Allows s P → (id : CallId) (cs : List Change) → AllAre P cs → AllAre P (cs ++ Ends id ∷ [])
+ends_hold : (s : InstanceState) (P : InstanceChange → Type 0) → Allows s P → (id : CallId) (cs : List InstanceChange) → AllAre P cs → AllAre P (cs ++ Ends id ∷ [])
 ends_hold s P a id cs all = all_append P cs (Ends id ∷ []) all (a.ended id, tt)
 
-first_holds : (s : InstanceState) (P : Change → Type 0) → Allows s P → (id : CallId) (method : Method) (bytes : List ℕ) (r : Result WrittenValue Refusal) → first_outcome s bytes ≡ r → AllAre P (first_write_answer id method (first_changes s bytes) r).changes
+first_holds : (s : InstanceState) (P : InstanceChange → Type 0) → Allows s P → (id : CallId) (method : Method) (bytes : List ℕ) (r : Result WrittenValue Refusal) → first_outcome s bytes ≡ r → AllAre P (first_write_answer id method (first_changes s bytes) r).changes
 first_holds s P a id method bytes (Ok (Writing.Goes write)) is =
     all_append P (first_changes s bytes) (Goes id (record { method = method; progress = writes write }) ∷ []) (a.first bytes)
     (a.written id method write (goes_below s bytes write is), tt)
 first_holds s P a id method bytes (Ok (Writing.Answered reply)) is = ends_hold s P a id (first_changes s bytes) (a.first bytes)
 first_holds s P a id method bytes (Err refusal) is = ends_hold s P a id (first_changes s bytes) (a.first bytes)
 
-next_holds : (s : InstanceState) (P : Change → Type 0) → Allows s P → (id : CallId) (write : OpenWriteValue) (bytes : List ℕ) (r : Result (Option (List ℕ)) Refusal) → AllAre P (next_write_answer id (next_changes s write bytes) r).changes
+next_holds : (s : InstanceState) (P : InstanceChange → Type 0) → Allows s P → (id : CallId) (write : OpenWriteValue) (bytes : List ℕ) (r : Result (Option (List ℕ)) Refusal) → AllAre P (next_write_answer id (next_changes s write bytes) r).changes
 next_holds s P a id write bytes (Ok None) = a.next write bytes
 next_holds s P a id write bytes (Ok (Some reply)) = ends_hold s P a id (next_changes s write bytes) (a.next write bytes)
 next_holds s P a id write bytes (Err refusal) = ends_hold s P a id (next_changes s write bytes) (a.next write bytes)
 
 -- a message
-with_first_holds : (s : InstanceState) (P : Change → Type 0) → Allows s P → (id : CallId) (method : Method) (bytes : List ℕ) → KeepsMessage P id bytes → AllAre P (first_message_answer s id method bytes).changes
+with_first_holds : (s : InstanceState) (P : InstanceChange → Type 0) → Allows s P → (id : CallId) (method : Method) (bytes : List ℕ) → KeepsMessage P id bytes → AllAre P (first_message_answer s id method bytes).changes
 with_first_holds s P a id Called.Write bytes keeps = first_holds s P a id Called.Write bytes (first_outcome s bytes) refl
 with_first_holds s P a id method bytes keeps = (keeps method, tt)
 
-with_holds : (s : InstanceState) (P : Change → Type 0) → Allows s P → (id : CallId) (method : Method) (bytes : List ℕ) (p : ProgressValue) → KeepsMessage P id bytes → AllAre P (answer_by_progress s id method bytes p).changes
+with_holds : (s : InstanceState) (P : InstanceChange → Type 0) → Allows s P → (id : CallId) (method : Method) (bytes : List ℕ) (p : ProgressValue) → KeepsMessage P id bytes → AllAre P (answer_by_progress s id method bytes p).changes
 with_holds s P a id method bytes waits keeps = with_first_holds s P a id method bytes keeps
 with_holds s P a id method bytes (has first) keeps = (a.ended id, tt)
 with_holds s P a id method bytes (writes write) keeps = next_holds s P a id write bytes (next_outcome s write bytes)
 
-message_holds : (s : InstanceState) (P : Change → Type 0) → Allows s P → (id : CallId) (bytes : List ℕ) (o : Option CallValue) → KeepsMessage P id bytes → AllAre P (message_answer s id bytes o).changes
+message_holds : (s : InstanceState) (P : InstanceChange → Type 0) → Allows s P → (id : CallId) (bytes : List ℕ) (o : Option CallValue) → KeepsMessage P id bytes → AllAre P (message_answer s id bytes o).changes
 message_holds s P a id bytes None keeps = tt
 message_holds s P a id bytes (Some call) keeps = with_holds s P a id call.method bytes call.progress keeps
 
 -- the end of a request
-results_hold : (s : InstanceState) (P : Change → Type 0) → Allows s P → (method : Method) (request : List ℕ) → AllAre P (result_changes method s request)
+results_hold : (s : InstanceState) (P : InstanceChange → Type 0) → Allows s P → (method : Method) (request : List ℕ) → AllAre P (result_changes method s request)
 results_hold s P a Called.GetActionResult request = (a.moved request, tt)
 results_hold s P a Called.UpdateActionResult request = (a.sent request, tt)
 results_hold s P a method request = tt
 
-changes_hold : (s : InstanceState) (P : Change → Type 0) → Allows s P → (method : Method) (request : List ℕ) → AllAre P (request_changes method s request)
+changes_hold : (s : InstanceState) (P : InstanceChange → Type 0) → Allows s P → (method : Method) (request : List ℕ) → AllAre P (request_changes method s request)
 changes_hold s P a method request =
     all_append P (map Text (text_changes method s request)) (result_changes method s request)
     (texts_hold s P a (text_changes method s request) (changes_named method s request)) (results_hold s P a method request)
 
-request_holds : (s : InstanceState) (P : Change → Type 0) → Allows s P → (id : CallId) (method : Method) (p : ProgressValue) → AllAre P (end_answer_by_progress s id method p).changes
+request_holds : (s : InstanceState) (P : InstanceChange → Type 0) → Allows s P → (id : CallId) (method : Method) (p : ProgressValue) → AllAre P (end_answer_by_progress s id method p).changes
 request_holds s P a id method waits = (a.ended id, tt)
 request_holds s P a id method (has request) = ends_hold s P a id (request_changes method s request) (changes_hold s P a method request)
 request_holds s P a id method (writes write) = (a.ended id, tt)
 
-end_holds : (s : InstanceState) (P : Change → Type 0) → Allows s P → (id : CallId) (o : Option CallValue) → AllAre P (request_end_answer s id o).changes
+end_holds : (s : InstanceState) (P : InstanceChange → Type 0) → Allows s P → (id : CallId) (o : Option CallValue) → AllAre P (request_end_answer s id o).changes
 end_holds s P a id None = tt
 end_holds s P a id (Some call) = request_holds s P a id call.method call.progress
 
-fault_holds : (s : InstanceState) (P : Change → Type 0) → Allows s P → (id : CallId) (refusal : Refusal) (o : Option CallValue) → AllAre P (fault_answer id refusal o).changes
+fault_holds : (s : InstanceState) (P : InstanceChange → Type 0) → Allows s P → (id : CallId) (refusal : Refusal) (o : Option CallValue) → AllAre P (fault_answer id refusal o).changes
 fault_holds s P a id refusal None = tt
 fault_holds s P a id refusal (Some call) = (a.ended id, tt)
 
-answer_holds : (s : InstanceState) (P : Change → Type 0) → Allows s P → (event : CallEventValue) → KeepsMessageOf P event → AllAre P (answer s event).changes
+answer_holds : (s : InstanceState) (P : InstanceChange → Type 0) → Allows s P → (event : CallEventValue) → KeepsMessageOf P event → AllAre P (answer s event).changes
 answer_holds s P a (head id method) keeps = head_holds s P a id method (call_at id s.calls)
 answer_holds s P a (message id bytes) keeps = message_holds s P a id bytes (call_at id s.calls) keeps
 answer_holds s P a (fault id refusal) keeps = fault_holds s P a id refusal (call_at id s.calls)
@@ -214,7 +214,7 @@ answer_holds s P a tick keeps = (a.expired, tt)
 
 -- ---- the limits
 
-limits_allow : (s : InstanceState) → WithinLimits s → Allows s (KeepsLimits s.quota)
+limits_allow : (s : InstanceState) → IsInstanceWithin s → Allows s (KeepsLimits s.quota)
 limits_allow s w =
     let here : IsWithin s.quota (write_state s) = record { texts = w.texts; uploads = w.uploads } in
     record {
@@ -237,7 +237,7 @@ message_short quota (end id) short = tt
 message_short quota (cancel id) short = tt
 message_short quota tick short = tt
 
-pub after_keeps : (s : InstanceState) (event : CallEventValue) → IsShortEvent event → WithinLimits s → WithinLimits (state_after s event)
+pub after_keeps : (s : InstanceState) (event : CallEventValue) → IsShortEvent event → IsInstanceWithin s → IsInstanceWithin (state_after s event)
 after_keeps s event short w = changes_keep (answer s event).changes s (answer_holds s (KeepsLimits s.quota) (limits_allow s w) event (message_short s.quota event short)) w
 
 -- ---- what is stored

@@ -13,18 +13,18 @@ use Rattle.reapi_messages.proofs.Tools.{bind_ok, ok_is}
 use Rattle.blob_pool.specs.Slots.{Slots}
 use Rattle.instance_view.specs.Visible.{Blob, visible_text}
 use Rattle.bytestream.specs.declared.reading.ReadAsked.{ReadAsked}
-use Rattle.bytestream.specs.Reading.{SourceValue, read_asked, place_of, until_of, range_asked, read_answer}
+use Rattle.bytestream.specs.Reading.{SourceValue, read_asked, offset_check, until_of, range_asked, read_answer}
 use Rattle.bytestream.specs.Writing as Writing
 use Rattle.bytestream.specs.Writing.{WrittenValue, unfinished_reply}
 use Rattle.instance_core.specs.declared.event.CallId.{CallId}
 use Rattle.instance_core.specs.Calls.{Calls, CallValue, ProgressValue, waits, has, writes, CallEventValue, head, message, fault, end, cancel, tick, same_call, call_at, IsShortRequest, IsShortProgress, KeepShort}
-use Rattle.instance_core.specs.State.{InstanceState, WithinLimits}
-use Rattle.instance_core.specs.Slots.{InstanceSlots, state_in, IsKept}
+use Rattle.instance_core.specs.State.{InstanceState, IsInstanceWithin}
+use Rattle.instance_core.specs.Slots.{InstanceSlots, state_in, IsInstanceInPool}
 use Rattle.instance_core.specs.Methods.{is_served, reply_to, items_to}
 use Rattle.tree_calls.specs.GetTree.{get_tree_replies}
 use Rattle.tree_calls.proofs.Short.{get_tree_short, get_action_result_short, update_action_result_short}
-use Rattle.instance_core.specs.Replies.{ReplyValue, IsShortItem, IsShortReply, items_of, message_items, whole_reply_items, gives, ends, read_items}
-use Rattle.instance_core.specs.Changes.{Change}
+use Rattle.instance_core.specs.Replies.{ReplyValue, IsShortReplyItem, IsShortReply, reply_items, message_items, whole_reply_items, gives, ends, read_items}
+use Rattle.instance_core.specs.Changes.{InstanceChange}
 use Rattle.instance_core.specs.Writes.{first_changes, next_changes, first_outcome, next_outcome}
 use Rattle.instance_core.specs.Answer.{reply_with, continuation_answer, head_answer, first_write_answer, next_write_answer, first_message_answer, answer_by_progress, message_answer, fault_answer, end_answer_by_progress, request_end_answer, answer}
 use Rattle.instance_core.specs.declared.event.Reply.{Reply}
@@ -34,11 +34,11 @@ use Rattle.instance_core.proofs.Told.{first_short, next_short, query_short, unfi
 
 -- ---- replies
 
-if_ok : (r : Result (List ℕ) Refusal) → ((reply : List ℕ) → r ≡ Ok reply → length reply < 2 ^ 32) → AllByRecursion IsShortItem (items_of r)
+if_ok : (r : Result (List ℕ) Refusal) → ((reply : List ℕ) → r ≡ Ok reply → length reply < 2 ^ 32) → AllByRecursion IsShortReplyItem (reply_items r)
 if_ok (Ok reply) f = (tt, (f reply refl, (tt, tt)))
 if_ok (Err e) f = (tt, tt)
 
-reply_short : (method : Method) (s : InstanceState) (request : List ℕ) → WithinLimits s → IsShortRequest request → AllByRecursion IsShortItem (items_of (reply_to method s request))
+reply_short : (method : Method) (s : InstanceState) (request : List ℕ) → IsInstanceWithin s → IsShortRequest request → AllByRecursion IsShortReplyItem (reply_items (reply_to method s request))
 reply_short FindMissingBlobs s request w short = if_ok (reply_to FindMissingBlobs s request) (λ reply h. find_missing_short s.name s.visible request reply short h)
 reply_short BatchUpdateBlobs s request w short = if_ok (reply_to BatchUpdateBlobs s request) (λ reply h. batch_update_short s.name s.quota request reply short h)
 reply_short BatchReadBlobs s request w short = if_ok (reply_to BatchReadBlobs s request) (λ reply h. batch_read_short s.name s.visible request reply w.texts.named short h)
@@ -63,7 +63,7 @@ until_within limit from size = go (eqb limit 0) where
 range_within : (asked : ReadAsked) (o : Option (List ℕ)) (source : SourceValue) → range_asked asked o ≡ Ok source → source.until ≤ length source.text
 range_within asked None source h = absurd (cc)
 range_within asked (Some text) source h =
-    let from = bind_ok (place_of asked.offset (length text)) _ source h in
+    let from = bind_ok (offset_check asked.offset (length text)) _ source h in
     let e = ok_is (record { digest = asked.digest; text = text; from = from.0; until = until_of asked.limit from.0 (length text) }) source from.2 in
     rw (← e) (until_within asked.limit from.0 (length text))
 
@@ -73,24 +73,24 @@ read_within own visible request source h =
     let asked = bind_ok (read_asked own request) _ source h in
     range_within asked.0 (visible_text asked.0.digest visible) source asked.2
 
-read_short : (r : Result SourceValue Refusal) → ((source : SourceValue) → r ≡ Ok source → source.until ≤ length source.text) → AllByRecursion IsShortItem (read_items r)
+read_short : (r : Result SourceValue Refusal) → ((source : SourceValue) → r ≡ Ok source → source.until ≤ length source.text) → AllByRecursion IsShortReplyItem (read_items r)
 read_short (Err refusal) f = (tt, tt)
 read_short (Ok source) f = (tt, go (nat_lt source.from source.until) refl) where
-  go : (b : Bool) → nat_lt source.from source.until ≡ b → AllByRecursion IsShortItem (cond b (gives source ∷ []) [] ++ ends ∷ [])
+  go : (b : Bool) → nat_lt source.from source.until ≡ b → AllByRecursion IsShortReplyItem (cond b (gives source ∷ []) [] ++ ends ∷ [])
   go true is = (record { some = ltb-true source.from source.until is; within = f source refl }, (tt, tt))
   go false is = (tt, tt)
 
 -- ---- pages
 
-said_short : (messages : List (List ℕ)) → AllByRecursion (λ message. length message < 2 ^ 32) messages → AllByRecursion IsShortItem (message_items messages ++ ends ∷ [])
+said_short : (messages : List (List ℕ)) → AllByRecursion (λ message. length message < 2 ^ 32) messages → AllByRecursion IsShortReplyItem (message_items messages ++ ends ∷ [])
 said_short [] h = (tt, tt)
 said_short (m ∷ ms) h = (h.0, said_short ms h.1)
 
-messages_short : (r : Result (List (List ℕ)) Refusal) → ((messages : List (List ℕ)) → r ≡ Ok messages → AllByRecursion (λ message. length message < 2 ^ 32) messages) → AllByRecursion IsShortItem (whole_reply_items r)
+messages_short : (r : Result (List (List ℕ)) Refusal) → ((messages : List (List ℕ)) → r ≡ Ok messages → AllByRecursion (λ message. length message < 2 ^ 32) messages) → AllByRecursion IsShortReplyItem (whole_reply_items r)
 messages_short (Ok messages) f = (tt, said_short messages (f messages refl))
 messages_short (Err refusal) f = (tt, tt)
 
-items_short : (method : Method) (s : InstanceState) (request : List ℕ) → WithinLimits s → IsShortRequest request → AllByRecursion IsShortItem (items_to method s request)
+items_short : (method : Method) (s : InstanceState) (request : List ℕ) → IsInstanceWithin s → IsShortRequest request → AllByRecursion IsShortReplyItem (items_to method s request)
 items_short Read s request w short = read_short (read_answer s.name s.visible request) (read_within s.name s.visible request)
 items_short FindMissingBlobs s request w short = reply_short FindMissingBlobs s request w short
 items_short BatchUpdateBlobs s request w short = reply_short BatchUpdateBlobs s request w short
@@ -113,13 +113,13 @@ head_short id method None = go (is_served method) where
   go true = tt
   go false = ((tt, tt), tt)
 
-first_written_short : (id : CallId) (method : Method) (changes : List Change) (r : Result WrittenValue Refusal) → ((reply : List ℕ) → r ≡ Ok (Writing.Answered reply) → length reply < 2 ^ 32)
+first_written_short : (id : CallId) (method : Method) (changes : List InstanceChange) (r : Result WrittenValue Refusal) → ((reply : List ℕ) → r ≡ Ok (Writing.Answered reply) → length reply < 2 ^ 32)
     → AllByRecursion IsShortReply (first_write_answer id method changes r).replies
 first_written_short id method changes (Ok (Writing.Goes call)) f = tt
 first_written_short id method changes (Ok (Writing.Answered reply)) f = ((tt, (f reply refl, (tt, tt))), tt)
 first_written_short id method changes (Err refusal) f = ((tt, tt), tt)
 
-next_written_short : (id : CallId) (changes : List Change) (r : Result (Option (List ℕ)) Refusal) → ((reply : List ℕ) → r ≡ Ok (Some reply) → length reply < 2 ^ 32)
+next_written_short : (id : CallId) (changes : List InstanceChange) (r : Result (Option (List ℕ)) Refusal) → ((reply : List ℕ) → r ≡ Ok (Some reply) → length reply < 2 ^ 32)
     → AllByRecursion IsShortReply (next_write_answer id changes r).replies
 next_written_short id changes (Ok None) f = tt
 next_written_short id changes (Ok (Some reply)) f = ((tt, (f reply refl, (tt, tt))), tt)
@@ -142,7 +142,7 @@ fault_short : (id : CallId) (refusal : Refusal) (o : Option CallValue) → AllBy
 fault_short id refusal None = tt
 fault_short id refusal (Some call) = ((tt, tt), tt)
 
-end_short : (s : InstanceState) (id : CallId) (o : Option CallValue) → WithinLimits s → IfSome o (λ call. IsShortProgress call.progress) → AllByRecursion IsShortReply (request_end_answer s id o).replies
+end_short : (s : InstanceState) (id : CallId) (o : Option CallValue) → IsInstanceWithin s → IfSome o (λ call. IsShortProgress call.progress) → AllByRecursion IsShortReply (request_end_answer s id o).replies
 end_short s id None w h = tt
 end_short s id (Some call) w h = go call.progress h where
   go : (progress : ProgressValue) → IsShortProgress progress → AllByRecursion IsShortReply (end_answer_by_progress s id call.method progress).replies
@@ -158,7 +158,7 @@ found_short id (c ∷ cs) h = go (same_call id c.0) (found_short id cs h.1) wher
   go true ih = h.0
   go false ih = ih
 
-pub replies_short : (s : InstanceState) (event : CallEventValue) → WithinLimits s → AllByRecursion IsShortReply (answer s event).replies
+pub replies_short : (s : InstanceState) (event : CallEventValue) → IsInstanceWithin s → AllByRecursion IsShortReply (answer s event).replies
 replies_short s (head id method) w = head_short id method (call_at id s.calls)
 replies_short s (message id bytes) w = message_short s id bytes (call_at id s.calls) (found_short id s.calls w.messages)
 replies_short s (fault id refusal) w = fault_short id refusal (call_at id s.calls)
@@ -172,8 +172,8 @@ shown_short p (Ok replies) rs is all = rw is all
 shown_short p (Err e) rs is all = tt
 
 -- what an instance answers to an event within its limits
-pub event_short : (p q : Slots) (i j : InstanceSlots) (event : CallEventValue) (r : Result (Vec Reply Global) AllocError) → i ≡ j → IsKept p j →
+pub event_short : (p q : Slots) (i j : InstanceSlots) (event : CallEventValue) (r : Result (Vec Reply Global) AllocError) → i ≡ j → IsInstanceInPool p j →
     IfOk r (λ replies. map (reply_shown q) replies.items ≡ (answer (state_in p i) event).replies) → IfOk r (λ replies. AllByRecursion IsShortReply (map (reply_shown q) replies.items))
 event_short p q i j event r same kept replies =
-    let within = subst (λ (k : InstanceSlots). WithinLimits (state_in p k)) (sym same) kept.within in
+    let within = subst (λ (k : InstanceSlots). IsInstanceWithin (state_in p k)) (sym same) kept.within in
     shown_short q r (answer (state_in p i) event).replies replies (replies_short (state_in p i) event within)

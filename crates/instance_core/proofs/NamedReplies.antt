@@ -18,7 +18,7 @@ use Rattle.cas_service.specs.Requests.{digest_value}
 use Rattle.cas_service.specs.Statuses.{ok_status, refused_status}
 use Rattle.cas_service.specs.BatchRead.{digests_to_read, read_response, read_reply}
 use Rattle.bytestream.specs.declared.reading.ReadAsked.{ReadAsked}
-use Rattle.bytestream.specs.Reading.{SourceValue, read_asked, place_of, until_of, range_asked, read_answer}
+use Rattle.bytestream.specs.Reading.{SourceValue, read_asked, offset_check, until_of, range_asked, read_answer}
 use Rattle.bytestream.specs.Writing as Writing
 use Rattle.bytestream.specs.Writing.{WrittenValue}
 use Rattle.instance_core.specs.declared.event.CallId.{CallId}
@@ -28,13 +28,13 @@ use Rattle.tree_calls.specs.Results.{get_action_result_reply}
 use Rattle.tree_calls.specs.Pages.{IsNamedPage}
 use Rattle.tree_calls.proofs.Named.{pages_named, result_complete}
 use Rattle.tree_calls.specs.Listing.{tree_list}
-use Rattle.instance_core.specs.Replies.{ReplyItemValue, begins, gives, ends, ReplyValue, items_of, message_items, whole_reply_items, range_items, read_items}
-use Rattle.instance_core.specs.Changes.{Change}
+use Rattle.instance_core.specs.Replies.{ReplyItemValue, begins, gives, ends, ReplyValue, reply_items, message_items, whole_reply_items, range_items, read_items}
+use Rattle.instance_core.specs.Changes.{InstanceChange}
 use Rattle.instance_core.specs.Methods.{is_served, reply_to, items_to}
 use Rattle.instance_core.specs.Writes.{first_changes, next_changes, first_outcome, next_outcome}
 use Rattle.instance_core.specs.Answer.{head_answer, first_write_answer, next_write_answer, first_message_answer, answer_by_progress, message_answer, fault_answer, end_answer_by_progress, request_end_answer}
 use Rattle.instance_core.specs.Calls.{ProgressValue, waits, has, writes, CallValue, CallEventValue, head, message, fault, end, cancel, tick, call_at}
-use Rattle.instance_core.specs.State.{InstanceState, WithinLimits, most_blobs}
+use Rattle.instance_core.specs.State.{InstanceState, IsInstanceWithin, most_blobs}
 use Rattle.instance_core.specs.NamedReplies.{Request, whole_request, request_at, bytes_from, IsNamedRange, AreNamed, IsNamedBatch, IsNamedTreePage, IsNamedItem, ServesNamed}
 
 abbrev pub AreNamedItems : InstanceState → Option Request → List ReplyItemValue → Type 0
@@ -45,7 +45,7 @@ AreNamedReplies s request replies = AllByRecursion (λ (r : ReplyValue). AreName
 
 -- ---- one batch
 
-response_named : (s : InstanceState) (d : Digest) (o : Option (List ℕ)) → WithinLimits s → visible_text d s.visible ≡ o → (read_response d o).status ≡ Some ok_status → Names d (read_response d o).content
+response_named : (s : InstanceState) (d : Digest) (o : Option (List ℕ)) → IsInstanceWithin s → visible_text d s.visible ≡ o → (read_response d o).status ≡ Some ok_status → Names d (read_response d o).content
 response_named s d (Some text) w is ok = seen_named most_blobs s.quota s.visible d text w.texts is
 response_named s d None w is ok =
     let same : refused_status BlobNotFound ≡ ok_status = cc in
@@ -56,14 +56,14 @@ digest_beside : (d : Digest) (o : Option (List ℕ)) → (read_response d o).dig
 digest_beside d (Some text) = refl
 digest_beside d None = refl
 
-responses_named : (s : InstanceState) (ds : List Digest) → WithinLimits s → AreNamed ds (map (λ d. read_response d (visible_text d s.visible)) ds)
+responses_named : (s : InstanceState) (ds : List Digest) → IsInstanceWithin s → AreNamed ds (map (λ d. read_response d (visible_text d s.visible)) ds)
 responses_named s [] w = tt
 responses_named s (d ∷ ds) w = (digest_beside d (visible_text d s.visible), response_named s d (visible_text d s.visible) w refl, responses_named s ds w)
 
-batch_named : (s : InstanceState) (request : List ℕ) → WithinLimits s → AreNamedItems s (Some (record { method = BatchReadBlobs; message = request })) (items_of (reply_to BatchReadBlobs s request))
+batch_named : (s : InstanceState) (request : List ℕ) → IsInstanceWithin s → AreNamedItems s (Some (record { method = BatchReadBlobs; message = request })) (reply_items (reply_to BatchReadBlobs s request))
 batch_named s request w = go (digests_to_read s.name request) refl where
   go : (r : Result (List Digest) Refusal) → digests_to_read s.name request ≡ r
-      → AreNamedItems s (Some (record { method = BatchReadBlobs; message = request })) (items_of (r >>= λ digests. Ok (read_reply s.visible digests)))
+      → AreNamedItems s (Some (record { method = BatchReadBlobs; message = request })) (reply_items (r >>= λ digests. Ok (read_reply s.visible digests)))
   go (Ok ds) is =
       let batch : IsNamedBatch s request (read_reply s.visible ds) = record { asked = ds; asks = is; responses = map (λ d. read_response d (visible_text d s.visible)) ds; text = refl; named = responses_named s ds w } in
       (tt, (record { batch = λ same. batch; tree = λ same. cc; result = λ same. cc }, (tt, tt)))
@@ -91,7 +91,7 @@ bytes_asked limit from text within = go (limit == 0) where
   go true = take_all (length text - from) (drop from text) (omega (arith, size))
   go false = limited (nat_le (from + limit) (length text)) refl
 
-place_is : (offset : ℤ) (size from : ℕ) → place_of offset size ≡ Ok from → (offset ≡ pos from) × (from ≤ size)
+place_is : (offset : ℤ) (size from : ℕ) → offset_check offset size ≡ Ok from → (offset ≡ pos from) × (from ≤ size)
 place_is (pos n) size from is = go (nat_le n size) refl is where
   go : (b : Bool) → nat_le n size ≡ b → cond b (Ok n) (Err OffsetOutOfRange) ≡ Ok from → (pos n ≡ pos from) × (from ≤ size)
   go true le is =
@@ -110,9 +110,9 @@ range_named s request given named = (tt, go (nat_lt given.from given.until)) whe
   go true = ((refl, named), (tt, tt))
   go false = (tt, tt)
 
-read_named : (s : InstanceState) (request : List ℕ) → WithinLimits s → AreNamedItems s (reading request) (read_items (read_answer s.name s.visible request))
+read_named : (s : InstanceState) (request : List ℕ) → IsInstanceWithin s → AreNamedItems s (reading request) (read_items (read_answer s.name s.visible request))
 read_named s request w = asks (read_asked s.name request) refl where
-  placed : (asked : ReadAsked) (text : List ℕ) (r : Result ℕ Refusal) → read_asked s.name request ≡ Ok asked → visible_text asked.digest s.visible ≡ Some text → place_of asked.offset (length text) ≡ r
+  placed : (asked : ReadAsked) (text : List ℕ) (r : Result ℕ Refusal) → read_asked s.name request ≡ Ok asked → visible_text asked.digest s.visible ≡ Some text → offset_check asked.offset (length text) ≡ r
       → AreNamedItems s (reading request) (read_items (r >>= λ from. Ok (record { digest = asked.digest; text = text; from = from; until = until_of asked.limit from (length text) })))
   placed asked text (Ok from) asks own at =
       let place = place_is asked.offset (length text) from at in
@@ -129,7 +129,7 @@ read_named s request w = asks (read_asked s.name request) refl where
 
   found : (asked : ReadAsked) (o : Option (List ℕ)) → read_asked s.name request ≡ Ok asked → visible_text asked.digest s.visible ≡ o → AreNamedItems s (reading request) (read_items (range_asked asked o))
   found asked None asks own = (tt, tt)
-  found asked (Some text) asks own = placed asked text (place_of asked.offset (length text)) asks own refl
+  found asked (Some text) asks own = placed asked text (offset_check asked.offset (length text)) asks own refl
 
   asks : (r : Result ReadAsked Refusal) → read_asked s.name request ≡ r → AreNamedItems s (reading request) (read_items (r >>= λ asked. range_asked asked (visible_text asked.digest s.visible)))
   asks (Ok asked) is = found asked (visible_text asked.digest s.visible) is refl
@@ -138,14 +138,14 @@ read_named s request w = asks (read_asked s.name request) refl where
 -- ---- a whole request
 
 other_named : (s : InstanceState) (method : Method) (request : List ℕ) (r : Result (List ℕ) Refusal) → (method ≡ BatchReadBlobs → ⊥) → (method ≡ GetTree → ⊥) → (method ≡ GetActionResult → ⊥)
-    → AreNamedItems s (Some (record { method = method; message = request })) (items_of r)
+    → AreNamedItems s (Some (record { method = method; message = request })) (reply_items r)
 other_named s method request (Ok reply) unbatched untreed unkept =
     (tt, (record { batch = λ same. absurd (unbatched same); tree = λ same. absurd (untreed same); result = λ same. absurd (unkept same) }, (tt, tt)))
 other_named s method request (Err refusal) unbatched untreed unkept = (tt, tt)
 
-result_named : (s : InstanceState) (request : List ℕ) → AreNamedItems s (Some (record { method = GetActionResult; message = request })) (items_of (reply_to GetActionResult s request))
+result_named : (s : InstanceState) (request : List ℕ) → AreNamedItems s (Some (record { method = GetActionResult; message = request })) (reply_items (reply_to GetActionResult s request))
 result_named s request = go (get_action_result_reply s.name s.visible s.results request) refl where
-  go : (r : Result (List ℕ) Refusal) → get_action_result_reply s.name s.visible s.results request ≡ r → AreNamedItems s (Some (record { method = GetActionResult; message = request })) (items_of r)
+  go : (r : Result (List ℕ) Refusal) → get_action_result_reply s.name s.visible s.results request ≡ r → AreNamedItems s (Some (record { method = GetActionResult; message = request })) (reply_items r)
   go (Ok reply) is = (tt, (record { batch = λ same. cc; tree = λ same. cc; result = λ same. result_complete s.name s.visible s.results request reply is }, (tt, tt)))
   go (Err refusal) is = (tt, tt)
 
@@ -159,7 +159,7 @@ pages_said s request asked listed asks lists (page ∷ pages) named =
     let one : IsNamedTreePage s request page = record { asked = asked; asks = asks; listed = listed; lists = lists; page = named.0 } in
     (record { batch = λ same. cc; tree = λ same. one; result = λ same. cc }, pages_said s request asked listed asks lists pages named.1)
 
-tree_named : (s : InstanceState) (request : List ℕ) → WithinLimits s → AreNamedItems s (walking request) (whole_reply_items (get_tree_replies s.name s.visible request))
+tree_named : (s : InstanceState) (request : List ℕ) → IsInstanceWithin s → AreNamedItems s (walking request) (whole_reply_items (get_tree_replies s.name s.visible request))
 tree_named s request w = go (get_tree_replies s.name s.visible request) refl where
   go : (r : Result (List (List ℕ)) Refusal) → get_tree_replies s.name s.visible request ≡ r → AreNamedItems s (walking request) (whole_reply_items r)
   go (Ok pages) is =
@@ -167,7 +167,7 @@ tree_named s request w = go (get_tree_replies s.name s.visible request) refl whe
       (tt, pages_said s request named.asked named.listed named.is_asked named.is_listed pages named.pages)
   go (Err refusal) is = (tt, tt)
 
-method_named : (s : InstanceState) (method : Method) (request : List ℕ) → WithinLimits s → AreNamedItems s (Some (record { method = method; message = request })) (items_to method s request)
+method_named : (s : InstanceState) (method : Method) (request : List ℕ) → IsInstanceWithin s → AreNamedItems s (Some (record { method = method; message = request })) (items_to method s request)
 method_named s BatchReadBlobs request w = batch_named s request w
 method_named s Read request w = read_named s request w
 method_named s FindMissingBlobs request w = other_named s FindMissingBlobs request (reply_to FindMissingBlobs s request) (λ same. cc) (λ same. cc) (λ same. cc)
@@ -183,16 +183,16 @@ method_named s QueryWriteStatus request w = other_named s QueryWriteStatus reque
 
 -- ---- the other events give no range
 
-plain_named : (s : InstanceState) (r : Result (List ℕ) Refusal) → AreNamedItems s None (items_of r)
+plain_named : (s : InstanceState) (r : Result (List ℕ) Refusal) → AreNamedItems s None (reply_items r)
 plain_named s (Ok reply) = (tt, (tt, (tt, tt)))
 plain_named s (Err refusal) = (tt, tt)
 
-first_named : (s : InstanceState) (id : CallId) (method : Method) (changes : List Change) (r : Result WrittenValue Refusal) → AreNamedReplies s None (first_write_answer id method changes r).replies
+first_named : (s : InstanceState) (id : CallId) (method : Method) (changes : List InstanceChange) (r : Result WrittenValue Refusal) → AreNamedReplies s None (first_write_answer id method changes r).replies
 first_named s id method changes (Ok (Writing.Goes write)) = tt
 first_named s id method changes (Ok (Writing.Answered reply)) = (plain_named s (Ok reply), tt)
 first_named s id method changes (Err refusal) = (plain_named s (Err refusal), tt)
 
-next_named : (s : InstanceState) (id : CallId) (changes : List Change) (r : Result (Option (List ℕ)) Refusal) → AreNamedReplies s None (next_write_answer id changes r).replies
+next_named : (s : InstanceState) (id : CallId) (changes : List InstanceChange) (r : Result (Option (List ℕ)) Refusal) → AreNamedReplies s None (next_write_answer id changes r).replies
 next_named s id changes (Ok None) = tt
 next_named s id changes (Ok (Some reply)) = (plain_named s (Ok reply), tt)
 next_named s id changes (Err refusal) = (plain_named s (Err refusal), tt)
@@ -221,16 +221,16 @@ fault_named : (s : InstanceState) (id : CallId) (refusal : Refusal) (o : Option 
 fault_named s id refusal None = tt
 fault_named s id refusal (Some call) = ((tt, tt), tt)
 
-request_named : (s : InstanceState) (id : CallId) (method : Method) (p : ProgressValue) → WithinLimits s → AreNamedReplies s (whole_request method p) (end_answer_by_progress s id method p).replies
+request_named : (s : InstanceState) (id : CallId) (method : Method) (p : ProgressValue) → IsInstanceWithin s → AreNamedReplies s (whole_request method p) (end_answer_by_progress s id method p).replies
 request_named s id method waits w = ((tt, tt), tt)
 request_named s id method (has request) w = (method_named s method request w, tt)
 request_named s id method (writes write) w = ((tt, (tt, (tt, tt))), tt)
 
-end_named : (s : InstanceState) (id : CallId) (o : Option CallValue) → WithinLimits s → call_at id s.calls ≡ o → AreNamedReplies s (request_at s (end id)) (request_end_answer s id o).replies
+end_named : (s : InstanceState) (id : CallId) (o : Option CallValue) → IsInstanceWithin s → call_at id s.calls ≡ o → AreNamedReplies s (request_at s (end id)) (request_end_answer s id o).replies
 end_named s id None w is = tt
 end_named s id (Some call) w is = rw is (request_named s id call.method call.progress w)
 
-pub serves_named : (s : InstanceState) (event : CallEventValue) → WithinLimits s → ServesNamed (record { state = s; event = event })
+pub serves_named : (s : InstanceState) (event : CallEventValue) → IsInstanceWithin s → ServesNamed (record { state = s; event = event })
 serves_named s (end id) w = end_named s id (call_at id s.calls) w refl
 serves_named s (head id method) w = head_named s id method (call_at id s.calls)
 serves_named s (message id bytes) w = message_named s id bytes (call_at id s.calls)

@@ -11,9 +11,9 @@ use Rattle.digest.specs.declared.Digest.{Digest}
 use Rattle.digest.specs.Naming.{Names, same_digest, digest_of}
 use Rattle.digest.proofs.Same.{same_names}
 use Rattle.instance_view.specs.Visible.{Blob}
-use Rattle.quota_evict.specs.Within.{Within}
+use Rattle.quota_evict.specs.Within.{AreBlobsWithin}
 use Rattle.quota_evict.proofs.Limits.{used_within, admitted_within}
-use Rattle.cas_service.specs.Changes.{Change, Use, Store, visible_after_change, uses}
+use Rattle.cas_service.specs.Changes.{TextChange, Use, Store, visible_after_change, uses}
 use Rattle.cas_service.specs.FindMissing.{digests_asked}
 use Rattle.cas_service.specs.BatchRead.{digests_to_read}
 use Rattle.cas_service.specs.BatchUpdate.{compressor_check, digest_or_refusal, naming_check, quota_check, storage_digest, stores, stores_of_result, store_of, blobs_sent}
@@ -82,6 +82,6 @@ changes_named GetActionResult s message = uses_named (action_asked s.name messag
 changes_named Read s message = use_named (read_asked s.name message)
 changes_named _ s message = tt
 
-pub change_within : (limit quota : ℕ) (c : Change) (bs : List Blob) → 0 < limit → StoresNamedText c → Within limit quota bs → Within limit quota (visible_after_change limit quota c bs)
+pub change_within : (limit quota : ℕ) (c : TextChange) (bs : List Blob) → 0 < limit → StoresNamedText c → AreBlobsWithin limit quota bs → AreBlobsWithin limit quota (visible_after_change limit quota c bs)
 change_within limit quota (Use d) bs some named w = used_within limit quota d bs w
 change_within limit quota (Store d text) bs some named w = admitted_within limit quota d text bs some named w

@@ -19,11 +19,11 @@ use Rattle.cas_service.specs.Changes as Texts
 use Rattle.instance_core.specs.declared.event.CallId.{CallId}
 use Rattle.instance_core.specs.declared.event.Reply.{Reply}
 use Rattle.uploads.specs.Uploads.{UploadList}
-use Rattle.tree_calls.specs.Complete.{AreWithin}
+use Rattle.tree_calls.specs.Complete.{AreResultsWithin}
 use Rattle.instance_core.specs.Calls.{CallValue, ProgressValue, has, Calls, without_call, IsShortProgress}
 use Rattle.instance_core.specs.State.{InstanceState, most_blobs}
 use Rattle.instance_core.specs.Methods.{LeavesResults, text_changes, result_changes, request_changes}
-use Rattle.instance_core.specs.Changes.{Change, Text, Ends, Keeps, state_after_change, state_after_changes, MadeInPart}
+use Rattle.instance_core.specs.Changes.{InstanceChange, Text, Ends, Keeps, state_after_change, state_after_changes, MadeInPart}
 use Rattle.instance_core.specs.Answer.{request_end_answer}
 use Rattle.instance_core.specs.Shown.{Makes, MakesTexts, with_calls}
 
@@ -40,26 +40,26 @@ abbrev with_texts : List Blob → InstanceState → InstanceState
 with_texts visible s = record s { visible = visible }
 
 -- changes of the texts, and what comes after them
-pub changed_texts : (cs : List Texts.Change) (rest : List Change) (s : InstanceState)
+pub changed_texts : (cs : List Texts.TextChange) (rest : List InstanceChange) (s : InstanceState)
     → state_after_changes (map Text cs ++ rest) s ≡ state_after_changes rest (with_texts (Texts.visible_after_changes most_blobs s.quota cs s.visible) s)
 changed_texts [] rest s = refl
 changed_texts (c ∷ cs) rest s = changed_texts cs rest (with_texts (Texts.visible_after_change most_blobs s.quota c s.visible) s)
 
-made_texts : (cs : List Texts.Change) (s : InstanceState) → state_after_changes (map Text cs) s ≡ with_texts (Texts.visible_after_changes most_blobs s.quota cs s.visible) s
+made_texts : (cs : List Texts.TextChange) (s : InstanceState) → state_after_changes (map Text cs) s ≡ with_texts (Texts.visible_after_changes most_blobs s.quota cs s.visible) s
 made_texts [] s = refl
 made_texts (c ∷ cs) s = made_texts cs (with_texts (Texts.visible_after_change most_blobs s.quota c s.visible) s)
 
-joined_texts : (made left : List Texts.Change) (rest : List Change) → map Text (made ++ left) ++ rest ≡ map Text made ++ (map Text left ++ rest)
+joined_texts : (made left : List Texts.TextChange) (rest : List InstanceChange) → map Text (made ++ left) ++ rest ≡ map Text made ++ (map Text left ++ rest)
 joined_texts [] left rest = refl
-joined_texts (c ∷ made) left rest = ap (λ (cs : List Change). Text c ∷ cs) (joined_texts made left rest)
+joined_texts (c ∷ made) left rest = ap (λ (cs : List InstanceChange). Text c ∷ cs) (joined_texts made left rest)
 
 -- a front of the changes of the texts is a front of all changes
-pub texts_in_part : (cs : List Texts.Change) (rest : List Change) (s : InstanceState) (new : List Blob)
+pub texts_in_part : (cs : List Texts.TextChange) (rest : List InstanceChange) (s : InstanceState) (new : List Blob)
     → Texts.MadeInPart most_blobs s.quota cs s.visible new → MadeInPart (map Text cs ++ rest) s (with_texts new s)
 texts_in_part cs rest s new part = record {
   made = map Text part.made;
   left = map Text part.left ++ rest;
-  front = ap (λ (xs : List Texts.Change). map Text xs ++ rest) part.front ∙ joined_texts part.made part.left rest;
+  front = ap (λ (xs : List Texts.TextChange). map Text xs ++ rest) part.front ∙ joined_texts part.made part.left rest;
   so_far = ap (λ (visible : List Blob). with_texts visible s) part.so_far ∙ sym (made_texts part.made s);
 }
 
@@ -81,7 +81,7 @@ pub becomes_same : (s : InstanceState) (visible visible' : List Blob) (uploads u
 becomes_same s visible visible' uploads uploads' calls calls' p q r = rw (p, q, r) refl
 
 -- changes, and then others
-changed_more : (a b : List Change) (s : InstanceState) → state_after_changes (a ++ b) s ≡ state_after_changes b (state_after_changes a s)
+changed_more : (a b : List InstanceChange) (s : InstanceState) → state_after_changes (a ++ b) s ≡ state_after_changes b (state_after_changes a s)
 changed_more [] b s = refl
 changed_more (c ∷ a) b s = changed_more a b (state_after_change c s)
 
@@ -101,19 +101,19 @@ pub ended_in_part : (s mid : InstanceState) (id : CallId) (method : Method) (req
 ended_in_part s mid id method request there is part = rw (← is) (record {
   made = part.made;
   left = part.left ++ Ends id ∷ [];
-  front = ap (λ (cs : List Change). cs ++ Ends id ∷ []) part.front ∙ append_assoc part.made part.left (Ends id ∷ []);
+  front = ap (λ (cs : List InstanceChange). cs ++ Ends id ∷ []) part.front ∙ append_assoc part.made part.left (Ends id ∷ []);
   so_far = part.so_far;
 })
 
-pub made_whole : (replies : Vec Reply Global) (changes : List Change) (old new : InstanceState) → new ≡ state_after_changes changes old → Makes (Ok replies) changes old new
+pub made_whole : (replies : Vec Reply Global) (changes : List InstanceChange) (old new : InstanceState) → new ≡ state_after_changes changes old → Makes (Ok replies) changes old new
 made_whole replies changes old new all = record { whole = all; memory = tt }
 
-pub made_in_part : (r : Result (Vec Reply Global) AllocError) (changes : List Change) (old new : InstanceState) → IsErr r → MadeInPart changes old new → Makes r changes old new
+pub made_in_part : (r : Result (Vec Reply Global) AllocError) (changes : List InstanceChange) (old new : InstanceState) → IsErr r → MadeInPart changes old new → Makes r changes old new
 made_in_part (Ok replies) changes old new is part = absurd cc
 made_in_part (Err e) changes old new is part = record { whole = tt; memory = part }
 
 -- an answer that changes calls alone
-pub calls_made : (r : Result (Vec Reply Global) AllocError) (changes : List Change) (s : InstanceState) (calls : Calls)
+pub calls_made : (r : Result (Vec Reply Global) AllocError) (changes : List InstanceChange) (s : InstanceState) (calls : Calls)
     → ((t : InstanceState) → OnOk r (with_calls calls t ≡ state_after_changes changes (with_calls s.calls t))) → OnErr r (calls ≡ s.calls) → Makes r changes s (with_calls calls s)
 calls_made (Ok replies) changes s calls all same = record { whole = all s; memory = tt }
 calls_made (Err e) changes s calls all same = record {
@@ -150,7 +150,7 @@ pub texts_make : (r : Result (Vec Reply Global) AllocError) (method : Method) (s
 texts_make r method s message new results h made same =
     rw (no_results method s message h) (go r made.whole made.memory)
   where
-    texts : List Texts.Change
+    texts : List Texts.TextChange
     texts = text_changes method s message
 
     go : (r : Result (Vec Reply Global) AllocError) → OnOk r (new ≡ Texts.visible_after_changes most_blobs s.quota (text_changes method s message) s.visible) → OnErr r (Texts.MadeInPart most_blobs s.quota (text_changes method s message) s.visible new)
@@ -164,12 +164,12 @@ texts_make r method s message new results h made same =
       memory = subst (MadeInPart (map Text (text_changes method s message) ++ []) s) (leaves_same s new new s.results results refl (sym same)) (texts_in_part (text_changes method s message) [] s new part);
     }
 
-append_nil : (cs : List Change) → cs ≡ cs ++ []
+append_nil : (cs : List InstanceChange) → cs ≡ cs ++ []
 append_nil [] = refl
-append_nil (c ∷ cs) = ap (λ (xs : List Change). c ∷ xs) (append_nil cs)
+append_nil (c ∷ cs) = ap (λ (xs : List InstanceChange). c ∷ xs) (append_nil cs)
 
 -- a method that uses texts, and leaves results
-answered_makes : (r : Result (Vec Reply Global) AllocError) (s : InstanceState) (texts : List Texts.Change) (kept new results : List Blob)
+answered_makes : (r : Result (Vec Reply Global) AllocError) (s : InstanceState) (texts : List Texts.TextChange) (kept new results : List Blob)
     → new ≡ Texts.visible_after_changes most_blobs s.quota texts s.visible → results ≡ kept → Makes r (map Text texts ++ Keeps kept ∷ []) s (leaves new results s)
 answered_makes r s texts kept new results used left = go r where
   all : leaves new results s ≡ state_after_changes (map Text texts ++ Keeps kept ∷ []) s
@@ -182,7 +182,7 @@ answered_makes r s texts kept new results used left = go r where
     memory = record { made = map Text texts ++ Keeps kept ∷ []; left = []; front = append_nil (map Text texts ++ Keeps kept ∷ []); so_far = all };
   }
 
-pub results_make : {A : Type 0} (outcome : Result A CallError) (r : Result (Vec Reply Global) AllocError) (s : InstanceState) (texts : List Texts.Change) (kept new results : List Blob)
+pub results_make : {A : Type 0} (outcome : Result A CallError) (r : Result (Vec Reply Global) AllocError) (s : InstanceState) (texts : List Texts.TextChange) (kept new results : List Blob)
     → IfAnswered outcome (new ≡ Texts.visible_after_changes most_blobs s.quota texts s.visible) → IfAnswered outcome (results ≡ kept) → OnErr outcome ((results ≡ s.results) × (new ≡ s.visible)) → IfNoMemory outcome (OnOk r ⊥)
     → Makes r (map Text texts ++ Keeps kept ∷ []) s (leaves new results s)
 results_make (Ok x) r s texts kept new results used left err none = answered_makes r s texts kept new results used left
@@ -208,9 +208,9 @@ settled_in_part (Ok x) (Err e) P h part = h
 settled_in_part (Err e) (Err e') P h part = part
 
 -- results of an answer, and without one
-pub settled_results : {A : Type 0} (outcome : Result A CallError) (old kept new : List Blob) → IfAnswered outcome (new ≡ kept) → OnErr outcome (new ≡ old) → AreWithin old → AreWithin kept → AreWithin new
-settled_results (Ok x) old kept new h same few few' = subst AreWithin (sym h) few'
-settled_results (Err e) old kept new h same few few' = subst AreWithin (sym same) few
+pub settled_results : {A : Type 0} (outcome : Result A CallError) (old kept new : List Blob) → IfAnswered outcome (new ≡ kept) → OnErr outcome (new ≡ old) → AreResultsWithin old → AreResultsWithin kept → AreResultsWithin new
+settled_results (Ok x) old kept new h same few few' = subst AreResultsWithin (sym h) few'
+settled_results (Err e) old kept new h same few few' = subst AreResultsWithin (sym same) few
 
 pub both_same : {A : Type 0} (outcome : Result A CallError) (P Q : Type 0) → OnErr outcome (P × Q) → OnErr outcome P
 both_same (Ok x) P Q h = tt
@@ -236,6 +236,6 @@ on_ok (Ok replies) P p = p
 on_ok (Err e) P p = tt
 
 -- uploads that are as they were
-pub same_uploads : (r : Result (Vec Reply Global) AllocError) (changes : List Change) (s new : InstanceState) (uploads : UploadList) → uploads ≡ new.uploads → Makes r changes s new
+pub same_uploads : (r : Result (Vec Reply Global) AllocError) (changes : List InstanceChange) (s new : InstanceState) (uploads : UploadList) → uploads ≡ new.uploads → Makes r changes s new
     → Makes r changes s (record new { uploads = uploads })
 same_uploads r changes s new uploads same h = subst (λ (us : UploadList). Makes r changes s (record new { uploads = us })) (sym same) h

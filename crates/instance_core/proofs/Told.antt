@@ -11,7 +11,7 @@ use Rattle.rpc.specs.declared.refusal.Refusal.{Refusal}
 use Rattle.bytestream.specs.Names.{write_name}
 use Rattle.instance_view.specs.Visible.{Blob, visible_text}
 use Rattle.cas_service.specs.Requests.{message_or_refusal, instance_check}
-use Rattle.uploads.specs.Uploads.{KeyValue, UploadValue, UploadList, upload_at, text_so_far, text_in, total_length, WithinLimits}
+use Rattle.uploads.specs.Uploads.{KeyValue, UploadValue, UploadList, upload_at, text_so_far, text_in, uploads_length, AreUploadsWithin}
 use Rattle.bytestream.specs.Refusals.{name_or_refusal}
 use Rattle.bytestream.specs.Querying.{key_of_name, query_asked, status_of, status_of_upload, query_reply}
 use Rattle.bytestream.specs.Writing.{OpenWriteValue, PartValue, FirstAsked, Answered, WriteState, first_asked, next_asked, same_name, part_answer, reply_first, reply_next, first_answer, next_answer, write_reply, unfinished_reply}
@@ -65,20 +65,20 @@ query_told own message key h =
 
 -- ---- uploads
 
-text_few : (t : KeyValue → Bool) (us : UploadList) → length (text_in (lookup t us)) ≤ total_length us
+text_few : (t : KeyValue → Bool) (us : UploadList) → length (text_in (lookup t us)) ≤ uploads_length us
 text_few t [] = omega arith
 text_few t (u ∷ us) = go (t u.0) (text_few t us) where
-  go : (b : Bool) → length (text_in (lookup t us)) ≤ total_length us → length (text_in (cond b (Some u.1) (lookup t us))) ≤ length u.1.text + total_length us
+  go : (b : Bool) → length (text_in (lookup t us)) ≤ uploads_length us → length (text_in (cond b (Some u.1) (lookup t us))) ≤ length u.1.text + uploads_length us
   go true ih = omega arith
   go false ih = omega arith
 
-upload_few : (quota : ℕ) (key : KeyValue) (us : UploadList) → quota ≤ 2 ^ 40 → WithinLimits quota us → CanBeTold (length (text_so_far key us))
+upload_few : (quota : ℕ) (key : KeyValue) (us : UploadList) → quota ≤ 2 ^ 40 → AreUploadsWithin quota us → CanBeTold (length (text_so_far key us))
 upload_few quota key us most within =
     let bytes = within.bytes in
     let few = text_few (Rattle.uploads.specs.Uploads.same_upload key) us in
     omega arith
 
-pub unfinished_short : (quota : ℕ) (key : KeyValue) (us : UploadList) → quota ≤ 2 ^ 40 → WithinLimits quota us → length (unfinished_reply key us) < 2 ^ 32
+pub unfinished_short : (quota : ℕ) (key : KeyValue) (us : UploadList) → quota ≤ 2 ^ 40 → AreUploadsWithin quota us → length (unfinished_reply key us) < 2 ^ 32
 unfinished_short quota key us most within = committed_short (length (text_so_far key us)) (upload_few quota key us most within)
 
 -- ---- replies
@@ -113,7 +113,7 @@ next_short call quota moment us message reply few h =
     let c = bind_ok (part_answer false quota moment p.0 us) _ (Some reply) p.2 in
     next_complete p.0 c.0 reply (next_told call message p.0 few p.1) (ok_is (reply_next p.0 c.0) (Some reply) c.2)
 
-pub query_short : (own : List ℕ) (quota : ℕ) (visible : List Blob) (us : UploadList) (message reply : List ℕ) → quota ≤ 2 ^ 40 → WithinLimits quota us → query_reply own visible us message ≡ Ok reply → length reply < 2 ^ 32
+pub query_short : (own : List ℕ) (quota : ℕ) (visible : List Blob) (us : UploadList) (message reply : List ℕ) → quota ≤ 2 ^ 40 → AreUploadsWithin quota us → query_reply own visible us message ≡ Ok reply → length reply < 2 ^ 32
 query_short own quota visible us message reply most within h =
     let k = bind_ok (query_asked own message) _ reply h in
     let s = bind_ok (status_of k.0 visible us) _ reply k.2 in

@@ -8,14 +8,14 @@ use Rattle.rpc.specs.declared.refusal.Refusal.{Refusal}
 use Rattle.digest.specs.Naming.{Names, same_digest, digest_of}
 use Rattle.digest.proofs.Same.{same_names}
 use Rattle.instance_view.specs.Visible.{visible_text}
-use Rattle.quota_evict.specs.Within.{Within}
+use Rattle.quota_evict.specs.Within.{AreBlobsWithin}
 use Rattle.quota_evict.proofs.Limits.{used_within, admitted_within}
 use Rattle.cas_service.specs.Requests.{message_or_refusal, instance_check}
 use Rattle.bytestream.specs.NameError.{NameError}
 use Rattle.bytestream.specs.Names.{WriteNameValue, write_name}
 use Rattle.uploads.specs.declared.error.UploadError.{UploadError}
 use Rattle.uploads.specs.declared.error.UploadError.TheVariants.{Offset, Hash as WrongHash, Size as WrongSize, TooMany, OverQuota, NoMemory}
-use Rattle.uploads.specs.Uploads.{KeyValue, UploadList, text_so_far, WithinLimits}
+use Rattle.uploads.specs.Uploads.{KeyValue, UploadList, text_so_far, AreUploadsWithin}
 use Rattle.uploads.specs.Writing.{call_answer, finish_answer, after_piece, Answers}
 use Rattle.uploads.proofs.ListLemmas.{within_without, within_call}
 use Rattle.bytestream.specs.Refusals.{name_or_refusal}
@@ -28,8 +28,8 @@ use Rattle.instance_core.specs.Writes.{write_state, with_piece, with_part, first
 
 -- texts and uploads within their limits
 pub record IsWithin (quota : ℕ) (w : WriteState) : Type 0 where
-  pub texts : Within most_blobs quota w.visible
-  pub uploads : WithinLimits quota w.uploads
+  pub texts : AreBlobsWithin most_blobs quota w.visible
+  pub uploads : AreUploadsWithin quota w.uploads
 
 -- ---- a piece
 
@@ -42,7 +42,7 @@ meaning (Err WrongHash) m is = is
 meaning (Err TooMany) m is = is
 meaning (Err OverQuota) m is = is
 
-taken_within : (first : Bool) (quota moment : ℕ) (part : PartValue) (us : UploadList) (r : Result Unit UploadError) → r ≡ part_outcome first quota part us → WithinLimits quota us → WithinLimits quota (after_piece moment part.key part.piece r us)
+taken_within : (first : Bool) (quota moment : ℕ) (part : PartValue) (us : UploadList) (r : Result Unit UploadError) → r ≡ part_outcome first quota part us → AreUploadsWithin quota us → AreUploadsWithin quota (after_piece moment part.key part.piece r us)
 taken_within first quota moment part us r is w = within_call first quota moment part.key part.piece us r w (meaning r (call_answer first quota part.key part.piece us) is)
 
 -- ---- the end of an upload

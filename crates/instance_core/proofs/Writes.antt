@@ -21,7 +21,7 @@ use Rattle.instance_core.specs.declared.event.CallId.{CallId}
 use Rattle.instance_core.specs.declared.event.Reply.{Reply}
 use Rattle.instance_core.specs.Calls.{Calls}
 use Rattle.instance_core.specs.State.{InstanceState, most_blobs}
-use Rattle.instance_core.specs.Changes.{Change, Wrote, state_after_changes, MadeInPart}
+use Rattle.instance_core.specs.Changes.{InstanceChange, Wrote, state_after_changes, MadeInPart}
 use Rattle.instance_core.specs.Writes.{write_state, with_piece, with_part, part_of, first_changes, next_changes, first_outcome, next_outcome}
 use Rattle.instance_core.specs.Answer.{first_write_answer, next_write_answer, first_message_answer}
 use Rattle.instance_core.specs.Shown.{Makes, with_calls}
@@ -46,33 +46,33 @@ meaning_refused view (Err NoMemory) e refusal meaning is same h = absurd cc
 
 -- ---- the changes of a message: those of texts and uploads, and then that of its call
 
-pub first_split : (id : CallId) (method : Method) (changes : List Change) (r : Result WrittenValue Refusal) → (first_write_answer id method changes r).changes ≡ changes ++ (first_write_answer id method [] r).changes
+pub first_split : (id : CallId) (method : Method) (changes : List InstanceChange) (r : Result WrittenValue Refusal) → (first_write_answer id method changes r).changes ≡ changes ++ (first_write_answer id method [] r).changes
 first_split id method changes (Ok (Writing.Goes call)) = refl
 first_split id method changes (Ok (Writing.Answered reply)) = refl
 first_split id method changes (Err refusal) = refl
 
-pub first_replies : (id : CallId) (method : Method) (changes : List Change) (r : Result WrittenValue Refusal) → (first_write_answer id method changes r).replies ≡ (first_write_answer id method [] r).replies
+pub first_replies : (id : CallId) (method : Method) (changes : List InstanceChange) (r : Result WrittenValue Refusal) → (first_write_answer id method changes r).replies ≡ (first_write_answer id method [] r).replies
 first_replies id method changes (Ok (Writing.Goes call)) = refl
 first_replies id method changes (Ok (Writing.Answered reply)) = refl
 first_replies id method changes (Err refusal) = refl
 
-append_nil : (cs : List Change) → cs ≡ cs ++ []
+append_nil : (cs : List InstanceChange) → cs ≡ cs ++ []
 append_nil [] = refl
-append_nil (c ∷ cs) = ap (λ (xs : List Change). c ∷ xs) (append_nil cs)
+append_nil (c ∷ cs) = ap (λ (xs : List InstanceChange). c ∷ xs) (append_nil cs)
 
-pub next_split : (id : CallId) (changes : List Change) (r : Result (Option (List ℕ)) Refusal) → (next_write_answer id changes r).changes ≡ changes ++ (next_write_answer id [] r).changes
+pub next_split : (id : CallId) (changes : List InstanceChange) (r : Result (Option (List ℕ)) Refusal) → (next_write_answer id changes r).changes ≡ changes ++ (next_write_answer id [] r).changes
 next_split id changes (Ok None) = append_nil changes
 next_split id changes (Ok (Some reply)) = refl
 next_split id changes (Err refusal) = refl
 
-pub next_replies : (id : CallId) (changes : List Change) (r : Result (Option (List ℕ)) Refusal) → (next_write_answer id changes r).replies ≡ (next_write_answer id [] r).replies
+pub next_replies : (id : CallId) (changes : List InstanceChange) (r : Result (Option (List ℕ)) Refusal) → (next_write_answer id changes r).replies ≡ (next_write_answer id [] r).replies
 next_replies id changes (Ok None) = refl
 next_replies id changes (Ok (Some reply)) = refl
 next_replies id changes (Err refusal) = refl
 
 -- ---- what want of memory leaves
 
-same_in_part : (s : InstanceState) (changes : List Change) (uploads : UploadList) → uploads ≡ s.uploads → MadeInPart changes s (becomes s.visible uploads s.calls s)
+same_in_part : (s : InstanceState) (changes : List InstanceChange) (uploads : UploadList) → uploads ≡ s.uploads → MadeInPart changes s (becomes s.visible uploads s.calls s)
 same_in_part s changes uploads same = record {
   made = [];
   left = changes;
@@ -80,7 +80,7 @@ same_in_part s changes uploads same = record {
   so_far = ap (λ (u : UploadList). becomes s.visible u s.calls s) same;
 }
 
-taken_in_part : (first : Bool) (s : InstanceState) (part : PartValue) (rest : List Change) (uploads : UploadList) → IsOldOrTaken first s.quota s.moment part s.uploads uploads
+taken_in_part : (first : Bool) (s : InstanceState) (part : PartValue) (rest : List InstanceChange) (uploads : UploadList) → IsOldOrTaken first s.quota s.moment part s.uploads uploads
     → MadeInPart (Wrote (with_piece s.moment part (part_outcome first s.quota part s.uploads) (write_state s)) ∷ rest) s (becomes s.visible uploads s.calls s)
 taken_in_part first s part rest uploads (inl same) = same_in_part s (Wrote (with_piece s.moment part (part_outcome first s.quota part s.uploads) (write_state s)) ∷ rest) uploads same
 taken_in_part first s part rest uploads (inr taken) = record {
@@ -90,19 +90,19 @@ taken_in_part first s part rest uploads (inr taken) = record {
   so_far = rw taken.0 (ap (λ (u : UploadList). becomes s.visible u s.calls s) taken.1);
 }
 
-first_in_part : (s : InstanceState) (r : Result FirstAsked Refusal) (rest : List Change) (uploads : UploadList) → IsFirstOldOrTaken s.quota s.moment r s.uploads uploads
+first_in_part : (s : InstanceState) (r : Result FirstAsked Refusal) (rest : List InstanceChange) (uploads : UploadList) → IsFirstOldOrTaken s.quota s.moment r s.uploads uploads
     → MadeInPart (Wrote (with_part true s (part_of r)) ∷ rest) s (becomes s.visible uploads s.calls s)
 first_in_part s (Ok asked) rest uploads h = taken_in_part true s asked.part rest uploads h
 first_in_part s (Err refusal) rest uploads h = same_in_part s (Wrote (with_part true s (part_of (err {Y = FirstAsked} refusal))) ∷ rest) uploads h
 
-next_in_part : (s : InstanceState) (r : Result PartValue Refusal) (rest : List Change) (uploads : UploadList) → IsNextOldOrTaken s.quota s.moment r s.uploads uploads
+next_in_part : (s : InstanceState) (r : Result PartValue Refusal) (rest : List InstanceChange) (uploads : UploadList) → IsNextOldOrTaken s.quota s.moment r s.uploads uploads
     → MadeInPart (Wrote (with_part false s r) ∷ rest) s (becomes s.visible uploads s.calls s)
 next_in_part s (Ok part) rest uploads h = taken_in_part false s part rest uploads h
 next_in_part s (Err refusal) rest uploads h = same_in_part s (Wrote (with_part false s (err {Y = PartValue} refusal)) ∷ rest) uploads h
 
 -- ---- a message that is carried out, whole or in part
 
-answered : (r : Result (Vec Reply Global) AllocError) (s : InstanceState) (w1 w2 : WriteState) (tail : List Change) (visible : List Blob) (uploads : UploadList) (calls : Calls)
+answered : (r : Result (Vec Reply Global) AllocError) (s : InstanceState) (w1 w2 : WriteState) (tail : List InstanceChange) (visible : List Blob) (uploads : UploadList) (calls : Calls)
     → visible ≡ w2.visible → uploads ≡ w2.uploads
     → ((t : InstanceState) → OnOk r (with_calls calls t ≡ state_after_changes tail (with_calls s.calls t))) → OnErr r (calls ≡ s.calls)
     → Makes r (Wrote w1 ∷ Wrote w2 ∷ tail) s (becomes visible uploads calls s)
@@ -120,7 +120,7 @@ answered (Err e) s w1 w2 tail visible uploads calls texts ups all same = record 
   };
 }
 
-written : {A : Type 0} (o : Result A CallError) (r : Result (Vec Reply Global) AllocError) (s : InstanceState) (w1 w2 : WriteState) (tail : List Change) (visible : List Blob) (uploads : UploadList) (calls : Calls)
+written : {A : Type 0} (o : Result A CallError) (r : Result (Vec Reply Global) AllocError) (s : InstanceState) (w1 w2 : WriteState) (tail : List InstanceChange) (visible : List Blob) (uploads : UploadList) (calls : Calls)
     → IfAnswered o (visible ≡ w2.visible) → IfAnswered o (uploads ≡ w2.uploads)
     → IfNoMemory o (MadeInPart (Wrote w1 ∷ Wrote w2 ∷ tail) s (becomes visible uploads s.calls s)) → IfNoMemory o (OnOk r ⊥)
     → ((t : InstanceState) → OnOk r (with_calls calls t ≡ state_after_changes tail (with_calls s.calls t))) → OnErr r (calls ≡ s.calls)
@@ -134,7 +134,7 @@ written (Err NoMemory) (Err e) s w1 w2 tail visible uploads calls texts ups part
 }
 
 -- what a pool shows, where neither it nor the view has changed
-shown_part : {A : Type 0} (o : Result A CallError) (p q : Slots) (v w : ViewValue) (s : InstanceState) (changes : List Change) (uploads : UploadList) (P : Type 0)
+shown_part : {A : Type 0} (o : Result A CallError) (p q : Slots) (v w : ViewValue) (s : InstanceState) (changes : List InstanceChange) (uploads : UploadList) (P : Type 0)
     → s.visible ≡ visible_in p v → (P → MadeInPart changes s (becomes s.visible uploads s.calls s)) → IfNoMemory o ((w ≡ v) × (q ≡ p) × P) → IfNoMemory o (MadeInPart changes s (becomes (visible_in q w) uploads s.calls s))
 shown_part (Ok x) p q v w s changes uploads P is f h = tt
 shown_part (Err (Refused refusal)) p q v w s changes uploads P is f h = tt

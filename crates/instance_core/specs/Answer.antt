@@ -17,19 +17,19 @@ use Rattle.bytestream.specs.Writing as Writing
 use Rattle.bytestream.specs.Writing.{OpenWriteValue, WrittenValue, unfinished_reply}
 use Rattle.instance_core.specs.declared.event.CallId.{CallId}
 use Rattle.instance_core.specs.Calls.{ProgressValue, waits, has, writes, CallValue, CallEventValue, head, message, fault, end, cancel, tick, call_at}
-use Rattle.instance_core.specs.Replies.{ReplyItemValue, ReplyValue, items_of}
+use Rattle.instance_core.specs.Replies.{ReplyItemValue, ReplyValue, reply_items}
 use Rattle.instance_core.specs.State.{InstanceState}
 use Rattle.instance_core.specs.Methods.{is_served, items_to, request_changes}
 use Rattle.instance_core.specs.Writes.{first_changes, next_changes, first_outcome, next_outcome}
-use Rattle.instance_core.specs.Changes.{Change, Goes, Ends, Expires, state_after_changes}
+use Rattle.instance_core.specs.Changes.{InstanceChange, Goes, Ends, Expires, state_after_changes}
 
 pub record Answer : Type 0 where
   pub replies : List ReplyValue
-  pub changes : List Change
+  pub changes : List InstanceChange
 
 -- the one answer to a call: one message with status OK, or a refusal
 abbrev pub reply_with : CallId → Result (List ℕ) Refusal → List ReplyValue
-reply_with id outcome = record { call = id; items = items_of outcome } ∷ []
+reply_with id outcome = record { call = id; items = reply_items outcome } ∷ []
 
 abbrev pub no_answer : Answer
 no_answer = record { replies = []; changes = [] }
@@ -53,7 +53,8 @@ head_answer id method None =
 -- ---- a Write
 
 -- a call whose message is answered goes on or ends after these changes
-abbrev pub first_write_answer : CallId → Method → List Change → Result WrittenValue Refusal → Answer
+abbrev pub first_write_answer : CallId → Method → List InstanceChange →
+    Result WrittenValue Refusal → Answer
 first_write_answer id method changes (Ok (Writing.Goes write)) = record {
   replies = [];
   changes = changes ++ Goes id (record { method = method; progress = writes write }) ∷ [];
@@ -63,7 +64,8 @@ first_write_answer id method changes (Ok (Writing.Answered reply)) =
 first_write_answer id method changes (Err refusal) =
     record { replies = reply_with id (Err refusal); changes = changes ++ Ends id ∷ [] }
 
-abbrev pub next_write_answer : CallId → List Change → Result (Option (List ℕ)) Refusal → Answer
+abbrev pub next_write_answer : CallId → List InstanceChange → Result (Option (List ℕ)) Refusal →
+    Answer
 next_write_answer id changes (Ok None) = record { replies = []; changes = changes }
 next_write_answer id changes (Ok (Some reply)) =
     record { replies = reply_with id (Ok reply); changes = changes ++ Ends id ∷ [] }

@@ -8,21 +8,21 @@ use Rattle.bytestream.specs.Writing.{WriteState}
 use Rattle.instance_core.specs.Calls.{CallValue, with_call, without_call}
 use Rattle.instance_core.specs.State.{InstanceState, most_blobs}
 
-pub data Change : Type 0 where
+pub data InstanceChange : Type 0 where
   -- a use of a text, or an admission
-  Text : Texts.Change → Change
+  Text : Texts.TextChange → InstanceChange
   -- a call begins, or goes on with what is kept of it
-  Goes : CallId → CallValue → Change
+  Goes : CallId → CallValue → InstanceChange
   -- a call ends
-  Ends : CallId → Change
+  Ends : CallId → InstanceChange
   -- a message of a Write leaves these texts and uploads
-  Wrote : WriteState → Change
+  Wrote : WriteState → InstanceChange
   -- a call leaves these results
-  Keeps : List Blob → Change
+  Keeps : List Blob → InstanceChange
   -- uploads that were not written to for long are forgotten
-  Expires : Change
+  Expires : InstanceChange
 
-abbrev pub state_after_change : Change → InstanceState → InstanceState
+abbrev pub state_after_change : InstanceChange → InstanceState → InstanceState
 state_after_change (Text c) s =
     record s { visible = Texts.visible_after_change most_blobs s.quota c s.visible }
 state_after_change (Goes id call) s = record s { calls = with_call id call s.calls }
@@ -31,13 +31,13 @@ state_after_change (Wrote w) s = record s { visible = w.visible; uploads = w.upl
 state_after_change (Keeps results) s = record s { results = results }
 state_after_change Expires s = record s { uploads = uploads_at s.moment s.uploads }
 
-abbrev pub state_after_changes : List Change → InstanceState → InstanceState
+abbrev pub state_after_changes : List InstanceChange → InstanceState → InstanceState
 state_after_changes [] s = s
 state_after_changes (c ∷ cs) s = state_after_changes cs (state_after_change c s)
 
 -- a front of the changes was made
-pub record MadeInPart (changes : List Change) (old new : InstanceState) : Type 0 where
-  pub made : List Change
-  pub left : List Change
+pub record MadeInPart (changes : List InstanceChange) (old new : InstanceState) : Type 0 where
+  pub made : List InstanceChange
+  pub left : List InstanceChange
   pub front : changes ≡ made ++ left
   pub so_far : new ≡ state_after_changes made old

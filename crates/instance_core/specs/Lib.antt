@@ -9,10 +9,11 @@ pub mod Replies
 pub mod Writes
 pub mod Answer
 pub mod Shown
-pub mod Given
+pub mod ReplyHolders
 pub mod Named
 pub mod NamedReplies
-pub use Rattle.quota_evict.specs.Kept
+pub use Rattle.quota_evict.specs.InPool
+pub use Rattle.quota_evict.specs.Within
 pub use Rattle.instance_view.specs.Visible
 pub use Rattle.instance_view.specs.Shown as InstanceViewShown
 pub use Rattle.bytestream.specs.Writing

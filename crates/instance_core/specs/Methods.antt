@@ -15,8 +15,8 @@ use Rattle.bytestream.specs.Reading.{read_asked, read_answer}
 use Rattle.bytestream.specs.Querying.{query_reply}
 use Rattle.tree_calls.specs.GetTree.{get_tree_replies, get_tree_changes}
 use Rattle.tree_calls.specs.Results.{get_action_result_reply, get_action_result_changes, after_get, update_action_result_reply, after_update}
-use Rattle.instance_core.specs.Changes.{Change, Text, Keeps}
-use Rattle.instance_core.specs.Replies.{ReplyItemValue, items_of, whole_reply_items, read_items}
+use Rattle.instance_core.specs.Changes.{InstanceChange, Text, Keeps}
+use Rattle.instance_core.specs.Replies.{ReplyItemValue, reply_items, whole_reply_items, read_items}
 use Rattle.instance_core.specs.State.{InstanceState, most_blobs}
 use Rattle.instance_core.specs.Capabilities.{get_capabilities_reply}
 
@@ -38,8 +38,8 @@ abbrev pub LeavesResults : Method → Type 0
 LeavesResults method = (method ≢ GetActionResult) × (method ≢ UpdateActionResult)
 
 -- a method that answers by one message, from the texts alone
-abbrev pub IsPlain : Method → Type 0
-IsPlain method = LeavesResults method × (method ≢ Read) × (method ≢ GetTree)
+abbrev pub AnswersFromTexts : Method → Type 0
+AnswersFromTexts method = LeavesResults method × (method ≢ Read) × (method ≢ GetTree)
 
 -- the reply's message, or the refusal
 abbrev pub reply_to : Method → InstanceState → List ℕ → Result (List ℕ) Refusal
@@ -56,15 +56,15 @@ reply_to _ s message = Err UnknownMethod
 abbrev pub items_to : Method → InstanceState → List ℕ → List ReplyItemValue
 items_to Read s message = read_items (read_answer s.name s.visible message)
 items_to GetTree s message = whole_reply_items (get_tree_replies s.name s.visible message)
-items_to method s message = items_of (reply_to method s message)
+items_to method s message = reply_items (reply_to method s message)
 
 -- a Read uses the blob that it asks for
-abbrev pub use_asked : Result ReadAsked Refusal → List Texts.Change
+abbrev pub use_asked : Result ReadAsked Refusal → List Texts.TextChange
 use_asked (Ok asked) = Texts.Use asked.digest ∷ []
 use_asked (Err refusal) = []
 
 -- what is done to the texts
-abbrev pub text_changes : Method → InstanceState → List ℕ → List Texts.Change
+abbrev pub text_changes : Method → InstanceState → List ℕ → List Texts.TextChange
 text_changes FindMissingBlobs s message = find_missing_changes s.name message
 text_changes BatchUpdateBlobs s message = batch_update_changes s.name s.quota message
 text_changes BatchReadBlobs s message = batch_read_changes s.name message
@@ -85,12 +85,12 @@ ShowsInPart method message s visible =
     Texts.MadeInPart most_blobs s.quota (text_changes method s message) s.visible visible
 
 -- what is done to the results
-abbrev pub result_changes : Method → InstanceState → List ℕ → List Change
+abbrev pub result_changes : Method → InstanceState → List ℕ → List InstanceChange
 result_changes GetActionResult s message = Keeps (after_get s.name s.visible s.results message) ∷ []
 result_changes UpdateActionResult s message = Keeps (after_update s.name s.results message) ∷ []
 result_changes _ s message = []
 
 -- all that a request does but end its call
-abbrev pub request_changes : Method → InstanceState → List ℕ → List Change
+abbrev pub request_changes : Method → InstanceState → List ℕ → List InstanceChange
 request_changes method s message =
     map Text (text_changes method s message) ++ result_changes method s message

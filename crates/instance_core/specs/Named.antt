@@ -4,10 +4,10 @@ use Rattle.std.specs.List.{AllByRecursion}
 use Rattle.digest.specs.Naming.{Names}
 use Rattle.instance_view.specs.Visible.{Blob}
 use Rattle.cas_service.specs.Changes as Texts
-use Rattle.instance_core.specs.Changes.{Change, Text, Goes, Ends, Wrote, Keeps, Expires}
+use Rattle.instance_core.specs.Changes.{InstanceChange, Text, Goes, Ends, Wrote, Keeps, Expires}
 
 -- bytes are stored only under the digest that names them
-abbrev pub StoresNamedText : Texts.Change → Type 0
+abbrev pub StoresNamedText : Texts.TextChange → Type 0
 StoresNamedText (Texts.Use d) = Unit {0}
 StoresNamedText (Texts.Store d text) = Names d text
 
@@ -16,7 +16,7 @@ abbrev pub IsOldOrNamed : List Blob → Blob → Type 0
 IsOldOrNamed visible b = Contains visible b ⊎ Names b.0 b.1
 
 -- a change of an instance that has these texts stores bytes only under the digest that names them
-abbrev pub StoresNamed : List Blob → Change → Type 0
+abbrev pub StoresNamed : List Blob → InstanceChange → Type 0
 StoresNamed visible (Text c) = StoresNamedText c
 StoresNamed visible (Wrote w) = AllByRecursion (IsOldOrNamed visible) w.visible
 StoresNamed visible (Keeps results) = Unit {0}

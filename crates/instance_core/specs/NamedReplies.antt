@@ -26,12 +26,12 @@ use Rattle.instance_core.specs.Answer.{answer}
 use Rattle.instance_core.specs.State.{InstanceState}
 
 -- an event of a call, and the state in which the instance answers to it
-pub record Answering : Type 0 where
+pub record AnsweredEvent : Type 0 where
   pub state : InstanceState
   pub event : CallEventValue
 
 -- what is given to streams for it
-abbrev pub replies_of : Answering → List ReplyValue
+abbrev pub replies_of : AnsweredEvent → List ReplyValue
 replies_of a = (answer a.state a.event).replies
 
 -- ---- the request that is answered
@@ -56,7 +56,8 @@ request_at s _ = None
 
 -- the bytes of a text from an offset on, and no more than a limit; the limit 0 is none
 abbrev pub bytes_from : ℕ → ℕ → List ℕ → List ℕ
-bytes_from offset limit text = if limit == 0 then drop offset text else take limit (drop offset text)
+bytes_from offset limit text =
+    if limit == 0 then drop offset text else take limit (drop offset text)
 
 -- a range is of the text that the instance itself has under the digest in the resource name, and
 -- that the digest names; its bytes are those from read_offset on, at most read_limit of them
@@ -121,7 +122,7 @@ IsNamedItem s request begins = Unit {0}
 IsNamedItem s request ends = Unit {0}
 IsNamedItem s request (refuses refusal) = Unit {0}
 
-abbrev pub ServesNamed : Answering → Type 0
+abbrev pub ServesNamed : AnsweredEvent → Type 0
 ServesNamed a =
     AllByRecursion (λ r. AllByRecursion (IsNamedItem a.state (request_at a.state a.event)) r.items)
     (replies_of a)

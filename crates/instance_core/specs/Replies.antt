@@ -29,18 +29,18 @@ pub record IsRange (source : SourceValue) : Type 0 where
   pub within : source.until ≤ length source.text
 
 -- a message's length can be written in four bytes (gRPC over HTTP2, Length-Prefixed-Message)
-abbrev pub IsShortItem : ReplyItemValue → Type 0
-IsShortItem (says bytes) = length bytes < message_length_limit
-IsShortItem (gives source) = IsRange source
-IsShortItem _ = Unit {0}
+abbrev pub IsShortReplyItem : ReplyItemValue → Type 0
+IsShortReplyItem (says bytes) = length bytes < message_length_limit
+IsShortReplyItem (gives source) = IsRange source
+IsShortReplyItem _ = Unit {0}
 
 abbrev pub IsShortReply : ReplyValue → Type 0
-IsShortReply reply = AllByRecursion IsShortItem reply.items
+IsShortReply reply = AllByRecursion IsShortReplyItem reply.items
 
 -- a whole reply of one message, or a refusal
-abbrev pub items_of : Result (List ℕ) Refusal → List ReplyItemValue
-items_of (Ok message) = begins ∷ says message ∷ ends ∷ []
-items_of (Err refusal) = refuses refusal ∷ []
+abbrev pub reply_items : Result (List ℕ) Refusal → List ReplyItemValue
+reply_items (Ok message) = begins ∷ says message ∷ ends ∷ []
+reply_items (Err refusal) = refuses refusal ∷ []
 
 -- each message, in order
 abbrev pub message_items : List (List ℕ) → List ReplyItemValue

@@ -18,7 +18,7 @@ use Rattle.instance_core.specs.declared.calls.Progress.TheVariants as Part
 use Rattle.instance_core.specs.Calls.{Calls, ProgressValue, waits, has, writes, CallEventValue, head, message, fault, end, cancel, tick}
 use Rattle.instance_core.specs.Replies.{ReplyItemValue, begins, says, gives, ends, refuses, ReplyValue, IsShortReply}
 use Rattle.instance_core.specs.Answer.{Answer}
-use Rattle.instance_core.specs.Changes.{Change, state_after_changes, MadeInPart}
+use Rattle.instance_core.specs.Changes.{InstanceChange, state_after_changes, MadeInPart}
 use Rattle.instance_core.specs.Methods.{ShowsAfter, ShowsInPart}
 use Rattle.instance_core.specs.State.{InstanceState}
 use Rattle.instance_core.specs.Slots.{InstanceSlots, state_in}
@@ -100,11 +100,12 @@ slots_of settings moment contents calls = record {
 }
 
 -- the state of an instance that is configured so, with contents whose texts stand in a pool
-abbrev pub state_of : Settings → ℕ → Slots → Contents → Calls → InstanceState
-state_of settings moment p contents calls = state_in p (slots_of settings moment contents calls)
+abbrev pub contents_state : Settings → ℕ → Slots → Contents → Calls → InstanceState
+contents_state settings moment p contents calls =
+    state_in p (slots_of settings moment contents calls)
 
 -- the changes are made, and for want of memory a front of them
-pub record Makes (result : CallResult) (changes : List Change)
+pub record Makes (result : CallResult) (changes : List InstanceChange)
     (old new : InstanceState) : Type 0 where
   pub whole : OnOk result (new ≡ state_after_changes changes old)
   pub memory : OnErr result (MadeInPart changes old new)

@@ -7,7 +7,7 @@ use Rattle.instance_view.specs.Visible.{Blob}
 use Rattle.instance_view.specs.Shown.{ViewValue, visible_in, holders}
 use Rattle.uploads.specs.Uploads.{UploadList}
 use Rattle.instance_core.specs.Calls.{Calls}
-use Rattle.instance_core.specs.State.{InstanceState, WithinLimits}
+use Rattle.instance_core.specs.State.{InstanceState, IsInstanceWithin}
 
 pub record InstanceSlots : Type 0 where
   pub name : List ℕ
@@ -37,10 +37,10 @@ abbrev pub KeepsConfig : InstanceSlots → InstanceSlots → Type 0
 KeepsConfig old new = (new.name ≡ old.name) × (new.quota ≡ old.quota) × (new.slots ≡ old.slots)
 
 -- how often the instance holds each slot of the pool
-abbrev pub holders_of : InstanceSlots → Holders
-holders_of i = holders i.view
+abbrev pub holders_of_instance : InstanceSlots → Holders
+holders_of_instance i = holders i.view
 
 -- the pool counts the instance among its holders, and the instance keeps its limits
-pub record IsKept (p : Slots) (i : InstanceSlots) : Type 0 where
-  pub held : AreHeld p (holders_of i)
-  pub within : WithinLimits (state_in p i)
+pub record IsInstanceInPool (p : Slots) (i : InstanceSlots) : Type 0 where
+  pub held : AreHeld p (holders_of_instance i)
+  pub within : IsInstanceWithin (state_in p i)

@@ -5,12 +5,11 @@ use Rattle.std.specs.Prelude.{ℕ, ◌≤◌, List, []}
 use Rattle.std.specs.List.{IsDistinct}
 use Rattle.std.specs.Map.{keys_of}
 use Rattle.instance_view.specs.Visible.{Blob}
-use Rattle.quota_evict.specs.Within.{Within}
-use Rattle.uploads.specs.Uploads.{UploadList, WithinLimits as WithinUploads}
-use Rattle.tree_calls.specs.Complete.{AreWithin}
+use Rattle.quota_evict.specs.Within.{AreBlobsWithin, most_stored_bytes}
+use Rattle.uploads.specs.Uploads.{UploadList, AreUploadsWithin}
+use Rattle.tree_calls.specs.Complete.{AreResultsWithin}
 use Rattle.instance_core.specs.Calls.{Calls, same_call, KeepShort}
-use Rattle.quota_evict.specs.Kept.{most_stored_bytes}
-pub use Rattle.quota_evict.specs.Kept.{most_blobs}
+pub use Rattle.quota_evict.specs.Within.{most_blobs}
 
 pub record InstanceState : Type 0 where
   pub name : List ℕ
@@ -39,11 +38,11 @@ abbrev pub at_moment : ℕ → InstanceState → InstanceState
 at_moment moment s = record s { moment = moment }
 
 -- the limits that an instance keeps
-pub record WithinLimits (s : InstanceState) : Type 0 where
+pub record IsInstanceWithin (s : InstanceState) : Type 0 where
   pub quota : s.quota ≤ most_stored_bytes
-  pub texts : Within most_blobs s.quota s.visible
-  pub uploads : WithinUploads s.quota s.uploads
-  pub results : AreWithin s.results
+  pub texts : AreBlobsWithin most_blobs s.quota s.visible
+  pub uploads : AreUploadsWithin s.quota s.uploads
+  pub results : AreResultsWithin s.results
   -- no call stands twice
   pub calls : IsDistinct same_call (keys_of s.calls)
   pub messages : KeepShort s.calls

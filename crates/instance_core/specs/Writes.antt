@@ -3,13 +3,13 @@ use Rattle.std.specs.Prelude.{ℕ, Bool, true, false, List, [], ◌∷◌, Optio
 use Rattle.rpc.specs.declared.refusal.Refusal.{Refusal}
 use Rattle.uploads.specs.declared.error.UploadError.{UploadError}
 use Rattle.uploads.specs.Writing.{after_piece}
-use Rattle.bytestream.specs.Writing.{OpenWriteValue, PartValue, WrittenValue, WriteState, FirstAsked, state_of, first_asked, next_asked, part_outcome, first_answer, next_answer, after_first, after_next}
-use Rattle.instance_core.specs.Changes.{Change, Wrote}
+use Rattle.bytestream.specs.Writing.{OpenWriteValue, PartValue, WrittenValue, WriteState, FirstAsked, write_state_with, first_asked, next_asked, part_outcome, first_answer, next_answer, after_first, after_next}
+use Rattle.instance_core.specs.Changes.{InstanceChange, Wrote}
 use Rattle.instance_core.specs.State.{InstanceState, most_blobs}
 
 -- the texts and the uploads of an instance
 abbrev pub write_state : InstanceState → WriteState
-write_state s = state_of s.visible s.uploads
+write_state s = write_state_with s.visible s.uploads
 
 -- ---- a piece that was taken, before its upload ends
 
@@ -29,12 +29,12 @@ part_of (Err refusal) = Err refusal
 
 -- ---- what a message leaves: its piece first, and then the end of its upload
 
-abbrev pub first_changes : InstanceState → List ℕ → List Change
+abbrev pub first_changes : InstanceState → List ℕ → List InstanceChange
 first_changes s message =
     Wrote (with_part true s (part_of (first_asked s.name message)))
     ∷ Wrote (after_first s.name most_blobs s.quota s.moment message (write_state s)) ∷ []
 
-abbrev pub next_changes : InstanceState → OpenWriteValue → List ℕ → List Change
+abbrev pub next_changes : InstanceState → OpenWriteValue → List ℕ → List InstanceChange
 next_changes s write message =
     Wrote (with_part false s (next_asked write message))
     ∷ Wrote (after_next write most_blobs s.quota s.moment message (write_state s)) ∷ []

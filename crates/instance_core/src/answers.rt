@@ -5,10 +5,10 @@ ghost use Rattle.blob_pool.specs.Slots.{Slots};
 ghost use Rattle.blob_pool.specs.Moves.{Moves};
 ghost use Rattle.instance_view.specs.Shown.{holders};
 ghost use Rattle.instance_core.specs.Calls.{call_at, IsShortRequest, AreInCourse};
-ghost use Rattle.instance_core.specs.Contents.{AreContentsKept, AreContentsWithin};
+ghost use Rattle.instance_core.specs.Contents.{AreContentsInPool, AreContentsWithin};
 ghost use Rattle.instance_core.specs.Answer.{head_answer, message_answer, fault_answer, request_end_answer};
-ghost use Rattle.instance_core.specs.Shown.{Gives, ChangesCalls, Makes, state_of};
-ghost use Rattle.instance_core.specs.Given.{holders_given};
+ghost use Rattle.instance_core.specs.Shown.{Gives, ChangesCalls, Makes, contents_state};
+ghost use Rattle.instance_core.specs.ReplyHolders.{result_holders};
 
 use crate::calls::{Call, Calls, Progress, let_go};
 use crate::contents::{Contents, Settings};
@@ -30,7 +30,7 @@ pub fn on_head(
 ) -> Result<Vec<Reply>, AllocError>
     ensures replies { (p : Slots) →
         Gives p result (head_answer id method (call_at id calls.old)).replies }
-    ensures given { (k : ℕ) → holders_given result k ≡ 0 }
+    ensures given { (k : ℕ) → result_holders result k ≡ 0 }
     ensures changed { ChangesCalls result (head_answer id method (call_at id calls.old))
         calls.old calls.new }
     ensures err { OnErr result (calls.new ≡ calls.old) }
@@ -59,13 +59,15 @@ pub fn on_message(
     message: Vec<u8>,
 ) -> Result<Vec<Reply>, AllocError>
     requires request { IsShortRequest message.items }
-    requires kept { AreContentsKept settings.now pool.old contents.old }
-    ensures replies { let old = state_of settings.now moment pool.old contents.old calls.old in
+    requires kept { AreContentsInPool settings.now pool.old contents.old }
+    ensures replies { let old = contents_state settings.now moment pool.old contents.old calls.old
+        in
         let answer = message_answer old id message.items (call_at id calls.old) in
         (p : Slots) → Gives p result answer.replies }
-    ensures given { (k : ℕ) → holders_given result k ≡ 0 }
-    ensures changed { let old = state_of settings.now moment pool.old contents.old calls.old in
-        let new = state_of settings.now moment pool.new contents.new calls.new in
+    ensures given { (k : ℕ) → result_holders result k ≡ 0 }
+    ensures changed { let old = contents_state settings.now moment pool.old contents.old calls.old
+        in
+        let new = contents_state settings.now moment pool.new contents.new calls.new in
         Makes result (message_answer old id message.items (call_at id calls.old)).changes old new }
     ensures moves { Moves pool.old pool.new (holders contents.old.view)
         (holders contents.new.view) }
@@ -120,7 +122,7 @@ pub fn on_fault(
 ) -> Result<Vec<Reply>, AllocError>
     ensures replies { (p : Slots) →
         Gives p result (fault_answer id refusal (call_at id calls.old)).replies }
-    ensures given { (k : ℕ) → holders_given result k ≡ 0 }
+    ensures given { (k : ℕ) → result_holders result k ≡ 0 }
     ensures changed { ChangesCalls result (fault_answer id refusal (call_at id calls.old))
         calls.old calls.new }
     ensures err { OnErr result (calls.new ≡ calls.old) }
@@ -141,16 +143,16 @@ pub fn on_end(
     calls: &mut Calls,
     id: CallId,
 ) -> Result<Vec<Reply>, AllocError>
-    requires kept { AreContentsKept settings.now pool.old contents.old }
+    requires kept { AreContentsInPool settings.now pool.old contents.old }
     ensures replies { (moment : ℕ) →
-        let old = state_of settings.now moment pool.old contents.old calls.old in
+        let old = contents_state settings.now moment pool.old contents.old calls.old in
         Gives pool.new result (request_end_answer old id (call_at id calls.old)).replies }
     ensures changed { (moment : ℕ) →
-        let old = state_of settings.now moment pool.old contents.old calls.old in
-        let new = state_of settings.now moment pool.new contents.new calls.new in
+        let old = contents_state settings.now moment pool.old contents.old calls.old in
+        let new = contents_state settings.now moment pool.new contents.new calls.new in
         Makes result (request_end_answer old id (call_at id calls.old)).changes old new }
     ensures moves { Moves pool.old pool.new (holders contents.old.view)
-        (λ k. holders contents.new.view k + holders_given result k) }
+        (λ k. holders contents.new.view k + result_holders result k) }
     ensures within { AreContentsWithin settings.now pool.new contents.new }
     ensures calls { AreInCourse calls.new }
 {

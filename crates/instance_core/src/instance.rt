@@ -4,13 +4,13 @@ ghost use Rattle.std.specs.Prelude.{◌≡◌, ◌≤◌, ◌+◌, ◌^◌, ℕ,
 ghost use Rattle.blob_pool.specs.Slots.{Slots};
 ghost use Rattle.blob_pool.specs.Moves.{Moves};
 ghost use Rattle.instance_core.specs.Calls.{IsShortEvent, cancel, tick};
-ghost use Rattle.instance_core.specs.State.{WithinLimits, new_instance, at_moment};
-ghost use Rattle.instance_core.specs.Slots.{KeepsConfig, state_in, holders_of, IsKept};
+ghost use Rattle.instance_core.specs.State.{IsInstanceWithin, new_instance, at_moment};
+ghost use Rattle.instance_core.specs.Slots.{KeepsConfig, state_in, holders_of_instance, IsInstanceInPool};
 ghost use Rattle.instance_core.specs.Changes.{MadeInPart};
 ghost use Rattle.instance_core.specs.Answer.{answer, state_after};
 ghost use Rattle.instance_core.specs.Shown.{Gives, GivesShort, event_shown};
-ghost use Rattle.instance_core.specs.Given.{holders_given};
-ghost use Rattle.quota_evict.specs.Kept.{most_stored_bytes};
+ghost use Rattle.instance_core.specs.ReplyHolders.{result_holders};
+ghost use Rattle.quota_evict.specs.Within.{most_stored_bytes};
 
 use crate::answers::{on_end, on_fault, on_head, on_message};
 use crate::calls::Calls;
@@ -36,7 +36,7 @@ pub struct Instance {
 
 impl Model for Instance {
     ghost use Rattle.std.specs.Prelude.{◌≡◌, ◌≤◌, ◌^◌};
-    ghost use Rattle.quota_evict.specs.Kept.{most_blobs, most_stored_bytes};
+    ghost use Rattle.quota_evict.specs.Within.{most_blobs, most_stored_bytes};
     ghost use Rattle.instance_core.specs.Slots.{InstanceSlots};
 
     ghost Value = { InstanceSlots };
@@ -58,8 +58,8 @@ impl Instance {
         ensures opened { (p : Slots) →
             IfOk result (λ instance. state_in p instance ≡ new_instance name.now quota slots) }
         ensures within { (p : Slots) →
-            IfOk result (λ instance. WithinLimits (state_in p instance)) }
-        ensures holders { (k : ℕ) → IfOk result (λ instance. holders_of instance k ≡ 0) }
+            IfOk result (λ instance. IsInstanceWithin (state_in p instance)) }
+        ensures holders { (k : ℕ) → IfOk result (λ instance. holders_of_instance instance k ≡ 0) }
     {
         let name = String::from_str(alloc, name)?;
         let view = View::new(alloc, MOST_BLOBS)?;
@@ -87,8 +87,9 @@ impl Instance {
     pub fn set_moment(&mut self, moment: u64)
         ensures changed { (p : Slots) →
             state_in p self.new ≡ at_moment moment (state_in p self.old) }
-        ensures holders { (k : ℕ) → holders_of self.new k ≡ holders_of self.old k }
-        ensures kept { (p : Slots) → IsKept p self.old → IsKept p self.new }
+        ensures holders { (k : ℕ) → holders_of_instance self.new k
+            ≡ holders_of_instance self.old k }
+        ensures kept { (p : Slots) → IsInstanceInPool p self.old → IsInstanceInPool p self.new }
         ensures config { KeepsConfig self.old self.new }
     {
         self.moment = moment;
@@ -105,7 +106,7 @@ impl Instance {
         event: CallEvent,
     ) -> Result<Vec<Reply>, AllocError>
         requires short { IsShortEvent (event_shown event) }
-        requires kept { IsKept pool.old self.old }
+        requires kept { IsInstanceInPool pool.old self.old }
         ensures replies { let old = state_in pool.old self.old in
             Gives pool.new result (answer old (event_shown event)).replies }
         ensures changed { let old = state_in pool.old self.old in
@@ -113,9 +114,9 @@ impl Instance {
         ensures memory { let old = state_in pool.old self.old in
             let changes = (answer old (event_shown event)).changes in
             OnErr result (MadeInPart changes old (state_in pool.new self.new)) }
-        ensures moves { Moves pool.old pool.new (holders_of self.old)
-            (λ k. holders_of self.new k + holders_given result k) }
-        ensures within { WithinLimits (state_in pool.new self.new) }
+        ensures moves { Moves pool.old pool.new (holders_of_instance self.old)
+            (λ k. holders_of_instance self.new k + result_holders result k) }
+        ensures within { IsInstanceWithin (state_in pool.new self.new) }
         ensures config { KeepsConfig self.old self.new }
         ensures short { GivesShort pool.new result }
     {
@@ -157,8 +158,9 @@ impl Instance {
         ensures replies { (p : Slots) → (answer (state_in p self.old) tick).replies ≡ [] }
         ensures changed { (p : Slots) → state_in p self.new
             ≡ state_after (state_in p self.old) tick }
-        ensures holders { (k : ℕ) → holders_of self.new k ≡ holders_of self.old k }
-        ensures kept { (p : Slots) → IsKept p self.old → IsKept p self.new }
+        ensures holders { (k : ℕ) → holders_of_instance self.new k
+            ≡ holders_of_instance self.old k }
+        ensures kept { (p : Slots) → IsInstanceInPool p self.old → IsInstanceInPool p self.new }
         ensures config { KeepsConfig self.old self.new }
     {
         self.contents.uploads.expire(self.moment);
@@ -170,8 +172,9 @@ impl Instance {
         ensures replies { (p : Slots) → (answer (state_in p self.old) (cancel call)).replies ≡ [] }
         ensures changed { (p : Slots) →
             state_in p self.new ≡ state_after (state_in p self.old) (cancel call) }
-        ensures holders { (k : ℕ) → holders_of self.new k ≡ holders_of self.old k }
-        ensures kept { (p : Slots) → IsKept p self.old → IsKept p self.new }
+        ensures holders { (k : ℕ) → holders_of_instance self.new k
+            ≡ holders_of_instance self.old k }
+        ensures kept { (p : Slots) → IsInstanceInPool p self.old → IsInstanceInPool p self.new }
         ensures config { KeepsConfig self.old self.new }
     {
         self.calls.end(call);

@@ -5,7 +5,7 @@ ghost use Rattle.instance_core.specs.Answer.{answer};
 ghost use Rattle.instance_core.specs.Calls.{CallEventValue};
 ghost use Rattle.instance_core.specs.Named.{StoresNamed};
 ghost use Rattle.instance_core.specs.NamedReplies.{ServesNamed};
-ghost use Rattle.instance_core.specs.State.{InstanceState, WithinLimits};
+ghost use Rattle.instance_core.specs.State.{InstanceState, IsInstanceWithin};
 
 /// A call stores bytes only under the digest that names them, whatever its request says: a batch,
 /// and a Write too, message by message.
@@ -20,6 +20,6 @@ pub fn calls_store_named_texts()
 /// what their digests say; and a result that GetActionResult gives is the instance's own, of which
 /// each blob is there (remote_execution.proto).
 pub fn calls_serve_named_blobs()
-    ensures { (s : InstanceState) (event : CallEventValue) → WithinLimits s
+    ensures { (s : InstanceState) (event : CallEventValue) → IsInstanceWithin s
         → ServesNamed (record { state = s; event = event }) }
 {}

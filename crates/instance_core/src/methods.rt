@@ -6,11 +6,11 @@ ghost use Rattle.blob_pool.specs.Moves.{Moves};
 ghost use Rattle.instance_view.specs.Shown.{visible_in, holders};
 ghost use Rattle.cas_service.specs.Answers.{Answers, IfAnswered};
 ghost use Rattle.instance_core.specs.Calls.{Calls};
-ghost use Rattle.instance_core.specs.Contents.{AreContentsKept, AreContentsWithin};
-ghost use Rattle.instance_core.specs.Methods.{IsPlain, LeavesResults, is_served, reply_to, items_to, request_changes, ShowsAfter, ShowsInPart};
+ghost use Rattle.instance_core.specs.Contents.{AreContentsInPool, AreContentsWithin};
+ghost use Rattle.instance_core.specs.Methods.{AnswersFromTexts, LeavesResults, is_served, reply_to, items_to, request_changes, ShowsAfter, ShowsInPart};
 ghost use Rattle.instance_core.specs.Answer.{reply_with, reply_of_items};
-ghost use Rattle.instance_core.specs.Shown.{Gives, Makes, MakesTexts, state_of};
-ghost use Rattle.instance_core.specs.Given.{holders_given};
+ghost use Rattle.instance_core.specs.Shown.{Gives, Makes, MakesTexts, contents_state};
+ghost use Rattle.instance_core.specs.ReplyHolders.{result_holders};
 
 use crate::capabilities::get_capabilities;
 use crate::contents::{Contents, Settings};
@@ -53,21 +53,21 @@ fn reply_to(
     method: Method,
     message: &[u8],
 ) -> Result<Vec<u8>, CallError>
-    requires kept { AreContentsKept settings.now pool.old contents.old }
-    requires plain { IsPlain method }
+    requires kept { AreContentsInPool settings.now pool.old contents.old }
+    requires plain { AnswersFromTexts method }
     ensures reply { (moment : ℕ) (calls : Calls) →
-        let old = state_of settings.now moment pool.old contents.old calls in
+        let old = contents_state settings.now moment pool.old contents.old calls in
         Answers (λ reply. reply.items) result (reply_to method old message.now) }
     ensures changed { (moment : ℕ) (calls : Calls) →
-        let old = state_of settings.now moment pool.old contents.old calls in
+        let old = contents_state settings.now moment pool.old contents.old calls in
         IfAnswered result (ShowsAfter method message.now old
         (visible_in pool.new contents.new.view)) }
     ensures memory { (moment : ℕ) (calls : Calls) →
-        let old = state_of settings.now moment pool.old contents.old calls in
+        let old = contents_state settings.now moment pool.old contents.old calls in
         OnErr result (ShowsInPart method message.now old (visible_in pool.new contents.new.view)) }
     ensures moves { Moves pool.old pool.new (holders contents.old.view)
         (holders contents.new.view) }
-    ensures kept { AreContentsKept settings.now pool.new contents.new }
+    ensures kept { AreContentsInPool settings.now pool.new contents.new }
     ensures uploads { contents.new.uploads ≡ contents.old.uploads }
     ensures results { contents.new.results ≡ contents.old.results }
 {
@@ -111,18 +111,18 @@ fn answer_by_message(
     method: Method,
     message: &[u8],
 ) -> Result<Vec<Reply>, AllocError>
-    requires kept { AreContentsKept settings.now pool.old contents.old }
-    requires plain { IsPlain method }
+    requires kept { AreContentsInPool settings.now pool.old contents.old }
+    requires plain { AnswersFromTexts method }
     ensures replies { (moment : ℕ) (calls : Calls) →
-        let old = state_of settings.now moment pool.old contents.old calls in
+        let old = contents_state settings.now moment pool.old contents.old calls in
         (p : Slots) → Gives p result (reply_with call (reply_to method old message.now)) }
-    ensures given { (k : ℕ) → holders_given result k ≡ 0 }
+    ensures given { (k : ℕ) → result_holders result k ≡ 0 }
     ensures texts { (moment : ℕ) (calls : Calls) →
-        let old = state_of settings.now moment pool.old contents.old calls in
+        let old = contents_state settings.now moment pool.old contents.old calls in
         MakesTexts result method message.now old (visible_in pool.new contents.new.view) }
     ensures moves { Moves pool.old pool.new (holders contents.old.view)
         (holders contents.new.view) }
-    ensures kept { AreContentsKept settings.now pool.new contents.new }
+    ensures kept { AreContentsInPool settings.now pool.new contents.new }
     ensures uploads { contents.new.uploads ≡ contents.old.uploads }
     ensures results { contents.new.results ≡ contents.old.results }
 {
@@ -141,16 +141,16 @@ fn answer_from_texts(
     method: Method,
     message: &[u8],
 ) -> Result<Vec<Reply>, AllocError>
-    requires kept { AreContentsKept settings.now pool.old contents.old }
+    requires kept { AreContentsInPool settings.now pool.old contents.old }
     requires apart { LeavesResults method }
     ensures replies { (moment : ℕ) (calls : Calls) →
-        let old = state_of settings.now moment pool.old contents.old calls in
+        let old = contents_state settings.now moment pool.old contents.old calls in
         Gives pool.new result (reply_of_items call (items_to method old message.now)) }
     ensures texts { (moment : ℕ) (calls : Calls) →
-        let old = state_of settings.now moment pool.old contents.old calls in
+        let old = contents_state settings.now moment pool.old contents.old calls in
         MakesTexts result method message.now old (visible_in pool.new contents.new.view) }
     ensures moves { Moves pool.old pool.new (holders contents.old.view)
-        (λ k. holders contents.new.view k + holders_given result k) }
+        (λ k. holders contents.new.view k + result_holders result k) }
     ensures within { AreContentsWithin settings.now pool.new contents.new }
     ensures uploads { contents.new.uploads ≡ contents.old.uploads }
     ensures results { contents.new.results ≡ contents.old.results }
@@ -191,16 +191,16 @@ pub fn answer_request(
     method: Method,
     message: &[u8],
 ) -> Result<Vec<Reply>, AllocError>
-    requires kept { AreContentsKept settings.now pool.old contents.old }
+    requires kept { AreContentsInPool settings.now pool.old contents.old }
     ensures replies { (moment : ℕ) (calls : Calls) →
-        let old = state_of settings.now moment pool.old contents.old calls in
+        let old = contents_state settings.now moment pool.old contents.old calls in
         Gives pool.new result (reply_of_items call (items_to method old message.now)) }
     ensures changed { (moment : ℕ) (calls : Calls) →
-        let old = state_of settings.now moment pool.old contents.old calls in
-        let new = state_of settings.now moment pool.new contents.new calls in
+        let old = contents_state settings.now moment pool.old contents.old calls in
+        let new = contents_state settings.now moment pool.new contents.new calls in
         Makes result (request_changes method old message.now) old new }
     ensures moves { Moves pool.old pool.new (holders contents.old.view)
-        (λ k. holders contents.new.view k + holders_given result k) }
+        (λ k. holders contents.new.view k + result_holders result k) }
     ensures within { AreContentsWithin settings.now pool.new contents.new }
     ensures uploads { contents.new.uploads ≡ contents.old.uploads }
 {

@@ -4,7 +4,7 @@ ghost use Rattle.std.specs.Prelude.{◌≡◌, ◌≤◌, ℕ, length, Ok, OnOk,
 ghost use Rattle.blob_pool.specs.Slots.{Slots, count_at};
 ghost use Rattle.blob_pool.specs.Moves.{Moves, HasRoom, no_holders};
 ghost use Rattle.instance_view.specs.Shown.{visible_in, holders, holders_seen, text_seen};
-ghost use Rattle.quota_evict.specs.Within.{Within};
+ghost use Rattle.quota_evict.specs.Within.{AreBlobsWithin};
 ghost use Rattle.cas_service.specs.Changes.{MadeInPart, visible_after_changes};
 ghost use Rattle.bytestream.specs.Reading.{read_asked, read_answer};
 ghost use Rattle.bytestream.specs.Shown.{source_shown};
@@ -12,7 +12,7 @@ ghost use Rattle.instance_core.specs.Replies.{read_items};
 ghost use Rattle.instance_core.specs.Methods.{use_asked};
 ghost use Rattle.instance_core.specs.Answer.{reply_of_items};
 ghost use Rattle.instance_core.specs.Shown.{Gives};
-ghost use Rattle.instance_core.specs.Given.{holders_given};
+ghost use Rattle.instance_core.specs.ReplyHolders.{result_holders};
 
 use crate::event::{CallId, GivenRange, Reply};
 use crate::replies::{empty_reply, range_reply, refusal_in, reply_with};
@@ -33,7 +33,7 @@ fn give(
     requires within { source.now.until ≤ length (text_seen pool.old source.now.text) }
     ensures replies { let answer = Ok (source_shown pool.old source.now) in
         Gives pool.new result (reply_of_items call (read_items answer)) }
-    ensures moves { Moves pool.old pool.new (holders_seen source.now.text) (holders_given result) }
+    ensures moves { Moves pool.old pool.new (holders_seen source.now.text) (result_holders result) }
 {
     let Seen::Text(text) = source.text else {
         return empty_reply(alloc, call);
@@ -80,8 +80,9 @@ pub fn answer_read(
         OnErr result (MadeInPart limit quota changes (visible_in p view.old)
         (visible_in p view.new)) }
     ensures within { (p : Slots) (limit quota : ℕ) →
-        Within limit quota (visible_in p view.old) → Within limit quota (visible_in p view.new) }
-    ensures moves { Moves pool.old pool.new no_holders (holders_given result) }
+        AreBlobsWithin limit quota (visible_in p view.old) →
+        AreBlobsWithin limit quota (visible_in p view.new) }
+    ensures moves { Moves pool.old pool.new no_holders (result_holders result) }
     ensures holders { (k : ℕ) → holders view.new k ≡ holders view.old k }
     ensures limit { view.new.limit ≡ view.old.limit }
 {

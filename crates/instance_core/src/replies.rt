@@ -6,10 +6,10 @@ ghost use Rattle.blob_pool.specs.Slots.{Slots};
 ghost use Rattle.blob_pool.specs.Moves.{one_at};
 ghost use Rattle.cas_service.specs.declared.error.CallError.TheVariants.{Refused, NoMemory};
 ghost use Rattle.cas_service.specs.Answers.{Answers, IfNoMemory};
-ghost use Rattle.instance_core.specs.Replies.{begins, gives, ends, items_of, whole_reply_items};
+ghost use Rattle.instance_core.specs.Replies.{begins, gives, ends, reply_items, whole_reply_items};
 ghost use Rattle.instance_core.specs.Answer.{reply_of_items, reply_with};
 ghost use Rattle.instance_core.specs.Shown.{Gives, item_shown, outcome_shown, range_shown};
-ghost use Rattle.instance_core.specs.Given.{items_holders, holders_given};
+ghost use Rattle.instance_core.specs.ReplyHolders.{items_holders, result_holders};
 
 use crate::event::{CallId, GivenRange, Reply, ReplyItem};
 use cas_service::CallError;
@@ -30,7 +30,7 @@ pub fn refusal_in(error: CallError) -> Result<Refusal, AllocError>
 /// What is sent in answer to a call: one message with status OK, or a refusal.
 fn items_of(alloc: Global, outcome: Result<Vec<u8>, Refusal>) -> Result<Vec<ReplyItem>, AllocError>
     ensures items { (p : Slots) → IfOk result (λ items.
-        map (item_shown p) items.items ≡ items_of (outcome_shown outcome)) }
+        map (item_shown p) items.items ≡ reply_items (outcome_shown outcome)) }
     ensures given { (k : ℕ) → IfOk result (λ items. items_holders items.items k ≡ 0) }
 {
     let mut items = Vec::new(alloc);
@@ -64,7 +64,7 @@ fn items_of_messages(alloc: Global, messages: Vec<Vec<u8>>) -> Result<Vec<ReplyI
 fn reply_of(alloc: Global, call: CallId, items: Vec<ReplyItem>) -> Result<Vec<Reply>, AllocError>
     ensures replies { (p : Slots) →
         Gives p result (reply_of_items call (map (item_shown p) items.items)) }
-    ensures given { (k : ℕ) → OnOk result (holders_given result k ≡ items_holders items.items k) }
+    ensures given { (k : ℕ) → OnOk result (result_holders result k ≡ items_holders items.items k) }
 {
     let mut replies = Vec::new(alloc);
     replies.push(Reply { call, items })?;
@@ -78,7 +78,7 @@ pub fn reply_with(
     outcome: Result<Vec<u8>, Refusal>,
 ) -> Result<Vec<Reply>, AllocError>
     ensures replies { (p : Slots) → Gives p result (reply_with call (outcome_shown outcome)) }
-    ensures given { (k : ℕ) → holders_given result k ≡ 0 }
+    ensures given { (k : ℕ) → result_holders result k ≡ 0 }
 {
     let items = items_of(alloc, outcome)?;
     reply_of(alloc, call, items)
@@ -87,7 +87,7 @@ pub fn reply_with(
 /// A whole reply without a message.
 pub fn empty_reply(alloc: Global, call: CallId) -> Result<Vec<Reply>, AllocError>
     ensures replies { (p : Slots) → Gives p result (reply_of_items call (begins ∷ ends ∷ [])) }
-    ensures given { (k : ℕ) → holders_given result k ≡ 0 }
+    ensures given { (k : ℕ) → result_holders result k ≡ 0 }
 {
     let mut items = Vec::new(alloc);
     items.push(ReplyItem::Begins)?;
@@ -99,7 +99,7 @@ pub fn empty_reply(alloc: Global, call: CallId) -> Result<Vec<Reply>, AllocError
 pub fn range_reply(alloc: Global, call: CallId, range: GivenRange) -> Result<Vec<Reply>, AllocError>
     ensures replies { (p : Slots) →
         Gives p result (reply_of_items call (begins ∷ gives (range_shown p range) ∷ ends ∷ [])) }
-    ensures given { (k : ℕ) → OnOk result (holders_given result k ≡ one_at range.text k) }
+    ensures given { (k : ℕ) → OnOk result (result_holders result k ≡ one_at range.text k) }
 {
     let mut items = Vec::new(alloc);
     items.push(ReplyItem::Begins)?;
@@ -117,7 +117,7 @@ pub fn messages_reply(
     ensures replies { (p : Slots) → Gives p result
         (reply_of_items call
         (whole_reply_items (Ok (map (λ message. message.items) messages.items)))) }
-    ensures given { (k : ℕ) → holders_given result k ≡ 0 }
+    ensures given { (k : ℕ) → result_holders result k ≡ 0 }
 {
     let items = items_of_messages(alloc, messages)?;
     reply_of(alloc, call, items)
@@ -132,7 +132,7 @@ pub fn settle(
     ensures replies { (answer : Result (List ℕ) Refusal)
         → Answers (λ reply. reply.items) outcome answer
         → (p : Slots) → Gives p result (reply_with call answer) }
-    ensures given { (k : ℕ) → holders_given result k ≡ 0 }
+    ensures given { (k : ℕ) → result_holders result k ≡ 0 }
     ensures memory { IfNoMemory outcome (OnOk result ⊥) }
 {
     match outcome {

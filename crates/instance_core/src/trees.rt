@@ -3,13 +3,13 @@
 ghost use Rattle.std.specs.Prelude.{◌≡◌, ◌≤◌, ℕ, OnOk, OnErr};
 ghost use Rattle.blob_pool.specs.Slots.{Slots, count_at};
 ghost use Rattle.instance_view.specs.Shown.{visible_in, holders};
-ghost use Rattle.quota_evict.specs.Kept.{AreKept};
+ghost use Rattle.quota_evict.specs.InPool.{IsViewInPool};
 ghost use Rattle.cas_service.specs.Changes.{MadeInPart, visible_after_changes};
 ghost use Rattle.tree_calls.specs.GetTree.{get_tree_replies, get_tree_changes};
 ghost use Rattle.instance_core.specs.Replies.{whole_reply_items};
 ghost use Rattle.instance_core.specs.Answer.{reply_of_items};
 ghost use Rattle.instance_core.specs.Shown.{Gives};
-ghost use Rattle.instance_core.specs.Given.{holders_given};
+ghost use Rattle.instance_core.specs.ReplyHolders.{result_holders};
 
 use crate::event::{CallId, Reply};
 use crate::replies::{messages_reply, refusal_in, reply_with};
@@ -32,7 +32,7 @@ pub fn answer_tree(
     ensures replies { let answer = get_tree_replies own.now
         (visible_in pool.now view.old) message.now in
         (p : Slots) → Gives p result (reply_of_items call (whole_reply_items answer)) }
-    ensures given { (k : ℕ) → holders_given result k ≡ 0 }
+    ensures given { (k : ℕ) → result_holders result k ≡ 0 }
     ensures changed { (p : Slots) (quota : ℕ) →
         let changes = get_tree_changes own.now (visible_in pool.now view.old) message.now in
         OnOk result (visible_in p view.new
@@ -42,7 +42,8 @@ pub fn answer_tree(
         OnErr result
         (MadeInPart view.old.limit quota changes (visible_in p view.old) (visible_in p view.new)) }
     ensures holders { (k : ℕ) → holders view.new k ≡ holders view.old k }
-    ensures kept { (p : Slots) (quota : ℕ) → AreKept quota p view.old → AreKept quota p view.new }
+    ensures kept { (p : Slots) (quota : ℕ) → IsViewInPool quota p view.old →
+        IsViewInPool quota p view.new }
     ensures limit { view.new.limit ≡ view.old.limit }
 {
     match get_tree(alloc, own, view, pool, message) {

@@ -11,10 +11,10 @@ ghost use Rattle.bytestream.specs.Size.{size_limit};
 ghost use Rattle.bytestream.specs.Writing.{WrittenValue};
 ghost use Rattle.bytestream.specs.Shown.{open_write_shown, written_shown, IfGoes};
 ghost use Rattle.instance_core.specs.Calls.{without_call, AreInCourse};
-ghost use Rattle.instance_core.specs.Contents.{AreContentsKept, AreContentsWithin};
+ghost use Rattle.instance_core.specs.Contents.{AreContentsInPool, AreContentsWithin};
 ghost use Rattle.instance_core.specs.Answer.{final_answer, first_write_answer, next_write_answer, first_message_answer};
-ghost use Rattle.instance_core.specs.Shown.{Gives, ChangesCalls, Makes, state_of, outcome_shown};
-ghost use Rattle.instance_core.specs.Given.{holders_given};
+ghost use Rattle.instance_core.specs.Shown.{Gives, ChangesCalls, Makes, contents_state, outcome_shown};
+ghost use Rattle.instance_core.specs.ReplyHolders.{result_holders};
 
 use crate::calls::{Call, Calls, Progress};
 use crate::contents::{Contents, Settings};
@@ -36,7 +36,7 @@ pub fn finish(
     requires calls { AreInCourse calls.old }
     ensures replies { (p : Slots) → Gives p result
         (final_answer id (outcome_shown outcome)).replies }
-    ensures given { (k : ℕ) → holders_given result k ≡ 0 }
+    ensures given { (k : ℕ) → result_holders result k ≡ 0 }
     ensures changed { ChangesCalls result
         (final_answer id (outcome_shown outcome)) calls.old calls.new }
     ensures err { OnErr result (calls.new ≡ calls.old) }
@@ -60,7 +60,7 @@ fn settle_first(
         (λ write. (open_write_shown write).key.digest.size < size_limit) }
     ensures replies { (answer : Result WrittenValue Refusal) → Answers written_shown written answer
         → (p : Slots) → Gives p result (first_write_answer id Write [] answer).replies }
-    ensures given { (k : ℕ) → holders_given result k ≡ 0 }
+    ensures given { (k : ℕ) → result_holders result k ≡ 0 }
     ensures changed { (answer : Result WrittenValue Refusal) → Answers written_shown written answer
         → ChangesCalls result (first_write_answer id Write [] answer) calls.old calls.new }
     ensures memory { IfNoMemory written (OnOk result ⊥) }
@@ -92,7 +92,7 @@ pub fn settle_next(
     ensures replies { (answer : Result (Option (List ℕ)) Refusal)
         → Answers (option_map (λ reply. reply.items)) outcome answer
         → (p : Slots) → Gives p result (next_write_answer id [] answer).replies }
-    ensures given { (k : ℕ) → holders_given result k ≡ 0 }
+    ensures given { (k : ℕ) → result_holders result k ≡ 0 }
     ensures changed { (answer : Result (Option (List ℕ)) Refusal)
         → Answers (option_map (λ reply. reply.items)) outcome answer
         → ChangesCalls result (next_write_answer id [] answer) calls.old calls.new }
@@ -121,13 +121,15 @@ pub fn on_first_part(
     id: CallId,
     message: &[u8],
 ) -> Result<Vec<Reply>, AllocError>
-    requires kept { AreContentsKept settings.now pool.old contents.old }
+    requires kept { AreContentsInPool settings.now pool.old contents.old }
     requires calls { AreInCourse calls.old }
-    ensures replies { let old = state_of settings.now moment pool.old contents.old calls.old in
+    ensures replies { let old = contents_state settings.now moment pool.old contents.old calls.old
+        in
         (p : Slots) → Gives p result (first_message_answer old id Write message.now).replies }
-    ensures given { (k : ℕ) → holders_given result k ≡ 0 }
-    ensures changed { let old = state_of settings.now moment pool.old contents.old calls.old in
-        let new = state_of settings.now moment pool.new contents.new calls.new in
+    ensures given { (k : ℕ) → result_holders result k ≡ 0 }
+    ensures changed { let old = contents_state settings.now moment pool.old contents.old calls.old
+        in
+        let new = contents_state settings.now moment pool.new contents.new calls.new in
         Makes result (first_message_answer old id Write message.now).changes old new }
     ensures moves { Moves pool.old pool.new (holders contents.old.view)
         (holders contents.new.view) }

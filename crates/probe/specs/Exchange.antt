@@ -26,9 +26,11 @@ abbrev pub IsOutcome : Request → Status →
     (put put_after had had_after out out_after : Option (List ℕ)) → Type 0
 IsOutcome request Done put put_after had had_after out out_after =
     Appends put put_after request.bytes.now
-    × ((bytes : List ℕ) × (length bytes ≡ request.want) × Consumes had had_after bytes × Appends out out_after (hex_line bytes))
+    × ((bytes : List ℕ) × (length bytes ≡ request.want) × Consumes had had_after bytes
+    × Appends out out_after (hex_line bytes))
 IsOutcome request (TooFew count) put put_after had had_after out out_after =
-    ((bytes : List ℕ) × (length bytes ≡ count) × (count < request.want) × Consumes had had_after bytes) × Keeps out out_after
+    ((bytes : List ℕ) × (length bytes ≡ count) × (count < request.want)
+    × Consumes had had_after bytes) × Keeps out out_after
 IsOutcome request OutOfMemory put put_after had had_after out out_after = Keeps out out_after
 IsOutcome request Failed put put_after had had_after out out_after = ⊤
 IsOutcome request (BadLine number) put put_after had had_after out out_after = ⊥

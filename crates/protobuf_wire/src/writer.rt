@@ -5,7 +5,7 @@
 
 ghost use Rattle.std.specs.Prelude.{◌≡◌, ◌+◌, ◌-◌, ◌*◌, ◌<◌, ◌++◌, ℕ, List, [], take, length, OnOk, OnErr, IfOk};
 ghost use Rattle.protobuf_wire.specs.Record.{field_number_limit};
-ghost use Rattle.protobuf_wire.specs.Writing.{varint, records_text, number_field, bytes_field, message_field, payload_head, BeginsWith, Written, Text, Room, followed_by, followed_by_records, whole_room, written_text, IsText};
+ghost use Rattle.protobuf_wire.specs.Writing.{varint, records_text, number_field, bytes_field, message_field, payload_head, BeginsWith, WriterValue, Text, Room, followed_by, followed_by_records, whole_room, written_text, IsText};
 ghost use Rattle.protobuf_wire.specs.Shown.{output_shown};
 
 use base128::push_groups;
@@ -281,7 +281,7 @@ pub struct Writer {
 }
 
 impl Model for Writer {
-    ghost Value = { Written };
+    ghost Value = { WriterValue };
 
     ghost view = { λ w. output_shown w.out };
 }

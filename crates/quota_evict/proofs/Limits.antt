@@ -8,10 +8,10 @@ use Rattle.std.proofs.lemmas.Bool.Decides.{nat_tests}
 use Rattle.digest.specs.declared.Digest.{Digest}
 use Rattle.digest.specs.Naming.{Names, same_digest, digest_of}
 use Rattle.digest.proofs.Same.{same_symm}
-use Rattle.instance_view.specs.Visible.{Blob, visible_text, visible_after_use, with_match_first, total_length, visible_after_insertion}
-use Rattle.instance_view.proofs.Visibles.{total_length-with_match_first, length-with_match_first}
+use Rattle.instance_view.specs.Visible.{Blob, visible_text, visible_after_use, with_match_first, blobs_length, visible_after_insertion}
+use Rattle.instance_view.proofs.Visibles.{blobs_length-with_match_first, length-with_match_first}
 use Rattle.quota_evict.specs.Admission.{longest_front, visible_after_admission}
-use Rattle.quota_evict.specs.Within.{Within}
+use Rattle.quota_evict.specs.Within.{AreBlobsWithin}
 use Rattle.quota_evict.proofs.Fronts.{fits, longest_front-new}
 
 abbrev IsNamed : Blob → Type 0
@@ -20,7 +20,7 @@ IsNamed b = Names b.0 b.1
 abbrev Differs : Digest → Digest → Type 0
 Differs d k = same_digest d k ≡ false
 
-pub nothing_within : (limit quota : ℕ) → Within limit quota []
+pub nothing_within : (limit quota : ℕ) → AreBlobsWithin limit quota []
 unfolding IsDistinct
 nothing_within limit quota = record { bytes = omega arith; entries = omega arith; distinct = tt; named = tt }
 
@@ -85,9 +85,9 @@ with_match_first-all P t bs h = go (lookup_entry t bs) refl where
   go None is = rw is h
   go (Some b) is = rw is (found-all P t bs b h is, removed-all P t bs h)
 
-pub used_within : (limit quota : ℕ) (d : Digest) (bs : List Blob) → Within limit quota bs → Within limit quota (visible_after_use d bs)
+pub used_within : (limit quota : ℕ) (d : Digest) (bs : List Blob) → AreBlobsWithin limit quota bs → AreBlobsWithin limit quota (visible_after_use d bs)
 used_within limit quota d bs w = record {
-  bytes = rw (total_length-with_match_first (same_digest d) bs) w.bytes;
+  bytes = rw (blobs_length-with_match_first (same_digest d) bs) w.bytes;
   entries = rw (length-with_match_first (same_digest d) bs) w.entries;
   distinct = with_match_first-distinct (same_digest d) bs w.distinct;
   named = with_match_first-all IsNamed (same_digest d) bs w.named;
@@ -129,10 +129,10 @@ absent-differs d (b ∷ bs) h = go (same_digest d b.0) refl h (λ later. absent-
   go true is h ih = absurd (cc)
   go false is h ih = (is, ih h)
 
-total_length-take_le : (n : ℕ) (bs : List Blob) → total_length (take n bs) ≤ total_length bs
-total_length-take_le zero bs = omega arith
-total_length-take_le (suc n) [] = omega arith
-total_length-take_le (suc n) (b ∷ bs) = let ih = total_length-take_le n bs in omega (arith, ih)
+blobs_length-take_le : (n : ℕ) (bs : List Blob) → blobs_length (take n bs) ≤ blobs_length bs
+blobs_length-take_le zero bs = omega arith
+blobs_length-take_le (suc n) [] = omega arith
+blobs_length-take_le (suc n) (b ∷ bs) = let ih = blobs_length-take_le n bs in omega (arith, ih)
 
 length-cons_take : (b : Blob) (n : ℕ) (bs : List Blob) → length (b ∷ take n bs) ≤ n + 1
 length-cons_take b zero bs = omega arith
@@ -140,12 +140,12 @@ length-cons_take b (suc n) [] = omega arith
 length-cons_take b (suc n) (x ∷ bs) = let ih = length-cons_take b n bs in omega (arith, ih)
 
 -- a new text, and the front that leaves room for it
-new_within : (limit quota n : ℕ) (d : Digest) (text : List ℕ) (bs : List Blob) → Names d text → length text ≤ quota → lookup (same_digest d) bs ≡ None → n + 1 ≤ limit → Within limit quota bs
-    → Within limit quota ((d, text) ∷ take n (longest_front (quota - length text) bs))
+new_within : (limit quota n : ℕ) (d : Digest) (text : List ℕ) (bs : List Blob) → Names d text → length text ≤ quota → lookup (same_digest d) bs ≡ None → n + 1 ≤ limit → AreBlobsWithin limit quota bs
+    → AreBlobsWithin limit quota ((d, text) ∷ take n (longest_front (quota - length text) bs))
 new_within limit quota n d text bs names small absent most w =
     let kept = longest_front (quota - length text) bs in
     let room = fits (quota - length text) bs in
-    let less = total_length-take_le n kept in
+    let less = blobs_length-take_le n kept in
     let few = length-cons_take (d, text) n kept in
     let apart : AllByRecursion (λ (x : Blob). Differs d x.0) (take n kept) = take-all (λ (x : Blob). Differs d x.0) n kept (front-all (λ (x : Blob). Differs d x.0) (quota - length text) bs (absent-differs d bs absent)) in
     record {
@@ -162,9 +162,9 @@ unseen_absent d bs h = go (same_digest d (digest_of [])) (lookup (same_digest d)
   go false None is at h = at
   go false (Some text) is at h = absurd (cc)
 
-pub admitted_within : (limit quota : ℕ) (d : Digest) (text : List ℕ) (bs : List Blob) → 0 < limit → Names d text → Within limit quota bs → Within limit quota (visible_after_admission limit quota d text bs)
+pub admitted_within : (limit quota : ℕ) (d : Digest) (text : List ℕ) (bs : List Blob) → 0 < limit → Names d text → AreBlobsWithin limit quota bs → AreBlobsWithin limit quota (visible_after_admission limit quota d text bs)
 admitted_within limit quota d text bs some names w = go (is_some (visible_text d bs)) (nat_lt quota (length text)) refl refl where
-  go : (s t : Bool) → is_some (visible_text d bs) ≡ s → nat_lt quota (length text) ≡ t → Within limit quota (visible_after_admission limit quota d text bs)
+  go : (s t : Bool) → is_some (visible_text d bs) ≡ s → nat_lt quota (length text) ≡ t → AreBlobsWithin limit quota (visible_after_admission limit quota d text bs)
   go true t is large = rw is (used_within limit quota d bs w)
   go false true is large = rw (is, large) w
   go false false is large =

@@ -7,20 +7,20 @@ use Rattle.digest.specs.Naming.{Names}
 use Rattle.blob_pool.specs.Slots.{Slots, count_at}
 use Rattle.blob_pool.specs.Moves.{Moves}
 use Rattle.blob_pool.proofs.Moves.{held_after}
-use Rattle.instance_view.specs.Visible.{Blob, visible_text, visible_after_use, total_length, visible_after_insertion, without_oldest}
+use Rattle.instance_view.specs.Visible.{Blob, visible_text, visible_after_use, blobs_length, visible_after_insertion, without_oldest}
 use Rattle.instance_view.specs.Shown.{ViewEntry, ViewValue, blobs_in, visible_in, holders, sizes}
 use Rattle.quota_evict.specs.Admission.{longest_front, visible_after_admission}
-use Rattle.quota_evict.specs.Within.{Within}
-use Rattle.quota_evict.specs.Kept.{AreKept}
+use Rattle.quota_evict.specs.Within.{AreBlobsWithin}
+use Rattle.quota_evict.specs.InPool.{IsViewInPool}
 use Rattle.quota_evict.proofs.Limits.{take-all, nothing_within, admitted_new, admitted_within, used_within}
 
 abbrev IsNamed : Blob → Type 0
 IsNamed b = Names b.0 b.1
 
 -- the sizes of named texts
-pub sizes_named : (p : Slots) (v : ViewValue) → AllByRecursion IsNamed (visible_in p v) → sizes v.entries ≡ total_length (visible_in p v)
+pub sizes_named : (p : Slots) (v : ViewValue) → AllByRecursion IsNamed (visible_in p v) → sizes v.entries ≡ blobs_length (visible_in p v)
 sizes_named p v h = all p v.entries h where
-  all : (p : Slots) (es : List ViewEntry) → AllByRecursion IsNamed (blobs_in p es) → sizes es ≡ total_length (blobs_in p es)
+  all : (p : Slots) (es : List ViewEntry) → AllByRecursion IsNamed (blobs_in p es) → sizes es ≡ blobs_length (blobs_in p es)
   all p [] h = refl
   all p (e ∷ es) h =
       let first = h.0.size in
@@ -36,7 +36,7 @@ length-visible_in p v = all p v.entries where
 pub dropped_named : (bs cs : List Blob) → cs ≡ without_oldest bs → AllByRecursion IsNamed bs → AllByRecursion IsNamed cs
 dropped_named bs cs is h = subst (λ (xs : List Blob). AllByRecursion IsNamed xs) (sym is) (take-all IsNamed (length bs - 1) bs h)
 
-pub shorter : (bs cs : List Blob) → cs ≡ without_oldest bs → 0 < total_length bs → length cs < length bs
+pub shorter : (bs cs : List Blob) → cs ≡ without_oldest bs → 0 < blobs_length bs → length cs < length bs
 shorter [] cs is some = absurd (omega arith)
 shorter (b ∷ bs) cs is some = rw is (less (length bs) (b ∷ bs) (omega arith)) where
   less : (n : ℕ) (xs : List Blob) → length xs ≡ n + 1 → length (take (length xs - 1) xs) < length xs
@@ -69,20 +69,20 @@ pub added_named : (n : ℕ) (d : Digest) (text : List ℕ) (old bs : List Blob) 
 added_named n d text old bs is names h = subst (λ (xs : List Blob). AllByRecursion IsNamed xs) (sym is) (names, take-all IsNamed n old h)
 
 -- there is room for a text within the quota
-pub sizes_fit : (quota n : ℕ) (p : Slots) (v : ViewValue) → AreKept quota p v → quota ≤ 2 ^ 40 → n ≤ quota → sizes v.entries + n < 2 ^ 64
+pub sizes_fit : (quota n : ℕ) (p : Slots) (v : ViewValue) → IsViewInPool quota p v → quota ≤ 2 ^ 40 → n ≤ quota → sizes v.entries + n < 2 ^ 64
 sizes_fit quota n p v kept small fits =
     let same = sizes_named p v kept.within.named in
     omega (arith, same, kept.within.bytes)
 
 -- there is room for another entry
-pub entries_fit : (quota : ℕ) (p : Slots) (v : ViewValue) → AreKept quota p v → length v.entries ≤ v.limit
+pub entries_fit : (quota : ℕ) (p : Slots) (v : ViewValue) → IsViewInPool quota p v → length v.entries ≤ v.limit
 entries_fit quota p v kept = let same = length-visible_in p v in omega (arith, same, kept.within.entries)
 
 none_seen : (d : Digest) (bs : List Blob) → visible_text d bs ≡ None → is_some (visible_text d bs) ≡ false
 none_seen d bs h = ap (λ (o : Option (List ℕ)). is_some o) h
 
 -- an instance without entries, over a pool without texts
-pub kept_none : (quota : ℕ) (p : Slots) (v : ViewValue) → p ≡ [] → v.entries ≡ [] → AreKept quota p v
+pub kept_none : (quota : ℕ) (p : Slots) (v : ViewValue) → p ≡ [] → v.entries ≡ [] → IsViewInPool quota p v
 kept_none quota p v empty none =
     let counts : (k : ℕ) → count_at p k ≡ 0 = λ k. rw empty refl in
     let holds : (k : ℕ) → holders v k ≡ 0 = λ k. rw none refl in
@@ -98,18 +98,18 @@ new_text quota d text p v between new absent fits limit same put kept =
     let cut : between ≡ visible_after_insertion v.limit d text (visible_in p v) = put ∙ ap (λ (n : ℕ). visible_after_insertion n d text (visible_in p v)) same in
     admitted_new v.limit quota d text (visible_in p v) between new (none_seen d (visible_in p v) absent) fits cut kept
 
-pub kept_admitted : (quota : ℕ) (d : Digest) (text : List ℕ) (p q : Slots) (v w : ViewValue) → AreKept quota p v → 0 < v.limit → Names d text → w.limit ≡ v.limit
-    → visible_in q w ≡ visible_after_admission v.limit quota d text (visible_in p v) → Moves p q (holders v) (holders w) → AreKept quota q w
+pub kept_admitted : (quota : ℕ) (d : Digest) (text : List ℕ) (p q : Slots) (v w : ViewValue) → IsViewInPool quota p v → 0 < v.limit → Names d text → w.limit ≡ v.limit
+    → visible_in q w ≡ visible_after_admission v.limit quota d text (visible_in p v) → Moves p q (holders v) (holders w) → IsViewInPool quota q w
 kept_admitted quota d text p q v w kept some names same is m = record {
   held = held_after p q (holders v) (holders w) m kept.held;
-  within = subst (λ (n : ℕ). Within n quota (visible_in q w)) (sym same) (subst (Within v.limit quota) (sym is) (admitted_within v.limit quota d text (visible_in p v) some names kept.within));
+  within = subst (λ (n : ℕ). AreBlobsWithin n quota (visible_in q w)) (sym same) (subst (AreBlobsWithin v.limit quota) (sym is) (admitted_within v.limit quota d text (visible_in p v) some names kept.within));
 }
 
-pub kept_used : (quota : ℕ) (d : Digest) (p : Slots) (v w : ViewValue) → AreKept quota p v → w.limit ≡ v.limit → visible_in p w ≡ visible_after_use d (visible_in p v) → ((k : ℕ) → holders w k ≡ holders v k) → AreKept quota p w
+pub kept_used : (quota : ℕ) (d : Digest) (p : Slots) (v w : ViewValue) → IsViewInPool quota p v → w.limit ≡ v.limit → visible_in p w ≡ visible_after_use d (visible_in p v) → ((k : ℕ) → holders w k ≡ holders v k) → IsViewInPool quota p w
 kept_used quota d p v w kept limit is same = record {
   held = record { counted = λ k. omega (arith, same k, kept.held.counted k); others = λ k. omega (arith, same k, kept.held.others k) };
-  within = subst (λ (n : ℕ). Within n quota (visible_in p w)) (sym limit) (subst (Within v.limit quota) (sym is) (used_within v.limit quota d (visible_in p v) kept.within));
+  within = subst (λ (n : ℕ). AreBlobsWithin n quota (visible_in p w)) (sym limit) (subst (AreBlobsWithin v.limit quota) (sym is) (used_within v.limit quota d (visible_in p v) kept.within));
 }
 
-pub kept_same : (quota : ℕ) (p q : Slots) (v w : ViewValue) → AreKept quota p v → w ≡ v → q ≡ p → AreKept quota q w
-kept_same quota p q v w kept same pool = subst (λ (x : Slots). AreKept quota x w) (sym pool) (subst (λ (x : ViewValue). AreKept quota p x) (sym same) kept)
+pub kept_same : (quota : ℕ) (p q : Slots) (v w : ViewValue) → IsViewInPool quota p v → w ≡ v → q ≡ p → IsViewInPool quota q w
+kept_same quota p q v w kept same pool = subst (λ (x : Slots). IsViewInPool quota x w) (sym pool) (subst (λ (x : ViewValue). IsViewInPool quota p x) (sym same) kept)

@@ -7,13 +7,12 @@ ghost use Rattle.digest.specs.declared.Digest.{Digest};
 ghost use Rattle.digest.specs.Naming.{Names};
 ghost use Rattle.blob_pool.specs.Slots.{Slots};
 ghost use Rattle.blob_pool.specs.Moves.{Moves, AreHeld};
-ghost use Rattle.instance_view.specs.Visible.{Blob, visible_text, total_length, visible_after_insertion};
+ghost use Rattle.instance_view.specs.Visible.{Blob, visible_text, blobs_length, visible_after_insertion};
 ghost use Rattle.instance_view.specs.Shown.{visible_in, holders};
 ghost use Rattle.quota_evict.specs.Admission.{visible_after_admission, longest_front};
-ghost use Rattle.quota_evict.specs.Within.{Within};
-ghost use Rattle.quota_evict.specs.Kept.{AreKept};
+ghost use Rattle.quota_evict.specs.Within.{AreBlobsWithin, most_stored_bytes};
+ghost use Rattle.quota_evict.specs.InPool.{IsViewInPool};
 ghost use Rattle.quota_evict.specs.declared.admission.AdmitError.TheVariants.{TooLarge, NoMemory};
-ghost use Rattle.quota_evict.specs.Kept.{most_stored_bytes};
 
 use blob_pool::{Draft, Pool};
 use digest::Digest;
@@ -79,7 +78,7 @@ fn store(
     draft: Draft,
 ) -> Result<(), Draft>
     requires quota { quota ≤ most_stored_bytes }
-    requires kept { AreKept quota pool.old view.old }
+    requires kept { IsViewInPool quota pool.old view.old }
     requires named { Names digest.now draft.text }
     requires absent { (p : Slots) → visible_text digest.now (visible_in p view.old) ≡ None }
     requires fits { length draft.text ≤ quota }
@@ -90,7 +89,7 @@ fn store(
     ensures back { IfErr result (λ given. given.text ≡ draft.text) }
     ensures moves { Moves pool.old pool.new (holders view.old) (holders view.new) }
     ensures limit { view.new.limit ≡ view.old.limit }
-    ensures kept { AreKept quota pool.new view.new }
+    ensures kept { IsViewInPool quota pool.new view.new }
 {
     let limit = view.limit();
     view.add(pool, digest, draft)?;
@@ -109,7 +108,7 @@ pub fn admit_draft(
     draft: Draft,
 ) -> Result<(), (AdmitError, Draft)>
     requires quota { quota ≤ most_stored_bytes }
-    requires kept { AreKept quota pool.old view.old }
+    requires kept { IsViewInPool quota pool.old view.old }
     requires named { Names digest.now draft.text }
     ensures ok { OnOk result (visible_in pool.new view.new
         ≡ visible_after_admission view.old.limit quota digest.now draft.text
@@ -121,7 +120,7 @@ pub fn admit_draft(
     ensures err { OnErr result ((view.new ≡ view.old) × (pool.new ≡ pool.old)) }
     ensures back { IfErr result (λ e. e.1.text ≡ draft.text) }
     ensures moves { Moves pool.old pool.new (holders view.old) (holders view.new) }
-    ensures kept { AreKept quota pool.new view.new }
+    ensures kept { IsViewInPool quota pool.new view.new }
     ensures limit { view.new.limit ≡ view.old.limit }
 {
     let is_there = view.touch(digest);
@@ -147,7 +146,7 @@ pub fn admit(
     bytes: &[u8],
 ) -> Result<(), AdmitError>
     requires quota { quota ≤ most_stored_bytes }
-    requires kept { AreKept quota pool.old view.old }
+    requires kept { IsViewInPool quota pool.old view.old }
     requires named { Names digest.now bytes.now }
     ensures ok { OnOk result (visible_in pool.new view.new
         ≡ visible_after_admission view.old.limit quota digest.now bytes.now
@@ -157,7 +156,7 @@ pub fn admit(
         × (quota < length bytes.now)) }
     ensures err { OnErr result ((view.new ≡ view.old) × (pool.new ≡ pool.old)) }
     ensures moves { Moves pool.old pool.new (holders view.old) (holders view.new) }
-    ensures kept { AreKept quota pool.new view.new }
+    ensures kept { IsViewInPool quota pool.new view.new }
     ensures limit { view.new.limit ≡ view.old.limit }
 {
     if view.touch(digest) {

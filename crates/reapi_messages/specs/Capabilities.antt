@@ -82,7 +82,12 @@ unfoldable pub cache_capabilities_of : List Record → Result CacheCapabilitiesV
 cache_capabilities_of rs = do
   digest_functions ← repeated_enum 1 rs
   action_cache_update_capabilities ← embedded_value action_cache_update_capabilities_of 2 rs
-  Ok (record { digest_functions = digest_functions; action_cache_update_capabilities = action_cache_update_capabilities; max_batch_total_size_bytes = int64 4 rs; symlink_absolute_path_strategy = int32 5 rs })
+  Ok (record {
+    digest_functions = digest_functions;
+    action_cache_update_capabilities = action_cache_update_capabilities;
+    max_batch_total_size_bytes = int64 4 rs;
+    symlink_absolute_path_strategy = int32 5 rs;
+  })
 
 abbrev pub cache_capabilities_records : CacheCapabilitiesValue → List Record
 cache_capabilities_records v =
@@ -128,7 +133,12 @@ server_capabilities_of rs = do
   execution_capabilities ← embedded_value execution_capabilities_of 2 rs
   low_api_version ← embedded_value sem_ver_of 4 rs
   high_api_version ← embedded_value sem_ver_of 5 rs
-  Ok (record { cache_capabilities = cache_capabilities; execution_capabilities = execution_capabilities; low_api_version = low_api_version; high_api_version = high_api_version })
+  Ok (record {
+    cache_capabilities = cache_capabilities;
+    execution_capabilities = execution_capabilities;
+    low_api_version = low_api_version;
+    high_api_version = high_api_version;
+  })
 
 abbrev pub server_capabilities_records : ServerCapabilitiesValue → List Record
 server_capabilities_records v =

@@ -30,7 +30,11 @@ unfoldable pub find_missing_blobs_request_of : List Record →
 find_missing_blobs_request_of rs = do
   instance_name ← string 1 rs
   blob_digests ← repeated_values digest_of 2 rs
-  Ok (record { instance_name = instance_name; blob_digests = blob_digests; digest_function = int32 3 rs })
+  Ok (record {
+    instance_name = instance_name;
+    blob_digests = blob_digests;
+    digest_function = int32 3 rs;
+  })
 
 abbrev pub find_missing_blobs_request_records : FindMissingBlobsRequestValue → List Record
 find_missing_blobs_request_records v =

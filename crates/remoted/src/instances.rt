@@ -93,7 +93,6 @@ fn fault_of(fault: ConfigFault) -> InstancesFault {
         ConfigFault::BadSlots(place) => InstancesFault::Bad(place, WordFault::Slots),
         ConfigFault::DuplicateName(place) => InstancesFault::Bad(place, WordFault::NameAgain),
         ConfigFault::TooMany => InstancesFault::TooMany,
-        ConfigFault::NoMemory => InstancesFault::NoMemory(AllocError),
     }
 }
 

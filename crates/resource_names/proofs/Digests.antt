@@ -13,7 +13,7 @@ use Rattle.digest.specs.FromHexError.{FromHexError}
 use Rattle.digest.specs.Hex.{IsBytes, encode_lower, decode_sized}
 use Rattle.digest.proofs.HexLemmas.{decode_sized-ok, decode_sized-twice, decode_of-ok}
 use Rattle.digest.specs.declared.Digest.{Digest}
-use Rattle.digest.specs.Text.{IsWritten, hash_text, hash_in, is_lower_hex_digit, bytes_decoded, with_hash}
+use Rattle.digest.specs.Text.{IsDigestWritten, hash_text, hash_in, is_lower_hex_digit, bytes_decoded, with_hash}
 use Rattle.digest.proofs.Writings.{is_written, is_read}
 use Rattle.resource_names.specs.declared.name.NameError.TheVariants.{Hash, Size}
 use Rattle.resource_names.specs.Names.{◌>>=◌, or_fault, digest_of_segments}
@@ -47,7 +47,7 @@ clean_of test none (byte ∷ text) h =
 
 hash_found : (text bytes : List ℕ) → hash_in text ≡ Some bytes → IsHashText text bytes
 hash_found text bytes h = go (list_all is_lower_hex_digit text) (decode_sized text 32) refl refl h where
-  written : IsWritten (record { hash = bytes; size = 0 }) text (pos 0)
+  written : IsDigestWritten (record { hash = bytes; size = 0 }) text (pos 0)
   written = is_written text (pos 0) (Some (record { hash = bytes; size = 0 })) (sym (ap (with_hash 0) h))
 
   go : (t : Bool) (r : Result (List ℕ) FromHexError) → list_all is_lower_hex_digit text ≡ t → decode_sized text 32 ≡ r → cond t (bytes_decoded r) None ≡ Some bytes → IsHashText text bytes

@@ -9,7 +9,8 @@ use Rattle.decimals.specs.Number.{is_decimal_digit}
 abbrev pub is_numeral : List ℕ → Bool
 is_numeral text =
     bytes_eq text (codes "0")
-    || (not (length text == 0) && not (starts_with nat_eq text (codes "0")) && list_all is_decimal_digit text)
+    || (not (length text == 0) && not (starts_with nat_eq text (codes "0"))
+    && list_all is_decimal_digit text)
 
 -- sizes are below this limit: what an int64 can tell, as `size_bytes` of a digest does
 -- (remote_execution.proto, "Digest")

@@ -26,7 +26,8 @@ read_text name = instance_text name.instance ++ (codes "blobs/" ++ digest_text n
 -- `{instance}/uploads/{uuid}/blobs/{hash}/{size}`, and what follows
 abbrev pub write_text : WriteNameValue → List ℕ → List ℕ
 write_text name more =
-    instance_text name.instance ++ (codes "uploads/" ++ (name.uuid ++ (codes "/blobs/" ++ (digest_text name.digest ++ more))))
+    instance_text name.instance ++ (codes "uploads/" ++
+    (name.uuid ++ (codes "/blobs/" ++ (digest_text name.digest ++ more))))
 
 -- no segment passes a test
 abbrev pub NoneDivides : (List ℕ → Bool) → List (List ℕ) → Type 0

@@ -11,7 +11,7 @@ use Rattle.instance_core.specs.declared.event.CallId.{CallId}
 use Rattle.instance_core.specs.Calls.{ProgressValue, waits, has, writes, CallValue, head, message, fault, end, call_at}
 use Rattle.instance_core.specs.State.{InstanceState}
 use Rattle.instance_core.specs.Methods.{is_served}
-use Rattle.instance_core.specs.Changes.{Change}
+use Rattle.instance_core.specs.Changes.{InstanceChange}
 use Rattle.instance_core.specs.Replies.{ReplyValue}
 use Rattle.instance_core.specs.Writes.{first_changes, next_changes, first_outcome, next_outcome}
 use Rattle.instance_core.specs.Answer.{head_answer, first_write_answer, next_write_answer, first_message_answer, answer_by_progress, message_answer, fault_answer, end_answer_by_progress, request_end_answer, answer}
@@ -26,12 +26,12 @@ head_to id method None = go (is_served method) refl where
   go true is = rw is tt
   go false is = rw is (refl, tt)
 
-first_to : (id : CallId) (method : Method) (changes : List Change) (r : Result WrittenValue Refusal) → AreTo id (first_write_answer id method changes r).replies
+first_to : (id : CallId) (method : Method) (changes : List InstanceChange) (r : Result WrittenValue Refusal) → AreTo id (first_write_answer id method changes r).replies
 first_to id method changes (Ok (Writing.Goes write)) = tt
 first_to id method changes (Ok (Writing.Answered reply)) = (refl, tt)
 first_to id method changes (Err refusal) = (refl, tt)
 
-next_to : (id : CallId) (changes : List Change) (r : Result (Option (List ℕ)) Refusal) → AreTo id (next_write_answer id changes r).replies
+next_to : (id : CallId) (changes : List InstanceChange) (r : Result (Option (List ℕ)) Refusal) → AreTo id (next_write_answer id changes r).replies
 next_to id changes (Ok None) = tt
 next_to id changes (Ok (Some reply)) = (refl, tt)
 next_to id changes (Err refusal) = (refl, tt)

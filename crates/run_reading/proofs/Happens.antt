@@ -23,7 +23,7 @@ use Rattle.conn_core.specs.declared.event.CallEvent.{CallEvent}
 use Rattle.conn_core.specs.declared.event.CallEvent.TheVariants as Seen
 use Rattle.conn_core.specs.Calls.{is_call, cancels, answer_to_head, items_at_once}
 use Rattle.conn_core.specs.Received.{received_raw_frames, outcome}
-use Rattle.conn_core.specs.Past.{Past, opening, owed_with_items, with_frame, with_fault, with_taken, with_pumped, with_bytes}
+use Rattle.conn_core.specs.Past.{Past, new_past, owed_with_items, with_frame, with_fault, with_taken, with_pumped, with_bytes}
 use Rattle.instance_core.specs.State.{InstanceState}
 use Rattle.instance_core.specs.Calls.{tick as time_passes}
 use Rattle.instance_core.specs.Replies.{ReplyValue}
@@ -31,8 +31,8 @@ use Rattle.instance_core.specs.Answer.{answer, state_after}
 use Rattle.server_events.specs.Events.{EventValue, WhatValue, opened, received, took, closed, tick, ended}
 use Rattle.served_instance.specs.declared.refusal.EventRefusal.{EventRefusal}
 use Rattle.served_instance.specs.Connections.{LoneConnection, is_open_at, open_at, at_open, with_closed, at_all_open}
-use Rattle.served_instance.specs.Calls.{call_event_on, items_of, with_items}
-use Rattle.served_instance.specs.Lone.{Lone, after_replies, after_call_event, after_call_events, due_at, without_due, after_frame_on, is_over, after_frames_on, after_fault_on, after_end_on, unread_frames, after_reading_on, after_bytes_on, after_opening, after_closing, effect_of, after_pump, lone_at_moment, after_event, new_lone}
+use Rattle.served_instance.specs.Calls.{call_event_on, owed_items, with_items}
+use Rattle.served_instance.specs.Lone.{LoneInstance, after_replies, after_call_event, after_call_events, due_at, without_due, after_frame_on, is_over, after_frames_on, after_fault_on, after_end_on, unread_frames, after_reading_on, after_bytes_on, after_opening, after_closing, effect_of, after_pump, lone_at_moment, after_event, new_lone}
 use Rattle.served_instance.specs.Refusals.{refusal_of, after_event_unless, lone_step}
 use Rattle.server_core.specs.Runs.{Run, run_step}
 use Rattle.client_reading.specs.Answerable.{IsAnswerableStream, CanGoOn}
@@ -42,7 +42,7 @@ use Rattle.client_reading.proofs.Choices.{choose, all_append, all_by}
 use Rattle.client_reading.proofs.Pasts.{frames_received}
 use Rattle.served_instance.proofs.Brought.{IsShortCall, short_on, frame_short}
 use Rattle.run_reading.proofs.Connections.{HasPast, ArePasts}
-use Rattle.run_reading.specs.Happenings.{Happening, MomentCame, TimePassed, place_of, call_happenings, due_happenings, answer_happenings, request_happenings, frame_happenings, happenings_of_frames, fault_happenings, end_happenings, reading_happenings, happenings_of_bytes, close_happenings, happenings_by, happenings_unless, step_happenings, happenings}
+use Rattle.run_reading.specs.Happenings.{Happening, MomentCame, TimePassed, connection_place, call_happenings, due_happenings, answer_happenings, request_happenings, frame_happenings, happenings_of_frames, fault_happenings, end_happenings, reading_happenings, happenings_of_bytes, close_happenings, happenings_by, happenings_unless, step_happenings, happenings}
 use Rattle.run_reading.specs.Replies.{GivenItems, given_items_at, state_after_happening, given_items_from}
 use Rattle.run_reading.proofs.Lifts.{frame_made, fault_made, acted_made, pumped_made, bytes_made, all_drop}
 use Rattle.run_reading.proofs.Owes.{OwedFrom, Gift, give, gifts_on, Gives, AreBelow, all_owed, closed_owed, opened_owed, below_more, all_length, closed_length, open_step, none_open, open_has}
@@ -76,30 +76,30 @@ pumped_due : (ks : List LoneConnection) → AreNoneDue ks → AreNoneDue (at_all
 pumped_due [] h = tt
 pumped_due (k ∷ ks) h = (choose HasNoneDue k.is_open (record k { past = with_pumped k.past }) k (λ _. h.0) (λ _. h.0), pumped_due ks h.1)
 
-replied_due : (rs : List ReplyValue) (l : Lone) → AreNoneDue l.connections → AreNoneDue (after_replies rs l).connections
+replied_due : (rs : List ReplyValue) (l : LoneInstance) → AreNoneDue l.connections → AreNoneDue (after_replies rs l).connections
 replied_due [] l h = h
-replied_due (r ∷ rs) l h = replied_due rs (record l { connections = at_open r.call.connection (with_items r.call.stream (items_of r.items)) l.connections }) (quiet_due r.call.connection (with_items r.call.stream (items_of r.items)) l.connections (items_due r.call.stream (items_of r.items)) h)
+replied_due (r ∷ rs) l h = replied_due rs (record l { connections = at_open r.call.connection (with_items r.call.stream (owed_items r.items)) l.connections }) (quiet_due r.call.connection (with_items r.call.stream (owed_items r.items)) l.connections (items_due r.call.stream (owed_items r.items)) h)
 
-calls_due : (c : ℕ) (es : List CallEvent) (l : Lone) → AreNoneDue l.connections → AreNoneDue (after_call_events c es l).connections
+calls_due : (c : ℕ) (es : List CallEvent) (l : LoneInstance) → AreNoneDue l.connections → AreNoneDue (after_call_events c es l).connections
 calls_due c [] l h = h
 calls_due c (e ∷ es) l h = calls_due c es (after_call_event (call_event_on c e) l) (replied_due (answer l.state (call_event_on c e)).replies (record l { state = state_after l.state (call_event_on c e) }) h)
 
 -- ---- a step, with what happens in it
 
-pub record Holds (gs : List GivenItems) (l : Lone) : Type 0 where
+pub record Holds (gs : List GivenItems) (l : LoneInstance) : Type 0 where
   pub owes : Owes gs l
   pub pasts : ArePasts l
   pub due : AreNoneDue l.connections
 
 -- what happened leads from one to the other
-pub record Moves (l : Lone) (hs : List Happening) (m : Lone) : Type 0 where
+pub record Moves (l : LoneInstance) (hs : List Happening) (m : LoneInstance) : Type 0 where
   pub state : m.state ≡ fold state_after_happening l.state hs
   pub holds : (gs : List GivenItems) → Holds gs l → Holds (gs ++ given_items_from l.state hs) m
   -- no message that comes is too long
   pub short : (gs : List GivenItems) → Holds gs l → AllByRecursion IsShortHappening hs
 
 -- the same connections are owed the same
-holds_at : (gs : List GivenItems) (l m : Lone) → m.connections ≡ l.connections → Holds gs l → Holds gs m
+holds_at : (gs : List GivenItems) (l m : LoneInstance) → m.connections ≡ l.connections → Holds gs l → Holds gs m
 holds_at gs l m same h = record {
   owes = record { owed = subst (λ (ks : List LoneConnection). OwedFrom 0 gs ks) (sym same) h.owes.owed; below = subst (λ (ks : List LoneConnection). AreBelow (length ks) gs) (sym same) h.owes.below };
   pasts = subst (λ (ks : List LoneConnection). AllByRecursion HasPast ks) (sym same) h.pasts;
@@ -112,7 +112,7 @@ given_append s (h ∷ hs) ks =
     ap (λ (gs : List GivenItems). given_items_at s h ++ gs) (given_append (state_after_happening s h) hs ks)
     ∙ sym (append_assoc (given_items_at s h) (given_items_from (state_after_happening s h) hs) (given_items_from (fold state_after_happening (state_after_happening s h) hs) ks))
 
-then_moves : (l m n : Lone) (hs ks : List Happening) → Moves l hs m → Moves m ks n → Moves l (hs ++ ks) n
+then_moves : (l m n : LoneInstance) (hs ks : List Happening) → Moves l hs m → Moves m ks n → Moves l (hs ++ ks) n
 then_moves l m n hs ks first later = record {
   state = later.state ∙ ap (λ (s : InstanceState). fold state_after_happening s ks) first.state ∙ sym (fold-append state_after_happening l.state hs ks);
   holds = λ gs h.
@@ -125,7 +125,7 @@ then_moves l m n hs ks first later = record {
 }
 
 -- a step in which nothing is answered
-quietly : (l m : Lone) → m.state ≡ l.state → ((gs : List GivenItems) → Holds gs l → Holds gs m) → Moves l [] m
+quietly : (l m : LoneInstance) → m.state ≡ l.state → ((gs : List GivenItems) → Holds gs l → Holds gs m) → Moves l [] m
 quietly l m same keeps = record { state = same; holds = λ gs h. subst (λ (xs : List GivenItems). Holds xs m) (sym (append-nil gs)) (keeps gs h); short = λ gs h. tt }
 
 -- ---- no message is too long
@@ -174,16 +174,16 @@ all_owe d os s (x ∷ xs) h =
     all_owe d (owed_with_item d os x.0 x.1) s xs h.1 ∙ ap (λ (is : List Item). is ++ gifts_on s (gifts xs)) (more_owed d os x.0 s x.1 h.0)
     ∙ append_assoc (items_owed_on s os) (cond (x.0 == s) (x.1 ∷ []) []) (gifts_on s (gifts xs))
 
-requests_are : (c : ℕ) (f : RawFrame) (l : Lone) (p : Past) → open_at c l.connections ≡ Some p → request_happenings c f l ≡ answer_happenings (place_of c l.connections) (items_at_once (outcome p.history f).event)
-requests_are c f l p is = ap (λ (o : Option Past). option_map_or (λ (q : Past). answer_happenings (place_of c l.connections) (items_at_once (outcome q.history f).event)) o []) is
+requests_are : (c : ℕ) (f : RawFrame) (l : LoneInstance) (p : Past) → open_at c l.connections ≡ Some p → request_happenings c f l ≡ answer_happenings (connection_place c l.connections) (items_at_once (outcome p.history f).event)
+requests_are c f l p is = ap (λ (o : Option Past). option_map_or (λ (q : Past). answer_happenings (connection_place c l.connections) (items_at_once (outcome q.history f).event)) o []) is
 
-frame_owes : (c : ℕ) (f : RawFrame) (l : Lone) (p : Past) (gs : List GivenItems) → open_at c l.connections ≡ Some p → IsPast p → CanGoOn p → Owes gs l → Owes (gs ++ given_items_from l.state (frame_happenings c f l)) (after_frame_on c f l)
+frame_owes : (c : ℕ) (f : RawFrame) (l : LoneInstance) (p : Past) (gs : List GivenItems) → open_at c l.connections ≡ Some p → IsPast p → CanGoOn p → Owes gs l → Owes (gs ++ given_items_from l.state (frame_happenings c f l)) (after_frame_on c f l)
 frame_owes c f l p gs is made on h =
-    let n : ℕ = place_of c l.connections in
+    let n : ℕ = connection_place c l.connections in
     let xs : List (ℕ × Item) = items_at_once (outcome p.history f).event in
     let q : Past = with_frame p f in
     let step : Past → Past = λ r. with_frame r f in
-    let m : Lone = record l { connections = at_open c step l.connections } in
+    let m : LoneInstance = record l { connections = at_open c step l.connections } in
     let gives : Gives step p (gifts xs) = λ s. all_owe q.history p.owed s xs (requests_answerable p f made on) in
     let first : Owes (gs ++ map (give n) (gifts xs)) m = owes_step c step gs (gifts xs) l p is gives h in
     let later = due_owes c m q (gs ++ map (give n) (gifts xs)) (open_step c step l.connections p is) (calls_answerable p f made on) first in
@@ -196,26 +196,26 @@ frame_owes c f l p gs is made on h =
     ∙ ap (λ (ys : List GivenItems). gs ++ ys) (sym (given_append l.state (request_happenings c f l) (due_happenings c m))) in
     subst (λ (ys : List GivenItems). Owes ys (after_frame_on c f l)) given later
 
-frame_state : (c : ℕ) (f : RawFrame) (l : Lone) (p : Past) → open_at c l.connections ≡ Some p → (after_frame_on c f l).state ≡ fold state_after_happening l.state (frame_happenings c f l)
+frame_state : (c : ℕ) (f : RawFrame) (l : LoneInstance) (p : Past) → open_at c l.connections ≡ Some p → (after_frame_on c f l).state ≡ fold state_after_happening l.state (frame_happenings c f l)
 frame_state c f l p is =
-    let m : Lone = record l { connections = at_open c (λ r. with_frame r f) l.connections } in
-    let due : Lone = record m { connections = at_open c without_due m.connections } in
+    let m : LoneInstance = record l { connections = at_open c (λ r. with_frame r f) l.connections } in
+    let due : LoneInstance = record m { connections = at_open c without_due m.connections } in
     let xs : List (ℕ × Item) = items_at_once (outcome p.history f).event in
-    let unmoved : fold state_after_happening l.state (request_happenings c f l) ≡ l.state = ap (fold state_after_happening l.state) (requests_are c f l p is) ∙ requests_state l.state (place_of c l.connections) xs in
-    calls_state (place_of c m.connections) c (due_at c m) due
+    let unmoved : fold state_after_happening l.state (request_happenings c f l) ≡ l.state = ap (fold state_after_happening l.state) (requests_are c f l p is) ∙ requests_state l.state (connection_place c l.connections) xs in
+    calls_state (connection_place c m.connections) c (due_at c m) due
     ∙ ap (λ (s : InstanceState). fold state_after_happening s (due_happenings c m)) (sym unmoved)
     ∙ sym (fold-append state_after_happening l.state (request_happenings c f l) (due_happenings c m))
 
-frame_is_short : (c : ℕ) (f : RawFrame) (l : Lone) (p : Past) → open_at c l.connections ≡ Some p → p.due ≡ [] → AllByRecursion IsShortHappening (frame_happenings c f l)
+frame_is_short : (c : ℕ) (f : RawFrame) (l : LoneInstance) (p : Past) → open_at c l.connections ≡ Some p → p.due ≡ [] → AllByRecursion IsShortHappening (frame_happenings c f l)
 frame_is_short c f l p is none =
     let step : Past → Past = λ r. with_frame r f in
-    let m : Lone = record l { connections = at_open c step l.connections } in
-    let requests : AllByRecursion IsShortHappening (request_happenings c f l) = subst (AllByRecursion IsShortHappening) (sym (requests_are c f l p is)) (requests_short (place_of c l.connections) (outcome p.history f).event) in
+    let m : LoneInstance = record l { connections = at_open c step l.connections } in
+    let requests : AllByRecursion IsShortHappening (request_happenings c f l) = subst (AllByRecursion IsShortHappening) (sym (requests_are c f l p is)) (requests_short (connection_place c l.connections) (outcome p.history f).event) in
     let due : AllByRecursion IsShortCall (with_frame p f).due = frame_short f p (subst (AllByRecursion IsShortCall) (sym none) tt) in
     let calls : AllByRecursion IsShortCall (due_at c m) = subst (AllByRecursion IsShortCall) (sym (due_is c m (with_frame p f) (open_step c step l.connections p is))) due in
-    all_append IsShortHappening (request_happenings c f l) (due_happenings c m) requests (calls_short (place_of c m.connections) c (due_at c m) calls)
+    all_append IsShortHappening (request_happenings c f l) (due_happenings c m) requests (calls_short (connection_place c m.connections) c (due_at c m) calls)
 
-frame_moves : (c : ℕ) (f : RawFrame) (l : Lone) (p : Past) → open_at c l.connections ≡ Some p → has_failed p.history ≡ false → IsReceivable f → Moves l (frame_happenings c f l) (after_frame_on c f l)
+frame_moves : (c : ℕ) (f : RawFrame) (l : LoneInstance) (p : Past) → open_at c l.connections ≡ Some p → has_failed p.history ≡ false → IsReceivable f → Moves l (frame_happenings c f l) (after_frame_on c f l)
 frame_moves c f l p is fine framed = record {
   state = frame_state c f l p is;
   holds = λ gs h. record {
@@ -227,18 +227,18 @@ frame_moves c f l p is fine framed = record {
 }
 
 -- a connection that is not over is open, and has met no error
-record GoesOn (c : ℕ) (l : Lone) : Type 0 where
+record GoesOn (c : ℕ) (l : LoneInstance) : Type 0 where
   past : Past
   is : open_at c l.connections ≡ Some past
   fine : has_failed past.history ≡ false
 
-goes_on : (c : ℕ) (l : Lone) → is_over c l ≡ false → GoesOn c l
+goes_on : (c : ℕ) (l : LoneInstance) → is_over c l ≡ false → GoesOn c l
 goes_on c l h = found (open_at c l.connections) refl h where
   found : (o : Option Past) → open_at c l.connections ≡ o → option_map_or (λ (p : Past). has_failed p.history) o true ≡ false → GoesOn c l
   found None is h = cc
   found (Some p) is h = record { past = p; is = is; fine = h }
 
-frames_move : (c : ℕ) (fs : List RawFrame) (l : Lone) → AllByRecursion IsReceivable fs → Moves l (happenings_of_frames c fs l) (after_frames_on c fs l)
+frames_move : (c : ℕ) (fs : List RawFrame) (l : LoneInstance) → AllByRecursion IsReceivable fs → Moves l (happenings_of_frames c fs l) (after_frames_on c fs l)
 frames_move c [] l all = quietly l l refl (λ gs h. h)
 frames_move c (f ∷ fs) l all = elim (cases_Bool (is_over c l)) [
   | inl over ↦ rw over (quietly l l refl (λ gs h. h))
@@ -259,7 +259,7 @@ cancels_all d = choose (AllByRecursion IsCancel) (has_failed d) [] (map Seen.Can
 fault_cancels : (p : Past) (e : FrameError) (code : ErrorCode) → p.due ≡ [] → AllByRecursion IsCancel (with_fault p e code).due
 fault_cancels p e code none = subst (λ (es : List CallEvent). AllByRecursion IsCancel (es ++ cancels p.history)) (sym none) (cancels_all p.history)
 
-fault_due : (c : ℕ) (e : FrameError) (code : ErrorCode) (l : Lone) → AreNoneDue l.connections → AllByRecursion IsCancel (due_at c (record l { connections = at_open c (λ p. with_fault p e code) l.connections }))
+fault_due : (c : ℕ) (e : FrameError) (code : ErrorCode) (l : LoneInstance) → AreNoneDue l.connections → AllByRecursion IsCancel (due_at c (record l { connections = at_open c (λ p. with_fault p e code) l.connections }))
 fault_due c e code l h = found (open_at c l.connections) refl where
   step : Past → Past
   step p = with_fault p e code
@@ -268,49 +268,49 @@ fault_due c e code l h = found (open_at c l.connections) refl where
   found None is = subst (λ (o : Option Past). AllByRecursion IsCancel (option_map_or (λ (q : Past). q.due) o [])) (sym (none_open c step l.connections is)) tt
   found (Some p) is = subst (λ (o : Option Past). AllByRecursion IsCancel (option_map_or (λ (q : Past). q.due) o [])) (sym (open_step c step l.connections p is)) (fault_cancels p e code (open_has (λ (q : Past). q.due ≡ []) c l.connections p is h))
 
-fault_moves : (c : ℕ) (e : FrameError) (l : Lone) (o : Option ErrorCode) → reading_fault e ≡ o → Moves l (fault_happenings c e l o) (after_fault_on c e l o)
+fault_moves : (c : ℕ) (e : FrameError) (l : LoneInstance) (o : Option ErrorCode) → reading_fault e ≡ o → Moves l (fault_happenings c e l o) (after_fault_on c e l o)
 fault_moves c e l None is = quietly l l refl (λ gs h. h)
 fault_moves c e l (Some code) is =
     let step : Past → Past = λ p. with_fault p e code in
-    let m : Lone = record l { connections = at_open c step l.connections } in
-    let due : Lone = record m { connections = at_open c without_due m.connections } in
+    let m : LoneInstance = record l { connections = at_open c step l.connections } in
+    let due : LoneInstance = record m { connections = at_open c without_due m.connections } in
     record {
-      state = calls_state (place_of c m.connections) c (due_at c m) due;
+      state = calls_state (connection_place c m.connections) c (due_at c m) due;
       holds = λ gs h. record {
-        owes = cancels_owe c (place_of c m.connections) (due_at c m) due gs (fault_due c e code l h.due) (owes_quiet c without_due gs m (λ p. refl) (owes_quiet c step gs l (λ p. refl) h.owes));
+        owes = cancels_owe c (connection_place c m.connections) (due_at c m) due gs (fault_due c e code l h.due) (owes_quiet c without_due gs m (λ p. refl) (owes_quiet c step gs l (λ p. refl) h.owes));
         pasts = fault_made c e l (Some code) is h.pasts;
         due = calls_due c (due_at c m) due (taken_due c step l.connections h.due);
       };
-      short = λ gs h. cancels_are_short (place_of c m.connections) c (due_at c m) (fault_due c e code l h.due);
+      short = λ gs h. cancels_are_short (connection_place c m.connections) c (due_at c m) (fault_due c e code l h.due);
     }
 
-end_moves : (c : ℕ) (r : Result (List ℕ) FrameError) (l : Lone) → Moves l (end_happenings c r l) (after_end_on c r l)
+end_moves : (c : ℕ) (r : Result (List ℕ) FrameError) (l : LoneInstance) → Moves l (end_happenings c r l) (after_end_on c r l)
 end_moves c (Ok rest) l = quietly l l refl (λ gs h. h)
 end_moves c (Err e) l = elim (cases_Bool (is_over c l)) [
   | inl over ↦ rw over (quietly l l refl (λ gs h. h))
   | inr fine ↦ rw fine (fault_moves c e l (reading_fault e) refl)
 ]
 
-all_move : (c : ℕ) (l : Lone) (o : Option Past) → Moves l (reading_happenings c l o) (after_reading_on c l o)
+all_move : (c : ℕ) (l : LoneInstance) (o : Option Past) → Moves l (reading_happenings c l o) (after_reading_on c l o)
 all_move c l None = quietly l l refl (λ gs h. h)
 all_move c l (Some p) =
-    let m : Lone = after_frames_on c (unread_frames p) l in
+    let m : LoneInstance = after_frames_on c (unread_frames p) l in
     let end : Result (List ℕ) FrameError = (split CLIENT_PREFACE.now p.text).end in
     let framed : AllByRecursion IsReceivable (unread_frames p) = all_drop (length (received_raw_frames p.history)) (split CLIENT_PREFACE.now p.text).items (frames_received CLIENT_PREFACE.now p.text) in
     then_moves l m (after_end_on c end m) (happenings_of_frames c (unread_frames p) l) (end_happenings c end m) (frames_move c (unread_frames p) l framed) (end_moves c end m)
 
-came_moves : (c : ℕ) (bytes : List ℕ) (l : Lone) → Moves l (happenings_of_bytes c bytes l) (after_bytes_on c bytes l)
+came_moves : (c : ℕ) (bytes : List ℕ) (l : LoneInstance) → Moves l (happenings_of_bytes c bytes l) (after_bytes_on c bytes l)
 came_moves c bytes l =
     let step : Past → Past = with_bytes bytes in
-    let m : Lone = record l { connections = at_open c step l.connections } in
+    let m : LoneInstance = record l { connections = at_open c step l.connections } in
     let fed : Moves l [] m = quietly l m refl (λ gs h. record { owes = owes_quiet c step gs l (λ p. refl) h.owes; pasts = bytes_made c bytes l h.pasts; due = quiet_due c step l.connections (λ p. refl) h.due }) in
     then_moves l m (after_bytes_on c bytes l) [] (happenings_of_bytes c bytes l) fed (all_move c m (open_at c m.connections))
 
 -- ---- the other events
 
-opened_moves : (c : ℕ) (l : Lone) → Moves l [] (after_opening c l)
+opened_moves : (c : ℕ) (l : LoneInstance) → Moves l [] (after_opening c l)
 opened_moves c l =
-    let k : LoneConnection = record { number = c; past = opening; is_open = true } in
+    let k : LoneConnection = record { number = c; past = new_past; is_open = true } in
     quietly l (after_opening c l) refl (λ gs h. record {
       owes = record {
         owed = opened_owed 0 gs l.connections k refl (subst (λ (n : ℕ). AreBelow n gs) (omega arith) h.owes.below) h.owes.owed;
@@ -320,37 +320,37 @@ opened_moves c l =
       due = all_append HasNoneDue l.connections (k ∷ []) h.due (refl, tt);
     })
 
-took_moves : (c n : ℕ) (l : Lone) → Moves l [] (effect_of (took c n) l)
+took_moves : (c n : ℕ) (l : LoneInstance) → Moves l [] (effect_of (took c n) l)
 took_moves c n l = quietly l (effect_of (took c n) l) refl (λ gs h. record {
   owes = owes_quiet c (λ p. with_taken p n) gs l (λ p. refl) h.owes;
   pasts = acted_made (took c n) l h.pasts;
   due = quiet_due c (λ p. with_taken p n) l.connections (λ p. refl) h.due;
 })
 
-close_cancels : (c : ℕ) (l : Lone) → AllByRecursion IsCancel (option_map_or (λ (p : Past). cancels p.history) (open_at c l.connections) [])
+close_cancels : (c : ℕ) (l : LoneInstance) → AllByRecursion IsCancel (option_map_or (λ (p : Past). cancels p.history) (open_at c l.connections) [])
 close_cancels c l = found (open_at c l.connections) where
   found : (o : Option Past) → AllByRecursion IsCancel (option_map_or (λ (p : Past). cancels p.history) o [])
   found None = tt
   found (Some p) = cancels_all p.history
 
-closed_moves : (c : ℕ) (l : Lone) → Moves l (close_happenings c l) (after_closing c l)
+closed_moves : (c : ℕ) (l : LoneInstance) → Moves l (close_happenings c l) (after_closing c l)
 closed_moves c l =
-    let m : Lone = record l { connections = with_closed c l.connections } in
+    let m : LoneInstance = record l { connections = with_closed c l.connections } in
     let es : List CallEvent = option_map_or (λ (p : Past). cancels p.history) (open_at c l.connections) [] in
     record {
-      state = calls_state (place_of c l.connections) c es m;
+      state = calls_state (connection_place c l.connections) c es m;
       holds = λ gs h.
           let owes : Owes gs m = record { owed = closed_owed c 0 gs l.connections h.owes.owed; below = subst (λ (n : ℕ). AreBelow n gs) (sym (closed_length c l.connections)) h.owes.below } in
           record {
-            owes = cancels_owe c (place_of c l.connections) es m gs (close_cancels c l) owes;
+            owes = cancels_owe c (connection_place c l.connections) es m gs (close_cancels c l) owes;
             pasts = acted_made (closed c) l h.pasts;
             due = calls_due c es m (closed_due c l.connections h.due);
           };
-      short = λ gs h. cancels_are_short (place_of c l.connections) c es (close_cancels c l);
+      short = λ gs h. cancels_are_short (connection_place c l.connections) c es (close_cancels c l);
     }
 
 -- what answers nothing gives nothing
-unanswered : (l m : Lone) (h : Happening) → m.state ≡ state_after_happening l.state h → given_items_at l.state h ≡ [] → IsShortHappening h → m.connections ≡ l.connections → Moves l (h ∷ []) m
+unanswered : (l m : LoneInstance) (h : Happening) → m.state ≡ state_after_happening l.state h → given_items_at l.state h ≡ [] → IsShortHappening h → m.connections ≡ l.connections → Moves l (h ∷ []) m
 unanswered l m h state none short same = record {
   state = state;
   holds = λ gs holds.
@@ -359,13 +359,13 @@ unanswered l m h state none short same = record {
   short = λ gs holds. (short, tt);
 }
 
-tick_moves : (l : Lone) → Moves l (TimePassed ∷ []) (after_call_event time_passes l)
+tick_moves : (l : LoneInstance) → Moves l (TimePassed ∷ []) (after_call_event time_passes l)
 tick_moves l = unanswered l (after_call_event time_passes l) TimePassed refl refl tt refl
 
-came_moves_at : (moment : ℕ) (l : Lone) → Moves l (MomentCame moment ∷ []) (lone_at_moment moment l)
+came_moves_at : (moment : ℕ) (l : LoneInstance) → Moves l (MomentCame moment ∷ []) (lone_at_moment moment l)
 came_moves_at moment l = unanswered l (lone_at_moment moment l) (MomentCame moment) refl refl tt refl
 
-what_moves : (w : WhatValue) (l : Lone) → Moves l (happenings_by w l) (effect_of w l)
+what_moves : (w : WhatValue) (l : LoneInstance) → Moves l (happenings_by w l) (effect_of w l)
 what_moves (opened c) l = opened_moves c l
 what_moves (received c bytes) l = came_moves c bytes l
 what_moves (took c n) l = took_moves c n l
@@ -373,25 +373,25 @@ what_moves (closed c) l = closed_moves c l
 what_moves tick l = tick_moves l
 what_moves (ended job outcome) l = quietly l l refl (λ gs h. h)
 
-pumped_moves : (l : Lone) → Moves l [] (after_pump l)
+pumped_moves : (l : LoneInstance) → Moves l [] (after_pump l)
 pumped_moves l = quietly l (after_pump l) refl (λ gs h. record {
   owes = record { owed = all_owed 0 with_pumped gs l.connections (λ p. refl) h.owes.owed; below = subst (λ (n : ℕ). AreBelow n gs) (sym (all_length with_pumped l.connections)) h.owes.below };
   pasts = pumped_made l h.pasts;
   due = pumped_due l.connections h.due;
 })
 
-accepted_moves : (e : EventValue) (l : Lone) → Moves l (MomentCame e.moment ∷ happenings_by e.what (lone_at_moment e.moment l)) (after_event e l)
+accepted_moves : (e : EventValue) (l : LoneInstance) → Moves l (MomentCame e.moment ∷ happenings_by e.what (lone_at_moment e.moment l)) (after_event e l)
 accepted_moves e l =
-    let at : Lone = lone_at_moment e.moment l in
+    let at : LoneInstance = lone_at_moment e.moment l in
     let hs : List Happening = happenings_by e.what at in
     let all : Moves l (MomentCame e.moment ∷ (hs ++ [])) (after_event e l) = then_moves l at (after_event e l) (MomentCame e.moment ∷ []) (hs ++ []) (came_moves_at e.moment l) (then_moves at (effect_of e.what at) (after_event e l) hs [] (what_moves e.what at) (pumped_moves (effect_of e.what at))) in
     subst (λ (ks : List Happening). Moves l (MomentCame e.moment ∷ ks) (after_event e l)) (append-nil hs) all
 
-unless_moves : (e : EventValue) (l : Lone) (o : Option EventRefusal) → Moves l (happenings_unless e l o) (after_event_unless e l o)
+unless_moves : (e : EventValue) (l : LoneInstance) (o : Option EventRefusal) → Moves l (happenings_unless e l o) (after_event_unless e l o)
 unless_moves e l None = accepted_moves e l
 unless_moves e l (Some refusal) = quietly l l refl (λ gs h. h)
 
-pub step_moves : (e : EventValue) (l : Lone) → Moves l (step_happenings e l) (lone_step e l)
+pub step_moves : (e : EventValue) (l : LoneInstance) → Moves l (step_happenings e l) (lone_step e l)
 step_moves e l = unless_moves e l (refusal_of e l)
 
 -- ---- a run

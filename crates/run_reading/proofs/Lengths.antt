@@ -7,12 +7,12 @@ use Rattle.std.proofs.lemmas.Bool.Decides.{nat_tests}
 use Rattle.grpc_sending.specs.Owed.{OwedItem, Item, Headed, Message, Range, item_on, items_owed_on}
 use Rattle.grpc_sending.specs.Pieces.{most_read, length_text, read_message}
 use Rattle.conn_core.proofs.Numbers.{same_number}
-use Rattle.instance_core.specs.Replies.{ReplyItemValue, begins, says, gives, ends, refuses, ReplyValue, IsShortItem as IsShortReplyItem, IsShortReply}
+use Rattle.instance_core.specs.Replies.{ReplyItemValue, begins, says, gives, ends, refuses, ReplyValue, IsShortReplyItem, IsShortReply}
 use Rattle.instance_core.specs.Answer.{answer}
-use Rattle.instance_core.specs.State.{InstanceState, WithinLimits}
+use Rattle.instance_core.specs.State.{InstanceState, IsInstanceWithin}
 use Rattle.instance_core.proofs.Events.{replies_short}
-use Rattle.served_instance.specs.Calls.{item_of, items_of}
-use Rattle.client_reading.specs.Responses.{WholeMessage, IsWithin, messages_cut, read_messages, IsItemWithin, IsTakable}
+use Rattle.served_instance.specs.Calls.{item_of, owed_items}
+use Rattle.client_reading.specs.Responses.{WholeMessage, IsPartWithin, messages_cut, read_messages, IsItemWithin, IsTakable}
 use Rattle.client_reading.proofs.Choices.{choose, all_append}
 use Rattle.run_reading.specs.Happenings.{Happening}
 use Rattle.run_reading.specs.Replies.{GivenItems, items_of_reply, given_items_from, items_given, items_on, longest_message}
@@ -39,7 +39,7 @@ message_within bytes few =
     let both : length (length_text (length bytes) ++ bytes) ≡ length (length_text (length bytes)) + length bytes = length-append (length_text (length bytes)) bytes in
     omega (arith, few, head, both)
 
-cut_within : (k : ℕ) (bytes : List ℕ) → AllByRecursion (IsWithin longest_message) (map WholeMessage (messages_cut most_read k bytes))
+cut_within : (k : ℕ) (bytes : List ℕ) → AllByRecursion (IsPartWithin longest_message) (map WholeMessage (messages_cut most_read k bytes))
 cut_within zero bytes = tt
 cut_within (suc k) bytes = elim (cases_Bool (nat_lt most_read (length bytes))) [
   | inl more ↦
@@ -50,7 +50,7 @@ cut_within (suc k) bytes = elim (cases_Bool (nat_lt most_read (length bytes))) [
       rw last (message_within bytes few, tt)
 ]
 
-range_within : (bytes : List ℕ) → AllByRecursion (IsWithin longest_message) (map WholeMessage (read_messages bytes))
+range_within : (bytes : List ℕ) → AllByRecursion (IsPartWithin longest_message) (map WholeMessage (read_messages bytes))
 range_within bytes = cut_within (length bytes) bytes
 
 item_within : (item : Item) → IsShortItem item → IsItemWithin longest_message item
@@ -73,7 +73,7 @@ reply_item_within (gives given) h = range_within (take (given.until - given.from
 reply_item_within ends h = (tt, tt)
 reply_item_within (refuses refusal) h = (tt, tt)
 
-reply_items_within : (items : List ReplyItemValue) → AllByRecursion IsShortReplyItem items → AllByRecursion (IsItemWithin longest_message) (items_of items)
+reply_items_within : (items : List ReplyItemValue) → AllByRecursion IsShortReplyItem items → AllByRecursion (IsItemWithin longest_message) (owed_items items)
 reply_items_within [] h = tt
 reply_items_within (item ∷ items) h = (reply_item_within item h.0, reply_items_within items h.1)
 
@@ -81,7 +81,7 @@ replies_within : (place : ℕ) (rs : List ReplyValue) → AllByRecursion IsShort
 replies_within place [] h = tt
 replies_within place (r ∷ rs) h = (reply_items_within r.items h.0, replies_within place rs h.1)
 
-pub given_within : (s : InstanceState) (hs : List Happening) → AllByRecursion IsShortHappening hs → WithinLimits s → AreWithin (given_items_from s hs)
+pub given_within : (s : InstanceState) (hs : List Happening) → AllByRecursion IsShortHappening hs → IsInstanceWithin s → AreWithin (given_items_from s hs)
 given_within s hs short w = all_given (IsItemWithin longest_message) item_within (λ place t event v. replies_within place (answer t event).replies (replies_short t event v)) s hs short w
 
 pub items_within : (place s : ℕ) (gs : List GivenItems) → AreWithin gs → AllByRecursion (IsItemWithin longest_message) (items_on place s gs)

@@ -13,18 +13,18 @@ use Rattle.grpc_sending.specs.Owed.{Item}
 use Rattle.conn_core.specs.declared.event.CallEvent.{CallEvent}
 use Rattle.conn_core.specs.Received.{received_raw_frames}
 use Rattle.conn_core.specs.Calls.{cancels}
-use Rattle.conn_core.specs.Past.{Past, opening, with_frame, with_fault, with_item, with_taken, with_pumped, with_bytes}
+use Rattle.conn_core.specs.Past.{Past, new_past, with_frame, with_fault, with_item, with_taken, with_pumped, with_bytes}
 use Rattle.instance_core.specs.Calls.{CallEventValue}
 use Rattle.instance_core.specs.Replies.{ReplyValue}
 use Rattle.instance_core.specs.Answer.{answer, state_after}
 use Rattle.server_events.specs.Events.{EventValue, WhatValue, opened, received, took, closed, tick, ended}
 use Rattle.served_instance.specs.Connections.{LoneConnection, is_open_at, open_at, at_open, with_closed, step_if_open, at_all_open}
-use Rattle.served_instance.specs.Calls.{call_event_on, items_of, with_items}
-use Rattle.served_instance.specs.Lone.{Lone, new_lone, after_replies, after_call_event, after_call_events, due_at, without_due, after_due_on, after_frame_on, is_over, after_frames_on, after_fault_on, after_end_on, unread_frames, after_reading_on, after_bytes_on, effect_of, after_pump, lone_at_moment, after_event}
+use Rattle.served_instance.specs.Calls.{call_event_on, owed_items, with_items}
+use Rattle.served_instance.specs.Lone.{LoneInstance, new_lone, after_replies, after_call_event, after_call_events, due_at, without_due, after_due_on, after_frame_on, is_over, after_frames_on, after_fault_on, after_end_on, unread_frames, after_reading_on, after_bytes_on, effect_of, after_pump, lone_at_moment, after_event}
 use Rattle.client_reading.specs.Changes.{IsReceivable, IsPast, BytesReceived, FrameRead, FaultMet, ItemGiven, BytesTaken, FramesPut, EventsGiven}
 use Rattle.client_reading.proofs.Choices.{choose, all_append, all_by}
 use Rattle.client_reading.proofs.Pasts.{first_past, next_past, past_read, frames_received}
-use Rattle.client_reading.specs.Reads.{Reads}
+use Rattle.client_reading.specs.Reads.{IsReadByClient}
 use Rattle.run_reading.proofs.Connections.{ArePasts}
 
 abbrev Keeps : (Past → Past) → Type 0
@@ -54,36 +54,36 @@ pub items_made : (s : ℕ) (items : List Item) → Keeps (with_items s items)
 items_made s [] p h = h
 items_made s (item ∷ items) p h = items_made s items (with_item p s item) (next_past p (ItemGiven s item) tt h)
 
-replied_made : (rs : List ReplyValue) (l : Lone) → ArePasts l → ArePasts (after_replies rs l)
+replied_made : (rs : List ReplyValue) (l : LoneInstance) → ArePasts l → ArePasts (after_replies rs l)
 replied_made [] l h = h
 replied_made (r ∷ rs) l h =
-    replied_made rs (record l { connections = at_open r.call.connection (with_items r.call.stream (items_of r.items)) l.connections })
-    (at_open_made r.call.connection (with_items r.call.stream (items_of r.items)) l.connections (items_made r.call.stream (items_of r.items)) h)
+    replied_made rs (record l { connections = at_open r.call.connection (with_items r.call.stream (owed_items r.items)) l.connections })
+    (at_open_made r.call.connection (with_items r.call.stream (owed_items r.items)) l.connections (items_made r.call.stream (owed_items r.items)) h)
 
-happened_made : (event : CallEventValue) (l : Lone) → ArePasts l → ArePasts (after_call_event event l)
+happened_made : (event : CallEventValue) (l : LoneInstance) → ArePasts l → ArePasts (after_call_event event l)
 happened_made event l h = replied_made (answer l.state event).replies (record l { state = state_after l.state event }) h
 
-all_happened_made : (c : ℕ) (es : List CallEvent) (l : Lone) → ArePasts l → ArePasts (after_call_events c es l)
+all_happened_made : (c : ℕ) (es : List CallEvent) (l : LoneInstance) → ArePasts l → ArePasts (after_call_events c es l)
 all_happened_made c [] l h = h
 all_happened_made c (e ∷ es) l h = all_happened_made c es (after_call_event (call_event_on c e) l) (happened_made (call_event_on c e) l h)
 
-due_made : (c : ℕ) (l : Lone) → ArePasts l → ArePasts (after_due_on c l)
+due_made : (c : ℕ) (l : LoneInstance) → ArePasts l → ArePasts (after_due_on c l)
 due_made c l h = all_happened_made c (due_at c l) (record l { connections = at_open c without_due l.connections }) (at_open_made c without_due l.connections (λ p is. next_past p (EventsGiven []) tt is) h)
 
 -- ---- received bytes
 
-pub frame_made : (c : ℕ) (f : RawFrame) (l : Lone) → IsReceivable f → ArePasts l → ArePasts (after_frame_on c f l)
+pub frame_made : (c : ℕ) (f : RawFrame) (l : LoneInstance) → IsReceivable f → ArePasts l → ArePasts (after_frame_on c f l)
 frame_made c f l is h = due_made c (record l { connections = at_open c (λ p. with_frame p f) l.connections }) (at_open_made c (λ p. with_frame p f) l.connections (λ p k. next_past p (FrameRead f) is k) h)
 
-frames_made : (c : ℕ) (fs : List RawFrame) (l : Lone) → AllByRecursion IsReceivable fs → ArePasts l → ArePasts (after_frames_on c fs l)
+frames_made : (c : ℕ) (fs : List RawFrame) (l : LoneInstance) → AllByRecursion IsReceivable fs → ArePasts l → ArePasts (after_frames_on c fs l)
 frames_made c [] l all h = h
 frames_made c (f ∷ fs) l all h = choose ArePasts (is_over c l) l (after_frames_on c fs (after_frame_on c f l)) (λ _. h) (λ _. frames_made c fs (after_frame_on c f l) all.1 (frame_made c f l all.0 h))
 
-pub fault_made : (c : ℕ) (e : FrameError) (l : Lone) (o : Option ErrorCode) → reading_fault e ≡ o → ArePasts l → ArePasts (after_fault_on c e l o)
+pub fault_made : (c : ℕ) (e : FrameError) (l : LoneInstance) (o : Option ErrorCode) → reading_fault e ≡ o → ArePasts l → ArePasts (after_fault_on c e l o)
 fault_made c e l None is h = h
 fault_made c e l (Some code) is h = due_made c (record l { connections = at_open c (λ p. with_fault p e code) l.connections }) (at_open_made c (λ p. with_fault p e code) l.connections (λ p k. next_past p (FaultMet e code) is k) h)
 
-end_made : (c : ℕ) (r : Result (List ℕ) FrameError) (l : Lone) → ArePasts l → ArePasts (after_end_on c r l)
+end_made : (c : ℕ) (r : Result (List ℕ) FrameError) (l : LoneInstance) → ArePasts l → ArePasts (after_end_on c r l)
 end_made c (Ok rest) l h = h
 end_made c (Err e) l h = choose ArePasts (is_over c l) l (after_fault_on c e l (reading_fault e)) (λ _. h) (λ _. fault_made c e l (reading_fault e) refl h)
 
@@ -92,40 +92,40 @@ all_drop zero fs h = h
 all_drop (suc n) [] h = tt
 all_drop (suc n) (f ∷ fs) h = all_drop n fs h.1
 
-read_made : (c : ℕ) (l : Lone) (o : Option Past) → ArePasts l → ArePasts (after_reading_on c l o)
+read_made : (c : ℕ) (l : LoneInstance) (o : Option Past) → ArePasts l → ArePasts (after_reading_on c l o)
 read_made c l None h = h
 read_made c l (Some p) h =
     end_made c (split CLIENT_PREFACE.now p.text).end (after_frames_on c (unread_frames p) l)
     (frames_made c (unread_frames p) l (all_drop (length (received_raw_frames p.history)) (split CLIENT_PREFACE.now p.text).items (frames_received CLIENT_PREFACE.now p.text)) h)
 
-came_made : (c : ℕ) (bytes : List ℕ) (l : Lone) → ArePasts l → ArePasts (after_bytes_on c bytes l)
+came_made : (c : ℕ) (bytes : List ℕ) (l : LoneInstance) → ArePasts l → ArePasts (after_bytes_on c bytes l)
 came_made c bytes l h =
     read_made c (record l { connections = at_open c (with_bytes bytes) l.connections }) (open_at c (at_open c (with_bytes bytes) l.connections))
     (at_open_made c (with_bytes bytes) l.connections (λ p k. next_past p (BytesReceived bytes) tt k) h)
 
 -- ---- events
 
-pub acted_made : (w : WhatValue) (l : Lone) → ArePasts l → ArePasts (effect_of w l)
-acted_made (opened c) l h = all_append (λ (k : LoneConnection). IsPast k.past) l.connections (record { number = c; past = opening; is_open = true } ∷ []) h (first_past, tt)
+pub acted_made : (w : WhatValue) (l : LoneInstance) → ArePasts l → ArePasts (effect_of w l)
+acted_made (opened c) l h = all_append (λ (k : LoneConnection). IsPast k.past) l.connections (record { number = c; past = new_past; is_open = true } ∷ []) h (first_past, tt)
 acted_made (received c bytes) l h = came_made c bytes l h
 acted_made (took c n) l h = at_open_made c (λ p. with_taken p n) l.connections (λ p k. next_past p (BytesTaken n) tt k) h
 acted_made (closed c) l h = all_happened_made c (option_map_or (λ (p : Past). cancels p.history) (open_at c l.connections) []) (record l { connections = with_closed c l.connections }) (closed_made c l.connections h)
 acted_made tick l h = h
 acted_made (ended job outcome) l h = h
 
-pub pumped_made : (l : Lone) → ArePasts l → ArePasts (after_pump l)
+pub pumped_made : (l : LoneInstance) → ArePasts l → ArePasts (after_pump l)
 pumped_made l h = all_open_made with_pumped l.connections (λ p k. next_past p FramesPut tt k) h
 
-pub bytes_made : (c : ℕ) (bytes : List ℕ) (l : Lone) → ArePasts l → AreMade (at_open c (with_bytes bytes) l.connections)
+pub bytes_made : (c : ℕ) (bytes : List ℕ) (l : LoneInstance) → ArePasts l → AreMade (at_open c (with_bytes bytes) l.connections)
 bytes_made c bytes l h = at_open_made c (with_bytes bytes) l.connections (λ p k. next_past p (BytesReceived bytes) tt k) h
 
 pub start_made : (name : List ℕ) (quota slots : ℕ) → ArePasts (new_lone name quota slots)
 start_made name quota slots = tt
 
-pub accepted_made : (e : EventValue) (l : Lone) → ArePasts l → ArePasts (after_event e l)
+pub accepted_made : (e : EventValue) (l : LoneInstance) → ArePasts l → ArePasts (after_event e l)
 accepted_made e l h =
     let m : ArePasts (effect_of e.what (lone_at_moment e.moment l)) = acted_made e.what (lone_at_moment e.moment l) h in
     all_open_made with_pumped (effect_of e.what (lone_at_moment e.moment l)).connections (λ p k. next_past p FramesPut tt k) m
 
-pub all_read_by_clients : (l : Lone) → ArePasts l → AllByRecursion (λ (k : LoneConnection). Reads k.past) l.connections
-all_read_by_clients l h = all_by (λ (k : LoneConnection). IsPast k.past) (λ (k : LoneConnection). Reads k.past) l.connections (λ k is. past_read k.past is) h
+pub all_read_by_clients : (l : LoneInstance) → ArePasts l → AllByRecursion (λ (k : LoneConnection). IsReadByClient k.past) l.connections
+all_read_by_clients l h = all_by (λ (k : LoneConnection). IsPast k.past) (λ (k : LoneConnection). IsReadByClient k.past) l.connections (λ k is. past_read k.past is) h

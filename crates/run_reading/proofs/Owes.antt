@@ -11,7 +11,7 @@ use Rattle.conn_core.specs.Past.{Past}
 use Rattle.conn_core.proofs.Numbers.{same_number}
 use Rattle.served_instance.specs.Connections.{LoneConnection, is_open_at, open_at, at_open, with_closed, at_all_open}
 use Rattle.client_reading.proofs.Choices.{choose}
-use Rattle.run_reading.specs.Happenings.{place_of}
+use Rattle.run_reading.specs.Happenings.{connection_place}
 use Rattle.run_reading.specs.Replies.{GivenItems, items_given, items_on}
 
 -- ---- gifts at one place
@@ -78,7 +78,7 @@ here_owed n gs xs k step gives h s =
 some_is : (p q : Past) → Some p ≡ Some q → p ≡ q
 some_is p q h = cc
 
-pub step_owed : (c n base : ℕ) (step : Past → Past) (gs : List GivenItems) (xs : List Gift) (ks : List LoneConnection) (p : Past) → open_at c ks ≡ Some p → Gives step p xs → n ≡ base + place_of c ks → OwedFrom base gs ks → OwedFrom base (gs ++ map (give n) xs) (at_open c step ks)
+pub step_owed : (c n base : ℕ) (step : Past → Past) (gs : List GivenItems) (xs : List Gift) (ks : List LoneConnection) (p : Past) → open_at c ks ≡ Some p → Gives step p xs → n ≡ base + connection_place c ks → OwedFrom base gs ks → OwedFrom base (gs ++ map (give n) xs) (at_open c step ks)
 step_owed c n base step gs xs [] p is gives at h = cc
 step_owed c n base step gs xs (k ∷ ks) p is gives at h = elim (cases_Bool (is_open_at c k)) [
   | inl here ↦
@@ -89,7 +89,7 @@ step_owed c n base step gs xs (k ∷ ks) p is gives at h = elim (cases_Bool (is_
       rw here (subst (λ (m : ℕ). IsOwed m (gs ++ map (give n) xs) (record k { past = step k.past })) at' (here_owed n gs xs k step gives' there), all_aside n (suc base) gs xs ks (omega (arith, at')) h.1)
   | inr other ↦
       let is' : open_at c ks ≡ Some p = rw other at is in
-      let at' : n ≡ base + suc (place_of c ks) = rw other at at in
+      let at' : n ≡ base + suc (connection_place c ks) = rw other at at in
       rw other (aside n base gs xs k (differs_above n base (omega (arith, at'))) h.0, step_owed c n (suc base) step gs xs ks p is' gives (omega (arith, at')) h.1)
 ]
 
@@ -131,7 +131,7 @@ opened_owed base gs (j ∷ ks) k none low h = (h.0, opened_owed (suc base) gs ks
 
 -- ---- places
 
-pub place_below : (c : ℕ) (ks : List LoneConnection) (p : Past) → open_at c ks ≡ Some p → place_of c ks < length ks
+pub place_below : (c : ℕ) (ks : List LoneConnection) (p : Past) → open_at c ks ≡ Some p → connection_place c ks < length ks
 place_below c [] p is = cc
 place_below c (k ∷ ks) p is = elim (cases_Bool (is_open_at c k)) [
   | inl here ↦ rw here (omega arith)
@@ -158,7 +158,7 @@ pub given_below : (n m : ℕ) (xs : List Gift) → n < m → AreBelow m (map (gi
 given_below n m [] low = tt
 given_below n m (x ∷ xs) low = (low, given_below n m xs low)
 
-pub same_place : (c d : ℕ) (step : Past → Past) (ks : List LoneConnection) → place_of c (at_open d step ks) ≡ place_of c ks
+pub same_place : (c d : ℕ) (step : Past → Past) (ks : List LoneConnection) → connection_place c (at_open d step ks) ≡ connection_place c ks
 same_place c d step [] = refl
 same_place c d step (k ∷ ks) = elim (cases_Bool (is_open_at d k)) [
   | inl here ↦ rw here refl

@@ -19,7 +19,7 @@ use Rattle.server_events.specs.Events.{EventValue, WhatValue, opened, received, 
 use Rattle.served_instance.specs.declared.refusal.EventRefusal.{EventRefusal}
 use Rattle.served_instance.specs.Connections.{LoneConnection, is_open_at, open_at, at_open}
 use Rattle.served_instance.specs.Calls.{call_event_on}
-use Rattle.served_instance.specs.Lone.{Lone, due_at, is_over, after_frame_on, after_frames_on, unread_frames, lone_at_moment}
+use Rattle.served_instance.specs.Lone.{LoneInstance, due_at, is_over, after_frame_on, after_frames_on, unread_frames, lone_at_moment}
 use Rattle.served_instance.specs.Refusals.{refusal_of, lone_step}
 
 pub data Happening : Type 0 where
@@ -34,66 +34,70 @@ pub data Happening : Type 0 where
   CallEventCame : ℕ → CallEventValue → Happening
 
 -- the place of the open connection of this number, in order of opening
-abbrev pub place_of : ℕ → List LoneConnection → ℕ
-place_of c [] = 0
-place_of c (k ∷ ks) = if is_open_at c k then 0 else suc (place_of c ks)
+abbrev pub connection_place : ℕ → List LoneConnection → ℕ
+connection_place c [] = 0
+connection_place c (k ∷ ks) = if is_open_at c k then 0 else suc (connection_place c ks)
 
 -- ---- calls
 
 abbrev pub call_happenings : ℕ → ℕ → List CallEvent → List Happening
 call_happenings place c events = map (λ e. CallEventCame place (call_event_on c e)) events
 
-abbrev pub due_happenings : ℕ → Lone → List Happening
-due_happenings c l = call_happenings (place_of c l.connections) c (due_at c l)
+abbrev pub due_happenings : ℕ → LoneInstance → List Happening
+due_happenings c l = call_happenings (connection_place c l.connections) c (due_at c l)
 
 -- ---- received bytes
 
 abbrev pub answer_happenings : ℕ → List (ℕ × Item) → List Happening
 answer_happenings place answers = map (λ x. RequestAnswered place x.0 x.1) answers
 
-abbrev pub request_happenings : ℕ → RawFrame → Lone → List Happening
-request_happenings c f l = option_map_or (λ p. answer_happenings (place_of c l.connections) (items_at_once (outcome p.history f).event)) (open_at c l.connections) []
+abbrev pub request_happenings : ℕ → RawFrame → LoneInstance → List Happening
+request_happenings c f l =
+    option_map_or
+    (λ p. answer_happenings (connection_place c l.connections)
+    (items_at_once (outcome p.history f).event))
+    (open_at c l.connections) []
 
-abbrev pub frame_happenings : ℕ → RawFrame → Lone → List Happening
+abbrev pub frame_happenings : ℕ → RawFrame → LoneInstance → List Happening
 frame_happenings c f l =
     request_happenings c f l
     ++ due_happenings c (record l { connections = at_open c (λ p. with_frame p f) l.connections })
 
-abbrev pub happenings_of_frames : ℕ → List RawFrame → Lone → List Happening
+abbrev pub happenings_of_frames : ℕ → List RawFrame → LoneInstance → List Happening
 happenings_of_frames c [] l = []
 happenings_of_frames c (f ∷ fs) l =
     if is_over c l then []
     else frame_happenings c f l ++ happenings_of_frames c fs (after_frame_on c f l)
 
-abbrev pub fault_happenings : ℕ → FrameError → Lone → Option ErrorCode → List Happening
+abbrev pub fault_happenings : ℕ → FrameError → LoneInstance → Option ErrorCode → List Happening
 fault_happenings c e l None = []
 fault_happenings c e l (Some code) =
     due_happenings c (record l { connections = at_open c (λ p. with_fault p e code) l.connections })
 
-abbrev pub end_happenings : ℕ → Result (List ℕ) FrameError → Lone → List Happening
+abbrev pub end_happenings : ℕ → Result (List ℕ) FrameError → LoneInstance → List Happening
 end_happenings c (Ok rest) l = []
 end_happenings c (Err e) l = if is_over c l then [] else fault_happenings c e l (reading_fault e)
 
-abbrev pub reading_happenings : ℕ → Lone → Option Past → List Happening
+abbrev pub reading_happenings : ℕ → LoneInstance → Option Past → List Happening
 reading_happenings c l None = []
 reading_happenings c l (Some p) =
     happenings_of_frames c (unread_frames p) l
     ++ end_happenings c (split CLIENT_PREFACE.now p.text).end
     (after_frames_on c (unread_frames p) l)
 
-abbrev pub happenings_of_bytes : ℕ → List ℕ → Lone → List Happening
+abbrev pub happenings_of_bytes : ℕ → List ℕ → LoneInstance → List Happening
 happenings_of_bytes c bytes l =
-    let m : Lone = record l { connections = at_open c (with_bytes bytes) l.connections } in
+    let m : LoneInstance = record l { connections = at_open c (with_bytes bytes) l.connections } in
     reading_happenings c m (open_at c m.connections)
 
 -- ---- events
 
-abbrev pub close_happenings : ℕ → Lone → List Happening
+abbrev pub close_happenings : ℕ → LoneInstance → List Happening
 close_happenings c l =
-    call_happenings (place_of c l.connections) c
+    call_happenings (connection_place c l.connections) c
     (option_map_or (λ p. cancels p.history) (open_at c l.connections) [])
 
-abbrev pub happenings_by : WhatValue → Lone → List Happening
+abbrev pub happenings_by : WhatValue → LoneInstance → List Happening
 happenings_by (opened c) l = []
 happenings_by (received c bytes) l = happenings_of_bytes c bytes l
 happenings_by (took c n) l = []
@@ -102,14 +106,14 @@ happenings_by tick l = TimePassed ∷ []
 happenings_by (ended job outcome) l = []
 
 -- a refused event changes nothing
-abbrev pub happenings_unless : EventValue → Lone → Option EventRefusal → List Happening
+abbrev pub happenings_unless : EventValue → LoneInstance → Option EventRefusal → List Happening
 happenings_unless e l None = MomentCame e.moment ∷ happenings_by e.what (lone_at_moment e.moment l)
 happenings_unless e l (Some refusal) = []
 
-abbrev pub step_happenings : EventValue → Lone → List Happening
+abbrev pub step_happenings : EventValue → LoneInstance → List Happening
 step_happenings e l = happenings_unless e l (refusal_of e l)
 
 -- all that happens of these events, one after another
-abbrev pub happenings : Lone → List EventValue → List Happening
+abbrev pub happenings : LoneInstance → List EventValue → List Happening
 happenings l [] = []
 happenings l (e ∷ es) = step_happenings e l ++ happenings (lone_step e l) es

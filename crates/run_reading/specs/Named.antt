@@ -6,7 +6,7 @@ use Rattle.grpc_sending.specs.Owed.{Item, Headed, Message, Range}
 use Rattle.instance_core.specs.Calls.{tick}
 use Rattle.instance_core.specs.Answer.{state_after}
 use Rattle.instance_core.specs.State.{InstanceState, at_moment}
-use Rattle.instance_core.specs.NamedReplies.{Answering}
+use Rattle.instance_core.specs.NamedReplies.{AnsweredEvent}
 use Rattle.server_events.specs.Configs.{ConfigValue}
 use Rattle.server_events.specs.Events.{EventValue}
 use Rattle.run_reading.specs.Replies.{GivenItems, new_instance_of, run_happenings}
@@ -14,17 +14,18 @@ use Rattle.run_reading.specs.Happenings.{Happening, MomentCame, TimePassed, Requ
 
 -- ---- the answers of a run
 
-abbrev pub answerings : InstanceState → List Happening → List Answering
-answerings s [] = []
-answerings s (MomentCame moment ∷ hs) = answerings (at_moment moment s) hs
-answerings s (TimePassed ∷ hs) = answerings (state_after s tick) hs
-answerings s (RequestAnswered place stream item ∷ hs) = answerings s hs
-answerings s (CallEventCame place event ∷ hs) =
-    record { state = s; event = event } ∷ answerings (state_after s event) hs
+abbrev pub answered_events : InstanceState → List Happening → List AnsweredEvent
+answered_events s [] = []
+answered_events s (MomentCame moment ∷ hs) = answered_events (at_moment moment s) hs
+answered_events s (TimePassed ∷ hs) = answered_events (state_after s tick) hs
+answered_events s (RequestAnswered place stream item ∷ hs) = answered_events s hs
+answered_events s (CallEventCame place event ∷ hs) =
+    record { state = s; event = event } ∷ answered_events (state_after s event) hs
 
 -- of all answers that the instance gives in a run
-abbrev pub run_answerings : ConfigValue → List EventValue → List Answering
-run_answerings config events = answerings (new_instance_of config) (run_happenings config events)
+abbrev pub run_answered_events : ConfigValue → List EventValue → List AnsweredEvent
+run_answered_events config events =
+    answered_events (new_instance_of config) (run_happenings config events)
 
 -- ---- what streams are given
 

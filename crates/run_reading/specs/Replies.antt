@@ -18,12 +18,12 @@ use Rattle.instance_core.specs.State.{InstanceState, new_instance, at_moment}
 use Rattle.server_events.specs.Configs.{ConfigValue}
 use Rattle.server_events.specs.Events.{EventValue}
 use Rattle.served_instance.specs.Connections.{LoneConnection}
-use Rattle.served_instance.specs.Calls.{items_of}
+use Rattle.served_instance.specs.Calls.{owed_items}
 use Rattle.served_instance.specs.Lone.{new_lone}
 use Rattle.server_core.specs.Runs.{run_of}
 use Rattle.client_reading.specs.Changes.{IsPast}
 use Rattle.client_reading.specs.Responses.{stream_parts, response_of, IsBeginning}
-use Rattle.client_reading.specs.Reads.{Reads}
+use Rattle.client_reading.specs.Reads.{IsReadByClient}
 use Rattle.run_reading.specs.Happenings.{Happening, MomentCame, TimePassed, RequestAnswered, CallEventCame, happenings}
 
 -- items that a stream of the connection at this place is given
@@ -34,7 +34,7 @@ pub record GivenItems : Type 0 where
 
 abbrev pub items_of_reply : ℕ → ReplyValue → GivenItems
 items_of_reply place reply =
-    record { place = place; stream = reply.call.stream; items = items_of reply.items }
+    record { place = place; stream = reply.call.stream; items = owed_items reply.items }
 
 abbrev pub given_items_at : InstanceState → Happening → List GivenItems
 given_items_at s (MomentCame moment) = []
@@ -95,16 +95,17 @@ ReadsText p =
     × ((split CLIENT_PREFACE.now p.text).items ≡ received_raw_frames p.history ++ later)
 
 -- on each stream of the connection at this place the client reads a beginning of what was given
-pub record IsRead (place : ℕ) (gs : List GivenItems) (k : LoneConnection) : Type 0 where
+pub record IsConnectionRead (place : ℕ) (gs : List GivenItems) (k : LoneConnection) : Type 0 where
   pub made : IsPast k.past
   pub text : ReadsText k.past
-  pub reads : Reads k.past
+  pub reads : IsReadByClient k.past
   pub owed : (s : ℕ) → items_owed_on s k.past.owed ≡ items_on place s gs
   pub responses : (s : ℕ) →
       IsBeginning longest_message (stream_parts k.past.history s)
       (response_of (items_on place s gs))
 
 -- of the connections from this place on
-abbrev pub AreRead : ℕ → List GivenItems → List LoneConnection → Type 0
-AreRead place gs [] = Unit {0}
-AreRead place gs (k ∷ ks) = IsRead place gs k × AreRead (suc place) gs ks
+abbrev pub AreConnectionsRead : ℕ → List GivenItems → List LoneConnection → Type 0
+AreConnectionsRead place gs [] = Unit {0}
+AreConnectionsRead place gs (k ∷ ks) =
+    IsConnectionRead place gs k × AreConnectionsRead (suc place) gs ks

@@ -8,9 +8,9 @@ ghost use Rattle.server_events.specs.Instance.{quota_limit};
 ghost use Rattle.served_instance.specs.Lone.{sent_bytes_on};
 ghost use Rattle.server_core.specs.Runs.{run_of};
 ghost use Rattle.server_core.specs.LoneOutput.{lone_output};
-ghost use Rattle.run_reading.specs.Replies.{run_connections, run_given_items, run_state, AreRead};
+ghost use Rattle.run_reading.specs.Replies.{run_connections, run_given_items, run_state, AreConnectionsRead};
 ghost use Rattle.instance_core.specs.NamedReplies.{ServesNamed};
-ghost use Rattle.run_reading.specs.Named.{run_answerings, GivesNamed};
+ghost use Rattle.run_reading.specs.Named.{run_answered_events, GivesNamed};
 
 /// On each connection of a run the client reads what the streams were given: frames as they were
 /// meant, HEADERS and DATA on live streams and within the windows, control frames that were caused,
@@ -19,7 +19,7 @@ pub fn replies_are_read()
     ensures sent { (config : ConfigValue) (events : List EventValue)
         → (lone_output config events).sent ≡ map sent_bytes_on (run_connections config events) }
     ensures read { (config : ConfigValue) (events : List EventValue) → config.quota ≤ quota_limit
-        → AreRead 0 (run_given_items config events) (run_connections config events) }
+        → AreConnectionsRead 0 (run_given_items config events) (run_connections config events) }
 {}
 
 /// The replies of a run are those that the instance gives to the events of its calls, one after
@@ -40,7 +40,7 @@ pub fn replies_are_the_instances()
 /// action, and each blob that it names is there (remote_execution.proto).
 pub fn blobs_served_are_named()
     ensures answers { (config : ConfigValue) (events : List EventValue) → config.quota ≤ quota_limit
-        → AllByRecursion ServesNamed (run_answerings config events) }
+        → AllByRecursion ServesNamed (run_answered_events config events) }
     ensures streams { (config : ConfigValue) (events : List EventValue) → config.quota ≤ quota_limit
         → AllByRecursion GivesNamed (run_given_items config events) }
 {}

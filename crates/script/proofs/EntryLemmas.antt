@@ -10,7 +10,7 @@ use Rattle.std.specs.Str.{bytes_eq, IsUtf8}
 use Rattle.std.specs.String.{string_bytes, string_eq}
 use Rattle.std.specs.declared.string.String.{String}
 use Rattle.indexmap.specs.IndexMap.{insert_entry}
-use Rattle.script.specs.UnaryScript.{InstanceValue, place_of}
+use Rattle.script.specs.UnaryScript.{InstanceValue, instance_index}
 use Rattle.script.specs.UnaryShown.{entry_value}
 use Rattle.script.proofs.PlaceLemmas.{position-map}
 use Rattle.script.proofs.WellFormedLemmas.{new_name}
@@ -38,9 +38,9 @@ bytes_eq-swap a b = go (bytes_eq a b) refl (bytes_eq b a) refl
         cc
 
 -- a map finds the place of a name
-pub place_of-entries : {Z : Type 0} (es : List (String Z × ℕ)) (name : List ℕ)
-    → position (λ key. bytes_eq name (string_bytes key)) (keys_of es) ≡ place_of (map entry_value es) name
-place_of-entries es name =
+pub instance_index-entries : {Z : Type 0} (es : List (String Z × ℕ)) (name : List ℕ)
+    → position (λ key. bytes_eq name (string_bytes key)) (keys_of es) ≡ instance_index (map entry_value es) name
+instance_index-entries es name =
     position-map (λ key. bytes_eq name (string_bytes key)) (λ e. e.0) es
     ∙ position-alike (λ e. bytes_eq name (string_bytes e.0)) (λ e. bytes_eq (string_bytes e.0) name) es (λ e. bytes_eq-swap name (string_bytes e.0))
     ∙ sym (position-map (λ instance. bytes_eq instance.name name) entry_value es)
@@ -65,8 +65,8 @@ is_not key name text h = go (bytes_eq key name) refl
     go true e = absurd (h (subst IsUtf8 ((bytes_eq-Decides key name).0 e) text))
 
 -- what is no text is no instance's name
-pub place_of-no_text : {Z : Type 0} (es : List (String Z × ℕ)) (name : List ℕ) → (IsUtf8 name → ⊥) → place_of (map entry_value es) name ≡ None
-place_of-no_text es name h =
+pub instance_index-no_text : {Z : Type 0} (es : List (String Z × ℕ)) (name : List ℕ) → (IsUtf8 name → ⊥) → instance_index (map entry_value es) name ≡ None
+instance_index-no_text es name h =
     position-map (λ instance. bytes_eq instance.name name) entry_value es
     ∙ position-none (λ e. bytes_eq (string_bytes e.0) name) es (λ e. is_not (string_bytes e.0) name (IsUtf8-string_bytes e.0) h)
 
@@ -88,6 +88,6 @@ insert_entry-new (e ∷ es) key quota h =
     rw (other, insert_entry-new es key quota (λ j d lt. h (suc j) d (omega (arith, lt)))) refl
 
 -- an instance of a new name goes last
-pub insert_entry-last : {Z : Type 0} (es : List (String Z × ℕ)) (key : String Z) (quota : ℕ) → place_of (map entry_value es) (string_bytes key) ≡ None
+pub insert_entry-last : {Z : Type 0} (es : List (String Z × ℕ)) (key : String Z) (quota : ℕ) → instance_index (map entry_value es) (string_bytes key) ≡ None
     → insert_entry string_eq es key quota ≡ es ++ (key, quota) ∷ []
 insert_entry-last es key quota h = insert_entry-new es key quota (new_name (map entry_value es) (string_bytes key) (ap is_none h))

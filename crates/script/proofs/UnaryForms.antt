@@ -14,13 +14,13 @@ use Rattle.script.specs.Parts.{spaced_line, words_of}
 use Rattle.script.proofs.HexadecimalLemmas.{IsBytes-bytes_of_hex, Lacks_space-hex_word, bytes_of_hex-hex_word, hex_word-bytes_of_hex}
 use Rattle.decimals.proofs.NumberLemmas.{digits-decimal_of}
 use Rattle.script.proofs.SplitLemmas.{Lacks, Lacks-passing, parts_of-join}
-use Rattle.server_events.specs.Instance.{IsInstanceName, is_name_byte, quota_limit}
+use Rattle.server_events.specs.Instance.{IsInstanceName, is_instance_name_byte, quota_limit}
 use Rattle.server_events.proofs.NameLemmas.{is_instance_name-true}
 use Rattle.script.specs.declared.unary.method.Method.{Method}
 use Rattle.script.specs.declared.unary.method.Method.TheVariants.{FindMissingBlobs, BatchUpdateBlobs, BatchReadBlobs}
 use Rattle.script.specs.UnaryLines.{HasGoodInstances, IsCallLine, IsGoodUnaryLine, IsUnaryInstanceLine, IsPutLine}
 use Rattle.script.specs.Method.{method_name, method_named}
-use Rattle.script.specs.UnaryScript.{InstanceValue, UnaryScriptValue, put, call, after_unary_line, after_unary_words, call_of, instance_if_good, instance_of, place_of, put_of, with_command, with_instance}
+use Rattle.script.specs.UnaryScript.{InstanceValue, UnaryScriptValue, put, call, after_unary_line, after_unary_words, call_of, instance_if_good, instance_of, instance_index, put_of, with_command, with_instance}
 use Rattle.script.proofs.LineLemmas.{nothing_left}
 use Rattle.script.proofs.Somes.{mapped, chained, chosen, if_some}
 use Rattle.script.proofs.WellFormedLemmas.{instance_of-made}
@@ -75,7 +75,7 @@ put_form before after line [] form h = cc
 put_form before after line (a ∷ []) form h = cc
 put_form before after line (name ∷ word ∷ []) form h =
     let added = mapped (with_command before) (put_of before.instances (name ∷ word ∷ [])) after h in
-    let placed = chained (λ place. option_map (put place) (bytes_of_hex word)) (place_of before.instances name) added.0 added.1 in
+    let placed = chained (λ place. option_map (put place) (bytes_of_hex word)) (instance_index before.instances name) added.0 added.1 in
     let read = mapped (put placed.0) (bytes_of_hex word) added.0 placed.2 in
     record {
       name = name;
@@ -96,7 +96,7 @@ call_form before after line (a ∷ []) form h = cc
 call_form before after line (a ∷ b ∷ []) form h = cc
 call_form before after line (name ∷ method ∷ word ∷ []) form h =
     let added = mapped (with_command before) (call_of before.instances (name ∷ method ∷ word ∷ [])) after h in
-    let placed = chained (λ place. option_and_then (λ called. option_map (call place called) (bytes_of_hex word)) (method_named method)) (place_of before.instances name) added.0 added.1 in
+    let placed = chained (λ place. option_and_then (λ called. option_map (call place called) (bytes_of_hex word)) (method_named method)) (instance_index before.instances name) added.0 added.1 in
     let named = chained (λ called. option_map (call placed.0 called) (bytes_of_hex word)) (method_named method) added.0 placed.2 in
     let read = mapped (call placed.0 named.0) (bytes_of_hex word) added.0 named.2 in
     record {
@@ -152,7 +152,7 @@ Lacks-word : (word : List ℕ) → Lacks 32 word → (words : List (List ℕ)) �
 Lacks-word word h words k = All-cons (Lacks 32) word words h k
 
 Lacks-name : (name : List ℕ) → IsInstanceName name → Lacks 32 name
-Lacks-name name h = Lacks-passing is_name_byte 32 refl name (list_all-from_AllPass is_name_byte name h.plain)
+Lacks-name name h = Lacks-passing is_instance_name_byte 32 refl name (list_all-from_AllPass is_instance_name_byte name h.plain)
 
 Lacks-digits : (digits : List ℕ) (quota : ℕ) → decimal_of digits ≡ Some quota → Lacks 32 digits
 Lacks-digits digits quota h = Lacks-passing is_decimal_digit 32 refl digits (digits-decimal_of digits quota h)
@@ -175,7 +175,7 @@ no_instance : InstanceValue
 no_instance = record { name = []; quota = 0 }
 
 -- the name of a known instance has no space
-Lacks-known : (known : List InstanceValue) (name : List ℕ) (place : ℕ) → HasGoodInstances known → place_of known name ≡ Some place → Lacks 32 name
+Lacks-known : (known : List InstanceValue) (name : List ℕ) (place : ℕ) → HasGoodInstances known → instance_index known name ≡ Some place → Lacks 32 name
 Lacks-known known name place good h =
     let p = λ (instance : InstanceValue). bytes_eq instance.name name in
     let found = chosen (nat_lt (position_or_len p known) (length known)) (position_or_len p known) place h in
@@ -188,8 +188,8 @@ not_known : (b : Bool) (at : ℕ) → (b ≡ true → ⊥) → is_none (cond b (
 not_known true at h = absurd (h refl)
 not_known false at h = refl
 
-is_none-place_of : (known : List InstanceValue) (name : List ℕ) → All (λ other. name ≢ other.name) known → is_none (place_of known name) ≡ true
-is_none-place_of known name new =
+is_none-instance_index : (known : List InstanceValue) (name : List ℕ) → All (λ other. name ≢ other.name) known → is_none (instance_index known name) ≡ true
+is_none-instance_index known name new =
     let p = λ (instance : InstanceValue). bytes_eq instance.name name in
     not_known (nat_lt (position_or_len p known) (length known)) (position_or_len p known)
     (λ test.
@@ -199,23 +199,23 @@ is_none-place_of known name new =
 
 Some-from_instance : (before after : UnaryScriptValue) (line : List ℕ) → IsUnaryInstanceLine before line after → after_unary_line before line ≡ Some after
 Some-from_instance before after line h =
-    let apart = Lacks-word (codes "instance") (Lacks-passing is_name_byte 32 refl (codes "instance") refl) (h.name ∷ h.digits ∷ [])
+    let apart = Lacks-word (codes "instance") (Lacks-passing is_instance_name_byte 32 refl (codes "instance") refl) (h.name ∷ h.digits ∷ [])
     (Lacks-word h.name (Lacks-name h.name h.good_name) (h.digits ∷ []) (Lacks-word h.digits (Lacks-digits h.digits h.quota h.number) [] (All-nil _))) in
     let split = parts_of-join 32 (codes "instance") (h.name ∷ h.digits ∷ []) apart in
     let fits = h.good_quota in
     let small : nat_le h.quota quota_limit ≡ true = grind (arith, nat_tests) in
     let read : instance_of before.instances (h.name ∷ h.digits ∷ []) ≡ Some (record { name = h.name; quota = h.quota }) =
     ap (option_and_then (instance_if_good before.instances h.name)) h.number
-    ∙ ap (λ b. cond ((b && nat_le h.quota quota_limit) && is_none (place_of before.instances h.name)) (Some (record { name = h.name; quota = h.quota })) None) (is_instance_name-true h.name h.good_name)
-    ∙ ap (λ b. cond (b && is_none (place_of before.instances h.name)) (Some (record { name = h.name; quota = h.quota })) None) small
-    ∙ ap (λ b. cond b (Some (record { name = h.name; quota = h.quota })) None) (is_none-place_of before.instances h.name h.new_name) in
+    ∙ ap (λ b. cond ((b && nat_le h.quota quota_limit) && is_none (instance_index before.instances h.name)) (Some (record { name = h.name; quota = h.quota })) None) (is_instance_name-true h.name h.good_name)
+    ∙ ap (λ b. cond (b && is_none (instance_index before.instances h.name)) (Some (record { name = h.name; quota = h.quota })) None) small
+    ∙ ap (λ b. cond b (Some (record { name = h.name; quota = h.quota })) None) (is_none-instance_index before.instances h.name h.new_name) in
     ap (after_unary_line before) h.form ∙ ap (after_unary_words before) split
     ∙ ap (λ commands. cond (length commands == 0) (option_map (with_instance before) (instance_of before.instances (h.name ∷ h.digits ∷ []))) None) h.first
     ∙ ap (option_map (with_instance before)) read ∙ ap Some (sym h.adds)
 
 Some-from_put : (before after : UnaryScriptValue) (line : List ℕ) → HasGoodInstances before.instances → IsPutLine before line after → after_unary_line before line ≡ Some after
 Some-from_put before after line good h =
-    let apart = Lacks-word (codes "put") (Lacks-passing is_name_byte 32 refl (codes "put") refl) (h.name ∷ hex_word h.content ∷ [])
+    let apart = Lacks-word (codes "put") (Lacks-passing is_instance_name_byte 32 refl (codes "put") refl) (h.name ∷ hex_word h.content ∷ [])
     (Lacks-word h.name (Lacks-known before.instances h.name h.place good h.known) (hex_word h.content ∷ [])
     (Lacks-word (hex_word h.content) (Lacks_space-hex_word h.content h.bytes) [] (All-nil _))) in
     let split = parts_of-join 32 (codes "put") (h.name ∷ hex_word h.content ∷ []) apart in
@@ -227,7 +227,7 @@ Some-from_put before after line good h =
 
 Some-from_call : (before after : UnaryScriptValue) (line : List ℕ) → HasGoodInstances before.instances → IsCallLine before line after → after_unary_line before line ≡ Some after
 Some-from_call before after line good h =
-    let apart = Lacks-word (codes "call") (Lacks-passing is_name_byte 32 refl (codes "call") refl) (h.name ∷ method_name h.method ∷ hex_word h.message ∷ [])
+    let apart = Lacks-word (codes "call") (Lacks-passing is_instance_name_byte 32 refl (codes "call") refl) (h.name ∷ method_name h.method ∷ hex_word h.message ∷ [])
     (Lacks-word h.name (Lacks-known before.instances h.name h.place good h.known) (method_name h.method ∷ hex_word h.message ∷ [])
     (Lacks-word (method_name h.method) (Lacks-method_name h.method) (hex_word h.message ∷ [])
     (Lacks-word (hex_word h.message) (Lacks_space-hex_word h.message h.bytes) [] (All-nil _)))) in

@@ -24,21 +24,21 @@ use Rattle.server_events.proofs.NameLemmas.{IsInstanceName-from_test}
 use Rattle.script.specs.FirstBadLine.{Leads}
 use Rattle.script.specs.UnaryLines.{HasGoodInstances, KnowsInstances, instance_place}
 use Rattle.script.specs.Method.{method_named}
-use Rattle.script.specs.UnaryScript.{InstanceValue, CommandValue, UnaryScriptValue, put, call, after_unary_line, after_unary_words, call_of, empty_unary_script, instance_if_good, instance_of, place_of, put_of, unary_script_of, with_command, with_instance}
+use Rattle.script.specs.UnaryScript.{InstanceValue, CommandValue, UnaryScriptValue, put, call, after_unary_line, after_unary_words, call_of, empty_unary_script, instance_if_good, instance_of, instance_index, put_of, unary_script_of, with_command, with_instance}
 use Rattle.script.proofs.FirstLemmas.{Leads-from_Ok}
 use Rattle.script.proofs.Somes.{mapped, chained, chosen, not_found}
 
 -- ---- instances
 
-pub place_of-lt : (known : List InstanceValue) (name : List ℕ) (place : ℕ) → place_of known name ≡ Some place → place < length known
-place_of-lt known name place h =
+pub instance_index-lt : (known : List InstanceValue) (name : List ℕ) (place : ℕ) → instance_index known name ≡ Some place → place < length known
+instance_index-lt known name place h =
     let p = λ (instance : InstanceValue). bytes_eq instance.name name in
     let found = chosen (nat_lt (position_or_len p known) (length known)) (position_or_len p known) place h in
     let test = found.0 in
     rw (← found.1) (grind (arith, nat_tests))
 
 -- a name that was not found is no instance's
-pub new_name : (known : List InstanceValue) (name : List ℕ) → is_none (place_of known name) ≡ true
+pub new_name : (known : List InstanceValue) (name : List ℕ) → is_none (instance_index known name) ≡ true
     → (k : ℕ) (d : InstanceValue) → k < length known → name ≢ (get_or known k d).name
 new_name known name h k d lt same =
     let p = λ (instance : InstanceValue). bytes_eq instance.name name in
@@ -55,10 +55,10 @@ pub record IsNewInstance (known : List InstanceValue) (instance : InstanceValue)
   pub other : (k : ℕ) (d : InstanceValue) → k < length known → instance.name ≢ (get_or known k d).name
 
 pub IsNewInstance-from_test : (known : List InstanceValue) (name : List ℕ) (quota : ℕ)
-    → ((is_instance_name name && nat_le quota quota_limit) && is_none (place_of known name)) ≡ true
+    → ((is_instance_name name && nat_le quota quota_limit) && is_none (instance_index known name)) ≡ true
     → IsNewInstance known (record { name = name; quota = quota })
 IsNewInstance-from_test known name quota h =
-    let last = and_parts (is_instance_name name && nat_le quota quota_limit) (is_none (place_of known name)) h in
+    let last = and_parts (is_instance_name name && nat_le quota quota_limit) (is_none (instance_index known name)) h in
     let first = and_parts (is_instance_name name) (nat_le quota quota_limit) last.0 in
     let small = first.1 in
     record {
@@ -73,7 +73,7 @@ pub instance_of-made : (known : List InstanceValue) (name digits : List ℕ) (in
     → (quota : ℕ) × (decimal_of digits ≡ Some quota) × IsNewInstance known (record { name = name; quota = quota }) × (record { name = name; quota = quota } ≡ instance)
 instance_of-made known name digits instance h =
     let read = chained (instance_if_good known name) (decimal_of digits) instance h in
-    let found = chosen ((is_instance_name name && nat_le read.0 quota_limit) && is_none (place_of known name)) (record { name = name; quota = read.0 }) instance read.2 in
+    let found = chosen ((is_instance_name name && nat_le read.0 quota_limit) && is_none (instance_index known name)) (record { name = name; quota = read.0 }) instance read.2 in
     (read.0, read.1, IsNewInstance-from_test known name read.0 found.0, found.1)
 
 pub instance_of-is_new : (known : List InstanceValue) (words : List (List ℕ)) (instance : InstanceValue)
@@ -100,9 +100,9 @@ put_of-known : (known : List InstanceValue) (words : List (List ℕ)) (command :
 put_of-known known [] command h = cc
 put_of-known known (a ∷ []) command h = cc
 put_of-known known (name ∷ content ∷ []) command h =
-    let placed = chained (λ place. option_map (put place) (bytes_of_hex content)) (place_of known name) command h in
+    let placed = chained (λ place. option_map (put place) (bytes_of_hex content)) (instance_index known name) command h in
     let made = mapped (put placed.0) (bytes_of_hex content) command placed.2 in
-    rw (← made.2) (place_of-lt known name placed.0 placed.1)
+    rw (← made.2) (instance_index-lt known name placed.0 placed.1)
 put_of-known known (a ∷ b ∷ c ∷ more) command h = cc
 
 call_of-known : (known : List InstanceValue) (words : List (List ℕ)) (command : CommandValue)
@@ -111,10 +111,10 @@ call_of-known known [] command h = cc
 call_of-known known (a ∷ []) command h = cc
 call_of-known known (a ∷ b ∷ []) command h = cc
 call_of-known known (name ∷ method ∷ message ∷ []) command h =
-    let placed = chained (λ place. option_and_then (λ called. option_map (call place called) (bytes_of_hex message)) (method_named method)) (place_of known name) command h in
+    let placed = chained (λ place. option_and_then (λ called. option_map (call place called) (bytes_of_hex message)) (method_named method)) (instance_index known name) command h in
     let named = chained (λ called. option_map (call placed.0 called) (bytes_of_hex message)) (method_named method) command placed.2 in
     let made = mapped (call placed.0 named.0) (bytes_of_hex message) command named.2 in
-    rw (← made.2) (place_of-lt known name placed.0 placed.1)
+    rw (← made.2) (instance_index-lt known name placed.0 placed.1)
 call_of-known known (a ∷ b ∷ c ∷ d ∷ more) command h = cc
 
 -- ---- scripts

@@ -7,7 +7,7 @@ use Rattle.script.specs.Parts.{spaced_line}
 use Rattle.server_events.specs.Instance.{IsInstanceName, quota_limit}
 use Rattle.script.specs.declared.unary.method.Method.{Method}
 use Rattle.script.specs.Method.{method_name}
-use Rattle.script.specs.UnaryScript.{InstanceValue, CommandValue, UnaryScriptValue, put, call, place_of, with_command, with_instance}
+use Rattle.script.specs.UnaryScript.{InstanceValue, CommandValue, UnaryScriptValue, put, call, instance_index, with_command, with_instance}
 
 -- ---- good lines
 
@@ -33,7 +33,7 @@ pub record IsPutLine (before : UnaryScriptValue) (line : List ℕ)
   pub content : List ℕ
   pub form : line ≡ spaced_line (codes "put" ∷ name ∷ hex_word content ∷ [])
   pub bytes : IsBytes content
-  pub known : place_of before.instances name ≡ Some place
+  pub known : instance_index before.instances name ≡ Some place
   pub adds : after ≡ with_command before (put place content)
 
 -- `call NAME METHOD HEX`: a method of the instance of that name is called with the bytes of a
@@ -46,7 +46,7 @@ pub record IsCallLine (before : UnaryScriptValue) (line : List ℕ)
   pub message : List ℕ
   pub form : line ≡ spaced_line (codes "call" ∷ name ∷ method_name method ∷ hex_word message ∷ [])
   pub bytes : IsBytes message
-  pub known : place_of before.instances name ≡ Some place
+  pub known : instance_index before.instances name ≡ Some place
   pub adds : after ≡ with_command before (call place method message)
 
 -- a line that leads from one script to the next: an empty one, which adds nothing, or one of these

@@ -28,13 +28,13 @@ pub record UnaryScriptValue : Type 0 where
 -- ---- the forms of a line, after its first word
 
 -- the place of the instance of that name
-abbrev pub place_of : List InstanceValue → List ℕ → Option ℕ
-place_of known name = position (λ instance. bytes_eq instance.name name) known
+abbrev pub instance_index : List InstanceValue → List ℕ → Option ℕ
+instance_index known name = position (λ instance. bytes_eq instance.name name) known
 
 -- NAME QUOTA: an instance of a good name that none before it has, and of at most the greatest quota
 abbrev pub instance_if_good : List InstanceValue → List ℕ → ℕ → Option InstanceValue
 instance_if_good known name quota =
-    if is_instance_name name && nat_le quota quota_limit && is_none (place_of known name)
+    if is_instance_name name && nat_le quota quota_limit && is_none (instance_index known name)
     then Some (record { name = name; quota = quota }) else None
 
 abbrev pub instance_of : List InstanceValue → List (List ℕ) → Option InstanceValue
@@ -45,7 +45,8 @@ instance_of known _ = None
 -- NAME HEX: these bytes are put into that instance
 abbrev pub put_of : List InstanceValue → List (List ℕ) → Option CommandValue
 put_of known (name ∷ content ∷ []) =
-    option_and_then (λ place. option_map (put place) (bytes_of_hex content)) (place_of known name)
+    option_and_then (λ place. option_map (put place) (bytes_of_hex content))
+    (instance_index known name)
 put_of known _ = None
 
 -- NAME METHOD HEX: that method of that instance is called with these bytes
@@ -53,7 +54,7 @@ abbrev pub call_of : List InstanceValue → List (List ℕ) → Option CommandVa
 call_of known (name ∷ method ∷ message ∷ []) =
     option_and_then (λ place. option_and_then (λ called.
     option_map (call place called) (bytes_of_hex message))
-    (method_named method)) (place_of known name)
+    (method_named method)) (instance_index known name)
 call_of known _ = None
 
 -- ---- one line after others

@@ -11,7 +11,7 @@ use Rattle.server_events.specs.Events.{EventValue, tick}
 use Rattle.server_core.specs.Runs.{Run, run_of, run_step}
 use Rattle.served_instance.specs.Refusals.{lone_step}
 use Rattle.serve.specs.SocketEvents.{SocketEvent, PortEvent, clock, port, what_of, moment_after, moment_of, events_for, events_from, events_of, lone_of}
-use Rattle.serve.specs.Served.{IsFaithful, IsServed}
+use Rattle.serve.specs.Served.{IsFaithful, AreAllFaithful}
 
 pub moment_more : (h : List SocketEvent) (s : SocketEvent) → moment_of (h ++ s ∷ []) ≡ moment_after (moment_of h) s
 moment_more h s = fold_push moment_after 0 h s
@@ -50,7 +50,7 @@ more_cases (y ∷ h) s x (suc k) is = elim (more_cases h s x k is) [
   | inr b ↦ inr (ap suc b.0, b.1)
 ]
 
-pub served_more : (configs : List ConfigValue) (h : List SocketEvent) (s : SocketEvent) → IsServed configs h → IsFaithful configs h s → IsServed configs (h ++ s ∷ [])
+pub served_more : (configs : List ConfigValue) (h : List SocketEvent) (s : SocketEvent) → AreAllFaithful configs h → IsFaithful configs h s → AreAllFaithful configs (h ++ s ∷ [])
 served_more configs h s served faithful = λ k x is. elim (more_cases h s x k is) [
   | inl a ↦ subst (λ (b : List SocketEvent). IsFaithful configs b x) (sym (take-append-le k h (s ∷ []) (omega (arith, a.0)))) (served k x a.1)
   | inr b ↦

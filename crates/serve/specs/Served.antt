@@ -6,7 +6,7 @@ use Rattle.served_instance.specs.Bytes.{pending_bytes}
 use Rattle.server_events.specs.Configs.{ConfigValue}
 use Rattle.server_events.specs.Events.{EventValue, took}
 use Rattle.served_instance.specs.Connections.{open_at}
-use Rattle.served_instance.specs.Lone.{Lone}
+use Rattle.served_instance.specs.Lone.{LoneInstance}
 use Rattle.served_instance.specs.Refusals.{refusal_of, lone_step}
 use Rattle.served_instance.specs.StandsFor.{ServedState}
 use Rattle.server_core.specs.LoneOutput.{config_at}
@@ -14,13 +14,13 @@ use Rattle.server_core.specs.StandsFor.{StandsAt, instance_at}
 use Rattle.serve.specs.SocketEvents.{SocketEvent, port, accepted, written, moment_of, lone_of}
 
 -- the connection is open, and these are the first of the bytes that wait on it
-abbrev pub AreNextOn : ℕ → Lone → List ℕ → Type 0
+abbrev pub AreNextOn : ℕ → LoneInstance → List ℕ → Type 0
 AreNextOn c l bytes =
     IsSomeAnd (open_at c l.connections) (λ p. StartsWith (pending_bytes p.history) bytes)
 
 -- these are the next bytes of a connection, and the instance counts them as taken
-abbrev pub IsWritten : ℕ → ℕ → ℕ → List ℕ → Lone → Type 0
-IsWritten m i c bytes l =
+abbrev pub AreBytesWritten : ℕ → ℕ → ℕ → List ℕ → LoneInstance → Type 0
+AreBytesWritten m i c bytes l =
     AreNextOn c l bytes ×
     (refusal_of (record { moment = m; instance = i; what = took c (length bytes) }) l ≡ None)
 
@@ -29,15 +29,15 @@ IsWritten m i c bytes l =
 abbrev pub IsFaithful : List ConfigValue → List SocketEvent → SocketEvent → Type 0
 IsFaithful configs before (port i (written c bytes)) =
     (config : ConfigValue) → config_at i configs ≡ Some config →
-    IsWritten (moment_of before) i c bytes (lone_of config i before)
+    AreBytesWritten (moment_of before) i c bytes (lone_of config i before)
 IsFaithful configs before (port i (accepted c)) =
     (config : ConfigValue) → config_at i configs ≡ Some config →
     open_at c (lone_of config i before).connections ≡ None
 IsFaithful configs before s = Unit {0}
 
 -- each of all that happened is so, by what was before it
-abbrev pub IsServed : List ConfigValue → List SocketEvent → Type 0
-IsServed configs h =
+abbrev pub AreAllFaithful : List ConfigValue → List SocketEvent → Type 0
+AreAllFaithful configs h =
     (k : ℕ) (s : SocketEvent) → slice_get h k ≡ Some s → IsFaithful configs (take k h) s
 
 -- ---- while it serves
@@ -48,20 +48,20 @@ Stands configs h vs =
     (i : ℕ) (config : ConfigValue) → config_at i configs ≡ Some config →
     StandsAt i vs (lone_of config i h)
 
-pub record IsAt (configs : List ConfigValue) (h : List SocketEvent)
+pub record IsServerAt (configs : List ConfigValue) (h : List SocketEvent)
     (vs : List ServedState) (m : ℕ) : Type 0 where
   pub stands : Stands configs h vs
-  pub served : IsServed configs h
+  pub served : AreAllFaithful configs h
   -- no instance is ahead of the clock
   pub times : (i : ℕ) (config : ConfigValue) → (lone_of config i h).state.moment ≤ moment_of h
   -- what the clock showed last
   pub moment : m ≡ moment_of h
 
 abbrev pub IsServing : List ConfigValue → Option (List SocketEvent) → List ServedState → ℕ → Type 0
-IsServing configs happened vs m = IfSome happened (λ h. IsAt configs h vs m)
+IsServing configs happened vs m = IfSome happened (λ h. IsServerAt configs h vs m)
 
 abbrev pub WasServed : List ConfigValue → Option (List SocketEvent) → Type 0
-WasServed configs happened = IfSome happened (IsServed configs)
+WasServed configs happened = IfSome happened (AreAllFaithful configs)
 
 -- it goes on, or memory ran out
 abbrev pub IsAfter : {A E : Type 0} → Result A E → List ConfigValue → Option (List SocketEvent) →
@@ -85,6 +85,6 @@ KeepsServingAtMost most result old vs m new ws n =
     IsServing configs old vs m → IsAfter result configs new ws n
 
 -- an instance takes an event, and no other changes
-pub record Takes (e : EventValue) (vs ws : List ServedState) : Type 0 where
-  pub own : (l : Lone) → StandsAt e.instance vs l → StandsAt e.instance ws (lone_step e l)
+pub record TakesEvent (e : EventValue) (vs ws : List ServedState) : Type 0 where
+  pub own : (l : LoneInstance) → StandsAt e.instance vs l → StandsAt e.instance ws (lone_step e l)
   pub others : (j : ℕ) → j ≢ e.instance → instance_at j ws ≡ instance_at j vs

@@ -3,7 +3,7 @@ use Rattle.std.specs.Prelude.{◌≡◌, ℕ, ◌==◌, if◌then◌else◌, Lis
 use Rattle.std.specs.Option.{option_map}
 use Rattle.server_events.specs.Configs.{ConfigValue}
 use Rattle.server_events.specs.Events.{EventValue, WhatValue, opened, received, took, closed, tick}
-use Rattle.served_instance.specs.Lone.{Lone}
+use Rattle.served_instance.specs.Lone.{LoneInstance}
 use Rattle.server_core.specs.Runs.{run_of}
 use Rattle.serve.specs.declared.sockets.Socket.{Socket}
 
@@ -73,5 +73,5 @@ abbrev pub events_of : ℕ → List SocketEvent → List EventValue
 events_of i h = events_from i 0 h
 
 -- what instance i comes to by itself
-abbrev pub lone_of : ConfigValue → ℕ → List SocketEvent → Lone
+abbrev pub lone_of : ConfigValue → ℕ → List SocketEvent → LoneInstance
 lone_of config i h = (run_of config (events_of i h)).lone

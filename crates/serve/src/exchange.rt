@@ -2,7 +2,7 @@
 
 ghost use Rattle.std.specs.Prelude.{◌≡◌, IfOk, OnOk, Ok, Err, true};
 ghost use Rattle.server_events.specs.Shown.{what_value};
-ghost use Rattle.serve.specs.Served.{Takes, KeepsServing};
+ghost use Rattle.serve.specs.Served.{TakesEvent, KeepsServing};
 
 use crate::sockets::{Socket, Sockets, is_not_ready};
 use served_instance::EventRefusal;
@@ -27,7 +27,7 @@ pub(crate) fn tell(
     instance: u32,
     what: What,
 ) -> Result<bool, AllocError>
-    ensures takes { OnOk result (Takes
+    ensures takes { OnOk result (TakesEvent
         (record { moment = moment; instance = instance; what = what_value what })
         server.old.instances server.new.instances) }
 {

@@ -3,15 +3,15 @@ use Rattle.std.proofs.Common.{◌≡◌, refl, sym, ap, ◌∙◌, subst, zero, 
 use Rattle.std.proofs.Math.ListN.{drop_of_length-le}
 use Rattle.std.proofs.lemmas.List.{take_all}
 use Rattle.grpc_sending.proofs.Histories.{append-nil}
-use Rattle.grpc_sending.specs.StoredSending.{Look}
+use Rattle.grpc_sending.specs.StoredSending.{SourceTexts}
 use Rattle.std.specs.Prelude.{ℕ, ◌==◌, if◌then◌else◌, Bool, true, false, List, [], ◌∷◌, ◌++◌, map, Option, Some, None, position, nat_lt, Result, Ok, Err, OnOk}
 use Rattle.std.specs.Option.{option_map_or}
 use Rattle.std.proofs.lemmas.List.Elements.{filter-append}
 use Rattle.conn_core.specs.declared.event.CallEvent.{CallEvent}
 use Rattle.conn_core.specs.declared.event.CallEvent.TheVariants.{Cancel}
 use Rattle.conn_core.specs.Calls.{cancels}
-use Rattle.conn_core.specs.Past.{Past, opening}
-use Rattle.conn_core.specs.StandsFor.{Present, StandsFor as IsConnection, live_calls}
+use Rattle.conn_core.specs.Past.{Past, new_past}
+use Rattle.conn_core.specs.StandsFor.{ConnectionValue, IsConnection, live_calls}
 use Rattle.instance_core.specs.declared.event.CallId.{CallId}
 use Rattle.instance_core.specs.Calls.{cancel, tick as time_passes}
 use Rattle.instance_core.specs.State.{InstanceState}
@@ -19,7 +19,7 @@ use Rattle.instance_core.specs.Answer.{state_after}
 use Rattle.served_instance.specs.declared.open_connection.OpenConnection.{OpenConnection}
 use Rattle.served_instance.specs.Connections.{LoneConnection, is_open, open_ones, open_at, with_closed}
 use Rattle.served_instance.specs.Calls.{call_event_on}
-use Rattle.served_instance.specs.Lone.{Lone, after_call_event, after_call_events, after_opening, after_closing}
+use Rattle.served_instance.specs.Lone.{LoneInstance, after_call_event, after_call_events, after_opening, after_closing}
 use Rattle.served_instance.specs.Present.{is_numbered, CanTake, unless_more}
 use Rattle.std.proofs.lemmas.Bool.{cond-false, cond-true, ltb-false}
 use Rattle.served_instance.specs.declared.refusal.EventRefusal.TheVariants.{NoSuchConnection, TookTooMuch}
@@ -34,7 +34,7 @@ use Rattle.conn_core.proofs.Left.{left_calls, left_cancels}
 
 -- ---- one comes
 
-served_push : (texts : Look) (vs : List ServedConnection) (ls : List LoneConnection) (v : ServedConnection) (l : LoneConnection) → AreServed texts vs ls → v.number ≡ l.number → IsConnection texts v.connection l.past → AreServed texts (vs ++ v ∷ []) (ls ++ l ∷ [])
+served_push : (texts : SourceTexts) (vs : List ServedConnection) (ls : List LoneConnection) (v : ServedConnection) (l : LoneConnection) → AreServed texts vs ls → v.number ≡ l.number → IsConnection texts v.connection l.past → AreServed texts (vs ++ v ∷ []) (ls ++ l ∷ [])
 served_push texts [] [] v l s e h = (e, h, tt)
 served_push texts [] (k ∷ ls) v l s e h = absurd s
 served_push texts (x ∷ vs) [] v l s e h = absurd s
@@ -44,10 +44,10 @@ map_push : (os : List OpenConnection) (o : OpenConnection) → map connection_sh
 map_push [] o = refl
 map_push (x ∷ os) o = ap (λ (vs : List ServedConnection). connection_shown x ∷ vs) (map_push os o)
 
-pub opens : (c : ℕ) (v : Present) (s : InstanceState) (os : List OpenConnection) → ((texts : Look) → IsConnection texts v opening) → Acts s os s (os ++ record { number = c; connection = v } ∷ []) (after_opening c)
+pub opens : (c : ℕ) (v : ConnectionValue) (s : InstanceState) (os : List OpenConnection) → ((texts : SourceTexts) → IsConnection texts v new_past) → Acts s os s (os ++ record { number = c; connection = v } ∷ []) (after_opening c)
 opens c v s os h = λ texts l st.
     let o : OpenConnection = record { number = c; connection = v } in
-    let k : LoneConnection = record { number = c; past = opening; is_open = true } in
+    let k : LoneConnection = record { number = c; past = new_past; is_open = true } in
     let pushed = served_push texts (map connection_shown os) (open_ones l.connections) (connection_shown o) k st.connections refl (h texts) in
     let P : List ServedConnection → Type 0 = λ vs. AreServed texts vs (open_ones l.connections ++ k ∷ []) in
     let Q : List LoneConnection → Type 0 = λ ls. AreServed texts (map connection_shown (os ++ o ∷ [])) ls in
@@ -58,7 +58,7 @@ opens c v s os h = λ texts l st.
 
 -- ---- one goes
 
-removed_serves : (texts : Look) (c : ℕ) (os : List OpenConnection) (ls : List LoneConnection) (k : ℕ) → IsPlace c os k → AreServed texts (map connection_shown os) ls → AreServed texts (map connection_shown (take k os ++ drop (suc k) os)) (without_at c ls)
+removed_serves : (texts : SourceTexts) (c : ℕ) (os : List OpenConnection) (ls : List LoneConnection) (k : ℕ) → IsPlace c os k → AreServed texts (map connection_shown os) ls → AreServed texts (map connection_shown (take k os ++ drop (suc k) os)) (without_at c ls)
 removed_serves texts c [] ls k h s = absurd h
 removed_serves texts c (o ∷ os) [] k h s = absurd s
 removed_serves texts c (o ∷ os) (l ∷ ls) zero h s =
@@ -72,7 +72,7 @@ pub closes : (c : ℕ) (s t : InstanceState) (os ns : List OpenConnection) (k : 
 closes c s t os ns k d h act = λ texts l st.
     let v = (get_or os k d).connection in
     let past = open_past texts c os l.connections v (sym (place_some c os k d h)) st.connections in
-    let left : Lone = record l { connections = with_closed c l.connections } in
+    let left : LoneInstance = record l { connections = with_closed c l.connections } in
     let gone : StandsBy texts s (take k os ++ drop (suc k) os) left = record {
       state = st.state;
       connections = subst (λ (xs : List LoneConnection). AreServed texts (map connection_shown (take k os ++ drop (suc k) os)) xs) (sym (closed_at_is c l.connections)) (removed_serves texts c os (open_ones l.connections) k (is_place c os k h) st.connections);
@@ -93,7 +93,7 @@ without_none c (l ∷ ls) h = without_by c l ls (l.number == c) h (without_none 
 pub closes_none : (c : ℕ) (s : InstanceState) (os : List OpenConnection) → position (is_numbered c) os ≡ None → Acts s os s os (after_closing c)
 closes_none c s os h = λ texts l st.
     let none = no_past texts c os l.connections (sym (place_none c os h)) st.connections in
-    let left : Lone = record l { connections = with_closed c l.connections } in
+    let left : LoneInstance = record l { connections = with_closed c l.connections } in
     let same : open_ones (with_closed c l.connections) ≡ open_ones l.connections = closed_at_is c l.connections ∙ without_none c (open_ones l.connections) (sym (open_at_is c l.connections) ∙ none) in
     let gone : StandsBy texts s os left = record {
       state = st.state;
@@ -121,7 +121,7 @@ first_of : (xs ys : List ℕ) (x : ℕ) → x ∷ [] ≡ take 1 xs → ys ≡ dr
 first_of [] ys x h e = cc
 first_of (y ∷ xs) ys x h e = cc
 
-pub cancel_leads : (c stream : ℕ) (s0 s t : InstanceState) (os0 os ns : List OpenConnection) (v w : Present) (before : Lone → Lone) → LeadsOn s0 os0 s os before (after_call_events c (cancels_of v)) →
+pub cancel_leads : (c stream : ℕ) (s0 s t : InstanceState) (os0 os ns : List OpenConnection) (v w : ConnectionValue) (before : LoneInstance → LoneInstance) → LeadsOn s0 os0 s os before (after_call_events c (cancels_of v)) →
     stream ∷ [] ≡ take 1 (live_calls v) → live_calls w ≡ drop 1 (live_calls v) → Acts s os t ns (after_call_event (call_event_on c (Cancel stream))) → LeadsOn s0 os0 t ns before (after_call_events c (cancels_of w))
 cancel_leads c stream s0 s t os0 os ns v w before h first rest act = λ texts l st.
     let a = h texts l st in
@@ -132,18 +132,18 @@ none_of : (xs : List ℕ) → [] ≡ take 1 xs → xs ≡ []
 none_of [] h = refl
 none_of (x ∷ xs) h = cc
 
-pub cancel_done : (c : ℕ) (s0 s : InstanceState) (os0 os : List OpenConnection) (v : Present) (before : Lone → Lone) → LeadsOn s0 os0 s os before (after_call_events c (cancels_of v)) → [] ≡ take 1 (live_calls v) → Acts s0 os0 s os before
+pub cancel_done : (c : ℕ) (s0 s : InstanceState) (os0 os : List OpenConnection) (v : ConnectionValue) (before : LoneInstance → LoneInstance) → LeadsOn s0 os0 s os before (after_call_events c (cancels_of v)) → [] ≡ take 1 (live_calls v) → Acts s0 os0 s os before
 cancel_done c s0 s os0 os v before h none =
     leads_acts s0 s s os0 os os before (after_call_events c (cancels_of v)) h
     (λ texts l st. subst (λ (xs : List ℕ). StandsBy texts s os (after_call_events c (map Cancel xs) l)) (sym (none_of (live_calls v) none)) st)
 
 -- ---- what an event asks for
 
-untaken_by : (n : ℕ) (v : Present) (b : Bool) → nat_lt (length v.sending.pending) n ≡ b → (if b then Some TookTooMuch else None) ≡ None → n ≤ length v.sending.pending
+untaken_by : (n : ℕ) (v : ConnectionValue) (b : Bool) → nat_lt (length v.sending.pending) n ≡ b → (if b then Some TookTooMuch else None) ≡ None → n ≤ length v.sending.pending
 untaken_by n v true e h = cc
 untaken_by n v false e h = omega (arith, ltb-false (length v.sending.pending) n e)
 
-pub can_take : (n : ℕ) (o : Option Present) → option_map_or (unless_more n) o (Some NoSuchConnection) ≡ None → CanTake n o
+pub can_take : (n : ℕ) (o : Option ConnectionValue) → option_map_or (unless_more n) o (Some NoSuchConnection) ≡ None → CanTake n o
 can_take n None h = tt
 can_take n (Some v) h = untaken_by n v (nat_lt (length v.sending.pending) n) refl h
 
@@ -156,9 +156,9 @@ written_back n xs ys e f =
     let whole : length xs ≤ n = omega arith in
     ap (λ (zs : List OpenConnection). take n (xs ++ zs)) (drop_of_length-le ys le) ∙ ap (take n) (append-nil xs) ∙ take_all n xs whole
 
-pub acts_between : {T E : Type 0} (r : Result T E) (texts others : Look) (s t : InstanceState) (os xs ns zs : List OpenConnection) (f g : Lone → Lone) → xs ≡ os → zs ≡ ns → g ≡ f → OnOk r (ActsBy texts s xs others t ns f) → OnOk r (ActsBy texts s os others t zs g)
+pub acts_between : {T E : Type 0} (r : Result T E) (texts others : SourceTexts) (s t : InstanceState) (os xs ns zs : List OpenConnection) (f g : LoneInstance → LoneInstance) → xs ≡ os → zs ≡ ns → g ≡ f → OnOk r (ActsBy texts s xs others t ns f) → OnOk r (ActsBy texts s os others t zs g)
 acts_between (Ok x) texts others s t os xs ns zs f g a b e h =
-    subst (λ (ys : List OpenConnection). ActsBy texts s ys others t zs g) a (subst (λ (ys : List OpenConnection). ActsBy texts s xs others t ys g) (sym b) (subst (λ (step : Lone → Lone). ActsBy texts s xs others t ns step) (sym e) h))
+    subst (λ (ys : List OpenConnection). ActsBy texts s ys others t zs g) a (subst (λ (ys : List OpenConnection). ActsBy texts s xs others t ys g) (sym b) (subst (λ (step : LoneInstance → LoneInstance). ActsBy texts s xs others t ns step) (sym e) h))
 acts_between (Err x) texts others s t os xs ns zs f g a b e h = tt
 
 pub closes_by : (c : ℕ) (s t : InstanceState) (os xs : List OpenConnection) (k : ℕ) (o : OpenConnection) → position (is_numbered c) os ≡ Some k → o ≡ get_or os k o → xs ≡ take k os ++ drop (k + 1) os →
@@ -170,6 +170,6 @@ closes_by c s t os xs k o h here e act =
     (subst (λ (ys : List OpenConnection). Acts s ys t xs (after_call_events c (cancels_of o.connection))) left act) in
     closes c s t os xs k o h given
 
-pub at_state : {T E : Type 0} (r : Result T E) (texts : Look) (s : InstanceState) (os ns : List OpenConnection) (f : Lone → Lone) → OnOk r ((t : InstanceState) → Acts t os t ns f) → OnOk r (ActsBy texts s os texts s ns f)
+pub at_state : {T E : Type 0} (r : Result T E) (texts : SourceTexts) (s : InstanceState) (os ns : List OpenConnection) (f : LoneInstance → LoneInstance) → OnOk r ((t : InstanceState) → Acts t os t ns f) → OnOk r (ActsBy texts s os texts s ns f)
 at_state (Ok x) texts s os ns f h = h s texts
 at_state (Err x) texts s os ns f h = tt

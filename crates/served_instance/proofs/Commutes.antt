@@ -8,8 +8,8 @@ use Rattle.conn_core.specs.declared.event.CallEvent.{CallEvent}
 use Rattle.conn_core.specs.Past.{Past, with_item}
 use Rattle.instance_core.specs.Replies.{ReplyValue}
 use Rattle.served_instance.specs.Connections.{LoneConnection, is_open_at, open_at, at_open}
-use Rattle.served_instance.specs.Calls.{items_of, with_items}
-use Rattle.served_instance.specs.Lone.{Lone, after_replies}
+use Rattle.served_instance.specs.Calls.{owed_items, with_items}
+use Rattle.served_instance.specs.Lone.{LoneInstance, after_replies}
 
 abbrev stepped : (Past → Past) → LoneConnection → LoneConnection
 stepped f k = record k { past = f k.past }
@@ -126,20 +126,20 @@ items_keep_wire s (item ∷ items) p = items_keep_wire s items (with_item p s it
 
 abbrev pub given : List ReplyValue → List LoneConnection → List LoneConnection
 given [] ks = ks
-given (r ∷ rs) ks = given rs (at_open r.call.connection (with_items r.call.stream (items_of r.items)) ks)
+given (r ∷ rs) ks = given rs (at_open r.call.connection (with_items r.call.stream (owed_items r.items)) ks)
 
-pub replied_is : (rs : List ReplyValue) (l : Lone) → after_replies rs l ≡ record l { connections = given rs l.connections }
+pub replied_is : (rs : List ReplyValue) (l : LoneInstance) → after_replies rs l ≡ record l { connections = given rs l.connections }
 replied_is [] l = refl
-replied_is (r ∷ rs) l = replied_is rs (record l { connections = at_open r.call.connection (with_items r.call.stream (items_of r.items)) l.connections })
+replied_is (r ∷ rs) l = replied_is rs (record l { connections = at_open r.call.connection (with_items r.call.stream (owed_items r.items)) l.connections })
 
 pub given_commutes : (c : ℕ) (f : Past → Past) (rs : List ReplyValue) (ks : List LoneConnection) → ((s : ℕ) (items : List Item) (p : Past) → f (with_items s items p) ≡ with_items s items (f p)) → at_open c f (given rs ks) ≡ given rs (at_open c f ks)
 given_commutes c f [] ks h = refl
 given_commutes c f (r ∷ rs) ks h =
-    given_commutes c f rs (at_open r.call.connection (with_items r.call.stream (items_of r.items)) ks) h
-    ∙ ap (given rs) (commute c r.call.connection f (with_items r.call.stream (items_of r.items)) ks (h r.call.stream (items_of r.items)))
+    given_commutes c f rs (at_open r.call.connection (with_items r.call.stream (owed_items r.items)) ks) h
+    ∙ ap (given rs) (commute c r.call.connection f (with_items r.call.stream (owed_items r.items)) ks (h r.call.stream (owed_items r.items)))
 
 pub given_keeps : {A : Type 0} (g : Past → A) (c : ℕ) (rs : List ReplyValue) (ks : List LoneConnection) → ((s : ℕ) (items : List Item) (p : Past) → g (with_items s items p) ≡ g p) → option_map g (open_at c (given rs ks)) ≡ option_map g (open_at c ks)
 given_keeps g c [] ks h = refl
 given_keeps g c (r ∷ rs) ks h =
-    given_keeps g c rs (at_open r.call.connection (with_items r.call.stream (items_of r.items)) ks) h
-    ∙ view_kept g c r.call.connection (with_items r.call.stream (items_of r.items)) ks (h r.call.stream (items_of r.items))
+    given_keeps g c rs (at_open r.call.connection (with_items r.call.stream (owed_items r.items)) ks) h
+    ∙ view_kept g c r.call.connection (with_items r.call.stream (owed_items r.items)) ks (h r.call.stream (owed_items r.items))

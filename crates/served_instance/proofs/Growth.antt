@@ -18,7 +18,7 @@ use Rattle.conn_core.specs.declared.event.CallEvent.{CallEvent}
 use Rattle.conn_core.specs.Received.{outcome, frame_entries, fault_frames, fault_entries}
 use Rattle.conn_core.specs.History.{highest_stream}
 use Rattle.conn_core.specs.Calls.{cancels}
-use Rattle.conn_core.specs.Past.{Past, opening, with_frame, with_fault, with_item, with_taken, with_pumped, with_bytes}
+use Rattle.conn_core.specs.Past.{Past, new_past, with_frame, with_fault, with_item, with_taken, with_pumped, with_bytes}
 use Rattle.conn_core.proofs.Pumps.{pumped_is}
 use Rattle.instance_core.specs.Calls.{CallEventValue}
 use Rattle.instance_core.specs.Answer.{answer, state_after}
@@ -26,8 +26,8 @@ use Rattle.instance_core.specs.Replies.{ReplyValue}
 use Rattle.server_events.specs.Events.{EventValue, WhatValue, opened, received, took, closed, tick, ended}
 use Rattle.std.specs.Option.{option_map_or}
 use Rattle.served_instance.specs.Connections.{LoneConnection, is_open_at, open_at, at_open, with_closed, at_all_open}
-use Rattle.served_instance.specs.Calls.{call_event_on, items_of, with_items}
-use Rattle.served_instance.specs.Lone.{Lone, after_replies, after_call_event, after_call_events, due_at, without_due, after_due_on, after_frame_on, is_over, after_frames_on, after_fault_on, after_end_on, unread_frames, after_reading_on, after_bytes_on, after_opening, effect_of, after_pump, lone_at_moment, after_event}
+use Rattle.served_instance.specs.Calls.{call_event_on, owed_items, with_items}
+use Rattle.served_instance.specs.Lone.{LoneInstance, after_replies, after_call_event, after_call_events, due_at, without_due, after_due_on, after_frame_on, is_over, after_frames_on, after_fault_on, after_end_on, unread_frames, after_reading_on, after_bytes_on, after_opening, effect_of, after_pump, lone_at_moment, after_event}
 
 -- ---- one connection
 
@@ -128,85 +128,85 @@ all_open_grow step grows (k ∷ ks) = (if_open_grown step grows k k.is_open refl
 
 -- ---- one instance
 
-abbrev HasMore : Lone → Lone → Type 0
+abbrev HasMore : LoneInstance → LoneInstance → Type 0
 HasMore l m = AreGrown l.connections m.connections
 
-more_same : (l : Lone) → HasMore l l
+more_same : (l : LoneInstance) → HasMore l l
 more_same l = all_same l.connections
 
-more_trans : (l m n : Lone) → HasMore l m → HasMore m n → HasMore l n
+more_trans : (l m n : LoneInstance) → HasMore l m → HasMore m n → HasMore l n
 more_trans l m n a b = all_trans l.connections m.connections n.connections a b
 
-abbrev with_reply : ReplyValue → Lone → Lone
-with_reply reply l = record l { connections = at_open reply.call.connection (with_items reply.call.stream (items_of reply.items)) l.connections }
+abbrev with_reply : ReplyValue → LoneInstance → LoneInstance
+with_reply reply l = record l { connections = at_open reply.call.connection (with_items reply.call.stream (owed_items reply.items)) l.connections }
 
-replied_more : (replies : List ReplyValue) (l : Lone) → HasMore l (after_replies replies l)
+replied_more : (replies : List ReplyValue) (l : LoneInstance) → HasMore l (after_replies replies l)
 replied_more [] l = more_same l
 replied_more (reply ∷ replies) l =
     more_trans l (with_reply reply l) (after_replies replies (with_reply reply l))
-    (at_open_grows reply.call.connection (with_items reply.call.stream (items_of reply.items)) (items_grow reply.call.stream (items_of reply.items)) l.connections)
+    (at_open_grows reply.call.connection (with_items reply.call.stream (owed_items reply.items)) (items_grow reply.call.stream (owed_items reply.items)) l.connections)
     (replied_more replies (with_reply reply l))
 
-happened_more : (event : CallEventValue) (l : Lone) → HasMore l (after_call_event event l)
+happened_more : (event : CallEventValue) (l : LoneInstance) → HasMore l (after_call_event event l)
 happened_more event l = replied_more (answer l.state event).replies (record l { state = state_after l.state event })
 
-all_happened_more : (c : ℕ) (events : List CallEvent) (l : Lone) → HasMore l (after_call_events c events l)
+all_happened_more : (c : ℕ) (events : List CallEvent) (l : LoneInstance) → HasMore l (after_call_events c events l)
 all_happened_more c [] l = more_same l
 all_happened_more c (event ∷ events) l =
-    let m : Lone = after_call_event (call_event_on c event) l in
+    let m : LoneInstance = after_call_event (call_event_on c event) l in
     more_trans l m (after_call_events c events m) (happened_more (call_event_on c event) l) (all_happened_more c events m)
 
-due_more : (c : ℕ) (l : Lone) → HasMore l (after_due_on c l)
+due_more : (c : ℕ) (l : LoneInstance) → HasMore l (after_due_on c l)
 due_more c l =
-    let m : Lone = record l { connections = at_open c without_due l.connections } in
+    let m : LoneInstance = record l { connections = at_open c without_due l.connections } in
     more_trans l m (after_due_on c l) (at_open_grows c without_due (λ p. grows_same p (without_due p) refl) l.connections) (all_happened_more c (due_at c l) m)
 
-frame_more : (c : ℕ) (f : RawFrame) (l : Lone) → HasMore l (after_frame_on c f l)
+frame_more : (c : ℕ) (f : RawFrame) (l : LoneInstance) → HasMore l (after_frame_on c f l)
 frame_more c f l =
-    let m : Lone = record l { connections = at_open c (λ p. with_frame p f) l.connections } in
+    let m : LoneInstance = record l { connections = at_open c (λ p. with_frame p f) l.connections } in
     more_trans l m (after_due_on c m) (at_open_grows c (λ p. with_frame p f) (frame_grows f) l.connections) (due_more c m)
 
-frames_more : (c : ℕ) (fs : List RawFrame) (l : Lone) → HasMore l (after_frames_on c fs l)
+frames_more : (c : ℕ) (fs : List RawFrame) (l : LoneInstance) → HasMore l (after_frames_on c fs l)
 frames_more c [] l = more_same l
 frames_more c (f ∷ fs) l = elim (cases_Bool (is_over c l)) [
   | inl over ↦ rw over (more_same l)
   | inr goes_on ↦ rw goes_on (more_trans l (after_frame_on c f l) (after_frames_on c fs (after_frame_on c f l)) (frame_more c f l) (frames_more c fs (after_frame_on c f l)))
 ]
 
-fault_more : (c : ℕ) (e : FrameError) (l : Lone) (code : Option ErrorCode) → HasMore l (after_fault_on c e l code)
+fault_more : (c : ℕ) (e : FrameError) (l : LoneInstance) (code : Option ErrorCode) → HasMore l (after_fault_on c e l code)
 fault_more c e l None = more_same l
 fault_more c e l (Some code) =
-    let m : Lone = record l { connections = at_open c (λ p. with_fault p e code) l.connections } in
+    let m : LoneInstance = record l { connections = at_open c (λ p. with_fault p e code) l.connections } in
     more_trans l m (after_due_on c m) (at_open_grows c (λ p. with_fault p e code) (fault_grows e code) l.connections) (due_more c m)
 
-end_more : (c : ℕ) (end : Result (List ℕ) FrameError) (l : Lone) → HasMore l (after_end_on c end l)
+end_more : (c : ℕ) (end : Result (List ℕ) FrameError) (l : LoneInstance) → HasMore l (after_end_on c end l)
 end_more c (Ok rest) l = more_same l
 end_more c (Err e) l = elim (cases_Bool (is_over c l)) [
   | inl over ↦ rw over (more_same l)
   | inr goes_on ↦ rw goes_on (fault_more c e l (reading_fault e))
 ]
 
-read_more : (c : ℕ) (l : Lone) (p : Option Past) → HasMore l (after_reading_on c l p)
+read_more : (c : ℕ) (l : LoneInstance) (p : Option Past) → HasMore l (after_reading_on c l p)
 read_more c l None = more_same l
 read_more c l (Some p) =
-    let m : Lone = after_frames_on c (unread_frames p) l in
+    let m : LoneInstance = after_frames_on c (unread_frames p) l in
     more_trans l m (after_reading_on c l (Some p)) (frames_more c (unread_frames p) l) (end_more c (split CLIENT_PREFACE.now p.text).end m)
 
-bytes_more : (c : ℕ) (bytes : List ℕ) (l : Lone) → HasMore l (after_bytes_on c bytes l)
+bytes_more : (c : ℕ) (bytes : List ℕ) (l : LoneInstance) → HasMore l (after_bytes_on c bytes l)
 bytes_more c bytes l =
-    let m : Lone = record l { connections = at_open c (with_bytes bytes) l.connections } in
+    let m : LoneInstance = record l { connections = at_open c (with_bytes bytes) l.connections } in
     more_trans l m (after_bytes_on c bytes l) (at_open_grows c (with_bytes bytes) (λ p. grows_same p (with_bytes bytes p) refl) l.connections) (read_more c m (open_at c m.connections))
 
 -- ---- an event
 
 -- what an event says of its own connection
 abbrev pub connections_after : WhatValue → List LoneConnection → List LoneConnection
-connections_after (opened c) ks = ks ++ record { number = c; past = opening; is_open = true } ∷ []
+connections_after (opened c) ks = ks ++ record { number = c; past = new_past; is_open = true } ∷ []
 connections_after (took c n) ks = at_open c (λ p. with_taken p n) ks
 connections_after (closed c) ks = with_closed c ks
 connections_after _ ks = ks
 
-acted_more : (what : WhatValue) (l : Lone) → AreGrown (connections_after what l.connections) (effect_of what l).connections
+acted_more : (what : WhatValue) (l : LoneInstance) → AreGrown (connections_after what l.connections) (effect_of what l).connections
 acted_more (opened c) l = all_same (after_opening c l).connections
 acted_more (received c bytes) l = bytes_more c bytes l
 acted_more (took c n) l = all_same (at_open c (λ p. with_taken p n) l.connections)
@@ -214,7 +214,7 @@ acted_more (closed c) l = all_happened_more c (option_map_or (λ p. cancels p.hi
 acted_more tick l = more_same l
 acted_more (ended job outcome) l = more_same l
 
-pub accepted_more : (e : EventValue) (l : Lone) → AreGrown (connections_after e.what l.connections) (after_event e l).connections
+pub accepted_more : (e : EventValue) (l : LoneInstance) → AreGrown (connections_after e.what l.connections) (after_event e l).connections
 accepted_more e l =
-    let m : Lone = effect_of e.what (lone_at_moment e.moment l) in
+    let m : LoneInstance = effect_of e.what (lone_at_moment e.moment l) in
     all_trans (connections_after e.what l.connections) m.connections (after_pump m).connections (acted_more e.what (lone_at_moment e.moment l)) (all_open_grow with_pumped pump_grows m.connections)

@@ -5,26 +5,26 @@ use Rattle.std.specs.List.{AllByRecursion}
 use Rattle.std.proofs.lemmas.List.{length-map}
 use Rattle.blob_pool.specs.Slots.{Slots, text_at, count_at}
 use Rattle.blob_pool.specs.Moves.{Holders, Moves}
-use Rattle.grpc_sending.specs.StoredSending.{Look, AgreeOn}
+use Rattle.grpc_sending.specs.StoredSending.{SourceTexts, AgreeOn}
 use Rattle.instance_core.specs.declared.event.Reply.{Reply}
 use Rattle.instance_core.specs.declared.event.ReplyItem.{ReplyItem}
 use Rattle.instance_core.specs.declared.event.ReplyItem.TheVariants.{Begins, Says, Gives, Ends, Refuses}
 use Rattle.instance_core.specs.Answer.{answer, state_after}
 use Rattle.instance_core.specs.Calls.{CallEventValue}
-use Rattle.instance_core.specs.Given.{replies_holders}
-use Rattle.instance_core.specs.Replies.{ReplyItemValue, ReplyValue, IsShortItem, IsShortReply}
+use Rattle.instance_core.specs.ReplyHolders.{replies_holders}
+use Rattle.instance_core.specs.Replies.{ReplyItemValue, ReplyValue, IsShortReplyItem, IsShortReply}
 use Rattle.instance_core.specs.Shown.{item_shown, reply_shown}
-use Rattle.instance_core.specs.Slots.{InstanceSlots, state_in, holders_of as holders_of_instance}
-use Rattle.instance_core.specs.State.{InstanceState, WithinLimits}
+use Rattle.instance_core.specs.Slots.{InstanceSlots, state_in, holders_of_instance}
+use Rattle.instance_core.specs.State.{InstanceState, IsInstanceWithin}
 use Rattle.instance_core.specs.Visible.{Blob}
 use Rattle.instance_core.proofs.Held.{shown_same}
 use Rattle.served_instance.specs.declared.open_connection.OpenConnection.{OpenConnection}
 use Rattle.served_instance.specs.Connections.{LoneConnection, open_ones}
-use Rattle.served_instance.specs.Given.{item_by, reply_by, CanBeOwed, ReplyCanBeOwed, ItemsEndWithin, RepliesEndWithin, TakeRanges}
-use Rattle.served_instance.specs.Lone.{Lone, after_replies, after_call_event}
+use Rattle.served_instance.specs.OwedReplies.{item_by, reply_by, CanBeOwed, ReplyCanBeOwed, ItemsEndWithin, RepliesEndWithin, AllTakeRanges}
+use Rattle.served_instance.specs.Lone.{LoneInstance, after_replies, after_call_event}
 use Rattle.served_instance.specs.Ranges.{served_with, sources_at, range_holders}
 use Rattle.served_instance.specs.Shown.{connection_shown}
-use Rattle.served_instance.specs.Slots.{holders_of, IsKept}
+use Rattle.served_instance.specs.Slots.{holders_of, IsServedInPool}
 use Rattle.served_instance.specs.StandsFor.{ServedConnection, AreServed}
 use Rattle.served_instance.specs.Acts.{ActsIn, StandsBy, slots_of}
 use Rattle.served_instance.proofs.Commutes.{given, replied_is}
@@ -52,7 +52,7 @@ replies_same q (r ∷ rs) =
     ap (λ (items : List ReplyItemValue). reply_of r items ∷ map (reply_by (text_at q)) rs) (items_same q r.items.items)
     ∙ ap (λ (xs : List ReplyValue). reply_shown q r ∷ xs) (replies_same q rs)
 
-items_owed : (q : Slots) (items : List ReplyItem) → AllByRecursion IsShortItem (map (item_shown q) items) → AllByRecursion CanBeOwed items
+items_owed : (q : Slots) (items : List ReplyItem) → AllByRecursion IsShortReplyItem (map (item_shown q) items) → AllByRecursion CanBeOwed items
 items_owed q [] h = tt
 items_owed q (Begins ∷ items) h = (tt, items_owed q items h.1)
 items_owed q (Says bytes ∷ items) h = (h.0, items_owed q items h.1)
@@ -64,7 +64,7 @@ pub replies_owed : (q : Slots) (rs : List Reply) → AllByRecursion IsShortReply
 replies_owed q [] h = tt
 replies_owed q (r ∷ rs) h = (items_owed q r.items.items h.0, replies_owed q rs h.1)
 
-items_end : (q : Slots) (items : List ReplyItem) → AllByRecursion IsShortItem (map (item_shown q) items) → ItemsEndWithin items (text_at q)
+items_end : (q : Slots) (items : List ReplyItem) → AllByRecursion IsShortReplyItem (map (item_shown q) items) → ItemsEndWithin items (text_at q)
 items_end q [] h = tt
 items_end q (Begins ∷ items) h = (tt, items_end q items h.1)
 items_end q (Says bytes ∷ items) h = (tt, items_end q items h.1)
@@ -79,26 +79,26 @@ replies_end q (r ∷ rs) h = (items_end q r.items.items h.0, replies_end q rs h.
 -- ---- what is held
 
 -- the instance did something in a pool, and gives what is held so often; connections took that, or it was released
-pub record IsAnswered (given : Holders) (IsGood : Look → Type 0) (p q r : Slots) (i j : InstanceSlots) (vs ws : List ServedConnection) : Type 0 where
-  pub kept : IsKept p (slots_at i vs)
+pub record IsAnswered (given : Holders) (IsGood : SourceTexts → Type 0) (p q r : Slots) (i j : InstanceSlots) (vs ws : List ServedConnection) : Type 0 where
+  pub kept : IsServedInPool p (slots_at i vs)
   pub moves : Moves p q (holders_of_instance i) (λ k. holders_of_instance j k + given k)
-  pub takes : TakeRanges given IsGood q vs r ws
-  pub within : WithinLimits (state_in q j)
+  pub takes : AllTakeRanges given IsGood q vs r ws
+  pub within : IsInstanceWithin (state_in q j)
   pub good : IsGood (text_at q)
 
-pub given_counted : (given : Holders) (p q : Slots) (i j : InstanceSlots) (vs : List ServedConnection) → IsKept p (slots_at i vs) → Moves p q (holders_of_instance i) (λ k. holders_of_instance j k + given k) →
+pub given_counted : (given : Holders) (p q : Slots) (i j : InstanceSlots) (vs : List ServedConnection) → IsServedInPool p (slots_at i vs) → Moves p q (holders_of_instance i) (λ k. holders_of_instance j k + given k) →
     (k : ℕ) → holders_of_instance j k + range_holders vs k + given k ≤ count_at q k
 given_counted given p q i j vs kept m k = omega (arith, m.counts k, kept.counted k)
 
-asked_finds : (given : Holders) (p q : Slots) (i j : InstanceSlots) (vs : List ServedConnection) → IsKept p (slots_at i vs) → Moves p q (holders_of_instance i) (λ k. holders_of_instance j k + given k) → AgreeOn (sources_at vs) (text_at p) (text_at q)
+asked_finds : (given : Holders) (p q : Slots) (i j : InstanceSlots) (vs : List ServedConnection) → IsServedInPool p (slots_at i vs) → Moves p q (holders_of_instance i) (λ k. holders_of_instance j k + given k) → AgreeOn (sources_at vs) (text_at p) (text_at q)
 asked_finds given p q i j vs kept m k some = sym (m.texts k (omega (arith, some, kept.counted k)))
 
-taken_finds : (given : Holders) (IsGood : Look → Type 0) (p q r : Slots) (i j : InstanceSlots) (vs ws : List ServedConnection) → IsAnswered given IsGood p q r i j vs ws → AgreeOn (sources_at ws) (text_at q) (text_at r)
+taken_finds : (given : Holders) (IsGood : SourceTexts → Type 0) (p q r : Slots) (i j : InstanceSlots) (vs ws : List ServedConnection) → IsAnswered given IsGood p q r i j vs ws → AgreeOn (sources_at ws) (text_at q) (text_at r)
 taken_finds given IsGood p q r i j vs ws a k some =
     let held = given_counted given p q i j vs a.kept a.moves k in
     sym (a.takes.moves.texts k (omega (arith, some, held, a.takes.sources k)))
 
-pub answered_moves : (given : Holders) (IsGood : Look → Type 0) (p q r : Slots) (i j : InstanceSlots) (vs ws : List ServedConnection) → IsAnswered given IsGood p q r i j vs ws → Moves p r (holders_of (slots_at i vs)) (holders_of (slots_at j ws))
+pub answered_moves : (given : Holders) (IsGood : SourceTexts → Type 0) (p q r : Slots) (i j : InstanceSlots) (vs ws : List ServedConnection) → IsAnswered given IsGood p q r i j vs ws → Moves p r (holders_of (slots_at i vs)) (holders_of (slots_at j ws))
 answered_moves given IsGood p q r i j vs ws a = record {
   counts = λ k. omega (arith, a.moves.counts k, a.takes.moves.counts k, a.takes.sources k);
   texts = λ k few.
@@ -109,20 +109,20 @@ answered_moves given IsGood p q r i j vs ws a = record {
 abbrev with_visible : InstanceSlots → List Blob → InstanceState
 with_visible i bs = record { name = i.name; quota = i.quota; slots = i.slots; moment = i.moment; visible = bs; uploads = i.uploads; results = i.results; calls = i.calls }
 
-answered_state : (given : Holders) (IsGood : Look → Type 0) (p q r : Slots) (i j : InstanceSlots) (vs ws : List ServedConnection) → IsAnswered given IsGood p q r i j vs ws → state_in r j ≡ state_in q j
+answered_state : (given : Holders) (IsGood : SourceTexts → Type 0) (p q r : Slots) (i j : InstanceSlots) (vs ws : List ServedConnection) → IsAnswered given IsGood p q r i j vs ws → state_in r j ≡ state_in q j
 answered_state given IsGood p q r i j vs ws a =
     ap (with_visible j) (shown_same q r j.view.entries (λ k some.
     let held = given_counted given p q i j vs a.kept a.moves k in
     a.takes.moves.texts k (omega (arith, some, held, a.takes.sources k))))
 
-pub answered_kept : (given : Holders) (IsGood : Look → Type 0) (p q r : Slots) (i j : InstanceSlots) (vs ws : List ServedConnection) → IsAnswered given IsGood p q r i j vs ws → length ws ≤ 64 → IsKept r (slots_at j ws)
+pub answered_kept : (given : Holders) (IsGood : SourceTexts → Type 0) (p q r : Slots) (i j : InstanceSlots) (vs ws : List ServedConnection) → IsAnswered given IsGood p q r i j vs ws → length ws ≤ 64 → IsServedInPool r (slots_at j ws)
 answered_kept given IsGood p q r i j vs ws a short =
     let find = taken_finds given IsGood p q r i j vs ws a in
     record {
       counted = λ k. let held = given_counted given p q i j vs a.kept a.moves k in omega (arith, held, a.takes.moves.counts k, a.takes.sources k);
       others = λ k. omega (arith, a.moves.counts k, a.takes.moves.counts k, a.takes.sources k, a.kept.others k);
       within = record {
-        instance = subst WithinLimits (sym (answered_state given IsGood p q r i j vs ws a)) a.within;
+        instance = subst IsInstanceWithin (sym (answered_state given IsGood p q r i j vs ws a)) a.within;
         connections = omega (arith, short, length-map ws (served_with (text_at r)));
       };
       fit = fit_agreed_each (text_at q) (text_at r) ws find
@@ -131,8 +131,8 @@ answered_kept given IsGood p q r i j vs ws a short =
     }
 
 -- what a call event answered was given to its connections
-pub answers_given : (p q r : Slots) (i j : InstanceSlots) (os ns : List OpenConnection) (rs ys : List Reply) → rs ≡ ys → IsKept p (slots_of i os) →
-    Moves p q (holders_of_instance i) (λ k. holders_of_instance j k + replies_holders ys k) → TakeRanges (replies_holders rs) (RepliesEndWithin rs) q (map connection_shown os) r (map connection_shown ns) → WithinLimits (state_in q j) →
+pub answers_given : (p q r : Slots) (i j : InstanceSlots) (os ns : List OpenConnection) (rs ys : List Reply) → rs ≡ ys → IsServedInPool p (slots_of i os) →
+    Moves p q (holders_of_instance i) (λ k. holders_of_instance j k + replies_holders ys k) → AllTakeRanges (replies_holders rs) (RepliesEndWithin rs) q (map connection_shown os) r (map connection_shown ns) → IsInstanceWithin (state_in q j) →
     AllByRecursion IsShortReply (map (reply_shown q) ys) → IsAnswered (replies_holders rs) (RepliesEndWithin rs) p q r i j (map connection_shown os) (map connection_shown ns)
 answers_given p q r i j os ns rs ys is kept moves takes within short = record {
   kept = kept;
@@ -144,8 +144,8 @@ answers_given p q r i j os ns rs ys is kept moves takes within short = record {
 
 -- ---- what it stands for
 
-replied_at : (rs : List ReplyValue) (l : Lone) → (after_replies rs l).connections ≡ given rs l.connections
-replied_at rs l = ap (λ (k : Lone). k.connections) (replied_is rs l)
+replied_at : (rs : List ReplyValue) (l : LoneInstance) → (after_replies rs l).connections ≡ given rs l.connections
+replied_at rs l = ap (λ (k : LoneInstance). k.connections) (replied_is rs l)
 
 pub happens : {T E : Type 0} (result : Result T E) (p q r : Slots) (i j : InstanceSlots) (os ns : List OpenConnection) (what : CallEventValue) (rs : List Reply) → IsAnswered (replies_holders rs) (RepliesEndWithin rs) p q r i j (map connection_shown os) (map connection_shown ns) →
     map (reply_shown q) rs ≡ (answer (state_in p i) what).replies → state_in q j ≡ state_after (state_in p i) what → OnOk result (AreGiven rs os ns) → OnOk result (ActsIn p i os r j ns (after_call_event what))
@@ -159,10 +159,10 @@ happens (Ok x) p q r i j os ns what rs a e f h = λ l st.
     ap (λ (ys : List ReplyValue). given ys l.connections) (replies_same q rs ∙ (e ∙ ap (λ (y : InstanceState). (answer y what).replies) st.state)) in
     let taken : AreServed (text_at q) ws (open_ones (given (answer l.state what).replies l.connections)) =
     subst (λ (ks : List LoneConnection). AreServed (text_at q) ws (open_ones ks)) (replied_at (map (reply_by (text_at q)) rs) l ∙ same) (h (text_at q) l asked) in
-    let k : Lone = record l { state = state_after l.state what; connections = given (answer l.state what).replies l.connections } in
+    let k : LoneInstance = record l { state = state_after l.state what; connections = given (answer l.state what).replies l.connections } in
     let now : StandsBy (text_at r) (state_in r j) ns k = record {
       state = answered_state held (RepliesEndWithin rs) p q r i j vs ws a ∙ (f ∙ ap (λ (y : InstanceState). state_after y what) st.state);
       connections = served_agreed (text_at q) (text_at r) ws (open_ones k.connections) (taken_finds held (RepliesEndWithin rs) p q r i j vs ws a) taken;
     } in
-    subst (λ (x : Lone). StandsBy (text_at r) (state_in r j) ns x) (sym (happened_is what l)) now
+    subst (λ (x : LoneInstance). StandsBy (text_at r) (state_in r j) ns x) (sym (happened_is what l)) now
 happens (Err x) p q r i j os ns what rs a e f h = tt

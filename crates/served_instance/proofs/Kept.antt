@@ -5,28 +5,28 @@ use Rattle.blob_pool.specs.Slots.{Slots, text_at}
 use Rattle.blob_pool.specs.Moves.{Moves}
 use Rattle.blob_pool.proofs.Moves.{moves_none}
 use Rattle.grpc_sending.specs.StoredSending.{AgreeOn}
-use Rattle.instance_core.specs.Slots.{InstanceSlots, state_in, holders_of as holders_of_instance, IsKept as IsInstanceKept}
-use Rattle.instance_core.specs.State.{InstanceState, WithinLimits}
+use Rattle.instance_core.specs.Slots.{InstanceSlots, state_in, holders_of_instance, IsInstanceInPool}
+use Rattle.instance_core.specs.State.{InstanceState, IsInstanceWithin}
 use Rattle.instance_core.specs.Visible.{Blob}
 use Rattle.instance_core.proofs.Held.{shown_same}
 use Rattle.served_instance.specs.StandsFor.{ServedConnection}
-use Rattle.served_instance.specs.Slots.{ServedSlots, holders_of, IsKept}
-use Rattle.served_instance.specs.Ranges.{KeepRanges, Releases, sources_at, range_holders, served_with}
+use Rattle.served_instance.specs.Slots.{ServedSlots, holders_of, IsServedInPool}
+use Rattle.served_instance.specs.Ranges.{AllKeepRanges, Releases, sources_at, range_holders, served_with}
 use Rattle.served_instance.proofs.Ranges.{fit_agreed_each, ranges_few}
 
 abbrev pub slots_at : InstanceSlots → List ServedConnection → ServedSlots
 slots_at i vs = record { instance = i; connections = vs }
 
-pub few_connections : (p : Slots) (v : ServedSlots) → IsKept p v → length v.connections ≤ 64
+pub few_connections : (p : Slots) (v : ServedSlots) → IsServedInPool p v → length v.connections ≤ 64
 few_connections p v kept = omega (arith, kept.within.connections, length-map v.connections (served_with (text_at p)))
 
-few_ranges : (p : Slots) (v : ServedSlots) (k : ℕ) → IsKept p v → range_holders v.connections k ≤ 64 * 2 ^ 64
+few_ranges : (p : Slots) (v : ServedSlots) (k : ℕ) → IsServedInPool p v → range_holders v.connections k ≤ 64 * 2 ^ 64
 few_ranges p v k kept = ranges_few 64 v.connections k (few_connections p v kept) kept.few
 
 -- its instance is counted
-pub instance_kept : (p : Slots) (v w : ServedSlots) → w ≡ v → IsKept p v → IsInstanceKept p w.instance
+pub instance_kept : (p : Slots) (v w : ServedSlots) → w ≡ v → IsServedInPool p v → IsInstanceInPool p w.instance
 instance_kept p v w same kept =
-    let k : IsKept p w = subst (λ (x : ServedSlots). IsKept p x) (sym same) kept in
+    let k : IsServedInPool p w = subst (λ (x : ServedSlots). IsServedInPool p x) (sym same) kept in
     record {
       held = record {
         counted = λ n. omega (arith, k.counted n);
@@ -37,29 +37,29 @@ instance_kept p v w same kept =
 
 -- ---- sources of ranges are released
 
-pub release_finds : (p q : Slots) (i : InstanceSlots) (vs ws : List ServedConnection) → IsKept p (slots_at i vs) → Releases p vs q ws → AgreeOn (sources_at ws) (text_at p) (text_at q)
+pub release_finds : (p q : Slots) (i : InstanceSlots) (vs ws : List ServedConnection) → IsServedInPool p (slots_at i vs) → Releases p vs q ws → AgreeOn (sources_at ws) (text_at p) (text_at q)
 release_finds p q i vs ws kept r k some = sym (r.moves.texts k (omega (arith, some, r.sources k, kept.counted k)))
 
 -- an instance finds each of its own texts there still
-pub own_texts : (p q : Slots) (i : InstanceSlots) (vs ws : List ServedConnection) → IsKept p (slots_at i vs) → Releases p vs q ws → (k : ℕ) → 0 < holders_of_instance i k → text_at q k ≡ text_at p k
+pub own_texts : (p q : Slots) (i : InstanceSlots) (vs ws : List ServedConnection) → IsServedInPool p (slots_at i vs) → Releases p vs q ws → (k : ℕ) → 0 < holders_of_instance i k → text_at q k ≡ text_at p k
 own_texts p q i vs ws kept r k some = r.moves.texts k (omega (arith, some, r.sources k, kept.counted k))
 
 abbrev with_visible : InstanceSlots → List Blob → InstanceState
 with_visible i bs = record { name = i.name; quota = i.quota; slots = i.slots; moment = i.moment; visible = bs; uploads = i.uploads; results = i.results; calls = i.calls }
 
-pub same_state : (p q : Slots) (i : InstanceSlots) (vs ws : List ServedConnection) → IsKept p (slots_at i vs) → Releases p vs q ws → state_in q i ≡ state_in p i
+pub same_state : (p q : Slots) (i : InstanceSlots) (vs ws : List ServedConnection) → IsServedInPool p (slots_at i vs) → Releases p vs q ws → state_in q i ≡ state_in p i
 same_state p q i vs ws kept r = ap (with_visible i) (shown_same p q i.view.entries (λ k some. own_texts p q i vs ws kept r k some))
 
-pub instance_after : (p q : Slots) (i : InstanceSlots) (vs ws : List ServedConnection) → IsKept p (slots_at i vs) → Releases p vs q ws → IsInstanceKept q i
+pub instance_after : (p q : Slots) (i : InstanceSlots) (vs ws : List ServedConnection) → IsServedInPool p (slots_at i vs) → Releases p vs q ws → IsInstanceInPool q i
 instance_after p q i vs ws kept r = record {
   held = record {
     counted = λ k. omega (arith, r.moves.counts k, r.sources k, kept.counted k);
     others = λ k. omega (arith, r.moves.counts k, r.sources k, kept.others k, few_ranges p (slots_at i vs) k kept);
   };
-  within = subst WithinLimits (sym (same_state p q i vs ws kept r)) kept.within.instance;
+  within = subst IsInstanceWithin (sym (same_state p q i vs ws kept r)) kept.within.instance;
 }
 
-pub release_keeps : (p q : Slots) (i j : InstanceSlots) (vs ws : List ServedConnection) → IsKept p (slots_at i vs) → Releases p vs q ws → ((k : ℕ) → holders_of_instance j k ≡ holders_of_instance i k) → IsInstanceKept q j → length ws ≤ 64 → IsKept q (slots_at j ws)
+pub release_keeps : (p q : Slots) (i j : InstanceSlots) (vs ws : List ServedConnection) → IsServedInPool p (slots_at i vs) → Releases p vs q ws → ((k : ℕ) → holders_of_instance j k ≡ holders_of_instance i k) → IsInstanceInPool q j → length ws ≤ 64 → IsServedInPool q (slots_at j ws)
 release_keeps p q i j vs ws kept r same new few = record {
   counted = λ k. omega (arith, r.moves.counts k, r.sources k, same k, kept.counted k);
   others = λ k. omega (arith, r.moves.counts k, r.sources k, same k, kept.others k);
@@ -69,7 +69,7 @@ release_keeps p q i j vs ws kept r same new few = record {
 }
 
 -- the connections alone are others, which hold the same
-pub alike_keeps : (p : Slots) (i : InstanceSlots) (vs ws : List ServedConnection) → IsKept p (slots_at i vs) → KeepRanges vs ws → length ws ≤ 64 → IsKept p (slots_at i ws)
+pub alike_keeps : (p : Slots) (i : InstanceSlots) (vs ws : List ServedConnection) → IsServedInPool p (slots_at i vs) → AllKeepRanges vs ws → length ws ≤ 64 → IsServedInPool p (slots_at i ws)
 alike_keeps p i vs ws kept alike few = record {
   counted = λ k. omega (arith, alike.sources k, kept.counted k);
   others = λ k. omega (arith, alike.sources k, kept.others k);
@@ -78,11 +78,11 @@ alike_keeps p i vs ws kept alike few = record {
   few = alike.few kept.few;
 }
 
-pub alike_moves : (p : Slots) (i : InstanceSlots) (vs ws : List ServedConnection) → KeepRanges vs ws → Moves p p (holders_of (slots_at i vs)) (holders_of (slots_at i ws))
+pub alike_moves : (p : Slots) (i : InstanceSlots) (vs ws : List ServedConnection) → AllKeepRanges vs ws → Moves p p (holders_of (slots_at i vs)) (holders_of (slots_at i ws))
 alike_moves p i vs ws alike = moves_none p (holders_of (slots_at i vs)) (holders_of (slots_at i ws)) (λ k. omega (arith, alike.sources k))
 
 -- the instance's moment is another, or its calls
-pub moment_keeps : (p : Slots) (i j : InstanceSlots) (vs : List ServedConnection) → IsKept p (slots_at i vs) → ((k : ℕ) → holders_of_instance j k ≡ holders_of_instance i k) → IsInstanceKept p j → IsKept p (slots_at j vs)
+pub moment_keeps : (p : Slots) (i j : InstanceSlots) (vs : List ServedConnection) → IsServedInPool p (slots_at i vs) → ((k : ℕ) → holders_of_instance j k ≡ holders_of_instance i k) → IsInstanceInPool p j → IsServedInPool p (slots_at j vs)
 moment_keeps p i j vs kept same new = record {
   counted = λ k. omega (arith, same k, kept.counted k);
   others = λ k. omega (arith, same k, kept.others k);

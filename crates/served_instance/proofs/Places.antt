@@ -3,7 +3,7 @@ use Rattle.std.proofs.Common.{◌≡◌, refl, sym, ap, ◌∙◌, zero, suc, ar
 use Rattle.std.specs.Prelude.{ℕ, ◌+◌, ◌==◌, if◌then◌else◌, Bool, true, false, List, [], ◌∷◌, map, option_map, Option, Some, None, position}
 use Rattle.std.specs.List.{position_from}
 use Rattle.std.proofs.lemmas.Iterator.Adapters.{position_from-zero}
-use Rattle.conn_core.specs.StandsFor.{Present}
+use Rattle.conn_core.specs.StandsFor.{ConnectionValue}
 use Rattle.served_instance.specs.declared.open_connection.OpenConnection.{OpenConnection}
 use Rattle.served_instance.specs.Present.{is_numbered}
 use Rattle.served_instance.specs.StandsFor.{connection_at}
@@ -53,11 +53,11 @@ found_at c (o ∷ os) k h = found_by c o os (place_of c os) k (o.number == c) re
 pub is_place : (c : ℕ) (os : List OpenConnection) (k : ℕ) → position (is_numbered c) os ≡ Some k → IsPlace c os k
 is_place c os k h = found_at c os k (sym (place_is c os) ∙ h)
 
-at_by : (b : Bool) (v : Present) (r : Option Present) → b ≡ true → Some v ≡ (if b then Some v else r)
+at_by : (b : Bool) (v : ConnectionValue) (r : Option ConnectionValue) → b ≡ true → Some v ≡ (if b then Some v else r)
 at_by true v r e = refl
 at_by false v r e = cc
 
-later_by : (b : Bool) (v : Present) (r s : Option Present) → b ≡ false → s ≡ r → s ≡ (if b then Some v else r)
+later_by : (b : Bool) (v : ConnectionValue) (r s : Option ConnectionValue) → b ≡ false → s ≡ r → s ≡ (if b then Some v else r)
 later_by true v r s e h = cc
 later_by false v r s e h = h
 
@@ -69,7 +69,7 @@ connection_of c (o ∷ os) (suc k) d h = later_by (o.number == c) o.connection (
 pub place_some : (c : ℕ) (os : List OpenConnection) (k : ℕ) (d : OpenConnection) → position (is_numbered c) os ≡ Some k → Some (get_or os k d).connection ≡ connection_at c (map connection_shown os)
 place_some c os k d h = connection_of c os k d (is_place c os k h)
 
-none_by : (b : Bool) (r : Option ℕ) (v : Present) (s : Option Present) → (r ≡ None → None ≡ s) → (if b then Some 0 else option_map suc r) ≡ None → None ≡ (if b then Some v else s)
+none_by : (b : Bool) (r : Option ℕ) (v : ConnectionValue) (s : Option ConnectionValue) → (r ≡ None → None ≡ s) → (if b then Some 0 else option_map suc r) ≡ None → None ≡ (if b then Some v else s)
 none_by true r v s h f = cc
 none_by false None v s h f = h refl
 none_by false (Some j) v s h f = cc

@@ -6,22 +6,22 @@ use Rattle.conn_core.specs.Past.{with_pumped}
 use Rattle.instance_core.specs.Slots.{InstanceSlots}
 use Rattle.served_instance.specs.declared.open_connection.OpenConnection.{OpenConnection}
 use Rattle.served_instance.specs.Connections.{LoneConnection, open_ones, at_all_open}
-use Rattle.served_instance.specs.Lone.{Lone, after_pump}
-use Rattle.served_instance.specs.Slots.{served_state_in, IsKept}
-use Rattle.served_instance.specs.StandsFor.{StandsFor, AreServed}
+use Rattle.served_instance.specs.Lone.{LoneInstance, after_pump}
+use Rattle.served_instance.specs.Slots.{served_state_in, IsServedInPool}
+use Rattle.served_instance.specs.StandsFor.{IsServedInstance, AreServed}
 use Rattle.served_instance.specs.Ranges.{Releases, range_holders}
 use Rattle.served_instance.specs.Shown.{connection_shown}
 use Rattle.served_instance.specs.Acts.{slots_of}
 use Rattle.served_instance.proofs.Kept.{few_connections, instance_after, release_finds, release_keeps, same_state}
 use Rattle.served_instance.proofs.Stands.{stands_by, stands_for}
 
-pub counted_ranges : (p : Slots) (i : InstanceSlots) (os : List OpenConnection) → IsKept p (slots_of i os) → (k : ℕ) → range_holders (map connection_shown os) k ≤ count_at p k
+pub counted_ranges : (p : Slots) (i : InstanceSlots) (os : List OpenConnection) → IsServedInPool p (slots_of i os) → (k : ℕ) → range_holders (map connection_shown os) k ≤ count_at p k
 counted_ranges p i os kept k = omega (arith, kept.counted k)
 
 -- what the instance is afterwards
 pub record IsPumped (p q : Slots) (i : InstanceSlots) (os ns : List OpenConnection) : Type 0 where
-  pub stands : (l : Lone) → StandsFor (served_state_in p (slots_of i os)) l → StandsFor (served_state_in q (slots_of i ns)) (after_pump l)
-  pub kept : IsKept q (slots_of i ns)
+  pub stands : (l : LoneInstance) → IsServedInstance (served_state_in p (slots_of i os)) l → IsServedInstance (served_state_in q (slots_of i ns)) (after_pump l)
+  pub kept : IsServedInPool q (slots_of i ns)
 
 -- the connections put all that can be put, and released what no range is left of
 pub record PumpsAll (p q : Slots) (os ns : List OpenConnection) : Type 0 where
@@ -29,7 +29,7 @@ pub record PumpsAll (p q : Slots) (os ns : List OpenConnection) : Type 0 where
   pub releases : Releases p (map connection_shown os) q (map connection_shown ns)
   pub count : length ns ≡ length os
 
-is_pumped : (p q : Slots) (i : InstanceSlots) (os ns : List OpenConnection) → IsKept p (slots_of i os) → PumpsAll p q os ns → IsPumped p q i os ns
+is_pumped : (p q : Slots) (i : InstanceSlots) (os ns : List OpenConnection) → IsServedInPool p (slots_of i os) → PumpsAll p q os ns → IsPumped p q i os ns
 is_pumped p q i os ns kept pumped = record {
   stands = λ l st.
       let before = stands_by p i os l st in
@@ -42,7 +42,7 @@ is_pumped p q i os ns kept pumped = record {
 }
 
 -- through a slice: os were seen as xs, which became ns, and are zs now
-pub pumped_written : (p q : Slots) (i : InstanceSlots) (os xs ns zs : List OpenConnection) → xs ≡ os → zs ≡ ns → IsKept p (slots_of i os) → PumpsAll p q xs ns → IsPumped p q i os zs
+pub pumped_written : (p q : Slots) (i : InstanceSlots) (os xs ns zs : List OpenConnection) → xs ≡ os → zs ≡ ns → IsServedInPool p (slots_of i os) → PumpsAll p q xs ns → IsPumped p q i os zs
 pumped_written p q i os xs ns zs seen back kept pumped =
     subst (λ (ys : List OpenConnection). IsPumped p q i os ys) (sym back)
     (is_pumped p q i os ns kept (subst (λ (ys : List OpenConnection). PumpsAll p q ys ns) seen pumped))

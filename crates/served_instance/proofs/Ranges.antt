@@ -10,14 +10,14 @@ use Rattle.grpc_sending.specs.declared.queue.StoredQueue.{StoredQueue}
 use Rattle.grpc_sending.specs.Pieces.{Piece, Block, Part, Queue}
 use Rattle.grpc_sending.specs.Sources.{count_of, sources_in, sources_held}
 use Rattle.grpc_sending.specs.StandsFor.{IsSending}
-use Rattle.grpc_sending.specs.StoredSending.{Look, StoredSending, AgreeOn, KeepsFit, Fit, AreFit as ArePiecesFit, stored_on, pieces_in, queue_in, sources_of}
+use Rattle.grpc_sending.specs.StoredSending.{SourceTexts, StoredSending, AgreeOn, KeepsFit, QueuesEndWithin, EndWithinTexts, stored_on, pieces_in, queue_in, sources_of}
 use Rattle.grpc_sending.proofs.Agreeing.{count_append, agree_left, agree_right, same_shown, stands_agreed, fit_agreed}
 use Rattle.conn_core.specs.Past.{Past}
-use Rattle.conn_core.specs.StandsFor.{Present, StandsFor as IsConnection}
+use Rattle.conn_core.specs.StandsFor.{ConnectionValue, IsConnection}
 use Rattle.served_instance.specs.declared.open_connection.OpenConnection.{OpenConnection}
 use Rattle.served_instance.specs.Connections.{LoneConnection}
 use Rattle.served_instance.specs.StandsFor.{ServedConnection, AreServed, no_texts}
-use Rattle.served_instance.specs.Ranges.{stored_piece, queue_with, served_with, sources_at, range_holders, HaveFew, AreFit, KeepsRanges, KeepRanges}
+use Rattle.served_instance.specs.Ranges.{stored_piece, queue_with, served_with, sources_at, range_holders, HaveFewSources, RangesEndWithin, KeepsRanges, AllKeepRanges}
 use Rattle.served_instance.specs.Shown.{connection_shown}
 use Rattle.served_instance.specs.Acts.{HoldAlike}
 use Rattle.served_instance.specs.Present.{is_numbered}
@@ -25,19 +25,19 @@ use Rattle.served_instance.proofs.Places.{IsPlace, is_place}
 
 -- ---- with their texts
 
-same_pieces : (t : Look) (ps : List Piece) → flat_map (pieces_in t) (map stored_piece ps) ≡ ps
+same_pieces : (t : SourceTexts) (ps : List Piece) → flat_map (pieces_in t) (map stored_piece ps) ≡ ps
 same_pieces t [] = refl
 same_pieces t (Block block ∷ ps) = ap (λ (xs : List Piece). Block block ∷ xs) (same_pieces t ps)
 same_pieces t (Part bytes ∷ ps) = ap (λ (xs : List Piece). Part bytes ∷ xs) (same_pieces t ps)
 
-same_queues : (t texts : Look) (qs : List StoredQueue) → map (queue_in t) (map (queue_with texts) qs) ≡ map (queue_in texts) qs
+same_queues : (t texts : SourceTexts) (qs : List StoredQueue) → map (queue_in t) (map (queue_with texts) qs) ≡ map (queue_in texts) qs
 same_queues t texts [] = refl
 same_queues t texts (q ∷ qs) =
     ap (λ (ps : List Piece). record { stream = q.stream; pieces = ps } ∷ map (queue_in t) (map (queue_with texts) qs)) (same_pieces t (flat_map (pieces_in texts) q.pieces))
     ∙ ap (λ (rs : List Queue). queue_in texts q ∷ rs) (same_queues t texts qs)
 
 -- what is seen of a connection stands by no texts for what it stands for by these
-seen_connection : (texts : Look) (s : ServedConnection) (p : Past) → IsConnection texts s.connection p → IsConnection no_texts (served_with texts s).connection p
+seen_connection : (texts : SourceTexts) (s : ServedConnection) (p : Past) → IsConnection texts s.connection p → IsConnection no_texts (served_with texts s).connection p
 seen_connection texts s p h = record {
   ended = h.ended;
   streams = h.streams;
@@ -46,7 +46,7 @@ seen_connection texts s p h = record {
   alive = λ e. let a = h.alive e in record { reader = a.reader; calls = a.calls; order = a.order };
 }
 
-plain_connection : (texts : Look) (s : ServedConnection) (p : Past) → IsConnection no_texts (served_with texts s).connection p → IsConnection texts s.connection p
+plain_connection : (texts : SourceTexts) (s : ServedConnection) (p : Past) → IsConnection no_texts (served_with texts s).connection p → IsConnection texts s.connection p
 plain_connection texts s p h = record {
   ended = h.ended;
   streams = h.streams;
@@ -55,13 +55,13 @@ plain_connection texts s p h = record {
   alive = λ e. let a = h.alive e in record { reader = a.reader; calls = a.calls; order = a.order };
 }
 
-pub seen_served : (texts : Look) (vs : List ServedConnection) (ls : List LoneConnection) → AreServed texts vs ls → AreServed no_texts (map (served_with texts) vs) ls
+pub seen_served : (texts : SourceTexts) (vs : List ServedConnection) (ls : List LoneConnection) → AreServed texts vs ls → AreServed no_texts (map (served_with texts) vs) ls
 seen_served texts [] [] s = tt
 seen_served texts [] (l ∷ ls) s = absurd s
 seen_served texts (v ∷ vs) [] s = absurd s
 seen_served texts (v ∷ vs) (l ∷ ls) s = (s.0, seen_connection texts v l.past s.1, seen_served texts vs ls s.2)
 
-pub plain_served : (texts : Look) (vs : List ServedConnection) (ls : List LoneConnection) → AreServed no_texts (map (served_with texts) vs) ls → AreServed texts vs ls
+pub plain_served : (texts : SourceTexts) (vs : List ServedConnection) (ls : List LoneConnection) → AreServed no_texts (map (served_with texts) vs) ls → AreServed texts vs ls
 plain_served texts [] [] s = tt
 plain_served texts [] (l ∷ ls) s = absurd s
 plain_served texts (v ∷ vs) [] s = absurd s
@@ -70,15 +70,15 @@ plain_served texts (v ∷ vs) (l ∷ ls) s = (s.0, plain_connection texts v l.pa
 -- ---- only the texts of their sources matter
 
 -- of the first connection's ranges, and of the others
-agree_first : (t u : Look) (v : ServedConnection) (vs : List ServedConnection) → AgreeOn (sources_at (v ∷ vs)) t u → AgreeOn (sources_held v.connection.sending.queues) t u
+agree_first : (t u : SourceTexts) (v : ServedConnection) (vs : List ServedConnection) → AgreeOn (sources_at (v ∷ vs)) t u → AgreeOn (sources_held v.connection.sending.queues) t u
 agree_first t u v vs h =
     agree_left t u (sources_held v.connection.sending.queues) v.connection.sending.spent
     (agree_left t u (sources_of v.connection.sending) (sources_at vs) h)
 
-agree_others : (t u : Look) (v : ServedConnection) (vs : List ServedConnection) → AgreeOn (sources_at (v ∷ vs)) t u → AgreeOn (sources_at vs) t u
+agree_others : (t u : SourceTexts) (v : ServedConnection) (vs : List ServedConnection) → AgreeOn (sources_at (v ∷ vs)) t u → AgreeOn (sources_at vs) t u
 agree_others t u v vs h = agree_right t u (sources_of v.connection.sending) (sources_at vs) h
 
-connection_agreed : (t u : Look) (v : Present) (p : Past) → AgreeOn (sources_held v.sending.queues) t u → IsConnection t v p → IsConnection u v p
+connection_agreed : (t u : SourceTexts) (v : ConnectionValue) (p : Past) → AgreeOn (sources_held v.sending.queues) t u → IsConnection t v p → IsConnection u v p
 connection_agreed t u v p agree st = record {
   ended = st.ended;
   streams = st.streams;
@@ -87,24 +87,24 @@ connection_agreed t u v p agree st = record {
   alive = st.alive;
 }
 
-pub served_agreed : (t u : Look) (vs : List ServedConnection) (ls : List LoneConnection) → AgreeOn (sources_at vs) t u → AreServed t vs ls → AreServed u vs ls
+pub served_agreed : (t u : SourceTexts) (vs : List ServedConnection) (ls : List LoneConnection) → AgreeOn (sources_at vs) t u → AreServed t vs ls → AreServed u vs ls
 served_agreed t u [] [] h s = tt
 served_agreed t u [] (l ∷ ls) h s = absurd s
 served_agreed t u (v ∷ vs) [] h s = absurd s
 served_agreed t u (v ∷ vs) (l ∷ ls) h s =
     (s.0, connection_agreed t u v.connection l.past (agree_first t u v vs h) s.1, served_agreed t u vs ls (agree_others t u v vs h) s.2)
 
-pub fit_agreed_each : (t u : Look) (vs : List ServedConnection) → AgreeOn (sources_at vs) t u → AreFit t vs → AreFit u vs
+pub fit_agreed_each : (t u : SourceTexts) (vs : List ServedConnection) → AgreeOn (sources_at vs) t u → RangesEndWithin t vs → RangesEndWithin u vs
 fit_agreed_each t u [] h fit = fit
 fit_agreed_each t u (v ∷ vs) h fit =
     (fit_agreed t u v.connection.sending (agree_first t u v vs h) fit.0, fit_agreed_each t u vs (agree_others t u v vs h) fit.1)
 
 -- ---- what is held
 
-pub alike_here : (vs : List ServedConnection) → KeepRanges vs vs
+pub alike_here : (vs : List ServedConnection) → AllKeepRanges vs vs
 alike_here vs = record { sources = λ k. refl; few = λ h. h; fit = λ texts h. h }
 
-pub alike_trans : (us vs ws : List ServedConnection) → KeepRanges us vs → KeepRanges vs ws → KeepRanges us ws
+pub alike_trans : (us vs ws : List ServedConnection) → AllKeepRanges us vs → AllKeepRanges vs ws → AllKeepRanges us ws
 alike_trans us vs ws a b = record {
   sources = λ k. b.sources k ∙ a.sources k;
   few = λ h. b.few (a.few h);
@@ -112,49 +112,49 @@ alike_trans us vs ws a b = record {
 }
 
 -- one more in front of them
-alike_behind : (v : ServedConnection) (vs ws : List ServedConnection) → KeepRanges vs ws → KeepRanges (v ∷ vs) (v ∷ ws)
+alike_behind : (v : ServedConnection) (vs ws : List ServedConnection) → AllKeepRanges vs ws → AllKeepRanges (v ∷ vs) (v ∷ ws)
 alike_behind v vs ws h = record {
   sources = λ k. omega (arith, h.sources k, count_append k (sources_of v.connection.sending) (sources_at vs), count_append k (sources_of v.connection.sending) (sources_at ws));
   few = λ f. (f.0, h.few f.1);
   fit = λ texts f. (f.0, h.fit texts f.1);
 }
 
-alike_first : (v w : ServedConnection) (vs : List ServedConnection) → KeepsRanges v.connection w.connection → KeepRanges (v ∷ vs) (w ∷ vs)
+alike_first : (v w : ServedConnection) (vs : List ServedConnection) → KeepsRanges v.connection w.connection → AllKeepRanges (v ∷ vs) (w ∷ vs)
 alike_first v w vs h = record {
   sources = λ k. omega (arith, h.sources k, count_append k (sources_of v.connection.sending) (sources_at vs), count_append k (sources_of w.connection.sending) (sources_at vs));
   few = λ f. (λ k. omega (arith, h.sources k, f.0 k), f.1);
   fit = λ texts f. (h.fit texts f.0, f.1);
 }
 
-place_keeps : (c : ℕ) (os : List OpenConnection) (k : ℕ) (d : OpenConnection) (w : Present) → IsPlace c os k → KeepsRanges (get_or os k d).connection w → HoldAlike os (set os k (record { number = (get_or os k d).number; connection = w }))
+place_keeps : (c : ℕ) (os : List OpenConnection) (k : ℕ) (d : OpenConnection) (w : ConnectionValue) → IsPlace c os k → KeepsRanges (get_or os k d).connection w → HoldAlike os (set os k (record { number = (get_or os k d).number; connection = w }))
 place_keeps c [] k d w at h = absurd at
 place_keeps c (o ∷ os) zero d w at h = alike_first (connection_shown o) (connection_shown (record { number = o.number; connection = w })) (map connection_shown os) h
 place_keeps c (o ∷ os) (suc k) d w at h = alike_behind (connection_shown o) (map connection_shown os) _ (place_keeps c os k d w at.1 h)
 
 -- the connection of number c became another that holds the same sources
-pub alike_place : (c : ℕ) (os : List OpenConnection) (k : ℕ) (d : OpenConnection) (w : Present) → position (is_numbered c) os ≡ Some k → KeepsRanges (get_or os k d).connection w → HoldAlike os (set os k (record { number = (get_or os k d).number; connection = w }))
+pub alike_place : (c : ℕ) (os : List OpenConnection) (k : ℕ) (d : OpenConnection) (w : ConnectionValue) → position (is_numbered c) os ≡ Some k → KeepsRanges (get_or os k d).connection w → HoldAlike os (set os k (record { number = (get_or os k d).number; connection = w }))
 alike_place c os k d w at h = place_keeps c os k d w (is_place c os k at) h
 
 -- other bytes wait, and the same is to be put
-pub keeps_queues : (v w : Present) → w.sending.queues ≡ v.sending.queues → w.sending.spent ≡ v.sending.spent → KeepsRanges v w
+pub keeps_queues : (v w : ConnectionValue) → w.sending.queues ≡ v.sending.queues → w.sending.spent ≡ v.sending.spent → KeepsRanges v w
 keeps_queues v w q s = record {
   sources = λ k. ap (λ (qs : List StoredQueue). count_of k (sources_held qs ++ w.sending.spent)) q ∙ ap (λ (ns : List ℕ). count_of k (sources_held v.sending.queues ++ ns)) s;
-  fit = λ texts h. subst (λ (qs : List StoredQueue). Fit texts qs) (sym q) h;
+  fit = λ texts h. subst (λ (qs : List StoredQueue). QueuesEndWithin texts qs) (sym q) h;
 }
 
-pub keeps_here : (v w : Present) → w.sending ≡ v.sending → KeepsRanges v w
+pub keeps_here : (v w : ConnectionValue) → w.sending ≡ v.sending → KeepsRanges v w
 keeps_here v w e = record {
   sources = λ k. ap (λ (x : StoredSending). count_of k (sources_of x)) e;
   fit = subst (λ (x : StoredSending). KeepsFit v.sending x) (sym e) (λ texts h. h);
 }
 
-pub keeps_trans : (u v w : Present) → KeepsRanges u v → KeepsRanges v w → KeepsRanges u w
+pub keeps_trans : (u v w : ConnectionValue) → KeepsRanges u v → KeepsRanges v w → KeepsRanges u w
 keeps_trans u v w a b = record {
   sources = λ k. b.sources k ∙ a.sources k;
   fit = λ texts h. b.fit texts (a.fit texts h);
 }
 
-pub fit_at : (texts : Look) (os : List OpenConnection) (i : ℕ) (d : OpenConnection) → i < length os → AreFit texts (map connection_shown os) → Fit texts (get_or os i d).connection.sending.queues
+pub fit_at : (texts : SourceTexts) (os : List OpenConnection) (i : ℕ) (d : OpenConnection) → i < length os → RangesEndWithin texts (map connection_shown os) → QueuesEndWithin texts (get_or os i d).connection.sending.queues
 fit_at texts [] i d lt f = absurd (omega arith)
 fit_at texts (o ∷ os) zero d lt f = f.0
 fit_at texts (o ∷ os) (suc i) d lt f = fit_at texts os i d (omega arith) f.1
@@ -166,7 +166,7 @@ alike_set (o ∷ os) zero d w lt h = alike_first (connection_shown o) (connectio
 alike_set (o ∷ os) (suc i) d w lt h = alike_behind (connection_shown o) (map connection_shown os) (map connection_shown (set os i w)) (alike_set os i d w (omega arith) h)
 
 -- one more came, which holds nothing
-pub alike_push : (os : List OpenConnection) (o : OpenConnection) → sources_of o.connection.sending ≡ [] → ((texts : Look) → Fit texts o.connection.sending.queues) → HoldAlike os (os ++ o ∷ [])
+pub alike_push : (os : List OpenConnection) (o : OpenConnection) → sources_of o.connection.sending ≡ [] → ((texts : SourceTexts) → QueuesEndWithin texts o.connection.sending.queues) → HoldAlike os (os ++ o ∷ [])
 alike_push [] o none fit = record {
   sources = λ k. ap (λ (ns : List ℕ). count_of k (ns ++ [])) none;
   few = λ f. (λ k. let e : count_of k (sources_of o.connection.sending) ≡ 0 = ap (count_of k) none in omega (arith, e), tt);
@@ -182,7 +182,7 @@ each_few m (suc n) (v ∷ vs) k few short =
     let more : (1 + n) * m ≡ m + n * m = grind arith in
     omega (arith, more, few.0 k, each_few m n vs k few.1 (omega arith), count_append k (sources_of v.connection.sending) (sources_at vs))
 
-pub ranges_few : (n : ℕ) (vs : List ServedConnection) (k : ℕ) → length vs ≤ n → HaveFew vs → range_holders vs k ≤ n * 2 ^ 64
+pub ranges_few : (n : ℕ) (vs : List ServedConnection) (k : ℕ) → length vs ≤ n → HaveFewSources vs → range_holders vs k ≤ n * 2 ^ 64
 ranges_few n vs k short few = each_few (2 ^ 64) n vs k few short
 
 -- ---- no sources
@@ -195,25 +195,25 @@ right_none : (xs ys : List ℕ) → xs ++ ys ≡ [] → ys ≡ []
 right_none [] ys e = e
 right_none (x ∷ xs) ys e = cc
 
-fit_pieces : (texts : Look) (ps : List StoredPiece) → sources_in ps ≡ [] → ArePiecesFit texts ps
+fit_pieces : (texts : SourceTexts) (ps : List StoredPiece) → sources_in ps ≡ [] → EndWithinTexts texts ps
 fit_pieces texts [] none = tt
 fit_pieces texts (Encoded block ∷ ps) none = (tt, fit_pieces texts ps none)
 fit_pieces texts (Framed bytes ∷ ps) none = (tt, fit_pieces texts ps none)
 fit_pieces texts (Ranged s ∷ ps) none = cc
 
-fit_on : (texts : Look) (s : ℕ) (qs : List StoredQueue) → sources_held qs ≡ [] → ArePiecesFit texts (stored_on s qs)
+fit_on : (texts : SourceTexts) (s : ℕ) (qs : List StoredQueue) → sources_held qs ≡ [] → EndWithinTexts texts (stored_on s qs)
 fit_on texts s [] none = tt
 fit_on texts s (q ∷ qs) none = elim (cases_Bool (q.stream == s)) [
   | inl here ↦ rw here (fit_pieces texts q.pieces (left_none (sources_in q.pieces) (sources_held qs) none))
   | inr later ↦ rw later (fit_on texts s qs (right_none (sources_in q.pieces) (sources_held qs) none))
 ]
 
-pub fit_none : (texts : Look) (w : StoredSending) → sources_of w ≡ [] → Fit texts w.queues
+pub fit_none : (texts : SourceTexts) (w : StoredSending) → sources_of w ≡ [] → QueuesEndWithin texts w.queues
 fit_none texts w none s = fit_on texts s w.queues (left_none (sources_held w.queues) w.spent none)
 
 -- ---- what is seen is the same by two look-ups that agree
 
-same_stored : (t u : Look) (qs : List StoredQueue) → AgreeOn (sources_held qs) t u → map (queue_with t) qs ≡ map (queue_with u) qs
+same_stored : (t u : SourceTexts) (qs : List StoredQueue) → AgreeOn (sources_held qs) t u → map (queue_with t) qs ≡ map (queue_with u) qs
 same_stored t u [] h = refl
 same_stored t u (q ∷ qs) h =
     ap (λ (ps : List Piece). record { stream = q.stream; pieces = map stored_piece ps } ∷ map (queue_with t) qs) (same_shown t u q.pieces (agree_left t u (sources_in q.pieces) (sources_held qs) h))
@@ -223,7 +223,7 @@ abbrev seen_queues : ServedConnection → List StoredQueue → ServedConnection
 seen_queues v qs = record v { connection = record v.connection { sending = record { pending = v.connection.sending.pending; position = v.connection.sending.position; queues = qs; spent = [] } } }
 
 -- the frame law of an instance's connections in a pool that others change
-pub same_served : (t u : Look) (vs : List ServedConnection) → AgreeOn (sources_at vs) t u → map (served_with t) vs ≡ map (served_with u) vs
+pub same_served : (t u : SourceTexts) (vs : List ServedConnection) → AgreeOn (sources_at vs) t u → map (served_with t) vs ≡ map (served_with u) vs
 same_served t u [] h = refl
 same_served t u (v ∷ vs) h =
     ap (λ (qs : List StoredQueue). seen_queues v qs ∷ map (served_with t) vs) (same_stored t u v.connection.sending.queues (agree_first t u v vs h))

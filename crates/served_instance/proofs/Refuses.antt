@@ -4,19 +4,19 @@ use Rattle.std.specs.Prelude.{ℕ, nat_le, nat_lt, if◌then◌else◌, Bool, tr
 use Rattle.std.specs.Option.{is_some, option_map, option_map_or}
 use Rattle.conn_core.specs.History.{has_failed}
 use Rattle.grpc_sending.specs.Bytes.{pending_bytes, untaken_count}
-use Rattle.grpc_sending.specs.StoredSending.{Look}
+use Rattle.grpc_sending.specs.StoredSending.{SourceTexts}
 use Rattle.blob_pool.specs.Slots.{Slots, text_at}
 use Rattle.conn_core.specs.Past.{Past}
-use Rattle.conn_core.specs.StandsFor.{Present}
+use Rattle.conn_core.specs.StandsFor.{ConnectionValue}
 use Rattle.server_events.specs.Events.{EventValue, WhatValue, opened, received, took, closed, tick, ended}
 use Rattle.served_instance.specs.declared.refusal.EventRefusal.{EventRefusal}
 use Rattle.served_instance.specs.declared.refusal.EventRefusal.TheVariants.{NoSuchInstance, TimeWentBack, ConnectionExists, TooManyConnections, NoSuchConnection, NoSuchJob, TookTooMuch, NoMemory}
 use Rattle.served_instance.specs.Connections.{open_ones, open_at}
 use Rattle.instance_core.specs.State.{InstanceState, at_moment}
-use Rattle.served_instance.specs.Lone.{Lone, lone_at_moment, after_event}
+use Rattle.served_instance.specs.Lone.{LoneInstance, lone_at_moment, after_event}
 use Rattle.served_instance.specs.declared.instance.TheConstants.{CONNECTION_LIMIT}
-use Rattle.served_instance.specs.Refusals.{refusal_of, refusal_of_what, after_event_unless, lone_step, IsOutcome}
-use Rattle.served_instance.specs.StandsFor.{ServedConnection, ServedState, StandsFor, AreSettled, connection_at}
+use Rattle.served_instance.specs.Refusals.{refusal_of, refusal_of_what, after_event_unless, lone_step, IsRefusalOutcome}
+use Rattle.served_instance.specs.StandsFor.{ServedConnection, ServedState, IsServedInstance, AreSettled, connection_at}
 use Rattle.served_instance.specs.declared.open_connection.OpenConnection.{OpenConnection}
 use Rattle.served_instance.specs.Slots.{ServedSlots, served_state_in}
 use Rattle.served_instance.specs.Acts.{StandsBy}
@@ -24,13 +24,13 @@ use Rattle.served_instance.proofs.Ranges.{plain_served}
 use Rattle.served_instance.specs.Present.{refusal_by, refusal_by_what, unless_more}
 use Rattle.served_instance.proofs.Serves.{SameAt, same_at, same_length}
 
-same_presence : (texts : Look) (a : Option Present) (b : Option Past) → SameAt texts a b → is_some a ≡ is_some b
+same_presence : (texts : SourceTexts) (a : Option ConnectionValue) (b : Option Past) → SameAt texts a b → is_some a ≡ is_some b
 same_presence texts None None s = refl
 same_presence texts (Some v) (Some p) s = refl
 same_presence texts None (Some p) s = absurd s
 same_presence texts (Some v) None s = absurd s
 
-same_unless : (texts : Look) (a : Option Present) (b : Option Past) (r : Option EventRefusal) → SameAt texts a b → option_map_or (λ v. None) a r ≡ option_map_or (λ p. None) b r
+same_unless : (texts : SourceTexts) (a : Option ConnectionValue) (b : Option Past) (r : Option EventRefusal) → SameAt texts a b → option_map_or (λ v. None) a r ≡ option_map_or (λ p. None) b r
 same_unless texts None None r s = refl
 same_unless texts (Some v) (Some p) r s = refl
 same_unless texts None (Some p) r s = absurd s
@@ -39,19 +39,19 @@ same_unless texts (Some v) None r s = absurd s
 abbrev unless_untaken : ℕ → Past → Option EventRefusal
 unless_untaken n p = if nat_lt (untaken_count p.history) n then Some TookTooMuch else None
 
-same_take : (texts : Look) (n : ℕ) (a : Option Present) (b : Option Past) (r : Option EventRefusal) → SameAt texts a b → option_map_or (unless_more n) a r ≡ option_map_or (unless_untaken n) b r
+same_take : (texts : SourceTexts) (n : ℕ) (a : Option ConnectionValue) (b : Option Past) (r : Option EventRefusal) → SameAt texts a b → option_map_or (unless_more n) a r ≡ option_map_or (unless_untaken n) b r
 same_take texts n None None r s = refl
 same_take texts n (Some v) (Some p) r s = ap (λ (bytes : List ℕ). if nat_lt (length bytes) n then Some TookTooMuch else None) s.sending.pending
 same_take texts n None (Some p) r s = absurd s
 same_take texts n (Some v) None r s = absurd s
 
-pub same_pending : (texts : Look) (a : Option Present) (b : Option Past) → SameAt texts a b → option_map (λ (v : Present). v.sending.pending) a ≡ option_map (λ (p : Past). pending_bytes p.history) b
+pub same_pending : (texts : SourceTexts) (a : Option ConnectionValue) (b : Option Past) → SameAt texts a b → option_map (λ (v : ConnectionValue). v.sending.pending) a ≡ option_map (λ (p : Past). pending_bytes p.history) b
 same_pending texts None None s = refl
 same_pending texts (Some v) (Some p) s = ap Some s.sending.pending
 same_pending texts None (Some p) s = absurd s
 same_pending texts (Some v) None s = absurd s
 
-pub same_ended : (texts : Look) (a : Option Present) (b : Option Past) → SameAt texts a b → option_map (λ (v : Present). v.ended) a ≡ option_map (λ (p : Past). has_failed p.history) b
+pub same_ended : (texts : SourceTexts) (a : Option ConnectionValue) (b : Option Past) → SameAt texts a b → option_map (λ (v : ConnectionValue). v.ended) a ≡ option_map (λ (p : Past). has_failed p.history) b
 same_ended texts None None s = refl
 same_ended texts (Some v) (Some p) s = ap Some s.ended
 same_ended texts None (Some p) s = absurd s
@@ -60,7 +60,7 @@ same_ended texts (Some v) None s = absurd s
 abbrev to_open : Bool → ℕ → Option EventRefusal
 to_open there n = if there then Some ConnectionExists else if nat_le CONNECTION_LIMIT n then Some TooManyConnections else None
 
-same_by_what : (texts : Look) (w : WhatValue) (vs : List ServedConnection) (l : Lone) → ((c : ℕ) → SameAt texts (connection_at c vs) (open_at c l.connections)) → length vs ≡ length (open_ones l.connections) → refusal_by_what w vs ≡ refusal_of_what w l
+same_by_what : (texts : SourceTexts) (w : WhatValue) (vs : List ServedConnection) (l : LoneInstance) → ((c : ℕ) → SameAt texts (connection_at c vs) (open_at c l.connections)) → length vs ≡ length (open_ones l.connections) → refusal_by_what w vs ≡ refusal_of_what w l
 same_by_what texts (opened c) vs l s n =
     ap (λ (b : Bool). to_open b (length vs)) (same_presence texts _ _ (s c)) ∙ ap (λ (m : ℕ). to_open (is_some (open_at c l.connections)) m) n
 same_by_what texts (received c bytes) vs l s n = same_unless texts _ _ (Some NoSuchConnection) (s c)
@@ -69,7 +69,7 @@ same_by_what texts (closed c) vs l s n = same_unless texts _ _ (Some NoSuchConne
 same_by_what texts tick vs l s n = refl
 same_by_what texts (ended job outcome) vs l s n = refl
 
-pub same_refusal : (p : Slots) (e : EventValue) (v : ServedSlots) (l : Lone) → StandsFor (served_state_in p v) l → refusal_by e v ≡ refusal_of e l
+pub same_refusal : (p : Slots) (e : EventValue) (v : ServedSlots) (l : LoneInstance) → IsServedInstance (served_state_in p v) l → refusal_by e v ≡ refusal_of e l
 same_refusal p e v l s =
     let texts = text_at p in
     let vs = v.connections in
@@ -89,7 +89,7 @@ reason_if : (b : Bool) (r : EventRefusal) (rest : Option EventRefusal) → IsRea
 reason_if true r rest h k = h
 reason_if false r rest h k = k
 
-reason_at : (v : Option Present) (f : Present → Option EventRefusal) → ((x : Present) → IsReason (f x)) → IsReason (option_map_or f v (Some NoSuchConnection))
+reason_at : (v : Option ConnectionValue) (f : ConnectionValue → Option EventRefusal) → ((x : ConnectionValue) → IsReason (f x)) → IsReason (option_map_or f v (Some NoSuchConnection))
 reason_at None f h = tt
 reason_at (Some x) f h = h x
 
@@ -104,7 +104,7 @@ reason_by_what (ended job outcome) vs = tt
 is_reason : (e : EventValue) (v : ServedSlots) → IsReason (refusal_by e v)
 is_reason e v = reason_if (nat_lt e.moment v.instance.moment) TimeWentBack (refusal_by_what e.what v.connections) tt (reason_by_what e.what v.connections)
 
-outcome_of : (A : Type 0) (r : EventRefusal) (reason : Option EventRefusal) → IsReason (Some r) → reason ≡ Some r → IsOutcome {A = A} (Err r) reason
+outcome_of : (A : Type 0) (r : EventRefusal) (reason : Option EventRefusal) → IsReason (Some r) → reason ≡ Some r → IsRefusalOutcome {A = A} (Err r) reason
 outcome_of A NoSuchInstance reason h e = e
 outcome_of A NoSuchConnection reason h e = e
 outcome_of A ConnectionExists reason h e = e
@@ -114,32 +114,32 @@ outcome_of A TimeWentBack reason h e = e
 outcome_of A TookTooMuch reason h e = e
 outcome_of A NoMemory reason h e = absurd h
 
-pub no_reason : (p : Slots) (e : EventValue) (v : ServedSlots) (l : Lone) → None ≡ refusal_by e v → StandsFor (served_state_in p v) l → refusal_of e l ≡ None
+pub no_reason : (p : Slots) (e : EventValue) (v : ServedSlots) (l : LoneInstance) → None ≡ refusal_by e v → IsServedInstance (served_state_in p v) l → refusal_of e l ≡ None
 no_reason p e v l h s = sym (same_refusal p e v l s) ∙ sym h
 
-reason : (p : Slots) (e : EventValue) (v : ServedSlots) (l : Lone) (r : EventRefusal) → Some r ≡ refusal_by e v → StandsFor (served_state_in p v) l → refusal_of e l ≡ Some r
+reason : (p : Slots) (e : EventValue) (v : ServedSlots) (l : LoneInstance) (r : EventRefusal) → Some r ≡ refusal_by e v → IsServedInstance (served_state_in p v) l → refusal_of e l ≡ Some r
 reason p e v l r h s = sym (same_refusal p e v l s) ∙ sym h
 
-pub refused_outcome : (p : Slots) (A : Type 0) (e : EventValue) (v : ServedSlots) (l : Lone) (r : EventRefusal) → Some r ≡ refusal_by e v → StandsFor (served_state_in p v) l → IsOutcome {A = A} (Err r) (refusal_of e l)
+pub refused_outcome : (p : Slots) (A : Type 0) (e : EventValue) (v : ServedSlots) (l : LoneInstance) (r : EventRefusal) → Some r ≡ refusal_by e v → IsServedInstance (served_state_in p v) l → IsRefusalOutcome {A = A} (Err r) (refusal_of e l)
 refused_outcome p A e v l r h s = outcome_of A r (refusal_of e l) (subst IsReason (sym h) (is_reason e v)) (reason p e v l r h s)
 
-pub kept_at_refusal : (p : Slots) (e : EventValue) (v : ServedSlots) (l : Lone) (r : EventRefusal) → Some r ≡ refusal_by e v → StandsFor (served_state_in p v) l → StandsFor (served_state_in p v) (lone_step e l)
+pub kept_at_refusal : (p : Slots) (e : EventValue) (v : ServedSlots) (l : LoneInstance) (r : EventRefusal) → Some r ≡ refusal_by e v → IsServedInstance (served_state_in p v) l → IsServedInstance (served_state_in p v) (lone_step e l)
 kept_at_refusal p e v l r h s =
-    let P : Option EventRefusal → Type 0 = λ o. StandsFor (served_state_in p v) (after_event_unless e l o) in
+    let P : Option EventRefusal → Type 0 = λ o. IsServedInstance (served_state_in p v) (after_event_unless e l o) in
     subst P (sym (reason p e v l r h s)) s
 
-pub stands_accepted : (p : Slots) (e : EventValue) (v : ServedSlots) (w : ServedState) (l : Lone) → None ≡ refusal_by e v → StandsFor (served_state_in p v) l → StandsFor w (after_event e l) → StandsFor w (lone_step e l)
+pub stands_accepted : (p : Slots) (e : EventValue) (v : ServedSlots) (w : ServedState) (l : LoneInstance) → None ≡ refusal_by e v → IsServedInstance (served_state_in p v) l → IsServedInstance w (after_event e l) → IsServedInstance w (lone_step e l)
 stands_accepted p e v w l h s a =
-    let P : Option EventRefusal → Type 0 = λ o. StandsFor w (after_event_unless e l o) in
+    let P : Option EventRefusal → Type 0 = λ o. IsServedInstance w (after_event_unless e l o) in
     subst P (sym (no_reason p e v l h s)) a
 
-pub settled_accepted : (p : Slots) (e : EventValue) (v : ServedSlots) (l : Lone) → None ≡ refusal_by e v → StandsFor (served_state_in p v) l → AreSettled (after_event e l) → AreSettled (lone_step e l)
+pub settled_accepted : (p : Slots) (e : EventValue) (v : ServedSlots) (l : LoneInstance) → None ≡ refusal_by e v → IsServedInstance (served_state_in p v) l → AreSettled (after_event e l) → AreSettled (lone_step e l)
 settled_accepted p e v l h s a =
     let P : Option EventRefusal → Type 0 = λ o. AreSettled (after_event_unless e l o) in
     subst P (sym (no_reason p e v l h s)) a
 
 -- an event comes
-pub came_stands : (texts : Look) (m : ℕ) (s t : InstanceState) (os : List OpenConnection) (l : Lone) → t ≡ at_moment m s → StandsBy texts s os l → StandsBy texts t os (lone_at_moment m l)
+pub came_stands : (texts : SourceTexts) (m : ℕ) (s t : InstanceState) (os : List OpenConnection) (l : LoneInstance) → t ≡ at_moment m s → StandsBy texts s os l → StandsBy texts t os (lone_at_moment m l)
 came_stands texts m s t os l e st = record { state = e ∙ ap (at_moment m) st.state; connections = st.connections }
 
 pub not_elsewhere : (e : EventValue) (v : ServedSlots) (r : EventRefusal) → Some r ≡ refusal_by e v → r ≡ NoSuchInstance → ⊥

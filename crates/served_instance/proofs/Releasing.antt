@@ -8,12 +8,12 @@ use Rattle.blob_pool.specs.Moves.{Moves, no_holders, one_at}
 use Rattle.blob_pool.proofs.Moves.{moves_none}
 use Rattle.grpc_sending.specs.declared.queue.StoredQueue.{StoredQueue}
 use Rattle.grpc_sending.specs.Sources.{count_of, sources_held}
-use Rattle.grpc_sending.specs.StoredSending.{Look, StoredSending, Fit, KeepsSources, sources_of}
-use Rattle.conn_core.specs.StandsFor.{Present, Becomes}
+use Rattle.grpc_sending.specs.StoredSending.{SourceTexts, StoredSending, QueuesEndWithin, KeepsSources, sources_of}
+use Rattle.conn_core.specs.StandsFor.{ConnectionValue, Becomes}
 use Rattle.served_instance.specs.Connections.{LoneConnection}
 use Rattle.served_instance.specs.declared.open_connection.OpenConnection.{OpenConnection}
 use Rattle.served_instance.specs.StandsFor.{ServedConnection, AreServed}
-use Rattle.served_instance.specs.Ranges.{KeepRanges, Releases, sources_at, range_holders, spent_sources}
+use Rattle.served_instance.specs.Ranges.{AllKeepRanges, Releases, sources_at, range_holders, spent_sources}
 use Rattle.served_instance.specs.Shown.{connection_shown}
 use Rattle.served_instance.specs.Present.{is_numbered}
 use Rattle.served_instance.proofs.Places.{IsPlace, is_place}
@@ -73,7 +73,7 @@ releases_none p vs = record {
 }
 
 -- what holds the same as before releases some
-pub alike_releases : (p q : Slots) (us vs ws : List ServedConnection) → KeepRanges us vs → Releases p vs q ws → Releases p us q ws
+pub alike_releases : (p q : Slots) (us vs ws : List ServedConnection) → AllKeepRanges us vs → Releases p vs q ws → Releases p us q ws
 alike_releases p q us vs ws a b = record {
   gone = b.gone;
   sources = λ k. b.sources k ∙ a.sources k;
@@ -110,7 +110,7 @@ releases_first p q v w vs same none m = record {
   gone = v.connection.sending.spent;
   sources = λ k. omega (arith, fewer_first v w k same none, count_append k (sources_of v.connection.sending) (sources_at vs), count_append k (sources_of w.connection.sending) (sources_at vs));
   few = λ f. (λ k. omega (arith, fewer_first v w k same none, f.0 k), f.1);
-  fit = λ texts f. (subst (λ (qs : List StoredQueue). Fit texts qs) (sym same) f.0, f.1);
+  fit = λ texts f. (subst (λ (qs : List StoredQueue). QueuesEndWithin texts qs) (sym same) f.0, f.1);
   moves = m;
 }
 
@@ -123,7 +123,7 @@ releases_behind p q v vs ws r = record {
   moves = r.moves;
 }
 
-pub releases_at : (p q : Slots) (os : List OpenConnection) (i : ℕ) (d : OpenConnection) (w : Present) → i < length os → w.sending.queues ≡ (get_or os i d).connection.sending.queues → w.sending.spent ≡ [] →
+pub releases_at : (p q : Slots) (os : List OpenConnection) (i : ℕ) (d : OpenConnection) (w : ConnectionValue) → i < length os → w.sending.queues ≡ (get_or os i d).connection.sending.queues → w.sending.spent ≡ [] →
     Moves p q (λ k. count_of k (get_or os i d).connection.sending.spent) no_holders → Releases p (map connection_shown os) q (map connection_shown (set os i (record { number = (get_or os i d).number; connection = w })))
 releases_at p q [] i d w lt same none m = absurd (omega arith)
 releases_at p q (o ∷ os) zero d w lt same none m = releases_first p q (connection_shown o) (connection_shown (record { number = o.number; connection = w })) (map connection_shown os) same none m
@@ -181,7 +181,7 @@ releases_closed c p q os xs i o w at here left keeps none m =
 
 -- ---- what the connections stand for
 
-pub set_stands : (texts : Look) (os : List OpenConnection) (ls : List LoneConnection) (i : ℕ) (d : OpenConnection) (w : Present) → i < length os → Becomes (get_or os i d).connection (λ p. p) w → AreServed texts (map connection_shown os) ls → AreServed texts (map connection_shown (set os i (record { number = (get_or os i d).number; connection = w }))) ls
+pub set_stands : (texts : SourceTexts) (os : List OpenConnection) (ls : List LoneConnection) (i : ℕ) (d : OpenConnection) (w : ConnectionValue) → i < length os → Becomes (get_or os i d).connection (λ p. p) w → AreServed texts (map connection_shown os) ls → AreServed texts (map connection_shown (set os i (record { number = (get_or os i d).number; connection = w }))) ls
 set_stands texts [] ls i d w lt h s = absurd (omega arith)
 set_stands texts (o ∷ os) [] i d w lt h s = absurd s
 set_stands texts (o ∷ os) (l ∷ ls) zero d w lt h s = (s.0, h texts l.past s.1, s.2)
@@ -191,7 +191,7 @@ both_none : (xs ys zs : List ℕ) → xs ++ ys ≡ [] → (ys ≡ [] → zs ≡ 
 both_none [] ys zs e f = f e
 both_none (x ∷ xs) ys zs e f = cc
 
-pub none_more : (os : List OpenConnection) (i : ℕ) (d : OpenConnection) (w : Present) → i < length os → spent_sources (map connection_shown (take i os)) ≡ [] → w.sending.spent ≡ [] → spent_sources (map connection_shown (take (suc i) (set os i (record { number = (get_or os i d).number; connection = w })))) ≡ []
+pub none_more : (os : List OpenConnection) (i : ℕ) (d : OpenConnection) (w : ConnectionValue) → i < length os → spent_sources (map connection_shown (take i os)) ≡ [] → w.sending.spent ≡ [] → spent_sources (map connection_shown (take (suc i) (set os i (record { number = (get_or os i d).number; connection = w })))) ≡ []
 none_more [] i d w lt e none = absurd (omega arith)
 none_more (o ∷ os) zero d w lt e none = ap (λ (xs : List ℕ). xs ++ []) none
 none_more (o ∷ os) (suc i) d w lt e none =

@@ -5,31 +5,31 @@ use Rattle.instance_core.specs.State.{at_moment}
 use Rattle.instance_core.specs.Slots.{InstanceSlots, state_in}
 use Rattle.served_instance.specs.declared.open_connection.OpenConnection.{OpenConnection}
 use Rattle.served_instance.specs.Connections.{open_ones}
-use Rattle.served_instance.specs.Lone.{Lone, lone_at_moment}
+use Rattle.served_instance.specs.Lone.{LoneInstance, lone_at_moment}
 use Rattle.served_instance.specs.Ranges.{Releases}
-use Rattle.served_instance.specs.StandsFor.{StandsFor}
-use Rattle.served_instance.specs.Slots.{ServedSlots, served_state_in, IsKept}
+use Rattle.served_instance.specs.StandsFor.{IsServedInstance}
+use Rattle.served_instance.specs.Slots.{ServedSlots, served_state_in, IsServedInPool}
 use Rattle.served_instance.specs.Shown.{connection_shown}
 use Rattle.served_instance.specs.Acts.{Acts, ActsIn, StandsBy, FindAlike, slots_of}
 use Rattle.served_instance.proofs.Kept.{release_finds, same_state}
 use Rattle.served_instance.proofs.Refuses.{came_stands}
 use Rattle.served_instance.proofs.Ranges.{seen_served, plain_served, served_agreed}
 
-pub stands_by : (p : Slots) (i : InstanceSlots) (os : List OpenConnection) (l : Lone) → StandsFor (served_state_in p (slots_of i os)) l → StandsBy (text_at p) (state_in p i) os l
+pub stands_by : (p : Slots) (i : InstanceSlots) (os : List OpenConnection) (l : LoneInstance) → IsServedInstance (served_state_in p (slots_of i os)) l → StandsBy (text_at p) (state_in p i) os l
 stands_by p i os l st = record {
   state = st.state;
   connections = plain_served (text_at p) (map connection_shown os) (open_ones l.connections) st.connections;
 }
 
 -- an event came at a moment
-pub came_by : (p : Slots) (i j : InstanceSlots) (os : List OpenConnection) (v : ServedSlots) (moment : ℕ) (l : Lone) → slots_of i os ≡ v → state_in p j ≡ at_moment moment (state_in p i) → StandsFor (served_state_in p v) l →
+pub came_by : (p : Slots) (i j : InstanceSlots) (os : List OpenConnection) (v : ServedSlots) (moment : ℕ) (l : LoneInstance) → slots_of i os ≡ v → state_in p j ≡ at_moment moment (state_in p i) → IsServedInstance (served_state_in p v) l →
     StandsBy (text_at p) (state_in p j) os (lone_at_moment moment l)
 came_by p i j os v moment l seen changed s =
-    let S : ServedSlots → Type 0 = λ x. StandsFor (served_state_in p x) l in
+    let S : ServedSlots → Type 0 = λ x. IsServedInstance (served_state_in p x) l in
     came_stands (text_at p) moment (state_in p i) (state_in p j) os l changed (stands_by p i os l (subst S (sym seen) s))
 
 -- in another pool that has the texts of the ranges
-pub stands_for : (p q : Slots) (j : InstanceSlots) (ns : List OpenConnection) (l : Lone) → FindAlike p q ns → StandsBy (text_at p) (state_in q j) ns l → StandsFor (served_state_in q (slots_of j ns)) l
+pub stands_for : (p q : Slots) (j : InstanceSlots) (ns : List OpenConnection) (l : LoneInstance) → FindAlike p q ns → StandsBy (text_at p) (state_in q j) ns l → IsServedInstance (served_state_in q (slots_of j ns)) l
 stands_for p q j ns l find st = record {
   state = st.state;
   connections = seen_served (text_at q) (map connection_shown ns) (open_ones l.connections)
@@ -37,7 +37,7 @@ stands_for p q j ns l find st = record {
 }
 
 -- what was done with the texts of the one pool stands in the other, where sources were released
-pub released_acts : (p q : Slots) (i j : InstanceSlots) (os ns : List OpenConnection) (step : Lone → Lone) → IsKept p (slots_of i os) → Releases p (map connection_shown os) q (map connection_shown ns) → Acts (state_in q i) os (state_in q j) ns step → ActsIn p i os q j ns step
+pub released_acts : (p q : Slots) (i j : InstanceSlots) (os ns : List OpenConnection) (step : LoneInstance → LoneInstance) → IsServedInPool p (slots_of i os) → Releases p (map connection_shown os) q (map connection_shown ns) → Acts (state_in q i) os (state_in q j) ns step → ActsIn p i os q j ns step
 released_acts p q i j os ns step kept r act = λ l st.
     let done = act (text_at p) l (record { state = same_state p q i (map connection_shown os) (map connection_shown ns) kept r ∙ st.state; connections = st.connections }) in
     record {

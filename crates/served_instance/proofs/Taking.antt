@@ -8,15 +8,15 @@ use Rattle.blob_pool.specs.Slots.{Slots, count_at}
 use Rattle.blob_pool.specs.Moves.{Holders, Moves, no_holders, one_at}
 use Rattle.blob_pool.proofs.Moves.{moves_none}
 use Rattle.grpc_sending.specs.Sources.{count_of}
-use Rattle.grpc_sending.specs.StoredSending.{Look, HasFew, HoldsMore, KeepsFitWith, sources_of}
-use Rattle.conn_core.specs.StandsFor.{Present}
+use Rattle.grpc_sending.specs.StoredSending.{SourceTexts, HasFewSources, HoldsMore, KeepsFitWith, sources_of}
+use Rattle.conn_core.specs.StandsFor.{ConnectionValue}
 use Rattle.instance_core.specs.declared.event.Reply.{Reply}
 use Rattle.instance_core.specs.declared.event.ReplyItem.{ReplyItem}
-use Rattle.instance_core.specs.Given.{item_holders, items_holders, replies_holders}
+use Rattle.instance_core.specs.ReplyHolders.{item_holders, items_holders, replies_holders}
 use Rattle.served_instance.specs.declared.open_connection.OpenConnection.{OpenConnection}
 use Rattle.served_instance.specs.StandsFor.{ServedConnection}
 use Rattle.served_instance.specs.Ranges.{KeepsRanges, sources_at}
-use Rattle.served_instance.specs.Given.{CanBeOwed, ReplyCanBeOwed, EndsWithin, ItemsEndWithin, ReplyEndsWithin, RepliesEndWithin, TakesRanges, TakeRanges}
+use Rattle.served_instance.specs.OwedReplies.{CanBeOwed, ReplyCanBeOwed, ItemEndsWithin, ItemsEndWithin, ReplyEndsWithin, RepliesEndWithin, TakesRanges, AllTakeRanges}
 use Rattle.served_instance.specs.Shown.{connection_shown}
 use Rattle.served_instance.specs.Present.{is_numbered}
 use Rattle.served_instance.proofs.Places.{IsPlace, is_place}
@@ -70,7 +70,7 @@ replies_owed rs rest x is h = subst (λ (xs : List Reply). AllByRecursion ReplyC
 
 -- ---- one connection
 
-pub takes_none : (given : Holders) (IsGood : Look → Type 0) (p : Slots) (v w : Present) → ((k : ℕ) → given k ≡ 0) → KeepsRanges v w → TakesRanges given IsGood p v p w
+pub takes_none : (given : Holders) (IsGood : SourceTexts → Type 0) (p : Slots) (v w : ConnectionValue) → ((k : ℕ) → given k ≡ 0) → KeepsRanges v w → TakesRanges given IsGood p v p w
 takes_none given IsGood p v w none keeps = record {
   gone = no_holders;
   fewer = λ k. omega arith;
@@ -81,8 +81,8 @@ takes_none given IsGood p v w none keeps = record {
 }
 
 -- none is taken
-pub takes_released : (given : Holders) (IsGood : Look → Type 0) (p q : Slots) (v w : Present) → w ≡ v → Moves p q given no_holders → TakesRanges given IsGood p v q w
-takes_released given IsGood p q v w same m = subst (λ (x : Present). TakesRanges given IsGood p v q x) (sym same) (record {
+pub takes_released : (given : Holders) (IsGood : SourceTexts → Type 0) (p q : Slots) (v w : ConnectionValue) → w ≡ v → Moves p q given no_holders → TakesRanges given IsGood p v q w
+takes_released given IsGood p q v w same m = subst (λ (x : ConnectionValue). TakesRanges given IsGood p v q x) (sym same) (record {
   gone = given;
   fewer = λ k. omega arith;
   sources = λ k. refl;
@@ -91,7 +91,7 @@ takes_released given IsGood p q v w same m = subst (λ (x : Present). TakesRange
   moves = m;
 })
 
-pub takes_range : (n until : ℕ) (p : Slots) (v w : Present) → HoldsMore n v.sending w.sending → HasFew w.sending → KeepsFitWith n until v.sending w.sending → TakesRanges (one_at n) (λ texts. until ≤ length (texts n)) p v p w
+pub takes_range : (n until : ℕ) (p : Slots) (v w : ConnectionValue) → HoldsMore n v.sending w.sending → HasFewSources w.sending → KeepsFitWith n until v.sending w.sending → TakesRanges (one_at n) (λ texts. until ≤ length (texts n)) p v p w
 takes_range n until p v w more few fit = record {
   gone = no_holders;
   fewer = λ k. omega arith;
@@ -103,7 +103,7 @@ takes_range n until p v w more few fit = record {
   moves = moves_none p no_holders no_holders (λ k. refl);
 }
 
-takes_both : (g h : Holders) (IsGood IsFine : Look → Type 0) (p q r : Slots) (u v w : Present) → TakesRanges g IsGood p u q v → TakesRanges h IsFine q v r w → TakesRanges (λ k. g k + h k) (λ texts. IsGood texts × IsFine texts) p u r w
+takes_both : (g h : Holders) (IsGood IsFine : SourceTexts → Type 0) (p q r : Slots) (u v w : ConnectionValue) → TakesRanges g IsGood p u q v → TakesRanges h IsFine q v r w → TakesRanges (λ k. g k + h k) (λ texts. IsGood texts × IsFine texts) p u r w
 takes_both g h IsGood IsFine p q r u v w a b = record {
   gone = λ k. a.gone k + b.gone k;
   fewer = λ k. omega (arith, a.fewer k, b.fewer k);
@@ -114,19 +114,19 @@ takes_both g h IsGood IsFine p q r u v w a b = record {
 }
 
 -- an item is taken, and then those behind it
-pub takes_more : (items rest : List ReplyItem) (item : ReplyItem) (p q r : Slots) (u v w : Present) → items ≡ item ∷ rest → TakesRanges (item_holders item) (EndsWithin item) p u q v →
+pub takes_more : (items rest : List ReplyItem) (item : ReplyItem) (p q r : Slots) (u v w : ConnectionValue) → items ≡ item ∷ rest → TakesRanges (item_holders item) (ItemEndsWithin item) p u q v →
     TakesRanges (items_holders rest) (ItemsEndWithin rest) q v r w → TakesRanges (items_holders items) (ItemsEndWithin items) p u r w
 takes_more items rest item p q r u v w is a b =
     subst (λ (xs : List ReplyItem). TakesRanges (items_holders xs) (ItemsEndWithin xs) p u r w) (sym is)
-    (takes_both (item_holders item) (items_holders rest) (EndsWithin item) (ItemsEndWithin rest) p q r u v w a b)
+    (takes_both (item_holders item) (items_holders rest) (ItemEndsWithin item) (ItemsEndWithin rest) p q r u v w a b)
 
-pub takes_end : (items : List ReplyItem) (p : Slots) (v : Present) → items ≡ [] → TakesRanges (items_holders items) (ItemsEndWithin items) p v p v
+pub takes_end : (items : List ReplyItem) (p : Slots) (v : ConnectionValue) → items ≡ [] → TakesRanges (items_holders items) (ItemsEndWithin items) p v p v
 takes_end items p v is = subst (λ (xs : List ReplyItem). TakesRanges (items_holders xs) (ItemsEndWithin xs) p v p v) (sym is)
     (takes_none (items_holders []) (ItemsEndWithin []) p v v (λ k. refl) (record { sources = λ k. refl; fit = λ texts h. h }))
 
 -- ---- all connections
 
-pub take_none : (given : Holders) (IsGood : Look → Type 0) (p : Slots) (vs : List ServedConnection) → ((k : ℕ) → given k ≡ 0) → TakeRanges given IsGood p vs p vs
+pub take_none : (given : Holders) (IsGood : SourceTexts → Type 0) (p : Slots) (vs : List ServedConnection) → ((k : ℕ) → given k ≡ 0) → AllTakeRanges given IsGood p vs p vs
 take_none given IsGood p vs none = record {
   gone = no_holders;
   fewer = λ k. omega arith;
@@ -136,7 +136,7 @@ take_none given IsGood p vs none = record {
   moves = moves_none p no_holders no_holders (λ k. refl);
 }
 
-pub take_released : (given : Holders) (IsGood : Look → Type 0) (p q : Slots) (vs : List ServedConnection) → Moves p q given no_holders → TakeRanges given IsGood p vs q vs
+pub take_released : (given : Holders) (IsGood : SourceTexts → Type 0) (p q : Slots) (vs : List ServedConnection) → Moves p q given no_holders → AllTakeRanges given IsGood p vs q vs
 take_released given IsGood p q vs m = record {
   gone = given;
   fewer = λ k. omega arith;
@@ -146,7 +146,7 @@ take_released given IsGood p q vs m = record {
   moves = m;
 }
 
-take_both : (g h : Holders) (IsGood IsFine : Look → Type 0) (p q r : Slots) (us vs ws : List ServedConnection) → TakeRanges g IsGood p us q vs → TakeRanges h IsFine q vs r ws → TakeRanges (λ k. g k + h k) (λ texts. IsGood texts × IsFine texts) p us r ws
+take_both : (g h : Holders) (IsGood IsFine : SourceTexts → Type 0) (p q r : Slots) (us vs ws : List ServedConnection) → AllTakeRanges g IsGood p us q vs → AllTakeRanges h IsFine q vs r ws → AllTakeRanges (λ k. g k + h k) (λ texts. IsGood texts × IsFine texts) p us r ws
 take_both g h IsGood IsFine p q r us vs ws a b = record {
   gone = λ k. a.gone k + b.gone k;
   fewer = λ k. omega (arith, a.fewer k, b.fewer k);
@@ -156,19 +156,19 @@ take_both g h IsGood IsFine p q r us vs ws a b = record {
   moves = moves_both p q r a.gone b.gone a.moves b.moves;
 }
 
-pub take_more : (rs rest : List Reply) (x : Reply) (p q r : Slots) (us vs ws : List ServedConnection) → rs ≡ x ∷ rest → TakeRanges (items_holders x.items.items) (ReplyEndsWithin x) p us q vs →
-    TakeRanges (replies_holders rest) (RepliesEndWithin rest) q vs r ws → TakeRanges (replies_holders rs) (RepliesEndWithin rs) p us r ws
+pub take_more : (rs rest : List Reply) (x : Reply) (p q r : Slots) (us vs ws : List ServedConnection) → rs ≡ x ∷ rest → AllTakeRanges (items_holders x.items.items) (ReplyEndsWithin x) p us q vs →
+    AllTakeRanges (replies_holders rest) (RepliesEndWithin rest) q vs r ws → AllTakeRanges (replies_holders rs) (RepliesEndWithin rs) p us r ws
 take_more rs rest x p q r us vs ws is a b =
-    subst (λ (xs : List Reply). TakeRanges (replies_holders xs) (RepliesEndWithin xs) p us r ws) (sym is)
+    subst (λ (xs : List Reply). AllTakeRanges (replies_holders xs) (RepliesEndWithin xs) p us r ws) (sym is)
     (take_both (items_holders x.items.items) (replies_holders rest) (ReplyEndsWithin x) (RepliesEndWithin rest) p q r us vs ws a b)
 
-pub take_end : (rs : List Reply) (p : Slots) (vs : List ServedConnection) → rs ≡ [] → TakeRanges (replies_holders rs) (RepliesEndWithin rs) p vs p vs
-take_end rs p vs is = subst (λ (xs : List Reply). TakeRanges (replies_holders xs) (RepliesEndWithin xs) p vs p vs) (sym is)
+pub take_end : (rs : List Reply) (p : Slots) (vs : List ServedConnection) → rs ≡ [] → AllTakeRanges (replies_holders rs) (RepliesEndWithin rs) p vs p vs
+take_end rs p vs is = subst (λ (xs : List Reply). AllTakeRanges (replies_holders xs) (RepliesEndWithin xs) p vs p vs) (sym is)
     (take_none (replies_holders []) (RepliesEndWithin []) p vs (λ k. refl))
 
 -- ---- one connection among others
 
-take_first : (given : Holders) (IsGood : Look → Type 0) (p q : Slots) (v w : ServedConnection) (vs : List ServedConnection) → TakesRanges given IsGood p v.connection q w.connection → TakeRanges given IsGood p (v ∷ vs) q (w ∷ vs)
+take_first : (given : Holders) (IsGood : SourceTexts → Type 0) (p q : Slots) (v w : ServedConnection) (vs : List ServedConnection) → TakesRanges given IsGood p v.connection q w.connection → AllTakeRanges given IsGood p (v ∷ vs) q (w ∷ vs)
 take_first given IsGood p q v w vs t = record {
   gone = t.gone;
   fewer = t.fewer;
@@ -178,7 +178,7 @@ take_first given IsGood p q v w vs t = record {
   moves = t.moves;
 }
 
-take_behind : (given : Holders) (IsGood : Look → Type 0) (p q : Slots) (v : ServedConnection) (vs ws : List ServedConnection) → TakeRanges given IsGood p vs q ws → TakeRanges given IsGood p (v ∷ vs) q (v ∷ ws)
+take_behind : (given : Holders) (IsGood : SourceTexts → Type 0) (p q : Slots) (v : ServedConnection) (vs ws : List ServedConnection) → AllTakeRanges given IsGood p vs q ws → AllTakeRanges given IsGood p (v ∷ vs) q (v ∷ ws)
 take_behind given IsGood p q v vs ws t = record {
   gone = t.gone;
   fewer = t.fewer;
@@ -188,20 +188,20 @@ take_behind given IsGood p q v vs ws t = record {
   moves = t.moves;
 }
 
-take_place : (given : Holders) (IsGood : Look → Type 0) (p q : Slots) (c : ℕ) (os : List OpenConnection) (i : ℕ) (d : OpenConnection) (w : Present) → IsPlace c os i → TakesRanges given IsGood p (get_or os i d).connection q w →
-    TakeRanges given IsGood p (map connection_shown os) q (map connection_shown (set os i (record { number = (get_or os i d).number; connection = w })))
+take_place : (given : Holders) (IsGood : SourceTexts → Type 0) (p q : Slots) (c : ℕ) (os : List OpenConnection) (i : ℕ) (d : OpenConnection) (w : ConnectionValue) → IsPlace c os i → TakesRanges given IsGood p (get_or os i d).connection q w →
+    AllTakeRanges given IsGood p (map connection_shown os) q (map connection_shown (set os i (record { number = (get_or os i d).number; connection = w })))
 take_place given IsGood p q c [] i d w at t = absurd at
 take_place given IsGood p q c (o ∷ os) zero d w at t = take_first given IsGood p q (connection_shown o) (connection_shown (record { number = o.number; connection = w })) (map connection_shown os) t
 take_place given IsGood p q c (o ∷ os) (suc i) d w at t = take_behind given IsGood p q (connection_shown o) (map connection_shown os) _ (take_place given IsGood p q c os i d w at.1 t)
 
 -- the connection of number c takes them
-pub take_at : (given : Holders) (IsGood : Look → Type 0) (p q : Slots) (c : ℕ) (os : List OpenConnection) (i : ℕ) (d : OpenConnection) (w : Present) → position (is_numbered c) os ≡ Some i → TakesRanges given IsGood p (get_or os i d).connection q w →
-    TakeRanges given IsGood p (map connection_shown os) q (map connection_shown (set os i (record { number = (get_or os i d).number; connection = w })))
+pub take_at : (given : Holders) (IsGood : SourceTexts → Type 0) (p q : Slots) (c : ℕ) (os : List OpenConnection) (i : ℕ) (d : OpenConnection) (w : ConnectionValue) → position (is_numbered c) os ≡ Some i → TakesRanges given IsGood p (get_or os i d).connection q w →
+    AllTakeRanges given IsGood p (map connection_shown os) q (map connection_shown (set os i (record { number = (get_or os i d).number; connection = w })))
 take_at given IsGood p q c os i d w at t = take_place given IsGood p q c os i d w (is_place c os i at) t
 
 -- ---- by a result
 
-pub range_taken : {T E : Type 0} (r : Result T E) (n m until : ℕ) (p : Slots) (v w : Present) → n ≡ m → is_err r ≡ false → OnOk r (HoldsMore n v.sending w.sending) → OnOk r (HasFew w.sending) → KeepsFitWith n until v.sending w.sending →
+pub range_taken : {T E : Type 0} (r : Result T E) (n m until : ℕ) (p : Slots) (v w : ConnectionValue) → n ≡ m → is_err r ≡ false → OnOk r (HoldsMore n v.sending w.sending) → OnOk r (HasFewSources w.sending) → KeepsFitWith n until v.sending w.sending →
     TakesRanges (one_at m) (λ texts. until ≤ length (texts m)) p v p w
 range_taken (Ok x) n m until p v w same ok more few fit =
     subst (λ (k : ℕ). TakesRanges (one_at k) (λ texts. until ≤ length (texts k)) p v p w) same (takes_range n until p v w more few fit)

@@ -5,14 +5,14 @@ use Rattle.std.specs.Option.{option_map_or}
 use Rattle.conn_core.specs.declared.event.CallEvent.{CallEvent}
 use Rattle.conn_core.specs.declared.event.CallEvent.TheVariants.{Cancel}
 use Rattle.conn_core.specs.Past.{Past}
-use Rattle.conn_core.specs.StandsFor.{Present, StandsFor as IsConnection, Becomes, Pops as PopsOne, ReadsFrame as ReadsOneFrame, unread_length, live_calls}
-use Rattle.grpc_sending.specs.StoredSending.{Look, AgreeOn, new_stored_sending}
+use Rattle.conn_core.specs.StandsFor.{ConnectionValue, IsConnection, Becomes, PopsOne, ReadsOneFrame, unread_length, live_calls}
+use Rattle.grpc_sending.specs.StoredSending.{SourceTexts, AgreeOn, new_stored_sending}
 use Rattle.instance_core.specs.State.{InstanceState}
 use Rattle.served_instance.specs.declared.open_connection.OpenConnection.{OpenConnection}
 use Rattle.served_instance.specs.Connections.{open_at, open_ones}
-use Rattle.served_instance.specs.Lone.{Lone, after_reading_on}
+use Rattle.served_instance.specs.Lone.{LoneInstance, after_reading_on}
 use Rattle.served_instance.specs.StandsFor.{AreServed, connection_at}
-use Rattle.served_instance.specs.Ranges.{KeepRanges, sources_at}
+use Rattle.served_instance.specs.Ranges.{AllKeepRanges, sources_at}
 use Rattle.served_instance.specs.Slots.{ServedSlots}
 use Rattle.instance_core.specs.Slots.{InstanceSlots, state_in}
 use Rattle.blob_pool.specs.Slots.{Slots, text_at}
@@ -21,45 +21,46 @@ use Rattle.served_instance.specs.Shown.{connection_shown}
 -- ---- one connection
 
 -- the connection of number c
-abbrev pub present_at : ℕ → List OpenConnection → Option Present
+abbrev pub present_at : ℕ → List OpenConnection → Option ConnectionValue
 present_at c os = connection_at c (map connection_shown os)
 
 -- it has become w
-abbrev pub with_present : ℕ → Present → List OpenConnection → List OpenConnection
+abbrev pub with_present : ℕ → ConnectionValue → List OpenConnection → List OpenConnection
 with_present c w [] = []
 with_present c w (o ∷ os) =
     if o.number == c then record o { connection = w } ∷ os else o ∷ with_present c w os
 
-abbrev pub ChangedFrom : Option Present → ℕ → List OpenConnection → List OpenConnection →
-    (Present → Present → Type 0) → Type 0
-ChangedFrom None c os ns R = ns ≡ os
-ChangedFrom (Some v) c os ns R = (w : Present) × (ns ≡ with_present c w os) × R v w
+abbrev pub BecomesFrom : Option ConnectionValue → ℕ → List OpenConnection → List OpenConnection →
+    (ConnectionValue → ConnectionValue → Type 0) → Type 0
+BecomesFrom None c os ns R = ns ≡ os
+BecomesFrom (Some v) c os ns R = (w : ConnectionValue) × (ns ≡ with_present c w os) × R v w
 
 -- what became of the connection of number c, if there is one; the others stayed as they were
-abbrev pub Changed : ℕ → List OpenConnection → List OpenConnection → (Present → Present → Type 0) →
+abbrev pub BecomesAt : ℕ → List OpenConnection → List OpenConnection →
+    (ConnectionValue → ConnectionValue → Type 0) →
     Type 0
-Changed c os ns R = ChangedFrom (present_at c os) c os ns R
+BecomesAt c os ns R = BecomesFrom (present_at c os) c os ns R
 
 -- this step
-abbrev pub Takes : (Past → Past) → Present → Present → Type 0
-Takes step v w = Becomes v step w
+abbrev pub TakesStep : (Past → Past) → ConnectionValue → ConnectionValue → Type 0
+TakesStep step v w = Becomes v step w
 
 -- nothing else than what is to be sent has changed
-abbrev pub SendsMore : Present → Present → Type 0
+abbrev pub SendsMore : ConnectionValue → ConnectionValue → Type 0
 SendsMore v w = w ≡ record v { sending = w.sending }
 
 -- this step, which reads the texts of sources
-pub record Owes (step : Look → Past → Past) (v w : Present) : Type 0 where
-  pub taken : (texts : Look) (p : Past) → IsConnection texts v p →
+pub record Owes (step : SourceTexts → Past → Past) (v w : ConnectionValue) : Type 0 where
+  pub taken : (texts : SourceTexts) (p : Past) → IsConnection texts v p →
       IsConnection texts w (step texts p)
   pub rest : SendsMore v w
 
-pub record Pops (given : Option CallEvent) (v w : Present) : Type 0 where
+pub record Pops (given : Option CallEvent) (v w : ConnectionValue) : Type 0 where
   pub event : PopsOne v given w
   pub fewer : OnSome given (length w.due < length v.due)
   pub rest : w ≡ record v { due = w.due }
 
-pub record ReadsFrame (more : Bool) (v w : Present) : Type 0 where
+pub record ReadsFrame (more : Bool) (v w : ConnectionValue) : Type 0 where
   pub frame : ReadsOneFrame v more w
   pub fewer : IsTrue more → unread_length w < unread_length v
 
@@ -74,28 +75,29 @@ unread_at c os = option_map_or unread_length (present_at c os) 0
 -- ---- an instance and its connections
 
 -- they stand for this, with these texts of the sources of ranges
-pub record StandsBy (texts : Look) (s : InstanceState) (os : List OpenConnection)
-    (l : Lone) : Type 0 where
+pub record StandsBy (texts : SourceTexts) (s : InstanceState) (os : List OpenConnection)
+    (l : LoneInstance) : Type 0 where
   pub state : s ≡ l.state
   pub connections : AreServed texts (map connection_shown os) (open_ones l.connections)
 
 -- they take this step, by these texts before and by others afterwards
-abbrev pub ActsBy : Look → InstanceState → List OpenConnection → Look → InstanceState →
-    List OpenConnection → (Lone → Lone) → Type 0
+abbrev pub ActsBy : SourceTexts → InstanceState → List OpenConnection → SourceTexts →
+    InstanceState →
+    List OpenConnection → (LoneInstance → LoneInstance) → Type 0
 ActsBy texts s os others t ns step =
-    (l : Lone) → StandsBy texts s os l → StandsBy others t ns (step l)
+    (l : LoneInstance) → StandsBy texts s os l → StandsBy others t ns (step l)
 
 -- .. whatever the texts are
 abbrev pub Acts : InstanceState → List OpenConnection → InstanceState → List OpenConnection →
-    (Lone → Lone) → Type 0
-Acts s os t ns step = (texts : Look) → ActsBy texts s os texts t ns step
+    (LoneInstance → LoneInstance) → Type 0
+Acts s os t ns step = (texts : SourceTexts) → ActsBy texts s os texts t ns step
 
 -- .. by those of a pool
 abbrev pub ActsIn : Slots → InstanceSlots → List OpenConnection → Slots → InstanceSlots →
-    List OpenConnection → (Lone → Lone) → Type 0
+    List OpenConnection → (LoneInstance → LoneInstance) → Type 0
 ActsIn p i os q j ns step = ActsBy (text_at p) (state_in p i) os (text_at q) (state_in q j) ns step
 
-abbrev pub without_sending : Present → Present
+abbrev pub without_sending : ConnectionValue → ConnectionValue
 without_sending v = record v { sending = new_stored_sending }
 
 -- an instance with its connections, as the code keeps it
@@ -108,7 +110,7 @@ FindAlike p q os = AgreeOn (sources_at (map connection_shown os)) (text_at p) (t
 
 -- the same sources of ranges are held
 abbrev pub HoldAlike : List OpenConnection → List OpenConnection → Type 0
-HoldAlike os ns = KeepRanges (map connection_shown os) (map connection_shown ns)
+HoldAlike os ns = AllKeepRanges (map connection_shown os) (map connection_shown ns)
 
 -- nothing else than what is to be sent has changed
 abbrev pub Keeps : List OpenConnection → List OpenConnection → Type 0
@@ -117,25 +119,27 @@ Keeps os ns =
     ≡ option_map without_sending (present_at c os)
 
 -- they are at a state from which this leads to the same
-abbrev pub LeadsBy : Look → InstanceState → List OpenConnection → Look → InstanceState →
-    List OpenConnection → (Lone → Lone) → (Lone → Lone) → Type 0
+abbrev pub LeadsBy : SourceTexts → InstanceState → List OpenConnection → SourceTexts →
+    InstanceState →
+    List OpenConnection → (LoneInstance → LoneInstance) → (LoneInstance → LoneInstance) → Type 0
 LeadsBy texts s os others t ns before after =
-    (l : Lone) → StandsBy texts s os l → (k : Lone) × StandsBy others t ns k × (after k ≡ before l)
+    (l : LoneInstance) → StandsBy texts s os l →
+    (k : LoneInstance) × StandsBy others t ns k × (after k ≡ before l)
 
 -- .. whatever the texts are
 abbrev pub LeadsOn : InstanceState → List OpenConnection → InstanceState → List OpenConnection →
-    (Lone → Lone) → (Lone → Lone) → Type 0
-LeadsOn s os t ns before after = (texts : Look) → LeadsBy texts s os texts t ns before after
+    (LoneInstance → LoneInstance) → (LoneInstance → LoneInstance) → Type 0
+LeadsOn s os t ns before after = (texts : SourceTexts) → LeadsBy texts s os texts t ns before after
 
 -- .. by those of a pool
 abbrev pub LeadsIn : Slots → InstanceSlots → List OpenConnection → Slots → InstanceSlots →
-    List OpenConnection → (Lone → Lone) → (Lone → Lone) → Type 0
+    List OpenConnection → (LoneInstance → LoneInstance) → (LoneInstance → LoneInstance) → Type 0
 LeadsIn p i os q j ns before after =
     LeadsBy (text_at p) (state_in p i) os (text_at q) (state_in q j) ns before after
 
 -- all that was received on connection c and not read yet is read
-abbrev pub after_rest_on : ℕ → Lone → Lone
+abbrev pub after_rest_on : ℕ → LoneInstance → LoneInstance
 after_rest_on c l = after_reading_on c l (open_at c l.connections)
 
-abbrev pub cancels_of : Present → List CallEvent
+abbrev pub cancels_of : ConnectionValue → List CallEvent
 cancels_of v = map Cancel (live_calls v)

@@ -30,8 +30,8 @@ item_of (gives source) = Range source.digest source.text source.from (source.unt
 item_of ends = Headed (Trailers Success)
 item_of (refuses refusal) = Headed (TrailersOnly refusal)
 
-abbrev pub items_of : List ReplyItemValue → List Item
-items_of items = map item_of items
+abbrev pub owed_items : List ReplyItemValue → List Item
+owed_items items = map item_of items
 
 -- items that are owed to a stream, one after another
 abbrev pub with_items : ℕ → List Item → Past → Past

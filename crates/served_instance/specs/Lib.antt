@@ -5,7 +5,7 @@ pub mod Lone
 pub mod Refusals
 pub mod StandsFor
 pub mod Ranges
-pub mod Given
+pub mod OwedReplies
 pub mod Slots
 pub mod Shown
 pub mod Present

@@ -18,79 +18,83 @@ use Rattle.grpc_sending.specs.Bytes.{bytes_put}
 use Rattle.conn_core.specs.declared.event.CallEvent.{CallEvent}
 use Rattle.conn_core.specs.Received.{received_raw_frames}
 use Rattle.conn_core.specs.Calls.{cancels}
-use Rattle.conn_core.specs.Past.{Past, opening, with_frame, with_fault, with_taken, with_pumped, with_bytes}
+use Rattle.conn_core.specs.Past.{Past, new_past, with_frame, with_fault, with_taken, with_pumped, with_bytes}
 use Rattle.instance_core.specs.Calls.{CallEventValue, tick as time_passes}
 use Rattle.instance_core.specs.State.{InstanceState, new_instance, at_moment}
 use Rattle.instance_core.specs.Replies.{ReplyValue}
 use Rattle.instance_core.specs.Answer.{answer, state_after}
 use Rattle.server_events.specs.Events.{EventValue, WhatValue, opened, received, took, closed, tick, ended}
 use Rattle.served_instance.specs.Connections.{LoneConnection, open_at, at_open, with_closed, at_all_open}
-use Rattle.served_instance.specs.Calls.{call_event_on, items_of, with_items}
+use Rattle.served_instance.specs.Calls.{call_event_on, owed_items, with_items}
 
-pub record Lone : Type 0 where
+pub record LoneInstance : Type 0 where
   -- the moment of the last event that was accepted, its texts, and its calls in course
   pub state : InstanceState
   -- all connections that were ever opened, in order
   pub connections : List LoneConnection
 
 -- at first nothing has happened
-abbrev pub new_lone : List ℕ → ℕ → ℕ → Lone
+abbrev pub new_lone : List ℕ → ℕ → ℕ → LoneInstance
 new_lone name quota slots = record { state = new_instance name quota slots; connections = [] }
 
 -- ---- calls
 
 -- the items of a reply are owed to the stream of its call
-abbrev pub after_replies : List ReplyValue → Lone → Lone
+abbrev pub after_replies : List ReplyValue → LoneInstance → LoneInstance
 after_replies [] l = l
-after_replies (reply ∷ replies) l = after_replies replies (record l { connections = at_open reply.call.connection (with_items reply.call.stream (items_of reply.items)) l.connections })
+after_replies (reply ∷ replies) l =
+    after_replies replies (record l {
+      connections = at_open reply.call.connection
+          (with_items reply.call.stream (owed_items reply.items)) l.connections;
+    })
 
 -- something happens to a call: the instance answers
-abbrev pub after_call_event : CallEventValue → Lone → Lone
+abbrev pub after_call_event : CallEventValue → LoneInstance → LoneInstance
 after_call_event event l =
     after_replies (answer l.state event).replies (record l { state = state_after l.state event })
 
 -- events of the calls on connection c, one after another
-abbrev pub after_call_events : ℕ → List CallEvent → Lone → Lone
+abbrev pub after_call_events : ℕ → List CallEvent → LoneInstance → LoneInstance
 after_call_events c [] l = l
 after_call_events c (event ∷ events) l =
     after_call_events c events (after_call_event (call_event_on c event) l)
 
 -- ---- received bytes
 
-abbrev pub due_at : ℕ → Lone → List CallEvent
+abbrev pub due_at : ℕ → LoneInstance → List CallEvent
 due_at c l = option_map_or (λ p. p.due) (open_at c l.connections) []
 
 abbrev pub without_due : Past → Past
 without_due p = record p { due = [] }
 
 -- what is due happens
-abbrev pub after_due_on : ℕ → Lone → Lone
+abbrev pub after_due_on : ℕ → LoneInstance → LoneInstance
 after_due_on c l =
     after_call_events c (due_at c l)
     (record l { connections = at_open c without_due l.connections })
 
 -- a frame: what it causes is put, and what it brings to calls happens
-abbrev pub after_frame_on : ℕ → RawFrame → Lone → Lone
+abbrev pub after_frame_on : ℕ → RawFrame → LoneInstance → LoneInstance
 after_frame_on c f l =
     after_due_on c (record l { connections = at_open c (λ p. with_frame p f) l.connections })
 
 -- whether there is no such connection, or an error of it was met
-abbrev pub is_over : ℕ → Lone → Bool
+abbrev pub is_over : ℕ → LoneInstance → Bool
 is_over c l = option_map_or (λ p. has_failed p.history) (open_at c l.connections) true
 
 -- nothing is read behind an error of the connection
-abbrev pub after_frames_on : ℕ → List RawFrame → Lone → Lone
+abbrev pub after_frames_on : ℕ → List RawFrame → LoneInstance → LoneInstance
 after_frames_on c [] l = l
 after_frames_on c (f ∷ fs) l =
     if is_over c l then l else after_frames_on c fs (after_frame_on c f l)
 
-abbrev pub after_fault_on : ℕ → FrameError → Lone → Option ErrorCode → Lone
+abbrev pub after_fault_on : ℕ → FrameError → LoneInstance → Option ErrorCode → LoneInstance
 after_fault_on c e l None = l
 after_fault_on c e l (Some code) =
     after_due_on c (record l { connections = at_open c (λ p. with_fault p e code) l.connections })
 
 -- behind the frames the bytes may be none
-abbrev pub after_end_on : ℕ → Result (List ℕ) FrameError → Lone → Lone
+abbrev pub after_end_on : ℕ → Result (List ℕ) FrameError → LoneInstance → LoneInstance
 after_end_on c (Ok rest) l = l
 after_end_on c (Err e) l = if is_over c l then l else after_fault_on c e l (reading_fault e)
 
@@ -100,31 +104,31 @@ unread_frames p =
     drop (length (received_raw_frames p.history)) (split CLIENT_PREFACE.now p.text).items
 
 -- all that is whole is read, frame by frame
-abbrev pub after_reading_on : ℕ → Lone → Option Past → Lone
+abbrev pub after_reading_on : ℕ → LoneInstance → Option Past → LoneInstance
 after_reading_on c l None = l
 after_reading_on c l (Some p) =
     after_end_on c (split CLIENT_PREFACE.now p.text).end (after_frames_on c (unread_frames p) l)
 
-abbrev pub after_bytes_on : ℕ → List ℕ → Lone → Lone
+abbrev pub after_bytes_on : ℕ → List ℕ → LoneInstance → LoneInstance
 after_bytes_on c bytes l =
-    let m : Lone = record l { connections = at_open c (with_bytes bytes) l.connections } in
+    let m : LoneInstance = record l { connections = at_open c (with_bytes bytes) l.connections } in
     after_reading_on c m (open_at c m.connections)
 
 -- ---- the other events
 
 -- a connection opens with the server's SETTINGS
-abbrev pub after_opening : ℕ → Lone → Lone
+abbrev pub after_opening : ℕ → LoneInstance → LoneInstance
 after_opening c l = record l {
-  connections = l.connections ++ record { number = c; past = opening; is_open = true } ∷ [];
+  connections = l.connections ++ record { number = c; past = new_past; is_open = true } ∷ [];
 }
 
 -- a connection goes, and each call on it is given up
-abbrev pub after_closing : ℕ → Lone → Lone
+abbrev pub after_closing : ℕ → LoneInstance → LoneInstance
 after_closing c l =
     after_call_events c (option_map_or (λ p. cancels p.history) (open_at c l.connections) [])
     (record l { connections = with_closed c l.connections })
 
-abbrev pub effect_of : WhatValue → Lone → Lone
+abbrev pub effect_of : WhatValue → LoneInstance → LoneInstance
 effect_of (opened c) l = after_opening c l
 effect_of (received c bytes) l = after_bytes_on c bytes l
 effect_of (took c n) l = record l { connections = at_open c (λ p. with_taken p n) l.connections }
@@ -133,14 +137,14 @@ effect_of tick l = after_call_event time_passes l
 effect_of (ended job outcome) l = l
 
 -- all that can be put is put, on each open connection
-abbrev pub after_pump : Lone → Lone
+abbrev pub after_pump : LoneInstance → LoneInstance
 after_pump l = record l { connections = at_all_open with_pumped l.connections }
 
 -- an event comes at this moment
-abbrev pub lone_at_moment : ℕ → Lone → Lone
+abbrev pub lone_at_moment : ℕ → LoneInstance → LoneInstance
 lone_at_moment moment l = record l { state = at_moment moment l.state }
 
-abbrev pub after_event : EventValue → Lone → Lone
+abbrev pub after_event : EventValue → LoneInstance → LoneInstance
 after_event e l = after_pump (effect_of e.what (lone_at_moment e.moment l))
 
 -- ---- what came of it
@@ -149,5 +153,5 @@ after_event e l = after_pump (effect_of e.what (lone_at_moment e.moment l))
 abbrev pub sent_bytes_on : LoneConnection → ℕ × List ℕ
 sent_bytes_on k = (k.number, bytes_put k.past.history)
 
-abbrev pub all_sent_bytes : Lone → List (ℕ × List ℕ)
+abbrev pub all_sent_bytes : LoneInstance → List (ℕ × List ℕ)
 all_sent_bytes l = map sent_bytes_on l.connections

@@ -1,7 +1,7 @@
 -- Which events are refused, by what is kept. For the code alone: no public contract speaks of it.
 use Rattle.std.specs.Prelude.{ℕ, ◌≤◌, ◌==◌, Bool, nat_le, nat_lt, if◌then◌else◌, List, length, Option, Some, None}
 use Rattle.std.specs.Option.{is_some, option_map_or}
-use Rattle.conn_core.specs.StandsFor.{Present}
+use Rattle.conn_core.specs.StandsFor.{ConnectionValue}
 use Rattle.server_events.specs.Events.{EventValue, WhatValue, opened, received, took, closed, tick, ended}
 use Rattle.served_instance.specs.declared.open_connection.OpenConnection.{OpenConnection}
 use Rattle.served_instance.specs.declared.refusal.EventRefusal.{EventRefusal}
@@ -22,7 +22,7 @@ refusal_to_open c vs =
     else if nat_le CONNECTION_LIMIT (length vs) then Some TooManyConnections
     else None
 
-abbrev pub unless_more : ℕ → Present → Option EventRefusal
+abbrev pub unless_more : ℕ → ConnectionValue → Option EventRefusal
 unless_more n v = if nat_lt (length v.sending.pending) n then Some TookTooMuch else None
 
 abbrev pub refusal_to_take : ℕ → ℕ → List ServedConnection → Option EventRefusal
@@ -42,6 +42,6 @@ refusal_by e v =
     else refusal_by_what e.what v.connections
 
 -- no more than waits
-abbrev pub CanTake : ℕ → Option Present → Type 0
+abbrev pub CanTake : ℕ → Option ConnectionValue → Type 0
 CanTake n None = Unit {0}
 CanTake n (Some v) = n ≤ length v.sending.pending

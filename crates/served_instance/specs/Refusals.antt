@@ -7,12 +7,12 @@ use Rattle.served_instance.specs.declared.refusal.EventRefusal.{EventRefusal}
 use Rattle.served_instance.specs.declared.refusal.EventRefusal.TheVariants.{TimeWentBack, ConnectionExists, TooManyConnections, NoSuchConnection, TookTooMuch, NoSuchJob, NoMemory}
 use Rattle.served_instance.specs.declared.instance.TheConstants.{CONNECTION_LIMIT}
 use Rattle.served_instance.specs.Connections.{open_ones, open_at}
-use Rattle.served_instance.specs.Lone.{Lone, after_event}
+use Rattle.served_instance.specs.Lone.{LoneInstance, after_event}
 
-abbrev pub unless_open : ℕ → Lone → Option EventRefusal
+abbrev pub unless_open : ℕ → LoneInstance → Option EventRefusal
 unless_open c l = option_map_or (λ p. None) (open_at c l.connections) (Some NoSuchConnection)
 
-abbrev pub refusal_of_what : WhatValue → Lone → Option EventRefusal
+abbrev pub refusal_of_what : WhatValue → LoneInstance → Option EventRefusal
 refusal_of_what (opened c) l =
     if is_some (open_at c l.connections) then Some ConnectionExists
     else if nat_le CONNECTION_LIMIT (length (open_ones l.connections)) then Some TooManyConnections
@@ -28,24 +28,24 @@ refusal_of_what tick l = None
 refusal_of_what (ended job outcome) l = Some NoSuchJob
 
 -- time does not go back
-abbrev pub refusal_of : EventValue → Lone → Option EventRefusal
+abbrev pub refusal_of : EventValue → LoneInstance → Option EventRefusal
 refusal_of e l =
     if nat_lt e.moment l.state.moment then Some TimeWentBack else refusal_of_what e.what l
 
 -- a refused event changes nothing
-abbrev pub after_event_unless : EventValue → Lone → Option EventRefusal → Lone
+abbrev pub after_event_unless : EventValue → LoneInstance → Option EventRefusal → LoneInstance
 after_event_unless e l None = after_event e l
 after_event_unless e l (Some refusal) = l
 
-abbrev pub lone_step : EventValue → Lone → Lone
+abbrev pub lone_step : EventValue → LoneInstance → LoneInstance
 lone_step e l = after_event_unless e l (refusal_of e l)
 
 -- an event is refused for its reason, where there is one; and for want of memory only where there
 -- is none
-abbrev pub IsOutcome : {A : Type 0} → Result A EventRefusal → Option EventRefusal → Type 0
-IsOutcome (Ok x) reason = reason ≡ None
-IsOutcome (Err NoMemory) reason = reason ≡ None
-IsOutcome (Err refusal) reason = reason ≡ Some refusal
+abbrev pub IsRefusalOutcome : {A : Type 0} → Result A EventRefusal → Option EventRefusal → Type 0
+IsRefusalOutcome (Ok x) reason = reason ≡ None
+IsRefusalOutcome (Err NoMemory) reason = reason ≡ None
+IsRefusalOutcome (Err refusal) reason = reason ≡ Some refusal
 
 -- an event that takes no memory: bytes were taken, a connection was closed, time went on, or a job
 -- ended

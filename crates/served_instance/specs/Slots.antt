@@ -2,11 +2,11 @@
 use Rattle.std.specs.Prelude.{ℕ, ◌+◌, ◌≤◌, ◌<◌, ◌^◌, List, map}
 use Rattle.blob_pool.specs.Slots.{Slots, text_at, count_at}
 use Rattle.blob_pool.specs.Moves.{Holders}
-use Rattle.instance_core.specs.Slots.{InstanceSlots, state_in, holders_of as holders_of_instance}
+use Rattle.instance_core.specs.Slots.{InstanceSlots, state_in, holders_of_instance}
 use Rattle.served_instance.specs.Connections.{open_ones}
-use Rattle.served_instance.specs.Lone.{Lone}
-use Rattle.served_instance.specs.StandsFor.{ServedConnection, ServedState, AreServed, IsWithin}
-use Rattle.served_instance.specs.Ranges.{served_with, sources_at, range_holders, AreFit, HaveFew}
+use Rattle.served_instance.specs.Lone.{LoneInstance}
+use Rattle.served_instance.specs.StandsFor.{ServedConnection, ServedState, AreServed, IsServedWithin}
+use Rattle.served_instance.specs.Ranges.{served_with, sources_at, range_holders, RangesEndWithin, HaveFewSources}
 
 -- the instance, whose texts stand in slots, and its open connections, whose ranges are of texts in
 -- slots
@@ -28,15 +28,15 @@ abbrev pub holders_of : ServedSlots → Holders
 holders_of v k = holders_of_instance v.instance k + range_holders v.connections k
 
 -- the pool counts it among its holders, and it keeps its limits
-pub record IsKept (p : Slots) (v : ServedSlots) : Type 0 where
+pub record IsServedInPool (p : Slots) (v : ServedSlots) : Type 0 where
   pub counted : (k : ℕ) → holders_of v k ≤ count_at p k
   -- but for it there are fewer than 2^125 holders of any slot
   pub others : (k : ℕ) → count_at p k < holders_of v k + 2 ^ 125
-  pub within : IsWithin (served_state_in p v)
-  pub fit : AreFit (text_at p) v.connections
-  pub few : HaveFew v.connections
+  pub within : IsServedWithin (served_state_in p v)
+  pub fit : RangesEndWithin (text_at p) v.connections
+  pub few : HaveFewSources v.connections
 
 -- its open connections stand for those of an instance by itself, by the texts of some pool
-pub record HasConnections (v : ServedSlots) (l : Lone) : Type 0 where
+pub record HasConnections (v : ServedSlots) (l : LoneInstance) : Type 0 where
   pub pool : Slots
   pub stand : AreServed (text_at pool) v.connections (open_ones l.connections)

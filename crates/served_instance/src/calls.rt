@@ -3,15 +3,15 @@
 ghost use Rattle.std.specs.Prelude.{◌≡◌, ◌<◌, ◌≤◌, ℕ, List, false, IsTrue, IfOk, OnOk, length, map};
 ghost use Rattle.instance_core.specs.Calls.{IsShortEvent};
 ghost use Rattle.instance_core.specs.Shown.{event_shown};
-ghost use Rattle.instance_core.specs.Slots.{state_in, holders_of as holders_of_instance, IsKept as IsInstanceKept};
-ghost use Rattle.served_instance.specs.Slots.{holders_of, IsKept};
+ghost use Rattle.instance_core.specs.Slots.{state_in, holders_of_instance, IsInstanceInPool};
+ghost use Rattle.served_instance.specs.Slots.{holders_of, IsServedInPool};
 ghost use Rattle.blob_pool.specs.Slots.{Slots, count_at};
 ghost use Rattle.blob_pool.specs.Moves.{Moves};
 ghost use Rattle.served_instance.specs.declared.open_connection.OpenConnection.{OpenConnection};
 ghost use Rattle.served_instance.specs.Acts.{Acts, ActsIn, LeadsIn, Keeps, present_at, slots_of, unread_at, after_rest_on, cancels_of};
 ghost use Rattle.served_instance.specs.Ranges.{Releases, range_holders};
 ghost use Rattle.served_instance.specs.Shown.{connection_shown};
-ghost use Rattle.served_instance.specs.Lone.{Lone, after_call_event, after_call_events, after_due_on, after_bytes_on, after_closing};
+ghost use Rattle.served_instance.specs.Lone.{LoneInstance, after_call_event, after_call_events, after_due_on, after_bytes_on, after_closing};
 
 use crate::open_connection::{OpenConnection, feed, find, pop_event, read_frame};
 use crate::release::release_spent;
@@ -30,13 +30,13 @@ fn happen(
     event: CallEvent,
 ) -> Result<(), AllocError>
     requires short { IsShortEvent (event_shown event) }
-    requires kept { IsKept pool.old (slots_of instance.old connections.old) }
+    requires kept { IsServedInPool pool.old (slots_of instance.old connections.old) }
     ensures happened { OnOk result (ActsIn pool.old instance.old connections.old
         pool.new instance.new connections.new (after_call_event (event_shown event))) }
     ensures rest { OnOk result (Keeps connections.old connections.new) }
     ensures moves { Moves pool.old pool.new (holders_of (slots_of instance.old connections.old))
         (holders_of (slots_of instance.new connections.new)) }
-    ensures kept { IsKept pool.new (slots_of instance.new connections.new) }
+    ensures kept { IsServedInPool pool.new (slots_of instance.new connections.new) }
 {
     let replies = instance.call_event(alloc, pool, event)?;
     give_all(pool, connections, replies)
@@ -50,14 +50,14 @@ fn give_due(
     connections: &mut [OpenConnection],
     number: u32,
 ) -> Result<(), AllocError>
-    requires kept { IsKept pool.old (slots_of instance.old connections.old) }
+    requires kept { IsServedInPool pool.old (slots_of instance.old connections.old) }
     ensures due { OnOk result (ActsIn pool.old instance.old connections.old
         pool.new instance.new connections.new (after_due_on number)) }
     ensures unread { OnOk result (unread_at number connections.new
         ≡ unread_at number connections.old) }
     ensures moves { Moves pool.old pool.new (holders_of (slots_of instance.old connections.old))
         (holders_of (slots_of instance.new connections.new)) }
-    ensures kept { IsKept pool.new (slots_of instance.new connections.new) }
+    ensures kept { IsServedInPool pool.new (slots_of instance.new connections.new) }
 {
     'events: while let Some(event) = pop_event(connections, number) {
         let event = call_event_on(number, event);
@@ -75,7 +75,7 @@ fn read_next(
     connections: &mut [OpenConnection],
     number: u32,
 ) -> Result<bool, AllocError>
-    requires kept { IsKept pool.old (slots_of instance.old connections.old) }
+    requires kept { IsServedInPool pool.old (slots_of instance.old connections.old) }
     ensures reads { OnOk result (LeadsIn pool.old instance.old connections.old
         pool.new instance.new connections.new (after_rest_on number) (after_rest_on number)) }
     ensures ends { IfOk result (λ more. more ≡ false → ActsIn pool.old instance.old connections.old
@@ -84,7 +84,7 @@ fn read_next(
         → unread_at number connections.new < unread_at number connections.old) }
     ensures moves { Moves pool.old pool.new (holders_of (slots_of instance.old connections.old))
         (holders_of (slots_of instance.new connections.new)) }
-    ensures kept { IsKept pool.new (slots_of instance.new connections.new) }
+    ensures kept { IsServedInPool pool.new (slots_of instance.new connections.new) }
 {
     if read_frame(connections, number)? {
         give_due(alloc, pool, instance, connections, number)?;
@@ -104,12 +104,12 @@ pub(crate) fn receive(
     number: u32,
     bytes: Vec<u8>,
 ) -> Result<(), AllocError>
-    requires kept { IsKept pool.old (slots_of instance.old connections.old) }
+    requires kept { IsServedInPool pool.old (slots_of instance.old connections.old) }
     ensures came { OnOk result (ActsIn pool.old instance.old connections.old
         pool.new instance.new connections.new (after_bytes_on number bytes.items)) }
     ensures moves { Moves pool.old pool.new (holders_of (slots_of instance.old connections.old))
         (holders_of (slots_of instance.new connections.new)) }
-    ensures kept { IsKept pool.new (slots_of instance.new connections.new) }
+    ensures kept { IsServedInPool pool.new (slots_of instance.new connections.new) }
 {
     feed(connections, number, bytes)?;
     'frames: while read_next(alloc, pool, instance, connections, number)? {}
@@ -133,7 +133,7 @@ pub(crate) fn close(
         pool.new (map connection_shown connections.new.items) }
     ensures holders { (k : ℕ) → holders_of_instance instance.new k
         ≡ holders_of_instance instance.old k }
-    ensures kept { (p : Slots) → IsInstanceKept p instance.old → IsInstanceKept p instance.new }
+    ensures kept { (p : Slots) → IsInstanceInPool p instance.old → IsInstanceInPool p instance.new }
 {
     match find(connections, number) {
         None => {}
@@ -153,7 +153,7 @@ fn give_up(instance: &mut Instance, number: u32, mut closed: Connection)
         (after_call_events number (cancels_of closed)) }
     ensures holders { (k : ℕ) → holders_of_instance instance.new k
         ≡ holders_of_instance instance.old k }
-    ensures kept { (p : Slots) → IsInstanceKept p instance.old → IsInstanceKept p instance.new }
+    ensures kept { (p : Slots) → IsInstanceInPool p instance.old → IsInstanceInPool p instance.new }
 {
     'calls: while let Some(stream) = closed.pop_call() {
         instance.cancel(CallId {

@@ -6,19 +6,19 @@ ghost use Rattle.grpc_sending.specs.Bytes.{most_untaken, pending_bytes};
 ghost use Rattle.conn_core.specs.History.{has_failed};
 ghost use Rattle.conn_core.specs.Past.{Past, with_pumped};
 ghost use Rattle.served_instance.specs.Connections.{LoneConnection, AreApart, open_at, open_ones, at_all_open};
-ghost use Rattle.served_instance.specs.Lone.{Lone, new_lone, effect_of, after_opening, after_pump};
-ghost use Rattle.served_instance.specs.Refusals.{NeedsNoMemory, refusal_of, lone_step, IsOutcome};
-ghost use Rattle.served_instance.specs.StandsFor.{StandsFor, IsWithin, AreServed, AreSettled};
+ghost use Rattle.served_instance.specs.Lone.{LoneInstance, new_lone, effect_of, after_opening, after_pump};
+ghost use Rattle.served_instance.specs.Refusals.{NeedsNoMemory, refusal_of, lone_step, IsRefusalOutcome};
+ghost use Rattle.served_instance.specs.StandsFor.{IsServedInstance, IsServedWithin, AreServed, AreSettled};
 ghost use Rattle.served_instance.specs.Present.{refusal_by, refusal_by_what, refusal_to_open, unless_present, refusal_to_take};
 ghost use Rattle.served_instance.specs.Shown.{connection_shown};
 ghost use Rattle.served_instance.specs.Acts.{Acts, ActsIn, HoldAlike, slots_of};
-ghost use Rattle.served_instance.specs.Ranges.{AreFit, Releases, range_holders, spent_sources};
+ghost use Rattle.served_instance.specs.Ranges.{RangesEndWithin, Releases, range_holders, spent_sources};
 ghost use Rattle.instance_core.specs.State.{InstanceState};
 ghost use Rattle.instance_core.specs.Slots.{state_in};
-ghost use Rattle.served_instance.specs.Slots.{served_state_in, holders_of, IsKept, HasConnections};
+ghost use Rattle.served_instance.specs.Slots.{served_state_in, holders_of, IsServedInPool, HasConnections};
 ghost use Rattle.blob_pool.specs.Slots.{Slots, text_at, count_at};
 ghost use Rattle.blob_pool.specs.Moves.{Moves, no_holders};
-ghost use Rattle.instance_core.specs.Kept.{most_stored_bytes};
+ghost use Rattle.instance_core.specs.Within.{most_stored_bytes};
 
 use crate::calls::{close, receive};
 use crate::open_connection::{OpenConnection, connection_at, connection_near, take};
@@ -61,9 +61,11 @@ impl ServedInstance {
     /// An instance that nothing has happened to.
     pub fn new(alloc: Global, config: &InstanceConfig) -> Result<ServedInstance, AllocError>
         requires quota { config.now.quota ≤ most_stored_bytes }
-        ensures stands { (p : Slots) → IfOk result (λ served. StandsFor (served_state_in p served)
+        ensures stands { (p : Slots) → IfOk result
+            (λ served. IsServedInstance (served_state_in p served)
             (new_lone (string_bytes config.now.name) config.now.quota config.now.slots)) }
-        ensures within { (p : Slots) → IfOk result (λ served. IsWithin (served_state_in p served)) }
+        ensures within { (p : Slots) → IfOk result
+            (λ served. IsServedWithin (served_state_in p served)) }
         ensures holders { IfOk result (λ served. (k : ℕ) → holders_of served k ≡ 0) }
     {
         Ok(ServedInstance {
@@ -78,23 +80,26 @@ impl ServedInstance {
     /// done a part of it, and stands for no instance by itself any more: it is to be dropped. Its
     /// limits stand then too, and the pool still counts it.
     pub fn step(&mut self, pool: &mut Pool, event: Event) -> Result<(), EventRefusal>
-        requires kept { IsKept pool.old self.old }
-        ensures outcome { (l : Lone) → StandsFor (served_state_in pool.old self.old) l
-            → IsOutcome result (refusal_of (event_value event) l) }
-        ensures stands { (l : Lone) → StandsFor (served_state_in pool.old self.old) l
+        requires kept { IsServedInPool pool.old self.old }
+        ensures outcome { (l : LoneInstance) →
+            IsServedInstance (served_state_in pool.old self.old) l
+            → IsRefusalOutcome result (refusal_of (event_value event) l) }
+        ensures stands { (l : LoneInstance) → IsServedInstance (served_state_in pool.old self.old) l
             → (result ≢ Err EventRefusal.NoMemory)
-            → StandsFor (served_state_in pool.new self.new) (lone_step (event_value event) l) }
+            → IsServedInstance (served_state_in pool.new self.new)
+            (lone_step (event_value event) l) }
         ensures here { result ≢ Err EventRefusal.NoSuchInstance }
         ensures memory_free { NeedsNoMemory (event_value event).what
             → result ≢ Err EventRefusal.NoMemory }
         ensures refused { IfErr result (λ refusal. refusal ≢ EventRefusal.NoMemory
             → (self.new ≡ self.old) × (pool.new ≡ pool.old)) }
-        ensures settled { OnOk result ((l : Lone) → StandsFor (served_state_in pool.old self.old) l
+        ensures settled { OnOk result ((l : LoneInstance) →
+            IsServedInstance (served_state_in pool.old self.old) l
             → AreSettled (lone_step (event_value event) l)) }
         // No source is held of a range that is over.
         ensures released { OnOk result (spent_sources self.new.connections ≡ []) }
         ensures moves { Moves pool.old pool.new (holders_of self.old) (holders_of self.new) }
-        ensures kept { IsKept pool.new self.new }
+        ensures kept { IsServedInPool pool.new self.new }
     {
         if let Some(refusal) = self.refusal(&event) {
             return Err(refusal);
@@ -118,7 +123,7 @@ impl ServedInstance {
 
     /// The bytes that were put on an open connection and not taken.
     pub fn pending(&self, connection: u32) -> Option<&[u8]>
-        ensures bytes { (l : Lone) → HasConnections self.now l
+        ensures bytes { (l : LoneInstance) → HasConnections self.now l
             → option_map (λ bytes. bytes.now) result
             ≡ option_map (λ p. pending_bytes p.history) (open_at connection l.connections) }
         ensures room { IfSome result (λ bytes. length bytes.now ≤ most_untaken) }
@@ -132,7 +137,7 @@ impl ServedInstance {
     /// The bytes that were put on an open connection and not taken. Where it stands at this place
     /// among the open ones, in order of opening, no other is looked at.
     pub fn pending_near(&self, place: usize, connection: u32) -> Option<&[u8]>
-        ensures bytes { (l : Lone) → HasConnections self.now l → AreApart l.connections
+        ensures bytes { (l : LoneInstance) → HasConnections self.now l → AreApart l.connections
             → option_map (λ bytes. bytes.now) result
             ≡ option_map (λ p. pending_bytes p.history) (open_at connection l.connections) }
         ensures room { IfSome result (λ bytes. length bytes.now ≤ most_untaken) }
@@ -145,7 +150,7 @@ impl ServedInstance {
 
     /// Whether an error of an open connection was met.
     pub fn ended(&self, connection: u32) -> Option<bool>
-        ensures { (l : Lone) → HasConnections self.now l
+        ensures { (l : LoneInstance) → HasConnections self.now l
             → result ≡ option_map (λ p. has_failed p.history) (open_at connection l.connections) }
     {
         match connection_at(&self.connections, connection) {
@@ -173,12 +178,12 @@ impl ServedInstance {
 
     /// Puts all that can be put, on each open connection, and releases what no range is left of.
     fn pump(&mut self, pool: &mut Pool)
-        requires { IsKept pool.old self.old }
-        ensures stands { (l : Lone) → StandsFor (served_state_in pool.old self.old) l
-            → StandsFor (served_state_in pool.new self.new) (after_pump l) }
+        requires { IsServedInPool pool.old self.old }
+        ensures stands { (l : LoneInstance) → IsServedInstance (served_state_in pool.old self.old) l
+            → IsServedInstance (served_state_in pool.new self.new) (after_pump l) }
         ensures released { spent_sources self.new.connections ≡ [] }
         ensures moves { Moves pool.old pool.new (holders_of self.old) (holders_of self.new) }
-        ensures kept { IsKept pool.new self.new }
+        ensures kept { IsServedInPool pool.new self.new }
     {
         pump_all(pool, &mut self.connections);
     }
@@ -195,14 +200,14 @@ fn act(
     requires accepted { refusal_by_what (what_value what)
         (map connection_shown connections.old.items)
         ≡ None }
-    requires kept { IsKept pool.old (slots_of instance.old connections.old.items) }
+    requires kept { IsServedInPool pool.old (slots_of instance.old connections.old.items) }
     ensures acted { OnOk result (ActsIn pool.old instance.old connections.old.items
         pool.new instance.new connections.new.items (effect_of (what_value what))) }
     ensures memory_free { OnErr result (NeedsNoMemory (what_value what) → ⊥) }
     ensures moves { Moves pool.old pool.new
         (holders_of (slots_of instance.old connections.old.items))
         (holders_of (slots_of instance.new connections.new.items)) }
-    ensures kept { IsKept pool.new (slots_of instance.new connections.new.items) }
+    ensures kept { IsServedInPool pool.new (slots_of instance.new connections.new.items) }
 {
     match what {
         What::Open(number) => open(alloc, connections, number),
@@ -238,7 +243,7 @@ fn open(alloc: Global, connections: &mut Vec<OpenConnection>, number: u32) -> Re
 
 /// Puts all that can be put, on each connection, and releases what no range is left of.
 fn pump_all(pool: &mut Pool, connections: &mut [OpenConnection])
-    requires fit { AreFit (text_at pool.old) (map connection_shown connections.old) }
+    requires fit { RangesEndWithin (text_at pool.old) (map connection_shown connections.old) }
     requires counted { (k : ℕ) → range_holders (map connection_shown connections.old) k
         ≤ count_at pool.old k }
     ensures stands { (ks : List LoneConnection)
@@ -256,7 +261,7 @@ fn pump_all(pool: &mut Pool, connections: &mut [OpenConnection])
 
 /// Puts all that can be put, on each connection, with the texts of the pool.
 fn pump_each(pool: &Pool, connections: &mut [OpenConnection])
-    requires { AreFit (text_at pool.now) (map connection_shown connections.old) }
+    requires { RangesEndWithin (text_at pool.now) (map connection_shown connections.old) }
     ensures stands { (ks : List LoneConnection)
         → AreServed (text_at pool.now) (map connection_shown connections.old) (open_ones ks)
         → AreServed (text_at pool.now) (map connection_shown connections.new)

@@ -2,9 +2,9 @@
 
 ghost use Rattle.std.specs.Prelude.{◌≡◌, ◌++◌, ◌<◌, ◌≤◌, List, false, None, map, option_map, position, IfOk, OnOk, length};
 ghost use Rattle.std.specs.Option.{option_map_or};
-ghost use Rattle.grpc_sending.specs.StoredSending.{Look};
+ghost use Rattle.grpc_sending.specs.StoredSending.{SourceTexts};
 ghost use Rattle.conn_core.specs.Past.{Past, with_taken};
-ghost use Rattle.served_instance.specs.Acts.{Changed, Takes, Pops, ReadsFrame, present_at, HoldAlike};
+ghost use Rattle.served_instance.specs.Acts.{BecomesAt, TakesStep, Pops, ReadsFrame, present_at, HoldAlike};
 ghost use Rattle.served_instance.specs.Shown.{connection_shown};
 ghost use Rattle.served_instance.specs.Present.{is_numbered, CanTake};
 ghost use Rattle.served_instance.specs.Connections.{LoneConnection, AreApart, open_ones};
@@ -47,7 +47,7 @@ pub(crate) fn connection_near<'a>(
     place: usize,
     number: u32,
 ) -> Option<&'a Connection>
-    ensures { (texts : Look) (ks : List LoneConnection)
+    ensures { (texts : SourceTexts) (ks : List LoneConnection)
         → AreServed texts (map connection_shown connections.now) (open_ones ks) → AreApart ks
         → option_map (λ connection. connection.now) result
         ≡ connection_at number (map connection_shown connections.now) }
@@ -64,8 +64,8 @@ pub(crate) fn feed(
     number: u32,
     bytes: Vec<u8>,
 ) -> Result<(), AllocError>
-    ensures fed { OnOk result (Changed number connections.old connections.new
-        (Takes (λ p. record p { text = p.text ++ bytes.items }))) }
+    ensures fed { OnOk result (BecomesAt number connections.old connections.new
+        (TakesStep (λ p. record p { text = p.text ++ bytes.items }))) }
     ensures holds { HoldAlike connections.old connections.new }
 {
     match find(connections, number) {
@@ -79,7 +79,7 @@ pub(crate) fn read_frame(
     connections: &mut [OpenConnection],
     number: u32,
 ) -> Result<bool, AllocError>
-    ensures read { IfOk result (λ more. Changed number connections.old connections.new
+    ensures read { IfOk result (λ more. BecomesAt number connections.old connections.new
         (ReadsFrame more)) }
     ensures none { IfOk result (λ more. present_at number connections.old ≡ None → more ≡ false) }
     ensures holds { HoldAlike connections.old connections.new }
@@ -92,7 +92,7 @@ pub(crate) fn read_frame(
 
 /// Gives the next event of a call on the connection that is due.
 pub(crate) fn pop_event(connections: &mut [OpenConnection], number: u32) -> Option<CallEvent>
-    ensures event { Changed number connections.old connections.new (Pops result) }
+    ensures event { BecomesAt number connections.old connections.new (Pops result) }
     ensures none { present_at number connections.old ≡ None → result ≡ None }
     ensures holds { HoldAlike connections.old connections.new }
 {
@@ -105,8 +105,8 @@ pub(crate) fn pop_event(connections: &mut [OpenConnection], number: u32) -> Opti
 /// The client of the connection took so many of the bytes that wait for it.
 pub(crate) fn take(connections: &mut [OpenConnection], number: u32, count: usize)
     requires { CanTake count (present_at number connections.old) }
-    ensures taken { Changed number connections.old connections.new
-        (Takes (λ p. with_taken p count)) }
+    ensures taken { BecomesAt number connections.old connections.new
+        (TakesStep (λ p. with_taken p count)) }
     ensures holds { HoldAlike connections.old connections.new }
 {
     match find(connections, number) {

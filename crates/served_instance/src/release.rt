@@ -3,7 +3,7 @@
 ghost use Rattle.std.specs.Prelude.{◌≡◌, ◌≤◌, ℕ, List, [], length, map};
 ghost use Rattle.blob_pool.specs.Slots.{count_at};
 ghost use Rattle.blob_pool.specs.Moves.{Moves, no_holders};
-ghost use Rattle.grpc_sending.specs.StoredSending.{Look};
+ghost use Rattle.grpc_sending.specs.StoredSending.{SourceTexts};
 ghost use Rattle.grpc_sending.specs.Sources.{count_of};
 ghost use Rattle.conn_core.specs.StandsFor.{Becomes};
 ghost use Rattle.served_instance.specs.Connections.{LoneConnection};
@@ -35,7 +35,7 @@ pub(crate) fn release_spent(pool: &mut Pool, connection: &mut Connection)
 pub(crate) fn release_all(pool: &mut Pool, connections: &mut [OpenConnection])
     requires { (k : ℕ) → range_holders (map connection_shown connections.old) k
         ≤ count_at pool.old k }
-    ensures stands { (texts : Look) (ls : List LoneConnection)
+    ensures stands { (texts : SourceTexts) (ls : List LoneConnection)
         → AreServed texts (map connection_shown connections.old) ls
         → AreServed texts (map connection_shown connections.new) ls }
     ensures none { spent_sources (map connection_shown connections.new) ≡ [] }

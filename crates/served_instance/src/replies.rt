@@ -3,18 +3,18 @@
 ghost use Rattle.std.specs.Prelude.{◌≡◌, ◌≤◌, ◌<◌, ◌^◌, ℕ, OnOk, length, map};
 ghost use Rattle.std.specs.List.{AllByRecursion};
 ghost use Rattle.conn_core.specs.Past.{Past, with_item};
-ghost use Rattle.grpc_sending.specs.StoredSending.{Look};
+ghost use Rattle.grpc_sending.specs.StoredSending.{SourceTexts};
 ghost use Rattle.blob_pool.specs.Slots.{count_at};
 ghost use Rattle.blob_pool.specs.Moves.{Moves, no_holders, one_at};
 ghost use Rattle.instance_core.specs.Calls.{IsShortEvent};
-ghost use Rattle.instance_core.specs.Given.{item_holders, items_holders, replies_holders};
+ghost use Rattle.instance_core.specs.ReplyHolders.{item_holders, items_holders, replies_holders};
 ghost use Rattle.instance_core.specs.Shown.{event_shown};
 ghost use Rattle.conn_core.specs.StandsFor.{OwesRange};
-ghost use Rattle.served_instance.specs.Acts.{Changed, Owes, Keeps};
+ghost use Rattle.served_instance.specs.Acts.{BecomesAt, Owes, Keeps};
 ghost use Rattle.served_instance.specs.Calls.{call_event_on, item_of};
 ghost use Rattle.served_instance.specs.Connections.{LoneConnection, open_ones};
-ghost use Rattle.served_instance.specs.Lone.{Lone, after_replies};
-ghost use Rattle.served_instance.specs.Given.{item_by, reply_by, with_owed, CanBeOwed, ReplyCanBeOwed, EndsWithin, ItemsEndWithin, ReplyEndsWithin, RepliesEndWithin, TakesRanges, TakeRanges};
+ghost use Rattle.served_instance.specs.Lone.{LoneInstance, after_replies};
+ghost use Rattle.served_instance.specs.OwedReplies.{item_by, reply_by, with_owed, CanBeOwed, ReplyCanBeOwed, ItemEndsWithin, ItemsEndWithin, ReplyEndsWithin, RepliesEndWithin, TakesRanges, AllTakeRanges};
 ghost use Rattle.served_instance.specs.Shown.{connection_shown};
 ghost use Rattle.served_instance.specs.StandsFor.{AreServed};
 
@@ -52,12 +52,12 @@ pub(crate) fn give_all(
 ) -> Result<(), AllocError>
     requires owed { AllByRecursion ReplyCanBeOwed replies.items }
     requires counted { (k : ℕ) → replies_holders replies.items k ≤ count_at pool.old k }
-    ensures given { OnOk result ((texts : Look) (l : Lone)
+    ensures given { OnOk result ((texts : SourceTexts) (l : LoneInstance)
         → AreServed texts (map connection_shown connections.old) (open_ones l.connections)
         → AreServed texts (map connection_shown connections.new)
         (open_ones (after_replies (map (reply_by texts) replies.items) l).connections)) }
     ensures rest { OnOk result (Keeps connections.old connections.new) }
-    ensures takes { TakeRanges (replies_holders replies.items) (RepliesEndWithin replies.items)
+    ensures takes { AllTakeRanges (replies_holders replies.items) (RepliesEndWithin replies.items)
         pool.old (map connection_shown connections.old) pool.new
         (map connection_shown connections.new) }
 {
@@ -76,9 +76,9 @@ pub(crate) fn give_all(
 fn give(pool: &mut Pool, connections: &mut [OpenConnection], reply: Reply) -> Result<(), AllocError>
     requires owed { ReplyCanBeOwed reply }
     requires counted { (k : ℕ) → items_holders reply.items.items k ≤ count_at pool.old k }
-    ensures given { OnOk result (Changed reply.call.connection connections.old connections.new
+    ensures given { OnOk result (BecomesAt reply.call.connection connections.old connections.new
         (Owes (with_owed reply.call.stream reply.items.items))) }
-    ensures takes { TakeRanges (items_holders reply.items.items) (ReplyEndsWithin reply)
+    ensures takes { AllTakeRanges (items_holders reply.items.items) (ReplyEndsWithin reply)
         pool.old (map connection_shown connections.old) pool.new
         (map connection_shown connections.new) }
 {
@@ -129,7 +129,7 @@ fn owe_item(
     ensures owes { OnOk result (Owes
         (λ texts p. with_item p stream (item_of (item_by texts item)))
         connection.old connection.new) }
-    ensures takes { TakesRanges (item_holders item) (EndsWithin item)
+    ensures takes { TakesRanges (item_holders item) (ItemEndsWithin item)
         pool.old connection.old pool.new connection.new }
 {
     match item {

@@ -13,16 +13,16 @@ use Rattle.server_events.specs.Configs.{ConfigValue, instance_limit}
 use Rattle.server_events.specs.Faults.{IsConfig}
 use Rattle.server_events.specs.Shown.{config_value}
 use Rattle.served_instance.specs.Lone.{new_lone}
-use Rattle.served_instance.specs.StandsFor.{ServedConnection, ServedState, StandsFor as IsServed, IsWithin}
+use Rattle.served_instance.specs.StandsFor.{ServedConnection, ServedState, IsServedInstance, IsServedWithin}
 use Rattle.served_instance.specs.Slots.{ServedSlots, served_state_in, holders_of}
 use Rattle.served_instance.specs.Sources.{count_of}
-use Rattle.served_instance.specs.StoredSending.{Look, sources_of}
-use Rattle.served_instance.specs.Ranges.{sources_at, range_holders, AreFit, HaveFew}
+use Rattle.served_instance.specs.StoredSending.{SourceTexts, sources_of}
+use Rattle.served_instance.specs.Ranges.{sources_at, range_holders, RangesEndWithin, HaveFewSources}
 use Rattle.served_instance.proofs.Agreeing.{count_append}
 use Rattle.served_instance.proofs.Ranges.{fit_none}
 use Rattle.server_core.specs.Shared.{all_in, all_holders, HasRanges, IsServer}
 use Rattle.server_core.specs.Runs.{new_run}
-use Rattle.server_core.specs.Records.{RecordValue, StandsFor as IsRecord}
+use Rattle.server_core.specs.Records.{RecordValue, IsRecord}
 use Rattle.server_core.specs.LoneOutput.{config_at}
 use Rattle.server_core.specs.RunTo.{IsNotedAt}
 use Rattle.server_core.specs.StandsFor.{StandsAt}
@@ -38,15 +38,15 @@ abbrev pub Starts : List ConfigValue → List ServedState → Type 0
 Starts configs vs = (i : ℕ) (config : ConfigValue) → config_at i configs ≡ Some config → StandsAt i vs (new_lone config.name config.quota config.slots)
 
 -- one more instance
-starts_push : (configs : List ConfigValue) (vs : List ServedState) (x : ConfigValue) (v : ServedState) → length configs ≡ length vs → Starts configs vs → IsServed v (new_lone x.name x.quota x.slots) → Starts (configs ++ x ∷ []) (vs ++ v ∷ [])
+starts_push : (configs : List ConfigValue) (vs : List ServedState) (x : ConfigValue) (v : ServedState) → length configs ≡ length vs → Starts configs vs → IsServedInstance v (new_lone x.name x.quota x.slots) → Starts (configs ++ x ∷ []) (vs ++ v ∷ [])
 starts_push configs vs x v same h own i config is =
     elim (get-pushed configs x config i is) [
       | inl old ↦ let s = h i config old in (s.0, get-append vs (v ∷ []) i s.0 s.1, s.2)
       | inr new ↦
-          (v, ap (λ k. slice_get (vs ++ v ∷ []) k) (new.0 ∙ same) ∙ get-last vs v, subst (λ (c : ConfigValue). IsServed v (new_lone c.name c.quota c.slots)) new.1 own)
+          (v, ap (λ k. slice_get (vs ++ v ∷ []) k) (new.0 ∙ same) ∙ get-last vs v, subst (λ (c : ConfigValue). IsServedInstance v (new_lone c.name c.quota c.slots)) new.1 own)
     ]
 
-pub starts_more : (xs : List InstanceConfig) (k : ℕ) (x : InstanceConfig) (vs ws : List ServedState) (v : ServedState) → k < length xs → x ≡ get_or xs k x → length vs ≡ k → ws ≡ vs ++ v ∷ [] → Starts (map config_value (take k xs)) vs → IsServed v (new_lone (string_bytes x.name) x.quota x.slots) → Starts (map config_value (take (k + 1) xs)) ws
+pub starts_more : (xs : List InstanceConfig) (k : ℕ) (x : InstanceConfig) (vs ws : List ServedState) (v : ServedState) → k < length xs → x ≡ get_or xs k x → length vs ≡ k → ws ≡ vs ++ v ∷ [] → Starts (map config_value (take k xs)) vs → IsServedInstance v (new_lone (string_bytes x.name) x.quota x.slots) → Starts (map config_value (take (k + 1) xs)) ws
 starts_more xs k x vs ws v lt at count is h own =
     let more : map config_value (take (k + 1) xs) ≡ map config_value (take k xs) ++ config_value x ∷ [] =
     map_more config_value xs k x lt ∙ ap (λ (y : InstanceConfig). map config_value (take k xs) ++ config_value y ∷ []) (sym at) in
@@ -79,9 +79,9 @@ pub all_pushed : (p : Slots) (xs : List ServedSlots) (v : ServedSlots) → all_i
 all_pushed p [] v = refl
 all_pushed p (x ∷ xs) v = ap (λ (vs : List ServedState). served_state_in p x ∷ vs) (all_pushed p xs v)
 
-pub within_pushed : (p : Slots) (xs : List ServedSlots) (v : ServedSlots) (ys : List ServedSlots) → ys ≡ xs ++ v ∷ [] → AllByRecursion IsWithin (all_in p xs) → IsWithin (served_state_in p v) → AllByRecursion IsWithin (all_in p ys)
+pub within_pushed : (p : Slots) (xs : List ServedSlots) (v : ServedSlots) (ys : List ServedSlots) → ys ≡ xs ++ v ∷ [] → AllByRecursion IsServedWithin (all_in p xs) → IsServedWithin (served_state_in p v) → AllByRecursion IsServedWithin (all_in p ys)
 within_pushed p xs v ys is old own =
-    subst (λ (vs : List ServedState). AllByRecursion IsWithin vs) (sym (ap (all_in p) is ∙ all_pushed p xs v)) (all-push IsWithin (all_in p xs) (served_state_in p v) old own)
+    subst (λ (vs : List ServedState). AllByRecursion IsServedWithin vs) (sym (ap (all_in p) is ∙ all_pushed p xs v)) (all-push IsServedWithin (all_in p xs) (served_state_in p v) old own)
 
 holders_pushed : (xs : List ServedSlots) (v : ServedSlots) (k : ℕ) → all_holders (xs ++ v ∷ []) k ≡ all_holders xs k + holders_of v k
 holders_pushed [] v k = omega arith
@@ -101,14 +101,14 @@ none_of (n ∷ ns) none =
     let one : cond {A = ℕ} (n == n) 1 0 ≡ 1 = ap (λ b. cond b 1 0) own in
     absurd (omega (arith, one, none n))
 
-fit_bare : (texts : Look) (vs : List ServedConnection) → ((k : ℕ) → range_holders vs k ≡ 0) → AreFit texts vs
+fit_bare : (texts : SourceTexts) (vs : List ServedConnection) → ((k : ℕ) → range_holders vs k ≡ 0) → RangesEndWithin texts vs
 fit_bare texts [] none = tt
 fit_bare texts (v ∷ vs) none =
     let both : (k : ℕ) → range_holders (v ∷ vs) k ≡ count_of k (sources_of v.connection.sending) + range_holders vs k = λ k. count_append k (sources_of v.connection.sending) (sources_at vs) in
     let own = none_of (sources_of v.connection.sending) (λ k. omega (arith, none k, both k)) in
     (fit_none texts v.connection.sending own, fit_bare texts vs (λ k. omega (arith, none k, both k)))
 
-few_bare : (vs : List ServedConnection) → ((k : ℕ) → range_holders vs k ≡ 0) → HaveFew vs
+few_bare : (vs : List ServedConnection) → ((k : ℕ) → range_holders vs k ≡ 0) → HaveFewSources vs
 few_bare [] none = tt
 few_bare (v ∷ vs) none =
     let both : (k : ℕ) → range_holders (v ∷ vs) k ≡ count_of k (sources_of v.connection.sending) + range_holders vs k = λ k. count_append k (sources_of v.connection.sending) (sources_at vs) in
@@ -121,7 +121,7 @@ ranges_bare p (x ∷ xs) none =
     (record { fit = fit_bare (text_at p) x.connections own; few = few_bare x.connections own }, ranges_bare p xs (λ k. omega (arith, none k)))
 
 -- a server that holds nothing
-pub server_begun : (p : Slots) (xs : List ServedSlots) → p ≡ [] → length xs ≤ instance_limit → ((k : ℕ) → all_holders xs k ≡ 0) → AllByRecursion IsWithin (all_in p xs) → IsServer p xs
+pub server_begun : (p : Slots) (xs : List ServedSlots) → p ≡ [] → length xs ≤ instance_limit → ((k : ℕ) → all_holders xs k ≡ 0) → AllByRecursion IsServedWithin (all_in p xs) → IsServer p xs
 server_begun p xs empty few none within = record {
   exact = λ k. ap (λ (q : Slots). count_at q k) empty ∙ no_count k ∙ sym (none k);
   few = few;

@@ -7,7 +7,7 @@ use Rattle.std.proofs.lemmas.List.{length-drop}
 use Rattle.std.proofs.lemmas.List.Sums.{sum_by-append}
 use Rattle.served_instance.specs.History.{Entry, Took}
 use Rattle.served_instance.specs.Bytes.{bytes_put, count_taken, count_taken_by, untaken_count}
-use Rattle.served_instance.specs.Past.{opening, with_taken}
+use Rattle.served_instance.specs.Past.{new_past, with_taken}
 use Rattle.server_events.specs.Events.{WhatValue, opened, received, took, closed, tick, ended}
 use Rattle.served_instance.specs.Connections.{LoneConnection, AreApart, is_open_at, open_at, at_open, with_closed}
 use Rattle.served_instance.specs.Lone.{sent_bytes_on}
@@ -87,7 +87,7 @@ known_same p (k ∷ ks) =
     if_both k.is_open _ _ _ _ (λ is. cons_both _ _ _ _ (value_same p k) later) (λ is. later)
 
 abbrev pub new_at : ℕ → LoneConnection
-new_at c = record { number = c; past = opening; is_open = true }
+new_at c = record { number = c; past = new_past; is_open = true }
 
 abbrev new_value : ℕ → ℕ → OpenRecord
 new_value c p = record { number = c; place = p; untaken = 0 }

@@ -7,7 +7,7 @@ use Rattle.server_core.specs.declared.outputs.InstanceOutput.{InstanceOutput}
 use Rattle.server_core.specs.Outputs.{InstanceOutputValue}
 use Rattle.server_core.specs.Runs.{Run, output_of_run}
 use Rattle.server_core.specs.Shown.{instance_output_shown}
-use Rattle.server_core.specs.Records.{RecordValue, StandsFor as IsRecord}
+use Rattle.server_core.specs.Records.{RecordValue, IsRecord}
 use Rattle.server_core.specs.Shown.{output_at}
 use Rattle.server_core.specs.RunTo.{IsNotedAt}
 use Rattle.server_core.proofs.Lists.{get-append, get-last, get-pushed}

@@ -12,10 +12,10 @@ use Rattle.served_instance.specs.Writing.{text_of}
 use Rattle.served_instance.specs.History.{Entry, Took, sent_frames, frame_out}
 use Rattle.served_instance.specs.Bytes.{bytes_put, count_taken, pending_bytes, untaken_count}
 use Rattle.served_instance.proofs.Histories.{append-nil}
-use Rattle.served_instance.specs.Past.{Past, opening, with_taken}
+use Rattle.served_instance.specs.Past.{Past, new_past, with_taken}
 use Rattle.server_events.specs.Events.{WhatValue, opened, received, took, closed, tick, ended}
 use Rattle.served_instance.specs.Connections.{LoneConnection, AreApart, is_open_at, open_at, at_open, with_closed, open_ones}
-use Rattle.served_instance.specs.Lone.{Lone, sent_bytes_on}
+use Rattle.served_instance.specs.Lone.{LoneInstance, sent_bytes_on}
 use Rattle.server_core.specs.declared.record.OpenRecord.{OpenRecord}
 use Rattle.server_core.specs.Records.{open_record, open_from, IsTakenFrom}
 use Rattle.server_core.specs.Notes.{sent_bytes_after, with_more_at, pending_bytes_on, sent_bytes_with, sent_bytes_with_all, record_after_noting}
@@ -78,7 +78,7 @@ fronts_same (k ∷ ks) h = (front_same k h.0, fronts_same ks h.1)
 
 fronts_opened : (c : ℕ) (ks : List LoneConnection) → AreWithin ks → AreFronts (map sent_bytes_on ks ++ (c, []) ∷ []) (ks ++ new_at c ∷ [])
 fronts_opened c [] h =
-    let f : IsFront (c, []) (new_at c) = record { number = refl; more = bytes_put opening.history; bytes = refl; within = λ is. omega arith; closed = λ is. absurd (true≢false is) } in
+    let f : IsFront (c, []) (new_at c) = record { number = refl; more = bytes_put new_past.history; bytes = refl; within = λ is. omega arith; closed = λ is. absurd (true≢false is) } in
     (f, tt)
 fronts_opened c (k ∷ ks) h = (front_same k h.0, fronts_opened c ks h.1)
 
@@ -264,7 +264,7 @@ apart_after (ended job outcome) ks may a = a
 -- ---- what is gathered
 
 -- an open connection among these is found among all
-abbrev AreFound : Lone → List LoneConnection → Type 0
+abbrev AreFound : LoneInstance → List LoneConnection → Type 0
 AreFound l ks = (c : ℕ) (p : Past) → open_at c ks ≡ Some p → open_at c l.connections ≡ Some p
 
 some_some : {A : Type 0} (x : A) → None ≡ Some x → ⊥
@@ -273,7 +273,7 @@ some_some x h = true≢false (sym (ap is_some h))
 same_of_true : (c : ℕ) (k : LoneConnection) → is_open_at c k ≡ true → k.number ≡ c
 same_of_true c k at = eqb-true k.number c (second_true k.is_open (k.number == c) at)
 
-later_found : (l : Lone) (k : LoneConnection) (ks : List LoneConnection) → AreApart (k ∷ ks) → AreFound l (k ∷ ks) → AreFound l ks
+later_found : (l : LoneInstance) (k : LoneConnection) (ks : List LoneConnection) → AreApart (k ∷ ks) → AreFound l (k ∷ ks) → AreFound l ks
 later_found l k ks a found c p h = elim (cases_Bool (is_open_at c k)) [
   | inl at ↦
       let none : open_at c ks ≡ None = ap (λ (n : ℕ). open_at n ks) (sym (same_of_true c k at)) ∙ a.0 (at_is_open c k at) in
@@ -281,7 +281,7 @@ later_found l k ks a found c p h = elim (cases_Bool (is_open_at c k)) [
   | inr off ↦ found c p (pick_false (is_open_at c k) (Some k.past) (open_at c ks) off ∙ h)
 ]
 
-pending_found : (l : Lone) (k : LoneConnection) (ks : List LoneConnection) → AreFound l (k ∷ ks) → k.is_open ≡ true → pending_bytes_on l k.number ≡ pending_bytes k.past.history
+pending_found : (l : LoneInstance) (k : LoneConnection) (ks : List LoneConnection) → AreFound l (k ∷ ks) → k.is_open ≡ true → pending_bytes_on l k.number ≡ pending_bytes k.past.history
 pending_found l k ks found is =
     let at : is_open_at k.number k ≡ true = both_true k.is_open (k.number == k.number) is (eq-eqb k.number k.number refl) in
     ap (λ (o : Option Past). option_map_or (λ (p : Past). pending_bytes p.history) o []) (found k.number k.past (pick_true (is_open_at k.number k) (Some k.past) (open_at k.number ks) at))
@@ -315,7 +315,7 @@ push_one : (done ss : List (ℕ × List ℕ)) (s : ℕ × List ℕ) → done ++ 
 push_one [] ss s = refl
 push_one (d ∷ done) ss s = ap (λ (xs : List (ℕ × List ℕ)). d ∷ xs) (push_one done ss s)
 
-pub all_gathered : (l : Lone) (p : ℕ) (done ss : List (ℕ × List ℕ)) (ks : List LoneConnection) → p ≡ length done → AreFronts ss ks → AreApart ks → AreFound l ks → sent_bytes_with_all l (known_from p ss ks) (done ++ ss) ≡ done ++ map sent_bytes_on ks
+pub all_gathered : (l : LoneInstance) (p : ℕ) (done ss : List (ℕ × List ℕ)) (ks : List LoneConnection) → p ≡ length done → AreFronts ss ks → AreApart ks → AreFound l ks → sent_bytes_with_all l (known_from p ss ks) (done ++ ss) ≡ done ++ map sent_bytes_on ks
 all_gathered l p done [] [] at f a found = refl
 all_gathered l p done [] (k ∷ ks) at f a found = absurd f
 all_gathered l p done (s ∷ ss) [] at f a found = absurd f
@@ -338,7 +338,7 @@ all_gathered l p done (s ∷ ss) (k ∷ ks) at f a found =
       | inr is ↦ ap all (pick_false k.is_open (o ∷ rest) rest is) ∙ ap then (ap between (whole_closed s k f.0 is)) ∙ after
     ]
 
-pub all_counted : (l : Lone) (p : ℕ) (ss : List (ℕ × List ℕ)) (ks : List LoneConnection) → AreFronts ss ks → AreApart ks → AreFound l ks → map (record_after_noting l) (known_from p ss ks) ≡ open_from p ks
+pub all_counted : (l : LoneInstance) (p : ℕ) (ss : List (ℕ × List ℕ)) (ks : List LoneConnection) → AreFronts ss ks → AreApart ks → AreFound l ks → map (record_after_noting l) (known_from p ss ks) ≡ open_from p ks
 all_counted l p [] [] f a found = refl
 all_counted l p [] (k ∷ ks) f a found = absurd f
 all_counted l p (s ∷ ss) [] f a found = absurd f

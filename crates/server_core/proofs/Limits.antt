@@ -4,7 +4,7 @@ use Rattle.std.specs.Prelude.{fold}
 use Rattle.std.specs.List.{IsDistinct}
 use Rattle.instance_core.proofs.Limits.{nothing_within}
 use Rattle.instance_core.specs.Calls.{same_call}
-use Rattle.instance_core.specs.State.{WithinLimits, most_blobs}
+use Rattle.instance_core.specs.State.{IsInstanceWithin, most_blobs}
 use Rattle.server_events.specs.Configs.{ConfigValue}
 use Rattle.server_events.specs.Events.{EventValue}
 use Rattle.served_instance.specs.Refusals.{refusal_of}
@@ -19,6 +19,6 @@ no_calls : IsDistinct same_call []
 unfolding IsDistinct
 no_calls = tt
 
-pub run_within : (config : ConfigValue) (events : List EventValue) → config.quota ≤ 2 ^ 40 → WithinLimits (run_of config events).lone.state
+pub run_within : (config : ConfigValue) (events : List EventValue) → config.quota ≤ 2 ^ 40 → IsInstanceWithin (run_of config events).lone.state
 run_within config events small =
     (runs_keep (new_run config) events (record { within = record { quota = small; texts = nothing_within most_blobs config.quota; uploads = record { bytes = omega arith; count = omega arith }; results = record { few = omega arith; short = omega arith }; calls = no_calls; messages = tt }; short = tt })).within

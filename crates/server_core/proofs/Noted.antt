@@ -10,11 +10,11 @@ use Rattle.server_events.specs.Events.{EventValue, WhatValue, opened, received, 
 use Rattle.served_instance.specs.declared.refusal.EventRefusal.{EventRefusal}
 use Rattle.served_instance.specs.declared.refusal.EventRefusal.TheVariants.{NoSuchConnection, ConnectionExists, TimeWentBack, TookTooMuch}
 use Rattle.served_instance.specs.Connections.{LoneConnection, AreApart, open_at}
-use Rattle.served_instance.specs.Lone.{Lone, sent_bytes_on, after_event}
+use Rattle.served_instance.specs.Lone.{LoneInstance, sent_bytes_on, after_event}
 use Rattle.served_instance.specs.Refusals.{refusal_of, refusal_of_what, after_event_unless, lone_step}
 use Rattle.server_core.specs.Runs.{Run, refusals_at, run_step}
 use Rattle.server_core.specs.declared.record.OpenRecord.{OpenRecord}
-use Rattle.server_core.specs.Records.{RecordValue, StandsFor}
+use Rattle.server_core.specs.Records.{RecordValue, IsRecord}
 use Rattle.server_core.specs.Notes.{open_records_after, sent_bytes_after, sent_bytes_with_all, record_after_noting}
 use Rattle.served_instance.proofs.Growth.{AreGrown, connections_after, accepted_more}
 use Rattle.server_core.proofs.Changes.{known_from, known_after, known_grown}
@@ -37,7 +37,7 @@ none_of : {A : Type 0} (o : Option A) → is_some o ≡ false → o ≡ None
 none_of None h = refl
 none_of (Some x) h = absurd (true≢false h)
 
-may_what : (what : WhatValue) (l : Lone) → refusal_of_what what l ≡ None → May what l.connections
+may_what : (what : WhatValue) (l : LoneInstance) → refusal_of_what what l ≡ None → May what l.connections
 may_what (opened c) l h = none_of (open_at c l.connections) (passes (is_some (open_at c l.connections)) ConnectionExists _ h).off
 may_what (received c bytes) l h = tt
 may_what (took c n) l h = λ p is.
@@ -47,7 +47,7 @@ may_what (closed c) l h = tt
 may_what tick l h = tt
 may_what (ended job outcome) l h = tt
 
-may : (e : EventValue) (l : Lone) → refusal_of e l ≡ None → May e.what l.connections
+may : (e : EventValue) (l : LoneInstance) → refusal_of e l ≡ None → May e.what l.connections
 may e l h = may_what e.what l (passes (nat_lt e.moment l.state.moment) TimeWentBack (refusal_of_what e.what l) h).later
 
 -- ---- an event that is taken
@@ -56,23 +56,23 @@ length_sent : (ks : List LoneConnection) → length (map sent_bytes_on ks) ≡ l
 length_sent [] = refl
 length_sent (k ∷ ks) = ap suc (length_sent ks)
 
-pub noted_apart : (v : RecordValue) (r : Run) (e : EventValue) → StandsFor v r → refusal_of e r.lone ≡ None → AreApart (lone_step e r.lone).connections
+pub noted_apart : (v : RecordValue) (r : Run) (e : EventValue) → IsRecord v r → refusal_of e r.lone ≡ None → AreApart (lone_step e r.lone).connections
 noted_apart v r e st none =
     let ks = r.lone.connections in
     let k1 = connections_after e.what ks in
-    let m : Lone = lone_step e r.lone in
+    let m : LoneInstance = lone_step e r.lone in
     let step : m ≡ after_event e r.lone = ap (after_event_unless e r.lone) none in
-    let grown : AreGrown k1 m.connections = subst (λ (n : Lone). AreGrown k1 n.connections) (sym step) (accepted_more e r.lone) in
+    let grown : AreGrown k1 m.connections = subst (λ (n : LoneInstance). AreGrown k1 n.connections) (sym step) (accepted_more e r.lone) in
     apart_grown k1 m.connections grown (apart_after e.what ks (may e r.lone none) st.apart)
 
-pub noted : (v : RecordValue) (r : Run) (e : EventValue) (ss : List (ℕ × List ℕ)) (os : List OpenRecord) → StandsFor v r → refusal_of e r.lone ≡ None → ss ≡ sent_bytes_with_all (lone_step e r.lone) (open_records_after e.what (length v.sent) v.live) (sent_bytes_after e.what v.sent) → os ≡ map (record_after_noting (lone_step e r.lone)) (open_records_after e.what (length v.sent) v.live) → StandsFor (record { count = v.count + 1; refusals = v.refusals; sent = ss; live = os }) (run_step r e)
+pub noted : (v : RecordValue) (r : Run) (e : EventValue) (ss : List (ℕ × List ℕ)) (os : List OpenRecord) → IsRecord v r → refusal_of e r.lone ≡ None → ss ≡ sent_bytes_with_all (lone_step e r.lone) (open_records_after e.what (length v.sent) v.live) (sent_bytes_after e.what v.sent) → os ≡ map (record_after_noting (lone_step e r.lone)) (open_records_after e.what (length v.sent) v.live) → IsRecord (record { count = v.count + 1; refusals = v.refusals; sent = ss; live = os }) (run_step r e)
 noted v r e ss os st none ss_is os_is =
     let ks = r.lone.connections in
-    let m : Lone = lone_step e r.lone in
+    let m : LoneInstance = lone_step e r.lone in
     let s1 = sent_bytes_after e.what (map sent_bytes_on ks) in
     let k1 = connections_after e.what ks in
     let step : m ≡ after_event e r.lone = ap (after_event_unless e r.lone) none in
-    let grown : AreGrown k1 m.connections = subst (λ (n : Lone). AreGrown k1 n.connections) (sym step) (accepted_more e r.lone) in
+    let grown : AreGrown k1 m.connections = subst (λ (n : LoneInstance). AreGrown k1 n.connections) (sym step) (accepted_more e r.lone) in
     let can : May e.what ks = may e r.lone none in
     let fronts : AreFronts s1 m.connections = fronts_grown s1 k1 m.connections (fronts_after e.what ks (all_within ks st.taken) can) grown in
     let apart : AreApart m.connections = noted_apart v r e st none in

@@ -12,21 +12,21 @@ use Rattle.std.proofs.lemmas.Option.{slice_get-map, slice_get_within, same_Some}
 use Rattle.blob_pool.specs.Slots.{Slots, text_at}
 use Rattle.blob_pool.specs.Moves.{Moves}
 use Rattle.served_instance.specs.Sources.{count_of}
-use Rattle.served_instance.specs.StoredSending.{Look, AgreeOn, sources_of}
+use Rattle.served_instance.specs.StoredSending.{SourceTexts, AgreeOn, sources_of}
 use Rattle.instance_core.specs.Visible.{Blob}
 use Rattle.instance_core.proofs.Held.{shown_same, holders-few}
 use Rattle.instance_core.proofs.Steps.{length-visible_in}
 use Rattle.instance_core.specs.State.{most_blobs}
 use Rattle.served_instance.specs.declared.refusal.EventRefusal.{EventRefusal}
 use Rattle.served_instance.specs.declared.refusal.EventRefusal.TheVariants.{NoMemory}
-use Rattle.served_instance.specs.Lone.{Lone}
+use Rattle.served_instance.specs.Lone.{LoneInstance}
 use Rattle.served_instance.specs.Connections.{open_ones}
-use Rattle.served_instance.specs.StandsFor.{ServedConnection, ServedState, StandsFor as IsServed, IsWithin}
+use Rattle.served_instance.specs.StandsFor.{ServedConnection, ServedState, IsServedInstance, IsServedWithin}
 use Rattle.served_instance.specs.Ranges.{served_with, sources_at, range_holders}
 use Rattle.served_instance.specs.declared.instance.TheConstants.{CONNECTION_LIMIT}
 use Rattle.served_instance.proofs.Agreeing.{count_append}
 use Rattle.served_instance.proofs.Ranges.{fit_agreed_each, plain_served, same_served}
-use Rattle.served_instance.specs.Slots.{ServedSlots, served_state_in, holders_of, IsKept, HasConnections}
+use Rattle.served_instance.specs.Slots.{ServedSlots, served_state_in, holders_of, IsServedInPool, HasConnections}
 use Rattle.server_core.specs.Shared.{all_in, all_holders, IsServer, HasRanges}
 use Rattle.server_core.specs.StandsFor.{StandsAt, instance_at}
 use Rattle.server_core.proofs.Lists.{get-set_same, get-set_other}
@@ -84,9 +84,9 @@ others_few m (x ∷ xs) (suc i) a k few at =
 abbrev HaveFewer : ℕ → List ServedConnection → Type 0
 HaveFewer m vs = AllByRecursion (λ s. (k : ℕ) → count_of k (sources_of s.connection.sending) < m) vs
 
-within_at : (p : Slots) (xs : List ServedSlots) (i : ℕ) (a : ServedSlots) → AllByRecursion IsWithin (all_in p xs) → slice_get xs i ≡ Some a → IsWithin (served_state_in p a)
+within_at : (p : Slots) (xs : List ServedSlots) (i : ℕ) (a : ServedSlots) → AllByRecursion IsServedWithin (all_in p xs) → slice_get xs i ≡ Some a → IsServedWithin (served_state_in p a)
 within_at p [] i a w at = cc
-within_at p (x ∷ xs) zero a w at = let same : x ≡ a = first x a at in subst (λ (y : ServedSlots). IsWithin (served_state_in p y)) same w.0
+within_at p (x ∷ xs) zero a w at = let same : x ≡ a = first x a at in subst (λ (y : ServedSlots). IsServedWithin (served_state_in p y)) same w.0
   where
     first : (x a : ServedSlots) → Some x ≡ Some a → x ≡ a
     first x a e = cc
@@ -107,7 +107,7 @@ abbrev most_held : ℕ
 most_held = most_blobs + CONNECTION_LIMIT * 2 ^ 64
 
 -- an instance has no more entries than it may have texts
-holds_few : (p : Slots) (a : ServedSlots) → IsWithin (served_state_in p a) → HasRanges p a → (k : ℕ) → holders_of a k ≤ most_held
+holds_few : (p : Slots) (a : ServedSlots) → IsServedWithin (served_state_in p a) → HasRanges p a → (k : ℕ) → holders_of a k ≤ most_held
 holds_few p a w r k =
     let long = length-visible_in p a.instance.view in
     let entries = w.instance.texts.entries in
@@ -125,7 +125,7 @@ ranges_at p (x ∷ xs) zero a w at = let same : x ≡ a = first x a at in subst 
     first x a e = cc
 ranges_at p (x ∷ xs) (suc i) a w at = ranges_at p xs i a w.1 at
 
-pub kept_at : (p : Slots) (xs : List ServedSlots) (i : ℕ) (a : ServedSlots) → slice_get xs i ≡ Some a → IsServer p xs → IsKept p a
+pub kept_at : (p : Slots) (xs : List ServedSlots) (i : ℕ) (a : ServedSlots) → slice_get xs i ≡ Some a → IsServer p xs → IsServedInPool p a
 kept_at p xs i a at s =
     let few : HoldFew most_held xs = λ j x is k. holds_few p x (within_at p xs j x s.within is) (ranges_at p xs j x s.ranges is) k in
     let own = ranges_at p xs i a s.ranges at in
@@ -147,7 +147,7 @@ with_visible v bs = record v { state = record v.state { visible = bs } }
 abbrev with_connections : ServedState → List ServedConnection → List (List ℕ) → ServedState
 with_connections v cs ts = record { state = v.state; connections = cs; ranges = ts }
 
-same_texts : (t u : Look) (ns : List ℕ) → AgreeOn ns t u → map t ns ≡ map u ns
+same_texts : (t u : SourceTexts) (ns : List ℕ) → AgreeOn ns t u → map t ns ≡ map u ns
 same_texts t u [] h = refl
 same_texts t u (n ∷ ns) h =
     let own : (n == n) ≡ true = grind (arith, nat_tests) in
@@ -188,7 +188,7 @@ others_after p q xs i a b at s m j ne =
 
 -- ---- the server afterwards
 
-within_by : (q : Slots) (xs : List ServedSlots) → ((j : ℕ) (x : ServedSlots) → slice_get xs j ≡ Some x → IsWithin (served_state_in q x)) → AllByRecursion IsWithin (all_in q xs)
+within_by : (q : Slots) (xs : List ServedSlots) → ((j : ℕ) (x : ServedSlots) → slice_get xs j ≡ Some x → IsServedWithin (served_state_in q x)) → AllByRecursion IsServedWithin (all_in q xs)
 within_by q [] each = tt
 within_by q (x ∷ xs) each = (each 0 x refl, within_by q xs (λ j y at. each (suc j) y at))
 
@@ -208,13 +208,13 @@ has_acted xs i j a b x at there = elim (cases_eq j i) [
   | inr ne ↦ inr ((λ e. ne (sym e)), sym (get-set_other xs i j b ne) ∙ there)
 ]
 
-pub server_after : (p q : Slots) (xs : List ServedSlots) (i : ℕ) (a b : ServedSlots) → slice_get xs i ≡ Some a → IsServer p xs → Moves p q (holders_of a) (holders_of b) → IsKept q b → IsServer q (set xs i b)
+pub server_after : (p q : Slots) (xs : List ServedSlots) (i : ℕ) (a b : ServedSlots) → slice_get xs i ≡ Some a → IsServer p xs → Moves p q (holders_of a) (holders_of b) → IsServedInPool q b → IsServer q (set xs i b)
 server_after p q xs i a b at s m kept = record {
   exact = λ k. omega (arith, s.exact k, m.counts k, set_holders xs i a b k at);
   few = omega (arith, length-set xs i b, s.few);
   within = within_by q (set xs i b) (λ j x there. elim (has_acted xs i j a b x at there) [
-    | inl own ↦ subst (λ (y : ServedSlots). IsWithin (served_state_in q y)) own kept.within
-    | inr other ↦ subst IsWithin (sym (other_same p q xs i j a b x other.0 at other.1 s m)) (within_at p xs j x s.within other.1)
+    | inl own ↦ subst (λ (y : ServedSlots). IsServedWithin (served_state_in q y)) own kept.within
+    | inr other ↦ subst IsServedWithin (sym (other_same p q xs i j a b x other.0 at other.1 s m)) (within_at p xs j x s.within other.1)
   ]);
   ranges = ranges_by q (set xs i b) (λ j x there. elim (has_acted xs i j a b x at there) [
     | inl own ↦ subst (HasRanges q) own (record { fit = kept.fit; few = kept.few })
@@ -227,15 +227,15 @@ server_after p q xs i a b at s m kept = record {
 pub here : (p : Slots) (xs : List ServedSlots) (i : ℕ) (a : ServedSlots) → slice_get xs i ≡ Some a → instance_at i (all_in p xs) ≡ Some (served_state_in p a)
 here p xs i a at = slice_get-map (served_state_in p) xs i ∙ ap (option_map (served_state_in p)) at
 
-pub stands_here : (p : Slots) (xs : List ServedSlots) (i : ℕ) (a : ServedSlots) (l : Lone) → slice_get xs i ≡ Some a → StandsAt i (all_in p xs) l → IsServed (served_state_in p a) l
+pub stands_here : (p : Slots) (xs : List ServedSlots) (i : ℕ) (a : ServedSlots) (l : LoneInstance) → slice_get xs i ≡ Some a → StandsAt i (all_in p xs) l → IsServedInstance (served_state_in p a) l
 stands_here p xs i a l at s =
-    subst (λ (v : ServedState). IsServed v l) (same_Some s.0 (served_state_in p a) (sym s.1 ∙ here p xs i a at)) s.2
+    subst (λ (v : ServedState). IsServedInstance v l) (same_Some s.0 (served_state_in p a) (sym s.1 ∙ here p xs i a at)) s.2
 
-pub stands_after : (q : Slots) (xs : List ServedSlots) (i : ℕ) (a b : ServedSlots) (l : Lone) → slice_get xs i ≡ Some a → IsServed (served_state_in q b) l → StandsAt i (all_in q (set xs i b)) l
+pub stands_after : (q : Slots) (xs : List ServedSlots) (i : ℕ) (a b : ServedSlots) (l : LoneInstance) → slice_get xs i ≡ Some a → IsServedInstance (served_state_in q b) l → StandsAt i (all_in q (set xs i b)) l
 stands_after q xs i a b l at st = (served_state_in q b, here q (set xs i b) i b (get-set_same xs i b (slice_get_within xs i a at)), st)
 
 -- an instance that is not there stands for nothing
-pub nobody_there : (p : Slots) (xs : List ServedSlots) (i : ℕ) (l : Lone) → length xs ≤ i → StandsAt i (all_in p xs) l → ⊥
+pub nobody_there : (p : Slots) (xs : List ServedSlots) (i : ℕ) (l : LoneInstance) → length xs ≤ i → StandsAt i (all_in p xs) l → ⊥
 nobody_there p xs i l past s =
     let lt = slice_get_within (all_in p xs) i s.0 s.1 in
     let long = length-map xs (served_state_in p) in
@@ -259,9 +259,9 @@ refused_after (Err refusal) p q xs i a b at h = λ ne.
     ∙ ap (all_in p) (set-same xs i a at)
 
 -- what an instance by itself is seen to have on its connections
-pub connections_of : (p : Slots) (v : ServedSlots) (l : Lone) → IsServed (served_state_in p v) l → HasConnections v l
+pub connections_of : (p : Slots) (v : ServedSlots) (l : LoneInstance) → IsServedInstance (served_state_in p v) l → HasConnections v l
 connections_of p v l st = record { pool = p; stand = plain_served (text_at p) v.connections (open_ones l.connections) st.connections }
 
-pub connections_there : (p : Slots) (vs : List ServedState) (i : ℕ) (v : ServedSlots) (l : Lone) → Some (served_state_in p v) ≡ instance_at i vs → StandsAt i vs l → HasConnections v l
+pub connections_there : (p : Slots) (vs : List ServedState) (i : ℕ) (v : ServedSlots) (l : LoneInstance) → Some (served_state_in p v) ≡ instance_at i vs → StandsAt i vs l → HasConnections v l
 connections_there p vs i v l there s =
-    connections_of p v l (subst (λ (w : ServedState). IsServed w l) (same_Some s.0 (served_state_in p v) (sym s.1 ∙ sym there)) s.2)
+    connections_of p v l (subst (λ (w : ServedState). IsServedInstance w l) (same_Some s.0 (served_state_in p v) (sym s.1 ∙ sym there)) s.2)

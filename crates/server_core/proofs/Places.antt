@@ -12,7 +12,7 @@ use Rattle.served_instance.specs.Bytes.{pending_bytes}
 use Rattle.served_instance.proofs.Histories.{append-nil}
 use Rattle.served_instance.specs.Past.{Past}
 use Rattle.served_instance.specs.Connections.{open_at}
-use Rattle.served_instance.specs.Lone.{Lone}
+use Rattle.served_instance.specs.Lone.{LoneInstance}
 use Rattle.server_core.specs.declared.outputs.SentBytes.{SentBytes}
 use Rattle.server_core.specs.declared.record.OpenRecord.{OpenRecord}
 use Rattle.server_core.specs.Shown.{sent_shown}
@@ -56,13 +56,13 @@ none_pending None h = refl
 none_pending (Some p) h = absurd (true≢false (sym (ap is_some h)))
 
 -- a connection that is not found has nothing more
-pub none_gathered : (l : Lone) (o : OpenRecord) (ss : List (ℕ × List ℕ)) → None ≡ option_map (λ (p : Past). pending_bytes p.history) (open_at o.number l.connections) → ss ≡ sent_bytes_with l ss o
+pub none_gathered : (l : LoneInstance) (o : OpenRecord) (ss : List (ℕ × List ℕ)) → None ≡ option_map (λ (p : Past). pending_bytes p.history) (open_at o.number l.connections) → ss ≡ sent_bytes_with l ss o
 none_gathered l o ss h =
     let none : pending_bytes_on l o.number ≡ [] = none_pending (open_at o.number l.connections) h in
     no_more ss o.place ∙ ap (λ (more : List ℕ). with_more_at o.place more ss) (sym (ap (drop o.untaken) none ∙ drop_none o.untaken))
 
 -- one more connection is gathered
-pub gathered_more : (l : Lone) (xs : List OpenRecord) (i : ℕ) (d : OpenRecord) (start before after : List (ℕ × List ℕ)) → i < length xs → before ≡ sent_bytes_with_all l (take i xs) start → after ≡ sent_bytes_with l before (get_or xs i d) → after ≡ sent_bytes_with_all l (take (i + 1) xs) start
+pub gathered_more : (l : LoneInstance) (xs : List OpenRecord) (i : ℕ) (d : OpenRecord) (start before after : List (ℕ × List ℕ)) → i < length xs → before ≡ sent_bytes_with_all l (take i xs) start → after ≡ sent_bytes_with l before (get_or xs i d) → after ≡ sent_bytes_with_all l (take (i + 1) xs) start
 gathered_more l xs i d start before after lt so_far step =
     let next : i + 1 ≡ suc i = omega arith in
     let front : take (i + 1) xs ≡ take i xs ++ get_or xs i d ∷ [] = ap (λ (n : ℕ). take n xs) next ∙ take-suc xs i d lt in

@@ -8,7 +8,7 @@ use Rattle.blob_pool.specs.Moves.{one_at}
 use Rattle.served_instance.specs.Sources.{count_of}
 use Rattle.served_instance.specs.Slots.{ServedSlots}
 use Rattle.server_core.specs.Shared.{all_in, all_holders, IsServer}
-use Rattle.server_core.specs.Stored.{texts_of_all, IsAmong, AreDistinct, total_length, AreStored}
+use Rattle.server_core.specs.Stored.{texts_of_all, IsAmong, AreDistinct, texts_length, AreStored}
 use Rattle.server_core.proofs.Slots.{slots_of_all, holders_are, texts_are}
 
 abbrev pub in_slots : Slots → List (List ℕ)
@@ -59,7 +59,7 @@ counted (Some x ∷ p) h =
     let one : number (nat_lt 0 x.count) ≡ number true = ap number test in
     omega (arith, ih, cons, one)
 
-sized : (p : Slots) → bytes_stored p ≡ total_length (in_slots p)
+sized : (p : Slots) → bytes_stored p ≡ texts_length (in_slots p)
 sized [] = refl
 sized (None ∷ p) = let ih = sized p in omega (arith, ih)
 sized (Some x ∷ p) = let ih = sized p in omega (arith, ih)

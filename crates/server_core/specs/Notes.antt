@@ -5,7 +5,7 @@ use Rattle.std.specs.Option.{option_map_or}
 use Rattle.served_instance.specs.Bytes.{pending_bytes}
 use Rattle.server_events.specs.Events.{WhatValue, opened, took, closed}
 use Rattle.served_instance.specs.Connections.{open_at}
-use Rattle.served_instance.specs.Lone.{Lone}
+use Rattle.served_instance.specs.Lone.{LoneInstance}
 use Rattle.server_core.specs.declared.record.ConnectionChange.{ConnectionChange}
 use Rattle.server_core.specs.declared.record.ConnectionChange.TheVariants.{Opened, Took, Closed, Nothing}
 use Rattle.server_core.specs.declared.record.OpenRecord.{OpenRecord}
@@ -46,15 +46,16 @@ with_more_at place more [] = []
 with_more_at zero more (s ∷ ss) = (s.0, s.1 ++ more) ∷ ss
 with_more_at (suc place) more (s ∷ ss) = s ∷ with_more_at place more ss
 
-abbrev pub pending_bytes_on : Lone → ℕ → List ℕ
+abbrev pub pending_bytes_on : LoneInstance → ℕ → List ℕ
 pending_bytes_on l c = option_map_or (λ p. pending_bytes p.history) (open_at c l.connections) []
 
 -- what an open connection's pending bytes have behind those that were noted
-abbrev pub sent_bytes_with : Lone → List (ℕ × List ℕ) → OpenRecord → List (ℕ × List ℕ)
+abbrev pub sent_bytes_with : LoneInstance → List (ℕ × List ℕ) → OpenRecord → List (ℕ × List ℕ)
 sent_bytes_with l ss o = with_more_at o.place (drop o.untaken (pending_bytes_on l o.number)) ss
 
-abbrev pub sent_bytes_with_all : Lone → List OpenRecord → List (ℕ × List ℕ) → List (ℕ × List ℕ)
+abbrev pub sent_bytes_with_all : LoneInstance → List OpenRecord → List (ℕ × List ℕ) →
+    List (ℕ × List ℕ)
 sent_bytes_with_all l os ss = fold (sent_bytes_with l) ss os
 
-abbrev pub record_after_noting : Lone → OpenRecord → OpenRecord
+abbrev pub record_after_noting : LoneInstance → OpenRecord → OpenRecord
 record_after_noting l o = record o { untaken = length (pending_bytes_on l o.number) }

@@ -28,7 +28,7 @@ open_from place (k ∷ ks) =
 abbrev pub IsTakenFrom : LoneConnection → Type 0
 IsTakenFrom k = count_taken k.past.history ≤ length (bytes_put k.past.history)
 
-pub record StandsFor (v : RecordValue) (r : Run) : Type 0 where
+pub record IsRecord (v : RecordValue) (r : Run) : Type 0 where
   pub count : v.count ≡ r.count
   pub refusals : v.refusals ≡ r.refusals
   pub sent : v.sent ≡ all_sent_bytes r.lone

@@ -3,7 +3,7 @@ use Rattle.std.specs.Prelude.{◌≡◌, ℕ, List, Some}
 use Rattle.std.specs.List.{slice_get}
 use Rattle.served_instance.specs.StandsFor.{ServedState}
 use Rattle.server_core.specs.Runs.{Run}
-use Rattle.server_core.specs.Records.{RecordValue, StandsFor as IsRecord}
+use Rattle.server_core.specs.Records.{RecordValue, IsRecord}
 use Rattle.server_core.specs.StandsFor.{StandsAt}
 
 -- the record of this number is there and stands for this run

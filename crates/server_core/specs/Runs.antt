@@ -5,12 +5,12 @@ use Rattle.std.specs.Prelude.{ℕ, ◌+◌, List, [], ◌∷◌, ◌++◌, fold,
 use Rattle.server_events.specs.Configs.{ConfigValue}
 use Rattle.server_events.specs.Events.{EventValue}
 use Rattle.served_instance.specs.declared.refusal.EventRefusal.{EventRefusal}
-use Rattle.served_instance.specs.Lone.{Lone, new_lone, all_sent_bytes}
+use Rattle.served_instance.specs.Lone.{LoneInstance, new_lone, all_sent_bytes}
 use Rattle.served_instance.specs.Refusals.{refusal_of, lone_step}
 use Rattle.server_core.specs.Outputs.{InstanceOutputValue}
 
 pub record Run : Type 0 where
-  pub lone : Lone
+  pub lone : LoneInstance
   -- how many events there were
   pub count : ℕ
   -- the places of those that were refused, from 1, and why

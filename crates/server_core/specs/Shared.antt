@@ -4,9 +4,9 @@ use Rattle.std.specs.List.{AllByRecursion}
 use Rattle.blob_pool.specs.Slots.{Slots, text_at, count_at}
 use Rattle.blob_pool.specs.Moves.{Holders}
 use Rattle.server_events.specs.Configs.{instance_limit}
-use Rattle.served_instance.specs.StandsFor.{ServedState, IsWithin}
+use Rattle.served_instance.specs.StandsFor.{ServedState, IsServedWithin}
 use Rattle.served_instance.specs.Slots.{ServedSlots, served_state_in, holders_of}
-use Rattle.served_instance.specs.Ranges.{AreFit, HaveFew}
+use Rattle.served_instance.specs.Ranges.{RangesEndWithin, HaveFewSources}
 
 -- the instances, with the texts that their slots have in the pool
 abbrev pub all_in : Slots → List ServedSlots → List ServedState
@@ -20,13 +20,13 @@ all_holders (x ∷ xs) k = holders_of x k + all_holders xs k
 -- each range of an instance ends within the text of its source, and no connection has too many of a
 -- slot
 pub record HasRanges (p : Slots) (x : ServedSlots) : Type 0 where
-  pub fit : AreFit (text_at p) x.connections
-  pub few : HaveFew x.connections
+  pub fit : RangesEndWithin (text_at p) x.connections
+  pub few : HaveFewSources x.connections
 
 -- the pool and the instances of a server
 pub record IsServer (p : Slots) (xs : List ServedSlots) : Type 0 where
   -- the pool counts the instances, and nothing else
   pub exact : (k : ℕ) → count_at p k ≡ all_holders xs k
   pub few : length xs ≤ instance_limit
-  pub within : AllByRecursion IsWithin (all_in p xs)
+  pub within : AllByRecursion IsServedWithin (all_in p xs)
   pub ranges : AllByRecursion (HasRanges p) xs

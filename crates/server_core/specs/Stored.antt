@@ -28,9 +28,9 @@ abbrev pub AreDistinct : List (List ℕ) → Type 0
 AreDistinct [] = Unit {0}
 AreDistinct (x ∷ xs) = (IsAmong x xs → ⊥) × AreDistinct xs
 
-abbrev pub total_length : List (List ℕ) → ℕ
-total_length [] = 0
-total_length (x ∷ xs) = length x + total_length xs
+abbrev pub texts_length : List (List ℕ) → ℕ
+texts_length [] = 0
+texts_length (x ∷ xs) = length x + texts_length xs
 
 -- so many different texts are held, with so many bytes together
 pub record AreStored (held : List (List ℕ)) (count bytes : ℕ) : Type 0 where
@@ -39,4 +39,4 @@ pub record AreStored (held : List (List ℕ)) (count bytes : ℕ) : Type 0 where
   pub all : (t : List ℕ) → IsAmong t held → IsAmong t texts
   pub only : (t : List ℕ) → IsAmong t texts → IsAmong t held
   pub count_is : count ≡ length texts
-  pub bytes_is : bytes ≡ total_length texts
+  pub bytes_is : bytes ≡ texts_length texts

@@ -1,7 +1,7 @@
 //! What follows from the definitions alone.
 
 ghost use Rattle.std.specs.Prelude.{◌≡◌, ◌≤◌, ℕ, List};
-ghost use Rattle.instance_core.specs.State.{WithinLimits};
+ghost use Rattle.instance_core.specs.State.{IsInstanceWithin};
 ghost use Rattle.server_events.specs.Configs.{ConfigValue};
 ghost use Rattle.server_events.specs.Events.{EventValue, own_events};
 ghost use Rattle.server_events.specs.Instance.{quota_limit};
@@ -23,5 +23,5 @@ pub fn equal_events_give_equal_outputs()
 /// digest says: the hash is the text's SHA-256, and the size its length.
 pub fn a_run_keeps_its_limits()
     ensures { (config : ConfigValue) (events : List EventValue) → config.quota ≤ quota_limit
-        → WithinLimits (run_of config events).lone.state }
+        → IsInstanceWithin (run_of config events).lone.state }
 {}

@@ -5,13 +5,13 @@ ghost use Rattle.server_events.specs.Configs.{ConfigValue};
 ghost use Rattle.server_events.specs.Events.{EventValue};
 ghost use Rattle.server_events.specs.Shown.{what_value};
 ghost use Rattle.served_instance.specs.Connections.{AreApart};
-ghost use Rattle.served_instance.specs.Lone.{Lone};
-ghost use Rattle.served_instance.specs.Refusals.{refusal_of, lone_step, IsOutcome};
+ghost use Rattle.served_instance.specs.Lone.{LoneInstance};
+ghost use Rattle.served_instance.specs.Refusals.{refusal_of, lone_step, IsRefusalOutcome};
 ghost use Rattle.served_instance.specs.Slots.{HasConnections};
 ghost use Rattle.server_core.specs.Runs.{Run, new_run, run_step, output_of_run};
 ghost use Rattle.server_core.specs.Shown.{sent_shown, instance_output_shown};
 ghost use Rattle.server_core.specs.Notes.{connection_change, record_after_taking, open_records_changed, sent_bytes_changed, with_more_at, sent_bytes_with, sent_bytes_with_all, record_after_noting};
-ghost use Rattle.server_core.specs.Records.{StandsFor};
+ghost use Rattle.server_core.specs.Records.{IsRecord};
 
 use crate::outputs::{InstanceOutput, RefusedEvent, SentBytes};
 use served_instance::{EventRefusal, ServedInstance};
@@ -84,7 +84,7 @@ impl Model for InstanceRecord {
 impl InstanceRecord {
     /// Nothing was noted yet.
     pub fn new(alloc: Global) -> InstanceRecord
-        ensures { (config : ConfigValue) → StandsFor result (new_run config) }
+        ensures { (config : ConfigValue) → IsRecord result (new_run config) }
     {
         InstanceRecord {
             count: 0,
@@ -96,8 +96,8 @@ impl InstanceRecord {
 
     /// Notes an event that the instance took or refused, by what it changes of the connections, and
     /// the bytes that it put. The instance is as the event left it. Where memory is refused the
-    /// event is counted, no refusal is noted, and of the bytes some may be: the record stands for no
-    /// run any more, and is to be dropped.
+    /// event is counted, no refusal is noted, and of the bytes some may be: the record stands for
+    /// no run any more, and is to be dropped.
     pub fn note(
         &mut self,
         instance: &ServedInstance,
@@ -106,11 +106,11 @@ impl InstanceRecord {
     ) -> Result<(), AllocError>
         requires memory { outcome ≢ Err EventRefusal.NoMemory }
         requires room { self.old.count < 2 ^ 64 - 1 }
-        ensures stands { OnOk result ((r : Run) (event : EventValue) → StandsFor self.old r
+        ensures stands { OnOk result ((r : Run) (event : EventValue) → IsRecord self.old r
             → change ≡ connection_change event.what
-            → IsOutcome outcome (refusal_of event r.lone)
+            → IsRefusalOutcome outcome (refusal_of event r.lone)
             → HasConnections instance.now (lone_step event r.lone)
-            → StandsFor self.new (run_step r event)) }
+            → IsRecord self.new (run_step r event)) }
         ensures count { self.new.count ≡ self.old.count + 1 }
         ensures err { OnErr result (self.new.refusals ≡ self.old.refusals) }
     {
@@ -132,7 +132,7 @@ impl InstanceRecord {
 
     /// What was noted.
     pub fn output(self) -> InstanceOutput
-        ensures { (r : Run) → StandsFor self r → instance_output_shown result ≡ output_of_run r }
+        ensures { (r : Run) → IsRecord self r → instance_output_shown result ≡ output_of_run r }
     {
         InstanceOutput {
             sent: self.sent,
@@ -211,7 +211,8 @@ fn gather(
     live: &[OpenRecord],
     instance: &ServedInstance,
 ) -> Result<(), AllocError>
-    ensures { OnOk result ((l : Lone) → HasConnections instance.now l → AreApart l.connections
+    ensures { OnOk result ((l : LoneInstance) → HasConnections instance.now l →
+        AreApart l.connections
         → map sent_shown sent.new.items
         ≡ sent_bytes_with_all l live.now (map sent_shown sent.old.items)) }
 {
@@ -233,7 +234,8 @@ fn gather_from(
     at: usize,
     instance: &ServedInstance,
 ) -> Result<(), AllocError>
-    ensures { OnOk result ((l : Lone) → HasConnections instance.now l → AreApart l.connections
+    ensures { OnOk result ((l : LoneInstance) → HasConnections instance.now l →
+        AreApart l.connections
         → map sent_shown sent.new.items ≡ sent_bytes_with l (map sent_shown sent.old.items)
         connection.now) }
 {
@@ -261,7 +263,7 @@ fn append(sent: &mut Vec<SentBytes>, place: usize, more: &[u8]) -> Result<(), Al
 
 /// Counts on each open connection the bytes that were not taken.
 fn count_untaken(live: &mut [OpenRecord], instance: &ServedInstance)
-    ensures { (l : Lone) → HasConnections instance.now l → AreApart l.connections
+    ensures { (l : LoneInstance) → HasConnections instance.now l → AreApart l.connections
         → live.new ≡ map (record_after_noting l) live.old }
 {
     // A place in a slice is below its length, so no sum of places is cut off.
@@ -274,7 +276,7 @@ fn count_untaken(live: &mut [OpenRecord], instance: &ServedInstance)
 
 /// Counts the bytes of an open connection that were not taken.
 fn count_on(connection: &mut OpenRecord, at: usize, instance: &ServedInstance)
-    ensures { (l : Lone) → HasConnections instance.now l → AreApart l.connections
+    ensures { (l : LoneInstance) → HasConnections instance.now l → AreApart l.connections
         → connection.new ≡ record_after_noting l connection.old }
 {
     // The record's open connections are those of the instance, so one is found.

@@ -8,9 +8,9 @@ ghost use Rattle.served_instance.specs.Bytes.{most_untaken, pending_bytes};
 ghost use Rattle.served_instance.specs.History.{has_failed};
 ghost use Rattle.served_instance.specs.Past.{Past};
 ghost use Rattle.served_instance.specs.Connections.{open_at};
-ghost use Rattle.served_instance.specs.Lone.{Lone, new_lone};
-ghost use Rattle.served_instance.specs.Refusals.{NeedsNoMemory, refusal_of, lone_step, IsOutcome};
-ghost use Rattle.served_instance.specs.StandsFor.{IsWithin, AreSettled};
+ghost use Rattle.served_instance.specs.Lone.{LoneInstance, new_lone};
+ghost use Rattle.served_instance.specs.Refusals.{NeedsNoMemory, refusal_of, lone_step, IsRefusalOutcome};
+ghost use Rattle.served_instance.specs.StandsFor.{IsServedWithin, AreSettled};
 ghost use Rattle.served_instance.specs.Slots.{served_state_in};
 ghost use Rattle.server_core.specs.LoneOutput.{config_at};
 ghost use Rattle.server_core.specs.Shared.{all_in, IsServer};
@@ -57,7 +57,7 @@ impl Server {
             → StandsAt i server.instances (new_lone config.name config.quota config.slots)) }
         ensures count { IfOk result (λ server. length server.instances ≡ length configs.now) }
         ensures serves { IfOk result (λ server. server.failed ≡ false) }
-        ensures within { IfOk result (λ server. AllByRecursion IsWithin server.instances) }
+        ensures within { IfOk result (λ server. AllByRecursion IsServedWithin server.instances) }
     {
         let configs = configs.instances();
         the_fault_is_the_first(configs);
@@ -78,24 +78,25 @@ impl Server {
     /// or its instance does what it would do alone. No other instance changes.
     pub fn step(&mut self, event: Event) -> Result<(), EventRefusal>
         // The event's instance does what it would do alone, which is nothing where it refuses.
-        ensures own { result ≢ Err EventRefusal.NoMemory → (l : Lone)
+        ensures own { result ≢ Err EventRefusal.NoMemory → (l : LoneInstance)
             → StandsAt event.instance self.old.instances l
             → StandsAt event.instance self.new.instances (lone_step (event_value event) l) }
-        ensures settled { OnOk result ((l : Lone) → StandsAt event.instance self.old.instances l
+        ensures settled { OnOk result ((l : LoneInstance) →
+            StandsAt event.instance self.old.instances l
             → AreSettled (lone_step (event_value event) l)) }
         // No other instance changes.
         ensures others { result ≢ Err EventRefusal.NoMemory → (j : ℕ) → j ≢ event.instance
             → instance_at j self.new.instances ≡ instance_at j self.old.instances }
         // Each refusal has its reason, and changes nothing.
-        ensures outcome { self.old.failed ≡ false → (l : Lone)
+        ensures outcome { self.old.failed ≡ false → (l : LoneInstance)
             → StandsAt event.instance self.old.instances l
-            → IsOutcome result (refusal_of (event_value event) l) }
+            → IsRefusalOutcome result (refusal_of (event_value event) l) }
         ensures stray { self.old.failed ≡ false → (result ≡ Err EventRefusal.NoSuchInstance)
             ↔ (length self.old.instances ≤ event.instance) }
         ensures refused { IfErr result (λ refusal. refusal ≢ EventRefusal.NoMemory
             → self.new ≡ self.old) }
         // Each instance keeps its limits, also where the event is refused.
-        ensures within { AllByRecursion IsWithin self.new.instances }
+        ensures within { AllByRecursion IsServedWithin self.new.instances }
         // An event that takes no memory is never refused for want of it.
         ensures memory_free { NeedsNoMemory (event_value event).what → self.old.failed ≡ false
             → result ≢ Err EventRefusal.NoMemory }
@@ -121,7 +122,7 @@ impl Server {
     /// The bytes that were put on an open connection and not taken.
     pub fn pending(&self, instance: u32, connection: u32) -> Option<&[u8]>
         ensures none { instance_at instance self.now.instances ≡ None → result ≡ None }
-        ensures bytes { (l : Lone) → StandsAt instance self.now.instances l
+        ensures bytes { (l : LoneInstance) → StandsAt instance self.now.instances l
             → option_map (λ bytes. bytes.now) result
             ≡ option_map (λ p. pending_bytes p.history) (open_at connection l.connections) }
         ensures room { IfSome result (λ bytes. length bytes.now ≤ most_untaken) }
@@ -132,7 +133,7 @@ impl Server {
     /// Whether an error of an open connection was met.
     pub fn ended(&self, instance: u32, connection: u32) -> Option<bool>
         ensures none { instance_at instance self.now.instances ≡ None → result ≡ None }
-        ensures error { (l : Lone) → StandsAt instance self.now.instances l
+        ensures error { (l : LoneInstance) → StandsAt instance self.now.instances l
             → result ≡ option_map (λ p. has_failed p.history) (open_at connection l.connections) }
     {
         self.instance(instance)?.ended(connection)
@@ -196,17 +197,17 @@ fn step_one(
     event: Event,
 ) -> Result<(), EventRefusal>
     requires server { IsServer pool.old instances.old }
-    ensures own { result ≢ Err EventRefusal.NoMemory → (l : Lone)
+    ensures own { result ≢ Err EventRefusal.NoMemory → (l : LoneInstance)
         → StandsAt event.instance (all_in pool.old instances.old) l
         → StandsAt event.instance (all_in pool.new instances.new)
         (lone_step (event_value event) l) }
-    ensures settled { OnOk result ((l : Lone) → StandsAt event.instance
+    ensures settled { OnOk result ((l : LoneInstance) → StandsAt event.instance
         (all_in pool.old instances.old) l → AreSettled (lone_step (event_value event) l)) }
     ensures others { (j : ℕ) → j ≢ event.instance
         → instance_at j (all_in pool.new instances.new)
         ≡ instance_at j (all_in pool.old instances.old) }
-    ensures outcome { (l : Lone) → StandsAt event.instance (all_in pool.old instances.old) l
-        → IsOutcome result (refusal_of (event_value event) l) }
+    ensures outcome { (l : LoneInstance) → StandsAt event.instance (all_in pool.old instances.old) l
+        → IsRefusalOutcome result (refusal_of (event_value event) l) }
     ensures stray { (result ≡ Err EventRefusal.NoSuchInstance)
         ↔ (length instances.old ≤ event.instance) }
     ensures refused { IfErr result (λ refusal. refusal ≢ EventRefusal.NoMemory

@@ -4,7 +4,7 @@ ghost use Rattle.std.specs.Prelude.{◌≡◌, ◌+◌, ◌-◌, ◌^◌, ◌<�
 ghost use Rattle.server_events.specs.Configs.{ConfigValue};
 ghost use Rattle.server_events.specs.Events.{EventValue, own_events};
 ghost use Rattle.server_events.specs.Shown.{event_value};
-ghost use Rattle.instance_core.specs.State.{WithinLimits};
+ghost use Rattle.instance_core.specs.State.{IsInstanceWithin};
 ghost use Rattle.server_core.specs.Runs.{Run, new_run, run_of, run_step, output_of_run};
 ghost use Rattle.server_core.specs.LoneOutput.{config_at, lone_output, strays, stray_at};
 ghost use Rattle.server_core.specs.Shown.{output_at};
@@ -118,7 +118,8 @@ pub fn run(alloc: Global, configs: &Configs, events: Vec<Event>) -> Result<Outpu
         ≡ Some (lone_output config (own_events i (map event_value events.items)))) }
     // Each instance keeps its limits: each of its texts is what its digest says.
     ensures within { (i : ℕ) (config : ConfigValue) → config_at i configs.now ≡ Some config
-        → WithinLimits (run_of config (own_events i (map event_value events.items))).lone.state }
+        → IsInstanceWithin (run_of config
+        (own_events i (map event_value events.items))).lone.state }
     ensures count { IfOk result (λ outputs. length outputs.instances.items ≡ length configs.now) }
     ensures strays { IfOk result (λ outputs. outputs.strays.items
         ≡ strays configs.now (map event_value events.items)) }
@@ -134,7 +135,8 @@ pub fn run(alloc: Global, configs: &Configs, events: Vec<Event>) -> Result<Outpu
 /// Instances with these configurations keep their limits.
 fn limits_are_kept(configs: &Configs)
     ensures { (i : ℕ) (config : ConfigValue) (events : List EventValue)
-        → config_at i configs.now ≡ Some config → WithinLimits (run_of config events).lone.state }
+        → config_at i configs.now ≡ Some config →
+        IsInstanceWithin (run_of config events).lone.state }
 {
     the_fault_is_the_first(configs.instances());
     a_run_keeps_its_limits();

@@ -10,7 +10,7 @@ use Rattle.std.proofs.lemmas.Str.{IsUtf8-from_ascii}
 use Rattle.std.proofs.lemmas.Str.Ascii.{IsAscii-from_reads}
 use Rattle.std.specs.List.{list_all, list_any}
 use Rattle.std.specs.Str.{bytes_eq, IsUtf8}
-use Rattle.server_events.specs.Instance.{IsInstanceName, is_instance_name, is_name_byte, resource_words}
+use Rattle.server_events.specs.Instance.{IsInstanceName, is_instance_name, is_instance_name_byte, resource_words}
 
 same_bytes : (xs ys : List ℕ) → bytes_eq xs ys ≡ true → xs ≡ ys
 same_bytes xs ys h = (bytes_eq-Decides xs ys).0 h
@@ -32,13 +32,13 @@ absent false h = refl
 
 pub IsInstanceName-from_test : (name : List ℕ) → is_instance_name name ≡ true → IsInstanceName name
 IsInstanceName-from_test name h =
-    let parts = four_parts (not (length name == 0)) (nat_le (length name) 64) (list_all is_name_byte name) (not (list_any (bytes_eq name) resource_words)) h in
+    let parts = four_parts (not (length name == 0)) (nat_le (length name) 64) (list_all is_instance_name_byte name) (not (list_any (bytes_eq name) resource_words)) h in
     let some = parts.0 in
     let few = parts.1 in
     record {
       not_empty = grind (arith, nat_tests);
       short = grind (arith, nat_tests);
-      plain = AllPass-from_list_all is_name_byte name parts.2;
+      plain = AllPass-from_list_all is_instance_name_byte name parts.2;
       no_resource_word = λ among. not_true _ parts.3 (list_any-from_Contains nat_list_eq_equiv name resource_words among);
     }
 
@@ -46,17 +46,17 @@ pub is_instance_name-true : (name : List ℕ) → IsInstanceName name → is_ins
 is_instance_name-true name h =
     let some : not (length name == 0) ≡ true = grind (arith, nat_tests) in
     let few : nat_le (length name) 64 ≡ true = grind (arith, nat_tests) in
-    let plain = list_all-from_AllPass is_name_byte name h.plain in
+    let plain = list_all-from_AllPass is_instance_name_byte name h.plain in
     let free = absent (list_any (bytes_eq name) resource_words) (λ k. h.no_resource_word (Contains-from_any same_bytes name resource_words k)) in
-    ap (λ b. ((b && nat_le (length name) 64) && list_all is_name_byte name) && not (list_any (bytes_eq name) resource_words)) some
-    ∙ ap (λ b. (b && list_all is_name_byte name) && not (list_any (bytes_eq name) resource_words)) few
+    ap (λ b. ((b && nat_le (length name) 64) && list_all is_instance_name_byte name) && not (list_any (bytes_eq name) resource_words)) some
+    ∙ ap (λ b. (b && list_all is_instance_name_byte name) && not (list_any (bytes_eq name) resource_words)) few
     ∙ ap (λ b. b && not (list_any (bytes_eq name) resource_words)) plain ∙ free
 
 pub exact_test : (name : List ℕ) (test : Bool) → test ≡ is_instance_name name → IsTrue test ↔ IsInstanceName name
 exact_test name true e = (λ _. IsInstanceName-from_test name (sym e), λ _. refl)
 exact_test name false e = (λ t. cc, λ h. e ∙ is_instance_name-true name h)
 
-ascii_name_byte : (byte : ℕ) → is_name_byte byte ≡ true → byte < 128
+ascii_name_byte : (byte : ℕ) → is_instance_name_byte byte ≡ true → byte < 128
 ascii_name_byte byte h = grind (arith, nat_tests)
 
 -- a name is text

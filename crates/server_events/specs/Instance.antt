@@ -4,8 +4,8 @@ use Rattle.std.specs.List.{list_all, list_any, AllPass}
 use Rattle.std.specs.Str.{bytes_eq}
 
 -- `a` to `z`, `0` to `9` or `-`
-abbrev pub is_name_byte : ℕ → Bool
-is_name_byte byte =
+abbrev pub is_instance_name_byte : ℕ → Bool
+is_instance_name_byte byte =
     (nat_le 97 byte && nat_le byte 122) || (nat_le 48 byte && nat_le byte 57) || byte == 45
 
 -- the words that part a resource name, which no part of an instance name may be
@@ -24,13 +24,13 @@ longest_name = 64
 pub record IsInstanceName (name : List ℕ) : Type 0 where
   pub not_empty : 0 < length name
   pub short : length name ≤ longest_name
-  pub plain : AllPass is_name_byte name
+  pub plain : AllPass is_instance_name_byte name
   pub no_resource_word : ¬ (Contains resource_words name)
 
 -- the same as a test
 abbrev pub is_instance_name : List ℕ → Bool
 is_instance_name name =
-    not (length name == 0) && nat_le (length name) longest_name && list_all is_name_byte name
+    not (length name == 0) && nat_le (length name) longest_name && list_all is_instance_name_byte name
     && not (list_any (bytes_eq name) resource_words)
 
 -- the most bytes that an instance may be given: 2^40

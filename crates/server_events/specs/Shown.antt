@@ -17,7 +17,11 @@ config_value config =
 
 abbrev pub output_value : OutputFile → OutputValue
 output_value output =
-    record { path = string_bytes output.path; content = output.content.items; is_executable = output.is_executable }
+    record {
+      path = string_bytes output.path;
+      content = output.content.items;
+      is_executable = output.is_executable;
+    }
 
 abbrev pub outcome_value : Outcome → OutcomeValue
 outcome_value Failed = failed

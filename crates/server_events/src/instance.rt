@@ -3,7 +3,7 @@
 ghost use Rattle.std.specs.Prelude.{◌≡◌, ◌≤◌, ◌↔◌, IsTrue};
 ghost use Rattle.std.specs.List.{list_all, list_any};
 ghost use Rattle.std.specs.Str.{bytes_eq};
-ghost use Rattle.server_events.specs.Instance.{IsInstanceName, is_instance_name, is_name_byte, resource_words, quota_limit, slots_limit};
+ghost use Rattle.server_events.specs.Instance.{IsInstanceName, is_instance_name, is_instance_name_byte, resource_words, quota_limit, slots_limit};
 
 /// The most bytes that a name may have.
 const NAME_LIMIT: usize = 64;
@@ -24,7 +24,7 @@ pub fn is_instance_name(name: &[u8]) -> bool
 }
 
 fn are_name_bytes(name: &[u8]) -> bool
-    ensures { result ≡ list_all is_name_byte name.now }
+    ensures { result ≡ list_all is_instance_name_byte name.now }
 {
     name.iter()
         .all(|byte| matches!(byte, b'a'..=b'z' | b'0'..=b'9' | b'-'))

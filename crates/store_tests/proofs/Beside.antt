@@ -5,8 +5,8 @@ use Rattle.blob_pool.specs.Moves.{Moves}
 use Rattle.instance_view.specs.Visible.{Blob}
 use Rattle.instance_view.specs.Shown.{ViewValue, visible_in, holders}
 use Rattle.instance_view.proofs.Held.{shown_apart, holders-few}
-use Rattle.quota_evict.specs.Within.{Within}
-use Rattle.quota_evict.specs.Kept.{AreKept}
+use Rattle.quota_evict.specs.Within.{AreBlobsWithin}
+use Rattle.quota_evict.specs.InPool.{IsViewInPool}
 use Rattle.quota_evict.proofs.Steps.{entries_fit, kept_none}
 use Rattle.store_tests.specs.Beside.{AreBeside}
 
@@ -28,7 +28,7 @@ beside_swapped quota p v w b = record {
   second_limit = b.first_limit;
 }
 
-pub beside_after : (quota : ℕ) (p q : Slots) (v w x : ViewValue) → AreBeside quota p v w → x.limit ≡ v.limit → AreKept quota q x → Moves p q (holders v) (holders x) → AreBeside quota q x w
+pub beside_after : (quota : ℕ) (p q : Slots) (v w x : ViewValue) → AreBeside quota p v w → x.limit ≡ v.limit → IsViewInPool quota q x → Moves p q (holders v) (holders x) → AreBeside quota q x w
 beside_after quota p q v w x b limit kept m =
     let exact : (k : ℕ) → count_at q k ≡ holders x k + holders w k = λ k. omega (arith, m.counts k, b.exact k) in
     let few : length x.entries ≤ 65536 = omega (arith, entries_fit quota q x kept, limit, b.first_limit) in
@@ -38,7 +38,7 @@ beside_after quota p q v w x b limit kept m =
       first = kept;
       second = record {
         held = record { counted = λ k. omega (arith, exact k); others = λ k. omega (arith, exact k, holders-few x.entries k, few) };
-        within = subst (λ (bs : List Blob). Within w.limit quota bs) (sym same) b.second.within;
+        within = subst (λ (bs : List Blob). AreBlobsWithin w.limit quota bs) (sym same) b.second.within;
       };
       first_limit = omega (arith, limit, b.first_limit);
       second_limit = b.second_limit;

@@ -1,7 +1,7 @@
 //! Texts that an instance admits, and those that go for them.
 
 ghost use Rattle.std.specs.Prelude.{◌≡◌, ◌≤◌, ◌^◌};
-ghost use Rattle.quota_evict.specs.Kept.{AreKept};
+ghost use Rattle.quota_evict.specs.InPool.{IsViewInPool};
 
 use blob_pool::Pool;
 use digest::Digest;
@@ -12,8 +12,8 @@ use std::alloc::{AllocError, Global};
 /// Whether a text was stored.
 fn is_stored(view: &mut View, pool: &mut Pool, quota: u64, text: &[u8]) -> Result<bool, AllocError>
     requires quota { quota ≤ 2 ^ 40 }
-    requires kept { AreKept quota pool.old view.old }
-    ensures kept { AreKept quota pool.new view.new }
+    requires kept { IsViewInPool quota pool.old view.old }
+    ensures kept { IsViewInPool quota pool.new view.new }
 {
     match admit(view, pool, quota, &Digest::of(text), text) {
         Ok(()) => Ok(true),
@@ -30,8 +30,8 @@ fn are_stored(
     texts: &[&[u8]],
 ) -> Result<bool, AllocError>
     requires quota { quota ≤ 2 ^ 40 }
-    requires kept { AreKept quota pool.old view.old }
-    ensures kept { AreKept quota pool.new view.new }
+    requires kept { IsViewInPool quota pool.old view.old }
+    ensures kept { IsViewInPool quota pool.new view.new }
 {
     for text in texts {
         if !is_stored(view, pool, quota, text)? {
@@ -51,7 +51,7 @@ fn has(view: &View, texts: &[&[u8]], total: u64, gone: &[u8]) -> bool {
 
 /// Of `a`, `b` and `c` the limit of two leaves the last two; after a use of `b`, `d` drops `c`.
 fn drops_the_least_recently_used(view: &mut View, pool: &mut Pool) -> Result<bool, AllocError>
-    requires { AreKept 100 pool.old view.old }
+    requires { IsViewInPool 100 pool.old view.old }
 {
     let first = are_stored(view, pool, 100, &[b"a", b"b", b"c"])?;
     let two_left = has(view, &[b"c", b"b"], 2, b"a");
@@ -69,7 +69,7 @@ pub fn keeps_the_limit(alloc: Global) -> Result<bool, AllocError> {
 /// A text of the quota's size drops all others, one that is larger is refused, and the empty one
 /// costs nothing.
 fn drops_for_the_quota(view: &mut View, pool: &mut Pool) -> Result<bool, AllocError>
-    requires { AreKept 10 pool.old view.old }
+    requires { IsViewInPool 10 pool.old view.old }
 {
     let small = is_stored(view, pool, 10, b"aaaa")?;
     let large = is_stored(view, pool, 10, b"01234567890")?;

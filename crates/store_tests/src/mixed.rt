@@ -1,7 +1,7 @@
 //! A tree of five nodes: `a`, a file; `b`, a symbolic link; `c`, a directory that has `d`, a file,
 //! and `e`, a symbolic link.
 
-ghost use Rattle.quota_evict.specs.Kept.{AreKept};
+ghost use Rattle.quota_evict.specs.InPool.{IsViewInPool};
 
 use crate::shapes::{Ending, ending_of};
 use crate::stored::store;
@@ -104,8 +104,8 @@ fn store_mixed(
     pool: &mut Pool,
     stored: &Stored,
 ) -> Result<Digest, AllocError>
-    requires kept { AreKept 100000000 pool.old view.old }
-    ensures kept { AreKept 100000000 pool.new view.new }
+    requires kept { IsViewInPool 100000000 pool.old view.old }
+    ensures kept { IsViewInPool 100000000 pool.new view.new }
 {
     if stored.files {
         store(view, pool, b"text")?;

@@ -1,6 +1,6 @@
 //! Trees in which each directory has equal nodes.
 
-ghost use Rattle.quota_evict.specs.Kept.{AreKept};
+ghost use Rattle.quota_evict.specs.InPool.{IsViewInPool};
 
 use crate::stored::store;
 use blob_pool::Pool;
@@ -103,8 +103,8 @@ fn store_directory(
     directories: &[String],
     below: &Digest,
 ) -> Result<Digest, AllocError>
-    requires kept { AreKept 100000000 pool.old view.old }
-    ensures kept { AreKept 100000000 pool.new view.new }
+    requires kept { IsViewInPool 100000000 pool.old view.old }
+    ensures kept { IsViewInPool 100000000 pool.new view.new }
 {
     let hash = hex::encode(alloc, &below.hash)?;
     let size_bytes = i64::try_from(below.size).unwrap_or(0);
@@ -123,8 +123,8 @@ fn store_tree(
     pool: &mut Pool,
     shape: &Shape,
 ) -> Result<Digest, AllocError>
-    requires kept { AreKept 100000000 pool.old view.old }
-    ensures kept { AreKept 100000000 pool.new view.new }
+    requires kept { IsViewInPool 100000000 pool.old view.old }
+    ensures kept { IsViewInPool 100000000 pool.new view.new }
 {
     let links = names(alloc, "l", shape.links)?;
     let directories = names(alloc, "d", shape.directories)?;

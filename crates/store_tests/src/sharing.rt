@@ -1,7 +1,7 @@
 //! Texts that two instances share.
 
 ghost use Rattle.std.specs.Prelude.{◌≡◌};
-ghost use Rattle.quota_evict.specs.Kept.{AreKept};
+ghost use Rattle.quota_evict.specs.InPool.{IsViewInPool};
 ghost use Rattle.store_tests.specs.Beside.{AreBeside};
 
 use blob_pool::Pool;

@@ -1,6 +1,6 @@
 //! Texts that a test stores.
 
-ghost use Rattle.quota_evict.specs.Kept.{AreKept};
+ghost use Rattle.quota_evict.specs.InPool.{IsViewInPool};
 
 use blob_pool::Pool;
 use digest::Digest;
@@ -13,8 +13,8 @@ const QUOTA: u64 = 100_000_000;
 
 /// Stores a text, and gives its digest.
 pub fn store(view: &mut View, pool: &mut Pool, text: &[u8]) -> Result<Digest, AllocError>
-    requires kept { AreKept 100000000 pool.old view.old }
-    ensures kept { AreKept 100000000 pool.new view.new }
+    requires kept { IsViewInPool 100000000 pool.old view.old }
+    ensures kept { IsViewInPool 100000000 pool.new view.new }
 {
     let digest = Digest::of(text);
     match admit(view, pool, QUOTA, &digest, text) {

@@ -22,7 +22,7 @@ use Rattle.action_cache.specs.Answering.{blobs_for, result_for}
 use Rattle.tree_calls.specs.Asking.{action_asked}
 use Rattle.tree_calls.specs.GetTree.{texts_seen, get_tree_replies}
 use Rattle.tree_calls.specs.Results.{get_action_result_reply, or_no_result}
-use Rattle.tree_calls.specs.Lists.{IsListed, IsDirectory}
+use Rattle.tree_calls.specs.Lists.{IsDigestListed, IsDirectory}
 use Rattle.tree_calls.specs.Pages.{AreNamedReplies, IsNamedAmong, IsNamedPage, directories_of}
 use Rattle.tree_calls.specs.Complete.{HasBlob, HasFiles, HasTree, IsComplete, IsCompleteReply}
 use Rattle.tree_calls.proofs.Whole.{all_listed, whole_from}
@@ -41,7 +41,7 @@ directory_named visible d named h = go (visible_text d visible) refl h where
 
 -- ---- pages
 
-all_texts : (visible : List Blob) (listed ds : List Digest) → AllNamed visible → AllByRecursion (IsListed listed) ds → AllByRecursion (IsDirectory (texts_seen visible)) ds → AllByRecursion (IsNamedAmong listed) (texts (texts_seen visible) ds)
+all_texts : (visible : List Blob) (listed ds : List Digest) → AllNamed visible → AllByRecursion (IsDigestListed listed) ds → AllByRecursion (IsDirectory (texts_seen visible)) ds → AllByRecursion (IsNamedAmong listed) (texts (texts_seen visible) ds)
 all_texts visible listed [] named there dirs = tt
 all_texts visible listed (d ∷ ds) named there dirs = (record { digest = d; is_listed = there.0; names = directory_named visible d named dirs.0 }, all_texts visible listed ds named there.1 dirs.1)
 
@@ -64,7 +64,7 @@ all_named : (visible : List Blob) (listed : List Digest) (place : ℕ) (pages : 
     → messages ≡ map page_text pages → AllByRecursion (IsNamedPage listed) messages
 all_named visible listed place pages messages named dirs joined written =
     let look = texts_seen visible in
-    let all = all_texts visible listed (drop place listed) named (all_dropped (IsListed listed) place listed (all_listed listed)) (all_dropped (IsDirectory look) place listed dirs) in
+    let all = all_texts visible listed (drop place listed) named (all_dropped (IsDigestListed listed) place listed (all_listed listed)) (all_dropped (IsDirectory look) place listed dirs) in
     let given : AllByRecursion (IsNamedAmong listed) (directories_of pages) = rw joined all in
     rw written (each_named listed pages given)
 

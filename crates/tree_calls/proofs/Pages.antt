@@ -17,7 +17,7 @@ use Rattle.input_tree.specs.Listing.{Lookup, tree_list}
 use Rattle.input_tree.specs.Pages.{last_page, page_before, page_bytes, page_from, page_text, pages_along, pages_at, pages_of, place_asked, size_asked, takes, texts, get_tree_reply}
 use Rattle.tree_calls.specs.Asking.{tree_asked}
 use Rattle.tree_calls.specs.GetTree.{texts_seen, of_tree, pages_asked, get_tree_replies}
-use Rattle.tree_calls.specs.Pages.{IsBounded, token_before, directories_of, ArePages, GiveTheList}
+use Rattle.tree_calls.specs.Pages.{IsPageBounded, token_before, directories_of, AreTreePages, GiveTheList}
 use Rattle.tree_calls.proofs.Sizes.{both_written}
 
 -- ---- one page
@@ -55,7 +55,7 @@ some_begun : (size : ℕ) (page : List (List ℕ)) (t : List ℕ) → takes size
 some_begun size [] t h = absurd (cc)
 some_begun size (u ∷ us) t h = omega arith
 
-ended : (size : ℕ) (page : List (List ℕ)) (token : List ℕ) → 0 < length page → IsBegun size page → IsBounded size (record { directories = page; next_page_token = token })
+ended : (size : ℕ) (page : List (List ℕ)) (token : List ℕ) → 0 < length page → IsBegun size page → IsPageBounded size (record { directories = page; next_page_token = token })
 ended size page token some begun = record {
   some = some;
   few = begun.few;
@@ -68,7 +68,7 @@ token_is : (place : ℕ) (pages : List GetTreeResponseValue) (t : List ℕ) (ts 
 token_is place [] t ts h = absurd (cc)
 token_is place (p ∷ ps) t ts h = refl
 
-last_given : (size start : ℕ) (page : List (List ℕ)) → IsBegun size page → ArePages size start (page ++ []) (last_page page)
+last_given : (size start : ℕ) (page : List (List ℕ)) → IsBegun size page → AreTreePages size start (page ++ []) (last_page page)
 last_given size start [] begun = record { pages = []; written = refl; joined = refl; bounded = tt; continued = tt }
 last_given size start (u ∷ us) begun = record {
   pages = record { directories = u ∷ us; next_page_token = [] } ∷ [];
@@ -80,14 +80,14 @@ last_given size start (u ∷ us) begun = record {
 
 -- one directory more, on the same page or on a new one
 more_given : (size start place : ℕ) (page ts : List (List ℕ)) (t : List ℕ) → 0 < size → start + length page ≡ place → IsBegun size page
-    → ((start : ℕ) (page : List (List ℕ)) → start + length page ≡ place + 1 → IsBegun size page → ArePages size start (page ++ ts) (pages_along size (place + 1) page ts))
-    → ArePages size start (page ++ t ∷ ts) (page_before (takes size page t) place page ++ pages_along size (place + 1) (page_from (takes size page t) page ++ t ∷ []) ts)
+    → ((start : ℕ) (page : List (List ℕ)) → start + length page ≡ place + 1 → IsBegun size page → AreTreePages size start (page ++ ts) (pages_along size (place + 1) page ts))
+    → AreTreePages size start (page ++ t ∷ ts) (page_before (takes size page t) place page ++ pages_along size (place + 1) (page_from (takes size page t) page ++ t ∷ []) ts)
 more_given size start place page ts t some at begun later = go (takes size page t) refl where
-  go : (b : Bool) → takes size page t ≡ b → ArePages size start (page ++ t ∷ ts) (page_before b place page ++ pages_along size (place + 1) (page_from b page ++ t ∷ []) ts)
+  go : (b : Bool) → takes size page t ≡ b → AreTreePages size start (page ++ t ∷ ts) (page_before b place page ++ pages_along size (place + 1) (page_from b page ++ t ∷ []) ts)
   go true is =
       let count = length-append page (t ∷ []) in
       let rest = later start (page ++ t ∷ []) (omega (arith, count, at)) (begun_more size page t some is) in
-      subst (λ (ds : List (List ℕ)). ArePages size start ds (pages_along size (place + 1) (page ++ t ∷ []) ts)) (append_assoc page (t ∷ []) ts) rest
+      subst (λ (ds : List (List ℕ)). AreTreePages size start ds (pages_along size (place + 1) (page ++ t ∷ []) ts)) (append_assoc page (t ∷ []) ts) rest
   go false is =
       let rest = later place (t ∷ []) (omega arith) (begun_one size t some) in
       record {
@@ -98,7 +98,7 @@ more_given size start place page ts t some at begun later = go (takes size page 
         continued = rw at (token_is place rest.pages t ts rest.joined, rest.continued);
       }
 
-pub given : (size start place : ℕ) (page ts : List (List ℕ)) → 0 < size → start + length page ≡ place → IsBegun size page → ArePages size start (page ++ ts) (pages_along size place page ts)
+pub given : (size start place : ℕ) (page ts : List (List ℕ)) → 0 < size → start + length page ≡ place → IsBegun size page → AreTreePages size start (page ++ ts) (pages_along size place page ts)
 unfolding pages_along
 given size start place page [] some at begun = last_given size start page begun
 given size start place page (t ∷ ts) some at begun = more_given size start place page ts t some at begun (λ s p same begun. given size s (place + 1) p ts some same begun)
@@ -130,7 +130,7 @@ placed look listed None place messages h = absurd (cc)
 placed look listed (Some size) None messages h = absurd (cc)
 placed look listed (Some size) (Some place) messages h = record { size = size; is_size = refl; place = place; is_place = refl; are = cc }
 
-reply_given : (look : Lookup) (listed : List Digest) (size place : ℕ) (messages : List (List ℕ)) → 0 < size → messages ≡ pages_along size place [] (texts look (drop place listed)) → ArePages size place (texts look (drop place listed)) messages
+reply_given : (look : Lookup) (listed : List Digest) (size place : ℕ) (messages : List (List ℕ)) → 0 < size → messages ≡ pages_along size place [] (texts look (drop place listed)) → AreTreePages size place (texts look (drop place listed)) messages
 reply_given look listed size place messages some is = rw is (given size place place [] (texts look (drop place listed)) some (omega arith) (begun_none size))
 
 pub list_given : (own : List ℕ) (visible : List Blob) (request : List ℕ) (messages : List (List ℕ)) → get_tree_replies own visible request ≡ Ok messages → GiveTheList own visible request messages

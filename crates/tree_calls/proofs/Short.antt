@@ -12,8 +12,8 @@ use Rattle.message_fields.specs.Parts.{repeated_octets_field, string_field}
 use Rattle.message_fields.proofs.Tools.{bind_ok, ok_is}
 use Rattle.digest.specs.declared.Digest.{Digest}
 use Rattle.digest.specs.Naming.{same_digest}
-use Rattle.instance_view.specs.Visible.{Blob, with_match_first, total_length}
-use Rattle.instance_view.proofs.Visibles.{total_length-with_match_first, length-with_match_first}
+use Rattle.instance_view.specs.Visible.{Blob, with_match_first, blobs_length}
+use Rattle.instance_view.proofs.Visibles.{blobs_length-with_match_first, length-with_match_first}
 use Rattle.reapi_messages.specs.Digests.{digest_of}
 use Rattle.tree_messages.specs.GetTree.{GetTreeResponseValue}
 use Rattle.tree_messages.specs.ActionCache.{UpdateActionResultRequestValue, update_action_result_request_of}
@@ -32,8 +32,8 @@ use Rattle.tree_calls.specs.Asking.{ResultSentValue, action_asked, result_sent}
 use Rattle.tree_calls.specs.GetTree.{texts_seen, get_tree_replies}
 use Rattle.tree_calls.specs.Results.{after_asking, after_get, after_sending, after_update, get_action_result_reply, update_action_result_reply}
 use Rattle.tree_calls.specs.Lists.{IsDirectory}
-use Rattle.tree_calls.specs.Pages.{IsBounded, AreContinued, token_before, directories_of}
-use Rattle.tree_calls.specs.Complete.{AreWithin}
+use Rattle.tree_calls.specs.Pages.{IsPageBounded, AreContinued, token_before, directories_of}
+use Rattle.tree_calls.specs.Complete.{AreResultsWithin}
 use Rattle.tree_calls.proofs.Sizes.{bytes_written, both_written, message_written, payloads_weight, read_from, sizes}
 use Rattle.tree_calls.proofs.Whole.{whole_from}
 use Rattle.tree_calls.proofs.Pages.{list_given}
@@ -60,7 +60,7 @@ texts_short : (look : Lookup) (ds : List Digest) → AllByRecursion (IsDirectory
 texts_short look [] h = tt
 texts_short look (d ∷ ds) h = (directory_short look d h.0, texts_short look ds h.1)
 
-records_short : (n size : ℕ) (page : GetTreeResponseValue) → 4000000 ≤ n → n < 2 ^ 64 → IsBounded size page → AllByRecursion (IsShort n) page.directories → page_bytes page.directories ≤ 20 + n
+records_short : (n size : ℕ) (page : GetTreeResponseValue) → 4000000 ≤ n → n < 2 ^ 64 → IsPageBounded size page → AllByRecursion (IsShort n) page.directories → page_bytes page.directories ≤ 20 + n
 records_short n size page most fits bounded short = elim bounded.short [
   | inl h ↦ omega (arith, h, most)
   | inr one ↦ go page.directories one short
@@ -70,7 +70,7 @@ records_short n size page most fits bounded short = elim bounded.short [
   go (d ∷ e ∷ ds) one short = absurd (omega (arith, one))
   go (d ∷ []) one short = let len = short.0 in let written = message_written 1 d (omega arith) (omega (arith, len, fits)) in omega (arith, len, written)
 
-page_short : (n size : ℕ) (page : GetTreeResponseValue) → 4000000 ≤ n → n < 2 ^ 31 → IsBounded size page → AllByRecursion (IsShort n) page.directories → length page.next_page_token ≤ 20 → length (page_text page) < 2 ^ 32
+page_short : (n size : ℕ) (page : GetTreeResponseValue) → 4000000 ≤ n → n < 2 ^ 31 → IsPageBounded size page → AllByRecursion (IsShort n) page.directories → length page.next_page_token ≤ 20 → length (page_text page) < 2 ^ 32
 page_short n size page most fits bounded short token =
     let records = records_short n size page most (omega (arith, fits)) bounded short in
     let written = bytes_written 2 page.next_page_token (omega arith) (omega (arith, token)) in
@@ -81,7 +81,7 @@ token_short : (place : ℕ) (pages : List GetTreeResponseValue) → place < 2 ^ 
 token_short place [] h = omega arith
 token_short place (p ∷ ps) h = length-decimal-le 20 place (omega arith) (omega (arith, h)) h
 
-all_short : (n size place : ℕ) (pages : List GetTreeResponseValue) → 4000000 ≤ n → n < 2 ^ 31 → place + length (directories_of pages) < 2 ^ 64 → AreContinued place pages → AllByRecursion (IsBounded size) pages → AllByRecursion (IsShort n) (directories_of pages)
+all_short : (n size place : ℕ) (pages : List GetTreeResponseValue) → 4000000 ≤ n → n < 2 ^ 31 → place + length (directories_of pages) < 2 ^ 64 → AreContinued place pages → AllByRecursion (IsPageBounded size) pages → AllByRecursion (IsShort n) (directories_of pages)
     → AllByRecursion (λ m. length m < 2 ^ 32) (map page_text pages)
 all_short n size place [] most fits room continued bounded short = tt
 all_short n size place (p ∷ ps) most fits room continued bounded short =
@@ -126,14 +126,14 @@ get_tree_short own visible request messages h =
 
 -- ---- results
 
-stored_short : (t : Digest → Bool) (results : List Blob) (reply : List ℕ) → lookup t results ≡ Some reply → length reply ≤ total_length results
+stored_short : (t : Digest → Bool) (results : List Blob) (reply : List ℕ) → lookup t results ≡ Some reply → length reply ≤ blobs_length results
 stored_short t [] reply h = absurd (cc)
 stored_short t (b ∷ bs) reply h = go (t b.0) h (stored_short t bs reply) where
-  go : (c : Bool) → cond c (Some b.1) (lookup t bs) ≡ Some reply → (lookup t bs ≡ Some reply → length reply ≤ total_length bs) → length reply ≤ length b.1 + total_length bs
+  go : (c : Bool) → cond c (Some b.1) (lookup t bs) ≡ Some reply → (lookup t bs ≡ Some reply → length reply ≤ blobs_length bs) → length reply ≤ length b.1 + blobs_length bs
   go true h later = let e : b.1 ≡ reply = cc in rw (← e) (omega arith)
   go false h later = let rest = later h in omega (arith, rest)
 
-pub get_action_result_short : (own : List ℕ) (visible results : List Blob) (request reply : List ℕ) → AreWithin results → get_action_result_reply own visible results request ≡ Ok reply → length reply < 2 ^ 32
+pub get_action_result_short : (own : List ℕ) (visible results : List Blob) (request reply : List ℕ) → AreResultsWithin results → get_action_result_reply own visible results request ≡ Ok reply → length reply < 2 ^ 32
 get_action_result_short own visible results request reply within h =
     let c = result_complete own visible results request reply h in
     let one = stored_short (same_digest c.action) results reply c.is_stored in
@@ -196,40 +196,40 @@ front_few (suc n) room (b ∷ bs) = go (nat_le (length b.1) room) (front_few n (
   go true ih = omega (arith, ih)
   go false ih = omega arith
 
-front_short : (n room : ℕ) (bs : List Blob) → total_length (front_within n room bs) ≤ room
+front_short : (n room : ℕ) (bs : List Blob) → blobs_length (front_within n room bs) ≤ room
 unfolding front_within
 front_short zero room bs = omega arith
 front_short (suc n) room [] = omega arith
 front_short (suc n) room (b ∷ bs) = go (nat_le (length b.1) room) refl (front_short n (room - length b.1) bs) where
-  go : (c : Bool) → nat_le (length b.1) room ≡ c → total_length (front_within n (room - length b.1) bs) ≤ room - length b.1 → total_length (if c then b ∷ front_within n (room - length b.1) bs else []) ≤ room
+  go : (c : Bool) → nat_le (length b.1) room ≡ c → blobs_length (front_within n (room - length b.1) bs) ≤ room - length b.1 → blobs_length (if c then b ∷ front_within n (room - length b.1) bs else []) ≤ room
   go true is ih = let le = leb-true (length b.1) room is in omega (arith, ih, le)
   go false is ih = omega arith
 
-fronted_within : (t : Digest → Bool) (results : List Blob) → AreWithin results → AreWithin (with_match_first t results)
+fronted_within : (t : Digest → Bool) (results : List Blob) → AreResultsWithin results → AreResultsWithin (with_match_first t results)
 fronted_within t results within = record {
   few = rw (length-with_match_first t results) within.few;
-  short = rw (total_length-with_match_first t results) within.short;
+  short = rw (blobs_length-with_match_first t results) within.short;
 }
 
-pub get_stays_within : (own : List ℕ) (visible results : List Blob) (request : List ℕ) → AreWithin results → AreWithin (after_get own visible results request)
+pub get_stays_within : (own : List ℕ) (visible results : List Blob) (request : List ℕ) → AreResultsWithin results → AreResultsWithin (after_get own visible results request)
 get_stays_within own visible results request within = go (action_asked own request) where
-  test : (action : Digest) (b : Bool) → AreWithin (if b then with_match_first (same_digest action) results else results)
+  test : (action : Digest) (b : Bool) → AreResultsWithin (if b then with_match_first (same_digest action) results else results)
   test action true = fronted_within (same_digest action) results within
   test action false = within
 
-  go : (r : Result Digest Refusal) → AreWithin (after_asking visible results r)
+  go : (r : Result Digest Refusal) → AreResultsWithin (after_asking visible results r)
   go (Err refusal) = within
   go (Ok action) = test action (is_some (blobs_for (texts_seen visible) action results))
 
-front_is_within : (bs : List Blob) → AreWithin (front_within 10000 67108864 bs)
+front_is_within : (bs : List Blob) → AreResultsWithin (front_within 10000 67108864 bs)
 front_is_within bs = record { few = front_few 10000 67108864 bs; short = front_short 10000 67108864 bs }
 
-pub update_stays_within : (own : List ℕ) (results : List Blob) (request : List ℕ) → AreWithin results → AreWithin (after_update own results request)
+pub update_stays_within : (own : List ℕ) (results : List Blob) (request : List ℕ) → AreResultsWithin results → AreResultsWithin (after_update own results request)
 update_stays_within own results request within = go (result_sent own request) where
-  test : (bs : List Blob) (b : Bool) → AreWithin (if b then results else front_within 10000 67108864 bs)
+  test : (bs : List Blob) (b : Bool) → AreResultsWithin (if b then results else front_within 10000 67108864 bs)
   test bs true = within
   test bs false = front_is_within bs
 
-  go : (r : Result ResultSentValue Refusal) → AreWithin (after_sending results r)
+  go : (r : Result ResultSentValue Refusal) → AreResultsWithin (after_sending results r)
   go (Err refusal) = within
   go (Ok sent_bytes) = test ((sent_bytes.action, sent_bytes.text) ∷ remove_entry (same_digest sent_bytes.action) results) (nat_lt 67108864 (length sent_bytes.text))

@@ -7,8 +7,8 @@ use Rattle.digest.specs.declared.Digest.{Digest}
 use Rattle.blob_pool.specs.Slots.{Slots}
 use Rattle.instance_view.specs.Visible.{Blob, visible_after_use}
 use Rattle.instance_view.specs.Shown.{ViewValue, visible_in, holders}
-use Rattle.cas_service.specs.Within.{Within}
-use Rattle.cas_service.specs.Kept.{AreKept}
+use Rattle.cas_service.specs.Within.{AreBlobsWithin}
+use Rattle.cas_service.specs.InPool.{IsViewInPool}
 use Rattle.cas_service.proofs.Limits.{used_within}
 use Rattle.input_tree.specs.declared.error.TreeRefusal.{TreeRefusal}
 use Rattle.input_tree.specs.declared.error.GetTreeError.{GetTreeError}
@@ -29,15 +29,15 @@ pub all_changed : (limit quota : ℕ) (ds : List Digest) (visible : List Blob) �
 all_changed limit quota [] visible = refl
 all_changed limit quota (d ∷ ds) visible = all_changed limit quota ds (visible_after_use d visible)
 
-all_within : (limit quota : ℕ) (ds : List Digest) (visible : List Blob) → Within limit quota visible → Within limit quota (visible_after_uses ds visible)
+all_within : (limit quota : ℕ) (ds : List Digest) (visible : List Blob) → AreBlobsWithin limit quota visible → AreBlobsWithin limit quota (visible_after_uses ds visible)
 all_within limit quota [] visible h = h
 all_within limit quota (d ∷ ds) visible h = all_within limit quota ds (visible_after_use d visible) (used_within limit quota d visible h)
 
 -- uses keep what an instance relies on
-pub all_kept : (quota : ℕ) (ds : List Digest) (p : Slots) (v w : ViewValue) → AreKept quota p v → w.limit ≡ v.limit → visible_in p w ≡ visible_after_uses ds (visible_in p v) → ((k : ℕ) → holders w k ≡ holders v k) → AreKept quota p w
+pub all_kept : (quota : ℕ) (ds : List Digest) (p : Slots) (v w : ViewValue) → IsViewInPool quota p v → w.limit ≡ v.limit → visible_in p w ≡ visible_after_uses ds (visible_in p v) → ((k : ℕ) → holders w k ≡ holders v k) → IsViewInPool quota p w
 all_kept quota ds p v w kept limit is same = record {
   held = record { counted = λ k. omega (arith, same k, kept.held.counted k); others = λ k. omega (arith, same k, kept.held.others k) };
-  within = subst (λ (n : ℕ). Within n quota (visible_in p w)) (sym limit) (subst (Within v.limit quota) (sym is) (all_within v.limit quota ds (visible_in p v) kept.within));
+  within = subst (λ (n : ℕ). AreBlobsWithin n quota (visible_in p w)) (sym limit) (subst (AreBlobsWithin v.limit quota) (sym is) (all_within v.limit quota ds (visible_in p v) kept.within));
 }
 
 -- ---- GetTree

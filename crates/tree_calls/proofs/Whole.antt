@@ -8,21 +8,21 @@ use Rattle.digest.proofs.Same.{same_refl, same_symm}
 use Rattle.input_tree.specs.declared.error.TreeRefusal.TheVariants.{BadDirectory}
 use Rattle.input_tree.specs.Directories.{children_in}
 use Rattle.input_tree.specs.Listing.{Lookup, children, with_listed, with_all_listed, with_children, listed_along, listed_from}
-use Rattle.tree_calls.specs.Lists.{IsListed, IsDirectory, children_or_none, HasParent, AreReached, HasListed, IsWholeTree}
+use Rattle.tree_calls.specs.Lists.{IsDigestListed, IsDirectory, children_or_none, HasParent, AreReached, HasListed, IsWholeTree}
 
 -- ---- lists of digests
 
-listed_more : (ds more : List Digest) (d : Digest) → IsListed ds d → IsListed (ds ++ more) d
+listed_more : (ds more : List Digest) (d : Digest) → IsDigestListed ds d → IsDigestListed (ds ++ more) d
 listed_more [] more d h = absurd (cc)
 listed_more (x ∷ xs) more d h = go (same_digest d x) h (listed_more xs more d) where
-  go : (b : Bool) → (b || list_any (same_digest d) xs) ≡ true → (IsListed xs d → IsListed (xs ++ more) d) → (b || list_any (same_digest d) (xs ++ more)) ≡ true
+  go : (b : Bool) → (b || list_any (same_digest d) xs) ≡ true → (IsDigestListed xs d → IsDigestListed (xs ++ more) d) → (b || list_any (same_digest d) (xs ++ more)) ≡ true
   go true h later = refl
   go false h later = later h
 
-listed_at : (before : List Digest) (d : Digest) (more : List Digest) → IsListed (before ++ d ∷ more) d
+listed_at : (before : List Digest) (d : Digest) (more : List Digest) → IsDigestListed (before ++ d ∷ more) d
 listed_at [] d more = rw (same_refl d) refl
 listed_at (x ∷ xs) d more = go (same_digest d x) (listed_at xs d more) where
-  go : (b : Bool) → IsListed (xs ++ d ∷ more) d → (b || list_any (same_digest d) (xs ++ d ∷ more)) ≡ true
+  go : (b : Bool) → IsDigestListed (xs ++ d ∷ more) d → (b || list_any (same_digest d) (xs ++ d ∷ more)) ≡ true
   go true h = refl
   go false h = h
 
@@ -34,14 +34,14 @@ pub all_implied : {X : Type 0} (P Q : X → Type 0) → ((x : X) → P x → Q x
 all_implied P Q f [] h = tt
 all_implied P Q f (x ∷ xs) h = (f x h.0, all_implied P Q f xs h.1)
 
-listed_in : (all ds : List Digest) → ((d : Digest) → IsListed ds d → IsListed all d) → AllByRecursion (IsListed all) ds
+listed_in : (all ds : List Digest) → ((d : Digest) → IsDigestListed ds d → IsDigestListed all d) → AllByRecursion (IsDigestListed all) ds
 listed_in all [] f = tt
 listed_in all (x ∷ xs) f = (f x (listed_at [] x xs), listed_in all xs (λ d h. f d (later d (same_digest d x) h))) where
-  later : (d : Digest) (b : Bool) → IsListed xs d → (b || list_any (same_digest d) xs) ≡ true
+  later : (d : Digest) (b : Bool) → IsDigestListed xs d → (b || list_any (same_digest d) xs) ≡ true
   later d true h = refl
   later d false h = h
 
-pub all_listed : (ds : List Digest) → AllByRecursion (IsListed ds) ds
+pub all_listed : (ds : List Digest) → AllByRecursion (IsDigestListed ds) ds
 all_listed ds = listed_in ds ds (λ d h. h)
 
 neither : (a b : Bool) → (a || b) ≡ false → (a ≡ false) × (b ≡ false)
@@ -78,12 +78,12 @@ record IsGrown (look : Lookup) (root : Digest) (ds new cs : List Digest) : Type 
   more : List Digest
   is : new ≡ ds ++ more
   tree : IsTree look root new
-  listed : AllByRecursion (λ c. IsDirectory look c → IsListed new c) cs
+  listed : AllByRecursion (λ c. IsDirectory look c → IsDigestListed new c) cs
 
-grown_one : (look : Lookup) (root : Digest) (ds : List Digest) (d c : Digest) → IsTree look root ds → IsListed ds d → IsListed (children_or_none look d) c → IsGrown look root ds (with_listed look ds c) (c ∷ [])
+grown_one : (look : Lookup) (root : Digest) (ds : List Digest) (d c : Digest) → IsTree look root ds → IsDigestListed ds d → IsDigestListed (children_or_none look d) c → IsGrown look root ds (with_listed look ds c) (c ∷ [])
 grown_one look root ds d c tree parent child = go (is_some (children look c)) refl (list_any (same_digest c) ds) refl where
   parented : HasParent look (root ∷ tree.others) c
-  parented = record { parent = d; is_before = subst (λ (xs : List Digest). IsListed xs d) tree.begins parent; is_child = child }
+  parented = record { parent = d; is_before = subst (λ (xs : List Digest). IsDigestListed xs d) tree.begins parent; is_child = child }
 
   go : (b : Bool) → is_some (children look c) ≡ b → (t : Bool) → list_any (same_digest c) ds ≡ t → IsGrown look root ds (if b then (if t then ds else ds ++ c ∷ []) else ds) (c ∷ [])
   go false is t there = record {
@@ -111,18 +111,18 @@ grown_one look root ds d c tree parent child = go (is_some (children look c)) re
     listed = (λ h. listed_at ds c [], tt);
   }
 
-grown : (look : Lookup) (root : Digest) (ds : List Digest) (d : Digest) (cs : List Digest) → IsTree look root ds → IsListed ds d → AllByRecursion (IsListed (children_or_none look d)) cs → IsGrown look root ds (with_all_listed look ds cs) cs
+grown : (look : Lookup) (root : Digest) (ds : List Digest) (d : Digest) (cs : List Digest) → IsTree look root ds → IsDigestListed ds d → AllByRecursion (IsDigestListed (children_or_none look d)) cs → IsGrown look root ds (with_all_listed look ds cs) cs
 grown look root ds d [] tree parent h = record { more = []; is = sym (append-nil ds); tree = tree; listed = tt }
 grown look root ds d (c ∷ cs) tree parent h =
     let next = with_listed look ds c in
     let first = grown_one look root ds d c tree parent h.0 in
-    let still : IsListed next d = subst (λ (xs : List Digest). IsListed xs d) (sym first.is) (listed_more ds first.more d parent) in
+    let still : IsDigestListed next d = subst (λ (xs : List Digest). IsDigestListed xs d) (sym first.is) (listed_more ds first.more d parent) in
     let rest = grown look root next d cs first.tree still h.1 in
     record {
       more = first.more ++ rest.more;
       is = rest.is ∙ ap (λ (xs : List Digest). xs ++ rest.more) first.is ∙ append_assoc ds first.more rest.more;
       tree = rest.tree;
-      listed = (λ dir. subst (λ (xs : List Digest). IsListed xs c) (sym rest.is) (listed_more next rest.more c (first.listed.0 dir)), rest.listed);
+      listed = (λ dir. subst (λ (xs : List Digest). IsDigestListed xs c) (sym rest.is) (listed_more next rest.more c (first.listed.0 dir)), rest.listed);
     }
 
 -- ---- going along
@@ -153,7 +153,7 @@ at_end look root n done ds tree closed is =
     )
 
 has_more : (look : Lookup) (ds more : List Digest) (d : Digest) → HasListed look ds d → HasListed look (ds ++ more) d
-has_more look ds more d h = all_implied (λ c. IsDirectory look c → IsListed ds c) (λ c. IsDirectory look c → IsListed (ds ++ more) c) (λ c f dir. listed_more ds more c (f dir)) (children_or_none look d) h
+has_more look ds more d h = all_implied (λ c. IsDirectory look c → IsDigestListed ds c) (λ c. IsDirectory look c → IsDigestListed (ds ++ more) c) (λ c f dir. listed_more ds more c (f dir)) (children_or_none look d) h
 
 along : (n : ℕ) (look : Lookup) (root : Digest) (done left ds : List Digest) → IsTree look root (done ++ left) → AllByRecursion (HasListed look (done ++ left)) done → listed_along n look (done ++ left) (length done) ≡ Ok ds → IsWholeTree look root ds × (length ds ≤ length done + n)
 unfolding listed_along

@@ -6,7 +6,7 @@ use Rattle.std.specs.Map.{lookup}
 use Rattle.message_fields.specs.Fields.{value_of_text}
 use Rattle.digest.specs.declared.Digest.{Digest}
 use Rattle.digest.specs.Naming.{same_digest}
-use Rattle.instance_view.specs.Visible.{Blob, total_length}
+use Rattle.instance_view.specs.Visible.{Blob, blobs_length}
 use Rattle.reapi_messages.specs.Digests.{DigestValue}
 use Rattle.tree_messages.specs.Directories.{DirectoryValue, TreeValue, tree_of}
 use Rattle.tree_messages.specs.Results.{ActionResultValue, action_result_of}
@@ -55,6 +55,6 @@ pub record IsCompleteReply (own : List ℕ) (visible results : List Blob)
   pub complete : IsComplete (texts_seen visible) reply
 
 -- results are no more, and have no more bytes together, than an instance may have
-pub record AreWithin (results : List Blob) : Type 0 where
+pub record AreResultsWithin (results : List Blob) : Type 0 where
   pub few : length results ≤ MOST_RESULTS
-  pub short : total_length results ≤ MOST_RESULT_BYTES
+  pub short : blobs_length results ≤ MOST_RESULT_BYTES

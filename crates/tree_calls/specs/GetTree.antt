@@ -15,7 +15,7 @@ use Rattle.cas_service.specs.declared.error.CallError.{CallError}
 use Rattle.cas_service.specs.declared.error.CallError.TheVariants as Call
 use Rattle.input_tree.specs.Listing.{Lookup, tree_list}
 use Rattle.input_tree.specs.Pages.{get_tree_reply}
-use Rattle.cas_service.specs.Changes.{Change, uses}
+use Rattle.cas_service.specs.Changes.{TextChange, uses}
 use Rattle.tree_calls.specs.Asking.{TreeAskedValue, tree_asked}
 
 -- the texts that an instance sees
@@ -56,5 +56,5 @@ directories_used visible asked =
     pages_asked visible asked >>= λ pages. directories_asked visible asked
 
 -- each directory of the list is used, in order
-abbrev pub get_tree_changes : List ℕ → List Blob → List ℕ → List Change
+abbrev pub get_tree_changes : List ℕ → List Blob → List ℕ → List TextChange
 get_tree_changes own visible message = uses (tree_asked own message >>= directories_used visible)

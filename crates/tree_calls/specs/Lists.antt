@@ -5,8 +5,8 @@ use Rattle.digest.specs.declared.Digest.{Digest}
 use Rattle.digest.specs.Naming.{same_digest}
 use Rattle.input_tree.specs.Listing.{Lookup, children}
 
-abbrev pub IsListed : List Digest → Digest → Type 0
-IsListed ds d = list_any (same_digest d) ds ≡ true
+abbrev pub IsDigestListed : List Digest → Digest → Type 0
+IsDigestListed ds d = list_any (same_digest d) ds ≡ true
 
 -- the text of the digest is there, and spells a directory that is taken
 abbrev pub IsDirectory : Lookup → Digest → Type 0
@@ -18,8 +18,8 @@ children_or_none look d = unwrap_or (children look d) []
 -- it is in a directory that stands before it
 pub record HasParent (look : Lookup) (before : List Digest) (d : Digest) : Type 0 where
   pub parent : Digest
-  pub is_before : IsListed before parent
-  pub is_child : IsListed (children_or_none look parent) d
+  pub is_before : IsDigestListed before parent
+  pub is_child : IsDigestListed (children_or_none look parent) d
 
 abbrev pub AreReached : Lookup → List Digest → List Digest → Type 0
 AreReached look before [] = Unit {0}
@@ -28,7 +28,7 @@ AreReached look before (d ∷ ds) = HasParent look before d × AreReached look (
 -- each directory that is in it is listed
 abbrev pub HasListed : Lookup → List Digest → Digest → Type 0
 HasListed look ds d =
-    AllByRecursion (λ c. IsDirectory look c → IsListed ds c) (children_or_none look d)
+    AllByRecursion (λ c. IsDirectory look c → IsDigestListed ds c) (children_or_none look d)
 
 pub record IsWholeTree (look : Lookup) (root : Digest) (ds : List Digest) : Type 0 where
   pub others : List Digest

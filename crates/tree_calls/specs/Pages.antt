@@ -11,11 +11,11 @@ use Rattle.input_tree.specs.Pages.{page_bytes, page_text, place_asked, size_aske
 use Rattle.input_tree.specs.declared.pages.TheConstants.{MOST_PAGE_BYTES}
 use Rattle.tree_calls.specs.Asking.{TreeAskedValue, tree_asked}
 use Rattle.tree_calls.specs.GetTree.{texts_seen}
-use Rattle.tree_calls.specs.Lists.{IsListed}
+use Rattle.tree_calls.specs.Lists.{IsDigestListed}
 
 -- a page has a directory, and no more than a number; where it has several, their records have at
 -- most MOST_PAGE_BYTES
-pub record IsBounded (size : ℕ) (page : GetTreeResponseValue) : Type 0 where
+pub record IsPageBounded (size : ℕ) (page : GetTreeResponseValue) : Type 0 where
   pub some : 0 < length page.directories
   pub few : length page.directories ≤ size
   pub short : (page_bytes page.directories ≤ MOST_PAGE_BYTES) ⊎ (length page.directories ≡ 1)
@@ -37,11 +37,11 @@ directories_of pages = flat_map (λ page. page.directories) pages
 
 -- messages are pages of so many directories at most, which joined give these, the first of which
 -- has a place in the list
-pub record ArePages (size place : ℕ) (directories messages : List (List ℕ)) : Type 0 where
+pub record AreTreePages (size place : ℕ) (directories messages : List (List ℕ)) : Type 0 where
   pub pages : List GetTreeResponseValue
   pub written : messages ≡ map page_text pages
   pub joined : directories_of pages ≡ directories
-  pub bounded : AllByRecursion (IsBounded size) pages
+  pub bounded : AllByRecursion (IsPageBounded size) pages
   pub continued : AreContinued place pages
 
 -- messages are the pages of the list that a request asks for, from the place that it asks for on
@@ -55,14 +55,14 @@ pub record GiveTheList (own : List ℕ) (visible : List Blob) (request : List �
   pub is_size : size_asked asked.page_size ≡ Some size
   pub place : ℕ
   pub is_place : place_asked asked.page_token (length listed) ≡ Some place
-  pub given : ArePages size place (texts (texts_seen visible) (drop place listed)) messages
+  pub given : AreTreePages size place (texts (texts_seen visible) (drop place listed)) messages
 
 -- ---- what digests name
 
 -- a text is what a digest of the list names
 pub record IsNamedAmong (listed : List Digest) (text : List ℕ) : Type 0 where
   pub digest : Digest
-  pub is_listed : IsListed listed digest
+  pub is_listed : IsDigestListed listed digest
   pub names : Names digest text
 
 -- a message is a page, and each directory of it is what a digest of the list names

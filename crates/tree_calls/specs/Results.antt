@@ -8,7 +8,7 @@ use Rattle.digest.specs.declared.Digest.{Digest}
 use Rattle.instance_view.specs.Visible.{Blob}
 use Rattle.action_cache.specs.Results.{results_after_store}
 use Rattle.action_cache.specs.Answering.{blobs_used, result_for, results_after}
-use Rattle.cas_service.specs.Changes.{Change, uses}
+use Rattle.cas_service.specs.Changes.{TextChange, uses}
 use Rattle.tree_calls.specs.Asking.{ResultSentValue, action_asked, result_sent}
 use Rattle.tree_calls.specs.GetTree.{texts_seen}
 
@@ -26,7 +26,7 @@ get_action_result_reply own visible results message =
     λ action. or_no_result (result_for (texts_seen visible) action results)
 
 -- the blobs of a result that is answered are used, in order
-abbrev pub get_action_result_changes : List ℕ → List Blob → List Blob → List ℕ → List Change
+abbrev pub get_action_result_changes : List ℕ → List Blob → List Blob → List ℕ → List TextChange
 get_action_result_changes own visible results message =
     uses (action_asked own message >>=
     λ action. Ok (blobs_used (texts_seen visible) action results))

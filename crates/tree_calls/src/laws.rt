@@ -5,7 +5,7 @@ ghost use Rattle.std.specs.List.{AllByRecursion};
 ghost use Rattle.rpc.specs.Messages.{message_length_limit};
 ghost use Rattle.digest.specs.declared.Digest.{Digest};
 ghost use Rattle.instance_view.specs.Visible.{Blob};
-ghost use Rattle.cas_service.specs.Within.{Within};
+ghost use Rattle.cas_service.specs.Within.{AreBlobsWithin};
 ghost use Rattle.input_tree.specs.Listing.{Lookup, tree_list};
 ghost use Rattle.input_tree.specs.declared.listing.TheConstants.{MOST_DIRECTORIES};
 ghost use Rattle.tree_calls.specs.Asking.{IsShortRequest};
@@ -13,7 +13,7 @@ ghost use Rattle.tree_calls.specs.GetTree.{get_tree_replies};
 ghost use Rattle.tree_calls.specs.Results.{after_get, after_update, get_action_result_reply, update_action_result_reply};
 ghost use Rattle.tree_calls.specs.Lists.{IsWholeTree};
 ghost use Rattle.tree_calls.specs.Pages.{AreNamedReplies, GiveTheList};
-ghost use Rattle.tree_calls.specs.Complete.{AreWithin, IsCompleteReply};
+ghost use Rattle.tree_calls.specs.Complete.{AreResultsWithin, IsCompleteReply};
 
 /// The list of a tree begins with its root, and no digest stands twice in it. Each listed digest is
 /// that of a directory, and each but the root is in a directory that stands before it; each
@@ -38,7 +38,7 @@ pub fn pages_joined_are_the_list()
 /// Each directory of a page that answers `GetTree` is what a digest of the tree's list names.
 pub fn pages_given_are_named()
     ensures { (limit quota : ℕ) (own request : List ℕ) (visible : List Blob)
-        (messages : List (List ℕ)) → Within limit quota visible →
+        (messages : List (List ℕ)) → AreBlobsWithin limit quota visible →
         get_tree_replies own visible request ≡ Ok messages →
         AreNamedReplies own visible request messages }
 {}
@@ -55,9 +55,9 @@ pub fn results_given_are_complete()
 /// answers.
 pub fn results_stay_within()
     ensures get { (own request : List ℕ) (visible results : List Blob) →
-        AreWithin results → AreWithin (after_get own visible results request) }
+        AreResultsWithin results → AreResultsWithin (after_get own visible results request) }
     ensures update { (own request : List ℕ) (results : List Blob) →
-        AreWithin results → AreWithin (after_update own results request) }
+        AreResultsWithin results → AreResultsWithin (after_update own results request) }
 {}
 
 /// Each message of a reply is so short that its length can be written before it.
@@ -66,7 +66,7 @@ pub fn replies_are_short()
         get_tree_replies own visible request ≡ Ok messages →
         AllByRecursion (λ message. length message < message_length_limit) messages }
     ensures get { (own request reply : List ℕ) (visible results : List Blob) →
-        AreWithin results → get_action_result_reply own visible results request ≡ Ok reply →
+        AreResultsWithin results → get_action_result_reply own visible results request ≡ Ok reply →
         length reply < message_length_limit }
     ensures update { (own request reply : List ℕ) →
         IsShortRequest request → update_action_result_reply own request ≡ Ok reply →

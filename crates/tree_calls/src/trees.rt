@@ -3,7 +3,7 @@
 ghost use Rattle.std.specs.Prelude.{◌≡◌, ◌≤◌, ℕ, map, OnErr};
 ghost use Rattle.blob_pool.specs.Slots.{Slots, count_at};
 ghost use Rattle.instance_view.specs.Shown.{visible_in, holders};
-ghost use Rattle.cas_service.specs.Kept.{AreKept};
+ghost use Rattle.cas_service.specs.InPool.{IsViewInPool};
 ghost use Rattle.cas_service.specs.Answers.{Answers, IfAnswered};
 ghost use Rattle.cas_service.specs.Changes.{visible_after_changes};
 ghost use Rattle.tree_calls.specs.GetTree.{tree_error, tree_refusal, get_tree_replies, get_tree_changes};
@@ -63,7 +63,8 @@ pub fn get_tree(
         ≡ visible_after_changes view.old.limit quota changes (visible_in p view.old)) }
     ensures err { OnErr result (view.new ≡ view.old) }
     ensures holders { (k : ℕ) → holders view.new k ≡ holders view.old k }
-    ensures kept { (p : Slots) (quota : ℕ) → AreKept quota p view.old → AreKept quota p view.new }
+    ensures kept { (p : Slots) (quota : ℕ) → IsViewInPool quota p view.old →
+        IsViewInPool quota p view.new }
     ensures limit { view.new.limit ≡ view.old.limit }
 {
     let asked = tree_asked(alloc, own, message)?;

@@ -8,7 +8,7 @@ use Rattle.message_fields.specs.declared.error.MessageError.{MessageError}
 use Rattle.message_fields.specs.Fields.{value_of_text}
 use Rattle.digest.specs.declared.Digest.{Digest}
 use Rattle.tree_messages.specs.Directories.{DirectoryValue, DirectoryNodeValue, FileNodeValue, SymlinkNodeValue, directory_of}
-use Rattle.input_tree.specs.Names.{is_name, is_name_byte, is_target, are_rising, are_apart}
+use Rattle.input_tree.specs.Names.{is_name, is_node_name_byte, is_target, are_rising, are_apart}
 use Rattle.input_tree.specs.Directories.{written_digest, is_file, is_child, is_symlink, file_names, child_names, symlink_names, has_nodes, has_order, is_directory, valid_directory, directory_in}
 use Rattle.input_tree.specs.Listing.{Lookup}
 use Rattle.tree_plan.specs.Nodes.{NodeKindValue, file, symlink, directory, PlanNodeValue, file_at, symlink_at, directory_at, nodes_of, nodes_in}
@@ -22,7 +22,7 @@ pub record Named (above : List ℕ) (nodes : List PlanNodeValue) : Type 0 where
   pub names : List (List ℕ)
   pub paths : map (λ n. n.path) nodes ≡ map (λ t. above ++ t) names
   pub distinct : Pairs (λ t u. t ≢ u) names
-  pub good : (t : List ℕ) → Contains names t → list_all is_name_byte t ≡ true
+  pub good : (t : List ℕ) → Contains names t → list_all is_node_name_byte t ≡ true
 
 named_none : (above : List ℕ) → Named above []
 named_none above = record { names = []; paths = refl; distinct = tt; good = λ t c. absurd (in_none t c) }
@@ -50,7 +50,7 @@ all_good {V = V} is_good (w ∷ vs) h v c = go (and_parts (is_good w) (list_all 
   go parts (inl is) later = ap is_good (sym is) ∙ parts.0
   go parts (inr c) later = later parts.1 c
 
-names_good : {V : Type 0} (name : V → List ℕ) (is_good : V → Bool) → ((v : V) → is_good v ≡ true → is_name (name v) ≡ true) → (vs : List V) → list_all is_good vs ≡ true → (t : List ℕ) → Contains (map name vs) t → list_all is_name_byte t ≡ true
+names_good : {V : Type 0} (name : V → List ℕ) (is_good : V → Bool) → ((v : V) → is_good v ≡ true → is_name (name v) ≡ true) → (vs : List V) → list_all is_good vs ≡ true → (t : List ℕ) → Contains (map name vs) t → list_all is_node_name_byte t ≡ true
 names_good name is_good leads vs h t c =
     let found = in_map name vs t c in
     name_bytes t (ap is_name (sym found.2) ∙ leads found.0 (all_good is_good vs h found.0 found.1))
@@ -118,13 +118,13 @@ names_distinct v t =
       go a b ca (inl cb) = apart_differ (file_names v) (symlink_names v) t.files_symlinks a b ca cb
       go a b ca (inr cb) = apart_differ (file_names v) (child_names v) t.files_children a b ca cb
 
-names_are_good : (v : DirectoryValue) → Taken v → (n : List ℕ) → Contains (file_names v ++ (symlink_names v ++ child_names v)) n → list_all is_name_byte n ≡ true
+names_are_good : (v : DirectoryValue) → Taken v → (n : List ℕ) → Contains (file_names v ++ (symlink_names v ++ child_names v)) n → list_all is_node_name_byte n ≡ true
 names_are_good v t n c = go (Contains-append_cases (file_names v) (symlink_names v ++ child_names v) n c) where
-  others : Contains (symlink_names v) n ⊎ Contains (child_names v) n → list_all is_name_byte n ≡ true
+  others : Contains (symlink_names v) n ⊎ Contains (child_names v) n → list_all is_node_name_byte n ≡ true
   others (inl c) = names_good (λ n. n.name) is_symlink (λ w h. (and_parts (is_name w.name) (is_target w.target) h).0) v.symlinks t.symlinks n c
   others (inr c) = names_good (λ n. n.name) is_child (λ w h. (and_parts (is_name w.name) (is_some (written_digest w.digest)) h).0) v.directories t.directories n c
 
-  go : Contains (file_names v) n ⊎ Contains (symlink_names v ++ child_names v) n → list_all is_name_byte n ≡ true
+  go : Contains (file_names v) n ⊎ Contains (symlink_names v ++ child_names v) n → list_all is_node_name_byte n ≡ true
   go (inl c) = names_good (λ n. n.name) is_file (λ w h. (and_parts (is_name w.name) (is_some (written_digest w.digest)) h).0) v.files t.files n c
   go (inr c) = others (Contains-append_cases (symlink_names v) (child_names v) n c)
 

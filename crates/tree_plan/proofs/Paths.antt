@@ -4,7 +4,7 @@ use Rattle.std.specs.List.{AllPairs, Contains, list_all}
 use Rattle.std.proofs.lemmas.List.{append_assoc, append_cancel_left, length-append, append-nil}
 use Rattle.std.proofs.lemmas.List.Elements.{Contains-append_cases}
 use Rattle.digest.specs.declared.Digest.{Digest}
-use Rattle.input_tree.specs.Names.{is_name_byte}
+use Rattle.input_tree.specs.Names.{is_node_name_byte}
 use Rattle.input_tree.specs.Listing.{Lookup}
 use Rattle.tree_plan.specs.Nodes.{PlanNodeValue}
 use Rattle.tree_plan.specs.Walk.{walk}
@@ -36,11 +36,11 @@ record Apart (p q : List ℕ) : Type 0 where
   forth : Begins (p ++ 47 ∷ []) (q ++ 47 ∷ []) → ⊥
   back : Begins (q ++ 47 ∷ []) (p ++ 47 ∷ []) → ⊥
 
-one_name : (above t u : List ℕ) → list_all is_name_byte t ≡ true → list_all is_name_byte u ≡ true → Begins ((above ++ t) ++ 47 ∷ []) ((above ++ u) ++ 47 ∷ []) → t ≡ u
+one_name : (above t u : List ℕ) → list_all is_node_name_byte t ≡ true → list_all is_node_name_byte u ≡ true → Begins ((above ++ t) ++ 47 ∷ []) ((above ++ u) ++ 47 ∷ []) → t ≡ u
 one_name above t u h g b =
     name_ends t u b.tail h g (append_cancel_left above (u ++ 47 ∷ []) (t ++ 47 ∷ b.tail) (sym (append_assoc above u (47 ∷ [])) ∙ b.is ∙ append_assoc (above ++ t) (47 ∷ []) b.tail ∙ append_assoc above t (47 ∷ b.tail)))
 
-names_apart : (above t u : List ℕ) → (t ≢ u) × (list_all is_name_byte t ≡ true) × (list_all is_name_byte u ≡ true) → Apart (above ++ t) (above ++ u)
+names_apart : (above t u : List ℕ) → (t ≢ u) × (list_all is_node_name_byte t ≡ true) × (list_all is_node_name_byte u ≡ true) → Apart (above ++ t) (above ++ u)
 names_apart above t u h = record {
   forth = λ b. h.0 (one_name above t u h.1 h.2 b);
   back = λ b. h.0 (sym (one_name above u t h.2 h.1 b));
@@ -48,8 +48,8 @@ names_apart above t u h = record {
 
 named_apart : (above : List ℕ) (nodes : List PlanNodeValue) → Named above nodes → Pairs (λ a b. Apart a.path b.path) nodes
 named_apart above nodes named =
-    let names = pairs_with (λ t u. t ≢ u) (λ t. list_all is_name_byte t ≡ true) named.names named.distinct named.good in
-    let paths = pairs_map (λ t u. (t ≢ u) × (list_all is_name_byte t ≡ true) × (list_all is_name_byte u ≡ true)) Apart (λ t. above ++ t) (names_apart above) named.names names in
+    let names = pairs_with (λ t u. t ≢ u) (λ t. list_all is_node_name_byte t ≡ true) named.names named.distinct named.good in
+    let paths = pairs_map (λ t u. (t ≢ u) × (list_all is_node_name_byte t ≡ true) × (list_all is_node_name_byte u ≡ true)) Apart (λ t. above ++ t) (names_apart above) named.names names in
     pairs_unmap Apart (λ n. n.path) nodes (rw (named.paths) paths)
 
 -- ---- what is met from nodes begins with their paths

@@ -22,7 +22,10 @@ pub record PlanNodeValue : Type 0 where
 
 -- a node of a directory of this level, to whose path the names of its nodes are added
 abbrev pub file_at : List ℕ → ℕ → FileNodeValue → Option PlanNodeValue
-file_at above level n = option_map (λ d. record { path = above ++ n.name; level = level; kind = file d n.is_executable }) (written_digest n.digest)
+file_at above level n =
+    option_map
+    (λ d. record { path = above ++ n.name; level = level; kind = file d n.is_executable })
+    (written_digest n.digest)
 
 abbrev pub symlink_at : List ℕ → ℕ → SymlinkNodeValue → Option PlanNodeValue
 symlink_at above level n =

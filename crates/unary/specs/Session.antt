@@ -13,8 +13,8 @@ use Rattle.rpc.specs.Status.{code_of, text_of}
 use Rattle.digest.specs.Naming.{digest_of}
 use Rattle.instance_view.specs.Visible.{Blob, visible_text}
 use Rattle.quota_evict.specs.Admission.{visible_after_admission}
-pub use Rattle.quota_evict.specs.Kept.{most_blobs}
-use Rattle.cas_service.specs.Changes.{Change, visible_after_changes}
+pub use Rattle.quota_evict.specs.Within.{most_blobs}
+use Rattle.cas_service.specs.Changes.{TextChange, visible_after_changes}
 use Rattle.cas_service.specs.FindMissing.{find_missing_reply, find_missing_changes}
 use Rattle.cas_service.specs.BatchUpdate.{batch_update_reply, batch_update_changes}
 use Rattle.cas_service.specs.BatchRead.{batch_read_reply, batch_read_changes}
@@ -36,7 +36,7 @@ reply_from_store BatchUpdateBlobs s message = batch_update_reply s.name s.quota 
 reply_from_store BatchReadBlobs s message = batch_read_reply s.name s.visible message
 
 -- what a call does to the texts
-abbrev pub changes_by : Method → StoreValue → List ℕ → List Change
+abbrev pub changes_by : Method → StoreValue → List ℕ → List TextChange
 changes_by FindMissingBlobs s message = find_missing_changes s.name message
 changes_by BatchUpdateBlobs s message = batch_update_changes s.name s.quota message
 changes_by BatchReadBlobs s message = batch_read_changes s.name message

@@ -6,7 +6,7 @@ ghost use Rattle.script.specs.UnaryShown.{instance_value, command_value};
 ghost use Rattle.script.specs.UnaryLines.{instance_place};
 ghost use Rattle.rpc.specs.declared.refusal.Refusal.{Refusal};
 ghost use Rattle.unary.specs.Session.{new_store, ok_line, status_line, line_of, store_after, store_of, stores_after};
-ghost use Rattle.quota_evict.specs.Kept.{most_stored_bytes};
+ghost use Rattle.quota_evict.specs.Within.{most_stored_bytes};
 
 use crate::store::Store;
 use cas_service::CallError;

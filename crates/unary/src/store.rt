@@ -7,9 +7,9 @@ ghost use Rattle.cas_service.specs.Changes.{visible_after_changes};
 ghost use Rattle.digest.specs.Naming.{digest_of};
 ghost use Rattle.instance_view.specs.Shown.{visible_in};
 ghost use Rattle.quota_evict.specs.Admission.{visible_after_admission};
-ghost use Rattle.quota_evict.specs.Kept.{AreKept};
+ghost use Rattle.quota_evict.specs.InPool.{IsViewInPool};
 ghost use Rattle.unary.specs.Session.{new_store, reply_from_store, changes_by, is_refused, store_after_put, store_after_call};
-ghost use Rattle.quota_evict.specs.Kept.{most_stored_bytes};
+ghost use Rattle.quota_evict.specs.Within.{most_stored_bytes};
 
 use blob_pool::Pool;
 use cas_service::{CallError, batch_read, batch_update, find_missing};
@@ -31,9 +31,9 @@ pub struct Store {
 
 impl Model for Store {
     ghost use Rattle.std.specs.Prelude.{◌≡◌, ◌≤◌, ◌^◌, string_bytes};
-    ghost use Rattle.quota_evict.specs.Kept.{most_blobs, most_stored_bytes};
+    ghost use Rattle.quota_evict.specs.Within.{most_blobs, most_stored_bytes};
     ghost use Rattle.instance_view.specs.Shown.{visible_in};
-    ghost use Rattle.quota_evict.specs.Kept.{AreKept};
+    ghost use Rattle.quota_evict.specs.InPool.{IsViewInPool};
     ghost use Rattle.unary.specs.Session.{StoreValue};
 
     ghost Value = { StoreValue };
@@ -41,7 +41,7 @@ impl Model for Store {
     ghost view = { λ s. record
         { name = string_bytes s.name; quota = s.quota; visible = visible_in s.pool s.view } };
 
-    ghost invariant = { λ s. (s.quota ≤ most_stored_bytes) × AreKept s.quota s.pool s.view
+    ghost invariant = { λ s. (s.quota ≤ most_stored_bytes) × IsViewInPool s.quota s.pool s.view
         × (s.view.limit ≡ most_blobs) };
 }
 
@@ -99,14 +99,14 @@ impl Store {
 /// Stores bytes under their digest within a quota, and says whether they are refused.
 fn put(view: &mut View, pool: &mut Pool, quota: u64, bytes: &[u8]) -> Result<bool, AllocError>
     requires quota { quota ≤ most_stored_bytes }
-    requires kept { AreKept quota pool.old view.old }
+    requires kept { IsViewInPool quota pool.old view.old }
     ensures refused { IfOk result (λ refused. refused
         ≡ is_refused quota (visible_in pool.old view.old) bytes.now) }
     ensures stored { OnOk result (visible_in pool.new view.new
         ≡ visible_after_admission view.old.limit quota (digest_of bytes.now) bytes.now
         (visible_in pool.old view.old)) }
     ensures err { OnErr result ((view.new ≡ view.old) × (pool.new ≡ pool.old)) }
-    ensures kept { AreKept quota pool.new view.new }
+    ensures kept { IsViewInPool quota pool.new view.new }
     ensures limit { view.new.limit ≡ view.old.limit }
 {
     match admit(view, pool, quota, &Digest::of(bytes), bytes) {
@@ -127,7 +127,7 @@ fn call(
     message: &[u8],
 ) -> Result<Vec<u8>, CallError>
     requires quota { quota ≤ most_stored_bytes }
-    requires kept { AreKept quota pool.old view.old }
+    requires kept { IsViewInPool quota pool.old view.old }
     ensures reply { Answers (λ reply. reply.items) result
         (reply_from_store method (record
         { name = own.now; quota = quota; visible = visible_in pool.old view.old }) message.now) }
@@ -137,7 +137,7 @@ fn call(
         (changes_by method (record
         { name = own.now; quota = quota; visible = visible_in pool.old view.old }) message.now)
         (visible_in pool.old view.old)) }
-    ensures kept { AreKept quota pool.new view.new }
+    ensures kept { IsViewInPool quota pool.new view.new }
     ensures limit { view.new.limit ≡ view.old.limit }
 {
     match method {

@@ -8,7 +8,7 @@ use lib.Pointwise.{pointwise}
 use Rattle.digest.proofs.Same.{same_refl}
 use Rattle.uploads.specs.declared.error.UploadError.{UploadError}
 use Rattle.uploads.specs.declared.error.UploadError.TheVariants.{Offset, Size, Hash, TooMany, OverQuota, NoMemory}
-use Rattle.uploads.specs.Uploads.{KeyValue, UploadValue, UploadList, same_upload, upload_at, with_upload, without_upload, total_length, text_in, text_so_far, is_recent, uploads_at, WithinLimits}
+use Rattle.uploads.specs.Uploads.{KeyValue, UploadValue, UploadList, same_upload, upload_at, with_upload, without_upload, uploads_length, text_in, text_so_far, is_recent, uploads_at, AreUploadsWithin}
 use Rattle.uploads.specs.Writing.{PieceValue, is_place, if_ok, piece_answer, may_begin, begin_answer, append_answer, call_answer, finish_answer, after_piece, after_finish, Fits, Answers}
 
 same_bytes : (bs : List ℕ) → pointwise nat_eq bs bs ≡ true
@@ -59,11 +59,11 @@ with_same k u (v ∷ us) at = go (same_upload k v.0) refl (with_same k u us) at 
 
 -- ---- bytes and numbers
 
-pub bytes_with : (k : KeyValue) (u : UploadValue) (us : UploadList) → total_length (with_upload k u us) + length (text_so_far k us) ≡ total_length us + length u.text
+pub bytes_with : (k : KeyValue) (u : UploadValue) (us : UploadList) → uploads_length (with_upload k u us) + length (text_so_far k us) ≡ uploads_length us + length u.text
 bytes_with k u [] = omega arith
 bytes_with k u (v ∷ us) = go (same_upload k v.0) refl (bytes_with k u us) where
-  go : (s : Bool) → same_upload k v.0 ≡ s → total_length (with_upload k u us) + length (text_so_far k us) ≡ total_length us + length u.text
-      → total_length (with_upload k u (v ∷ us)) + length (text_so_far k (v ∷ us)) ≡ total_length (v ∷ us) + length u.text
+  go : (s : Bool) → same_upload k v.0 ≡ s → uploads_length (with_upload k u us) + length (text_so_far k us) ≡ uploads_length us + length u.text
+      → uploads_length (with_upload k u (v ∷ us)) + length (text_so_far k (v ∷ us)) ≡ uploads_length (v ∷ us) + length u.text
   go true is ih = rw is (omega arith)
   go false is ih = rw is (omega (arith, ih))
 
@@ -90,7 +90,7 @@ record IsSize (size : UploadList → ℕ) : Type 0 where
 by_length : IsSize length
 by_length = record { skipped = λ v us. omega arith; kept = λ v us vs less. omega (arith, less) }
 
-by_bytes : IsSize total_length
+by_bytes : IsSize uploads_length
 by_bytes = record { skipped = λ v us. omega arith; kept = λ v us vs less. omega (arith, less) }
 
 size_without : (size : UploadList → ℕ) → IsSize size → (k : KeyValue) (us : UploadList) → size (without_upload k us) ≤ size us
@@ -100,10 +100,10 @@ size_without size is k (v ∷ us) = go (same_upload k v.0) refl (size_without si
   go true here less = rw here (is.skipped v us)
   go false here less = rw here (is.kept v (without_upload k us) us less)
 
-pub text-short : (k : KeyValue) (us : UploadList) → length (text_so_far k us) ≤ total_length us
+pub text-short : (k : KeyValue) (us : UploadList) → length (text_so_far k us) ≤ uploads_length us
 text-short k [] = omega arith
 text-short k (v ∷ us) = go (same_upload k v.0) refl (text-short k us) where
-  go : (s : Bool) → same_upload k v.0 ≡ s → length (text_so_far k us) ≤ total_length us → length (text_so_far k (v ∷ us)) ≤ total_length (v ∷ us)
+  go : (s : Bool) → same_upload k v.0 ≡ s → length (text_so_far k us) ≤ uploads_length us → length (text_so_far k (v ∷ us)) ≤ uploads_length (v ∷ us)
   go true is ih = rw is (omega arith)
   go false is ih = rw is (omega (arith, ih))
 
@@ -116,15 +116,15 @@ size_filter size is test (v ∷ us) = go (test v) refl (size_filter size is test
 
 -- ---- within the limits
 
-pub within_unexpired : (quota moment : ℕ) (us : UploadList) → WithinLimits quota us → WithinLimits quota (uploads_at moment us)
+pub within_unexpired : (quota moment : ℕ) (us : UploadList) → AreUploadsWithin quota us → AreUploadsWithin quota (uploads_at moment us)
 within_unexpired quota moment us h = record {
-  bytes = let b = size_filter total_length by_bytes (is_recent moment) us in let q = h.bytes in omega arith;
+  bytes = let b = size_filter uploads_length by_bytes (is_recent moment) us in let q = h.bytes in omega arith;
   count = let n = size_filter length by_length (is_recent moment) us in let q = h.count in omega arith;
 }
 
-pub within_without : (quota : ℕ) (k : KeyValue) (us : UploadList) → WithinLimits quota us → WithinLimits quota (without_upload k us)
+pub within_without : (quota : ℕ) (k : KeyValue) (us : UploadList) → AreUploadsWithin quota us → AreUploadsWithin quota (without_upload k us)
 within_without quota k us h = record {
-  bytes = let b = size_without total_length by_bytes k us in let q = h.bytes in omega arith;
+  bytes = let b = size_without uploads_length by_bytes k us in let q = h.bytes in omega arith;
   count = let n = size_without length by_length k us in let q = h.count in omega arith;
 }
 
@@ -139,9 +139,9 @@ piece_bounds false past over h = cc
 
 -- a piece that is taken leaves the text within its size, and all texts within the quota
 pub piece_room : (quota : ℕ) (k : KeyValue) (piece : PieceValue) (us : UploadList) → piece_answer quota k piece us ≡ Ok tt
-    → (length (text_so_far k us) + length piece.bytes ≤ k.digest.size) × (total_length us + length piece.bytes ≤ quota)
+    → (length (text_so_far k us) + length piece.bytes ≤ k.digest.size) × (uploads_length us + length piece.bytes ≤ quota)
 piece_room quota k piece us h =
-    let bounds = piece_bounds (is_place piece.offset (length (text_so_far k us))) (nat_lt k.digest.size (length (text_so_far k us) + length piece.bytes)) (nat_lt quota (total_length us + length piece.bytes)) h in
+    let bounds = piece_bounds (is_place piece.offset (length (text_so_far k us))) (nat_lt k.digest.size (length (text_so_far k us) + length piece.bytes)) (nat_lt quota (uploads_length us + length piece.bytes)) h in
     let past = bounds.0 in
     let over = bounds.1 in
     (grind (arith, nat_tests), grind (arith, nat_tests))
@@ -154,9 +154,9 @@ fits_piece quota k piece us small h =
     let own = text-short k us in
     record { named = named; short = omega arith }
 
-within_with : (quota moment : ℕ) (k : KeyValue) (piece : PieceValue) (us : UploadList) → WithinLimits quota us
-    → total_length us + length piece.bytes ≤ quota → length (with_upload k (record { text = text_so_far k us ++ piece.bytes; written = moment }) us) ≤ 64
-    → WithinLimits quota (with_upload k (record { text = text_so_far k us ++ piece.bytes; written = moment }) us)
+within_with : (quota moment : ℕ) (k : KeyValue) (piece : PieceValue) (us : UploadList) → AreUploadsWithin quota us
+    → uploads_length us + length piece.bytes ≤ quota → length (with_upload k (record { text = text_so_far k us ++ piece.bytes; written = moment }) us) ≤ 64
+    → AreUploadsWithin quota (with_upload k (record { text = text_so_far k us ++ piece.bytes; written = moment }) us)
 within_with quota moment k piece us h room few = record {
   bytes =
       let b = bytes_with k (record { text = text_so_far k us ++ piece.bytes; written = moment }) us in
@@ -166,9 +166,9 @@ within_with quota moment k piece us h room few = record {
 }
 
 -- the answers of a piece, one by one
-pub within_after : (quota moment : ℕ) (k : KeyValue) (piece : PieceValue) (us : UploadList) (r : Result Unit UploadError) → WithinLimits quota us
-    → OnOk r ((total_length us + length piece.bytes ≤ quota) × (length (with_upload k (record { text = text_so_far k us ++ piece.bytes; written = moment }) us) ≤ 64))
-    → WithinLimits quota (after_piece moment k piece r us)
+pub within_after : (quota moment : ℕ) (k : KeyValue) (piece : PieceValue) (us : UploadList) (r : Result Unit UploadError) → AreUploadsWithin quota us
+    → OnOk r ((uploads_length us + length piece.bytes ≤ quota) × (length (with_upload k (record { text = text_so_far k us ++ piece.bytes; written = moment }) us) ≤ 64))
+    → AreUploadsWithin quota (after_piece moment k piece r us)
 within_after quota moment k piece us (Ok u) h room = within_with quota moment k piece us h room.0 room.1
 within_after quota moment k piece us (Err Offset) h room = h
 within_after quota moment k piece us (Err Size) h room = within_without quota k us h
@@ -208,16 +208,16 @@ begin_count quota moment k u us h ok = go (is_some (upload_at k us)) refl (few_b
       let n = length_with k u us in
       omega arith
 
-within_begin : (quota moment : ℕ) (k : KeyValue) (piece : PieceValue) (us : UploadList) (r : Result Unit UploadError) → WithinLimits quota us
-    → Answers r (begin_answer quota k piece us) → WithinLimits quota (after_piece moment k piece r us)
+within_begin : (quota moment : ℕ) (k : KeyValue) (piece : PieceValue) (us : UploadList) (r : Result Unit UploadError) → AreUploadsWithin quota us
+    → Answers r (begin_answer quota k piece us) → AreUploadsWithin quota (after_piece moment k piece r us)
 within_begin quota moment k piece us (Ok u) h a =
     let both = if_ok_both (may_begin quota k us) (piece_answer quota k piece us) (sym a) in
     within_after quota moment k piece us (Ok u) h
     ((piece_room quota k piece us both.1).1, begin_count quota moment k (record { text = text_so_far k us ++ piece.bytes; written = moment }) us h.count both.0)
 within_begin quota moment k piece us (Err e) h a = within_after quota moment k piece us (Err e) h tt
 
-within_append : (quota moment : ℕ) (k : KeyValue) (piece : PieceValue) (us : UploadList) (r : Result Unit UploadError) → WithinLimits quota us
-    → Answers r (append_answer quota k piece us) → WithinLimits quota (after_piece moment k piece r us)
+within_append : (quota moment : ℕ) (k : KeyValue) (piece : PieceValue) (us : UploadList) (r : Result Unit UploadError) → AreUploadsWithin quota us
+    → Answers r (append_answer quota k piece us) → AreUploadsWithin quota (after_piece moment k piece r us)
 within_append quota moment k piece us (Ok u) h a =
     let both = append_both (is_some (upload_at k us)) (piece_answer quota k piece us) (sym a) in
     let n = length_with_there k (record { text = text_so_far k us ++ piece.bytes; written = moment }) us both.0 in
@@ -225,8 +225,8 @@ within_append quota moment k piece us (Ok u) h a =
     within_after quota moment k piece us (Ok u) h ((piece_room quota k piece us both.1).1, omega arith)
 within_append quota moment k piece us (Err e) h a = within_after quota moment k piece us (Err e) h tt
 
-pub within_call : (first : Bool) (quota moment : ℕ) (k : KeyValue) (piece : PieceValue) (us : UploadList) (r : Result Unit UploadError) → WithinLimits quota us
-    → Answers r (call_answer first quota k piece us) → WithinLimits quota (after_piece moment k piece r us)
+pub within_call : (first : Bool) (quota moment : ℕ) (k : KeyValue) (piece : PieceValue) (us : UploadList) (r : Result Unit UploadError) → AreUploadsWithin quota us
+    → Answers r (call_answer first quota k piece us) → AreUploadsWithin quota (after_piece moment k piece r us)
 within_call true quota moment k piece us r h a = within_begin quota moment k piece us r h a
 within_call false quota moment k piece us r h a = within_append quota moment k piece us r h a
 
@@ -262,5 +262,5 @@ pub extended_err : (k : KeyValue) (a u w : UploadValue) (us us1 us2 : UploadList
 extended_err k a u w us us1 us2 (Ok x) e1 at same e2 = tt
 extended_err k a u w us us1 us2 (Err e) e1 at same e2 = put_back k a u w us us1 us2 e1 at same e2
 
-pub within_same : (quota : ℕ) (us us2 : UploadList) → us2 ≡ us → WithinLimits quota us → WithinLimits quota us2
+pub within_same : (quota : ℕ) (us us2 : UploadList) → us2 ≡ us → AreUploadsWithin quota us → AreUploadsWithin quota us2
 within_same quota us us2 e h = rw e h

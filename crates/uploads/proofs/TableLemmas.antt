@@ -13,7 +13,7 @@ use lib.Pointwise.{pointwise}
 use Rattle.std.specs.Prelude.{nat_eq}
 use Rattle.uploads.specs.declared.key.UploadKey.{UploadKey}
 use Rattle.uploads.specs.declared.table.Upload.{Upload}
-use Rattle.uploads.specs.Uploads.{KeyValue, UploadValue, same_upload, upload_at, with_upload, without_upload, is_recent, uploads_at, total_length, text_so_far}
+use Rattle.uploads.specs.Uploads.{KeyValue, UploadValue, same_upload, upload_at, with_upload, without_upload, is_recent, uploads_at, uploads_length, text_so_far}
 use Rattle.uploads.specs.Shown.{key_shown, upload_shown, entry_shown, IsWhole, AreWhole}
 
 -- whether two keys are one, as the table compares them
@@ -94,7 +94,7 @@ unexpired_shown moment (e ∷ es) = go (nat_lt (moment - e.1.written) 600000) re
 
 -- ---- sums
 
-pub bytes_shown : (es : List (UploadKey × Upload)) → sum_by (λ (u : Upload). length u.draft.text) (map (λ (e : UploadKey × Upload). e.1) es) ≡ total_length (map entry_shown es)
+pub bytes_shown : (es : List (UploadKey × Upload)) → sum_by (λ (u : Upload). length u.draft.text) (map (λ (e : UploadKey × Upload). e.1) es) ≡ uploads_length (map entry_shown es)
 bytes_shown [] = refl
 bytes_shown (e ∷ es) = sum_by-cons (λ (u : Upload). length u.draft.text) e.1 (map (λ (d : UploadKey × Upload). d.1) es) ∙ ap (λ n. length e.1.draft.text + n) (bytes_shown es)
 

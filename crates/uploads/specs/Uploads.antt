@@ -38,9 +38,9 @@ abbrev pub without_upload : KeyValue → UploadList → UploadList
 without_upload key uploads = remove_entry (same_upload key) uploads
 
 -- how many bytes the texts have together
-abbrev pub total_length : UploadList → ℕ
-total_length [] = 0
-total_length (u ∷ us) = length u.1.text + total_length us
+abbrev pub uploads_length : UploadList → ℕ
+uploads_length [] = 0
+uploads_length (u ∷ us) = length u.1.text + uploads_length us
 
 -- the text so far, and none of an upload that is not there
 abbrev pub text_in : Option UploadValue → List ℕ
@@ -59,7 +59,7 @@ abbrev pub uploads_at : ℕ → UploadList → UploadList
 uploads_at moment uploads = filter (is_recent moment) uploads
 
 -- the limits that uploads keep
-pub record WithinLimits (quota : ℕ) (uploads : UploadList) : Type 0 where
+pub record AreUploadsWithin (quota : ℕ) (uploads : UploadList) : Type 0 where
   -- the texts have no more bytes together than the quota
-  pub bytes : total_length uploads ≤ quota
+  pub bytes : uploads_length uploads ≤ quota
   pub count : length uploads ≤ MOST_UPLOADS

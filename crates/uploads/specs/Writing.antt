@@ -6,7 +6,7 @@ use Rattle.blob_pool.specs.TextConstants.{MOST_BYTES}
 use Rattle.uploads.specs.declared.error.UploadError.{UploadError}
 use Rattle.uploads.specs.declared.error.UploadError.TheVariants.{Offset, Size, Hash, TooMany, OverQuota, NoMemory}
 use Rattle.uploads.specs.declared.steps.TheConstants.{MOST_UPLOADS}
-use Rattle.uploads.specs.Uploads.{KeyValue, UploadList, upload_at, with_upload, without_upload, text_so_far, total_length}
+use Rattle.uploads.specs.Uploads.{KeyValue, UploadList, upload_at, with_upload, without_upload, text_so_far, uploads_length}
 
 -- where a piece begins, and its bytes
 pub record PieceValue : Type 0 where
@@ -29,7 +29,7 @@ piece_answer quota key piece uploads =
     if not (is_place piece.offset (length (text_so_far key uploads))) then Err Offset
     else (if nat_lt key.digest.size (length (text_so_far key uploads) + length piece.bytes)
     then Err Size
-    else (if nat_lt quota (total_length uploads + length piece.bytes) then Err OverQuota
+    else (if nat_lt quota (uploads_length uploads + length piece.bytes) then Err OverQuota
     else Ok tt))
 
 -- a piece leaves room for itself
@@ -64,7 +64,8 @@ call_answer first quota key piece uploads =
 abbrev pub after_piece : ℕ → KeyValue → PieceValue → Result Unit UploadError → UploadList →
     UploadList
 after_piece moment key piece (Ok _) uploads =
-    with_upload key (record { text = text_so_far key uploads ++ piece.bytes; written = moment }) uploads
+    with_upload key
+    (record { text = text_so_far key uploads ++ piece.bytes; written = moment }) uploads
 after_piece moment key piece (Err Size) uploads = without_upload key uploads
 after_piece moment key piece (Err e) uploads = uploads
 

@@ -6,12 +6,12 @@ ghost use Rattle.blob_pool.specs.Moves.{Moves};
 ghost use Rattle.blob_pool.specs.TextConstants.{MOST_BYTES};
 ghost use Rattle.instance_view.specs.Shown.{visible_in, holders};
 ghost use Rattle.quota_evict.specs.Admission.{visible_after_admission};
-ghost use Rattle.quota_evict.specs.Kept.{AreKept};
-ghost use Rattle.uploads.specs.Uploads.{total_length, upload_at, with_upload, text_so_far, WithinLimits};
+ghost use Rattle.quota_evict.specs.InPool.{IsViewInPool};
+ghost use Rattle.uploads.specs.Uploads.{uploads_length, upload_at, with_upload, text_so_far, AreUploadsWithin};
 ghost use Rattle.uploads.specs.Writing as writing;
 ghost use Rattle.uploads.specs.Writing.{Answers, Fits, piece_answer, call_answer, finish_answer, after_piece, after_finish, may_begin};
 ghost use Rattle.uploads.specs.Shown.{key_shown, upload_shown, entry_shown, piece_shown, IsWhole, AreWhole};
-ghost use Rattle.quota_evict.specs.Kept.{most_stored_bytes};
+ghost use Rattle.quota_evict.specs.Within.{most_stored_bytes};
 
 use crate::error::UploadError;
 use crate::key::UploadKey;
@@ -71,7 +71,7 @@ fn check_piece(
     piece: &Piece<'_>,
 ) -> Result<(), UploadError>
     requires quota { quota ≤ most_stored_bytes }
-    requires within { WithinLimits quota (map entry_shown table.now.entries) }
+    requires within { AreUploadsWithin quota (map entry_shown table.now.entries) }
     ensures { result ≡ piece_answer quota (key_shown key.now) (piece_shown piece.now)
         (map entry_shown table.now.entries) }
 {
@@ -177,7 +177,7 @@ fn check(
     piece: &Piece<'_>,
 ) -> Result<(), UploadError>
     requires quota { quota ≤ most_stored_bytes }
-    requires within { WithinLimits quota (map entry_shown table.now.entries) }
+    requires within { AreUploadsWithin quota (map entry_shown table.now.entries) }
     ensures { result ≡ call_answer first quota (key_shown key.now) (piece_shown piece.now)
         (map entry_shown table.now.entries) }
 {
@@ -204,7 +204,7 @@ pub fn take_piece(
     piece: &Piece<'_>,
 ) -> Result<(), UploadError>
     requires quota { quota ≤ most_stored_bytes }
-    requires within { WithinLimits quota (map entry_shown table.old.entries) }
+    requires within { AreUploadsWithin quota (map entry_shown table.old.entries) }
     requires whole { AreWhole table.old.entries }
     ensures answer { Answers result (call_answer first quota (key_shown key.now)
         (piece_shown piece.now) (map entry_shown table.old.entries)) }
@@ -235,15 +235,15 @@ pub fn finish(
     key: &UploadKey,
 ) -> Result<(), UploadError>
     requires quota { quota ≤ most_stored_bytes }
-    requires kept { AreKept quota pool.old view.old }
-    requires within { WithinLimits quota (map entry_shown table.old.entries) }
+    requires kept { IsViewInPool quota pool.old view.old }
+    requires within { AreUploadsWithin quota (map entry_shown table.old.entries) }
     requires there { IsSome (upload_at (key_shown key.now) (map entry_shown table.old.entries)) }
     requires whole { AreWhole table.old.entries }
     ensures answer { Answers result (finish_answer (key_shown key.now)
         (map entry_shown table.old.entries)) }
     ensures uploads { map entry_shown table.new.entries
         ≡ after_finish (key_shown key.now) result (map entry_shown table.old.entries) }
-    ensures within { WithinLimits quota (map entry_shown table.new.entries) }
+    ensures within { AreUploadsWithin quota (map entry_shown table.new.entries) }
     ensures whole { AreWhole table.new.entries }
     ensures admitted { OnOk result (visible_in pool.new view.new
         ≡ visible_after_admission view.old.limit quota (key_shown key.now).digest
@@ -251,7 +251,7 @@ pub fn finish(
         (visible_in pool.old view.old)) }
     ensures err { OnErr result ((view.new ≡ view.old) × (pool.new ≡ pool.old)) }
     ensures moves { Moves pool.old pool.new (holders view.old) (holders view.new) }
-    ensures kept { AreKept quota pool.new view.new }
+    ensures kept { IsViewInPool quota pool.new view.new }
     ensures limit { view.new.limit ≡ view.old.limit }
 {
     let mut upload = exchange(table, key, Upload::empty(alloc));

@@ -5,7 +5,7 @@ ghost use Rattle.std.specs.List.{sum_by, filter};
 ghost use Rattle.std.specs.Option.{option_copied};
 ghost use Rattle.indexmap.specs.IndexMap.{values};
 ghost use Rattle.digest.specs.Naming.{Names, same_digest, digest_of};
-ghost use Rattle.uploads.specs.Uploads.{total_length, upload_at, with_upload, without_upload, text_so_far, uploads_at};
+ghost use Rattle.uploads.specs.Uploads.{uploads_length, upload_at, with_upload, without_upload, text_so_far, uploads_at};
 ghost use Rattle.uploads.specs.Shown.{key_shown, upload_shown, entry_shown, IsWhole, AreWhole};
 
 use crate::key::UploadKey;
@@ -56,8 +56,8 @@ fn sum_of_lengths(table: &Table) -> u64
 
 /// How many bytes all uploads have together.
 pub fn total(table: &Table) -> u64
-    requires { total_length (map entry_shown table.now.entries) < 2 ^ 64 }
-    ensures { result ≡ total_length (map entry_shown table.now.entries) }
+    requires { uploads_length (map entry_shown table.now.entries) < 2 ^ 64 }
+    ensures { result ≡ uploads_length (map entry_shown table.now.entries) }
 {
     sum_of_lengths(table)
 }

@@ -5,11 +5,11 @@ ghost use Rattle.blob_pool.specs.Moves.{Moves};
 ghost use Rattle.blob_pool.specs.TextConstants.{MOST_BYTES};
 ghost use Rattle.instance_view.specs.Shown.{visible_in, holders};
 ghost use Rattle.quota_evict.specs.Admission.{visible_after_admission};
-ghost use Rattle.quota_evict.specs.Kept.{AreKept};
-ghost use Rattle.uploads.specs.Uploads.{upload_at, text_so_far, uploads_at, WithinLimits};
+ghost use Rattle.quota_evict.specs.InPool.{IsViewInPool};
+ghost use Rattle.uploads.specs.Uploads.{upload_at, text_so_far, uploads_at, AreUploadsWithin};
 ghost use Rattle.uploads.specs.Writing.{Answers, call_answer, finish_answer, after_piece, after_finish};
 ghost use Rattle.uploads.specs.Shown.{key_shown, piece_shown};
-ghost use Rattle.quota_evict.specs.Kept.{most_stored_bytes};
+ghost use Rattle.quota_evict.specs.Within.{most_stored_bytes};
 
 use crate::error::UploadError;
 use crate::key::UploadKey;
@@ -73,12 +73,12 @@ impl Uploads {
         piece: &Piece<'_>,
     ) -> Result<(), UploadError>
         requires quota { quota ≤ most_stored_bytes }
-        requires within { WithinLimits quota self.old }
+        requires within { AreUploadsWithin quota self.old }
         ensures answer { Answers result (call_answer first quota (key_shown key.now)
             (piece_shown piece.now) self.old) }
         ensures uploads { self.new ≡ after_piece moment (key_shown key.now)
             (piece_shown piece.now) result self.old }
-        ensures within { WithinLimits quota self.new }
+        ensures within { AreUploadsWithin quota self.new }
     {
         steps::take_piece(&mut self.table, alloc, quota, moment, first, key, piece)
     }
@@ -95,18 +95,18 @@ impl Uploads {
         key: &UploadKey,
     ) -> Result<(), UploadError>
         requires quota { quota ≤ most_stored_bytes }
-        requires kept { AreKept quota pool.old view.old }
-        requires within { WithinLimits quota self.old }
+        requires kept { IsViewInPool quota pool.old view.old }
+        requires within { AreUploadsWithin quota self.old }
         requires there { IsSome (upload_at (key_shown key.now) self.old) }
         ensures answer { Answers result (finish_answer (key_shown key.now) self.old) }
         ensures uploads { self.new ≡ after_finish (key_shown key.now) result self.old }
-        ensures within { WithinLimits quota self.new }
+        ensures within { AreUploadsWithin quota self.new }
         ensures admitted { OnOk result (visible_in pool.new view.new
             ≡ visible_after_admission view.old.limit quota (key_shown key.now).digest
             (text_so_far (key_shown key.now) self.old) (visible_in pool.old view.old)) }
         ensures err { OnErr result ((view.new ≡ view.old) × (pool.new ≡ pool.old)) }
         ensures moves { Moves pool.old pool.new (holders view.old) (holders view.new) }
-        ensures kept { AreKept quota pool.new view.new }
+        ensures kept { IsViewInPool quota pool.new view.new }
         ensures limit { view.new.limit ≡ view.old.limit }
     {
         steps::finish(&mut self.table, alloc, quota, view, pool, key)
@@ -116,7 +116,8 @@ impl Uploads {
     /// memory.
     pub fn expire(&mut self, moment: u64)
         ensures left { self.new ≡ uploads_at moment self.old }
-        ensures within { (quota : ℕ) → WithinLimits quota self.old → WithinLimits quota self.new }
+        ensures within { (quota : ℕ) → AreUploadsWithin quota self.old →
+            AreUploadsWithin quota self.new }
     {
         table::expire(&mut self.table, moment);
     }

@@ -57,7 +57,7 @@ pub record IsSteady {A E : Type 0} (f : Format A E) : Type 0 where
   pub fault : (t more : List ℕ) (e : E) → f.whole_at t ≡ Err e → f.whole_at (t ++ more) ≡ Err e
 
 -- behind these items of a text stand those of what is left of it, whatever follows
-abbrev pub AreGiven : {A E : Type 0} → (List ℕ → Division A E) → (List ℕ → Division A E) →
+abbrev pub AreItemsSoFar : {A E : Type 0} → (List ℕ → Division A E) → (List ℕ → Division A E) →
     List ℕ → List A → Type 0
-AreGiven divided left text given =
+AreItemsSoFar divided left text given =
     (more : List ℕ) → divided (text ++ more) ≡ behind given (left more)

@@ -5,9 +5,11 @@ ghost use Rattle.http2_streams.specs.Rules.{no_effect, event_only, reset_frame, 
 
 use crate::event::{Event, StreamEvent};
 use http2_frames::{ErrorCode, Frame};
-use http2_headers::H2Fault;
+use http2_headers::ConnectionFault;
 
-pub(super) const PROTOCOL_ERROR: H2Fault = H2Fault::Connection(ErrorCode::ProtocolError);
+pub(super) const PROTOCOL_ERROR: ConnectionFault = ConnectionFault::Connection(
+    ErrorCode::ProtocolError,
+);
 
 pub(super) fn nothing<'a>() -> StreamEvent<'a>
     ensures { result ≡ no_effect }

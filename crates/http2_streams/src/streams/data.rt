@@ -11,7 +11,7 @@ use crate::stream::Side;
 use crate::streams::Streams;
 use crate::streams::answers::{PROTOCOL_ERROR, brings, nothing, reset_frame, update};
 use http2_frames::{ErrorCode, Octets};
-use http2_headers::H2Fault;
+use http2_headers::ConnectionFault;
 
 impl Streams {
     pub(super) fn on_data<'a>(
@@ -20,7 +20,7 @@ impl Streams {
         stream: u32,
         end_stream: bool,
         content: Octets<'a>,
-    ) -> Result<StreamEvent<'a>, H2Fault>
+    ) -> Result<StreamEvent<'a>, ConnectionFault>
         ensures answer { Gives result (on_data self.old length stream end_stream content.entry) }
         ensures state { IfOk result (λ a. self.new
             ≡ after_answer a (after_client_end self.old stream end_stream)) }

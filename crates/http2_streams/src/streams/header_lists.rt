@@ -13,7 +13,7 @@ use crate::streams::answers::{PROTOCOL_ERROR, brings, nothing};
 use crate::streams::{MAX_STREAMS, Streams};
 use http2_flow::Window;
 use http2_frames::ErrorCode;
-use http2_headers::{H2Fault, HeaderList};
+use http2_headers::{ConnectionFault, HeaderList};
 
 impl Streams {
     pub(super) fn on_headers<'a>(
@@ -22,7 +22,7 @@ impl Streams {
         end_stream: bool,
         end_headers: bool,
         fragment: &[u8],
-    ) -> Result<StreamEvent<'a>, H2Fault>
+    ) -> Result<StreamEvent<'a>, ConnectionFault>
         ensures answer { Gives result (on_header_list self.old
             (list_of_block self.old.table end_headers (new_block stream end_stream fragment.now))) }
         ensures state { IfOk result (λ a. self.new
@@ -44,7 +44,7 @@ impl Streams {
         &mut self,
         end_headers: bool,
         fragment: &[u8],
-    ) -> Result<StreamEvent<'a>, H2Fault>
+    ) -> Result<StreamEvent<'a>, ConnectionFault>
         ensures answer { Gives result (on_header_list self.old
             (list_of_continuation self.old.table self.old.unfinished end_headers fragment.now)) }
         ensures state { IfOk result (λ a. self.new
@@ -59,7 +59,7 @@ impl Streams {
     }
 
     /// Takes a whole header block, which was decoded whatever becomes of its stream.
-    fn on_block<'a>(&mut self, block: HeaderList) -> Result<StreamEvent<'a>, H2Fault>
+    fn on_block<'a>(&mut self, block: HeaderList) -> Result<StreamEvent<'a>, ConnectionFault>
         ensures answer { Gives result (on_block self.old block) }
         ensures state { IfOk result (λ a. self.new
             ≡ after_answer a (after_block self.old block.stream block.end_stream)) }
@@ -78,7 +78,7 @@ impl Streams {
         if self.is_remembered(block.stream) {
             return Ok(nothing());
         }
-        Err(H2Fault::Connection(ErrorCode::StreamClosed))
+        Err(ConnectionFault::Connection(ErrorCode::StreamClosed))
     }
 
     #[tactic(auto, using(crate::proofs::StreamLists::without_fresh))]

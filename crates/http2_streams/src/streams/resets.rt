@@ -12,7 +12,7 @@ use crate::live;
 use crate::streams::answers::{PROTOCOL_ERROR, brings, reset_frame};
 use crate::streams::{MAX_REMEMBERED, Streams};
 use http2_frames::ErrorCode;
-use http2_headers::H2Fault;
+use http2_headers::ConnectionFault;
 use std::collections::VecDeque;
 
 impl Streams {
@@ -52,7 +52,7 @@ impl Streams {
         }
     }
 
-    pub(super) fn on_reset<'a>(&mut self, stream: u32) -> Result<StreamEvent<'a>, H2Fault>
+    pub(super) fn on_reset<'a>(&mut self, stream: u32) -> Result<StreamEvent<'a>, ConnectionFault>
         ensures answer { Gives result (on_reset self.old stream) }
         ensures state { IfOk result (λ a. self.new
             ≡ after_answer a (with_live self.old (without_stream stream self.old.live))) }

@@ -15,14 +15,14 @@ use crate::streams::Streams;
 use crate::streams::answers::nothing;
 use http2_flow::MAX_SIZE;
 use http2_frames::{ErrorCode, Frame, Setting, SettingsList, setting};
-use http2_headers::H2Fault;
+use http2_headers::ConnectionFault;
 
 impl Streams {
     pub(super) fn on_settings<'a>(
         &mut self,
         ack: bool,
         settings: SettingsList<'a>,
-    ) -> Result<StreamEvent<'a>, H2Fault>
+    ) -> Result<StreamEvent<'a>, ConnectionFault>
         ensures answer { Gives result (on_settings self.old ack settings.entry) }
         ensures state { IfOk result (λ a. self.new
             ≡ after_answer a (if ack then self.old else after_settings self.old settings.entry)) }
@@ -34,7 +34,7 @@ impl Streams {
         match read_settings(&self.live, settings) {
             Ok(Some(initial_window_size)) => self.resize(initial_window_size),
             Ok(None) => {}
-            Err(code) => return Err(H2Fault::Connection(code)),
+            Err(code) => return Err(ConnectionFault::Connection(code)),
         }
         Ok(settings_ack())
     }

@@ -11,7 +11,7 @@ use crate::streams::Streams;
 use crate::streams::answers::{PROTOCOL_ERROR, nothing};
 use http2_flow::FlowError;
 use http2_frames::ErrorCode;
-use http2_headers::H2Fault;
+use http2_headers::ConnectionFault;
 
 impl Streams {
     #[tactic(auto, using(crate::proofs::StreamLists::none_granted, crate::proofs::StreamLists::without_granted))]
@@ -19,7 +19,7 @@ impl Streams {
         &mut self,
         stream: u32,
         increment: u32,
-    ) -> Result<StreamEvent<'a>, H2Fault>
+    ) -> Result<StreamEvent<'a>, ConnectionFault>
         ensures answer { Gives result (if stream == 0 then on_connection_update self.old increment
             else on_stream_update self.old stream increment) }
         ensures state { IfOk result (λ a. self.new
@@ -45,7 +45,10 @@ impl Streams {
         Ok(nothing())
     }
 
-    fn on_connection_update<'a>(&mut self, increment: u32) -> Result<StreamEvent<'a>, H2Fault>
+    fn on_connection_update<'a>(
+        &mut self,
+        increment: u32,
+    ) -> Result<StreamEvent<'a>, ConnectionFault>
         ensures answer { Gives result (on_connection_update self.old increment) }
         ensures state { IfOk result (λ a. self.new
             ≡ after_answer a (after_window_update self.old 0 increment)) }
@@ -54,7 +57,7 @@ impl Streams {
         match self.connection_window.grant(increment) {
             Ok(()) => Ok(nothing()),
             Err(FlowError::Zero) => Err(PROTOCOL_ERROR),
-            Err(_) => Err(H2Fault::Connection(ErrorCode::FlowControlError)),
+            Err(_) => Err(ConnectionFault::Connection(ErrorCode::FlowControlError)),
         }
     }
 }

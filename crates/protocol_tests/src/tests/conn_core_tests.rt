@@ -1,6 +1,6 @@
 //! A connection from its preface to the answer of a call.
 
-ghost use Rattle.grpc_sending.specs.StoredSending.{Look, Fit};
+ghost use Rattle.grpc_sending.specs.StoredSending.{SourceTexts, QueuesEndWithin};
 
 use crate::tests::one_byte::OneByte;
 use conn_core::*;
@@ -58,51 +58,51 @@ fn letter(event: &CallEvent) -> u8 {
 // No range is owed in these tests: what is to be put fits any texts of sources.
 
 fn owe_block(connection: &mut Connection, block: ResponseBlock) -> Result<(), AllocError>
-    requires { (texts : Look) → Fit texts connection.old.sending.queues }
-    ensures { (texts : Look) → Fit texts connection.new.sending.queues }
+    requires { (texts : SourceTexts) → QueuesEndWithin texts connection.old.sending.queues }
+    ensures { (texts : SourceTexts) → QueuesEndWithin texts connection.new.sending.queues }
 {
     connection.owe_block(1, block)
 }
 
 fn owe_message(alloc: Global, connection: &mut Connection) -> Result<(), AllocError>
-    requires { (texts : Look) → Fit texts connection.old.sending.queues }
-    ensures { (texts : Look) → Fit texts connection.new.sending.queues }
+    requires { (texts : SourceTexts) → QueuesEndWithin texts connection.old.sending.queues }
+    ensures { (texts : SourceTexts) → QueuesEndWithin texts connection.new.sending.queues }
 {
     connection.owe_message(1, Vec::from_slice(alloc, MESSAGE)?)
 }
 
 fn feed(connection: &mut Connection, piece: Vec<u8>) -> Result<(), AllocError>
-    requires { (texts : Look) → Fit texts connection.old.sending.queues }
-    ensures { (texts : Look) → Fit texts connection.new.sending.queues }
+    requires { (texts : SourceTexts) → QueuesEndWithin texts connection.old.sending.queues }
+    ensures { (texts : SourceTexts) → QueuesEndWithin texts connection.new.sending.queues }
 {
     connection.feed(piece)
 }
 
 fn pop_event(connection: &mut Connection) -> Option<CallEvent>
-    requires { (texts : Look) → Fit texts connection.old.sending.queues }
-    ensures { (texts : Look) → Fit texts connection.new.sending.queues }
+    requires { (texts : SourceTexts) → QueuesEndWithin texts connection.old.sending.queues }
+    ensures { (texts : SourceTexts) → QueuesEndWithin texts connection.new.sending.queues }
 {
     connection.pop_event()
 }
 
 fn read_frame(connection: &mut Connection) -> Result<bool, AllocError>
-    requires { (texts : Look) → Fit texts connection.old.sending.queues }
-    ensures { (texts : Look) → Fit texts connection.new.sending.queues }
+    requires { (texts : SourceTexts) → QueuesEndWithin texts connection.old.sending.queues }
+    ensures { (texts : SourceTexts) → QueuesEndWithin texts connection.new.sending.queues }
 {
     connection.read_frame()
 }
 
 fn pump(connection: &mut Connection)
-    requires { (texts : Look) → Fit texts connection.old.sending.queues }
-    ensures { (texts : Look) → Fit texts connection.new.sending.queues }
+    requires { (texts : SourceTexts) → QueuesEndWithin texts connection.old.sending.queues }
+    ensures { (texts : SourceTexts) → QueuesEndWithin texts connection.new.sending.queues }
 {
     connection.pump(&OneByte);
 }
 
 /// Owes the answer to the call.
 fn answer(alloc: Global, connection: &mut Connection) -> Result<(), AllocError>
-    requires { (texts : Look) → Fit texts connection.old.sending.queues }
-    ensures { (texts : Look) → Fit texts connection.new.sending.queues }
+    requires { (texts : SourceTexts) → QueuesEndWithin texts connection.old.sending.queues }
+    ensures { (texts : SourceTexts) → QueuesEndWithin texts connection.new.sending.queues }
 {
     owe_block(connection, ResponseBlock::Head)?;
     owe_message(alloc, connection)?;
@@ -111,8 +111,8 @@ fn answer(alloc: Global, connection: &mut Connection) -> Result<(), AllocError>
 
 /// Notes each event of calls that is due as a letter.
 fn note_events(connection: &mut Connection, all: &mut Vec<u8>) -> Result<(), AllocError>
-    requires { (texts : Look) → Fit texts connection.old.sending.queues }
-    ensures { (texts : Look) → Fit texts connection.new.sending.queues }
+    requires { (texts : SourceTexts) → QueuesEndWithin texts connection.old.sending.queues }
+    ensures { (texts : SourceTexts) → QueuesEndWithin texts connection.new.sending.queues }
 {
     'events: for _ in 0..1_000_000 {
         match pop_event(connection) {
@@ -125,8 +125,8 @@ fn note_events(connection: &mut Connection, all: &mut Vec<u8>) -> Result<(), All
 
 /// Notes each event of calls as a letter, and each frame as a dot.
 fn note_frames(connection: &mut Connection, all: &mut Vec<u8>) -> Result<(), AllocError>
-    requires { (texts : Look) → Fit texts connection.old.sending.queues }
-    ensures { (texts : Look) → Fit texts connection.new.sending.queues }
+    requires { (texts : SourceTexts) → QueuesEndWithin texts connection.old.sending.queues }
+    ensures { (texts : SourceTexts) → QueuesEndWithin texts connection.new.sending.queues }
 {
     'frames: for _ in 0..1_000_000 {
         note_events(connection, all)?;
@@ -140,8 +140,8 @@ fn note_frames(connection: &mut Connection, all: &mut Vec<u8>) -> Result<(), All
 
 /// Takes bytes, notes what they bring, and pumps.
 fn receive(connection: &mut Connection, piece: &[u8], all: &mut Vec<u8>) -> Result<(), AllocError>
-    requires { (texts : Look) → Fit texts connection.old.sending.queues }
-    ensures { (texts : Look) → Fit texts connection.new.sending.queues }
+    requires { (texts : SourceTexts) → QueuesEndWithin texts connection.old.sending.queues }
+    ensures { (texts : SourceTexts) → QueuesEndWithin texts connection.new.sending.queues }
 {
     feed(connection, Vec::from_slice(*all.allocator(), piece)?)?;
     note_frames(connection, all)?;
@@ -154,8 +154,8 @@ fn receive_all(
     pieces: &[&[u8]],
     all: &mut Vec<u8>,
 ) -> Result<(), AllocError>
-    requires { (texts : Look) → Fit texts connection.old.sending.queues }
-    ensures { (texts : Look) → Fit texts connection.new.sending.queues }
+    requires { (texts : SourceTexts) → QueuesEndWithin texts connection.old.sending.queues }
+    ensures { (texts : SourceTexts) → QueuesEndWithin texts connection.new.sending.queues }
 {
     for piece in pieces {
         receive(connection, *piece, all)?;
@@ -164,8 +164,8 @@ fn receive_all(
 }
 
 fn call_and_answer(connection: &mut Connection, all: &mut Vec<u8>) -> Result<(), AllocError>
-    requires { (texts : Look) → Fit texts connection.old.sending.queues }
-    ensures { (texts : Look) → Fit texts connection.new.sending.queues }
+    requires { (texts : SourceTexts) → QueuesEndWithin texts connection.old.sending.queues }
+    ensures { (texts : SourceTexts) → QueuesEndWithin texts connection.new.sending.queues }
 {
     receive_all(connection, &[PREFACE, HEADERS, DATA, MESSAGE], all)?;
     answer(*all.allocator(), connection)?;
@@ -174,7 +174,7 @@ fn call_and_answer(connection: &mut Connection, all: &mut Vec<u8>) -> Result<(),
 }
 
 fn is_answered(connection: &mut Connection, all: &mut Vec<u8>) -> bool
-    requires { (texts : Look) → Fit texts connection.old.sending.queues }
+    requires { (texts : SourceTexts) → QueuesEndWithin texts connection.old.sending.queues }
 {
     let done = call_and_answer(connection, all).is_ok();
     let pending = connection.pending();
@@ -203,14 +203,14 @@ const MESSAGES_AND_A_FAULT: &[&[u8]] = &[
 ];
 
 fn has_events(connection: &mut Connection, all: &mut Vec<u8>) -> bool
-    requires { (texts : Look) → Fit texts connection.old.sending.queues }
+    requires { (texts : SourceTexts) → QueuesEndWithin texts connection.old.sending.queues }
 {
     let done = receive_all(connection, MESSAGES_AND_A_FAULT, all).is_ok();
     done && connection.pop_call() == None && all.as_slice() == b"..H.MM.c..C".as_slice()
 }
 
 fn gives_its_calls(connection: &mut Connection, all: &mut Vec<u8>) -> bool
-    requires { (texts : Look) → Fit texts connection.old.sending.queues }
+    requires { (texts : SourceTexts) → QueuesEndWithin texts connection.old.sending.queues }
 {
     let done = receive_all(connection, &[PREFACE, HEADERS], all).is_ok();
     done && connection.pop_call() == Some(1) && connection.pop_call() == None
@@ -218,8 +218,8 @@ fn gives_its_calls(connection: &mut Connection, all: &mut Vec<u8>) -> bool
 
 /// After these pings there is room for no further answer.
 fn fill(connection: &mut Connection, all: &mut Vec<u8>) -> Result<(), AllocError>
-    requires { (texts : Look) → Fit texts connection.old.sending.queues }
-    ensures { (texts : Look) → Fit texts connection.new.sending.queues }
+    requires { (texts : SourceTexts) → QueuesEndWithin texts connection.old.sending.queues }
+    ensures { (texts : SourceTexts) → QueuesEndWithin texts connection.new.sending.queues }
 {
     receive_all(connection, &[PREFACE, HEADERS], all)?;
     for _ in 0..7707 {
@@ -230,7 +230,7 @@ fn fill(connection: &mut Connection, all: &mut Vec<u8>) -> Result<(), AllocError
 }
 
 fn is_filled(connection: &mut Connection, all: &mut Vec<u8>) -> bool
-    requires { (texts : Look) → Fit texts connection.old.sending.queues }
+    requires { (texts : SourceTexts) → QueuesEndWithin texts connection.old.sending.queues }
 {
     let done = fill(connection, all).is_ok();
     done && connection.ended()
@@ -249,7 +249,7 @@ enum Scenario {
 }
 
 fn goes(connection: &mut Connection, all: &mut Vec<u8>, scenario: Scenario) -> bool
-    requires { (texts : Look) → Fit texts connection.old.sending.queues }
+    requires { (texts : SourceTexts) → QueuesEndWithin texts connection.old.sending.queues }
 {
     match scenario {
         Scenario::CallAndAnswer => is_answered(connection, all),

@@ -2,7 +2,7 @@
 
 ghost use Rattle.std.specs.Prelude.{◌<◌, length};
 ghost use Rattle.conn_core.specs.GrpcMessagesWire.{message_length_limit};
-ghost use Rattle.grpc_sending.specs.StoredSending.{Look, Fit};
+ghost use Rattle.grpc_sending.specs.StoredSending.{SourceTexts, QueuesEndWithin};
 
 use crate::tests::one_byte::OneByte;
 use grpc_calls::{ResponseBlock, Status};
@@ -52,8 +52,8 @@ const RESPONSE: &[u8] = b"\x00\x00\x15\x01\x04\x00\x00\x00\x01\x20\x88\x0f\x10\x
 // No range is owed in these tests: what is to be put fits any texts of sources.
 
 fn owe_block(streams: &Streams, sender: &mut Sender, block: ResponseBlock) -> Result<(), AllocError>
-    requires { (texts : Look) → Fit texts sender.old.queues }
-    ensures { (texts : Look) → Fit texts sender.new.queues }
+    requires { (texts : SourceTexts) → QueuesEndWithin texts sender.old.queues }
+    ensures { (texts : SourceTexts) → QueuesEndWithin texts sender.new.queues }
 {
     sender.owe_block(streams, 1, block)
 }
@@ -64,32 +64,32 @@ fn owe_message(
     stream: u32,
     message: Vec<u8>,
 ) -> Result<(), AllocError>
-    requires fit { (texts : Look) → Fit texts sender.old.queues }
+    requires fit { (texts : SourceTexts) → QueuesEndWithin texts sender.old.queues }
     requires short { length message.items < message_length_limit }
-    ensures { (texts : Look) → Fit texts sender.new.queues }
+    ensures { (texts : SourceTexts) → QueuesEndWithin texts sender.new.queues }
 {
     sender.owe_message(streams, stream, message)
 }
 
 fn take_all(sender: &mut Sender)
-    requires { (texts : Look) → Fit texts sender.old.queues }
-    ensures { (texts : Look) → Fit texts sender.new.queues }
+    requires { (texts : SourceTexts) → QueuesEndWithin texts sender.old.queues }
+    ensures { (texts : SourceTexts) → QueuesEndWithin texts sender.new.queues }
 {
     let all = sender.pending().len();
     sender.took(all);
 }
 
 fn pump(streams: &mut Streams, sender: &mut Sender)
-    requires { (texts : Look) → Fit texts sender.old.queues }
-    ensures { (texts : Look) → Fit texts sender.new.queues }
+    requires { (texts : SourceTexts) → QueuesEndWithin texts sender.old.queues }
+    ensures { (texts : SourceTexts) → QueuesEndWithin texts sender.new.queues }
 {
     sender.pump(streams, &OneByte);
 }
 
 /// Owes a response on stream 1, and a message on a stream that is not there.
 fn owe_response(alloc: Global, streams: &Streams, sender: &mut Sender) -> Result<(), AllocError>
-    requires { (texts : Look) → Fit texts sender.old.queues }
-    ensures { (texts : Look) → Fit texts sender.new.queues }
+    requires { (texts : SourceTexts) → QueuesEndWithin texts sender.old.queues }
+    ensures { (texts : SourceTexts) → QueuesEndWithin texts sender.new.queues }
 {
     owe_block(streams, sender, ResponseBlock::Head)?;
     owe_message(streams, sender, 1, Vec::from_slice(alloc, b"abc")?)?;
@@ -108,7 +108,7 @@ fn gives(sender: &mut Sender, wanted: &[u8]) -> bool {
 }
 
 fn sends_response(alloc: Global, streams: &mut Streams, sender: &mut Sender) -> bool
-    requires { (texts : Look) → Fit texts sender.old.queues }
+    requires { (texts : SourceTexts) → QueuesEndWithin texts sender.old.queues }
 {
     let owed = owe_response(alloc, streams, sender).is_ok();
     pump(streams, sender);
@@ -120,7 +120,7 @@ const REFUSAL: &[u8] = b"\x00\x00\x06\x01\x05\x00\x00\x00\x01\x20\x08\x03405\
 
 /// The client has not ended the stream, so it is reset after its response.
 fn sends_refusal(streams: &mut Streams, sender: &mut Sender) -> bool
-    requires { (texts : Look) → Fit texts sender.old.queues }
+    requires { (texts : SourceTexts) → QueuesEndWithin texts sender.old.queues }
 {
     let owed = owe_block(streams, sender, ResponseBlock::MethodNotAllowed).is_ok();
     pump(streams, sender);
@@ -162,8 +162,8 @@ fn has_lengths(alloc: Global, bytes: &[u8], wanted: &[usize]) -> bool {
 
 /// Owes a message of 100,000 bytes and an end on stream 1.
 fn owe_large(alloc: Global, streams: &Streams, sender: &mut Sender) -> Result<(), AllocError>
-    requires { (texts : Look) → Fit texts sender.old.queues }
-    ensures { (texts : Look) → Fit texts sender.new.queues }
+    requires { (texts : SourceTexts) → QueuesEndWithin texts sender.old.queues }
+    ensures { (texts : SourceTexts) → QueuesEndWithin texts sender.new.queues }
 {
     let message = vec![in alloc; 7u8; 100_000]?;
     owe_message(streams, sender, 1, message)?;
@@ -177,7 +177,7 @@ const UPDATES: &[u8] =
 
 /// With the default windows of 65,535 bytes.
 fn sends_large(alloc: Global, streams: &mut Streams, sender: &mut Sender) -> bool
-    requires { (texts : Look) → Fit texts sender.old.queues }
+    requires { (texts : SourceTexts) → QueuesEndWithin texts sender.old.queues }
 {
     let owed = owe_large(alloc, streams, sender).is_ok();
     pump(streams, sender);
@@ -198,7 +198,7 @@ enum Sent {
 }
 
 fn sends(alloc: Global, streams: &mut Streams, sender: &mut Sender, sent: Sent) -> bool
-    requires { (texts : Look) → Fit texts sender.old.queues }
+    requires { (texts : SourceTexts) → QueuesEndWithin texts sender.old.queues }
 {
     match sent {
         Sent::Response => sends_response(alloc, streams, sender),

@@ -11,7 +11,7 @@ const BLOCK: &[u8] = b"\x82\x86\x84";
 /// A stream, whether the request ends there, and how many fields it has.
 type List = (u32, bool, usize);
 
-fn gives(outcome: Result<Option<HeaderList>, H2Fault>, wanted: Option<List>) -> bool {
+fn gives(outcome: Result<Option<HeaderList>, ConnectionFault>, wanted: Option<List>) -> bool {
     match (outcome, wanted) {
         (Ok(Some(list)), Some((stream, end_stream, count))) => {
             list.stream == stream && list.end_stream == end_stream && list.fields.len() == count
@@ -21,9 +21,9 @@ fn gives(outcome: Result<Option<HeaderList>, H2Fault>, wanted: Option<List>) -> 
     }
 }
 
-fn refuses(outcome: Result<Option<HeaderList>, H2Fault>, code: ErrorCode) -> bool {
+fn refuses(outcome: Result<Option<HeaderList>, ConnectionFault>, code: ErrorCode) -> bool {
     match outcome {
-        Err(H2Fault::Connection(fault)) => fault == code,
+        Err(ConnectionFault::Connection(fault)) => fault == code,
         _ => false,
     }
 }

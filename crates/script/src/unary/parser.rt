@@ -2,7 +2,7 @@
 ghost use Rattle.std.specs.Prelude.{◌≡◌, ◌<◌, ◌++◌, [], ◌∷◌, map, vec_len, Some, None, Ok, Err, IfOk, IfErr, OnOk};
 ghost use Rattle.std.specs.List.{All};
 ghost use Rattle.script.specs.UnaryLines.{HasGoodInstances, instance_place};
-ghost use Rattle.script.specs.UnaryScript.{unary_script_of, after_unary_line, instance_of, put_of, call_of, place_of};
+ghost use Rattle.script.specs.UnaryScript.{unary_script_of, after_unary_line, instance_of, put_of, call_of, instance_index};
 ghost use Rattle.script.specs.Faults.{IsFaultOf};
 ghost use Rattle.script.specs.UnaryShown.{entry_value, instance_value, command_value, unary_script_value};
 ghost use Rattle.script.specs.UnaryLinesRead.{lines_value};
@@ -103,7 +103,7 @@ fn add_line(alloc: Global, lines: &mut UnaryLines, line: &[u8]) -> Result<(), Li
 
 // Adds an instance of another name than those before it.
 fn add_instance(known: &mut Quotas, instance: Instance) -> Result<(), AllocError>
-    requires { place_of (map entry_value known.old.entries) (instance_value instance).name
+    requires { instance_index (map entry_value known.old.entries) (instance_value instance).name
         ≡ None }
     ensures { OnOk result (map entry_value known.new.entries
         ≡ map entry_value known.old.entries ++ instance_value instance ∷ []) }
@@ -116,7 +116,7 @@ fn add_instance(known: &mut Quotas, instance: Instance) -> Result<(), AllocError
 fn read_instance(alloc: Global, known: &Quotas, words: Parts) -> Result<Instance, LineFault>
     ensures read { IfOk result (λ instance. instance_of (map entry_value known.now.entries)
         words.entry ≡ Some (instance_value instance)) }
-    ensures new { IfOk result (λ instance. place_of (map entry_value known.now.entries)
+    ensures new { IfOk result (λ instance. instance_index (map entry_value known.now.entries)
         (instance_value instance).name ≡ None) }
     ensures bad { result ≡ Err LineFault.Bad →
         instance_of (map entry_value known.now.entries) words.entry ≡ None }
@@ -169,7 +169,7 @@ fn read_call(alloc: Global, known: &Quotas, words: Parts) -> Result<Command, Lin
 
 // The place of the instance of that name.
 fn place(known: &Quotas, name: &[u8]) -> Option<usize>
-    ensures { result ≡ place_of (map entry_value known.now.entries) name.now }
+    ensures { result ≡ instance_index (map entry_value known.now.entries) name.now }
 {
     match str::from_utf8(name) {
         Ok(name) => known.get_index_of(name),

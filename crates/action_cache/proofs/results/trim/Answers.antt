@@ -1,5 +1,5 @@
 use Rattle.std.proofs.Common.{◌≡◌, ◌<◌, ◌⊎◌, inl, inr, true, false, map, length, ap, sym, ◌∙◌, arith, rules}
-use Rattle.instance_view.specs.Visible.{total_length}
+use Rattle.instance_view.specs.Visible.{blobs_length}
 use Rattle.action_cache.specs.Results.{result_shown, front_within}
 use Rattle.action_cache.proofs.Pairs.{front_popped, front_kept}
 use Rattle.action_cache.proofs.results.trim.Goals as goal
@@ -8,7 +8,7 @@ pub results-preserved : goal.results-preserved
 results-preserved c =
     let over : c.is_over.result ≡ true = search rules in
     let bytes = c.results.invariant.bytes_are in
-    let past : (10000 < length c.results.cache.entries) ⊎ (67108864 < total_length (map result_shown c.results.cache.entries)) = elim (c.is_over.ensures.over over) [ inl few ↦ inl few | inr short ↦ inr (omega (arith, short, bytes)) ] in
+    let past : (10000 < length c.results.cache.entries) ⊎ (67108864 < blobs_length (map result_shown c.results.cache.entries)) = elim (c.is_over.ensures.over over) [ inl few ↦ inl few | inr short ↦ inr (omega (arith, short, bytes)) ] in
     let dropped = c.pop.ensures.dropped in
     record {
       entries_are = ap (front_within 10000 67108864) c.pop.ensures.shorter ∙ front_popped 10000 67108864 c.results.cache.entries past ∙ c.results.invariant.entries_are;

@@ -1,12 +1,12 @@
 use Rattle.std.proofs.Common.{◌≡◌, map, length}
-use Rattle.instance_view.specs.Visible.{total_length}
+use Rattle.instance_view.specs.Visible.{blobs_length}
 use Rattle.action_cache.specs.Results.{result_shown, front_within}
 use Rattle.action_cache.proofs.results.trim.Given as goal
 
 abbrev pub invariant-results : goal.invariant-results
 invariant-results l = record {
   entries_are : front_within 10000 67108864 (map result_shown l.cache.entries) ≡ front_within 10000 67108864 (map result_shown l.fn.cache.entries);
-  bytes_are : l.bytes ≡ total_length (map result_shown l.cache.entries);
+  bytes_are : l.bytes ≡ blobs_length (map result_shown l.cache.entries);
   cap_is : l.cache.cap ≡ l.fn.cache.cap;
 }
 

@@ -2,7 +2,7 @@ use Rattle.std.proofs.Common.{ap, sym, subst, ◌∙◌, ◌≤◌, ◌++◌, le
 use Rattle.std.specs.Prelude.{false}
 use Rattle.http2_frames.specs.declared.frame.Frame.TheVariants.{Data}
 use Rattle.http2_frames.specs.Writing.{text_of}
-use Rattle.grpc_sending.specs.StoredSending.{AreFit, stored_on}
+use Rattle.grpc_sending.specs.StoredSending.{EndWithinTexts, stored_on}
 use Rattle.grpc_sending.proofs.Stored.{none_there, front_first}
 use Rattle.grpc_sending.proofs.sender.put_content.Goals as goal
 
@@ -19,4 +19,4 @@ pub returns-in-Some-clause-bytes : goal.returns-in-Some-clause-bytes
 returns-in-Some-clause-bytes g c = c.put_piece.ensures.bytes ∙ ap (λ (bs : List ℕ). c.args.buffer.now ++ text_of (Data c.args.stream false (take c.args.count bs))) (sym (front_first (g.P.Parts.text_of c.args.parts.now) (stored_on c.args.stream c.args.queues.now) (drop 1 (stored_on c.args.stream c.args.queues.now)) c.in-Some.piece.now c.in-Some.ensures))
 
 pub put_piece-requires-clause-fit : goal.put_piece-requires-clause-fit
-put_piece-requires-clause-fit g c = (subst (AreFit (g.P.Parts.text_of c.args.parts.now)) c.in-Some.ensures (c.requires.fit c.args.stream)).0
+put_piece-requires-clause-fit g c = (subst (EndWithinTexts (g.P.Parts.text_of c.args.parts.now)) c.in-Some.ensures (c.requires.fit c.args.stream)).0

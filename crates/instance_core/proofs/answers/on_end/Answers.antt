@@ -4,7 +4,7 @@ use Rattle.bytestream.specs.Shown.{open_write_shown}
 use Rattle.bytestream.specs.Writing.{unfinished_reply}
 use Rattle.instance_core.specs.Calls.{waits, has, writes, call_at}
 use Rattle.instance_core.specs.Answer.{final_answer}
-use Rattle.instance_core.specs.Shown.{state_of}
+use Rattle.instance_core.specs.Shown.{contents_state}
 use Rattle.instance_core.proofs.Parts.{call_found, ended_whole, ended_in_part, made_whole, made_in_part, calls_made}
 use Rattle.instance_core.proofs.answers.on_end.Goals as goal
 
@@ -16,7 +16,7 @@ returns-in-Waits-clause-replies c = λ moment.
 
 pub returns-in-Waits-clause-changed : goal.returns-in-Waits-clause-changed
 returns-in-Waits-clause-changed c = λ moment.
-    let s = state_of c.args.settings.now moment c.args.pool.now c.args.contents.now c.args.calls.now in
+    let s = contents_state c.args.settings.now moment c.args.pool.now c.args.contents.now c.args.calls.now in
     let waiting : waits ≡ c.in-Some.call.now.progress = rw c.in-Waits.is at c.progress.ensures in
     let there = call_found c.in-Some.call.now c.in-Some.call.now.method waits (call_at c.args.id c.args.calls.now) c.in-Some.ensures.found refl waiting in
     rw (← there) (calls_made c.finish.result (final_answer c.args.id (Err NoMessage)).changes s c.finish.new.calls c.finish.ensures.changed c.finish.ensures.err)
@@ -32,8 +32,8 @@ pub returns-in_ok-replies-in-Has-clause-changed : goal.returns-in_ok-replies-in-
 returns-in_ok-replies-in-Has-clause-changed c = λ moment.
     let calls = c.args.calls.now in
     let request = c.deref.result.now in
-    let s = state_of c.args.settings.now moment c.args.pool.now c.args.contents.now calls in
-    let mid = state_of c.args.settings.now moment c.answer_request.new.pool c.answer_request.new.contents calls in
+    let s = contents_state c.args.settings.now moment c.args.pool.now c.args.contents.now calls in
+    let mid = contents_state c.args.settings.now moment c.answer_request.new.pool c.answer_request.new.contents calls in
     let come : has c.in-Has.message.items ≡ c.in-Some.call.now.progress = rw c.in-Has.is at c.progress.ensures in
     let there = call_found c.in-Some.call.now c.method-method.result (has request) (call_at c.args.id calls) c.in-Some.ensures.found c.method-method.ensures (ap has c.deref.ensures.value ∙ come) in
     made_whole c.in_ok-replies-in-Has.replies _ s _
@@ -43,8 +43,8 @@ pub returns-in_err-replies-in-Has-clause-changed : goal.returns-in_err-replies-i
 returns-in_err-replies-in-Has-clause-changed c = λ moment.
     let calls = c.args.calls.now in
     let request = c.deref.result.now in
-    let s = state_of c.args.settings.now moment c.args.pool.now c.args.contents.now calls in
-    let mid = state_of c.args.settings.now moment c.answer_request.new.pool c.answer_request.new.contents calls in
+    let s = contents_state c.args.settings.now moment c.args.pool.now c.args.contents.now calls in
+    let mid = contents_state c.args.settings.now moment c.answer_request.new.pool c.answer_request.new.contents calls in
     let come : has c.in-Has.message.items ≡ c.in-Some.call.now.progress = rw c.in-Has.is at c.progress.ensures in
     let there = call_found c.in-Some.call.now c.method-method.result (has request) (call_at c.args.id calls) c.in-Some.ensures.found c.method-method.ensures (ap has c.deref.ensures.value ∙ come) in
     made_in_part c.from_residual.result _ s _ c.from_residual.ensures.0
@@ -59,7 +59,7 @@ returns-in_ok-reply-in-Writes-clause-replies c = λ moment.
 
 pub returns-in_ok-reply-in-Writes-clause-changed : goal.returns-in_ok-reply-in-Writes-clause-changed
 returns-in_ok-reply-in-Writes-clause-changed c = λ moment.
-    let s = state_of c.args.settings.now moment c.args.pool.now c.args.contents.now c.args.calls.now in
+    let s = contents_state c.args.settings.now moment c.args.pool.now c.args.contents.now c.args.calls.now in
     let write = open_write_shown c.in-Writes.write in
     let come : writes write ≡ c.in-Some.call.now.progress = rw c.in-Writes.is at c.progress.ensures in
     let there = call_found c.in-Some.call.now c.in-Some.call.now.method (writes write) (call_at c.args.id c.args.calls.now) c.in-Some.ensures.found refl come in

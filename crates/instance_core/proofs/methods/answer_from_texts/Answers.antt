@@ -2,14 +2,14 @@ use Rattle.std.proofs.Common.{◌≡◌, ℕ, List, sym, subst, ◌∙◌}
 use Rattle.std.specs.Prelude.{OnOk, OnErr}
 use Rattle.instance_view.specs.Visible.{Blob}
 use Rattle.instance_view.specs.Shown.{visible_in}
-use Rattle.quota_evict.specs.Within.{Within}
+use Rattle.quota_evict.specs.Within.{AreBlobsWithin}
 use Rattle.cas_service.specs.Changes.{visible_after_changes, MadeInPart}
 use Rattle.bytestream.specs.Reading.{read_asked}
 use Rattle.tree_calls.specs.GetTree.{get_tree_changes}
 use Rattle.instance_core.specs.Methods.{use_asked}
 use Rattle.instance_core.specs.State.{most_blobs}
-use Rattle.instance_core.specs.Given.{holders_given}
-use Rattle.instance_core.specs.Shown.{state_of}
+use Rattle.instance_core.specs.ReplyHolders.{result_holders}
+use Rattle.instance_core.specs.Shown.{contents_state}
 use Rattle.instance_core.proofs.Ranges.{read_shown, room_kept, items_plain}
 use Rattle.instance_core.proofs.methods.answer_from_texts.Goals as goal
 
@@ -23,7 +23,7 @@ returns-in-Read-clause-texts c = λ moment calls.
     let quota = c.args.settings.now.quota in
     let old = visible_in p c.args.contents.now.view in
     let asked = use_asked (read_asked c.deref.result.now c.args.message.now) in
-    let same = read_shown p q c.args.contents.now.view c.answer_read.new.view (holders_given c.answer_read.result) c.answer_read.ensures.moves c.answer_read.ensures.holders c.requires.kept.kept.held.counted in
+    let same = read_shown p q c.args.contents.now.view c.answer_read.new.view (result_holders c.answer_read.result) c.answer_read.ensures.moves c.answer_read.ensures.holders c.requires.kept.kept.held.counted in
     rw (c.in-Read.is, ← c.deref.ensures) (record {
       whole = subst (λ (bs : List Blob). OnOk c.answer_read.result (bs ≡ visible_after_changes most_blobs quota asked old)) (sym same) (c.answer_read.ensures.changed p most_blobs quota);
       memory = subst (λ (bs : List Blob). OnErr c.answer_read.result (MadeInPart most_blobs quota asked old bs)) (sym same) (c.answer_read.ensures.memory p most_blobs quota);
@@ -34,11 +34,11 @@ returns-in-Read-clause-within c =
     let p = c.args.pool.now in
     let q = c.answer_read.new.pool in
     let quota = c.args.settings.now.quota in
-    let same = read_shown p q c.args.contents.now.view c.answer_read.new.view (holders_given c.answer_read.result) c.answer_read.ensures.moves c.answer_read.ensures.holders c.requires.kept.kept.held.counted in
-    let limited = subst (λ n. Within n quota (visible_in p c.args.contents.now.view)) c.requires.kept.limit c.requires.kept.kept.within in
+    let same = read_shown p q c.args.contents.now.view c.answer_read.new.view (result_holders c.answer_read.result) c.answer_read.ensures.moves c.answer_read.ensures.holders c.requires.kept.kept.held.counted in
+    let limited = subst (λ n. AreBlobsWithin n quota (visible_in p c.args.contents.now.view)) c.requires.kept.limit c.requires.kept.kept.within in
     record {
       limit = c.answer_read.ensures.limit ∙ c.requires.kept.limit;
-      texts = subst (Within most_blobs quota) (sym same) (c.answer_read.ensures.within p most_blobs quota limited);
+      texts = subst (AreBlobsWithin most_blobs quota) (sym same) (c.answer_read.ensures.within p most_blobs quota limited);
       uploads = c.requires.kept.uploads;
       results = c.requires.kept.results;
     }
@@ -48,7 +48,7 @@ answer_by_message-requires-clause-plain c = (c.requires.apart, c.in_default.not-
 
 pub returns-in_default-clause-replies : goal.returns-in_default-clause-replies
 returns-in_default-clause-replies c = λ moment calls.
-    let s = state_of c.args.settings.now moment c.args.pool.now c.args.contents.now calls in
+    let s = contents_state c.args.settings.now moment c.args.pool.now c.args.contents.now calls in
     rw (items_plain c.args.method s c.args.message.now (c.requires.apart, c.in_default.not-Read, c.in_default.not-GetTree)) (c.answer_by_message.ensures.replies moment calls c.answer_by_message.new.pool)
 
 pub returns-in-GetTree-clause-replies : goal.returns-in-GetTree-clause-replies
@@ -75,7 +75,7 @@ returns-in-GetTree-clause-within c =
     let limit = c.answer_tree.ensures.limit ∙ c.requires.kept.limit in
     record {
       limit = limit;
-      texts = subst (λ n. Within n quota (visible_in p c.answer_tree.new.view)) limit kept.within;
+      texts = subst (λ n. AreBlobsWithin n quota (visible_in p c.answer_tree.new.view)) limit kept.within;
       uploads = c.requires.kept.uploads;
       results = c.requires.kept.results;
     }

@@ -1,6 +1,6 @@
 use Rattle.instance_view.specs.Shown.{visible_in}
 use Rattle.instance_core.specs.Methods.{LeavesResults, request_changes}
-use Rattle.instance_core.specs.Shown.{state_of}
+use Rattle.instance_core.specs.Shown.{contents_state}
 use Rattle.instance_core.proofs.Parts.{leaves, texts_make, same_uploads}
 use Rattle.instance_core.proofs.methods.answer_request.Goals as goal
 
@@ -9,7 +9,7 @@ answer_from_texts-requires-clause-apart c = (c.in_default.not-GetActionResult, c
 
 pub returns-in_default-clause-changed : goal.returns-in_default-clause-changed
 returns-in_default-clause-changed c = λ moment calls.
-    let s = state_of c.args.settings.now moment c.args.pool.now c.args.contents.now calls in
+    let s = contents_state c.args.settings.now moment c.args.pool.now c.args.contents.now calls in
     let apart : LeavesResults c.args.method = (c.in_default.not-GetActionResult, c.in_default.not-UpdateActionResult) in
     let texts = visible_in c.answer_from_texts.new.pool c.answer_from_texts.new.contents.view in
     let results = c.answer_from_texts.new.contents.results in

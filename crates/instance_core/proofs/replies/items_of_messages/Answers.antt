@@ -7,7 +7,7 @@ use Rattle.instance_core.specs.declared.event.ReplyItem.{ReplyItem}
 use Rattle.instance_core.specs.declared.event.ReplyItem.TheVariants.{Says, Ends}
 use Rattle.instance_core.specs.Replies.{says}
 use Rattle.instance_core.specs.Shown.{item_shown}
-use Rattle.instance_core.specs.Given.{items_holders}
+use Rattle.instance_core.specs.ReplyHolders.{items_holders}
 use Rattle.instance_core.proofs.replies.items_of_messages.Goals as goal
 
 abbrev bytes_of : Vec ℕ Global → List ℕ

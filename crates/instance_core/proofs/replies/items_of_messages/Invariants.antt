@@ -3,7 +3,7 @@ use Rattle.std.specs.Vec.Iter.{into_iter_items, into_iter_len}
 use Rattle.blob_pool.specs.Slots.{Slots}
 use Rattle.instance_core.specs.Replies.{begins, message_items}
 use Rattle.instance_core.specs.Shown.{item_shown}
-use Rattle.instance_core.specs.Given.{items_holders}
+use Rattle.instance_core.specs.ReplyHolders.{items_holders}
 use Rattle.instance_core.proofs.replies.items_of_messages.Given as goal
 
 abbrev pub invariant-messages : goal.invariant-messages

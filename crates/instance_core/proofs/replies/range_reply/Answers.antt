@@ -3,7 +3,7 @@ use Rattle.blob_pool.specs.Moves.{one_at}
 use Rattle.instance_core.specs.declared.event.ReplyItem.TheVariants.{Begins, Gives, Ends}
 use Rattle.instance_core.specs.Replies.{begins, gives, ends}
 use Rattle.instance_core.specs.Shown.{range_shown}
-use Rattle.instance_core.specs.Given.{items_holders}
+use Rattle.instance_core.specs.ReplyHolders.{items_holders}
 use Rattle.instance_core.proofs.Items.{items_given, items_held}
 use Rattle.instance_core.proofs.replies.range_reply.Goals as goal
 

@@ -1,19 +1,19 @@
 use Rattle.std.proofs.Common.{◌≡◌, [], refl}
 use Rattle.tree_calls.specs.Results.{update_action_result_reply, after_update}
 use Rattle.tree_calls.proofs.Short.{update_stays_within}
-use Rattle.instance_core.specs.Shown.{state_of}
+use Rattle.instance_core.specs.Shown.{contents_state}
 use Rattle.instance_core.proofs.Parts.{results_make, settled_results, answered_always, err_both}
 use Rattle.instance_core.proofs.results.answer_update.Goals as goal
 
 pub returns-clause-replies : goal.returns-clause-replies
 returns-clause-replies c = λ moment pool calls p.
-    let s = state_of c.args.settings.now moment pool c.args.contents.now calls in
+    let s = contents_state c.args.settings.now moment pool c.args.contents.now calls in
     let answer = rw c.deref.ensures at c.update_action_result-outcome.ensures.reply in
     c.settle.ensures.replies (update_action_result_reply s.name c.args.message.now) answer p
 
 pub returns-clause-changed : goal.returns-clause-changed
 returns-clause-changed c = λ moment pool calls.
-    let s = state_of c.args.settings.now moment pool c.args.contents.now calls in
+    let s = contents_state c.args.settings.now moment pool c.args.contents.now calls in
     let outcome = c.update_action_result-outcome in
     let left = rw c.deref.ensures at outcome.ensures.results in
     results_make outcome.result c.settle.result s [] (after_update s.name s.results c.args.message.now) s.visible outcome.new.results

@@ -1,19 +1,19 @@
 use Rattle.std.proofs.Common.{refl}
 use Rattle.rpc.specs.declared.method.Method.TheVariants.{Write}
-use Rattle.instance_core.specs.Shown.{state_of}
+use Rattle.instance_core.specs.Shown.{contents_state}
 use Rattle.instance_core.specs.Writes.{first_changes, first_outcome}
 use Rattle.instance_core.proofs.Writes.{first_replies, first_done}
 use Rattle.instance_core.proofs.writing.on_first_part.Goals as goal
 
 pub returns-clause-replies : goal.returns-clause-replies
 returns-clause-replies c = λ p.
-    let s = state_of c.args.settings.now c.args.moment c.args.pool.now c.args.contents.now c.args.calls.now in
+    let s = contents_state c.args.settings.now c.args.moment c.args.pool.now c.args.contents.now c.args.calls.now in
     let answer = rw c.deref.ensures at c.write_first-written.ensures.answer in
     rw (first_replies c.args.id Write (first_changes s c.args.message.now) (first_outcome s c.args.message.now)) (c.settle_first.ensures.replies (first_outcome s c.args.message.now) answer p)
 
 pub returns-clause-changed : goal.returns-clause-changed
 returns-clause-changed c =
-    let s = state_of c.args.settings.now c.args.moment c.args.pool.now c.args.contents.now c.args.calls.now in
+    let s = contents_state c.args.settings.now c.args.moment c.args.pool.now c.args.contents.now c.args.calls.now in
     let answer = rw c.deref.ensures at c.write_first-written.ensures.answer in
     let visible = rw c.deref.ensures at c.write_first-written.ensures.visible in
     let uploads = rw c.deref.ensures at c.write_first-written.ensures.uploads in

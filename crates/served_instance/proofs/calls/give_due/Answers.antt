@@ -6,7 +6,7 @@ use Rattle.blob_pool.proofs.Moves.{moves_none, moves_trans}
 use Rattle.instance_core.specs.Slots.{state_in}
 use Rattle.instance_core.specs.Shown.{event_shown}
 use Rattle.served_instance.specs.Lone.{after_due_on}
-use Rattle.served_instance.specs.Acts.{Changed, Pops, due_count, present_at, slots_of}
+use Rattle.served_instance.specs.Acts.{BecomesAt, Pops, due_count, present_at, slots_of}
 use Rattle.served_instance.specs.Shown.{connection_shown}
 use Rattle.served_instance.specs.Slots.{holders_of}
 use Rattle.served_instance.proofs.Changes.{changed_fewer, keeps_due, keeps_unread}
@@ -75,7 +75,7 @@ returns c =
     let q = c.events.pool in
     let os = c.events.connections in
     let ns = c.pop_event.new.connections in
-    let popped : Changed n os ns (Pops None) = subst (λ (o : Option CallEvent). Changed n os ns (Pops o)) c.in_default.is c.pop_event.ensures.event in
+    let popped : BecomesAt n os ns (Pops None) = subst (λ (o : Option CallEvent). BecomesAt n os ns (Pops o)) c.in_default.is c.pop_event.ensures.event in
     let first = holders_of (slots_of c.args.instance.now c.args.connections.now) in
     let before = holders_of (slots_of c.events.instance os) in
     let after = holders_of (slots_of c.events.instance ns) in

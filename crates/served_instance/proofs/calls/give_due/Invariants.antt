@@ -2,7 +2,7 @@ use Rattle.std.proofs.Common.{◌≡◌}
 use Rattle.blob_pool.specs.Moves.{Moves}
 use Rattle.served_instance.specs.Lone.{after_due_on}
 use Rattle.served_instance.specs.Acts.{LeadsIn, due_count, slots_of, unread_at}
-use Rattle.served_instance.specs.Slots.{holders_of, IsKept}
+use Rattle.served_instance.specs.Slots.{holders_of, IsServedInPool}
 use Rattle.served_instance.proofs.calls.give_due.Given as goal
 
 abbrev pub invariant-events : goal.invariant-events
@@ -10,7 +10,7 @@ invariant-events l = record {
   leads : LeadsIn l.fn.pool l.fn.instance l.fn.connections l.pool l.instance l.connections (after_due_on l.number) (after_due_on l.number);
   unread : unread_at l.number l.connections ≡ unread_at l.number l.fn.connections;
   moves : Moves l.fn.pool l.pool (holders_of (slots_of l.fn.instance l.fn.connections)) (holders_of (slots_of l.instance l.connections));
-  kept : IsKept l.pool (slots_of l.instance l.connections);
+  kept : IsServedInPool l.pool (slots_of l.instance l.connections);
 }
 
 abbrev pub decreases-events : goal.decreases-events

@@ -1,9 +1,9 @@
 use Rattle.std.proofs.Common.{map, arith, refl}
 use Rattle.std.proofs.lemmas.List.{length-map}
 use Rattle.blob_pool.specs.Moves.{no_holders}
-use Rattle.instance_core.specs.Given.{replies_holders}
+use Rattle.instance_core.specs.ReplyHolders.{replies_holders}
 use Rattle.instance_core.specs.Shown.{event_shown}
-use Rattle.served_instance.specs.Given.{RepliesEndWithin}
+use Rattle.served_instance.specs.OwedReplies.{RepliesEndWithin}
 use Rattle.served_instance.specs.Shown.{connection_shown}
 use Rattle.served_instance.specs.Acts.{slots_of}
 use Rattle.served_instance.proofs.Kept.{few_connections, instance_kept}

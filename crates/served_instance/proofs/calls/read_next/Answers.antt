@@ -2,7 +2,7 @@ use Rattle.std.proofs.Common.{◌≡◌, subst, map}
 use Rattle.std.specs.Prelude.{Bool, None}
 use Rattle.blob_pool.specs.Slots.{text_at}
 use Rattle.instance_core.specs.Slots.{state_in}
-use Rattle.served_instance.specs.Acts.{Changed, ReadsFrame, present_at}
+use Rattle.served_instance.specs.Acts.{BecomesAt, ReadsFrame, present_at}
 use Rattle.served_instance.specs.Shown.{connection_shown}
 use Rattle.served_instance.proofs.Kept.{alike_moves}
 use Rattle.served_instance.proofs.Leads.{read_leads, read_done, done_leads, read_fewer}
@@ -20,7 +20,7 @@ returns-in_ok-give_due-clause-reads c =
     let q = c.give_due.new.pool in
     let os = c.args.connections.now in
     let ns = c.read_frame.new.connections in
-    let read = subst (λ (b : Bool). Changed n os ns (ReadsFrame b)) c.if-branch.true c.in_ok-read_frame.ensures.read in
+    let read = subst (λ (b : Bool). BecomesAt n os ns (ReadsFrame b)) c.if-branch.true c.in_ok-read_frame.ensures.read in
     let there : present_at n os ≡ None → ⊥ = λ none. let e = c.in_ok-read_frame.ensures.none none in cc in
     read_leads (text_at p) (text_at q) n (state_in p c.args.instance.now) (state_in q c.give_due.new.instance) os ns c.give_due.new.connections read there c.in_ok-give_due.ensures.due
 
@@ -29,7 +29,7 @@ returns-in_ok-give_due-clause-fewer c = λ more.
     let n = c.args.number in
     let os = c.args.connections.now in
     let ns = c.read_frame.new.connections in
-    let read = subst (λ (b : Bool). Changed n os ns (ReadsFrame b)) c.if-branch.true c.in_ok-read_frame.ensures.read in
+    let read = subst (λ (b : Bool). BecomesAt n os ns (ReadsFrame b)) c.if-branch.true c.in_ok-read_frame.ensures.read in
     let there : present_at n os ≡ None → ⊥ = λ none. let e = c.in_ok-read_frame.ensures.none none in cc in
     read_fewer n os ns c.give_due.new.connections read there c.in_ok-give_due.ensures.unread
 
@@ -49,12 +49,12 @@ returns-in_err-read_frame-clause-kept c = alike_after c.args.pool.now c.args.ins
 
 pub returns-else-branch-clause-reads : goal.returns-else-branch-clause-reads
 returns-else-branch-clause-reads c =
-    let read = subst (λ (b : Bool). Changed c.args.number c.args.connections.now c.read_frame.new.connections (ReadsFrame b)) c.if-branch.false c.in_ok-read_frame.ensures.read in
+    let read = subst (λ (b : Bool). BecomesAt c.args.number c.args.connections.now c.read_frame.new.connections (ReadsFrame b)) c.if-branch.false c.in_ok-read_frame.ensures.read in
     done_leads c.args.number (state_in c.args.pool.now c.args.instance.now) c.args.connections.now c.read_frame.new.connections read (text_at c.args.pool.now)
 
 pub returns-else-branch-clause-ends : goal.returns-else-branch-clause-ends
 returns-else-branch-clause-ends c = λ last.
-    let read = subst (λ (b : Bool). Changed c.args.number c.args.connections.now c.read_frame.new.connections (ReadsFrame b)) c.if-branch.false c.in_ok-read_frame.ensures.read in
+    let read = subst (λ (b : Bool). BecomesAt c.args.number c.args.connections.now c.read_frame.new.connections (ReadsFrame b)) c.if-branch.false c.in_ok-read_frame.ensures.read in
     read_done c.args.number (state_in c.args.pool.now c.args.instance.now) c.args.connections.now c.read_frame.new.connections read (text_at c.args.pool.now)
 
 pub returns-else-branch-clause-moves : goal.returns-else-branch-clause-moves

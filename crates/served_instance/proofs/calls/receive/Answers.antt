@@ -4,7 +4,7 @@ use Rattle.blob_pool.proofs.Moves.{moves_trans}
 use Rattle.instance_core.specs.Slots.{state_in}
 use Rattle.served_instance.specs.Connections.{at_open}
 use Rattle.conn_core.specs.Past.{with_bytes}
-use Rattle.served_instance.specs.Lone.{Lone, after_bytes_on}
+use Rattle.served_instance.specs.Lone.{LoneInstance, after_bytes_on}
 use Rattle.served_instance.specs.Acts.{after_rest_on, slots_of}
 use Rattle.served_instance.specs.Shown.{connection_shown}
 use Rattle.served_instance.specs.Slots.{holders_of}
@@ -20,7 +20,7 @@ frames-init c =
     let ns = c.feed.new.connections in
     record {
       leads = λ l st.
-          let k : Lone = record l { connections = at_open c.args.number (with_bytes c.args.bytes.items) l.connections } in
+          let k : LoneInstance = record l { connections = at_open c.args.number (with_bytes c.args.bytes.items) l.connections } in
           (k, step_acts c.args.number (state_in p c.args.instance.now) os ns (with_bytes c.args.bytes.items) c.in_ok-feed.ensures.fed (text_at p) l st, refl);
       moves = alike_moves p c.args.instance.now (map connection_shown os) (map connection_shown ns) c.feed.ensures.holds;
       kept = alike_after p c.args.instance.now os ns c.feed.auto.connections c.requires.kept c.feed.ensures.holds;

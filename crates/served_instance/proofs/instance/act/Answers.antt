@@ -11,7 +11,7 @@ use Rattle.instance_core.specs.Calls.{tick as time_passes}
 use Rattle.instance_core.specs.Slots.{state_in}
 use Rattle.blob_pool.specs.Slots.{text_at}
 use Rattle.served_instance.specs.Connections.{at_open}
-use Rattle.served_instance.specs.Lone.{Lone, effect_of, after_call_event, after_opening, after_closing, after_bytes_on}
+use Rattle.served_instance.specs.Lone.{LoneInstance, effect_of, after_call_event, after_opening, after_closing, after_bytes_on}
 use Rattle.served_instance.specs.Present.{CanTake, refusal_by_what}
 use Rattle.served_instance.specs.Shown.{connection_shown}
 use Rattle.served_instance.specs.Acts.{present_at, slots_of}
@@ -66,7 +66,7 @@ returns-in-Took-clause-acted c =
     let ns = c.take.new.connections in
     let t = text_at c.args.pool.now in
     let s = state_in c.args.pool.now c.args.instance.now in
-    let step : Lone → Lone = λ l. record l { connections = at_open c.in-Took.number (λ p. with_taken p c.in-Took.count) l.connections } in
+    let step : LoneInstance → LoneInstance = λ l. record l { connections = at_open c.in-Took.number (λ p. with_taken p c.in-Took.count) l.connections } in
     let done : Result (Unit {0}) AllocError = Ok tt in
     acts_between done t t s s all.items c.deref_mut-in-Took.result.now ns _ step (effect_of (what_value c.args.what))
     c.deref_mut-in-Took.ensures.value (written_back all.len ns all.items (c.take.auto.connections ∙ ap length c.deref_mut-in-Took.ensures.value) (grind (arith, common_steps)))

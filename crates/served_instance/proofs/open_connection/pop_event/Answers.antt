@@ -1,6 +1,6 @@
 use Rattle.std.proofs.Common.{sym, ◌∙◌, map, ap}
 use Rattle.std.specs.Prelude.{None}
-use Rattle.conn_core.specs.StandsFor.{Present}
+use Rattle.conn_core.specs.StandsFor.{ConnectionValue}
 use Rattle.served_instance.specs.Acts.{Pops}
 use Rattle.served_instance.proofs.Ranges.{alike_here, alike_place, keeps_here}
 use Rattle.served_instance.specs.Shown.{connection_shown}
@@ -23,4 +23,4 @@ returns-in-None-clause-holds c = alike_here (map connection_shown c.args.connect
 
 pub returns-in-Some-clause-holds : goal.returns-in-Some-clause-holds
 returns-in-Some-clause-holds c =
-    alike_place c.args.number c.args.connections.now c.in-Some.place c.index-connections-place.result c.pop_event.new.self (sym c.find.ensures ∙ c.in-Some.is) (keeps_here _ _ (ap (λ (v : Present). v.sending) c.pop_event.ensures.rest))
+    alike_place c.args.number c.args.connections.now c.in-Some.place c.index-connections-place.result c.pop_event.new.self (sym c.find.ensures ∙ c.in-Some.is) (keeps_here _ _ (ap (λ (v : ConnectionValue). v.sending) c.pop_event.ensures.rest))

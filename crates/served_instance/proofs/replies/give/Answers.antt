@@ -1,9 +1,9 @@
 use Rattle.std.proofs.Common.{List, get_or, sym, ◌∙◌, subst}
 use Rattle.std.specs.Prelude.{OnOk}
 use Rattle.instance_core.specs.declared.event.ReplyItem.{ReplyItem}
-use Rattle.instance_core.specs.Given.{items_holders}
+use Rattle.instance_core.specs.ReplyHolders.{items_holders}
 use Rattle.served_instance.specs.Acts.{Owes}
-use Rattle.served_instance.specs.Given.{ItemsEndWithin, ReplyEndsWithin, TakesRanges, with_owed}
+use Rattle.served_instance.specs.OwedReplies.{ItemsEndWithin, ReplyEndsWithin, TakesRanges, with_owed}
 use Rattle.served_instance.proofs.Changes.{changed_none, changed_ok}
 use Rattle.served_instance.proofs.Taking.{take_at}
 use Rattle.served_instance.proofs.replies.give.Goals as goal

@@ -1,7 +1,7 @@
 use Rattle.std.proofs.Common.{rules, ◌≡◌, ◌∷◌, [], arith, ℕ, ◌≤◌, ◌+◌, map}
 use Rattle.blob_pool.specs.Slots.{count_at}
-use Rattle.instance_core.specs.Given.{items_holders}
-use Rattle.served_instance.specs.Given.{with_owed}
+use Rattle.instance_core.specs.ReplyHolders.{items_holders}
+use Rattle.served_instance.specs.OwedReplies.{with_owed}
 use Rattle.served_instance.specs.Shown.{connection_shown}
 use Rattle.served_instance.proofs.Gives.{give_more, give_keeps, keeps_trans}
 use Rattle.served_instance.proofs.Taking.{replies_left, reply_held, replies_owed, take_more, take_end, take_released}

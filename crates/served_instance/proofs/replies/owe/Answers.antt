@@ -1,6 +1,6 @@
 use Rattle.std.proofs.Common.{rules, ◌≡◌, ◌∷◌, [], refl, arith, ℕ, ◌≤◌, ◌+◌}
 use Rattle.blob_pool.specs.Slots.{count_at}
-use Rattle.instance_core.specs.Given.{item_holders}
+use Rattle.instance_core.specs.ReplyHolders.{item_holders}
 use Rattle.served_instance.proofs.Gives.{owes_more, owes_none}
 use Rattle.served_instance.proofs.Taking.{items_left, item_held, items_owed, takes_more, takes_end, takes_released}
 use Rattle.served_instance.proofs.replies.owe.Goals as goal

@@ -1,7 +1,7 @@
 use Rattle.std.proofs.Common.{ap}
 use Rattle.instance_core.specs.declared.event.ReplyItem.{ReplyItem}
-use Rattle.instance_core.specs.Given.{item_holders}
-use Rattle.served_instance.specs.Given.{EndsWithin}
+use Rattle.instance_core.specs.ReplyHolders.{item_holders}
+use Rattle.served_instance.specs.OwedReplies.{ItemEndsWithin}
 use Rattle.served_instance.proofs.Gives.{owes_by, owes_item, owes_range}
 use Rattle.served_instance.proofs.Taking.{takes_none}
 use Rattle.served_instance.proofs.replies.owe_item.Goals as goal
@@ -13,7 +13,7 @@ returns-in-Begins-clause-owes c =
 
 pub returns-in-Begins-clause-takes : goal.returns-in-Begins-clause-takes
 returns-in-Begins-clause-takes c =
-    takes_none (item_holders c.args.item) (EndsWithin c.args.item) c.args.pool.now c.args.connection.now c.owe_block.new.self (λ k. ap (λ (it : ReplyItem). item_holders it k) c.in-Begins.is)
+    takes_none (item_holders c.args.item) (ItemEndsWithin c.args.item) c.args.pool.now c.args.connection.now c.owe_block.new.self (λ k. ap (λ (it : ReplyItem). item_holders it k) c.in-Begins.is)
     (record { sources = c.owe_block.ensures.sources; fit = c.owe_block.ensures.fit })
 
 pub returns-in-Says-clause-owes : goal.returns-in-Says-clause-owes
@@ -23,7 +23,7 @@ returns-in-Says-clause-owes c =
 
 pub returns-in-Says-clause-takes : goal.returns-in-Says-clause-takes
 returns-in-Says-clause-takes c =
-    takes_none (item_holders c.args.item) (EndsWithin c.args.item) c.args.pool.now c.args.connection.now c.owe_message.new.self (λ k. ap (λ (it : ReplyItem). item_holders it k) c.in-Says.is)
+    takes_none (item_holders c.args.item) (ItemEndsWithin c.args.item) c.args.pool.now c.args.connection.now c.owe_message.new.self (λ k. ap (λ (it : ReplyItem). item_holders it k) c.in-Says.is)
     (record { sources = c.owe_message.ensures.sources; fit = c.owe_message.ensures.fit })
 
 pub returns-in-Gives-clause-owes : goal.returns-in-Gives-clause-owes
@@ -38,7 +38,7 @@ returns-in-Ends-clause-owes c =
 
 pub returns-in-Ends-clause-takes : goal.returns-in-Ends-clause-takes
 returns-in-Ends-clause-takes c =
-    takes_none (item_holders c.args.item) (EndsWithin c.args.item) c.args.pool.now c.args.connection.now c.owe_block-in-Ends.new.self (λ k. ap (λ (it : ReplyItem). item_holders it k) c.in-Ends.is)
+    takes_none (item_holders c.args.item) (ItemEndsWithin c.args.item) c.args.pool.now c.args.connection.now c.owe_block-in-Ends.new.self (λ k. ap (λ (it : ReplyItem). item_holders it k) c.in-Ends.is)
     (record { sources = c.owe_block-in-Ends.ensures.sources; fit = c.owe_block-in-Ends.ensures.fit })
 
 pub returns-in-Refuses-clause-owes : goal.returns-in-Refuses-clause-owes
@@ -48,5 +48,5 @@ returns-in-Refuses-clause-owes c =
 
 pub returns-in-Refuses-clause-takes : goal.returns-in-Refuses-clause-takes
 returns-in-Refuses-clause-takes c =
-    takes_none (item_holders c.args.item) (EndsWithin c.args.item) c.args.pool.now c.args.connection.now c.owe_block-in-Refuses.new.self (λ k. ap (λ (it : ReplyItem). item_holders it k) c.in-Refuses.is)
+    takes_none (item_holders c.args.item) (ItemEndsWithin c.args.item) c.args.pool.now c.args.connection.now c.owe_block-in-Refuses.new.self (λ k. ap (λ (it : ReplyItem). item_holders it k) c.in-Refuses.is)
     (record { sources = c.owe_block-in-Refuses.ensures.sources; fit = c.owe_block-in-Refuses.ensures.fit })

@@ -1,7 +1,7 @@
 use Rattle.std.proofs.Common.{ℕ, ◌≤◌, length}
 use Rattle.blob_pool.specs.Slots.{Slots, count_at}
 use Rattle.blob_pool.specs.Moves.{Moves, no_holders}
-use Rattle.instance_core.specs.Given.{items_holders}
+use Rattle.instance_core.specs.ReplyHolders.{items_holders}
 use Rattle.served_instance.proofs.replies.release_items.Given as goal
 
 abbrev pub invariant-items : goal.invariant-items

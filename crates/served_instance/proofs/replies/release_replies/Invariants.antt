@@ -1,7 +1,7 @@
 use Rattle.std.proofs.Common.{ℕ, ◌≤◌, length}
 use Rattle.blob_pool.specs.Slots.{Slots, count_at}
 use Rattle.blob_pool.specs.Moves.{Moves, no_holders}
-use Rattle.instance_core.specs.Given.{replies_holders}
+use Rattle.instance_core.specs.ReplyHolders.{replies_holders}
 use Rattle.served_instance.proofs.replies.release_replies.Given as goal
 
 abbrev pub invariant-replies : goal.invariant-replies

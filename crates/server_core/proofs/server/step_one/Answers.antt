@@ -3,9 +3,9 @@ use Rattle.std.specs.List.{slice_get}
 use Rattle.std.proofs.lemmas.Grind.{common_steps}
 use Rattle.std.proofs.lemmas.Option.{slice_get-get_or}
 use Rattle.std.proofs.lemmas.Result.{on_ok_weaker}
-use Rattle.served_instance.specs.Lone.{Lone}
+use Rattle.served_instance.specs.Lone.{LoneInstance}
 use Rattle.served_instance.specs.Slots.{ServedSlots, served_state_in}
-use Rattle.served_instance.specs.StandsFor.{StandsFor as IsServed}
+use Rattle.served_instance.specs.StandsFor.{IsServedInstance}
 use Rattle.server_core.specs.Shared.{all_in}
 use Rattle.server_core.specs.StandsFor.{StandsAt}
 use Rattle.server_core.proofs.Others.{kept_at, others_after, server_after, stands_here, stands_after, refused_after}
@@ -29,7 +29,7 @@ there c =
     let lt : c.args.event.instance < length c.args.instances.now = grind (arith, common_steps) in
     slice_get-get_or c.args.instances.now c.args.event.instance c.index-instances-number.result lt
 
-stood : (c : After-step) (l : Lone) → StandsAt c.args.event.instance (all_in c.args.pool.now c.args.instances.now) l → IsServed (served_state_in c.args.pool.now (found c)) l
+stood : (c : After-step) (l : LoneInstance) → StandsAt c.args.event.instance (all_in c.args.pool.now c.args.instances.now) l → IsServedInstance (served_state_in c.args.pool.now (found c)) l
 stood c l s = stands_here c.args.pool.now c.args.instances.now c.args.event.instance (found c) l (there c) s
 
 pub returns-clause-own : goal.returns-clause-own

@@ -2,7 +2,7 @@ use Rattle.std.proofs.Common.{List, sym, ap, ◌∙◌, rules}
 use Rattle.instance_view.specs.Shown.{visible_in}
 use Rattle.input_tree.specs.Listing.{tree_list}
 use Rattle.input_tree.specs.Pages.{digests_of}
-use Rattle.cas_service.specs.Changes.{Change, visible_after_changes}
+use Rattle.cas_service.specs.Changes.{TextChange, visible_after_changes}
 use Rattle.tree_calls.specs.Asking.{tree_asked_shown}
 use Rattle.tree_calls.specs.GetTree.{texts_seen}
 use Rattle.tree_calls.proofs.Using.{all_changed, all_kept, tree_changes, tree_fails}
@@ -16,7 +16,7 @@ returns-in-Ok-clause-used c = λ p quota.
     let changes = tree_changes c.args.own.now visible c.args.message.now asked _ _ c.in_ok-asked.ensures (search rules) c.in-Ok.ensures.pages in
     c.in-Ok.ensures.used p
     ∙ all_changed c.args.view.now.limit quota listed (visible_in p c.args.view.now)
-    ∙ ap (λ (cs : List Change). visible_after_changes c.args.view.now.limit quota cs (visible_in p c.args.view.now)) (sym changes)
+    ∙ ap (λ (cs : List TextChange). visible_after_changes c.args.view.now.limit quota cs (visible_in p c.args.view.now)) (sym changes)
 
 pub returns-in-Ok-clause-kept : goal.returns-in-Ok-clause-kept
 returns-in-Ok-clause-kept c = λ p quota kept.

@@ -7,7 +7,7 @@ use Rattle.http2_frames.specs.Writing.{text_of}
 use Rattle.http2_streams.specs.Sending.{CanSend}
 use Rattle.grpc_sending.specs.declared.queue.StoredQueue.{StoredQueue}
 use Rattle.grpc_sending.specs.declared.turn.Due.TheVariants.{Opens, Gives}
-use Rattle.grpc_sending.specs.StoredSending.{StoredSending, Fit, sending_in, stored_on, front_bytes, next_due}
+use Rattle.grpc_sending.specs.StoredSending.{StoredSending, QueuesEndWithin, sending_in, stored_on, front_bytes, next_due}
 use Rattle.grpc_sending.proofs.Stored.{fit_removed, fit_taken}
 use Rattle.grpc_sending.proofs.Dues.{given, puts_given, rests_given, rests_undue, opens_lives, HasOpened, opens_block, opens_last}
 use Rattle.grpc_sending.proofs.Keeping.{keeps_by}
@@ -15,42 +15,42 @@ use Rattle.grpc_sending.proofs.sender.Sender.put_next.Goals as goal
 
 pub on_headers_put-requires : goal.on_headers_put-requires
 on_headers_put-requires g c =
-    let fit : Fit (g.P.Parts.text_of c.args.parts.now) c.self.inside.backlog.queues = subst (λ (x : StoredSending). Fit (g.P.Parts.text_of c.args.parts.now) x.queues) (sym c.self.view_is) c.requires.fit in
+    let fit : QueuesEndWithin (g.P.Parts.text_of c.args.parts.now) c.self.inside.backlog.queues = subst (λ (x : StoredSending). QueuesEndWithin (g.P.Parts.text_of c.args.parts.now) x.queues) (sym c.self.view_is) c.requires.fit in
     let turn : next_due c.self.inside.backlog.queues (window_left c.args.streams.now.connection_window) c.args.streams.now.live ≡ Some (Opens c.in-Some-Opens.stream c.in-Some-Opens.block c.in-Some-Opens.ended_by_client) =
     sym (c.next_due.ensures ∙ ap (λ (qs : List StoredQueue). next_due qs (window_left c.args.streams.now.connection_window) c.args.streams.now.live) c.queues.ensures.list) ∙ c.in-Some-Opens.is ∙ ap Some c.in-Some-Opens.field-0-is in
     opens_lives (g.P.Parts.text_of c.args.parts.now) c.self.inside.backlog.queues (window_left c.args.streams.now.connection_window) c.args.streams.now.live c.in-Some-Opens.stream c.in-Some-Opens.block c.in-Some-Opens.ended_by_client fit turn
 
 pub overflow_cast-count : goal.overflow_cast-count
 overflow_cast-count g c =
-    let fit : Fit (g.P.Parts.text_of c.args.parts.now) c.self.inside.backlog.queues = subst (λ (x : StoredSending). Fit (g.P.Parts.text_of c.args.parts.now) x.queues) (sym c.self.view_is) c.requires.fit in
+    let fit : QueuesEndWithin (g.P.Parts.text_of c.args.parts.now) c.self.inside.backlog.queues = subst (λ (x : StoredSending). QueuesEndWithin (g.P.Parts.text_of c.args.parts.now) x.queues) (sym c.self.view_is) c.requires.fit in
     let turn : next_due c.self.inside.backlog.queues (window_left c.args.streams.now.connection_window) c.args.streams.now.live ≡ Some (Gives c.in-Some-Gives.stream c.in-Some-Gives.count) =
     sym (c.next_due.ensures ∙ ap (λ (qs : List StoredQueue). next_due qs (window_left c.args.streams.now.connection_window) c.args.streams.now.live) c.queues.ensures.list) ∙ c.in-Some-Gives.is ∙ ap Some c.in-Some-Gives.field-0-is in
     omega (arith, (given (g.P.Parts.text_of c.args.parts.now) c.self.inside.backlog.queues (window_left c.args.streams.now.connection_window) c.args.streams.now.live c.in-Some-Gives.stream c.in-Some-Gives.count fit turn).short)
 
 pub overflow_cast-count-in-Some-Gives : goal.overflow_cast-count-in-Some-Gives
 overflow_cast-count-in-Some-Gives g c =
-    let fit : Fit (g.P.Parts.text_of c.args.parts.now) c.self.inside.backlog.queues = subst (λ (x : StoredSending). Fit (g.P.Parts.text_of c.args.parts.now) x.queues) (sym c.self.view_is) c.requires.fit in
+    let fit : QueuesEndWithin (g.P.Parts.text_of c.args.parts.now) c.self.inside.backlog.queues = subst (λ (x : StoredSending). QueuesEndWithin (g.P.Parts.text_of c.args.parts.now) x.queues) (sym c.self.view_is) c.requires.fit in
     let turn : next_due c.self.inside.backlog.queues (window_left c.args.streams.now.connection_window) c.args.streams.now.live ≡ Some (Gives c.in-Some-Gives.stream c.in-Some-Gives.count) =
     sym (c.next_due.ensures ∙ ap (λ (qs : List StoredQueue). next_due qs (window_left c.args.streams.now.connection_window) c.args.streams.now.live) c.queues.ensures.list) ∙ c.in-Some-Gives.is ∙ ap Some c.in-Some-Gives.field-0-is in
     omega (arith, (given (g.P.Parts.text_of c.args.parts.now) c.self.inside.backlog.queues (window_left c.args.streams.now.connection_window) c.args.streams.now.live c.in-Some-Gives.stream c.in-Some-Gives.count fit turn).short)
 
 pub put_content-requires-clause-some : goal.put_content-requires-clause-some
 put_content-requires-clause-some g c =
-    let fit : Fit (g.P.Parts.text_of c.args.parts.now) c.self.inside.backlog.queues = subst (λ (x : StoredSending). Fit (g.P.Parts.text_of c.args.parts.now) x.queues) (sym c.self.view_is) c.requires.fit in
+    let fit : QueuesEndWithin (g.P.Parts.text_of c.args.parts.now) c.self.inside.backlog.queues = subst (λ (x : StoredSending). QueuesEndWithin (g.P.Parts.text_of c.args.parts.now) x.queues) (sym c.self.view_is) c.requires.fit in
     let turn : next_due c.self.inside.backlog.queues (window_left c.args.streams.now.connection_window) c.args.streams.now.live ≡ Some (Gives c.in-Some-Gives.stream c.in-Some-Gives.count) =
     sym (c.next_due.ensures ∙ ap (λ (qs : List StoredQueue). next_due qs (window_left c.args.streams.now.connection_window) c.args.streams.now.live) c.queues.ensures.list) ∙ c.in-Some-Gives.is ∙ ap Some c.in-Some-Gives.field-0-is in
     (given (g.P.Parts.text_of c.args.parts.now) c.self.inside.backlog.queues (window_left c.args.streams.now.connection_window) c.args.streams.now.live c.in-Some-Gives.stream c.in-Some-Gives.count fit turn).some
 
 pub put_content-requires-clause-short : goal.put_content-requires-clause-short
 put_content-requires-clause-short g c =
-    let fit : Fit (g.P.Parts.text_of c.args.parts.now) c.self.inside.backlog.queues = subst (λ (x : StoredSending). Fit (g.P.Parts.text_of c.args.parts.now) x.queues) (sym c.self.view_is) c.requires.fit in
+    let fit : QueuesEndWithin (g.P.Parts.text_of c.args.parts.now) c.self.inside.backlog.queues = subst (λ (x : StoredSending). QueuesEndWithin (g.P.Parts.text_of c.args.parts.now) x.queues) (sym c.self.view_is) c.requires.fit in
     let turn : next_due c.self.inside.backlog.queues (window_left c.args.streams.now.connection_window) c.args.streams.now.live ≡ Some (Gives c.in-Some-Gives.stream c.in-Some-Gives.count) =
     sym (c.next_due.ensures ∙ ap (λ (qs : List StoredQueue). next_due qs (window_left c.args.streams.now.connection_window) c.args.streams.now.live) c.queues.ensures.list) ∙ c.in-Some-Gives.is ∙ ap Some c.in-Some-Gives.field-0-is in
     (given (g.P.Parts.text_of c.args.parts.now) c.self.inside.backlog.queues (window_left c.args.streams.now.connection_window) c.args.streams.now.live c.in-Some-Gives.stream c.in-Some-Gives.count fit turn).short
 
 pub put_content-requires-clause-room : goal.put_content-requires-clause-room
 put_content-requires-clause-room g c =
-    let fit : Fit (g.P.Parts.text_of c.args.parts.now) c.self.inside.backlog.queues = subst (λ (x : StoredSending). Fit (g.P.Parts.text_of c.args.parts.now) x.queues) (sym c.self.view_is) c.requires.fit in
+    let fit : QueuesEndWithin (g.P.Parts.text_of c.args.parts.now) c.self.inside.backlog.queues = subst (λ (x : StoredSending). QueuesEndWithin (g.P.Parts.text_of c.args.parts.now) x.queues) (sym c.self.view_is) c.requires.fit in
     let turn : next_due c.self.inside.backlog.queues (window_left c.args.streams.now.connection_window) c.args.streams.now.live ≡ Some (Gives c.in-Some-Gives.stream c.in-Some-Gives.count) =
     sym (c.next_due.ensures ∙ ap (λ (qs : List StoredQueue). next_due qs (window_left c.args.streams.now.connection_window) c.args.streams.now.live) c.queues.ensures.list) ∙ c.in-Some-Gives.is ∙ ap Some c.in-Some-Gives.field-0-is in
     let room : length c.self.inside.buffer < 65536 = omega (arith, c.if-len-ge-PUMP_LIMIT.false, c.len.ensures) in
@@ -58,7 +58,7 @@ put_content-requires-clause-room g c =
 
 pub put_content-requires-clause-there : goal.put_content-requires-clause-there
 put_content-requires-clause-there g c =
-    let fit : Fit (g.P.Parts.text_of c.args.parts.now) c.self.inside.backlog.queues = subst (λ (x : StoredSending). Fit (g.P.Parts.text_of c.args.parts.now) x.queues) (sym c.self.view_is) c.requires.fit in
+    let fit : QueuesEndWithin (g.P.Parts.text_of c.args.parts.now) c.self.inside.backlog.queues = subst (λ (x : StoredSending). QueuesEndWithin (g.P.Parts.text_of c.args.parts.now) x.queues) (sym c.self.view_is) c.requires.fit in
     let turn : next_due c.self.inside.backlog.queues (window_left c.args.streams.now.connection_window) c.args.streams.now.live ≡ Some (Gives c.in-Some-Gives.stream c.in-Some-Gives.count) =
     sym (c.next_due.ensures ∙ ap (λ (qs : List StoredQueue). next_due qs (window_left c.args.streams.now.connection_window) c.args.streams.now.live) c.queues.ensures.list) ∙ c.in-Some-Gives.is ∙ ap Some c.in-Some-Gives.field-0-is in
     subst (λ (qs : List StoredQueue). c.in-Some-Gives.count ≤ length (front_bytes (g.P.Parts.text_of c.args.parts.now) (stored_on c.in-Some-Gives.stream qs))) (sym c.queues-in-Some-Gives.ensures.list) (given (g.P.Parts.text_of c.args.parts.now) c.self.inside.backlog.queues (window_left c.args.streams.now.connection_window) c.args.streams.now.live c.in-Some-Gives.stream c.in-Some-Gives.count fit turn).there
@@ -69,7 +69,7 @@ returns-in-None-clause-rests g c =
     sym (c.next_due.ensures ∙ ap (λ (qs : List StoredQueue). next_due qs (window_left c.args.streams.now.connection_window) c.args.streams.now.live) c.queues.ensures.list) ∙ c.in-None.is in
     let alive : c.args.streams.now.failed ≡ false = sym c.has_failed.ensures ∙ c.if-has_failed.false in
     let room : length c.self.inside.buffer < 65536 = omega (arith, c.if-len-ge-PUMP_LIMIT.false, c.len.ensures) in
-    λ no' texts fit. rests_undue texts c.args.streams.now (record { pending = c.self.inside.buffer; position = c.self.inside.position; queues = c.self.inside.backlog.queues; spent = c.self.inside.backlog.spent }) c.args.self.now c.self.view_is alive room (subst (λ (x : StoredSending). Fit texts x.queues) (sym c.self.view_is) fit) turn
+    λ no' texts fit. rests_undue texts c.args.streams.now (record { pending = c.self.inside.buffer; position = c.self.inside.position; queues = c.self.inside.backlog.queues; spent = c.self.inside.backlog.spent }) c.args.self.now c.self.view_is alive room (subst (λ (x : StoredSending). QueuesEndWithin texts x.queues) (sym c.self.view_is) fit) turn
 
 pub returns-then-not-can_send-clause-rests : goal.returns-then-not-can_send-clause-rests
 returns-then-not-can_send-clause-rests g c =
@@ -77,11 +77,11 @@ returns-then-not-can_send-clause-rests g c =
     sym (c.next_due.ensures ∙ ap (λ (qs : List StoredQueue). next_due qs (window_left c.args.streams.now.connection_window) c.args.streams.now.live) c.queues.ensures.list) ∙ c.in-Some-Gives.is ∙ ap Some c.in-Some-Gives.field-0-is in
     let alive : c.args.streams.now.failed ≡ false = sym c.has_failed.ensures ∙ c.if-has_failed.false in
     let lacking : CanSend c.args.streams.now c.in-Some-Gives.stream c.in-Some-Gives.count → ⊥ = λ can. true≢false (sym (c.can_send.ensures.1 can) ∙ c.if-not-can_send.true) in
-    λ no' texts fit. rests_given texts c.args.streams.now (record { pending = c.self.inside.buffer; position = c.self.inside.position; queues = c.self.inside.backlog.queues; spent = c.self.inside.backlog.spent }) c.args.self.now c.in-Some-Gives.stream c.in-Some-Gives.count c.self.view_is alive (subst (λ (x : StoredSending). Fit texts x.queues) (sym c.self.view_is) fit) turn lacking
+    λ no' texts fit. rests_given texts c.args.streams.now (record { pending = c.self.inside.buffer; position = c.self.inside.position; queues = c.self.inside.backlog.queues; spent = c.self.inside.backlog.spent }) c.args.self.now c.in-Some-Gives.stream c.in-Some-Gives.count c.self.view_is alive (subst (λ (x : StoredSending). QueuesEndWithin texts x.queues) (sym c.self.view_is) fit) turn lacking
 
 pub returns-then-is_last-clause-puts : goal.returns-then-is_last-clause-puts
 returns-then-is_last-clause-puts g c =
-    let fit : Fit (g.P.Parts.text_of c.args.parts.now) c.self.inside.backlog.queues = subst (λ (x : StoredSending). Fit (g.P.Parts.text_of c.args.parts.now) x.queues) (sym c.self.view_is) c.requires.fit in
+    let fit : QueuesEndWithin (g.P.Parts.text_of c.args.parts.now) c.self.inside.backlog.queues = subst (λ (x : StoredSending). QueuesEndWithin (g.P.Parts.text_of c.args.parts.now) x.queues) (sym c.self.view_is) c.requires.fit in
     let turn : next_due c.self.inside.backlog.queues (window_left c.args.streams.now.connection_window) c.args.streams.now.live ≡ Some (Opens c.in-Some-Opens.stream c.in-Some-Opens.block c.in-Some-Opens.ended_by_client) =
     sym (c.next_due.ensures ∙ ap (λ (qs : List StoredQueue). next_due qs (window_left c.args.streams.now.connection_window) c.args.streams.now.live) c.queues.ensures.list) ∙ c.in-Some-Opens.is ∙ ap Some c.in-Some-Opens.field-0-is in
     let alive : c.args.streams.now.failed ≡ false = sym c.has_failed.ensures ∙ c.if-has_failed.false in
@@ -91,7 +91,7 @@ returns-then-is_last-clause-puts g c =
 
 pub returns-else-is_last-clause-puts : goal.returns-else-is_last-clause-puts
 returns-else-is_last-clause-puts g c =
-    let fit : Fit (g.P.Parts.text_of c.args.parts.now) c.self.inside.backlog.queues = subst (λ (x : StoredSending). Fit (g.P.Parts.text_of c.args.parts.now) x.queues) (sym c.self.view_is) c.requires.fit in
+    let fit : QueuesEndWithin (g.P.Parts.text_of c.args.parts.now) c.self.inside.backlog.queues = subst (λ (x : StoredSending). QueuesEndWithin (g.P.Parts.text_of c.args.parts.now) x.queues) (sym c.self.view_is) c.requires.fit in
     let turn : next_due c.self.inside.backlog.queues (window_left c.args.streams.now.connection_window) c.args.streams.now.live ≡ Some (Opens c.in-Some-Opens.stream c.in-Some-Opens.block c.in-Some-Opens.ended_by_client) =
     sym (c.next_due.ensures ∙ ap (λ (qs : List StoredQueue). next_due qs (window_left c.args.streams.now.connection_window) c.args.streams.now.live) c.queues.ensures.list) ∙ c.in-Some-Opens.is ∙ ap Some c.in-Some-Opens.field-0-is in
     let alive : c.args.streams.now.failed ≡ false = sym c.has_failed.ensures ∙ c.if-has_failed.false in
@@ -101,7 +101,7 @@ returns-else-is_last-clause-puts g c =
 
 pub returns-else-not-can_send-clause-puts : goal.returns-else-not-can_send-clause-puts
 returns-else-not-can_send-clause-puts g c =
-    let fit : Fit (g.P.Parts.text_of c.args.parts.now) c.self.inside.backlog.queues = subst (λ (x : StoredSending). Fit (g.P.Parts.text_of c.args.parts.now) x.queues) (sym c.self.view_is) c.requires.fit in
+    let fit : QueuesEndWithin (g.P.Parts.text_of c.args.parts.now) c.self.inside.backlog.queues = subst (λ (x : StoredSending). QueuesEndWithin (g.P.Parts.text_of c.args.parts.now) x.queues) (sym c.self.view_is) c.requires.fit in
     let turn : next_due c.self.inside.backlog.queues (window_left c.args.streams.now.connection_window) c.args.streams.now.live ≡ Some (Gives c.in-Some-Gives.stream c.in-Some-Gives.count) =
     sym (c.next_due.ensures ∙ ap (λ (qs : List StoredQueue). next_due qs (window_left c.args.streams.now.connection_window) c.args.streams.now.live) c.queues.ensures.list) ∙ c.in-Some-Gives.is ∙ ap Some c.in-Some-Gives.field-0-is in
     let alive : c.args.streams.now.failed ≡ false = sym c.has_failed.ensures ∙ c.if-has_failed.false in
@@ -112,19 +112,19 @@ returns-else-not-can_send-clause-puts g c =
 
 pub returns-else-not-can_send-clause-room : goal.returns-else-not-can_send-clause-room
 returns-else-not-can_send-clause-room g c =
-    let fit : Fit (g.P.Parts.text_of c.args.parts.now) c.self.inside.backlog.queues = subst (λ (x : StoredSending). Fit (g.P.Parts.text_of c.args.parts.now) x.queues) (sym c.self.view_is) c.requires.fit in
+    let fit : QueuesEndWithin (g.P.Parts.text_of c.args.parts.now) c.self.inside.backlog.queues = subst (λ (x : StoredSending). QueuesEndWithin (g.P.Parts.text_of c.args.parts.now) x.queues) (sym c.self.view_is) c.requires.fit in
     let turn : next_due c.self.inside.backlog.queues (window_left c.args.streams.now.connection_window) c.args.streams.now.live ≡ Some (Gives c.in-Some-Gives.stream c.in-Some-Gives.count) =
     sym (c.next_due.ensures ∙ ap (λ (qs : List StoredQueue). next_due qs (window_left c.args.streams.now.connection_window) c.args.streams.now.live) c.queues.ensures.list) ∙ c.in-Some-Gives.is ∙ ap Some c.in-Some-Gives.field-0-is in
     λ yes'. omega (arith, c.put_content.ensures.size, (given (g.P.Parts.text_of c.args.parts.now) c.self.inside.backlog.queues (window_left c.args.streams.now.connection_window) c.args.streams.now.live c.in-Some-Gives.stream c.in-Some-Gives.count fit turn).short, c.if-len-ge-PUMP_LIMIT.false, c.len.ensures)
 
 pub returns-then-is_last-clause-fit : goal.returns-then-is_last-clause-fit
-returns-then-is_last-clause-fit g c = λ texts h. c.finish.ensures.fit texts (fit_removed texts c.in-Some-Opens.stream c.self.inside.backlog.queues c.remove_first.new.self.queues c.remove_first.ensures.queues (subst (λ (x : StoredSending). Fit texts x.queues) (sym c.self.view_is) h))
+returns-then-is_last-clause-fit g c = λ texts h. c.finish.ensures.fit texts (fit_removed texts c.in-Some-Opens.stream c.self.inside.backlog.queues c.remove_first.new.self.queues c.remove_first.ensures.queues (subst (λ (x : StoredSending). QueuesEndWithin texts x.queues) (sym c.self.view_is) h))
 
 pub returns-else-is_last-clause-fit : goal.returns-else-is_last-clause-fit
-returns-else-is_last-clause-fit g c = λ texts h. fit_removed texts c.in-Some-Opens.stream c.self.inside.backlog.queues c.remove_first.new.self.queues c.remove_first.ensures.queues (subst (λ (x : StoredSending). Fit texts x.queues) (sym c.self.view_is) h)
+returns-else-is_last-clause-fit g c = λ texts h. fit_removed texts c.in-Some-Opens.stream c.self.inside.backlog.queues c.remove_first.new.self.queues c.remove_first.ensures.queues (subst (λ (x : StoredSending). QueuesEndWithin texts x.queues) (sym c.self.view_is) h)
 
 pub returns-else-not-can_send-clause-fit : goal.returns-else-not-can_send-clause-fit
-returns-else-not-can_send-clause-fit g c = λ texts h. fit_taken texts c.in-Some-Gives.stream c.in-Some-Gives.count c.self.inside.backlog.queues c.take_off.new.self.queues c.take_off.ensures.queues (subst (λ (x : StoredSending). Fit texts x.queues) (sym c.self.view_is) h)
+returns-else-not-can_send-clause-fit g c = λ texts h. fit_taken texts c.in-Some-Gives.stream c.in-Some-Gives.count c.self.inside.backlog.queues c.take_off.new.self.queues c.take_off.ensures.queues (subst (λ (x : StoredSending). QueuesEndWithin texts x.queues) (sym c.self.view_is) h)
 
 pub returns-then-is_last-clause-sources : goal.returns-then-is_last-clause-sources
 returns-then-is_last-clause-sources g c = λ k. c.finish.ensures.sources k ∙ keeps_by (record { pending = c.self.inside.buffer; position = c.self.inside.position; queues = c.self.inside.backlog.queues; spent = c.self.inside.backlog.spent }) c.args.self.now c.remove_first.new.self c.self.view_is c.remove_first.ensures.sources k
@@ -137,5 +137,5 @@ returns-else-not-can_send-clause-sources g c = keeps_by (record { pending = c.se
 
 pub put_content-requires-clause-fit : goal.put_content-requires-clause-fit
 put_content-requires-clause-fit g c =
-    let fit : Fit (g.P.Parts.text_of c.args.parts.now) c.self.inside.backlog.queues = subst (λ (x : StoredSending). Fit (g.P.Parts.text_of c.args.parts.now) x.queues) (sym c.self.view_is) c.requires.fit in
-    subst (λ (qs : List StoredQueue). Fit (g.P.Parts.text_of c.args.parts.now) qs) (sym c.queues-in-Some-Gives.ensures.list) fit
+    let fit : QueuesEndWithin (g.P.Parts.text_of c.args.parts.now) c.self.inside.backlog.queues = subst (λ (x : StoredSending). QueuesEndWithin (g.P.Parts.text_of c.args.parts.now) x.queues) (sym c.self.view_is) c.requires.fit in
+    subst (λ (qs : List StoredQueue). QueuesEndWithin (g.P.Parts.text_of c.args.parts.now) qs) (sym c.queues-in-Some-Gives.ensures.list) fit

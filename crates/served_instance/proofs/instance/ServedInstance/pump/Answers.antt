@@ -2,10 +2,10 @@ use Rattle.std.proofs.Common.{◌≤◌, List, map, sym, subst, arith, ap, ◌�
 use Rattle.std.proofs.lemmas.Grind.{common_steps}
 use Rattle.blob_pool.specs.Slots.{text_at, count_at}
 use Rattle.served_instance.specs.declared.open_connection.OpenConnection.{OpenConnection}
-use Rattle.served_instance.specs.Ranges.{AreFit, range_holders}
+use Rattle.served_instance.specs.Ranges.{RangesEndWithin, range_holders}
 use Rattle.served_instance.specs.Shown.{connection_shown}
-use Rattle.served_instance.specs.Slots.{ServedSlots, served_state_in, IsKept}
-use Rattle.served_instance.specs.StandsFor.{StandsFor}
+use Rattle.served_instance.specs.Slots.{ServedSlots, served_state_in, IsServedInPool}
+use Rattle.served_instance.specs.StandsFor.{IsServedInstance}
 use Rattle.served_instance.specs.Acts.{slots_of}
 use Rattle.served_instance.proofs.Closes.{written_back}
 use Rattle.served_instance.proofs.Pumped.{pumped_written, counted_ranges}
@@ -15,10 +15,10 @@ pub pump_all-requires : goal.pump_all-requires
 pump_all-requires c =
     let p = c.args.pool.now in
     let os = c.self.inside.connections.items in
-    let Q : ServedSlots → Type 0 = λ v. IsKept p v in
-    let kept : IsKept p (slots_of c.self.inside.instance os) = subst Q (sym c.self.view_is) c.requires in
+    let Q : ServedSlots → Type 0 = λ v. IsServedInPool p v in
+    let kept : IsServedInPool p (slots_of c.self.inside.instance os) = subst Q (sym c.self.view_is) c.requires in
     record {
-      fit = subst (λ (xs : List OpenConnection). AreFit (text_at p) (map connection_shown xs)) (sym c.deref_mut.ensures.value) kept.fit;
+      fit = subst (λ (xs : List OpenConnection). RangesEndWithin (text_at p) (map connection_shown xs)) (sym c.deref_mut.ensures.value) kept.fit;
       counted = λ k. subst (λ (xs : List OpenConnection). range_holders (map connection_shown xs) k ≤ count_at p k) (sym c.deref_mut.ensures.value) (counted_ranges p c.self.inside.instance os kept k);
     }
 
@@ -28,8 +28,8 @@ returns-clause-stands c = λ l st.
     let i = c.self.inside.instance in
     let all = c.self.inside.connections in
     let ns = c.pump_all.new.connections in
-    let Q : ServedSlots → Type 0 = λ v. IsKept p v in
-    let S : ServedSlots → Type 0 = λ v. StandsFor (served_state_in p v) l in
+    let Q : ServedSlots → Type 0 = λ v. IsServedInPool p v in
+    let S : ServedSlots → Type 0 = λ v. IsServedInstance (served_state_in p v) l in
     let done = pumped_written p c.pump_all.new.pool i all.items c.deref_mut.result.now ns _ c.deref_mut.ensures.value
     (written_back all.len ns all.items (c.pump_all.ensures.count ∙ ap length c.deref_mut.ensures.value) (grind (arith, common_steps)))
     (subst Q (sym c.self.view_is) c.requires) (record { stands = c.pump_all.ensures.stands; releases = c.pump_all.ensures.releases; count = c.pump_all.ensures.count }) in
@@ -41,7 +41,7 @@ returns-clause-kept c =
     let i = c.self.inside.instance in
     let all = c.self.inside.connections in
     let ns = c.pump_all.new.connections in
-    let Q : ServedSlots → Type 0 = λ v. IsKept p v in
+    let Q : ServedSlots → Type 0 = λ v. IsServedInPool p v in
     let done = pumped_written p c.pump_all.new.pool i all.items c.deref_mut.result.now ns _ c.deref_mut.ensures.value
     (written_back all.len ns all.items (c.pump_all.ensures.count ∙ ap length c.deref_mut.ensures.value) (grind (arith, common_steps)))
     (subst Q (sym c.self.view_is) c.requires) (record { stands = c.pump_all.ensures.stands; releases = c.pump_all.ensures.releases; count = c.pump_all.ensures.count }) in

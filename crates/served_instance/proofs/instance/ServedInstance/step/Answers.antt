@@ -6,7 +6,7 @@ use Rattle.server_events.specs.Shown.{event_value}
 use Rattle.served_instance.specs.declared.refusal.EventRefusal.TheVariants.{NoSuchInstance, NoMemory}
 use Rattle.served_instance.specs.Present.{refusal_by}
 use Rattle.served_instance.specs.Lone.{lone_at_moment, effect_of}
-use Rattle.served_instance.specs.Slots.{ServedSlots, served_state_in, IsKept}
+use Rattle.served_instance.specs.Slots.{ServedSlots, served_state_in, IsServedInPool}
 use Rattle.served_instance.proofs.Refuses.{no_reason, refused_outcome, kept_at_refusal, stands_accepted, settled_accepted, accepted_what, not_elsewhere, not_for_memory}
 use Rattle.served_instance.proofs.Serves.{pump_settles}
 use Rattle.served_instance.proofs.Kept.{slots_at, instance_kept, moment_keeps}
@@ -51,8 +51,8 @@ act-requires c =
     let vs = map connection_shown c.self.inside.connections.items in
     let at : ServedSlots = slots_at c.self.inside.instance vs in
     let none : refusal_by e c.args.self.now ≡ None = sym c.refusal.ensures ∙ c.in_default.is in
-    let Q : ServedSlots → Type 0 = λ v. IsKept p v in
-    let kept : IsKept p at = subst Q (sym c.self.view_is) c.requires.kept in
+    let Q : ServedSlots → Type 0 = λ v. IsServedInPool p v in
+    let kept : IsServedInPool p at = subst Q (sym c.self.view_is) c.requires.kept in
     record {
       accepted = accepted_what e at (subst P (sym c.self.view_is) none);
       kept = moment_keeps p c.self.inside.instance c.set_moment.new.self vs kept c.set_moment.ensures.holders

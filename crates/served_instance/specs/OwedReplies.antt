@@ -4,22 +4,22 @@ use Rattle.std.specs.Prelude.{◌≡◌, ◌+◌, ◌≤◌, ◌<◌, ℕ, List,
 use Rattle.std.specs.List.{AllByRecursion}
 use Rattle.blob_pool.specs.Slots.{Slots}
 use Rattle.blob_pool.specs.Moves.{Holders, Moves, no_holders}
-use Rattle.grpc_sending.specs.StoredSending.{Look, Fit, HasFew, sources_of}
+use Rattle.grpc_sending.specs.StoredSending.{SourceTexts, QueuesEndWithin, HasFewSources, sources_of}
 use Rattle.grpc_sending.specs.Sources.{count_of}
 use Rattle.conn_core.specs.GrpcMessagesWire.{message_length_limit}
 use Rattle.conn_core.specs.Past.{Past}
-use Rattle.conn_core.specs.StandsFor.{Present}
+use Rattle.conn_core.specs.StandsFor.{ConnectionValue}
 use Rattle.instance_core.specs.declared.event.Reply.{Reply}
 use Rattle.instance_core.specs.declared.event.ReplyItem.{ReplyItem}
 use Rattle.instance_core.specs.declared.event.ReplyItem.TheVariants.{Begins, Says, Gives, Ends, Refuses}
 use Rattle.instance_core.specs.Replies.{ReplyItemValue, begins, says, gives, ends, refuses, ReplyValue}
-use Rattle.served_instance.specs.Calls.{items_of, with_items}
+use Rattle.served_instance.specs.Calls.{owed_items, with_items}
 use Rattle.served_instance.specs.StandsFor.{ServedConnection}
-use Rattle.served_instance.specs.Ranges.{range_holders, AreFit, HaveFew}
+use Rattle.served_instance.specs.Ranges.{range_holders, RangesEndWithin, HaveFewSources}
 
 -- ---- with the texts of a look-up
 
-abbrev pub item_by : Look → ReplyItem → ReplyItemValue
+abbrev pub item_by : SourceTexts → ReplyItem → ReplyItemValue
 item_by texts Begins = begins
 item_by texts (Says bytes) = says bytes.items
 item_by texts (Gives range) =
@@ -32,12 +32,12 @@ item_by texts (Gives range) =
 item_by texts Ends = ends
 item_by texts (Refuses refusal) = refuses refusal
 
-abbrev pub reply_by : Look → Reply → ReplyValue
+abbrev pub reply_by : SourceTexts → Reply → ReplyValue
 reply_by texts reply = record { call = reply.call; items = map (item_by texts) reply.items.items }
 
 -- these items are owed to stream s
-abbrev pub with_owed : ℕ → List ReplyItem → Look → Past → Past
-with_owed s items texts = with_items s (items_of (map (item_by texts) items))
+abbrev pub with_owed : ℕ → List ReplyItem → SourceTexts → Past → Past
+with_owed s items texts = with_items s (owed_items (map (item_by texts) items))
 
 -- a message's length can be written in four bytes, and a range does not end before it begins
 abbrev pub CanBeOwed : ReplyItem → Type 0
@@ -49,38 +49,40 @@ abbrev pub ReplyCanBeOwed : Reply → Type 0
 ReplyCanBeOwed reply = AllByRecursion CanBeOwed reply.items.items
 
 -- a range ends within the text of its source
-abbrev pub EndsWithin : ReplyItem → Look → Type 0
-EndsWithin (Gives range) texts = range.until ≤ length (texts range.text)
-EndsWithin item texts = Unit {0}
+abbrev pub ItemEndsWithin : ReplyItem → SourceTexts → Type 0
+ItemEndsWithin (Gives range) texts = range.until ≤ length (texts range.text)
+ItemEndsWithin item texts = Unit {0}
 
-abbrev pub ItemsEndWithin : List ReplyItem → Look → Type 0
-ItemsEndWithin items texts = AllByRecursion (λ item. EndsWithin item texts) items
+abbrev pub ItemsEndWithin : List ReplyItem → SourceTexts → Type 0
+ItemsEndWithin items texts = AllByRecursion (λ item. ItemEndsWithin item texts) items
 
-abbrev pub ReplyEndsWithin : Reply → Look → Type 0
+abbrev pub ReplyEndsWithin : Reply → SourceTexts → Type 0
 ReplyEndsWithin reply = ItemsEndWithin reply.items.items
 
-abbrev pub RepliesEndWithin : List Reply → Look → Type 0
+abbrev pub RepliesEndWithin : List Reply → SourceTexts → Type 0
 RepliesEndWithin replies texts = AllByRecursion (λ reply. ReplyEndsWithin reply texts) replies
 
 -- ---- what becomes of the sources
 
 -- a connection holds the given ones too, but for some of them that were released in the pool
-pub record TakesRanges (given : Holders) (IsGood : Look → Type 0)
-    (p : Slots) (v : Present) (q : Slots) (w : Present) : Type 0 where
+pub record TakesRanges (given : Holders) (IsGood : SourceTexts → Type 0)
+    (p : Slots) (v : ConnectionValue) (q : Slots) (w : ConnectionValue) : Type 0 where
   pub gone : Holders
   pub fewer : (k : ℕ) → gone k ≤ given k
   pub sources : (k : ℕ) →
       count_of k (sources_of w.sending) + gone k ≡ count_of k (sources_of v.sending) + given k
-  pub few : HasFew v.sending → HasFew w.sending
-  pub fit : (texts : Look) → IsGood texts → Fit texts v.sending.queues → Fit texts w.sending.queues
+  pub few : HasFewSources v.sending → HasFewSources w.sending
+  pub fit : (texts : SourceTexts) → IsGood texts → QueuesEndWithin texts v.sending.queues →
+      QueuesEndWithin texts w.sending.queues
   pub moves : Moves p q gone no_holders
 
 -- .. the connections together
-pub record TakeRanges (given : Holders) (IsGood : Look → Type 0)
+pub record AllTakeRanges (given : Holders) (IsGood : SourceTexts → Type 0)
     (p : Slots) (vs : List ServedConnection) (q : Slots) (ws : List ServedConnection) : Type 0 where
   pub gone : Holders
   pub fewer : (k : ℕ) → gone k ≤ given k
   pub sources : (k : ℕ) → range_holders ws k + gone k ≡ range_holders vs k + given k
-  pub few : HaveFew vs → HaveFew ws
-  pub fit : (texts : Look) → IsGood texts → AreFit texts vs → AreFit texts ws
+  pub few : HaveFewSources vs → HaveFewSources ws
+  pub fit : (texts : SourceTexts) → IsGood texts → RangesEndWithin texts vs →
+      RangesEndWithin texts ws
   pub moves : Moves p q gone no_holders

@@ -21,6 +21,6 @@ replies_holders [] k = 0
 replies_holders (r ∷ rs) k = items_holders r.items.items k + replies_holders rs k
 
 -- nothing is given for want of memory
-abbrev pub holders_given : Result (Vec Reply Global) AllocError → Holders
-holders_given (Ok replies) k = replies_holders replies.items k
-holders_given (Err e) k = 0
+abbrev pub result_holders : Result (Vec Reply Global) AllocError → Holders
+result_holders (Ok replies) k = replies_holders replies.items k
+result_holders (Err e) k = 0

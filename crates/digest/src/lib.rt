@@ -83,8 +83,8 @@ const DIGIT_VALUES: [u8; 256] = [
     255, 255, 255, 255,
 ];
 
-// A digest is read for each blob that a client asks for, so its digits go by a table into 32 bytes
-// of its own: `hex` would ask for memory, and takes upper-case digits too. The table is an argument
+// The digits of a digest are lower-case, and `hex` takes upper-case ones too: with it each text
+// would be gone over twice. So they are read here by a table, in one pass. The table is an argument
 // so that no proof has its numbers before it.
 fn digit_by(values: &[u8; 256], digit: u8) -> Option<u8>
     requires { AreDigitValues values.now }

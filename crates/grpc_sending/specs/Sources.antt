@@ -1,4 +1,5 @@
--- The sources of ranges, and how often each is held.
+-- The sources of ranges, and how often each is held. For the code alone: `AreSame`, `SpendsOf`,
+-- `Spends`, `HoldsSourcesToo`, `HasRoomForPieces` and `sources_waiting`.
 use Rattle.std.specs.Prelude.{◌≡◌, ◌≤◌, ℕ, ◌+◌, ◌==◌, if◌then◌else◌, List, [], ◌∷◌, ◌++◌, length}
 use Rattle.std.specs.List.{flat_map}
 use Rattle.grpc_sending.specs.declared.piece.StoredPiece.{StoredPiece}

@@ -1,5 +1,5 @@
--- What the code puts next, by what it keeps, and what that means for a history. For the code, but
--- for what the clauses of `Sender` name.
+-- What the code puts next, by what it keeps, and what that means for a history. For the code alone,
+-- but for `Rests` and `IsControl`: no public contract speaks of the others.
 use Rattle.std.specs.Prelude.{◌≡◌, ℕ, ℤ, ◌≤◌, ◌==◌, not, if◌then◌else◌, Bool, true, false, List, [], ◌∷◌, ◌++◌, length, take, drop, map, Option, Some, None}
 use Rattle.http2_streams.specs.Credit.{window_left}
 use Rattle.http2_frames.specs.declared.frame.Frame.{Frame}

@@ -1,5 +1,5 @@
 -- What the code keeps for sending, and what it is seen as through a look-up of the texts of
--- sources.
+-- sources. `PutsBy`, `ResetsBy` and `FinishesBy` are for the code alone.
 use Rattle.std.specs.Prelude.{◌≡◌, ◌<◌, ◌≤◌, ◌-◌, ◌^◌, ℕ, suc, true, ℤ, ◌==◌, nat_lt, if◌then◌else◌, Bool, false, List, [], ◌∷◌, ◌++◌, length, take, drop, map, Option, Some, None, MatchOption}
 use Rattle.std.specs.List.{flat_map, AllByRecursion}
 use Rattle.hpack.specs.declared.encoder.Position.{Position}
@@ -199,6 +199,8 @@ abbrev pub KeepsFitWith : ℕ → ℕ → StoredSending → StoredSending → Ty
 KeepsFitWith source until v w =
     (texts : SourceTexts) → until ≤ length (texts source) →
     QueuesEndWithin texts v.queues → QueuesEndWithin texts w.queues
+
+-- ---- for the code alone: no public contract speaks of what follows
 
 -- ---- changes of the queues
 

@@ -1,5 +1,6 @@
 -- How a field list is kept: all names and values in one text, and how many octets each of them has.
--- For the code alone, but for `headers_in`, as which a `HeaderIter` is seen.
+-- For the code alone, but for `headers_in`, with `header_in`, as which `Headers` and `HeaderIter`
+-- are seen, and for `fields_length`, of which their invariants speak.
 use Rattle.std.specs.Prelude.{◌≡◌, ℕ, ◌+◌, List, [], ◌∷◌, ◌++◌, length, take, drop}
 use Rattle.hpack.specs.declared.headers.FieldLengths.{FieldLengths}
 use Rattle.hpack.specs.Header.{Header}

@@ -1,5 +1,5 @@
--- One call of a reader, as the code makes it. For the code alone: no clause of a public function
--- speaks of it.
+-- One call of a reader, as the code makes it. For the code alone, but for `IsJoined` and
+-- `preface_length`, of which the invariant of `FrameReader` speaks.
 use Rattle.std.specs.Prelude.{◌≡◌, ◌≢◌, ◌≤◌, ℕ, ◌+◌, Bool, true, false, nat_eq, if◌then◌else◌, List, [], ◌∷◌, length, drop, Option, Some, None, Result, Ok, Err}
 use Rattle.std.specs.List.{starts_with}
 use Rattle.byteorder.specs.Endian.{big_number}

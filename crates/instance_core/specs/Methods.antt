@@ -1,5 +1,6 @@
 -- What each method but Write answers to the one message of its request, and what it does to the
--- texts and the results.
+-- texts and the results. For the code alone: `LeavesResults`, `AnswersFromTexts`, `ShowsAfter` and
+-- `ShowsInPart`.
 use Rattle.std.specs.Prelude.{◌≡◌, ◌≢◌, ℕ, Bool, true, false, List, [], ◌∷◌, ◌++◌, map, Result, Ok, Err}
 use Rattle.rpc.specs.declared.method.Method.{Method}
 use Rattle.rpc.specs.declared.method.Method.TheVariants.{FindMissingBlobs, BatchUpdateBlobs, BatchReadBlobs, GetTree, GetActionResult, UpdateActionResult, GetCapabilities, Read, Write, QueryWriteStatus}

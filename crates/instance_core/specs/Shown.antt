@@ -1,4 +1,6 @@
--- Calls, events and replies as plain values, through the pool that has the texts of ranges.
+-- Calls, events and replies as plain values, through the pool that has the texts of ranges. For the
+-- code alone: `outcome_shown`, `with_calls`, `ChangesCalls`, `contents_state`, `Makes` and
+-- `MakesTexts`.
 use Rattle.std.specs.Prelude.{◌≡◌, ℕ, List, map, string_bytes, Result, Ok, Err, IfOk, OnOk, OnErr}
 use Rattle.std.specs.List.{AllByRecursion}
 use Rattle.std.specs.declared.alloc.AllocError.{AllocError}

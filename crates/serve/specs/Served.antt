@@ -40,7 +40,7 @@ abbrev pub AreAllFaithful : List ConfigValue → List SocketEvent → Type 0
 AreAllFaithful configs h =
     (k : ℕ) (s : SocketEvent) → slice_get h k ≡ Some s → IsFaithful configs (take k h) s
 
--- ---- while it serves
+-- ---- while it serves: for the code alone, but for `WasServed`
 
 -- each instance of the server stands for what it comes to by itself
 abbrev pub Stands : List ConfigValue → List SocketEvent → List ServedState → Type 0

@@ -82,6 +82,7 @@ impl Model for Index {
 }
 
 impl Index {
+    /// No slots yet.
     pub fn new(alloc: Global) -> Index
         ensures firsts { result.firsts ≡ [] }
         ensures others { result.others ≡ [] }

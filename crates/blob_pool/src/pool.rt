@@ -62,7 +62,8 @@ impl Pool {
         (self.slots.len() as u64, self.bytes)
     }
 
-    /// Bytes that a digest is known to name, to be sealed here. They are not hashed again.
+    /// Bytes that a digest is known to name, to be sealed here. They are not hashed again. There
+    /// are at most 2^48 of them.
     pub fn draft_of(&self, digest: &Digest, bytes: &[u8]) -> Result<Draft, AllocError>
         requires named { Names digest.now bytes.now }
         requires most { length bytes.now ≤ MOST_BYTES }
@@ -72,7 +73,8 @@ impl Pool {
     }
 
     /// Holds the text of a draft: in the slot that has it already, or in a free one. The draft is
-    /// given back for want of memory only.
+    /// given back for want of memory only, and the pool is as before then. Each slot has fewer than
+    /// 2^127 holders.
     pub fn seal(&mut self, draft: Draft) -> Result<Hold, Draft>
         requires { HasRoom self.old }
         ensures text { IfOk result (λ hold. text_at self.new hold ≡ draft.text) }
@@ -89,7 +91,8 @@ impl Pool {
         }
     }
 
-    /// Holds a text.
+    /// Holds a text of at most 2^48 bytes, as `seal` does. Each slot has fewer than 2^127 holders.
+    /// An error changes nothing.
     pub fn put(&mut self, bytes: &[u8]) -> Result<Hold, AllocError>
         requires room { HasRoom self.old }
         requires most { length bytes.now ≤ MOST_BYTES }

@@ -164,7 +164,8 @@ impl Connection {
         self.sender.owe_block(&self.streams, stream, block)
     }
 
-    /// Owes a message to the stream, where it is live. An error changes nothing.
+    /// Owes a message of fewer than 2^32 bytes to the stream, where it is live. An error changes
+    /// nothing.
     pub fn owe_message(&mut self, stream: u32, message: Vec<u8>) -> Result<(), AllocError>
         requires { length message.items < message_length_limit }
         ensures stands { OnOk result (Owes stream (Message message.items) self.old self.new) }
@@ -179,8 +180,8 @@ impl Connection {
 
     /// Owes the bytes from a place until another of a source's text to the stream, where it is
     /// live: as messages ReadResponse, each with 65,536 of them and the last with the rest. The
-    /// source is held from then on until `spent` tells it, once; where nothing is to be put that is
-    /// at once. An error changes nothing.
+    /// second place is not before the first. The source is held from then on until `spent` tells
+    /// it, once; where nothing is to be put that is at once. An error changes nothing.
     pub fn owe_range(
         &mut self,
         stream: u32,
@@ -201,7 +202,7 @@ impl Connection {
             .owe_range(&self.streams, stream, source, from, until)
     }
 
-    /// The peer took so many of the pending bytes.
+    /// The peer took so many of the pending bytes: not more than there are.
     pub fn took(&mut self, count: usize)
         requires { count ≤ length self.old.sending.pending }
         ensures stands { Becomes self.old (λ p. with_taken p count) self.new }

@@ -175,6 +175,7 @@ impl Model for Hasher {
 }
 
 impl Hasher {
+    /// No bytes yet.
     pub fn new() -> Hasher
         ensures { Holds result [] }
     {

@@ -30,6 +30,7 @@ impl Message {
         Message { bytes }
     }
 
+    /// The bytes of the message, without the prefix that stands before it.
     pub fn as_slice(&self) -> &[u8]
         ensures { result.now ≡ self.now }
     {

@@ -44,7 +44,7 @@ impl Model for Window {
 }
 
 impl Window {
-    /// A window of `initial` bytes, of which none was spent.
+    /// A window of `initial` bytes, at most 2^31 - 1, of which none was spent.
     pub fn new(initial: u32) -> Window
         requires { initial < window_limit }
         ensures { result ≡ record { initial = initial; change = pos 0 } }
@@ -99,7 +99,7 @@ impl Window {
         Ok(())
     }
 
-    /// Whether the window stays within its limit at this initial size.
+    /// Whether the window stays within its limit at this initial size, which is at most 2^31 - 1.
     pub fn can_shift(&self, initial: u32) -> bool
         requires { initial < window_limit }
         ensures { IsTrue result ↔ ((pos initial +ℤ self.now.change) <ℤ pos window_limit) }
@@ -107,8 +107,8 @@ impl Window {
         initial as i64 + self.change <= MAX_SIZE as i64
     }
 
-    /// Puts a new initial size in the old one's place, so that what is left changes by their
-    /// difference (RFC 9113, section 6.9.2). An error changes nothing.
+    /// Puts a new initial size, at most 2^31 - 1, in the old one's place, so that what is left
+    /// changes by their difference (RFC 9113, section 6.9.2). An error changes nothing.
     pub fn shift(&mut self, initial: u32) -> Result<(), FlowError>
         requires { initial < window_limit }
         ensures ok { OnOk result (self.new ≡ record self.old { initial = initial }) }

@@ -49,7 +49,7 @@ impl<'a> Model for SettingsList<'a> {
 }
 
 impl<'a> SettingsList<'a> {
-    /// The settings of a payload.
+    /// The settings of a payload, whose length is a multiple of 6.
     pub fn new(bytes: &'a [u8]) -> SettingsList<'a>
         requires { length bytes.now % 6 ≡ 0 }
         ensures { result ≡ settings_of bytes.now }

@@ -11,8 +11,8 @@ use crate::reader::{HEADER_LENGTH, MAX_FRAME_SIZE};
 use byteorder::{BigEndian, ByteOrder};
 use std::alloc::AllocError;
 
-/// Appends the nine bytes that stand before a payload of `size` bytes. There is room for them, so
-/// no memory is asked for.
+/// Appends the nine bytes that stand before a payload of `size` bytes, which are at most
+/// `MAX_FRAME_SIZE`. The vector has room for the nine, so no memory is asked for.
 pub fn put_header(out: &mut Vec<u8>, size: usize, kind: u8, flags: u8, stream: u32)
     requires room { vec_len out.old + HEADER_LENGTH ≤ vec_capacity out.old }
     requires short { size ≤ MAX_FRAME_SIZE }
@@ -89,7 +89,7 @@ fn length_of(bytes: &[u8]) -> usize
     bytes.len()
 }
 
-/// The number of bytes in the frame's payload.
+/// The number of bytes in the frame's payload, at most `MAX_FRAME_SIZE`.
 pub fn payload_length(frame: &Frame<'_>) -> usize
     requires { length (raw_of frame.now).payload ≤ MAX_FRAME_SIZE }
     ensures { result ≡ length (raw_of frame.now).payload }
@@ -106,7 +106,8 @@ pub fn payload_length(frame: &Frame<'_>) -> usize
     }
 }
 
-/// Appends the frame. There is room for it, so no memory is asked for.
+/// Appends the frame, whose payload has at most `MAX_FRAME_SIZE` bytes. The vector has room for it,
+/// so no memory is asked for.
 pub fn put_frame(out: &mut Vec<u8>, frame: &Frame<'_>)
     requires room { vec_len out.old + (HEADER_LENGTH + length (raw_of frame.now).payload)
         ≤ vec_capacity out.old }
@@ -211,7 +212,8 @@ pub fn put_frame(out: &mut Vec<u8>, frame: &Frame<'_>)
     }
 }
 
-/// Appends the frame, or leaves the bytes as they were.
+/// Appends the frame, whose payload has at most `MAX_FRAME_SIZE` bytes. Where memory is refused the
+/// bytes are as they were.
 pub fn write_frame(out: &mut Vec<u8>, frame: &Frame<'_>) -> Result<(), AllocError>
     requires { length (raw_of frame.now).payload ≤ MAX_FRAME_SIZE }
     ensures ok { OnOk result (out.new.items ≡ out.old.items ++ text_of frame.now) }

@@ -59,6 +59,7 @@ impl Model for HeaderBlocks {
 }
 
 impl HeaderBlocks {
+    /// No header block yet, and an empty dynamic table.
     pub fn new(alloc: Global) -> Self
         ensures { result ≡ new_state }
     {

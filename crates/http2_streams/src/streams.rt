@@ -164,7 +164,7 @@ impl Streams {
             && count as i64 <= self.connection_window.left()
     }
 
-    /// DATA of so many bytes was put.
+    /// DATA of so many bytes was put, for which `can_send` holds.
     pub fn on_data_put(&mut self, stream: u32, count: u32, end_stream: bool)
         requires { CanSend self.old stream count }
         ensures stands { (d : List Entry) (content : List ℕ) → length content ≡ count →
@@ -175,7 +175,7 @@ impl Streams {
         self.put_data(stream, count, end_stream);
     }
 
-    /// HEADERS was put: a response's header list or, with END_STREAM, its end.
+    /// HEADERS was put on a live stream: a response's header list or, with END_STREAM, its end.
     pub fn on_headers_put(&mut self, stream: u32, end_stream: bool)
         requires { is_live_at self.old stream ≡ true }
         ensures stands { (d : List Entry) (end_headers : Bool) (fragment : List ℕ) →
@@ -186,7 +186,8 @@ impl Streams {
         self.end_by_server(stream, end_stream);
     }
 
-    /// RST_STREAM was put, beside those that answer frames. The stream is remembered.
+    /// RST_STREAM was put, beside those that answer frames, on a stream whose number is not above
+    /// the highest one that was opened. The stream is remembered.
     pub fn on_reset_put(&mut self, stream: u32)
         requires { stream ≤ self.old.highest }
         ensures stands { (d : List Entry) (code : ℕ) → AreStreams self.old d →

@@ -51,6 +51,7 @@ impl Call {
         Call { method, progress }
     }
 
+    /// The method that is called.
     pub fn method(&self) -> Method
         ensures { result ≡ self.now.method }
     {

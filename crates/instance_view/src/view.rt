@@ -183,8 +183,10 @@ impl View {
         promote(&mut self.cache, digest) || digest.is_empty()
     }
 
-    /// Adds a text that is not there, as the most recently used. The draft is given back for want
-    /// of memory only.
+    /// Adds a text that is not there, as the most recently used. The pool counts what the view
+    /// holds, and fewer than 2^126 other holders of any slot; the view has at most as many texts as
+    /// its limit, and their sizes with the new one are below 2^64 together. The draft is given back
+    /// for want of memory only, and nothing has changed then.
     pub fn add(&mut self, pool: &mut Pool, digest: &Digest, draft: Draft) -> Result<(), Draft>
         requires absent { (p : Slots) → visible_text digest.now (visible_in p self.old) ≡ None }
         requires held { AreHeld pool.old (holders self.old) }

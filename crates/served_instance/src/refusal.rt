@@ -25,7 +25,7 @@ pub enum EventRefusal {
 }
 
 impl EventRefusal {
-    /// Its number, from 1.
+    /// Its number, from 1, by which the lines that a replay writes name it.
     pub fn code(self) -> u32
         ensures { result ≡ code_of self }
     {

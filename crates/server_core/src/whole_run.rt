@@ -67,7 +67,8 @@ impl ServerRun {
         })
     }
 
-    /// The run after one more event.
+    /// The run after one more event, before which it had fewer than 2^64 - 1. An error is want of
+    /// memory.
     pub fn step(self, event: Event) -> Result<ServerRun, AllocError>
         requires room { self.count < 2 ^ 64 - 1 }
         ensures { IfOk result (λ run. (configs : List ConfigValue) (events : List EventValue)

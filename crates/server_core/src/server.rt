@@ -172,7 +172,7 @@ fn stored_of(pool: &Pool, instances: &[ServedInstance]) -> (u64, u128)
     requires { IsServer pool.now instances.now }
     ensures { AreStored (texts_of_all (all_in pool.now instances.now)) result.0 result.1 }
 {
-    // What is known of the pool with all instances is asked for where both are named.
+    // Naming the instances has no effect; it is there for the proof.
     let _instances = instances;
     pool.stored()
 }
@@ -184,7 +184,7 @@ fn pool_of<'a>(pool: &'a Pool, instances: &[ServedInstance]) -> &'a Pool
     ensures texts { (failed : Bool) → IsPoolOf result.now
         (record { instances = all_in pool.now instances.now; failed = failed }) }
 {
-    // What is known of the pool with all instances is asked for where both are named and used.
+    // Neither statement has an effect; they are there for the proof.
     let _instances = instances;
     pool.stored();
     pool

@@ -152,10 +152,17 @@ fn store(
 
 /// An instance's results under the digests of their actions, the most recently used first. They own
 /// their bytes.
-#[derive(Drop)]
 pub struct Results {
     cache: Cache,
     bytes: u64,
+}
+
+// Written out, so that no crate above proves again that each part of it may be dropped.
+impl Drop for Results {
+    fn drop(self) {
+        let Results { cache, bytes: _ } = self;
+        drop(cache);
+    }
 }
 
 impl Model for Results {

@@ -18,12 +18,25 @@ use std::alloc::{AllocError, Global};
 use std::marker::Model;
 
 /// Texts that stand once each, in slots, with the number of holders of each slot.
-#[derive(Drop)]
 pub struct Pool {
     alloc: Global,
     slots: Slab<Slot>,
     index: Index,
     bytes: u128,
+}
+
+// Written out, so that no crate above proves again that each part of it may be dropped.
+impl Drop for Pool {
+    fn drop(self) {
+        let Pool {
+            slots,
+            index,
+            alloc: _,
+            bytes: _,
+        } = self;
+        drop(slots);
+        drop(index);
+    }
 }
 
 impl Model for Pool {

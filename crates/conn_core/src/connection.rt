@@ -39,7 +39,6 @@ const MAX_CONCURRENT_STREAMS: &[u8] = b"\x00\x03\x00\x00\x00\x64";
 
 /// One connection of the server. After `feed` or `read_frame` was refused memory it is to be
 /// closed.
-#[derive(Drop)]
 pub struct Connection {
     reader: FrameReader,
     streams: Streams,
@@ -52,6 +51,26 @@ pub struct Connection {
     ended: bool,
     /// Nothing changed since the pump found nothing more to put.
     at_rest: bool,
+}
+
+// Written out, so that no crate above proves again that each part of it may be dropped.
+impl Drop for Connection {
+    fn drop(self) {
+        let Connection {
+            reader,
+            streams,
+            sender,
+            calls,
+            due,
+            ended: _,
+            at_rest: _,
+        } = self;
+        drop(reader);
+        drop(streams);
+        drop(sender);
+        drop(calls);
+        drop(due);
+    }
 }
 
 impl Model for Connection {

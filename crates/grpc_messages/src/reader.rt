@@ -29,7 +29,6 @@ const SLACK: usize = 16_384;
 /// It keeps the bytes that were not given yet: once [`Messages::next`] has answered `None`, less
 /// than one whole message. The bytes of a message stand apart from those before it, so that the
 /// buffer in which a message has come is what is given, and not a copy of it.
-#[derive(Drop)]
 pub struct Messages {
     /// What has come of the flag and the length before the next message.
     prefix: ArrayVec<u8, PREFIX_LENGTH>,
@@ -38,6 +37,20 @@ pub struct Messages {
     /// How many of the bytes behind were given.
     given: usize,
     refusal: Option<MessagesError>,
+}
+
+// Written out, so that no crate above proves again that each part of it may be dropped.
+impl Drop for Messages {
+    fn drop(self) {
+        let Messages {
+            prefix,
+            behind,
+            given: _,
+            refusal: _,
+        } = self;
+        drop(prefix);
+        drop(behind);
+    }
 }
 
 impl Model for Messages {

@@ -38,11 +38,23 @@ pub const CONTROL_LIMIT: usize = 131_055;
 
 /// What is sent on one connection: the bytes that were put and not taken, and what is owed to each
 /// stream.
-#[derive(Drop)]
 pub struct Sender {
     buffer: OutBuffer,
     position: Position,
     backlog: Backlog,
+}
+
+// Written out, so that no crate above proves again that each part of it may be dropped.
+impl Drop for Sender {
+    fn drop(self) {
+        let Sender {
+            buffer,
+            backlog,
+            position: _,
+        } = self;
+        drop(buffer);
+        drop(backlog);
+    }
 }
 
 impl Model for Sender {

@@ -29,7 +29,6 @@ pub const MAX_FRAME_SIZE: usize = 16_384;
 pub const HEADER_LENGTH: usize = 9;
 
 /// Reads the frames of one direction of a connection, in whatever pieces its bytes come.
-#[derive(Drop)]
 pub struct FrameReader {
     /// The preface, until it has come.
     preface: &'static [u8],
@@ -38,6 +37,20 @@ pub struct FrameReader {
     /// What is not read of the last piece, behind that frame.
     received: Received,
     fault: Option<FrameError>,
+}
+
+// Written out, so that no crate above proves again that each part of it may be dropped.
+impl Drop for FrameReader {
+    fn drop(self) {
+        let FrameReader {
+            joined,
+            received,
+            preface: _,
+            fault: _,
+        } = self;
+        drop(joined);
+        drop(received);
+    }
 }
 
 impl Model for FrameReader {

@@ -37,12 +37,24 @@ struct Fragments {
 }
 
 /// Reads the header blocks of a connection. After a refusal it refuses all others.
-#[derive(Drop)]
 pub struct HeaderBlocks {
     unfinished: Option<Fragments>,
     /// None after a refusal: each call takes it out, and puts it back once the frame is taken.
     decoder: Option<Decoder>,
     alloc: Global,
+}
+
+// Written out, so that no crate above proves again that each part of it may be dropped.
+impl Drop for HeaderBlocks {
+    fn drop(self) {
+        let HeaderBlocks {
+            unfinished,
+            decoder,
+            alloc: _,
+        } = self;
+        drop(unfinished);
+        drop(decoder);
+    }
 }
 
 impl Model for HeaderBlocks {

@@ -37,7 +37,6 @@ pub const MAX_STREAMS: usize = 100;
 pub const MAX_REMEMBERED: usize = 128;
 
 /// The streams of one connection, as the server sees them.
-#[derive(Drop)]
 pub struct Streams {
     /// A connection error was met.
     failed: bool,
@@ -49,6 +48,26 @@ pub struct Streams {
     initial_window_size: u32,
     connection_window: Window,
     headers: HeaderBlocks,
+}
+
+// Written out, so that no crate above proves again that each part of it may be dropped.
+impl Drop for Streams {
+    fn drop(self) {
+        let Streams {
+            live,
+            remembered,
+            connection_window,
+            headers,
+            failed: _,
+            begun: _,
+            highest: _,
+            initial_window_size: _,
+        } = self;
+        drop(live);
+        drop(remembered);
+        drop(connection_window);
+        drop(headers);
+    }
 }
 
 impl Model for Streams {

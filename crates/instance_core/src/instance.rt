@@ -25,13 +25,27 @@ use std::marker::Model;
 use uploads::Uploads;
 
 /// One instance of the server. Its texts lie in a pool that it shares with other instances.
-#[derive(Drop)]
 pub struct Instance {
     settings: Settings,
     /// Of what happens, in milliseconds.
     moment: u64,
     contents: Contents,
     calls: Calls,
+}
+
+// Written out, so that no crate above proves again that each part of it may be dropped.
+impl Drop for Instance {
+    fn drop(self) {
+        let Instance {
+            settings,
+            contents,
+            calls,
+            moment: _,
+        } = self;
+        drop(settings);
+        drop(contents);
+        drop(calls);
+    }
 }
 
 impl Model for Instance {

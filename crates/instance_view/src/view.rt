@@ -90,11 +90,22 @@ fn pop(cache: &mut Cache) -> Option<(Digest, Kept)>
 }
 
 /// An instance's texts under their digests, the most recently used first.
-#[derive(Drop)]
 pub struct View {
     cache: Cache,
     limit: usize,
     bytes: u64,
+}
+
+// Written out, so that no crate above proves again that each part of it may be dropped.
+impl Drop for View {
+    fn drop(self) {
+        let View {
+            cache,
+            limit: _,
+            bytes: _,
+        } = self;
+        drop(cache);
+    }
 }
 
 impl Model for View {

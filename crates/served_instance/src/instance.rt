@@ -36,11 +36,22 @@ use std::marker::Model;
 pub const CONNECTION_LIMIT: usize = 64;
 
 /// An instance with its open connections.
-#[derive(Drop)]
 pub struct ServedInstance {
     instance: Instance,
     /// In order of opening.
     connections: Vec<OpenConnection>,
+}
+
+// Written out, so that no crate above proves again that each part of it may be dropped.
+impl Drop for ServedInstance {
+    fn drop(self) {
+        let ServedInstance {
+            instance,
+            connections,
+        } = self;
+        drop(instance);
+        drop(connections);
+    }
 }
 
 impl Model for ServedInstance {

@@ -21,9 +21,16 @@ use std::alloc::Global;
 use std::marker::Model;
 
 /// The unfinished uploads of an instance.
-#[derive(Drop)]
 pub struct Uploads {
     table: Table,
+}
+
+// Written out, so that no crate above proves again that each part of it may be dropped.
+impl Drop for Uploads {
+    fn drop(self) {
+        let Uploads { table } = self;
+        drop(table);
+    }
 }
 
 impl Model for Uploads {

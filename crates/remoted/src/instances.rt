@@ -1,5 +1,6 @@
 //! The words for instances on the command line of `serve`.
 
+use decimals::decimal;
 use server_events::{ConfigFault, Configs, InstanceConfig};
 use std::alloc::{AllocError, Global};
 use thiserror::Error;
@@ -52,18 +53,24 @@ fn parts_of(word: &str) -> Option<(&str, &str, &str, &str)> {
     }
 }
 
+/// The port that digits write.
+fn port_of(digits: &str) -> Option<u16> {
+    match u16::try_from(decimal(digits.as_bytes())?) {
+        Ok(port) if port > 0 => Some(port),
+        _ => None,
+    }
+}
+
+/// The slots that digits write.
+fn slots_of(digits: &str) -> Option<u32> {
+    u32::try_from(decimal(digits.as_bytes())?).ok()
+}
+
 /// The port, the quota and the slots.
 fn numbers_of(port: &str, quota: &str, slots: &str) -> Result<(u16, u64, u32), WordFault> {
-    let port = match port.parse::<u16>() {
-        Ok(port) if port > 0 => port,
-        _ => return Err(WordFault::Port),
-    };
-    let Ok(quota) = quota.parse::<u64>() else {
-        return Err(WordFault::Quota);
-    };
-    let Ok(slots) = slots.parse::<u32>() else {
-        return Err(WordFault::Slots);
-    };
+    let port = port_of(port).ok_or(WordFault::Port)?;
+    let quota = decimal(quota.as_bytes()).ok_or(WordFault::Quota)?;
+    let slots = slots_of(slots).ok_or(WordFault::Slots)?;
     Ok((port, quota, slots))
 }
 

@@ -130,15 +130,13 @@ pub fn mixed_ending(alloc: Global, stored: &Stored) -> Ending {
     ending_of(&walked(alloc, stored))
 }
 
-/// Whether there is a plan with these paths.
-pub fn mixed_paths_are(alloc: Global, stored: &Stored, paths: &[&str]) -> bool {
+/// Whether there is a plan of nodes with these names on these levels.
+pub fn mixed_nodes_are(alloc: Global, stored: &Stored, nodes: &[(&str, usize)]) -> bool {
     let Ok(plan) = walked(alloc, stored) else {
         return false;
     };
-    plan.nodes.len() == paths.len()
-        && plan
-            .nodes
-            .iter()
-            .zip(paths.iter())
-            .all(|(node, path)| node.path.as_str() == *path)
+    plan.nodes.len() == nodes.len()
+        && plan.nodes.iter().zip(nodes.iter()).all(|(node, (name, level))| node.name.as_str()
+            == *name
+            && node.level == *level)
 }

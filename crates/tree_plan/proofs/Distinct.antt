@@ -1,11 +1,11 @@
--- The names of a directory's nodes are distinct, and none has a slash.
+-- The names of a directory's nodes are distinct.
 use Rattle.std.proofs.Common.{◌≡◌, ◌≢◌, ◌⊎◌, inl, inr, ℕ, Bool, true, false, not, ◌&&◌, ◌||◌, List, [], ◌∷◌, ◌++◌, Ordering, Less, Equal, Greater, refl, sym}
 use Rattle.std.specs.List.{Contains, list_all, list_any}
 use Rattle.std.specs.Ordering.{nat_cmp, is_lt, ordering_reverse}
 use Rattle.std.specs.Cmp.Lexicographic.{slice_cmp}
 use Rattle.std.proofs.lemmas.Cmp.{nat_list_cmp_total}
 use Rattle.std.proofs.lemmas.Bool.{and_parts}
-use Rattle.input_tree.specs.Names.{is_name, is_node_name_byte, is_dots, precedes, are_alike, are_rising, are_apart}
+use Rattle.input_tree.specs.Names.{precedes, are_alike, are_rising, are_apart}
 use Rattle.tree_plan.proofs.Kept.{in_none, in_cases}
 use Rattle.tree_plan.proofs.Pairs.{Pairs}
 
@@ -62,22 +62,3 @@ apart_differ (x ∷ ts) us h t u ct cu = go (and_parts (not (list_any (are_alike
   go : (not (list_any (are_alike x) us) ≡ true) × (are_apart ts us ≡ true) → (x ≡ t) ⊎ Contains ts t → (are_apart ts us ≡ true → Contains ts t → t ≢ u) → t ≢ u
   go parts (inl is) later = rw (← is) (not_alike x us parts.0 u cu)
   go parts (inr c) later = later parts.1 c
-
--- ---- names without slashes
-
-pub name_bytes : (t : List ℕ) → is_name t ≡ true → list_all is_node_name_byte t ≡ true
-name_bytes t h = (and_parts (not (is_dots t)) (list_all is_node_name_byte t) (and_parts _ (not (is_dots t) && list_all is_node_name_byte t) h).1).1
-
-slash_no : (b : ℕ) (bs : List ℕ) → b ≡ 47 → list_all is_node_name_byte (b ∷ bs) ≡ true → ⊥
-slash_no b bs is h = let no : list_all is_node_name_byte (47 ∷ bs) ≡ true = rw is at h in cc
-
--- a name and a slash begin another and its slash only where they are one
-pub name_ends : (t u tail : List ℕ) → list_all is_node_name_byte t ≡ true → list_all is_node_name_byte u ≡ true → u ++ 47 ∷ [] ≡ t ++ 47 ∷ tail → t ≡ u
-name_ends [] [] tail h g is = refl
-name_ends [] (y ∷ us) tail h g is = absurd (slash_no y us (cc) g)
-name_ends (x ∷ ts) [] tail h g is = absurd (slash_no x ts (let e : 47 ≡ x = cc in sym e) h)
-name_ends (x ∷ ts) (y ∷ us) tail h g is =
-    let first : y ≡ x = cc in
-    let rest : us ++ 47 ∷ [] ≡ ts ++ 47 ∷ tail = cc in
-    let same = name_ends ts us tail (and_parts (is_node_name_byte x) (list_all is_node_name_byte ts) h).1 (and_parts (is_node_name_byte y) (list_all is_node_name_byte us) g).1 rest in
-    cc

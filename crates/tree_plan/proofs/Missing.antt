@@ -16,17 +16,17 @@ taken_not : (ds : List Digest) (o : Option (List PlanNodeValue)) → nodes_or_fa
 taken_not ds None h = cc
 taken_not ds (Some nodes) h = cc
 
-text_not : (ds : List Digest) (above : List ℕ) (level : ℕ) (o : Option (List ℕ)) → nodes_of_text above level o ≡ Err (missing ds) → ⊥
-text_not ds above level None h = cc
-text_not ds above level (Some text) h = taken_not ds (nodes_in above level text) h
+text_not : (ds : List Digest) (level : ℕ) (o : Option (List ℕ)) → nodes_of_text level o ≡ Err (missing ds) → ⊥
+text_not ds level None h = cc
+text_not ds level (Some text) h = taken_not ds (nodes_in level text) h
 
-below_not : (ds : List Digest) (look : Lookup) (path : List ℕ) (level : ℕ) (kind : NodeKindValue) → nodes_below look path level kind ≡ Err (missing ds) → ⊥
-below_not ds look path level (file d is_executable) h = cc
-below_not ds look path level (symlink target) h = cc
-below_not ds look path level (directory d) h = go (nat_le 64 level) h where
-  go : (b : Bool) → (if b then Err too_deep else directory_nodes look (path ++ 47 ∷ []) (level + 1) d) ≡ Err (missing ds) → ⊥
+below_not : (ds : List Digest) (look : Lookup) (level : ℕ) (kind : NodeKindValue) → nodes_below look level kind ≡ Err (missing ds) → ⊥
+below_not ds look level (file d is_executable) h = cc
+below_not ds look level (symlink target) h = cc
+below_not ds look level (directory d) h = go (nat_le 64 level) h where
+  go : (b : Bool) → (if b then Err too_deep else directory_nodes look (level + 1) d) ≡ Err (missing ds) → ⊥
   go true h = cc
-  go false h = text_not ds (path ++ 47 ∷ []) (level + 1) (look d) h
+  go false h = text_not ds (level + 1) (look d) h
 
 along_not : (ds : List Digest) (most : ℕ) (look : Lookup) (next met : List PlanNodeValue) → walk_along most look next met ≡ Err (missing ds) → ⊥
 unfolding walk_along
@@ -36,13 +36,13 @@ along_not ds zero look (n ∷ next) met h = cc
 along_not ds (suc most) look (n ∷ next) met h = go (nodes_inside look n) refl h (λ inside. along_not ds most look (inside ++ next) (met ++ n ∷ [])) where
   go : (m : Nodes) → nodes_inside look n ≡ m → (m >>= (λ inside. walk_along most look (inside ++ next) (met ++ n ∷ []))) ≡ Err (missing ds) → ((inside : List PlanNodeValue) → walk_along most look (inside ++ next) (met ++ n ∷ []) ≡ Err (missing ds) → ⊥) → ⊥
   go (Ok inside) is h later = later inside h
-  go (Err e) is h later = below_not ds look n.path n.level n.kind (is ∙ h)
+  go (Err e) is h later = below_not ds look n.level n.kind (is ∙ h)
 
 met_not : (ds : List Digest) (look : Lookup) (root : Digest) → nodes_met look root ≡ Err (missing ds) → ⊥
-met_not ds look root h = go (directory_nodes look [] 1 root) refl h where
-  go : (m : Nodes) → directory_nodes look [] 1 root ≡ m → (m >>= (λ top. walk_along 10000 look top [])) ≡ Err (missing ds) → ⊥
+met_not ds look root h = go (directory_nodes look 1 root) refl h where
+  go : (m : Nodes) → directory_nodes look 1 root ≡ m → (m >>= (λ top. walk_along 10000 look top [])) ≡ Err (missing ds) → ⊥
   go (Ok top) is h = along_not ds 10000 look top [] h
-  go (Err e) is h = text_not ds [] 1 (look root) (is ∙ h)
+  go (Err e) is h = text_not ds 1 (look root) (is ∙ h)
 
 -- ---- what is not there
 

@@ -26,7 +26,7 @@ placed look top (x ∷ next) rest before (met_first n inside below others after 
     let further = placed look top next after ((before ++ x ∷ []) ++ below) later (λ m c. rw append_assoc (kept_place look top before (x ∷ below) m (have m (later_in x next m c)))) in
     (have x (first_in x next), places_joined look top (before ++ x ∷ []) below after inner further)
 
-pub plan_places : (look : Lookup) (root : Digest) (top nodes : List PlanNodeValue) → directory_nodes look [] 1 root ≡ Ok top → walk look root ≡ Ok nodes → HavePlaces look top [] nodes
+pub plan_places : (look : Lookup) (root : Digest) (top nodes : List PlanNodeValue) → directory_nodes look 1 root ≡ Ok top → walk look root ≡ Ok nodes → HavePlaces look top [] nodes
 plan_places look root top nodes is h =
     let tree = plan_tree look root nodes h in
     let same : tree.top ≡ top = (let e = tree.top_is in cc) in

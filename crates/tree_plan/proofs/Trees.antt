@@ -73,8 +73,8 @@ plan_is look root plan h = go (nodes_met look root) refl h where
   go (Err e) is h = cc
 
 met_tree : (look : Lookup) (root : Digest) (nodes : List PlanNodeValue) → nodes_met look root ≡ Ok nodes → IsTree look root nodes
-met_tree look root nodes h = go (directory_nodes look [] 1 root) refl h where
-  go : (m : Nodes) → directory_nodes look [] 1 root ≡ m → (m >>= (λ top. walk_along 10000 look top [])) ≡ Ok nodes → IsTree look root nodes
+met_tree look root nodes h = go (directory_nodes look 1 root) refl h where
+  go : (m : Nodes) → directory_nodes look 1 root ≡ m → (m >>= (λ top. walk_along 10000 look top [])) ≡ Ok nodes → IsTree look root nodes
   go (Ok top) is h =
       let c = continues 10000 look top [] nodes h in
       record { top = top; top_is = is; meets = rw (c.is) c.meets }

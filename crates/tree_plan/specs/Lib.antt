@@ -3,3 +3,4 @@ pub mod Shown
 pub mod Walk
 pub mod Answers
 pub mod Tree
+pub mod Paths

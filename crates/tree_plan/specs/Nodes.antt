@@ -13,36 +13,33 @@ pub data NodeKindValue : Type 0 where
   -- of the digest of its text
   directory : Digest → NodeKindValue
 
--- its path from the root, with `/` between names, and the level of the directory that it stands in,
--- where the root has level 1
+-- its name in the directory that it stands in, and the level of that, where the root has level 1
 pub record PlanNodeValue : Type 0 where
-  pub path : List ℕ
+  pub name : List ℕ
   pub level : ℕ
   pub kind : NodeKindValue
 
--- a node of a directory of this level, to whose path the names of its nodes are added
-abbrev pub file_at : List ℕ → ℕ → FileNodeValue → Option PlanNodeValue
-file_at above level n =
-    option_map
-    (λ d. record { path = above ++ n.name; level = level; kind = file d n.is_executable })
+-- a node of a directory of this level
+abbrev pub file_at : ℕ → FileNodeValue → Option PlanNodeValue
+file_at level n =
+    option_map (λ d. record { name = n.name; level = level; kind = file d n.is_executable })
     (written_digest n.digest)
 
-abbrev pub symlink_at : List ℕ → ℕ → SymlinkNodeValue → Option PlanNodeValue
-symlink_at above level n =
-    Some (record { path = above ++ n.name; level = level; kind = symlink n.target })
+abbrev pub symlink_at : ℕ → SymlinkNodeValue → Option PlanNodeValue
+symlink_at level n = Some (record { name = n.name; level = level; kind = symlink n.target })
 
-abbrev pub directory_at : List ℕ → ℕ → DirectoryNodeValue → Option PlanNodeValue
-directory_at above level n =
-    option_map (λ d. record { path = above ++ n.name; level = level; kind = directory d })
+abbrev pub directory_at : ℕ → DirectoryNodeValue → Option PlanNodeValue
+directory_at level n =
+    option_map (λ d. record { name = n.name; level = level; kind = directory d })
     (written_digest n.digest)
 
 -- the nodes of a directory: files, then symbolic links, then directories
-abbrev pub nodes_of : List ℕ → ℕ → DirectoryValue → List PlanNodeValue
-nodes_of above level v =
-    filter_map (file_at above level) v.files
-    ++ (filter_map (symlink_at above level) v.symlinks
-    ++ filter_map (directory_at above level) v.directories)
+abbrev pub nodes_of : ℕ → DirectoryValue → List PlanNodeValue
+nodes_of level v =
+    filter_map (file_at level) v.files
+    ++ (filter_map (symlink_at level) v.symlinks
+    ++ filter_map (directory_at level) v.directories)
 
 -- the nodes of the directory that a text spells
-abbrev pub nodes_in : List ℕ → ℕ → List ℕ → Option (List PlanNodeValue)
-nodes_in above level text = option_map (nodes_of above level) (directory_in text)
+abbrev pub nodes_in : ℕ → List ℕ → Option (List PlanNodeValue)
+nodes_in level text = option_map (nodes_of level) (directory_in text)

@@ -11,7 +11,7 @@ kind_shown (Symlink target) = symlink (string_bytes target)
 kind_shown (Directory digest) = directory digest
 
 abbrev pub node_shown : PlanNode → PlanNodeValue
-node_shown n = record { path = string_bytes n.path; level = n.level; kind = kind_shown n.kind }
+node_shown n = record { name = string_bytes n.name; level = n.level; kind = kind_shown n.kind }
 
 abbrev pub nodes_shown : List PlanNode → List PlanNodeValue
 nodes_shown nodes = map node_shown nodes

@@ -16,7 +16,7 @@ pub data Meets (look : Lookup) : List PlanNodeValue → List PlanNodeValue → T
 -- the nodes are those of the root's tree
 pub record IsTree (look : Lookup) (root : Digest) (nodes : List PlanNodeValue) : Type 0 where
   pub top : List PlanNodeValue
-  pub top_is : directory_nodes look [] 1 root ≡ Ok top
+  pub top_is : directory_nodes look 1 root ≡ Ok top
   pub meets : Meets look top nodes
 
 -- a node is one of those in another

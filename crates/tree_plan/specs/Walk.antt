@@ -24,23 +24,23 @@ nodes_or_fault None = Err bad_directory
 nodes_or_fault (Some nodes) = Ok nodes
 
 -- the nodes of a directory; none are met where its text is not there
-abbrev pub nodes_of_text : List ℕ → ℕ → Option (List ℕ) → Nodes
-nodes_of_text above level None = Ok []
-nodes_of_text above level (Some text) = nodes_or_fault (nodes_in above level text)
+abbrev pub nodes_of_text : ℕ → Option (List ℕ) → Nodes
+nodes_of_text level None = Ok []
+nodes_of_text level (Some text) = nodes_or_fault (nodes_in level text)
 
-abbrev pub directory_nodes : Lookup → List ℕ → ℕ → Digest → Nodes
-directory_nodes look above level d = nodes_of_text above level (look d)
+abbrev pub directory_nodes : Lookup → ℕ → Digest → Nodes
+directory_nodes look level d = nodes_of_text level (look d)
 
 -- the nodes in what stands in a directory of this level; there are at most MOST_LEVELS
-abbrev pub nodes_below : Lookup → List ℕ → ℕ → NodeKindValue → Nodes
-nodes_below look path level (file d is_executable) = Ok []
-nodes_below look path level (symlink target) = Ok []
-nodes_below look path level (directory d) =
+abbrev pub nodes_below : Lookup → ℕ → NodeKindValue → Nodes
+nodes_below look level (file d is_executable) = Ok []
+nodes_below look level (symlink target) = Ok []
+nodes_below look level (directory d) =
     if nat_le MOST_LEVELS level then Err too_deep
-    else directory_nodes look (path ++ 47 ∷ []) (level + 1) d
+    else directory_nodes look (level + 1) d
 
 abbrev pub nodes_inside : Lookup → PlanNodeValue → Nodes
-nodes_inside look n = nodes_below look n.path n.level n.kind
+nodes_inside look n = nodes_below look n.level n.kind
 
 -- the nodes met, where these were met, at most so many more may be, and these come next
 unfoldable pub walk_along : ℕ → Lookup → List PlanNodeValue → List PlanNodeValue → Nodes
@@ -52,7 +52,7 @@ walk_along (suc most) look (n ∷ next) met =
 -- the nodes of a root's tree, at most MOST_NODES, in the order met
 abbrev pub nodes_met : Lookup → Digest → Nodes
 nodes_met look root =
-    directory_nodes look [] 1 root >>= (λ nodes. walk_along MOST_NODES look nodes [])
+    directory_nodes look 1 root >>= (λ nodes. walk_along MOST_NODES look nodes [])
 
 -- ---- texts that are not there
 

@@ -6,7 +6,9 @@ ghost use Rattle.digest.specs.declared.Digest.{Digest};
 ghost use Rattle.input_tree.specs.Listing.{Lookup};
 ghost use Rattle.tree_plan.specs.Nodes.{PlanNodeValue};
 ghost use Rattle.tree_plan.specs.Walk.{digests_met, directory_nodes, missing, walk};
+ghost use Rattle.input_tree.specs.Names.{is_name};
 ghost use Rattle.tree_plan.specs.Tree.{AreMissing, HavePlaces, IsTree};
+ghost use Rattle.tree_plan.specs.Paths.{ArePathsIn, paths_of};
 ghost use Rattle.tree_plan.specs.declared.walking.TheConstants.{MOST_LEVELS, MOST_NODES};
 
 /// A plan has the nodes of the root's tree: those of the root, each followed by all that is in it.
@@ -18,15 +20,31 @@ pub fn a_plan_has_the_nodes_of_its_tree()
 /// Each node of a plan stands in the root or in a directory that comes before it.
 pub fn a_directory_comes_before_what_it_has()
     ensures { (look : Lookup) (root : Digest) (top nodes : List PlanNodeValue) →
-        directory_nodes look [] 1 root ≡ Ok top → walk look root ≡ Ok nodes →
+        directory_nodes look 1 root ≡ Ok top → walk look root ≡ Ok nodes →
         HavePlaces look top [] nodes }
+{}
+
+/// The paths that names and levels give are those of the tree: each node's is the path of the
+/// directory that it stands in, and its own name.
+pub fn paths_follow_from_levels()
+    ensures { (look : Lookup) (root : Digest) (top nodes : List PlanNodeValue) →
+        directory_nodes look 1 root ≡ Ok top → walk look root ≡ Ok nodes →
+        ArePathsIn look [] top (paths_of nodes) }
 {}
 
 /// No two nodes of a plan have one path.
 pub fn a_path_stands_once_in_a_plan()
     ensures { (look : Lookup) (root : Digest) (nodes : List PlanNodeValue) →
         walk look root ≡ Ok nodes →
-        AllPairs (λ earlier later. earlier.path ≢ later.path) nodes }
+        AllPairs (λ earlier later. earlier ≢ later) (paths_of nodes) }
+{}
+
+/// Each node's name is one that a directory may have: not empty, neither `.` nor `..`, and without
+/// `/` and NUL.
+pub fn nodes_of_a_plan_are_named()
+    ensures { (look : Lookup) (root : Digest) (nodes : List PlanNodeValue) →
+        walk look root ≡ Ok nodes → (n : PlanNodeValue) → Contains nodes n →
+        is_name n.name ≡ true }
 {}
 
 /// Where there is a plan, the texts of the root, of its files and of its directories are there.

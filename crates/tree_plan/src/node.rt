@@ -1,6 +1,6 @@
 //! Nodes of a plan, and those that the nodes of directories stand for.
 
-ghost use Rattle.std.specs.Prelude.{◌≡◌, ℕ, List, Option, ◌++◌, IfOk, option_map, string_bytes};
+ghost use Rattle.std.specs.Prelude.{◌≡◌, ℕ, Option, IfOk, option_map};
 ghost use Rattle.tree_plan.specs.Nodes.{PlanNodeValue};
 ghost use Rattle.tree_plan.specs.Shown.{node_shown};
 
@@ -9,7 +9,7 @@ use input_tree::digest_written;
 use std::alloc::{AllocError, Global};
 use tree_messages::{DirectoryNode, FileNode, SymlinkNode};
 
-/// What stands at a path.
+/// What a node is.
 #[derive(Drop)]
 pub enum NodeKind {
     /// A file, by the digest of its text.
@@ -23,21 +23,11 @@ pub enum NodeKind {
 /// A node of a plan.
 #[derive(Drop)]
 pub struct PlanNode {
-    /// The names from the root on, with `/` between them.
-    pub path: String,
+    /// Its name in the directory that it stands in.
+    pub name: String,
     /// The level of the directory that it stands in: 1 for the root's own nodes.
     pub level: usize,
     pub kind: NodeKind,
-}
-
-/// Two texts joined.
-pub fn joined(alloc: Global, front: &str, back: &str) -> Result<String, AllocError>
-    ensures { IfOk result (λ path. string_bytes path ≡ front.now ++ back.now) }
-{
-    let mut path = String::new(alloc);
-    path.push_str(front)?;
-    path.push_str(back)?;
-    Ok(path)
 }
 
 /// A node of a directory, as its message says it.
@@ -49,17 +39,11 @@ pub trait NodeMessage: Sized {
 
     /// The plan's node in a directory of this level, where the message writes a digest that it
     /// needs.
-    ghost at: { List ℕ → ℕ → Value → Option PlanNodeValue };
+    ghost at: { ℕ → Value → Option PlanNodeValue };
 
-    /// The plan's node, whose path is its name behind the text above it.
-    fn node_at(
-        &self,
-        alloc: Global,
-        above: &str,
-        level: usize,
-    ) -> Result<Option<PlanNode>, AllocError>
-        ensures { IfOk result (λ node. option_map node_shown node
-            ≡ at above.now level (shown self.now)) };
+    /// The plan's node in a directory of this level.
+    fn node_at(&self, alloc: Global, level: usize) -> Result<Option<PlanNode>, AllocError>
+        ensures { IfOk result (λ node. option_map node_shown node ≡ at level (shown self.now)) };
 }
 
 impl<'a> NodeMessage for FileNode<'a> {
@@ -72,21 +56,16 @@ impl<'a> NodeMessage for FileNode<'a> {
 
     ghost at = { file_at };
 
-    fn node_at(
-        &self,
-        alloc: Global,
-        above: &str,
-        level: usize,
-    ) -> Result<Option<PlanNode>, AllocError> {
+    fn node_at(&self, alloc: Global, level: usize) -> Result<Option<PlanNode>, AllocError> {
         let Some(digest) = digest_written(&self.digest) else {
             return Ok(None);
         };
-        let path = joined(alloc, above, self.name)?;
+        let name = String::from_str(alloc, self.name)?;
         let kind = NodeKind::File {
             digest,
             is_executable: self.is_executable,
         };
-        Ok(Some(PlanNode { path, level, kind }))
+        Ok(Some(PlanNode { name, level, kind }))
     }
 }
 
@@ -100,16 +79,11 @@ impl<'a> NodeMessage for SymlinkNode<'a> {
 
     ghost at = { symlink_at };
 
-    fn node_at(
-        &self,
-        alloc: Global,
-        above: &str,
-        level: usize,
-    ) -> Result<Option<PlanNode>, AllocError> {
-        let path = joined(alloc, above, self.name)?;
+    fn node_at(&self, alloc: Global, level: usize) -> Result<Option<PlanNode>, AllocError> {
+        let name = String::from_str(alloc, self.name)?;
         let target = String::from_str(alloc, self.target)?;
         let kind = NodeKind::Symlink { target };
-        Ok(Some(PlanNode { path, level, kind }))
+        Ok(Some(PlanNode { name, level, kind }))
     }
 }
 
@@ -123,17 +97,12 @@ impl<'a> NodeMessage for DirectoryNode<'a> {
 
     ghost at = { directory_at };
 
-    fn node_at(
-        &self,
-        alloc: Global,
-        above: &str,
-        level: usize,
-    ) -> Result<Option<PlanNode>, AllocError> {
+    fn node_at(&self, alloc: Global, level: usize) -> Result<Option<PlanNode>, AllocError> {
         let Some(digest) = digest_written(&self.digest) else {
             return Ok(None);
         };
-        let path = joined(alloc, above, self.name)?;
+        let name = String::from_str(alloc, self.name)?;
         let kind = NodeKind::Directory { digest };
-        Ok(Some(PlanNode { path, level, kind }))
+        Ok(Some(PlanNode { name, level, kind }))
     }
 }

@@ -25,16 +25,15 @@ use tree_messages::Directory;
 fn add_nodes<N: NodeMessage>(
     alloc: Global,
     nodes: &mut Vec<PlanNode>,
-    above: &str,
     level: usize,
     messages: &[N],
 ) -> Result<(), AllocError>
     ensures { OnOk result (nodes_shown nodes.new.items ≡ nodes_shown nodes.old.items
-        ++ filter_map (N.at above.now level) (map N.shown messages.now)) }
+        ++ filter_map (N.at level) (map N.shown messages.now)) }
 {
     let mut left = messages;
     'messages: while let [first, rest @ ..] = left {
-        if let Some(node) = first.node_at(alloc, above, level)? {
+        if let Some(node) = first.node_at(alloc, level)? {
             nodes.push(node)?;
         }
         left = rest;
@@ -45,35 +44,29 @@ fn add_nodes<N: NodeMessage>(
 /// The nodes of a directory: files, then symbolic links, then directories.
 fn nodes_of(
     alloc: Global,
-    above: &str,
     level: usize,
     directory: &Directory<'_>,
 ) -> Result<Vec<PlanNode>, AllocError>
     ensures { IfOk result (λ nodes. nodes_shown nodes.items
-        ≡ nodes_of above.now level (directory_shown directory.now)) }
+        ≡ nodes_of level (directory_shown directory.now)) }
 {
     let mut nodes = Vec::new(alloc);
-    add_nodes(alloc, &mut nodes, above, level, &directory.files)?;
-    add_nodes(alloc, &mut nodes, above, level, &directory.symlinks)?;
-    add_nodes(alloc, &mut nodes, above, level, &directory.directories)?;
+    add_nodes(alloc, &mut nodes, level, &directory.files)?;
+    add_nodes(alloc, &mut nodes, level, &directory.symlinks)?;
+    add_nodes(alloc, &mut nodes, level, &directory.directories)?;
     Ok(nodes)
 }
 
 /// The nodes of the directory that a text spells, or `None` where it spells none that is taken.
-fn nodes_in(
-    alloc: Global,
-    above: &str,
-    level: usize,
-    text: &[u8],
-) -> Result<Option<Vec<PlanNode>>, AllocError>
+fn nodes_in(alloc: Global, level: usize, text: &[u8]) -> Result<Option<Vec<PlanNode>>, AllocError>
     ensures { IfOk result (λ found. option_map (λ nodes. nodes_shown nodes.items) found
-        ≡ nodes_in above.now level text.now) }
+        ≡ nodes_in level text.now) }
 {
     if text.len() > MOST_DIRECTORY_BYTES {
         return Ok(None);
     }
     match Directory::decode(alloc, text) {
-        Ok(directory) if check(&directory) => Ok(Some(nodes_of(alloc, above, level, &directory)?)),
+        Ok(directory) if check(&directory) => Ok(Some(nodes_of(alloc, level, &directory)?)),
         Err(MessageError::NoMemory) => Err(AllocError),
         _ => Ok(None),
     }
@@ -82,40 +75,38 @@ fn nodes_in(
 /// The same for a text that a pool holds, whose length is looked at before its bytes.
 fn nodes_held(
     alloc: Global,
-    above: &str,
     level: usize,
     pool: &Pool,
     hold: &Hold,
 ) -> Result<Option<Vec<PlanNode>>, AllocError>
     requires { 0 < count_at pool.now hold.now }
     ensures { IfOk result (λ found. option_map (λ nodes. nodes_shown nodes.items) found
-        ≡ nodes_in above.now level (text_at pool.now hold.now)) }
+        ≡ nodes_in level (text_at pool.now hold.now)) }
 {
     if pool.length(hold) > MOST_DIRECTORY_BYTES as u64 {
         return Ok(None);
     }
     let mut text = Vec::new(alloc);
     pool.copy_into(hold, &mut text)?;
-    nodes_in(alloc, above, level, &text)
+    nodes_in(alloc, level, &text)
 }
 
 /// The same for a text that an instance has.
 fn nodes_seen(
     alloc: Global,
-    above: &str,
     level: usize,
     pool: &Pool,
     seen: Seen,
 ) -> Result<Option<Vec<PlanNode>>, AllocError>
     requires { (k : ℕ) → holders_seen seen k ≤ count_at pool.now k }
     ensures { IfOk result (λ found. option_map (λ nodes. nodes_shown nodes.items) found
-        ≡ nodes_in above.now level (text_seen pool.now seen)) }
+        ≡ nodes_in level (text_seen pool.now seen)) }
 {
     match seen {
-        Seen::Empty => nodes_in(alloc, above, level, &[]),
+        Seen::Empty => nodes_in(alloc, level, &[]),
         Seen::Text(kept) => {
             let hold = pool.back(kept);
-            let nodes = nodes_held(alloc, above, level, pool, &hold);
+            let nodes = nodes_held(alloc, level, pool, &hold);
             let _ = keep(hold);
             nodes
         }
@@ -127,17 +118,16 @@ pub fn directory_nodes(
     alloc: Global,
     view: &View,
     pool: &Pool,
-    above: &str,
     level: usize,
     digest: &Digest,
 ) -> Result<Vec<PlanNode>, TreeFault>
     requires { (k : ℕ) → holders view.now k ≤ count_at pool.now k }
     ensures { Answers (λ nodes. nodes_shown nodes.items) result
-        (directory_nodes (texts_of pool.now view.now) above.now level digest.now) }
+        (directory_nodes (texts_of pool.now view.now) level digest.now) }
 {
     match view.get(digest) {
         None => Ok(Vec::new(alloc)),
-        Some(seen) => match nodes_seen(alloc, above, level, pool, seen)? {
+        Some(seen) => match nodes_seen(alloc, level, pool, seen)? {
             None => Err(TreeFault::BadDirectory),
             Some(nodes) => Ok(nodes),
         },

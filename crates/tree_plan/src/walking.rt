@@ -9,7 +9,7 @@ ghost use Rattle.tree_plan.specs.Walk.{digests_met, missing_among, nodes_inside,
 ghost use Rattle.tree_plan.specs.Answers.{Answers};
 
 use crate::fault::TreeFault;
-use crate::node::{NodeKind, PlanNode, joined};
+use crate::node::{NodeKind, PlanNode};
 use crate::reading::directory_nodes;
 use blob_pool::Pool;
 use digest::Digest;
@@ -47,8 +47,7 @@ fn nodes_inside(
     if node.level >= MOST_LEVELS {
         return Err(TreeFault::TooDeep);
     }
-    let above = joined(alloc, &node.path, "/")?;
-    directory_nodes(alloc, view, pool, &above, node.level + 1, digest)
+    directory_nodes(alloc, view, pool, node.level + 1, digest)
 }
 
 /// Puts nodes on a stack, the first of them on top.
@@ -98,7 +97,7 @@ fn nodes_met(
     ensures { Answers (λ nodes. nodes_shown nodes.items) result
         (nodes_met (texts_of pool.now view.now) root.now) }
 {
-    let nodes = directory_nodes(alloc, view, pool, "", 1, root)?;
+    let nodes = directory_nodes(alloc, view, pool, 1, root)?;
     let mut todo = Vec::new(alloc);
     stack(&mut todo, nodes)?;
     walk_along(alloc, view, pool, todo)

@@ -1,6 +1,6 @@
 //! The tests of trees, of many shapes.
 
-use crate::mixed::{Stored, mixed_ending, mixed_paths_are};
+use crate::mixed::{Stored, mixed_ending, mixed_nodes_are};
 use crate::shapes::{Ending, Shape, walked_otherwise};
 use std::test::*;
 
@@ -91,14 +91,14 @@ fn shapes_end_as_they_say(rt: HostRuntime) -> Result<(), Fail> {
 }
 
 #[test]
-fn a_plan_has_paths(rt: HostRuntime) -> Result<(), Fail> {
+fn a_plan_has_names_and_levels(rt: HostRuntime) -> Result<(), Fail> {
     let stored = Stored {
         files: true,
         inner: true,
         is_good: true,
     };
-    let paths = ["a", "b", "c", "c/d", "c/e"];
-    assert!(rt; mixed_paths_are(rt.alloc(), &stored, &paths));
+    let nodes = [("a", 1), ("b", 1), ("c", 1), ("d", 2), ("e", 2)];
+    assert!(rt; mixed_nodes_are(rt.alloc(), &stored, &nodes));
     Ok(())
 }
 

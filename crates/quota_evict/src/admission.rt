@@ -113,10 +113,13 @@ pub fn admit_draft(
     ensures ok { OnOk result (visible_in pool.new view.new
         ≡ visible_after_admission view.old.limit quota digest.now draft.text
         (visible_in pool.old view.old)) }
+    // It is refused as too large exactly where it is not there and longer than the quota.
     ensures too_large { IfErr result
         (λ e. (e.0 ≡ TooLarge)
         ↔ ((visible_text digest.now (visible_in pool.old view.old) ≡ None)
         × (quota < length draft.text))) }
+    ensures fits { OnOk result (visible_text digest.now (visible_in pool.old view.old) ≡ None
+        → length draft.text ≤ quota) }
     ensures err { OnErr result ((view.new ≡ view.old) × (pool.new ≡ pool.old)) }
     ensures back { IfErr result (λ e. e.1.text ≡ draft.text) }
     ensures moves { Moves pool.old pool.new (holders view.old) (holders view.new) }

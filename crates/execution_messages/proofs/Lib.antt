@@ -1,0 +1,4 @@
+pub mod Texts
+pub mod RequestsAgain
+pub mod ActionsAgain
+pub mod OperationsAgain

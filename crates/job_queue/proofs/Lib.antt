@@ -1,0 +1,5 @@
+pub mod Places
+pub mod Orders
+pub mod Numbers
+pub mod Keeping
+pub mod Sums

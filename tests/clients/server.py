@@ -17,9 +17,9 @@ def free_ports(count):
 
 
 class Server:
-    """A server with these instances: a name and a quota each."""
+    """A server with these instances: a name and a quota each. More may stand in its environment."""
 
-    def __init__(self, program, instances, turns=None):
+    def __init__(self, program, instances, turns=None, environment=None):
         self.ports = free_ports(len(instances))
         self.work = tempfile.TemporaryDirectory()
         words = [f"{name}:{port}:{quota}:0" for (name, quota), port in zip(instances, self.ports)]
@@ -28,6 +28,7 @@ class Server:
             [program, "serve", "--work", self.work.name, *more, *words],
             stdout=subprocess.PIPE,
             text=True,
+            env={**os.environ, **(environment or {})},
         )
         for (name, _), port in zip(instances, self.ports):
             line = self.process.stdout.readline()

@@ -14,7 +14,7 @@
 //! and the SHA-256; of several answers that are equal one behind the other how many there are.
 
 mod answers;
-mod client;
+pub mod client;
 mod directories;
 mod requests;
 
@@ -22,7 +22,7 @@ use crate::instances::{configs, server};
 use crate::limits::answers::Answers;
 use crate::limits::client::Client;
 use crate::limits::directories::{Blob, add_child, filled, leaf};
-use decimals::decimal;
+use crate::numbers::number;
 use program_status::{Fault, Output, Status};
 use script::{Parts, lines, words};
 use server_core::Server;
@@ -67,17 +67,6 @@ fn verb_of(word: &[u8]) -> Option<Verb> {
         }
     }
     None
-}
-
-/// The number that a word is; where it is none, that is remembered.
-fn number(word: &[u8], output: &mut Output) -> u64 {
-    match decimal(word) {
-        Some(number) => number,
-        None => {
-            output.fail(BAD_LINE);
-            0
-        }
-    }
 }
 
 fn numbers(words: Parts<'_>, output: &mut Output) -> Vec<u64> {
@@ -194,7 +183,7 @@ impl Session {
     }
 
     fn carry_out_all(&mut self, text: &[u8], output: &mut Output) {
-        self.client.greet(output);
+        self.client.greet(0, output);
         for line in lines(text) {
             if !line.is_empty() {
                 output.print(line);

@@ -10,10 +10,22 @@
 //! | `stored` | a script of events: after each, how many texts the server has, of how many bytes |
 //! | `limits` | lines that reach each limit of trees and of results, and pass it by one |
 //! | `sockets` | clients over fake sockets and over real ones, each of which sends a line's bytes |
+//! | `floods` | a script of events with very many frames: how many bytes are put, and the last |
+//! | `broken` | a script of events, its first client broken off at each byte, its second not |
+//! | `memory` | a script of events that goes on past refused requests for memory |
+//!
+//! A case of `sockets` whose first line is `silent TURNS` has clients that fall silent, and callers
+//! after them.
 #![tactic(auto)]
 
+mod broken;
+mod floods;
 mod instances;
 mod limits;
+mod memory;
+mod numbers;
+mod outcomes;
+mod scripts;
 mod sockets;
 mod stored;
 
@@ -31,15 +43,21 @@ enum Kind {
     Stored,
     Limits,
     Sockets,
+    Floods,
+    Broken,
+    Memory,
 }
 
 /// How the line begins that begins a case.
-static KINDS: [(&[u8], Kind); 5] = [
+static KINDS: [(&[u8], Kind); 8] = [
     (b"# unary ", Kind::Unary),
     (b"# replay ", Kind::Replay),
     (b"# stored ", Kind::Stored),
     (b"# limits ", Kind::Limits),
     (b"# sockets ", Kind::Sockets),
+    (b"# floods ", Kind::Floods),
+    (b"# broken ", Kind::Broken),
+    (b"# memory ", Kind::Memory),
 ];
 
 /// A case that has begun.
@@ -64,6 +82,9 @@ fn status_of(
         Kind::Stored => stored::carry_out(script, output),
         Kind::Limits => limits::carry_out(script, output),
         Kind::Sockets => sockets::carry_out(rt, script, output),
+        Kind::Floods => floods::carry_out(script, output),
+        Kind::Broken => broken::carry_out(script, output),
+        Kind::Memory => memory::carry_out(script, output),
     }
 }
 

@@ -3,15 +3,22 @@
 //!
 //! Each line is what a client sends, in hexadecimal. A line is written for each seed, by which the
 //! fake sockets cut and fail, and one for the real ones.
+//!
+//! Where the first line is `silent TURNS`, the clients fall silent on fake sockets, and callers come
+//! after them. A line is written for each connection that is closed, and for each caller that is
+//! let in, with the moment.
 
 mod alone;
 mod fake;
 mod peers;
+mod silent;
 
 use crate::instances::configs;
 use crate::sockets::alone::{Outcome, judge};
 use crate::sockets::fake::{Client, Fake, Habits};
 use crate::sockets::peers::serve_peers;
+use crate::sockets::silent::serve_silent;
+use decimals::decimal;
 use hex::FromHexError;
 use program_status::{Fault, Output, Status};
 use script::lines;
@@ -21,8 +28,11 @@ use server_events::Configs;
 /// How many turns a case takes.
 const TURNS: u64 = 2_000;
 
-/// What a line in hexadecimal says.
+/// What a line in hexadecimal says; `-` says nothing.
 fn text_of(line: &[u8], output: &mut Output) -> Vec<u8> {
+    if line == b"-".as_slice() {
+        return Vec::new(output.alloc);
+    }
     match hex::decode(output.alloc, line) {
         Ok(text) => text,
         Err(error) => {
@@ -77,7 +87,12 @@ fn case(configs: &Configs, texts: &[Vec<u8>], count: usize, habits: Habits, outp
 }
 
 /// Tells what came of a case.
-fn tell(Habits { seed, is_steady }: Habits, outcome: Outcome, faults: bool, output: &mut Output) {
+fn tell(habits: Habits, outcome: Outcome, faults: bool, output: &mut Output) {
+    let Habits {
+        seed,
+        is_steady,
+        ..
+    } = habits;
     let Outcome {
         differing,
         served,
@@ -100,24 +115,44 @@ fn serve_all(rt: &HostRuntime, configs: &Configs, texts: &[Vec<u8>], output: &mu
         let habits = Habits {
             seed,
             is_steady: false,
+            pace: None,
         };
         case(configs, texts, 40, habits, output);
     }
     let steady = Habits {
         seed: 21,
         is_steady: true,
+        pace: None,
     };
     case(configs, texts, 70, steady, output);
     let differing = serve_peers(rt, configs, texts, output);
     output.print_text(format!(in output.alloc; "over ports: {differing} differ from alone\n"));
 }
 
+/// How many turns are taken with clients that fall silent, and their lines, where the first line
+/// tells that.
+fn silent_lines(input: &[u8]) -> Option<(u64, &[u8])> {
+    let first = lines(input).next()?;
+    if !first.starts_with(b"silent ") {
+        return None;
+    }
+    Some((decimal(first.get(7..)?)?, input.get(first.len()..)?))
+}
+
 /// Serves clients that send the texts of these lines, and compares what each is sent with what its
 /// instance gives alone.
-pub fn carry_out(rt: &HostRuntime, lines: &[u8], output: &mut Output) -> Status {
-    let texts = texts(lines, output);
+pub fn carry_out(rt: &HostRuntime, input: &[u8], output: &mut Output) -> Status {
     if let Some(configs) = configs(&["a", "b"], 1_000, output) {
-        serve_all(rt, &configs, &texts, output);
+        match silent_lines(input) {
+            Some((turns, silent)) => {
+                let texts = texts(silent, output);
+                serve_silent(&configs, &texts, turns, output);
+            }
+            None => {
+                let texts = texts(input, output);
+                serve_all(rt, &configs, &texts, output);
+            }
+        }
     }
     Status::Done
 }

@@ -28,7 +28,8 @@ use Rattle.conn_core.specs.declared.event.CallEvent.{CallEvent}
 use Rattle.conn_core.specs.declared.event.CallEvent.TheVariants.{Message as MessageCame, Cancel as CallCancel}
 use Rattle.conn_core.specs.Calls.{is_call, stream_text, messages_of, events_at_end, events_behind_messages, events_behind_front, events_by_end, events_of_content, events_of_request, call_events_of, cancels, answer_to_head, items_at_once}
 use Rattle.conn_core.specs.Past.{Past, with_frame}
-use Rattle.conn_core.specs.Received.{Outcome, outcome, may_put_all, frame_entries}
+use Rattle.conn_core.specs.Floods.{is_flood}
+use Rattle.conn_core.specs.Received.{Outcome, outcome, fits, frame_entries}
 use Rattle.conn_core.proofs.Answered.{good, outcome_good, outcome_cut, outcome_fault}
 use Rattle.conn_core.proofs.Numbers.{any_later, same_number}
 use Rattle.client_reading.specs.Answerable.{IsAnswerableStream, IsAnswerable, CanGoOn, AreAnswerableCalls, AnswersOnStreams}
@@ -122,7 +123,7 @@ Both d e o = AreAnswerable e (cond o.fails (cancels d) (call_events_of d o.event
 fault_both : (d e : List Entry) (f : RawFrame) (last : ℕ) (code : ErrorCode) (o : Outcome) → o.fails ≡ true → o.event ≡ Nothing → Both d e o
 fault_both d e f last code o fails event = (subst (λ b. AreAnswerable e (cond b (cancels d) (call_events_of d o.event))) (sym fails) (all_cancels d e), subst (λ (v : Event). AreOnLive e (items_at_once v)) (sym event) tt)
 
-good_both : (d : List Entry) (f : RawFrame) (a : StreamEvent) → Stands d → EndsLive d → has_failed d ≡ false → answer_after d f ≡ Ok a → may_put_all (untaken_count d) (control_frames a) ≡ true → Both d (d ++ frame_entries d f) (outcome d f)
+good_both : (d : List Entry) (f : RawFrame) (a : StreamEvent) → Stands d → EndsLive d → has_failed d ≡ false → answer_after d f ≡ Ok a → fits (is_flood d f) (untaken_count d) a ≡ true → Both d (d ++ frame_entries d f) (outcome d f)
 good_both d f a stands ends fine is fit =
     let es : d ++ entries_of d f ≡ d ++ frame_entries d f = ap (λ (x : List Entry). d ++ x) (sym (entries_good d f a is fit)) in
     let after : live_streams (d ++ frame_entries d f) ≡ live_after d a.event = ap live_streams (sym es) ∙ live_after_frame (standing d) d f a (as_kept d stands) fine is in
@@ -134,7 +135,7 @@ frame_both : (d : List Entry) (f : RawFrame) (r : Result StreamEvent ErrorCode) 
 frame_both d f (Err code) is stands ends fine =
     let o = outcome_fault d f code is in
     fault_both d (d ++ frame_entries d f) f 0 code (outcome d f) (ap (λ (x : Outcome). x.fails) o) (ap (λ (x : Outcome). x.event) o)
-frame_both d f (Ok a) is stands ends fine = elim (cases_Bool (may_put_all (untaken_count d) (control_frames a))) [
+frame_both d f (Ok a) is stands ends fine = elim (cases_Bool (fits (is_flood d f) (untaken_count d) a)) [
   | inl fit ↦ good_both d f a stands ends fine is fit
   | inr cut ↦ let o = outcome_cut d f a is cut in fault_both d (d ++ frame_entries d f) f 0 EnhanceYourCalm (outcome d f) (ap (λ (x : Outcome). x.fails) o) (ap (λ (x : Outcome). x.event) o)
 ]

@@ -26,7 +26,8 @@ use Rattle.grpc_sending.specs.Owed.{OwedItem, pieces_left_on}
 use Rattle.grpc_sending.specs.Pump.{reset_after}
 use Rattle.grpc_sending.proofs.Histories.{sent_more, append-nil}
 use Rattle.conn_core.specs.Past.{Past, new_past, greeting}
-use Rattle.conn_core.specs.Received.{Outcome, outcome, outcome_of, may_put, frames_to_put, may_put_all, fault_frames, frame_entries, fault_entries}
+use Rattle.conn_core.specs.Floods.{is_flood}
+use Rattle.conn_core.specs.Received.{Outcome, outcome, outcome_of, may_put, frames_to_put, fits, fault_frames, frame_entries, fault_entries}
 use Rattle.client_reading.specs.Changes.{PastChange, past_after_change, past_of, IsChange, BytesReceived, FrameRead, FaultMet, ItemGiven, BytesTaken, FramesPut, EventsGiven}
 use Rattle.client_reading.specs.Reads.{is_control, frames_caused_by, frames_caused_from, ReadsControl}
 use Rattle.client_reading.proofs.Choices.{choose, all_append, all_by, fold_keeps}
@@ -57,14 +58,14 @@ fitting_control n (f ∷ fs) h = choose (AllByRecursion IsControl) (may_put n f)
 abbrev PutsControl : Outcome → Type 0
 PutsControl o = AllByRecursion IsControl o.put
 
-outcome_by : (n before after : ℕ) (r : Result StreamEvent ErrorCode) → ((a : StreamEvent) → r ≡ Ok a → AllByRecursion IsControl (control_frames a)) → PutsControl (outcome_of n before after r)
-outcome_by n before after (Err code) h = (refl, tt)
-outcome_by n before after (Ok a) h =
-    choose PutsControl (may_put_all n (control_frames a)) _ _ (λ _. h a refl)
+outcome_by : (flood : Bool) (n before after : ℕ) (r : Result StreamEvent ErrorCode) → ((a : StreamEvent) → r ≡ Ok a → AllByRecursion IsControl (control_frames a)) → PutsControl (outcome_of flood n before after r)
+outcome_by flood n before after (Err code) h = (refl, tt)
+outcome_by flood n before after (Ok a) h =
+    choose PutsControl (fits flood n a) _ _ (λ _. h a refl)
     (λ _. all_append IsControl (frames_to_put n (control_frames a)) (goaway_frame after EnhanceYourCalm ∷ []) (fitting_control n (control_frames a) (h a refl)) (refl, tt))
 
 pub outcome_control : (d : List Entry) (f : RawFrame) → AllByRecursion IsControl (outcome d f).put
-outcome_control d f = outcome_by (untaken_count d) (highest_stream d) (highest_stream (d ++ In f ∷ [])) (answer_after d f) (λ a h. all_by IsControlAnswer IsControl (control_frames a) answer_control (answers_are_control (standing d) f a h))
+outcome_control d f = outcome_by (is_flood d f) (untaken_count d) (highest_stream d) (highest_stream (d ++ In f ∷ [])) (answer_after d f) (λ a h. all_by IsControlAnswer IsControl (control_frames a) answer_control (answers_are_control (standing d) f a h))
 
 pub fault_control : (failed : Bool) (last : ℕ) (code : ErrorCode) → AllByRecursion IsControl (fault_frames failed last code)
 fault_control true last code = tt

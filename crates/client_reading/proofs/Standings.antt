@@ -29,7 +29,8 @@ use Rattle.grpc_sending.specs.Bytes.{position, untaken_count}
 use Rattle.grpc_sending.specs.Owed.{OwedItem, pieces_left_on}
 use Rattle.grpc_sending.specs.Pump.{reset_after}
 use Rattle.conn_core.specs.Past.{Past, new_past, greeting}
-use Rattle.conn_core.specs.Received.{Outcome, outcome, fault_outcome, frames_to_put, may_put_all, fault_frames, frame_entries}
+use Rattle.conn_core.specs.Floods.{is_flood}
+use Rattle.conn_core.specs.Received.{Outcome, outcome, fault_outcome, frames_to_put, fits, fault_frames, frame_entries}
 use Rattle.conn_core.proofs.Answered.{outcome_good, outcome_cut, outcome_fault, entries_caused}
 use Rattle.client_reading.specs.Changes.{PastChange, past_after_change, past_of, IsChange, BytesReceived, FrameRead, FaultMet, ItemGiven, BytesTaken, FramesPut, EventsGiven}
 use Rattle.client_reading.proofs.Choices.{or_none, fold_keeps}
@@ -67,13 +68,13 @@ failed_by d f fs last code is =
 
 -- ---- a received frame
 
-pub entries_good : (d : List Entry) (f : RawFrame) (a : StreamEvent) → answer_after d f ≡ Ok a → may_put_all (untaken_count d) (control_frames a) ≡ true → frame_entries d f ≡ entries_of d f
+pub entries_good : (d : List Entry) (f : RawFrame) (a : StreamEvent) → answer_after d f ≡ Ok a → fits (is_flood d f) (untaken_count d) a ≡ true → frame_entries d f ≡ entries_of d f
 entries_good d f a is fit = ap (λ (o : Outcome). In f ∷ map Out o.put) (outcome_good d f a is fit) ∙ sym (entries_caused d f a is)
 
 before_more : (d es : List Entry) → has_failed (d ++ es) ≡ false → has_failed d ≡ false
 before_more d es fine = (or_none (has_failed d) (has_failed es) (sym (has_failed-append d es) ∙ fine)).0
 
-stands_good : (d : List Entry) (f : RawFrame) (a : StreamEvent) → answer_after d f ≡ Ok a → may_put_all (untaken_count d) (control_frames a) ≡ true → Stands d → Stands (d ++ frame_entries d f)
+stands_good : (d : List Entry) (f : RawFrame) (a : StreamEvent) → answer_after d f ≡ Ok a → fits (is_flood d f) (untaken_count d) a ≡ true → Stands d → Stands (d ++ frame_entries d f)
 stands_good d f a is fit h fine =
     let before = before_more d (frame_entries d f) fine in
     let same : d ++ entries_of d f ≡ d ++ frame_entries d f = ap (λ (es : List Entry). d ++ es) (sym (entries_good d f a is fit)) in
@@ -81,7 +82,7 @@ stands_good d f a is fit h fine =
 
 frame_by : (d : List Entry) (f : RawFrame) (r : Result StreamEvent ErrorCode) → answer_after d f ≡ r → Stands d → Stands (d ++ frame_entries d f)
 frame_by d f (Err code) is h = over (d ++ frame_entries d f) (failed_by d f [] (highest_stream d) code (outcome_fault d f code is))
-frame_by d f (Ok a) is h = elim (cases_Bool (may_put_all (untaken_count d) (control_frames a))) [
+frame_by d f (Ok a) is h = elim (cases_Bool (fits (is_flood d f) (untaken_count d) a)) [
   | inl fit ↦ stands_good d f a is fit h
   | inr cut ↦ over (d ++ frame_entries d f) (failed_by d f (frames_to_put (untaken_count d) (control_frames a)) (highest_stream (d ++ In f ∷ [])) EnhanceYourCalm (outcome_cut d f a is cut))
 ]

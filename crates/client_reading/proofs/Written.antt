@@ -26,7 +26,8 @@ use Rattle.grpc_sending.specs.Owed.{OwedItem, pieces_left_on}
 use Rattle.grpc_sending.specs.Pump.{natural_part, block_frame, reset_after, history_after_pump}
 use Rattle.grpc_sending.proofs.Histories.{sent_more}
 use Rattle.conn_core.specs.Past.{Past, new_past}
-use Rattle.conn_core.specs.Received.{Outcome, outcome, outcome_of, may_put, frames_to_put, may_put_all, fault_frames, frame_entries, fault_entries}
+use Rattle.conn_core.specs.Floods.{is_flood}
+use Rattle.conn_core.specs.Received.{Outcome, outcome, outcome_of, may_put, frames_to_put, fits, fault_frames, frame_entries, fault_entries}
 use Rattle.client_reading.specs.Changes.{PastChange, past_after_change, past_of, IsReceivable, IsChange, BytesReceived, FrameRead, FaultMet, ItemGiven, BytesTaken, FramesPut, EventsGiven}
 use Rattle.client_reading.specs.Reads.{ReadsFrames}
 use Rattle.client_reading.proofs.Choices.{choose, all_append, all_by, fold_keeps}
@@ -74,15 +75,15 @@ fitting_writable n (f ∷ fs) h = choose (AllByRecursion IsWritable) (may_put n 
 abbrev IsWrittenOutcome : Outcome → Type 0
 IsWrittenOutcome o = AllByRecursion IsWritable o.put
 
-outcome_by : (n before after : ℕ) (r : _) → before < 2 ^ 31 → after < 2 ^ 31 → ((a : StreamEvent) → r ≡ Ok a → AllByRecursion IsWritable (control_frames a)) → IsWrittenOutcome (outcome_of n before after r)
-outcome_by n before after (Err code) low high h = (goaway_writable before code low, tt)
-outcome_by n before after (Ok a) low high h =
-    choose IsWrittenOutcome (may_put_all n (control_frames a)) _ _ (λ _. h a refl)
+outcome_by : (flood : Bool) (n before after : ℕ) (r : _) → before < 2 ^ 31 → after < 2 ^ 31 → ((a : StreamEvent) → r ≡ Ok a → AllByRecursion IsWritable (control_frames a)) → IsWrittenOutcome (outcome_of flood n before after r)
+outcome_by flood n before after (Err code) low high h = (goaway_writable before code low, tt)
+outcome_by flood n before after (Ok a) low high h =
+    choose IsWrittenOutcome (fits flood n a) _ _ (λ _. h a refl)
     (λ _. all_append IsWritable (frames_to_put n (control_frames a)) (goaway_frame after EnhanceYourCalm ∷ []) (fitting_writable n (control_frames a) (h a refl)) (goaway_writable after EnhanceYourCalm high, tt))
 
 outcome_writable : (d : List Entry) (f : RawFrame) → AllByRecursion IsFramed d → IsReceivable f → AllByRecursion IsWritable (outcome d f).put
 outcome_writable d f framed is =
-    outcome_by (untaken_count d) (highest_stream d) (highest_stream (d ++ In f ∷ [])) (answer_after d f) (highest_low d framed)
+    outcome_by (is_flood d f) (untaken_count d) (highest_stream d) (highest_stream (d ++ In f ∷ [])) (answer_after d f) (highest_low d framed)
     (highest_low (d ++ In f ∷ []) (all_append IsFramed d (In f ∷ []) framed (is, tt))) (λ a h. answers_writable d f a framed is h)
 
 two_steps : (d : List Entry) (e : Entry) (fs : List Frame) → (d ++ e ∷ []) ++ map Out fs ≡ d ++ e ∷ map Out fs

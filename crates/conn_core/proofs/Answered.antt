@@ -1,6 +1,6 @@
 -- What a frame whose answer fits leaves.
 use Rattle.std.proofs.Common.{◌≡◌, ℕ, List, [], ◌∷◌, ◌++◌, length, refl, ap, ◌∙◌, sym, subst, append_assoc, inl, inr}
-use Rattle.std.specs.Prelude.{Bool, true, false, map, cond, ◌==◌, ◌&&◌, ◌||◌, Result, Ok, Err}
+use Rattle.std.specs.Prelude.{Bool, true, false, not, map, cond, ◌==◌, ◌&&◌, ◌||◌, Result, Ok, Err}
 use Rattle.std.specs.List.{list_any}
 use Rattle.std.proofs.lemmas.Bool.{cases_Bool}
 use Rattle.std.proofs.lemmas.List.Elements.{filter_map-append}
@@ -21,7 +21,9 @@ use Rattle.grpc_sending.specs.Bytes.{untaken_count}
 use Rattle.grpc_sending.specs.StoredSending.{SourceTexts, sending_in, StoredSending, IsStoredSending}
 use Rattle.grpc_sending.proofs.Histories.{append-nil}
 use Rattle.grpc_sending.proofs.Received.{frame_heard}
-use Rattle.conn_core.specs.Received.{received_raw_frames, raw_in, Outcome, outcome, outcome_of, frame_entries, fault_outcome, frames_to_put, may_put_all}
+use Rattle.conn_core.specs.Floods.{is_flood, resets_since_taking}
+use Rattle.conn_core.proofs.ResetCounts.{count_frame}
+use Rattle.conn_core.specs.Received.{fits, received_raw_frames, raw_in, Outcome, outcome, outcome_of, frame_entries, fault_outcome, frames_to_put, may_put_all}
 use Rattle.conn_core.specs.Past.{Past}
 use Rattle.conn_core.specs.StandsFor.{ConnectionValue}
 use Rattle.conn_core.specs.Step.{AreCalls, ChangesStreams, HasBrought, after_frame}
@@ -42,14 +44,14 @@ good a = record { put = control_frames a; event = a.event; fails = false }
 abbrev pub cut : ℕ → ℕ → StreamEvent → Outcome
 cut n h a = fault_outcome (frames_to_put n (control_frames a)) h EnhanceYourCalm
 
-pub outcome_good : (d : List Entry) (f : RawFrame) (a : StreamEvent) → answer_after d f ≡ Ok a → may_put_all (untaken_count d) (control_frames a) ≡ true → outcome d f ≡ good a
-outcome_good d f a h fit = ap (λ (r : Result StreamEvent ErrorCode). outcome_of (untaken_count d) (highest_stream d) (highest_stream (d ++ In f ∷ [])) r) h ∙ ap (λ b. cond b (good a) (cut (untaken_count d) (highest_stream (d ++ In f ∷ [])) a)) fit
+pub outcome_good : (d : List Entry) (f : RawFrame) (a : StreamEvent) → answer_after d f ≡ Ok a → fits (is_flood d f) (untaken_count d) a ≡ true → outcome d f ≡ good a
+outcome_good d f a h fit = ap (λ (r : Result StreamEvent ErrorCode). outcome_of (is_flood d f) (untaken_count d) (highest_stream d) (highest_stream (d ++ In f ∷ [])) r) h ∙ ap (λ b. cond b (good a) (cut (untaken_count d) (highest_stream (d ++ In f ∷ [])) a)) fit
 
-pub outcome_cut : (d : List Entry) (f : RawFrame) (a : StreamEvent) → answer_after d f ≡ Ok a → may_put_all (untaken_count d) (control_frames a) ≡ false → outcome d f ≡ cut (untaken_count d) (highest_stream (d ++ In f ∷ [])) a
-outcome_cut d f a h fit = ap (λ (r : Result StreamEvent ErrorCode). outcome_of (untaken_count d) (highest_stream d) (highest_stream (d ++ In f ∷ [])) r) h ∙ ap (λ b. cond b (good a) (cut (untaken_count d) (highest_stream (d ++ In f ∷ [])) a)) fit
+pub outcome_cut : (d : List Entry) (f : RawFrame) (a : StreamEvent) → answer_after d f ≡ Ok a → fits (is_flood d f) (untaken_count d) a ≡ false → outcome d f ≡ cut (untaken_count d) (highest_stream (d ++ In f ∷ [])) a
+outcome_cut d f a h fit = ap (λ (r : Result StreamEvent ErrorCode). outcome_of (is_flood d f) (untaken_count d) (highest_stream d) (highest_stream (d ++ In f ∷ [])) r) h ∙ ap (λ b. cond b (good a) (cut (untaken_count d) (highest_stream (d ++ In f ∷ [])) a)) fit
 
 pub outcome_fault : (d : List Entry) (f : RawFrame) (code : ErrorCode) → answer_after d f ≡ Err code → outcome d f ≡ fault_outcome [] (highest_stream d) code
-outcome_fault d f code h = ap (λ (r : Result StreamEvent ErrorCode). outcome_of (untaken_count d) (highest_stream d) (highest_stream (d ++ In f ∷ [])) r) h
+outcome_fault d f code h = ap (λ (r : Result StreamEvent ErrorCode). outcome_of (is_flood d f) (untaken_count d) (highest_stream d) (highest_stream (d ++ In f ∷ [])) r) h
 
 -- ---- a frame and what is put for it
 
@@ -111,7 +113,7 @@ changes u d f a at fine h = record {
 kept_calls : (v : ConnectionValue) (w : StoredSending) (d : List Entry) → AreCalls v d → AreCalls (with_sending v w) d
 kept_calls v w d h = record { calls = h.calls; order = h.order }
 
-has_brought : (texts : SourceTexts) (v : ConnectionValue) (p : Past) (f : RawFrame) (a : StreamEvent) (w : StoredSending) → AwaitsItsAnswer texts v p f a → may_put_all (untaken_count p.history) (control_frames a) ≡ true → IsStoredSending texts w (p.history ++ In f ∷ map Out (control_frames a)) p.owed → HasBrought texts (with_sending v w) p f a.event
+has_brought : (texts : SourceTexts) (v : ConnectionValue) (p : Past) (f : RawFrame) (a : StreamEvent) (w : StoredSending) → AwaitsItsAnswer texts v p f a false → fits (is_flood p.history f) (untaken_count p.history) a ≡ true → IsStoredSending texts w (p.history ++ In f ∷ map Out (control_frames a)) p.owed → HasBrought texts (with_sending v w) p f a.event
 has_brought texts v p f a w h fit sending =
     let o : outcome p.history f ≡ good a = outcome_good p.history f a h.causes fit in
     let es : frame_entries p.history f ≡ In f ∷ map Out (control_frames a) = ap (λ (x : Outcome). In f ∷ map Out x.put) o in
@@ -128,21 +130,23 @@ has_brought texts v p f a w h fit sending =
       due = h.due;
       calls = kept_calls v w p.history h.calls;
       change = subst (λ (x : List Entry). ChangesStreams p.history x a.event) same (changes h.before p.history f a h.stood h.lives h.causes);
+      counted = h.counted refl ∙ sym (count_frame p.history f (control_frames a)) ∙ ap resets_since_taking (sym is);
     }
 
-pub fits_of : (texts : SourceTexts) (v : ConnectionValue) (p : Past) (f : RawFrame) (a : StreamEvent) (w : ConnectionValue) (b : Bool) → AwaitsItsAnswer texts v p f a → Puts v (control_frames a) b w → may_put_all (untaken_count p.history) (control_frames a) ≡ b
-fits_of texts v p f a w b h puts = ap (λ n. may_put_all n (control_frames a)) (sym (ap length h.sending.pending)) ∙ sym puts.all
+pub fits_of : (texts : SourceTexts) (v : ConnectionValue) (p : Past) (f : RawFrame) (a : StreamEvent) (flood : Bool) (w : ConnectionValue) (b : Bool) → AwaitsItsAnswer texts v p f a flood → Puts v (control_frames a) b w → may_put_all (untaken_count p.history) (control_frames a) ≡ b
+fits_of texts v p f a flood w b h puts = ap (λ n. may_put_all n (control_frames a)) (sym (ap length h.sending.pending)) ∙ sym puts.all
 
 -- what was put stands behind the frame
-pub put_behind : (texts : SourceTexts) (v : ConnectionValue) (p : Past) (f : RawFrame) (a : StreamEvent) (w : ConnectionValue) (b : Bool) → AwaitsItsAnswer texts v p f a → Puts v (control_frames a) b w → IsStoredSending texts w.sending (p.history ++ In f ∷ map Out (frames_to_put (untaken_count p.history) (control_frames a))) p.owed
-put_behind texts v p f a w b h puts =
+pub put_behind : (texts : SourceTexts) (v : ConnectionValue) (p : Past) (f : RawFrame) (a : StreamEvent) (flood : Bool) (w : ConnectionValue) (b : Bool) → AwaitsItsAnswer texts v p f a flood → Puts v (control_frames a) b w → IsStoredSending texts w.sending (p.history ++ In f ∷ map Out (frames_to_put (untaken_count p.history) (control_frames a))) p.owed
+put_behind texts v p f a flood w b h puts =
     let n : length v.sending.pending ≡ untaken_count p.history = ap length h.sending.pending in
     let there = puts.sending texts (p.history ++ In f ∷ []) p.owed (frame_heard (sending_in texts v.sending) p.history p.owed f h.sending) in
     let there' : IsStoredSending texts w.sending ((p.history ++ In f ∷ []) ++ map Out (frames_to_put (untaken_count p.history) (control_frames a))) p.owed = subst (λ (m : ℕ). IsStoredSending texts w.sending ((p.history ++ In f ∷ []) ++ map Out (frames_to_put m (control_frames a))) p.owed) n there in
     subst (λ (x : List Entry). IsStoredSending texts w.sending x p.owed) (sym (in_front p.history f (frames_to_put (untaken_count p.history) (control_frames a)))) there'
 
-pub answered_fits : (texts : SourceTexts) (v w : ConnectionValue) (p : Past) (f : RawFrame) (a : StreamEvent) → AwaitsItsAnswer texts v p f a → Puts v (control_frames a) true w → HasBrought texts w p f a.event
+pub answered_fits : (texts : SourceTexts) (v w : ConnectionValue) (p : Past) (f : RawFrame) (a : StreamEvent) → AwaitsItsAnswer texts v p f a false → Puts v (control_frames a) true w → HasBrought texts w p f a.event
 answered_fits texts v w p f a h puts =
-    let fit = fits_of texts v p f a w true h puts in
-    let sending : IsStoredSending texts w.sending (p.history ++ In f ∷ map Out (control_frames a)) p.owed = subst (λ (fs : List Frame). IsStoredSending texts w.sending (p.history ++ In f ∷ map Out fs) p.owed) (fitting_all (untaken_count p.history) (control_frames a) fit) (put_behind texts v p f a w true h puts) in
-    subst (λ (y : ConnectionValue). HasBrought texts y p f a.event) (sym puts.rest) (has_brought texts v p f a w.sending h fit sending)
+    let fit = fits_of texts v p f a false w true h puts in
+    let all : fits (is_flood p.history f) (untaken_count p.history) a ≡ true = ap (λ b. may_put_all (untaken_count p.history) (control_frames a) && not b) (sym h.floods) ∙ ap (λ b. b && true) fit in
+    let sending : IsStoredSending texts w.sending (p.history ++ In f ∷ map Out (control_frames a)) p.owed = subst (λ (fs : List Frame). IsStoredSending texts w.sending (p.history ++ In f ∷ map Out fs) p.owed) (fitting_all (untaken_count p.history) (control_frames a) fit) (put_behind texts v p f a false w true h puts) in
+    subst (λ (y : ConnectionValue). HasBrought texts y p f a.event) (sym puts.rest) (has_brought texts v p f a w.sending h all sending)

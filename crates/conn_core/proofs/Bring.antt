@@ -37,7 +37,7 @@ use Rattle.conn_core.proofs.Began.{after_refused, after_begun, thinned}
 use Rattle.conn_core.proofs.Reset.{reset_stream}
 
 abbrev pub kept_as : ConnectionValue → StoredSending → List Call → List CallEvent → ConnectionValue
-kept_as v w cs due = record { reader = v.reader; streams = v.streams; sending = w; calls = cs; due = due; ended = v.ended }
+kept_as v w cs due = record { reader = v.reader; streams = v.streams; sending = w; calls = cs; due = due; ended = v.ended; reset_count = v.reset_count }
 
 brings : (p : Past) (f : RawFrame) (event : Event) → (outcome p.history f).event ≡ event → Brings p.history (after_frame p f) event
 brings p f event is = events_frame p.history f ∙ ap (λ (x : Event). events p.history ++ x ∷ []) is
@@ -51,7 +51,7 @@ brought_by texts v w cs due p f event h sending events after = record {
       ∙ ap (λ (es : List CallEvent). es ++ call_events_of p.history event) h.due
       ∙ ap (λ (x : Event). p.due ++ call_events_of p.history x) (sym h.is_event)
       ∙ ap (λ (b : Bool). p.due ++ cond b (cancels p.history) (call_events_of p.history (outcome p.history f).event)) (sym h.fits);
-  alive = λ alive. record { reader = h.reader; calls = after.calls; order = after.order };
+  alive = λ alive. record { reader = h.reader; calls = after.calls; order = after.order; counted = h.counted };
 }
 
 -- ---- no event

@@ -57,5 +57,6 @@ open_kept texts v kept p st keeps = record {
         reader = a.reader;
         calls = λ s lives. subst (λ (o : Option (Result (List ℕ) MessagesError)). IsRestOfCall p.history s o) (sym (thin.calls s lives)) (a.calls s lives);
         order = thin.order ∙ a.order;
+        counted = a.counted;
       };
 }

@@ -29,7 +29,7 @@ use Rattle.grpc_messages.specs.declared.error.MessagesError.{MessagesError}
 use Rattle.conn_core.specs.declared.call.Call.{Call}
 use Rattle.conn_core.specs.declared.event.CallEvent.{CallEvent}
 use Rattle.conn_core.specs.declared.event.CallEvent.TheVariants.{Cancel as CallCancel}
-use Rattle.conn_core.specs.Received.{Outcome, outcome, fault_outcome, frames_to_put, fault_frames, fault_entries}
+use Rattle.conn_core.specs.Received.{fits, Outcome, outcome, fault_outcome, frames_to_put, fault_frames, fault_entries}
 use Rattle.conn_core.specs.Calls.{is_call, cancels, call_events_of, items_at_once}
 use Rattle.conn_core.specs.Past.{Past, owed_with_items, with_frame, with_fault}
 use Rattle.conn_core.specs.StandsFor.{ConnectionValue, IsConnection, IsRestOfCall, call_on, members_of, call_stream}
@@ -135,12 +135,12 @@ other_than u d v (Request t fields end_stream) s at fine calls h member = elim (
   | inr other ↦ other
 ]
 
-failing_fine : (texts : SourceTexts) (v : ConnectionValue) (p : Past) (f : RawFrame) (a : StreamEvent) → AwaitsItsAnswer texts v p f a → has_failed (p.history ++ entries_of p.history f) ≡ false
-failing_fine texts v p f a h = ap (λ (es : List Entry). has_failed (p.history ++ es)) (entries_caused p.history f a h.causes) ∙ failed_after p.history f (control_frames a) (answers_quiet (control_frames a) (answers_are p.history f a h.causes)) ∙ h.lives
+failing_fine : (texts : SourceTexts) (v : ConnectionValue) (p : Past) (f : RawFrame) (a : StreamEvent) (flood : Bool) → AwaitsItsAnswer texts v p f a flood → has_failed (p.history ++ entries_of p.history f) ≡ false
+failing_fine texts v p f a flood h = ap (λ (es : List Entry). has_failed (p.history ++ es)) (entries_caused p.history f a h.causes) ∙ failed_after p.history f (control_frames a) (answers_quiet (control_frames a) (answers_are p.history f a h.causes)) ∙ h.lives
 
-cut_end : (texts : SourceTexts) (v : ConnectionValue) (p : Past) (f : RawFrame) (a : StreamEvent) → AwaitsItsAnswer texts v p f a → ended_calls v.streams.live (stream_of_event a.event) (map call_stream v.calls) ≡ cancels p.history
-cut_end texts v p f a h =
-    let fine : has_failed (p.history ++ entries_of p.history f) ≡ false = failing_fine texts v p f a h in
+cut_end : (texts : SourceTexts) (v : ConnectionValue) (p : Past) (f : RawFrame) (a : StreamEvent) (flood : Bool) → AwaitsItsAnswer texts v p f a flood → ended_calls v.streams.live (stream_of_event a.event) (map call_stream v.calls) ≡ cancels p.history
+cut_end texts v p f a flood h =
+    let fine : has_failed (p.history ++ entries_of p.history f) ≡ false = failing_fine texts v p f a flood h in
     let of : IsOnItsStream p.history a.event = event_on_stream p.history f a h.causes in
     cancels_are p.history (map call_stream v.calls) v.streams.live (stream_of_event a.event) h.lives h.calls.order (λ s member.
     ap (λ b. b || is_that (stream_of_event a.event) s) (live_is v.streams (p.history ++ entries_of p.history f) s h.streams (h.streams.fault ∙ fine) ∙ ap (list_any (λ t. t == s)) (live_after_frame h.before p.history f a h.stood h.lives h.causes))
@@ -154,9 +154,9 @@ top rs = fold max 0 (map stream_of (fold blocks_after no_blocks rs).finished)
 highest_in : (d : List Entry) (f : RawFrame) (fs : List Frame) → highest_stream (d ++ In f ∷ map Out fs) ≡ highest_stream (d ++ In f ∷ [])
 highest_in d f fs = ap highest_stream (in_front d f fs) ∙ ap top (received_more (d ++ In f ∷ []) fs)
 
-highest_after : (texts : SourceTexts) (v : ConnectionValue) (p : Past) (f : RawFrame) (a : StreamEvent) → AwaitsItsAnswer texts v p f a → v.streams.highest ≡ highest_stream (p.history ++ In f ∷ [])
-highest_after texts v p f a h =
-    ap (λ (u : Standing). u.highest) (h.streams.state (failing_fine texts v p f a h)).is
+highest_after : (texts : SourceTexts) (v : ConnectionValue) (p : Past) (f : RawFrame) (a : StreamEvent) (flood : Bool) → AwaitsItsAnswer texts v p f a flood → v.streams.highest ≡ highest_stream (p.history ++ In f ∷ [])
+highest_after texts v p f a flood h =
+    ap (λ (u : Standing). u.highest) (h.streams.state (failing_fine texts v p f a flood h)).is
     ∙ ap (λ (es : List Entry). highest_stream (p.history ++ es)) (entries_caused p.history f a h.causes) ∙ highest_in p.history f (control_frames a)
 
 -- ---- a connection that ended
@@ -191,15 +191,15 @@ fails_frame texts v x p f fs n code reset o top-is sending due ended h =
     (ended_stands texts v x code reset (p.history ++ In f ∷ map Out fs) (frame_by p f (fault_outcome fs n code)) h history sending (ap (λ (es : List CallEvent). es ++ cancels p.history) (sym due) ∙ ap (λ (es : List CallEvent). v.due ++ es) (sym ended)))
 
 -- the answer of a frame does not fit
-pub answered_cut : (texts : SourceTexts) (v w x : ConnectionValue) (p : Past) (f : RawFrame) (a : StreamEvent) → AwaitsItsAnswer texts v p f a → Puts v (control_frames a) false w → Fails w EnhanceYourCalm (stream_of_event a.event) x → IsConnection texts x (with_frame p f)
-answered_cut texts v w x p f a h puts fails =
-    let o = outcome_cut p.history f a h.causes (fits_of texts v p f a w false h puts) in
+pub answered_cut : (texts : SourceTexts) (v w x : ConnectionValue) (p : Past) (f : RawFrame) (a : StreamEvent) (flood : Bool) → AwaitsItsAnswer texts v p f a flood → (b : Bool) → Puts v (control_frames a) b w → fits flood (untaken_count p.history) a ≡ false → Fails w EnhanceYourCalm (stream_of_event a.event) x → IsConnection texts x (with_frame p f)
+answered_cut texts v w x p f a flood h b puts short fails =
+    let o = outcome_cut p.history f a h.causes (ap (λ y. fits y (untaken_count p.history) a) (sym h.floods) ∙ short) in
     let streams : w.streams ≡ v.streams = ap (λ (y : ConnectionValue). y.streams) puts.rest in
     let calls : w.calls ≡ v.calls = ap (λ (y : ConnectionValue). y.calls) puts.rest in
     let due : w.due ≡ p.due = ap (λ (y : ConnectionValue). y.due) puts.rest ∙ h.due in
     let ended : ended_calls w.streams.live (stream_of_event a.event) (map call_stream w.calls) ≡ cancels p.history =
-    ap (λ (u : Standing). ended_calls u.live (stream_of_event a.event) (map call_stream w.calls)) streams ∙ ap (λ (cs : List Call). ended_calls v.streams.live (stream_of_event a.event) (map call_stream cs)) calls ∙ cut_end texts v p f a h in
-    fails_frame texts w x p f (frames_to_put (untaken_count p.history) (control_frames a)) (highest_stream (p.history ++ In f ∷ [])) EnhanceYourCalm (stream_of_event a.event) o (ap (λ (u : Standing). u.highest) streams ∙ highest_after texts v p f a h) (put_behind texts v p f a w false h puts) due ended fails
+    ap (λ (u : Standing). ended_calls u.live (stream_of_event a.event) (map call_stream w.calls)) streams ∙ ap (λ (cs : List Call). ended_calls v.streams.live (stream_of_event a.event) (map call_stream cs)) calls ∙ cut_end texts v p f a flood h in
+    fails_frame texts w x p f (frames_to_put (untaken_count p.history) (control_frames a)) (highest_stream (p.history ++ In f ∷ [])) EnhanceYourCalm (stream_of_event a.event) o (ap (λ (u : Standing). u.highest) streams ∙ highest_after texts v p f a flood h) (put_behind texts v p f a flood w b h puts) due ended fails
 
 -- a frame is an error of the connection
 pub taken_fault : (texts : SourceTexts) (v x : ConnectionValue) (u : Standing) (p : Past) (f : RawFrame) (code : ErrorCode) → IsTaking texts v p f → answer_after p.history f ≡ Err code → u.live ≡ v.streams.live → u.highest ≡ v.streams.highest → Fails (record v { streams = u }) code None x → IsConnection texts x (with_frame p f)

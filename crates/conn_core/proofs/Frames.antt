@@ -1,6 +1,6 @@
 -- What the calls leave that read a frame, by what the code holds.
 use Rattle.std.proofs.Common.{◌≡◌, ℕ, ◌<◌, ◌≤◌, List, [], ◌∷◌, ◌++◌, length, refl, ap, ◌∙◌, sym, subst, append_assoc, arith, inl, inr}
-use Rattle.std.specs.Prelude.{Bool, true, false, map, take, ◌+◌, cond, Option, Some, None, Result, Ok, Err, OnOk, OnErr, IfOk, IfErr}
+use Rattle.std.specs.Prelude.{Bool, true, false, not, ◌&&◌, nat_le, map, take, ◌+◌, cond, Option, Some, None, Result, Ok, Err, OnOk, OnErr, IfOk, IfErr}
 use Rattle.http2_frames.specs.declared.codes.ErrorCode.{ErrorCode}
 use Rattle.http2_frames.specs.declared.codes.ErrorCode.TheVariants.{EnhanceYourCalm}
 use Rattle.http2_frames.specs.declared.error.FrameError.{FrameError}
@@ -27,14 +27,17 @@ use Rattle.grpc_sending.specs.StoredSending.{SourceTexts, StoredSending, QueuesE
 use Rattle.grpc_sending.proofs.Histories.{append-nil}
 use Rattle.conn_core.specs.declared.call.Call.{Call}
 use Rattle.conn_core.specs.declared.event.CallEvent.{CallEvent}
-use Rattle.conn_core.specs.Received.{received_raw_frames}
+use Rattle.grpc_sending.specs.Bytes.{untaken_count}
+use Rattle.conn_core.specs.declared.floods.TheConstants.{MOST_RESETS}
+use Rattle.conn_core.proofs.ResetCounts.{resets_by, floods_kept, counts_frame}
+use Rattle.conn_core.specs.Received.{received_raw_frames, may_put_all, fits}
 use Rattle.conn_core.specs.Past.{Past, with_frame}
 use Rattle.conn_core.specs.StandsFor.{ConnectionValue, IsConnection, IsAlive, StandsAfterReading, ReadsOneFrame, IsNextFrame, unread_length, call_stream}
 use Rattle.conn_core.specs.Step.{IsTaking, HasBrought, TakesFrame, with_reader}
-use Rattle.conn_core.specs.Putting.{Puts, Fails, AwaitsItsAnswer, ended_calls}
+use Rattle.conn_core.specs.Putting.{Puts, PutsUnless, Fails, AwaitsItsAnswer, ended_calls, have_answer_form}
 use Rattle.conn_core.proofs.Putting.{PutsIf}
 use Rattle.conn_core.proofs.StreamsLaws.{answers_are}
-use Rattle.conn_core.proofs.Answered.{answered_fits}
+use Rattle.conn_core.proofs.Answered.{answered_fits, fits_of}
 use Rattle.conn_core.proofs.Ends.{answered_cut, taken_fault, read_fault}
 
 -- ---- an error of the connection
@@ -44,10 +47,10 @@ pub fails_by : (v old : ConnectionValue) (code : ErrorCode) (reset : Option ℕ)
     → ((texts : SourceTexts) (d : List Entry) (os : List OwedItem) → has_failed d ≡ true → IsStoredSending texts one d os → IsStoredSending texts two d os)
     → ((d : List Entry) → has_failed (d ++ Out (goaway_frame v.streams.highest code) ∷ []) ≡ true)
     → live ≡ v.streams.live → calls ≡ v.calls → due ≡ v.due ++ ended_calls live reset (map call_stream calls) → ((d : List Entry) → has_failed d ≡ true → AreStreams u d) → none ≡ []
-    → Fails old code reset (record { reader = v.reader; streams = u; sending = two; calls = none; due = due; ended = true })
+    → Fails old code reset (record { reader = v.reader; streams = u; sending = two; calls = none; due = due; ended = true; reset_count = v.reset_count })
 fails_by v old code reset one two u calls none due f h live is top is_goaway put forget failed lives same ends streams empty =
     let f_is : f ≡ goaway_frame v.streams.highest code = is_goaway ∙ ap (λ (n : ℕ). goaway_frame n code) top in
-    subst (λ (y : ConnectionValue). Fails y code reset (record { reader = v.reader; streams = u; sending = two; calls = none; due = due; ended = true })) is (record {
+    subst (λ (y : ConnectionValue). Fails y code reset (record { reader = v.reader; streams = u; sending = two; calls = none; due = due; ended = true; reset_count = v.reset_count })) is (record {
       ended = refl;
       streams = streams;
       sending = λ texts d os st. forget texts (d ++ Out (goaway_frame v.streams.highest code) ∷ []) os (failed d) (subst (λ (g : Frame). IsStoredSending texts one (d ++ Out g ∷ []) os) f_is (put texts d os st));
@@ -57,25 +60,68 @@ fails_by v old code reset one two u calls none due f h live is top is_goaway put
 
 -- ---- the answer to a frame
 
-pub cut_by : (texts : SourceTexts) {T E : Type 0} (r : Result T E) (v w x : ConnectionValue) (a : StreamEvent) (reset : Option ℕ) (b : Bool) → b ≡ false → PutsIf v (control_frames a) b w → reset ≡ stream_of_event a.event → OnOk r (Fails w EnhanceYourCalm reset x) → OnOk r ((p : Past) (f : RawFrame) → AwaitsItsAnswer texts v p f a → IsConnection texts x (with_frame p f))
-cut_by texts (Err e) v w x a reset b cut put is fails = tt
-cut_by texts (Ok y) v w x a reset b cut put is fails = λ p f h.
-    let puts : Puts v (control_frames a) false w = subst (λ (c : Bool). Puts v (control_frames a) c w) cut (put (answers_are p.history f a h.causes)) in
-    answered_cut texts v w x p f a h puts (subst (λ (o : Option ℕ). Fails w EnhanceYourCalm o x) is fails)
+pub unless_flood : (flood : Bool) (v w : ConnectionValue) (fs : List Frame) (all : Bool) → flood ≡ true → Puts v fs all w → PutsUnless flood v fs false w
+unless_flood flood v w fs all is puts = record { all = all; puts = puts; is = at all (ap not is) } where
+  at : (b : Bool) → not flood ≡ false → false ≡ (b && not flood)
+  at true h = sym h
+  at false h = refl
 
-pub brought_by : (texts : SourceTexts) {T E : Type 0} (r : Result T E) (v w x : ConnectionValue) (a : StreamEvent) (b : Bool) → b ≡ true → PutsIf v (control_frames a) b w → OnOk r ((p : Past) (f : RawFrame) → HasBrought texts w p f a.event → IsConnection texts x (with_frame p f)) → OnOk r ((p : Past) (f : RawFrame) → AwaitsItsAnswer texts v p f a → IsConnection texts x (with_frame p f))
-brought_by texts (Err e) v w x a b fits put bring = tt
-brought_by texts (Ok y) v w x a b fits put bring = λ p f h.
-    let puts : Puts v (control_frames a) true w = subst (λ (c : Bool). Puts v (control_frames a) c w) fits (put (answers_are p.history f a h.causes)) in
-    bring p f (answered_fits texts v w p f a h puts)
+pub unless_calm : (flood : Bool) (v w : ConnectionValue) (fs : List Frame) (all : Bool) → flood ≡ false → Puts v fs all w → PutsUnless flood v fs all w
+unless_calm flood v w fs all is puts = record { all = all; puts = puts; is = at all (ap not is) } where
+  at : (b : Bool) → not flood ≡ true → b ≡ (b && not flood)
+  at true h = sym h
+  at false h = refl
+
+-- what a flood, or want of room, comes to
+pub short_of : (flood all b : Bool) (n : ℕ) (a : StreamEvent) → b ≡ false → b ≡ (all && not flood) → may_put_all n (control_frames a) ≡ all → fits flood n a ≡ false
+short_of flood all b n a cut is fit = ap (λ y. y && not flood) fit ∙ sym is ∙ cut
+
+no_flood : (flood all b : Bool) → b ≡ true → b ≡ (all && not flood) → flood ≡ false
+no_flood true true b fits is = cc
+no_flood true false b fits is = cc
+no_flood false all b fits is = refl
+
+all_put : (flood all b : Bool) → b ≡ true → b ≡ (all && not flood) → all ≡ true
+all_put flood true b fits is = refl
+all_put flood false b fits is = cc
+
+abbrev pub PutsUnlessIf : Bool → ConnectionValue → List Frame → Bool → ConnectionValue → Type 0
+PutsUnlessIf flood v fs b w = have_answer_form fs ≡ true → PutsUnless flood v fs b w
+
+pub cut_by : (texts : SourceTexts) {T E : Type 0} (r : Result T E) (v w x : ConnectionValue) (a : StreamEvent) (flood : Bool) (reset : Option ℕ) (b : Bool) → b ≡ false → PutsUnlessIf flood v (control_frames a) b w → reset ≡ stream_of_event a.event → OnOk r (Fails w EnhanceYourCalm reset x) → OnOk r ((p : Past) (f : RawFrame) → AwaitsItsAnswer texts v p f a flood → IsConnection texts x (with_frame p f))
+cut_by texts (Err e) v w x a flood reset b cut put is fails = tt
+cut_by texts (Ok y) v w x a flood reset b cut put is fails = λ p f h.
+    let given = put (answers_are p.history f a h.causes) in
+    let short = short_of flood given.all b (untaken_count p.history) a cut given.is (fits_of texts v p f a flood w given.all h given.puts) in
+    answered_cut texts v w x p f a flood h given.all given.puts short (subst (λ (o : Option ℕ). Fails w EnhanceYourCalm o x) is fails)
+
+pub brought_by : (texts : SourceTexts) {T E : Type 0} (r : Result T E) (v w x : ConnectionValue) (a : StreamEvent) (flood : Bool) (b : Bool) → b ≡ true → PutsUnlessIf flood v (control_frames a) b w → OnOk r ((p : Past) (f : RawFrame) → HasBrought texts w p f a.event → IsConnection texts x (with_frame p f)) → OnOk r ((p : Past) (f : RawFrame) → AwaitsItsAnswer texts v p f a flood → IsConnection texts x (with_frame p f))
+brought_by texts (Err e) v w x a flood b fit put bring = tt
+brought_by texts (Ok y) v w x a flood b fit put bring = λ p f h.
+    let given = put (answers_are p.history f a h.causes) in
+    let puts : Puts v (control_frames a) true w = subst (λ (c : Bool). Puts v (control_frames a) c w) (all_put flood given.all b fit given.is) given.puts in
+    let calm : AwaitsItsAnswer texts v p f a false = subst (λ (c : Bool). AwaitsItsAnswer texts v p f a c) (no_flood flood given.all b fit given.is) h in
+    bring p f (answered_fits texts v w p f a calm puts)
 
 -- ---- a frame
 
 abbrev with_streams : ConnectionValue → Standing → ConnectionValue
-with_streams v u = record { reader = v.reader; streams = u; sending = v.sending; calls = v.calls; due = v.due; ended = v.ended }
+with_streams v u = record { reader = v.reader; streams = u; sending = v.sending; calls = v.calls; due = v.due; ended = v.ended; reset_count = v.reset_count }
 
-is_answered : (texts : SourceTexts) (v : ConnectionValue) (u : Standing) (p : Past) (f : RawFrame) (a : StreamEvent) → IsTaking texts v p f → answer_after p.history f ≡ Ok a → AreStreams u (p.history ++ entries_of p.history f) → AwaitsItsAnswer texts (with_streams v u) p f a
-is_answered texts v u p f a h is streams = record {
+abbrev with_counted : ConnectionValue → Standing → ℕ → ConnectionValue
+with_counted v u m = record { reader = v.reader; streams = u; sending = v.sending; calls = v.calls; due = v.due; ended = v.ended; reset_count = m }
+
+-- what the code says of a flood, and how it counts
+pub record Counts (v : ConnectionValue) (f : RawFrame) (flood : Bool) (m : ℕ) : Type 0 where
+  pub resets : Bool
+  pub resets_is : resets ≡ resets_by v.streams f
+  pub floods : flood ≡ (resets && nat_le MOST_RESETS v.reset_count)
+  pub counted : (resets && nat_le MOST_RESETS v.reset_count) ≡ false → m ≡ cond resets (v.reset_count + 1) v.reset_count
+
+is_answered : (texts : SourceTexts) (v : ConnectionValue) (u : Standing) (m : ℕ) (p : Past) (f : RawFrame) (a : StreamEvent) (flood : Bool) → Counts v f flood m → IsTaking texts v p f → answer_after p.history f ≡ Ok a → AreStreams u (p.history ++ entries_of p.history f) → AwaitsItsAnswer texts (with_counted v u m) p f a flood
+is_answered texts v u m p f a flood n h is streams = record {
+  floods = floods_kept v.streams p.history f v.reset_count n.resets flood h.streams h.lives h.counted n.resets_is n.floods;
+  counted = counts_frame v.streams p.history f v.reset_count m n.resets flood h.streams h.lives h.counted n.resets_is n.floods n.counted;
   ended = h.ended;
   lives = h.lives;
   causes = is;
@@ -88,15 +134,15 @@ is_answered texts v u p f a h is streams = record {
   calls = record { calls = h.calls.calls; order = h.calls.order };
 }
 
-pub taken_by : (texts : SourceTexts) {T E : Type 0} (r : Result T E) (o : Result StreamEvent ConnectionFault) (v old x : ConnectionValue) (u : Standing) (f : RawFrame) (a : StreamEvent) → v ≡ old → o ≡ Ok a
+pub taken_by : (texts : SourceTexts) {T E : Type 0} (r : Result T E) (o : Result StreamEvent ConnectionFault) (v old x : ConnectionValue) (u : Standing) (m : ℕ) (f : RawFrame) (a : StreamEvent) (flood : Bool) → Counts v f flood m → v ≡ old → o ≡ Ok a
     → ((d : List Entry) → AreStreams v.streams d → Gives o (answer_after d f)) → InMemory o ((d : List Entry) → AreStreams v.streams d → AreStreams u (d ++ entries_of d f))
-    → OnOk r ((p : Past) (g : RawFrame) → AwaitsItsAnswer texts (with_streams v u) p g a → IsConnection texts x (with_frame p g)) → OnOk r ((p : Past) → IsTaking texts old p f → IsConnection texts x (with_frame p f))
-taken_by texts (Err e) o v old x u f a is ok gives stands answer = tt
-taken_by texts (Ok y) o v old x u f a is ok gives stands answer = λ p h0.
+    → OnOk r ((p : Past) (g : RawFrame) → AwaitsItsAnswer texts (with_counted v u m) p g a flood → IsConnection texts x (with_frame p g)) → OnOk r ((p : Past) → IsTaking texts old p f → IsConnection texts x (with_frame p f))
+taken_by texts (Err e) o v old x u m f a flood n is ok gives stands answer = tt
+taken_by texts (Ok y) o v old x u m f a flood n is ok gives stands answer = λ p h0.
     let h : IsTaking texts v p f = subst (λ (z : ConnectionValue). IsTaking texts z p f) (sym is) h0 in
     let caused : answer_after p.history f ≡ Ok a = subst (λ (z : Result StreamEvent ConnectionFault). Gives z (answer_after p.history f)) ok (gives p.history h.streams) in
     let after : (d : List Entry) → AreStreams v.streams d → AreStreams u (d ++ entries_of d f) = subst (λ (z : Result StreamEvent ConnectionFault). InMemory z ((d : List Entry) → AreStreams v.streams d → AreStreams u (d ++ entries_of d f))) ok stands in
-    answer p f (is_answered texts v u p f a h caused (after p.history h.streams))
+    answer p f (is_answered texts v u m p f a flood n h caused (after p.history h.streams))
 
 pub fault_by : (texts : SourceTexts) {T E : Type 0} (r : Result T E) (o : Result StreamEvent ConnectionFault) (v old x : ConnectionValue) (u : Standing) (f : RawFrame) (code : ErrorCode) → v ≡ old → o ≡ Err (Connection code)
     → ((d : List Entry) → AreStreams v.streams d → Gives o (answer_after d f)) → OnErr o (u.live ≡ v.streams.live) → OnErr o (u.highest ≡ v.streams.highest)
@@ -131,7 +177,7 @@ looked texts v u p alike st = record {
   due = st.due;
   alive = λ fine.
       let a = st.alive fine in
-      record { reader = alike CLIENT_PREFACE.now p.text (received_raw_frames p.history) a.reader; calls = a.calls; order = a.order };
+      record { reader = alike CLIENT_PREFACE.now p.text (received_raw_frames p.history) a.reader; calls = a.calls; order = a.order; counted = a.counted };
 }
 
 pub read_none : (texts : SourceTexts) (v old : ConnectionValue) (u : Result FrameReaderValue FrameError) (r : Result Bool FrameError) → v ≡ old → v.ended ≡ false → r ≡ Ok false → ReadAlike v.reader u
@@ -172,6 +218,7 @@ front_taken texts v x none u f alive front frame passes take p st =
           sending = st.sending;
           due = st.due;
           calls = record { calls = a.calls; order = a.order };
+          counted = a.counted;
         }),
       ),
     )

@@ -1,6 +1,6 @@
 -- What the calls that bring nothing leave stands for the past after them.
 use Rattle.std.proofs.Common.{◌≡◌, ℕ, List, [], ◌∷◌, ◌++◌, refl, ap, ◌∙◌, sym, subst, append_assoc}
-use Rattle.std.specs.Prelude.{Bool, true, false, map, filter, fold, ◌&&◌, ◌||◌, not, Option, Some, None, Result, Ok, Err, OnOk, OnErr, IfErr}
+use Rattle.std.specs.Prelude.{Bool, true, false, cond, ◌==◌, map, filter, fold, ◌&&◌, ◌||◌, not, Option, Some, None, Result, Ok, Err, OnOk, OnErr, IfErr}
 use Rattle.std.specs.List.{list_any, flat_map}
 use Rattle.std.proofs.lemmas.List.Elements.{filter_map-append}
 use Rattle.http2_frames.specs.declared.reader.TheConstants.{CLIENT_PREFACE}
@@ -24,6 +24,8 @@ use Rattle.grpc_sending.specs.StoredSending.{SourceTexts, StoredSending, IsStore
 use Rattle.grpc_sending.proofs.Histories.{append-nil}
 use Rattle.conn_core.specs.declared.call.Call.{Call}
 use Rattle.conn_core.specs.declared.event.CallEvent.{CallEvent}
+use Rattle.conn_core.specs.Floods.{resets_since_taking}
+use Rattle.conn_core.proofs.ResetCounts.{count_taken}
 use Rattle.conn_core.specs.Received.{received_raw_frames}
 use Rattle.conn_core.specs.Calls.{events, begins_call, content_on, messages_of}
 use Rattle.conn_core.specs.Past.{Past, greeting, new_past, with_item, with_taken}
@@ -32,18 +34,18 @@ use Rattle.conn_core.proofs.Events.{events_took, raw_took}
 
 -- ---- an item
 
-pub item_kept : (texts : SourceTexts) (v : ConnectionValue) (w : StoredSending) (p : Past) (s : ℕ) (item : Item) → IsConnection texts v p → IsStoredSending texts w p.history (owed_with_item p.history p.owed s item) → IsConnection texts (record { reader = v.reader; streams = v.streams; sending = w; calls = v.calls; due = v.due; ended = v.ended }) (with_item p s item)
+pub item_kept : (texts : SourceTexts) (v : ConnectionValue) (w : StoredSending) (p : Past) (s : ℕ) (item : Item) → IsConnection texts v p → IsStoredSending texts w p.history (owed_with_item p.history p.owed s item) → IsConnection texts (record { reader = v.reader; streams = v.streams; sending = w; calls = v.calls; due = v.due; ended = v.ended; reset_count = v.reset_count }) (with_item p s item)
 item_kept texts v w p s item st sending = record {
   ended = st.ended;
   streams = st.streams;
   sending = sending;
   due = st.due;
-  alive = λ alive. let a = st.alive alive in record { reader = a.reader; calls = a.calls; order = a.order };
+  alive = λ alive. let a = st.alive alive in record { reader = a.reader; calls = a.calls; order = a.order; counted = a.counted };
 }
 
 pub item_by : (texts : SourceTexts) {T E : Type 0} (r : Result T E) (v old : ConnectionValue) (w : StoredSending) (s : ℕ) (item : Item) → v ≡ old →
     OnOk r ((d : List Entry) (os : List OwedItem) → AreStreams v.streams d → IsStoredSending texts v.sending d os → IsStoredSending texts w d (owed_with_item d os s item)) →
-    OnOk r ((p : Past) → IsConnection texts old p → IsConnection texts (record { reader = v.reader; streams = v.streams; sending = w; calls = v.calls; due = v.due; ended = v.ended }) (with_item p s item))
+    OnOk r ((p : Past) → IsConnection texts old p → IsConnection texts (record { reader = v.reader; streams = v.streams; sending = w; calls = v.calls; due = v.due; ended = v.ended; reset_count = v.reset_count }) (with_item p s item))
 item_by texts (Err e) v old w s item is h = tt
 item_by texts (Ok x) v old w s item is h = λ p st0.
     let st : IsConnection texts v p = subst (λ (y : ConnectionValue). IsConnection texts y p) (sym is) st0 in
@@ -52,7 +54,7 @@ item_by texts (Ok x) v old w s item is h = λ p st0.
 -- a range, whatever digest names its text
 pub for_digest : {T E : Type 0} (r : Result T E) (v old : ConnectionValue) (w : StoredSending) (s : ℕ) (text : List ℕ) (from count : ℕ) (texts : SourceTexts) → v ≡ old →
     OnOk r ((digest : Digest) (d : List Entry) (os : List OwedItem) → AreStreams v.streams d → IsStoredSending texts v.sending d os → IsStoredSending texts w d (owed_with_item d os s (Range digest text from count))) →
-    OnOk r ((digest : Digest) (p : Past) → IsConnection texts old p → IsConnection texts (record { reader = v.reader; streams = v.streams; sending = w; calls = v.calls; due = v.due; ended = v.ended }) (with_item p s (Range digest text from count)))
+    OnOk r ((digest : Digest) (p : Past) → IsConnection texts old p → IsConnection texts (record { reader = v.reader; streams = v.streams; sending = w; calls = v.calls; due = v.due; ended = v.ended; reset_count = v.reset_count }) (with_item p s (Range digest text from count)))
 for_digest (Err e) v old w s text from count texts is h = tt
 for_digest {T = T} {E = E} (Ok x) v old w s text from count texts is h = λ digest. item_by texts {T = T} {E = E} (Ok x) v old w s (Range digest text from count) is (h digest)
 
@@ -93,8 +95,9 @@ same_call d e s (Some m) h call = (
 abbrev calls_by : List Event → List ℕ → List ℕ
 calls_by es ss = filter (λ s. list_any (begins_call s) es) ss
 
-pub same_alive : (v : ConnectionValue) (w : StoredSending) (p q : Past) → q.text ≡ p.text → IsSame p.history q.history → IsAlive v p → IsAlive (record { reader = v.reader; streams = v.streams; sending = w; calls = v.calls; due = v.due; ended = v.ended }) q
-same_alive v w p q text_is h a = record {
+pub same_alive : (v : ConnectionValue) (w : StoredSending) (m : ℕ) (p q : Past) → q.text ≡ p.text → IsSame p.history q.history → m ≡ resets_since_taking q.history → IsAlive v p → IsAlive (record { reader = v.reader; streams = v.streams; sending = w; calls = v.calls; due = v.due; ended = v.ended; reset_count = m }) q
+same_alive v w m p q text_is h count a = record {
+  counted = count;
   reader = subst (λ (t : List ℕ). IsReader CLIENT_PREFACE.now v.reader t (received_raw_frames q.history)) (sym text_is) (subst (λ (fs : List RawFrame). IsReader CLIENT_PREFACE.now v.reader p.text fs) (sym h.raw) a.reader);
   calls = λ s lives. same_call p.history q.history s (call_on s v.calls) h.events (a.calls s (sym (same_live p.history q.history s h) ∙ lives));
   order = ap (λ (ss : List ℕ). members_of ss (map call_stream v.calls)) (same_lives p.history q.history h) ∙ a.order ∙ ap (λ (es : List Event). calls_by es (live_streams p.history)) (sym h.events) ∙ ap (calls_by (events q.history)) (sym (same_lives p.history q.history h));
@@ -103,49 +106,51 @@ same_alive v w p q text_is h a = record {
 took_same : (d : List Entry) (n : ℕ) → IsSame d (d ++ Took n ∷ [])
 took_same d n = record { received = took_received d n; sent = took_sent d n; events = events_took d n; raw = raw_took d n }
 
-pub took_kept : (texts : SourceTexts) (v : ConnectionValue) (w : StoredSending) (p : Past) (n : ℕ) → IsConnection texts v p → IsStoredSending texts w (p.history ++ Took n ∷ []) p.owed → IsConnection texts (record { reader = v.reader; streams = v.streams; sending = w; calls = v.calls; due = v.due; ended = v.ended }) (with_taken p n)
-took_kept texts v w p n st sending = record {
+pub took_kept : (texts : SourceTexts) (v : ConnectionValue) (w : StoredSending) (m : ℕ) (p : Past) (n : ℕ) → m ≡ cond (n == 0) v.reset_count 0 → IsConnection texts v p → IsStoredSending texts w (p.history ++ Took n ∷ []) p.owed → IsConnection texts (record { reader = v.reader; streams = v.streams; sending = w; calls = v.calls; due = v.due; ended = v.ended; reset_count = m }) (with_taken p n)
+took_kept texts v w m p n by st sending = record {
   ended = st.ended ∙ ap (λ (ss : List Frame). list_any is_goaway ss) (sym (took_sent p.history n));
   streams = no_matter v.streams p.history (Took n) tt st.streams;
   sending = sending;
   due = st.due;
-  alive = λ alive. same_alive v w p (with_taken p n) refl (took_same p.history n) (st.alive (ap (λ (ss : List Frame). list_any is_goaway ss) (sym (took_sent p.history n)) ∙ alive));
+  alive = λ alive.
+      let a = st.alive (ap (λ (ss : List Frame). list_any is_goaway ss) (sym (took_sent p.history n)) ∙ alive) in
+      same_alive v w m p (with_taken p n) refl (took_same p.history n) (count_taken p.history n v.reset_count m a.counted by) a;
 }
 
-pub took_by : (texts : SourceTexts) (v old : ConnectionValue) (w : StoredSending) (n : ℕ) → v ≡ old → ((d : List Entry) (os : List OwedItem) → IsStoredSending texts v.sending d os → IsStoredSending texts w (d ++ Took n ∷ []) os) → (p : Past) → IsConnection texts old p → IsConnection texts (record { reader = v.reader; streams = v.streams; sending = w; calls = v.calls; due = v.due; ended = v.ended }) (with_taken p n)
-took_by texts v old w n is h p st0 =
+pub took_by : (texts : SourceTexts) (v old : ConnectionValue) (w : StoredSending) (m n : ℕ) → v ≡ old → m ≡ cond (n == 0) v.reset_count 0 → ((d : List Entry) (os : List OwedItem) → IsStoredSending texts v.sending d os → IsStoredSending texts w (d ++ Took n ∷ []) os) → (p : Past) → IsConnection texts old p → IsConnection texts (record { reader = v.reader; streams = v.streams; sending = w; calls = v.calls; due = v.due; ended = v.ended; reset_count = m }) (with_taken p n)
+took_by texts v old w m n is by h p st0 =
     let st : IsConnection texts v p = subst (λ (y : ConnectionValue). IsConnection texts y p) (sym is) st0 in
-    took_kept texts v w p n st (h p.history p.owed st.sending)
+    took_kept texts v w m p n by st (h p.history p.owed st.sending)
 
 -- ---- a new connection
 
-pub new_stands : (texts : SourceTexts) (reader : Result FrameReaderValue FrameError) (streams : Standing) (w : StoredSending) → IsReader CLIENT_PREFACE.now reader [] [] → AreStreams streams [] → IsStoredSending texts w (greeting ∷ []) [] → IsConnection texts (record { reader = reader; streams = streams; sending = w; calls = []; due = []; ended = false }) new_past
+pub new_stands : (texts : SourceTexts) (reader : Result FrameReaderValue FrameError) (streams : Standing) (w : StoredSending) → IsReader CLIENT_PREFACE.now reader [] [] → AreStreams streams [] → IsStoredSending texts w (greeting ∷ []) [] → IsConnection texts (record { reader = reader; streams = streams; sending = w; calls = []; due = []; ended = false; reset_count = 0 }) new_past
 new_stands texts reader streams w read at sending = record {
   ended = refl;
   streams = no_matter streams [] greeting tt at;
   sending = sending;
   due = refl;
-  alive = λ alive. record { reader = read; calls = λ s lives. refl; order = refl };
+  alive = λ alive. record { reader = read; calls = λ s lives. refl; order = refl; counted = refl };
 }
 
 -- ---- more bytes
 
-pub more_kept : (texts : SourceTexts) (v : ConnectionValue) (r : Result FrameReaderValue FrameError) (p : Past) (piece : List ℕ) → IsConnection texts v p → (has_failed p.history ≡ false → IsReader CLIENT_PREFACE.now r (p.text ++ piece) (received_raw_frames p.history)) → IsConnection texts (record { reader = r; streams = v.streams; sending = v.sending; calls = v.calls; due = v.due; ended = v.ended }) (record p { text = p.text ++ piece })
+pub more_kept : (texts : SourceTexts) (v : ConnectionValue) (r : Result FrameReaderValue FrameError) (p : Past) (piece : List ℕ) → IsConnection texts v p → (has_failed p.history ≡ false → IsReader CLIENT_PREFACE.now r (p.text ++ piece) (received_raw_frames p.history)) → IsConnection texts (record { reader = r; streams = v.streams; sending = v.sending; calls = v.calls; due = v.due; ended = v.ended; reset_count = v.reset_count }) (record p { text = p.text ++ piece })
 more_kept texts v r p piece st read = record {
   ended = st.ended;
   streams = st.streams;
   sending = st.sending;
   due = st.due;
-  alive = λ alive. let a = st.alive alive in record { reader = read alive; calls = a.calls; order = a.order };
+  alive = λ alive. let a = st.alive alive in record { reader = read alive; calls = a.calls; order = a.order; counted = a.counted };
 }
 
 -- a reader that refused goes on to refuse
 pub refused_more : (preface text piece : List ℕ) (given : List RawFrame) (e : FrameError) → IsReader preface (Err e) text given → IsReader preface (Err e) (text ++ piece) given
 refused_more preface text piece given e h = λ more. ap (split preface) (append_assoc text piece more) ∙ h (piece ++ more)
 
-pub new_by : (texts : SourceTexts) (reader : Result FrameReaderValue FrameError) (streams : Standing) (w : StoredSending) (calls : List Call) (due : List CallEvent) (ss : List Setting) → calls ≡ [] → due ≡ [] → ss ≡ record { identifier = 3; value = 100 } ∷ [] → IsReader CLIENT_PREFACE.now reader [] [] → AreStreams streams [] → IsStoredSending texts w (Out (Settings false ss) ∷ []) [] → IsConnection texts (record { reader = reader; streams = streams; sending = w; calls = calls; due = due; ended = false }) new_past
+pub new_by : (texts : SourceTexts) (reader : Result FrameReaderValue FrameError) (streams : Standing) (w : StoredSending) (calls : List Call) (due : List CallEvent) (ss : List Setting) → calls ≡ [] → due ≡ [] → ss ≡ record { identifier = 3; value = 100 } ∷ [] → IsReader CLIENT_PREFACE.now reader [] [] → AreStreams streams [] → IsStoredSending texts w (Out (Settings false ss) ∷ []) [] → IsConnection texts (record { reader = reader; streams = streams; sending = w; calls = calls; due = due; ended = false; reset_count = 0 }) new_past
 new_by texts reader streams w calls due ss none none' settings read at sending =
-    let f : List Call → List CallEvent → ConnectionValue = λ cs es. record { reader = reader; streams = streams; sending = w; calls = cs; due = es; ended = false } in
+    let f : List Call → List CallEvent → ConnectionValue = λ cs es. record { reader = reader; streams = streams; sending = w; calls = cs; due = es; ended = false; reset_count = 0 } in
     let s : IsStoredSending texts w (greeting ∷ []) [] = subst (λ (xs : List Setting). IsStoredSending texts w (Out (Settings false xs) ∷ []) []) settings sending in
     subst (λ (cs : List Call). IsConnection texts (f cs due) new_past) (sym none) (subst (λ (es : List CallEvent). IsConnection texts (f [] es) new_past) (sym none') (new_stands texts reader streams w read at s))
 
@@ -156,7 +161,7 @@ fed (Err e) old new preface text piece given ok err refused memory h =
     let h' : IsReader preface (Err e) text given = subst (λ (o : Result FrameReaderValue FrameError). IsReader preface o text given) is h in
     subst (λ (o : Result FrameReaderValue FrameError). IsReader preface o (text ++ piece) given) (sym (err ∙ is)) (refused_more preface text piece given e h')
 
-pub fed_by : (texts : SourceTexts) (v old : ConnectionValue) (r : Result Unit FrameError) (new : Result FrameReaderValue FrameError) (piece : List ℕ) → v ≡ old → OnOk r ((p t : List ℕ) (g : List RawFrame) → IsReader p v.reader t g → IsReader p new (t ++ piece) g) → OnErr r (new ≡ v.reader) → IfErr r (λ fault. (fault ≡ NoMemory → ⊥) → v.reader ≡ Err fault) → (r ≡ Err NoMemory → ⊥) → (p : Past) → IsConnection texts old p → IsConnection texts (record { reader = new; streams = v.streams; sending = v.sending; calls = v.calls; due = v.due; ended = v.ended }) (record p { text = p.text ++ piece })
+pub fed_by : (texts : SourceTexts) (v old : ConnectionValue) (r : Result Unit FrameError) (new : Result FrameReaderValue FrameError) (piece : List ℕ) → v ≡ old → OnOk r ((p t : List ℕ) (g : List RawFrame) → IsReader p v.reader t g → IsReader p new (t ++ piece) g) → OnErr r (new ≡ v.reader) → IfErr r (λ fault. (fault ≡ NoMemory → ⊥) → v.reader ≡ Err fault) → (r ≡ Err NoMemory → ⊥) → (p : Past) → IsConnection texts old p → IsConnection texts (record { reader = new; streams = v.streams; sending = v.sending; calls = v.calls; due = v.due; ended = v.ended; reset_count = v.reset_count }) (record p { text = p.text ++ piece })
 fed_by texts v old r new piece is ok err refused memory p st0 =
     let st : IsConnection texts v p = subst (λ (y : ConnectionValue). IsConnection texts y p) (sym is) st0 in
     more_kept texts v new p piece st (λ alive. fed r v.reader new CLIENT_PREFACE.now p.text piece (received_raw_frames p.history) ok err refused memory (st.alive alive).reader)
@@ -167,6 +172,6 @@ fed_ended texts v old piece is ended p st0 =
     let failed : has_failed p.history ≡ true = sym st.ended ∙ ended in
     more_kept texts v v.reader p piece st (λ alive. let no : true ≡ false = sym failed ∙ alive in absurd (let z : ⊥ = cc in z))
 
-pub fed_ok : (texts : SourceTexts) {T E : Type 0} (o : Result T E) (v old : ConnectionValue) (r : Result Unit FrameError) (new : Result FrameReaderValue FrameError) (piece : List ℕ) → v ≡ old → OnOk r ((p t : List ℕ) (g : List RawFrame) → IsReader p v.reader t g → IsReader p new (t ++ piece) g) → OnErr r (new ≡ v.reader) → IfErr r (λ fault. (fault ≡ NoMemory → ⊥) → v.reader ≡ Err fault) → OnOk o (r ≡ Err NoMemory → ⊥) → OnOk o ((p : Past) → IsConnection texts old p → IsConnection texts (record { reader = new; streams = v.streams; sending = v.sending; calls = v.calls; due = v.due; ended = v.ended }) (record p { text = p.text ++ piece }))
+pub fed_ok : (texts : SourceTexts) {T E : Type 0} (o : Result T E) (v old : ConnectionValue) (r : Result Unit FrameError) (new : Result FrameReaderValue FrameError) (piece : List ℕ) → v ≡ old → OnOk r ((p t : List ℕ) (g : List RawFrame) → IsReader p v.reader t g → IsReader p new (t ++ piece) g) → OnErr r (new ≡ v.reader) → IfErr r (λ fault. (fault ≡ NoMemory → ⊥) → v.reader ≡ Err fault) → OnOk o (r ≡ Err NoMemory → ⊥) → OnOk o ((p : Past) → IsConnection texts old p → IsConnection texts (record { reader = new; streams = v.streams; sending = v.sending; calls = v.calls; due = v.due; ended = v.ended; reset_count = v.reset_count }) (record p { text = p.text ++ piece }))
 fed_ok texts (Err e) v old r new piece is ok err refused memory = tt
 fed_ok texts (Ok x) v old r new piece is ok err refused memory = fed_by texts v old r new piece is ok err refused memory

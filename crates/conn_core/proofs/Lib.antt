@@ -1,3 +1,4 @@
+mod ResetCounts
 pub mod Events
 pub mod Keeps
 pub mod Pumps
@@ -17,6 +18,7 @@ pub mod Answered
 pub mod Ends
 pub mod Frames
 pub mod Closed
+pub mod CallsInCourse
 mod Looks
 mod Readers
 pub use Rattle.http2_frames.proofs.WireItemsDivisions as Divisions

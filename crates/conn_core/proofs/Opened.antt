@@ -15,7 +15,8 @@ use Rattle.http2_streams.specs.Rules.{answer_after}
 use Rattle.http2_streams.specs.Entries.{control_frames}
 use Rattle.grpc_calls.specs.Requests.{head_of}
 use Rattle.grpc_sending.specs.Bytes.{untaken_count}
-use Rattle.conn_core.specs.Received.{outcome, outcome_of, may_put_all}
+use Rattle.conn_core.specs.Floods.{is_flood}
+use Rattle.conn_core.specs.Received.{fits, outcome, outcome_of, may_put_all}
 use Rattle.conn_core.specs.Calls.{events_of_entry, events_of_entries, events, begins_call, content_on, is_call, stream_text}
 use Rattle.http2_streams.specs.LiveStreams.{IsOnItsStream}
 use Rattle.http2_streams.proofs.EventLaw.{event_on_stream}
@@ -52,9 +53,9 @@ event_opened d f s a (Content t content end_stream) h is on named = live_opened 
 event_opened d f s a (Trailers t) h is on named = live_opened d f s t on named
 event_opened d f s a (Cancel t) h is on named = live_opened d f s t on named
 
-named_of : (d : List Entry) (f : RawFrame) (s n h k : ℕ) (r : Result StreamEvent ErrorCode) → answer_after d f ≡ r → names s (outcome_of n h k r).event ≡ true → IsOpened (d ++ In f ∷ []) s
-named_of d f s n h k (Err code) is named = let no : false ≡ true = named in absurd (let z : ⊥ = cc in z)
-named_of d f s n h k (Ok a) is named = elim (cases_Bool (may_put_all n (control_frames a))) [
+named_of : (d : List Entry) (f : RawFrame) (flood : Bool) (s n h k : ℕ) (r : Result StreamEvent ErrorCode) → answer_after d f ≡ r → names s (outcome_of flood n h k r).event ≡ true → IsOpened (d ++ In f ∷ []) s
+named_of d f flood s n h k (Err code) is named = let no : false ≡ true = named in absurd (let z : ⊥ = cc in z)
+named_of d f flood s n h k (Ok a) is named = elim (cases_Bool (fits flood n a)) [
   | inl fit ↦ let named' : names s a.event ≡ true = rw fit at named in event_opened d f s a a.event is refl (event_on_stream d f a is) named'
   | inr short ↦ let no : false ≡ true = rw short at named in absurd (let z : ⊥ = cc in z)
 ]
@@ -68,7 +69,7 @@ both_lists false b P h l r = r h
 brought_opened : (before : List Entry) (e : Entry) (s : ℕ) → list_any (names s) (events_of_entry before e) ≡ true → IsOpened (before ++ e ∷ []) s
 brought_opened before (In f) s h =
     let h' : names s (outcome before f).event ≡ true = both_lists (names s (outcome before f).event) false (names s (outcome before f).event ≡ true) h (λ x. x) (λ no. absurd (let z : ⊥ = cc in z)) in
-    named_of before f s (untaken_count before) (highest_stream before) (highest_stream (before ++ In f ∷ [])) (answer_after before f) refl h'
+    named_of before f (is_flood before f) s (untaken_count before) (highest_stream before) (highest_stream (before ++ In f ∷ [])) (answer_after before f) refl h'
 brought_opened before (Unreadable x) s h = absurd (let z : ⊥ = cc in z)
 brought_opened before (Out g) s h = absurd (let z : ⊥ = cc in z)
 brought_opened before (Took n) s h = absurd (let z : ⊥ = cc in z)

@@ -28,6 +28,7 @@ use Rattle.grpc_sending.specs.StoredSending.{SourceTexts, StoredSending, QueuesE
 use Rattle.grpc_sending.proofs.Pumps.{pumped_none}
 use Rattle.grpc_sending.proofs.Histories.{append-nil, sent_more, received_more}
 use Rattle.grpc_sending.proofs.Entries.{failed_before}
+use Rattle.conn_core.proofs.ResetCounts.{count_out}
 use Rattle.conn_core.specs.Calls.{events, begins_call, is_call}
 use Rattle.conn_core.specs.Past.{Past, with_pumped}
 use Rattle.conn_core.specs.StandsFor.{ConnectionValue, IsConnection, call_on, members_of, call_stream}
@@ -133,7 +134,7 @@ order_kept d e xs same brought less order =
     ∙ ap (λ (ss : List ℕ). filter (is_call d) ss) (sym le)
     ∙ ap (λ (es : List Event). filter (λ s. list_any (begins_call s) es) (live_streams e)) (sym brought)
 
-put_kept : (texts : SourceTexts) (v : ConnectionValue) (streams : Standing) (w : StoredSending) (p : Past) (fs : List Frame) → IsConnection texts v p → AreStreams streams (p.history ++ map Out fs) → IsStoredSending texts w (p.history ++ map Out fs) p.owed → v.ended ≡ has_failed (p.history ++ map Out fs) → IsConnection texts (record { reader = v.reader; streams = streams; sending = w; calls = v.calls; due = v.due; ended = v.ended }) (record p { history = p.history ++ map Out fs })
+put_kept : (texts : SourceTexts) (v : ConnectionValue) (streams : Standing) (w : StoredSending) (p : Past) (fs : List Frame) → IsConnection texts v p → AreStreams streams (p.history ++ map Out fs) → IsStoredSending texts w (p.history ++ map Out fs) p.owed → v.ended ≡ has_failed (p.history ++ map Out fs) → IsConnection texts (record { reader = v.reader; streams = streams; sending = w; calls = v.calls; due = v.due; ended = v.ended; reset_count = v.reset_count }) (record p { history = p.history ++ map Out fs })
 put_kept texts v streams w p fs st at sending ended = record {
   ended = ended;
   streams = at;
@@ -145,17 +146,18 @@ put_kept texts v streams w p fs st at sending ended = record {
         reader = subst (λ (rs : List RawFrame). IsReader CLIENT_PREFACE.now v.reader p.text rs) (sym (raw_out p.history fs)) a.reader;
         calls = λ s lives. same_call p.history (p.history ++ map Out fs) s (call_on s v.calls) (events_out p.history fs) (a.calls s (live_falls p.history (map Out fs) s lives));
         order = order_kept p.history (p.history ++ map Out fs) (map call_stream v.calls) (received_more p.history fs) (events_out p.history fs) (λ s lives. live_falls p.history (map Out fs) s lives) a.order;
+        counted = a.counted ∙ sym (count_out p.history fs);
       };
 }
 
-pub pumped_by : (texts : SourceTexts) (v old : ConnectionValue) (streams : Standing) (w : StoredSending) → v ≡ old → ((d : List Entry) (os : List OwedItem) → AreStreams v.streams d → IsStoredSending texts v.sending d os → AreStreams streams (history_after_pump d os)) → ((d : List Entry) (os : List OwedItem) → AreStreams v.streams d → IsStoredSending texts v.sending d os → IsStoredSending texts w (history_after_pump d os) os) → (p : Past) → IsConnection texts old p → IsConnection texts (record { reader = v.reader; streams = streams; sending = w; calls = v.calls; due = v.due; ended = v.ended }) (with_pumped p)
+pub pumped_by : (texts : SourceTexts) (v old : ConnectionValue) (streams : Standing) (w : StoredSending) → v ≡ old → ((d : List Entry) (os : List OwedItem) → AreStreams v.streams d → IsStoredSending texts v.sending d os → AreStreams streams (history_after_pump d os)) → ((d : List Entry) (os : List OwedItem) → AreStreams v.streams d → IsStoredSending texts v.sending d os → IsStoredSending texts w (history_after_pump d os) os) → (p : Past) → IsConnection texts old p → IsConnection texts (record { reader = v.reader; streams = streams; sending = w; calls = v.calls; due = v.due; ended = v.ended; reset_count = v.reset_count }) (with_pumped p)
 pumped_by texts v old streams w is at sending p st0 =
     let st : IsConnection texts v p = subst (λ (y : ConnectionValue). IsConnection texts y p) (sym is) st0 in
     let f = pumped_is p.history p.owed in
     let a : AreStreams streams (p.history ++ map Out f.0) = subst (λ (d : List Entry). AreStreams streams d) f.1 (at p.history p.owed st.streams st.sending) in
     let b : IsStoredSending texts w (p.history ++ map Out f.0) p.owed = subst (λ (d : List Entry). IsStoredSending texts w d p.owed) f.1 (sending p.history p.owed st.streams st.sending) in
     let c : v.ended ≡ has_failed (p.history ++ map Out f.0) = st.ended ∙ sym (failed_same p.history f.0 f.2) in
-    subst (λ (d : List Entry). IsConnection texts (record { reader = v.reader; streams = streams; sending = w; calls = v.calls; due = v.due; ended = v.ended }) (record p { history = d })) (sym f.1) (put_kept texts v streams w p f.0 st a b c)
+    subst (λ (d : List Entry). IsConnection texts (record { reader = v.reader; streams = streams; sending = w; calls = v.calls; due = v.due; ended = v.ended; reset_count = v.reset_count }) (record p { history = d })) (sym f.1) (put_kept texts v streams w p f.0 st a b c)
 
 -- where nothing can be put, the pump changes nothing
 pub rested_by : (texts : SourceTexts) (v old : ConnectionValue) → v ≡ old → IsAtRest v.streams v.sending → QueuesEndWithin texts old.sending.queues → (p : Past) → IsConnection texts old p → IsConnection texts old (with_pumped p)

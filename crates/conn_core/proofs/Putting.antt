@@ -63,7 +63,7 @@ frames_to_put-append n (f ∷ fs) gs h = elim (cases_Bool (may_put n f)) [
 -- ---- one frame after another
 
 abbrev pub with_sending : ConnectionValue → StoredSending → ConnectionValue
-with_sending v w = record { reader = v.reader; streams = v.streams; sending = w; calls = v.calls; due = v.due; ended = v.ended }
+with_sending v w = record { reader = v.reader; streams = v.streams; sending = w; calls = v.calls; due = v.due; ended = v.ended; reset_count = v.reset_count }
 
 pub puts_none : (v : ConnectionValue) → Puts v [] true v
 puts_none v = record {

@@ -8,7 +8,7 @@ use Rattle.http2_frames.specs.Reader.{FrameReaderValue}
 use Rattle.grpc_sending.specs.StoredSending.{SourceTexts}
 use Rattle.conn_core.specs.StandsFor.{ConnectionValue}
 use Rattle.conn_core.specs.Step.{with_reader}
-use Rattle.conn_core.specs.Putting.{Puts, Fails, have_answer_form}
+use Rattle.conn_core.specs.Putting.{Puts, PutsUnless, Fails, have_answer_form}
 
 abbrev Reader : Type 0
 Reader = Result FrameReaderValue FrameError
@@ -25,6 +25,11 @@ pub puts_beside : (reader : Reader) (v w : ConnectionValue) (fs : List Frame) (f
 puts_beside reader v w fs fit puts are =
     let h = puts are in
     record { all = h.all; sending = h.sending; size = h.size; rest = ap (with_reader reader) h.rest }
+
+pub unless_beside : (reader : Reader) (flood : Bool) (v w : ConnectionValue) (fs : List Frame) (fit : Bool) → (have_answer_form fs ≡ true → PutsUnless flood v fs fit w) → have_answer_form fs ≡ true → PutsUnless flood (with_reader reader v) fs fit (with_reader reader w)
+unless_beside reader flood v w fs fit puts are =
+    let h = puts are in
+    record { all = h.all; puts = puts_beside reader v w fs h.all (λ _. h.puts) are; is = h.is }
 
 pub fails_beside : {T E : Type 0} (reader : Reader) (r : Result T E) (v w : ConnectionValue) (code : ErrorCode) (reset : Option ℕ) → OnOk r (Fails v code reset w) → OnOk r (Fails (with_reader reader v) code reset (with_reader reader w))
 fails_beside reader (Ok x) v w code reset h = record { ended = h.ended; streams = h.streams; sending = h.sending; due = h.due; calls = h.calls }

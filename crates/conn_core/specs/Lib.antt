@@ -1,5 +1,7 @@
+pub mod Floods
 pub mod Received
 pub mod Calls
+pub mod CallsInCourse
 pub mod Past
 pub mod StandsFor
 pub mod Step

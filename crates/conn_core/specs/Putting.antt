@@ -1,6 +1,6 @@
 -- What is put for a frame, and what ends with the connection. For the code alone: no public
 -- contract speaks of them.
-use Rattle.std.specs.Prelude.{◌≡◌, ◌+◌, ◌==◌, ◌||◌, if◌then◌else◌, ℕ, Bool, true, false, List, [], ◌∷◌, ◌++◌, length, map, filter, Option, Some, None, Result, Ok}
+use Rattle.std.specs.Prelude.{◌≡◌, ◌+◌, ◌==◌, ◌||◌, if◌then◌else◌, ℕ, Bool, true, false, not, ◌&&◌, List, [], ◌∷◌, ◌++◌, length, map, filter, Option, Some, None, Result, Ok}
 use Rattle.std.specs.List.{list_any, flat_map}
 use Rattle.http2_frames.specs.declared.codes.ErrorCode.{ErrorCode}
 use Rattle.http2_frames.specs.declared.error.FrameError.{FrameError}
@@ -12,7 +12,8 @@ use Rattle.http2_frames.specs.Reader.{FrameReaderValue, IsReader}
 use Rattle.http2_frames.specs.Writing.{text_of}
 use Rattle.http2_streams.specs.declared.stream.Stream.{Stream}
 use Rattle.http2_streams.specs.declared.event.StreamEvent.{StreamEvent}
-use Rattle.http2_streams.specs.History.{Entry, Out, has_failed}
+use Rattle.http2_streams.specs.History.{Entry, In, Out, has_failed}
+use Rattle.conn_core.specs.Floods.{is_flood, resets_since_taking}
 use Rattle.http2_streams.specs.Standing.{Standing}
 use Rattle.http2_streams.specs.Rules.{number_is, answer_after}
 use Rattle.http2_streams.specs.Entries.{entries_of, goaway_frame}
@@ -62,6 +63,14 @@ is_ending live reset s = list_any (number_is s) live || is_that reset s
 abbrev pub ended_calls : List Stream → Option ℕ → List ℕ → List CallEvent
 ended_calls live reset ss = map CallCancel (filter (is_ending live reset) ss)
 
+-- of these frames those were put that had room; they count as fit where all had, and there is no
+-- flood
+pub record PutsUnless (flood : Bool) (v : ConnectionValue) (fs : List Frame) (fit : Bool)
+    (w : ConnectionValue) : Type 0 where
+  pub all : Bool
+  pub puts : Puts v fs all w
+  pub is : fit ≡ (all && not flood)
+
 -- GOAWAY was put, and all calls ended
 pub record Fails (v : ConnectionValue) (code : ErrorCode) (reset : Option ℕ)
     (w : ConnectionValue) : Type 0 where
@@ -75,7 +84,7 @@ pub record Fails (v : ConnectionValue) (code : ErrorCode) (reset : Option ℕ)
 
 -- the streams took the frame, and its answer is not put yet
 pub record AwaitsItsAnswer (texts : SourceTexts) (v : ConnectionValue) (p : Past)
-    (f : RawFrame) (a : StreamEvent) : Type 0 where
+    (f : RawFrame) (a : StreamEvent) (flood : Bool) : Type 0 where
   pub ended : v.ended ≡ false
   pub lives : has_failed p.history ≡ false
   pub causes : answer_after p.history f ≡ Ok a
@@ -87,9 +96,11 @@ pub record AwaitsItsAnswer (texts : SourceTexts) (v : ConnectionValue) (p : Past
   pub sending : IsStoredSending texts v.sending p.history p.owed
   pub due : v.due ≡ p.due
   pub calls : AreCalls v p.history
+  pub floods : flood ≡ is_flood p.history f
+  pub counted : flood ≡ false → v.reset_count ≡ resets_since_taking (p.history ++ In f ∷ [])
 
-abbrev pub Answers : ConnectionValue → StreamEvent → ConnectionValue → Type 0
-Answers v a w =
+abbrev pub Answers : ConnectionValue → StreamEvent → Bool → ConnectionValue → Type 0
+Answers v a flood w =
     (reader : Result FrameReaderValue FrameError) (texts : SourceTexts) (p : Past) (f : RawFrame) →
-    AwaitsItsAnswer texts (with_reader reader v) p f a →
+    AwaitsItsAnswer texts (with_reader reader v) p f a flood →
     IsConnection texts (with_reader reader w) (with_frame p f)

@@ -1,6 +1,7 @@
--- What a received frame comes to, beside what it causes by the rules of streams: the server does
--- not let the bytes grow without end that answer frames.
-use Rattle.std.specs.Prelude.{ℕ, ◌+◌, nat_le, if◌then◌else◌, Bool, true, false, List, [], ◌∷◌, ◌++◌, length, map, Option, Some, None, Result, Ok, Err}
+-- What a received frame comes to, beside what it causes by the rules of streams: the server lets
+-- neither the bytes grow without end that answer frames, nor the resets of streams by a client that
+-- takes nothing (Floods.antt).
+use Rattle.std.specs.Prelude.{ℕ, ◌+◌, nat_le, if◌then◌else◌, Bool, true, false, not, ◌&&◌, List, [], ◌∷◌, ◌++◌, length, map, Option, Some, None, Result, Ok, Err}
 use Rattle.std.specs.List.{filter_map}
 use Rattle.http2_frames.specs.declared.codes.ErrorCode.{ErrorCode}
 use Rattle.http2_frames.specs.declared.codes.ErrorCode.TheVariants.{EnhanceYourCalm}
@@ -15,6 +16,7 @@ use Rattle.http2_streams.specs.History.{Entry, In, Unreadable, Out, highest_stre
 use Rattle.http2_streams.specs.Rules.{answer_after}
 use Rattle.http2_streams.specs.Entries.{control_frames, goaway_frame}
 use Rattle.grpc_sending.specs.Bytes.{untaken_count}
+use Rattle.conn_core.specs.Floods.{is_flood}
 use Rattle.grpc_sending.specs.declared.sender.TheConstants.{CONTROL_LIMIT}
 
 abbrev pub raw_in : Entry → Option RawFrame
@@ -49,18 +51,23 @@ abbrev pub fault_outcome : List Frame → ℕ → ErrorCode → Outcome
 fault_outcome put last_stream code =
     record { put = put ++ goaway_frame last_stream code ∷ []; event = Nothing; fails = true }
 
+-- whether there is room for the answer to a frame, and the frame is no flood: then the answer is
+-- put, and the frame brings what it brings
+abbrev pub fits : Bool → ℕ → StreamEvent → Bool
+fits flood n a = may_put_all n (control_frames a) && not flood
+
 -- n bytes are untaken; refused and malformed requests are opened, too, so the GOAWAY for want of
--- room comes after the frame
-abbrev pub outcome_of : ℕ → ℕ → ℕ → Result StreamEvent ErrorCode → Outcome
-outcome_of n highest_before highest_after (Err code) = fault_outcome [] highest_before code
-outcome_of n highest_before highest_after (Ok a) =
-    if may_put_all n (control_frames a)
+-- room, or for a flood, comes after the frame
+abbrev pub outcome_of : Bool → ℕ → ℕ → ℕ → Result StreamEvent ErrorCode → Outcome
+outcome_of flood n highest_before highest_after (Err code) = fault_outcome [] highest_before code
+outcome_of flood n highest_before highest_after (Ok a) =
+    if fits flood n a
     then record { put = control_frames a; event = a.event; fails = false }
     else fault_outcome (frames_to_put n (control_frames a)) highest_after EnhanceYourCalm
 
 abbrev pub outcome : List Entry → RawFrame → Outcome
 outcome d f =
-    outcome_of (untaken_count d) (highest_stream d) (highest_stream (d ++ In f ∷ []))
+    outcome_of (is_flood d f) (untaken_count d) (highest_stream d) (highest_stream (d ++ In f ∷ []))
     (answer_after d f)
 
 abbrev pub frame_entries : List Entry → RawFrame → List Entry

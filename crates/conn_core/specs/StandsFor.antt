@@ -18,6 +18,7 @@ use Rattle.grpc_sending.specs.Owed.{Item, Range}
 use Rattle.grpc_sending.specs.Digest.{Digest}
 use Rattle.conn_core.specs.declared.call.Call.{Call}
 use Rattle.conn_core.specs.declared.event.CallEvent.{CallEvent}
+use Rattle.conn_core.specs.Floods.{resets_since_taking}
 use Rattle.conn_core.specs.Received.{received_raw_frames}
 use Rattle.conn_core.specs.Calls.{is_call, stream_text, messages_of}
 use Rattle.conn_core.specs.Past.{Past, with_frame, with_fault, with_item, with_pumped}
@@ -32,6 +33,8 @@ pub record ConnectionValue : Type 0 where
   pub due : List CallEvent
   -- an error of the connection was met
   pub ended : Bool
+  -- how many live streams the client reset since it took bytes last
+  pub reset_count : ℕ
 
 -- what is kept of the text of the call on stream s: what stands behind the whole messages
 abbrev pub call_on : ℕ → List Call → Option (Result (List ℕ) MessagesError)
@@ -61,6 +64,7 @@ pub record IsAlive (v : ConnectionValue) (p : Past) : Type 0 where
       IsRestOfCall p.history s (call_on s v.calls)
   pub order : members_of (live_streams p.history) (map call_stream v.calls)
       ≡ filter (is_call p.history) (live_streams p.history)
+  pub counted : v.reset_count ≡ resets_since_taking p.history
 
 -- the streams of the calls on live streams
 abbrev pub live_numbers : List Stream → List Call → List ℕ

@@ -11,6 +11,7 @@ use Rattle.http2_streams.specs.History.{Entry, live_streams, is_not_closed, has_
 use Rattle.http2_streams.specs.LiveStreams.{IsOnItsStream, live_after}
 use Rattle.http2_streams.specs.StandsFor.{AreStreams}
 use Rattle.grpc_sending.specs.StoredSending.{SourceTexts, IsStoredSending}
+use Rattle.conn_core.specs.Floods.{resets_since_taking}
 use Rattle.conn_core.specs.Received.{received_raw_frames, outcome, frame_entries}
 use Rattle.conn_core.specs.Calls.{is_call, stream_text}
 use Rattle.conn_core.specs.Past.{Past, with_frame}
@@ -34,6 +35,7 @@ pub record IsTaking (texts : SourceTexts) (v : ConnectionValue) (p : Past)
   pub sending : IsStoredSending texts v.sending p.history p.owed
   pub due : v.due ≡ p.due
   pub calls : AreCalls v p.history
+  pub counted : v.reset_count ≡ resets_since_taking p.history
 
 abbrev pub after_frame : Past → RawFrame → List Entry
 after_frame p f = p.history ++ frame_entries p.history f
@@ -65,6 +67,7 @@ pub record HasBrought (texts : SourceTexts) (v : ConnectionValue) (p : Past)
   pub due : v.due ≡ p.due
   pub calls : AreCalls v p.history
   pub change : ChangesStreams p.history (after_frame p f) event
+  pub counted : v.reset_count ≡ resets_since_taking (after_frame p f)
 
 -- the reader that lends the frame is apart from what acts on it, which does the same beside each
 abbrev pub with_reader : Result FrameReaderValue FrameError → ConnectionValue → ConnectionValue

@@ -1,6 +1,6 @@
 //! One connection.
 
-ghost use Rattle.std.specs.Prelude.{◌≡◌, ◌≢◌, ◌≤◌, ◌<◌, ◌-◌, ◌++◌, ◌∷◌, ◌==◌, [], map, true, false, option_to_list, IsTrue, IfOk, OnOk, OnErr, OnSome, MatchOption, None, Err, length, take, drop};
+ghost use Rattle.std.specs.Prelude.{◌≡◌, ◌≢◌, ◌≤◌, ◌<◌, ◌-◌, ◌++◌, ◌∷◌, ◌==◌, ◌&&◌, not, [], map, true, false, option_to_list, IsTrue, IfOk, OnOk, OnErr, OnSome, MatchOption, None, Err, length, take, drop};
 ghost use Rattle.http2_frames.specs.Reader.{HasFrame, text_left};
 ghost use Rattle.http2_frames.specs.Writing.{raw_of};
 ghost use Rattle.grpc_messages.specs.Wire.{message_length_limit};
@@ -12,7 +12,7 @@ ghost use Rattle.grpc_sending.specs.Owed.{Headed, Message};
 ghost use Rattle.conn_core.specs.Past.{new_past, with_bytes, with_taken};
 ghost use Rattle.conn_core.specs.StandsFor.{IsConnection, Becomes, Owes, OwesRange, Pumps, PopsOne, ReadsOneFrame, KeepsOpen, unread_length, live_calls, call_stream};
 ghost use Rattle.conn_core.specs.Step.{TakesFrame, BringsEvent, ChangesCalls};
-ghost use Rattle.conn_core.specs.Putting.{Puts, Fails, Answers, has_answer_form, have_answer_form, is_ending, ended_calls};
+ghost use Rattle.conn_core.specs.Putting.{Puts, PutsUnless, Fails, Answers, has_answer_form, have_answer_form, is_ending, ended_calls};
 ghost use Rattle.http2_streams.specs.Entries.{control_frames, goaway_frame};
 ghost use Rattle.http2_streams.specs.LiveStreams.{stream_of_event};
 ghost use Rattle.http2_frames.specs.declared.frame.RawFrame.{RawFrame};
@@ -22,6 +22,7 @@ ghost use Rattle.grpc_sending.specs.declared.sender.TheConstants.{CONTROL_LIMIT}
 
 use crate::call::{Call, begin_call, cancel_call, drop_closed_if_fewer, pop_live_call, take_more};
 use crate::event::CallEvent;
+use crate::floods;
 use grpc_calls::{ResponseBlock, head};
 use grpc_sending::{Parts, Sender};
 use hpack::Headers;
@@ -51,6 +52,8 @@ pub struct Connection {
     ended: bool,
     /// Nothing changed since the pump found nothing more to put.
     at_rest: bool,
+    /// How many live streams the client reset since it took bytes last.
+    reset_count: u32,
 }
 
 // Written out, so that no crate above proves again that each part of it may be dropped.
@@ -64,6 +67,7 @@ impl Drop for Connection {
             due,
             ended: _,
             at_rest: _,
+            reset_count: _,
         } = self;
         drop(reader);
         drop(streams);
@@ -77,6 +81,7 @@ impl Model for Connection {
     ghost use Rattle.std.specs.Prelude.{◌≡◌, ◌≤◌, true, false, length};
     ghost use Rattle.grpc_sending.specs.declared.sender.TheConstants.{CONTROL_LIMIT};
     ghost use Rattle.grpc_sending.specs.StoredSending.{IsAtRest};
+    ghost use Rattle.conn_core.specs.declared.floods.TheConstants.{MOST_RESETS};
     ghost use Rattle.conn_core.specs.StandsFor.{ConnectionValue};
 
     ghost Value = { ConnectionValue };
@@ -88,11 +93,13 @@ impl Model for Connection {
       calls = c.calls.items;
       due = c.due.items;
       ended = c.ended;
+      reset_count = c.reset_count;
     } };
 
     // There is always room for GOAWAY.
     ghost invariant = { λ c. (c.ended ≡ false → length c.sender.pending ≤ CONTROL_LIMIT)
-        × (c.at_rest ≡ true → IsAtRest c.streams c.sender) };
+        × (c.at_rest ≡ true → IsAtRest c.streams c.sender)
+        × (c.reset_count ≤ MOST_RESETS) };
 }
 
 impl Connection {
@@ -116,6 +123,7 @@ impl Connection {
             due: VecDeque::new(alloc),
             ended: false,
             at_rest: false,
+            reset_count: 0,
         })
     }
 
@@ -228,9 +236,12 @@ impl Connection {
         ensures pending { self.new.sending.pending ≡ drop count self.old.sending.pending }
         ensures queues { self.new.sending.queues ≡ self.old.sending.queues }
         ensures spent { self.new.sending.spent ≡ self.old.sending.spent }
-        ensures rest { self.new ≡ record self.old { sending = self.new.sending } }
+        ensures rest { self.new ≡ record self.old
+            { sending = self.new.sending; reset_count = self.new.reset_count } }
     {
+        let resets = floods::after_taking(self.reset_count, count);
         self.at_rest = false;
+        self.reset_count = resets;
         self.sender.took(count);
     }
 
@@ -292,6 +303,14 @@ impl Connection {
         self.ended
     }
 
+    /// Whether a call is in course: a stream is open or half-closed, and no error of the connection
+    /// was met.
+    pub fn has_calls(&self) -> bool
+        ensures { result ≡ (not self.now.ended && not (length self.now.streams.live == 0)) }
+    {
+        !self.ended && self.streams.live().len() != 0
+    }
+
     /// Gives up the first of the calls on live streams, and gives its stream. After an error of the
     /// connection there is none.
     pub fn pop_call(&mut self) -> Option<u32>
@@ -333,23 +352,29 @@ impl Connection {
         ensures sources { KeepsSources self.old.sending self.new.sending }
     {
         self.at_rest = false;
+        let resets = floods::resets_live(&self.streams, frame);
+        let flood = floods::is_flood(self.reset_count, resets);
         match self.streams.on_frame(frame) {
-            Ok(answer) => self.take_answer(answer),
+            Ok(answer) => {
+                let count = floods::after_frame(self.reset_count, resets);
+                self.reset_count = count;
+                self.take_answer(answer, flood)
+            }
             Err(ConnectionFault::Connection(code)) => self.fail(code, None),
             Err(ConnectionFault::NoMemory) => Err(AllocError),
         }
     }
 
     /// Puts the answer to a frame, and acts on what it brought. An answer that does not fit is an
-    /// error of the connection.
-    fn take_answer(&mut self, answer: StreamEvent<'_>) -> Result<(), AllocError>
+    /// error of the connection, and so is a flood.
+    fn take_answer(&mut self, answer: StreamEvent<'_>, flood: bool) -> Result<(), AllocError>
         requires { self.old.ended ≡ false }
-        ensures stands { OnOk result (Answers self.old answer.entry self.new) }
+        ensures stands { OnOk result (Answers self.old answer.entry flood self.new) }
         ensures reader { OnOk result (self.new.reader ≡ self.old.reader) }
         ensures fit { KeepsFit self.old.sending self.new.sending }
         ensures sources { KeepsSources self.old.sending self.new.sending }
     {
-        if !self.put_all(&answer) {
+        if !self.put_unless(&answer, flood) {
             return self.fail(ErrorCode::EnhanceYourCalm, named(&answer.event));
         }
         self.bring(answer.event)
@@ -377,6 +402,22 @@ impl Connection {
             Event::Trailers { stream } => self.take_trailers(stream),
             Event::Cancel { stream } => self.cancel(stream),
         }
+    }
+
+    /// Puts the control frames of an answer, up to the first for which there is no room, and says
+    /// whether all had room and the frame was no flood.
+    fn put_unless(&mut self, answer: &StreamEvent<'_>, flood: bool) -> bool
+        ensures puts { have_answer_form (control_frames answer.now) ≡ true →
+            PutsUnless flood self.old (control_frames answer.now) result self.new }
+        ensures rest { self.new ≡ record self.old { sending = self.new.sending } }
+        ensures fit { KeepsFit self.old.sending self.new.sending }
+        ensures sources { KeepsSources self.old.sending self.new.sending }
+    {
+        let fit = self.put_all(answer);
+        if flood {
+            return false;
+        }
+        fit
     }
 
     /// Puts the control frames of an answer, up to the first for which there is no room.

@@ -5,10 +5,15 @@
 mod call;
 mod connection;
 mod event;
+mod floods;
 mod laws;
 mod limits;
 
 pub use connection::Connection;
 pub use event::CallEvent;
-pub use laws::{calls_on_live_streams, only_texts_of_a_connections_ranges_matter};
-pub use limits::limits_of_connections;
+pub use floods::MOST_RESETS;
+pub use laws::{
+    calls_on_live_streams, only_texts_of_a_connections_ranges_matter,
+    resets_are_counted_since_bytes_were_taken,
+};
+pub use limits::{limits_of_connections, limits_of_what_is_unfinished};

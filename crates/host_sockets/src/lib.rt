@@ -93,6 +93,10 @@ impl<'a> HostSockets<'a> {
         let Some(listener) = self.listeners.get(socket.instance as usize) else {
             return Err(io::Error::from(ErrorKind::WouldBlock));
         };
+        // Where memory is refused for it the client waits at the port, and is not reset.
+        if self.streams.reserve(1).is_err() {
+            return Err(io::Error::from(ErrorKind::OutOfMemory));
+        }
         let (stream, _) = listener.accept()?;
         // Otherwise the end of a response waits for the client's acknowledgement of what was before
         // it.

@@ -1,4 +1,6 @@
 pub mod Entries
+mod Apart
+pub mod Answered
 mod Parts
 mod Items
 mod Short
@@ -13,6 +15,7 @@ pub mod WriteLimits
 mod WriteAdds
 pub mod EventLimits
 pub mod NamedReplies
+pub mod Losses
 pub use Rattle.instance_view.proofs.Held
 pub use Rattle.quota_evict.proofs.Limits
 pub use Rattle.quota_evict.proofs.Steps

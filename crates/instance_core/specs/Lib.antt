@@ -1,4 +1,5 @@
 pub mod Calls
+pub mod Apart
 pub mod State
 pub mod Contents
 pub mod Slots
@@ -12,6 +13,7 @@ pub mod Shown
 pub mod ReplyHolders
 pub mod Named
 pub mod NamedReplies
+pub mod Losses
 pub use Rattle.quota_evict.specs.InPool
 pub use Rattle.quota_evict.specs.Within
 pub use Rattle.instance_view.specs.Visible

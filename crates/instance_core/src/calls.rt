@@ -1,8 +1,9 @@
 //! The calls in course.
 
-ghost use Rattle.std.specs.Prelude.{◌≡◌, [], OnOk, OnErr};
+ghost use Rattle.std.specs.Prelude.{◌≡◌, ◌==◌, not, [], OnOk, OnErr};
 ghost use Rattle.std.specs.Option.{option_copied};
 ghost use Rattle.instance_core.specs.Calls.{call_at, with_call, without_call, IsShortProgress, AreInCourse};
+ghost use Rattle.instance_core.specs.Apart.{calls_apart};
 ghost use Rattle.instance_core.specs.Shown.{progress_shown};
 
 use crate::event::CallId;
@@ -136,5 +137,18 @@ impl Calls {
         if let Some(call) = self.by_id.shift_remove(&id) {
             call.let_go();
         }
+    }
+
+    /// Takes out all calls on the connection. The others keep their order.
+    pub fn end_all(&mut self, connection: u32)
+        ensures ended { self.new ≡ calls_apart connection self.old }
+        ensures calls { AreInCourse self.new }
+    {
+        self.by_id.retain(
+            |id: &CallId, call: &mut Call| -> bool
+                ensures { (result ≡ not (id.now.connection == connection))
+                    × (call.new ≡ call.old) }
+            { id.connection != connection },
+        );
     }
 }

@@ -4,6 +4,7 @@ ghost use Rattle.std.specs.Prelude.{◌≡◌, ◌≤◌, ◌+◌, ◌^◌, ℕ,
 ghost use Rattle.blob_pool.specs.Slots.{Slots};
 ghost use Rattle.blob_pool.specs.Moves.{Moves};
 ghost use Rattle.instance_core.specs.Calls.{IsShortEvent, cancel, tick};
+ghost use Rattle.instance_core.specs.Apart.{calls_apart};
 ghost use Rattle.instance_core.specs.State.{IsInstanceWithin, new_instance, at_moment};
 ghost use Rattle.instance_core.specs.Slots.{KeepsConfig, state_in, holders_of_instance, IsInstanceInPool};
 ghost use Rattle.instance_core.specs.Changes.{MadeInPart};
@@ -192,5 +193,18 @@ impl Instance {
         ensures config { KeepsConfig self.old self.new }
     {
         self.calls.end(call);
+    }
+
+    /// The connection is gone: each of its calls in course ends without a reply. This takes no
+    /// memory, and is the same over every pool.
+    pub fn forget(&mut self, connection: u32)
+        ensures changed { (p : Slots) → state_in p self.new ≡ (let old = state_in p self.old in
+            record old { calls = calls_apart connection old.calls }) }
+        ensures holders { (k : ℕ) → holders_of_instance self.new k
+            ≡ holders_of_instance self.old k }
+        ensures kept { (p : Slots) → IsInstanceInPool p self.old → IsInstanceInPool p self.new }
+        ensures config { KeepsConfig self.old self.new }
+    {
+        self.calls.end_all(connection);
     }
 }

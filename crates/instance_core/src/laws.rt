@@ -3,6 +3,8 @@
 ghost use Rattle.std.specs.List.{AllByRecursion};
 ghost use Rattle.instance_core.specs.Answer.{answer};
 ghost use Rattle.instance_core.specs.Calls.{CallEventValue};
+ghost use Rattle.instance_core.specs.Changes.{MadeInPart};
+ghost use Rattle.instance_core.specs.Losses.{LosesByRules};
 ghost use Rattle.instance_core.specs.Named.{StoresNamed};
 ghost use Rattle.instance_core.specs.NamedReplies.{ServesNamed};
 ghost use Rattle.instance_core.specs.State.{InstanceState, IsInstanceWithin};
@@ -22,4 +24,12 @@ pub fn calls_store_named_texts()
 pub fn calls_serve_named_blobs()
     ensures { (s : InstanceState) (event : CallEventValue) → IsInstanceWithin s
         → ServesNamed (record { state = s; event = event }) }
+{}
+
+/// Where any front of an event's changes was made, and so where all were, what was kept is lost only
+/// by rule: a blob to an admission, a result to a store, an upload at its end, to a piece that would
+/// bring it past its size, or by its age.
+pub fn calls_lose_by_rules()
+    ensures { (s t : InstanceState) (event : CallEventValue)
+        → MadeInPart (answer s event).changes s t → LosesByRules s t }
 {}

@@ -21,7 +21,7 @@ mod writing;
 
 pub use event::{CallEvent, CallId, GivenRange, Reply, ReplyItem};
 pub use instance::Instance;
-pub use laws::{calls_serve_named_blobs, calls_store_named_texts};
+pub use laws::{calls_lose_by_rules, calls_serve_named_blobs, calls_store_named_texts};
 pub use limits::{
     limits_of_batches_and_trees, limits_of_results, limits_of_texts, limits_of_uploads,
 };

@@ -1,59 +1,64 @@
 -- One more happening at the sockets.
-use Rattle.std.proofs.Common.{◌≡◌, ℕ, zero, suc, ◌<◌, List, [], ◌∷◌, ◌++◌, length, take, refl, ap, ◌∙◌, sym, subst, arith, inl, inr, append-nil, append_assoc}
-use Rattle.std.specs.Prelude.{Bool, true, false, cond, ◌==◌, if◌then◌else◌, Some, ◌⊎◌, fold}
-use Rattle.std.specs.List.{slice_get}
-use Rattle.std.proofs.lemmas.List.{take-append-le}
-use Rattle.std.proofs.Math.Seq.{take-append_seam}
+use Rattle.std.proofs.Common.{◌≡◌, ℕ, ◌≤◌, List, [], ◌∷◌, ◌++◌, refl, ap, ◌∙◌, sym, subst, arith, inl, inr}
+use Rattle.std.specs.Prelude.{Bool, true, false, cond, fold}
 use Rattle.std.proofs.lemmas.List.Sums.{fold_push}
-use Rattle.std.proofs.lemmas.Option.{none-some, same_Some}
-use Rattle.server_events.specs.Configs.{ConfigValue}
-use Rattle.server_events.specs.Events.{EventValue, tick}
-use Rattle.server_core.specs.Runs.{Run, run_of, run_step}
+use Rattle.instance_core.specs.Calls.{CallEventValue}
+use Rattle.instance_core.specs.State.{InstanceState}
+use Rattle.instance_core.specs.Changes.{InstanceChange, Text, Goes, Ends, Wrote, Keeps, Expires, state_after_change, state_after_changes}
+use Rattle.instance_core.specs.Answer.{answer, state_after}
+use Rattle.server_events.specs.Events.{EventValue, WhatValue, opened, received, took, closed, tick, ended}
+use Rattle.served_instance.specs.Lone.{LoneInstance, lone_at_moment}
 use Rattle.served_instance.specs.Refusals.{lone_step}
-use Rattle.serve.specs.SocketEvents.{SocketEvent, PortEvent, clock, port, what_of, moment_after, moment_of, events_for, events_from, events_of, lone_of}
-use Rattle.serve.specs.Served.{IsFaithful, AreAllFaithful}
+use Rattle.served_instance.specs.Short.{IsCutShort, IsCutEffect, Short}
+use Rattle.served_instance.proofs.Moments.{step_within}
+use Rattle.serve.specs.SocketEvents.{SocketEvent, moment_after, moment_of, events_for}
+use Rattle.serve.specs.Served.{MayStep, MaySteps, IsFaithful, MayServe}
 
 pub moment_more : (h : List SocketEvent) (s : SocketEvent) → moment_of (h ++ s ∷ []) ≡ moment_after (moment_of h) s
 moment_more h s = fold_push moment_after 0 h s
 
-events_more : (i m : ℕ) (h : List SocketEvent) (s : SocketEvent) → events_from i m (h ++ s ∷ []) ≡ events_from i m h ++ events_for i (fold moment_after m h) s
-events_more i m [] s = append-nil (events_for i m s)
-events_more i m (x ∷ h) s =
-    ap (λ es. events_for i m x ++ es) (events_more i (moment_after m x) h s)
-    ∙ sym (append_assoc (events_for i m x) (events_from i (moment_after m x) h) (events_for i (fold moment_after (moment_after m x) h) s))
+pub may_serve_push : (h : List SocketEvent) (i m : ℕ) (l n q : LoneInstance) (s : SocketEvent) → MayServe i m l h n → IsFaithful i (fold moment_after m h) n s → MaySteps (events_for i (fold moment_after m h) s) n q → MayServe i m l (h ++ s ∷ []) q
+may_serve_push [] i m l n q s t faithful steps =
+    (q, subst (λ (x : LoneInstance). IsFaithful i m x s) t faithful, subst (λ (x : LoneInstance). MaySteps (events_for i m s) x q) t steps, refl)
+may_serve_push (x ∷ h) i m l n q s t faithful steps =
+    (t.0, t.1, t.2, may_serve_push h i (moment_after m x) t.0 n q s t.3 faithful steps)
 
-run_more : (config : ConfigValue) (i : ℕ) (h : List SocketEvent) (s : SocketEvent) → run_of config (events_of i (h ++ s ∷ [])) ≡ run_of config (events_of i h ++ events_for i (moment_of h) s)
-run_more config i h s = ap (run_of config) (events_more i 0 h s)
+pub one_step : (e : EventValue) (b : Bool) (l n : LoneInstance) → b ≡ true → MayStep e l n → MaySteps (cond b (e ∷ []) []) l n
+one_step e b l n is may = subst (λ (c : Bool). MaySteps (cond c (e ∷ []) []) l n) (sym is) (n, may, refl)
 
-fold_if : (r : Run) (es : List EventValue) (e : EventValue) (b : Bool) → (fold run_step r (es ++ cond b (e ∷ []) [])).lone ≡ cond b (lone_step e (fold run_step r es).lone) (fold run_step r es).lone
-fold_if r es e true = ap (λ (x : Run). x.lone) (fold_push run_step r es e)
-fold_if r es e false = ap (λ xs. (fold run_step r xs).lone) (append-nil es)
+pub no_step : (e : EventValue) (b : Bool) (l : LoneInstance) → b ≡ false → MaySteps (cond b (e ∷ []) []) l l
+no_step e b l is = subst (λ (c : Bool). MaySteps (cond c (e ∷ []) []) l l) (sym is) refl
 
--- what happens at a port is a step of its instance, and of no other
-pub port_more : (config : ConfigValue) (i j : ℕ) (p : PortEvent) (h : List SocketEvent) → lone_of config i (h ++ port j p ∷ []) ≡ (if j == i then lone_step (record { moment = moment_of h; instance = j; what = what_of p }) (lone_of config i h) else lone_of config i h)
-port_more config i j p h =
-    ap (λ (r : Run). r.lone) (run_more config i h (port j p))
-    ∙ fold_if (run_of config []) (events_of i h) (record { moment = moment_of h; instance = j; what = what_of p }) (j == i)
+-- ---- moments
 
--- time goes on for each instance
-pub clock_more : (config : ConfigValue) (i n : ℕ) (h : List SocketEvent) → lone_of config i (h ++ clock n ∷ []) ≡ lone_step (record { moment = n; instance = i; what = tick }) (lone_of config i h)
-clock_more config i n h =
-    ap (λ (r : Run). r.lone) (run_more config i h (clock n))
-    ∙ ap (λ (r : Run). r.lone) (fold_push run_step (run_of config []) (events_of i h) (record { moment = n; instance = i; what = tick }))
+-- no change is one of the moment
+changed_moment : (changes : List InstanceChange) (s : InstanceState) → (state_after_changes changes s).moment ≡ s.moment
+changed_moment [] s = refl
+changed_moment (Text c ∷ changes) s = changed_moment changes (state_after_change (Text c) s)
+changed_moment (Goes id call ∷ changes) s = changed_moment changes (state_after_change (Goes id call) s)
+changed_moment (Ends id ∷ changes) s = changed_moment changes (state_after_change (Ends id) s)
+changed_moment (Wrote w ∷ changes) s = changed_moment changes (state_after_change (Wrote w) s)
+changed_moment (Keeps results ∷ changes) s = changed_moment changes (state_after_change (Keeps results) s)
+changed_moment (Expires ∷ changes) s = changed_moment changes (state_after_change Expires s)
 
-more_cases : (h : List SocketEvent) (s x : SocketEvent) (k : ℕ) → slice_get (h ++ s ∷ []) k ≡ Some x → ((k < length h) × (slice_get h k ≡ Some x)) ⊎ ((k ≡ length h) × (s ≡ x))
-more_cases [] s x zero is = inr (refl, same_Some s x is)
-more_cases [] s x (suc k) is = absurd (none-some x is)
-more_cases (y ∷ h) s x zero is = inl (omega arith, is)
-more_cases (y ∷ h) s x (suc k) is = elim (more_cases h s x k is) [
-  | inl a ↦ inl (omega (arith, a.0), a.1)
-  | inr b ↦ inr (ap suc b.0, b.1)
+cut_moment : (events : List CallEventValue) (s t : InstanceState) → IsCutShort events s t → t.moment ≡ s.moment
+cut_moment [] s t h = ap (λ (x : InstanceState). x.moment) h
+cut_moment (event ∷ events) s t h = elim h [
+  | inl made ↦ ap (λ (x : InstanceState). x.moment) made.so_far ∙ changed_moment made.made s
+  | inr rest ↦ cut_moment events (state_after s event) t rest ∙ changed_moment (answer s event).changes s
 ]
 
-pub served_more : (configs : List ConfigValue) (h : List SocketEvent) (s : SocketEvent) → AreAllFaithful configs h → IsFaithful configs h s → AreAllFaithful configs (h ++ s ∷ [])
-served_more configs h s served faithful = λ k x is. elim (more_cases h s x k is) [
-  | inl a ↦ subst (λ (b : List SocketEvent). IsFaithful configs b x) (sym (take-append-le k h (s ∷ []) (omega (arith, a.0)))) (served k x a.1)
-  | inr b ↦
-      let whole : take k (h ++ s ∷ []) ≡ h = ap (λ n. take n (h ++ s ∷ [])) b.0 ∙ take-append_seam h (s ∷ []) in
-      subst (λ (b : List SocketEvent). IsFaithful configs b x) (sym whole) (subst (λ (y : SocketEvent). IsFaithful configs h y) b.1 faithful)
+cut_effect_moment : (what : WhatValue) (l m : LoneInstance) → IsCutEffect what l m → m.state.moment ≡ l.state.moment
+cut_effect_moment (opened c) l m h = ap (λ (x : LoneInstance). x.state.moment) h
+cut_effect_moment (received c bytes) l m h = ap (λ (x : LoneInstance). x.state.moment) h.gone ∙ cut_moment _ l.state h.left h.cut
+cut_effect_moment (took c n) l m h = absurd h
+cut_effect_moment (closed c) l m h = absurd h
+cut_effect_moment tick l m h = absurd h
+cut_effect_moment (ended job outcome) l m h = absurd h
+
+-- after an event an instance is not later than the event and than it was
+pub may_within : (e : EventValue) (l k : LoneInstance) (m : ℕ) → MayStep e l k → e.moment ≤ m → l.state.moment ≤ m → k.state.moment ≤ m
+may_within e l k m may le late = elim may [
+  | inl alone ↦ subst (λ (x : LoneInstance). x.state.moment ≤ m) (sym alone) (step_within e l m le late)
+  | inr short ↦ subst (λ (n : ℕ). n ≤ m) (sym (cut_effect_moment e.what (lone_at_moment e.moment l) k short.1)) le
 ]

@@ -1,3 +1,4 @@
 mod Happenings
 mod Keeps
 mod Ticks
+mod Silence

@@ -1,2 +1,3 @@
 pub mod SocketEvents
 pub mod Served
+pub mod Silence

@@ -1,10 +1,7 @@
 -- What happens at the sockets of a server, and which events of it each instance is given.
 use Rattle.std.specs.Prelude.{◌≡◌, ℕ, ◌==◌, if◌then◌else◌, List, [], ◌∷◌, ◌++◌, length, take, fold, Option, Result, Ok, Err, ⊤}
 use Rattle.std.specs.Option.{option_map}
-use Rattle.server_events.specs.Configs.{ConfigValue}
 use Rattle.server_events.specs.Events.{EventValue, WhatValue, opened, received, took, closed, tick}
-use Rattle.served_instance.specs.Lone.{LoneInstance}
-use Rattle.server_core.specs.Runs.{run_of}
 use Rattle.serve.specs.declared.sockets.Socket.{Socket}
 
 -- at a port a connection was accepted under a number; these bytes were read from it; these were
@@ -58,20 +55,9 @@ moment_after m (port j p) = m
 abbrev pub moment_of : List SocketEvent → ℕ
 moment_of h = fold moment_after 0 h
 
--- time goes on for each instance; what happens at a port is an event of its instance alone
+-- the events of instance i: time goes on for each instance; what happens at a port is an event of
+-- its instance alone
 abbrev pub events_for : ℕ → ℕ → SocketEvent → List EventValue
 events_for i m (clock n) = record { moment = n; instance = i; what = tick } ∷ []
 events_for i m (port j p) =
     if j == i then record { moment = m; instance = j; what = what_of p } ∷ [] else []
-
-abbrev pub events_from : ℕ → ℕ → List SocketEvent → List EventValue
-events_from i m [] = []
-events_from i m (s ∷ h) = events_for i m s ++ events_from i (moment_after m s) h
-
--- the events of instance i
-abbrev pub events_of : ℕ → List SocketEvent → List EventValue
-events_of i h = events_from i 0 h
-
--- what instance i comes to by itself
-abbrev pub lone_of : ConfigValue → ℕ → List SocketEvent → LoneInstance
-lone_of config i h = (run_of config (events_of i h)).lone

@@ -1,14 +1,19 @@
 //! What is moved between one connection's socket and the server.
 
-ghost use Rattle.std.specs.Prelude.{◌≡◌, IfOk, OnOk, Ok, Err, true};
+ghost use Rattle.std.specs.Prelude.{◌≡◌, ◌≤◌, length, take, IfOk};
 ghost use Rattle.server_events.specs.Shown.{what_value};
 ghost use Rattle.serve.specs.Served.{TakesEvent, KeepsServing};
 
+use crate::open_socket::OpenSocket;
 use crate::sockets::{Socket, Sockets, is_not_ready};
 use served_instance::EventRefusal;
 use server_core::Server;
 use server_events::{Event, What};
 use std::alloc::{AllocError, Global};
+use std::mem::replace;
+
+/// The most bytes that are read from a connection in a turn.
+pub(crate) const READ_LIMIT: usize = 16_384;
 
 /// What a try to move bytes came to.
 #[derive(Clone, Copy, PartialEq, Eq)]
@@ -19,28 +24,24 @@ pub(crate) enum Tried {
     Over,
 }
 
-/// Tells the server what happens to an instance, and says whether it accepted that. An error is
-/// want of memory, after which it accepts nothing more.
+/// Tells the server what happens to an instance. Where memory is refused for bytes that came, their
+/// connection is gone.
 pub(crate) fn tell(
     server: &mut Server,
     moment: u64,
     instance: u32,
     what: What,
-) -> Result<bool, AllocError>
-    ensures takes { OnOk result (TakesEvent
+) -> Result<(), EventRefusal>
+    ensures takes { TakesEvent
         (record { moment = moment; instance = instance; what = what_value what })
-        server.old.instances server.new.instances) }
+        server.old.instances server.new.instances }
 {
     let event = Event {
         moment,
         instance,
         what,
     };
-    match server.step(event) {
-        Ok(()) => Ok(true),
-        Err(EventRefusal::NoMemory) => Err(AllocError),
-        Err(_) => Ok(false),
-    }
+    server.step(event)
 }
 
 /// A piece that was read, with room behind it for as many bytes again: where it ends within a
@@ -54,121 +55,142 @@ fn with_room(alloc: Global, bytes: &[u8]) -> Result<Vec<u8>, AllocError>
     Ok(piece)
 }
 
-/// Tells the server the bytes that came, as many as there is room for.
+/// The piece that was read into the room. Where memory is refused for a new one the room itself is
+/// handed over, and is empty then: what was read is never lost.
+fn piece_of(alloc: Global, room: &mut Vec<u8>, count: usize) -> Vec<u8>
+    requires { count ≤ length room.old.items }
+    ensures { result.items ≡ take count room.old.items }
+{
+    match with_room(alloc, &room[..count]) {
+        Ok(piece) => piece,
+        Err(_) => {
+            let mut piece = replace(room, Vec::new(alloc));
+            piece.truncate(count);
+            piece
+        }
+    }
+}
+
+/// Makes the room anew where it was handed over, and says whether it is there.
+fn has_room(alloc: Global, room: &mut Vec<u8>) -> bool {
+    if room.is_empty() {
+        match vec![in alloc; 0; READ_LIMIT] {
+            Ok(new) => *room = new,
+            Err(_) => return false,
+        }
+    }
+    true
+}
+
+/// Tells the server the bytes that came, as many as there is room for. The room is made before
+/// anything is read: where memory is refused for it, the bytes wait at the socket.
 fn receive<S: Sockets>(
     alloc: Global,
     server: &mut Server,
     sockets: &mut S,
     moment: u64,
-    socket: Socket,
-    room: &mut [u8],
-) -> Result<Tried, AllocError>
-    ensures serving { KeepsServing result
+    open: &mut OpenSocket,
+    room: &mut Vec<u8>,
+) -> Tried
+    ensures serving { KeepsServing
         (S.happened sockets.old) server.old.instances moment
         (S.happened sockets.new) server.new.instances moment }
 {
+    if !has_room(alloc, room) {
+        return Tried::NotReady;
+    }
+    let socket = open.socket;
     match sockets.read(socket, room) {
         Ok(count) => {
-            let bytes = with_room(alloc, &room[..count])?;
+            let bytes = piece_of(alloc, room, count);
             let came = What::Bytes(socket.connection, bytes);
-            tell(server, moment, socket.instance, came)?;
-            Ok(if count == 0 {
+            let _ = tell(server, moment, socket.instance, came);
+            open.hear(moment, count);
+            if count == 0 {
                 Tried::Over
             } else {
                 Tried::Moved
-            })
+            }
         }
-        Err(error) if is_not_ready(&error) => Ok(Tried::NotReady),
-        Err(_) => Ok(Tried::Over),
+        Err(error) if is_not_ready(&error) => Tried::NotReady,
+        Err(_) => Tried::Over,
     }
 }
 
 /// Sends the bytes that wait for the client, as far as the socket takes them, and tells the server
 /// so.
-fn send<S: Sockets>(
-    server: &mut Server,
-    sockets: &mut S,
-    moment: u64,
-    socket: Socket,
-) -> Result<Tried, AllocError>
-    ensures serving { KeepsServing result
+fn send<S: Sockets>(server: &mut Server, sockets: &mut S, moment: u64, socket: Socket) -> Tried
+    ensures serving { KeepsServing
         (S.happened sockets.old) server.old.instances moment
         (S.happened sockets.new) server.new.instances moment }
 {
     let bytes = match server.pending(socket.instance, socket.connection) {
         Some(bytes) if !bytes.is_empty() => bytes,
-        _ => return Ok(Tried::NotReady),
+        _ => return Tried::NotReady,
     };
     match sockets.write(socket, bytes) {
         Ok(count) => {
             let took = What::Took(socket.connection, count as u32);
-            tell(server, moment, socket.instance, took)?;
-            Ok(if count == 0 {
+            let _ = tell(server, moment, socket.instance, took);
+            if count == 0 {
                 Tried::NotReady
             } else {
                 Tried::Moved
-            })
+            }
         }
-        Err(error) if is_not_ready(&error) => Ok(Tried::NotReady),
-        Err(_) => Ok(Tried::Over),
+        Err(error) if is_not_ready(&error) => Tried::NotReady,
+        Err(_) => Tried::Over,
     }
 }
 
-/// Whether an error of the connection was met, and the client was sent all that waited for it.
+/// Whether the server let go of the connection, where memory was refused; or an error of it was
+/// met, and the client was sent all that waited for it.
 fn is_finished(server: &Server, socket: Socket) -> bool {
     let Socket {
         instance,
         connection,
     } = socket;
-    server.ended(instance, connection) == Some(true)
-        && server
-            .pending(instance, connection)
-            .is_none_or(|bytes| bytes.is_empty())
+    match server.pending(instance, connection) {
+        None => true,
+        Some(bytes) => bytes.is_empty() && server.ended(instance, connection) == Some(true),
+    }
 }
 
 /// Closes a connection, and tells the server so.
-pub(crate) fn close<S: Sockets>(
-    server: &mut Server,
-    sockets: &mut S,
-    moment: u64,
-    socket: Socket,
-) -> Result<(), AllocError>
-    ensures serving { KeepsServing result
+pub(crate) fn close<S: Sockets>(server: &mut Server, sockets: &mut S, moment: u64, socket: Socket)
+    ensures serving { KeepsServing
         (S.happened sockets.old) server.old.instances moment
         (S.happened sockets.new) server.new.instances moment }
 {
     sockets.close(socket);
-    tell(
-        server,
-        moment,
-        socket.instance,
-        What::Closed(socket.connection),
-    )?;
-    Ok(())
+    let gone = What::Closed(socket.connection);
+    let _ = tell(server, moment, socket.instance, gone);
 }
 
-/// Receives and sends, and closes the connection where its client is gone, or where an error of it
-/// was met and the client was sent all that waited for it: then the connection is over.
+/// Receives and sends, and closes the connection where its client is gone, where the server let go
+/// of it, or where an error of it was met and the client was sent all that waited for it: then the
+/// connection is over.
 pub(crate) fn exchange<S: Sockets>(
     alloc: Global,
     server: &mut Server,
     sockets: &mut S,
     moment: u64,
-    socket: Socket,
-    room: &mut [u8],
-) -> Result<Tried, AllocError>
-    ensures serving { KeepsServing result
+    open: &mut OpenSocket,
+    room: &mut Vec<u8>,
+) -> Tried
+    ensures serving { KeepsServing
         (S.happened sockets.old) server.old.instances moment
         (S.happened sockets.new) server.new.instances moment }
 {
-    let received = receive(alloc, server, sockets, moment, socket, room)?;
-    let sent = send(server, sockets, moment, socket)?;
+    let received = receive(alloc, server, sockets, moment, open, room);
+    let socket = open.socket;
+    let sent = send(server, sockets, moment, socket);
     if received == Tried::Over || sent == Tried::Over || is_finished(server, socket) {
-        close(server, sockets, moment, socket)?;
-        return Ok(Tried::Over);
+        close(server, sockets, moment, socket);
+        return Tried::Over;
     }
     if received == Tried::Moved {
-        return Ok(Tried::Moved);
+        return Tried::Moved;
     }
-    Ok(sent)
+    sent
 }

@@ -2,6 +2,7 @@
 #![tactic(auto)]
 
 mod exchange;
+mod open_socket;
 mod serving;
 mod sockets;
 

@@ -1,34 +1,15 @@
 //! The turns.
 
-ghost use Rattle.std.specs.Prelude.{◌≡◌, ℕ, [], length, Some, IfSome, IfOk, OnOk, Ok, Err};
+ghost use Rattle.std.specs.Prelude.{◌≡◌, ℕ, [], length, Some, IfSome, IfOk, IfErr};
 ghost use Rattle.serve.specs.Served.{IsServing, KeepsServing, KeepsServingAtMost, WasServed};
 
-use crate::exchange::{Tried, close, exchange, tell};
+use crate::exchange::{READ_LIMIT, Tried, close, exchange, tell};
+use crate::open_socket::{OpenSocket, longest_silent};
 use crate::sockets::{Socket, Sockets};
+use served_instance::EventRefusal;
 use server_core::Server;
 use server_events::{Configs, What};
 use std::alloc::{AllocError, Global};
-
-/// The most bytes that are read from a connection in a turn.
-const READ_LIMIT: usize = 16_384;
-
-/// For how many milliseconds after something moved on a connection it is tried in each turn.
-const BUSY_TIME: u64 = 20;
-
-/// An open connection, and the moments when something moved on it last and when it was tried last.
-#[derive(Clone, Copy)]
-struct OpenSocket {
-    socket: Socket,
-    moved: u64,
-    tried: u64,
-}
-
-impl OpenSocket {
-    /// Whether it is to be tried now: where nothing moved on it for long, once a millisecond.
-    fn is_due(&self, moment: u64) -> bool {
-        moment.saturating_sub(self.moved) <= BUSY_TIME || moment != self.tried
-    }
-}
 
 /// A server, and its open connections.
 #[derive(Drop)]
@@ -67,98 +48,132 @@ impl Serving {
 
     /// Tells the time, tries each port, but only once a millisecond, and tries each connection that
     /// is due. It says whether anything moved.
-    fn turn<S: Sockets>(&mut self, sockets: &mut S) -> Result<bool, AllocError>
-        ensures serving { KeepsServingAtMost self.old.instances result
+    fn turn<S: Sockets>(&mut self, sockets: &mut S) -> bool
+        ensures serving { KeepsServingAtMost self.old.instances
             (S.happened sockets.old) self.old.server.instances self.old.moment
             (S.happened sockets.new) self.new.server.instances self.new.moment }
-        ensures instances { OnOk result (self.new.instances ≡ self.old.instances) }
+        ensures instances { self.new.instances ≡ self.old.instances }
     {
-        self.tick(sockets)?;
+        self.tick(sockets);
         let mut moved = false;
         if self.tried != Some(self.moment) {
             self.tried = Some(self.moment);
-            moved = self.open_all(sockets)?;
+            moved = self.open_all(sockets);
         }
-        let exchanged = self.exchange_all(sockets)?;
-        Ok(moved || exchanged)
+        let exchanged = self.exchange_all(sockets);
+        moved || exchanged
     }
 
     /// Time goes on for each instance.
-    fn tick<S: Sockets>(&mut self, sockets: &mut S) -> Result<(), AllocError>
-        ensures serving { KeepsServingAtMost self.old.instances result
+    fn tick<S: Sockets>(&mut self, sockets: &mut S)
+        ensures serving { KeepsServingAtMost self.old.instances
             (S.happened sockets.old) self.old.server.instances self.old.moment
             (S.happened sockets.new) self.new.server.instances self.new.moment }
-        ensures instances { OnOk result (self.new.instances ≡ self.old.instances) }
+        ensures instances { self.new.instances ≡ self.old.instances }
     {
         self.moment = sockets.now();
         for instance in 0..self.instances {
-            tell(&mut self.server, self.moment, instance, What::Tick)?;
+            let _ = tell(&mut self.server, self.moment, instance, What::Tick);
         }
-        Ok(())
     }
 
     /// Opens the next connection that waits, for each instance, and says whether there was any.
-    fn open_all<S: Sockets>(&mut self, sockets: &mut S) -> Result<bool, AllocError>
-        ensures serving { KeepsServing result
+    fn open_all<S: Sockets>(&mut self, sockets: &mut S) -> bool
+        ensures serving { KeepsServing
             (S.happened sockets.old) self.old.server.instances self.old.moment
             (S.happened sockets.new) self.new.server.instances self.new.moment }
-        ensures instances { OnOk result (self.new.instances ≡ self.old.instances) }
+        ensures instances { self.new.instances ≡ self.old.instances }
     {
         let mut opened = false;
         for instance in 0..self.instances {
-            if self.open(sockets, instance)? {
+            if self.open(sockets, instance) {
                 opened = true;
             }
         }
-        Ok(opened)
+        opened
     }
 
     /// Opens the next connection that waits at an instance's port, or closes it at once where the
-    /// instance has as many as it may have. It says whether there was any.
-    fn open<S: Sockets>(&mut self, sockets: &mut S, instance: u32) -> Result<bool, AllocError>
-        ensures serving { KeepsServing result
+    /// instance has as many as it may have or memory is refused. In the first case a silent one
+    /// makes room for the next. It says whether there was any.
+    fn open<S: Sockets>(&mut self, sockets: &mut S, instance: u32) -> bool
+        ensures serving { KeepsServing
             (S.happened sockets.old) self.old.server.instances self.old.moment
             (S.happened sockets.new) self.new.server.instances self.new.moment }
-        ensures instances { OnOk result (self.new.instances ≡ self.old.instances) }
+        ensures instances { self.new.instances ≡ self.old.instances }
     {
         let connection = self.next;
         let socket = Socket {
             instance,
             connection,
         };
-        if let Some(_) = self.server.pending(instance, connection) {
-            // An open connection has this number still: in a later turn the next one is tried.
+        // An open connection has this number still: in a later turn the next one is tried.
+        if self.has(socket) {
             self.next = connection.wrapping_add(1);
-            return Ok(false);
+            return false;
+        }
+        if let Some(_) = self.server.pending(instance, connection) {
+            self.next = connection.wrapping_add(1);
+            return false;
+        }
+        if self.connections.reserve(1).is_err() {
+            // The client waits.
+            return false;
         }
         let Ok(()) = sockets.accept(socket) else {
-            return Ok(false);
+            return false;
         };
         self.next = connection.wrapping_add(1);
-        if tell(
-            &mut self.server,
-            self.moment,
-            instance,
-            What::Open(connection),
-        )? {
-            self.connections.push(OpenSocket {
-                socket,
-                moved: self.moment,
-                tried: self.moment,
-            })?;
-        } else {
-            close(&mut self.server, sockets, self.moment, socket)?;
+        let what = What::Open(connection);
+        match tell(&mut self.server, self.moment, instance, what) {
+            Ok(()) => {
+                let opened = OpenSocket::new(socket, self.moment);
+                let _room_was_reserved = self.connections.push(opened);
+            }
+            Err(refusal) => {
+                close(&mut self.server, sockets, self.moment, socket);
+                if refusal == EventRefusal::TooManyConnections {
+                    self.make_room(sockets, instance);
+                }
+            }
         }
-        Ok(true)
+        true
+    }
+
+    /// Closes the connection of an instance that has been silent longest, if one may make room, for
+    /// the next that waits.
+    fn make_room<S: Sockets>(&mut self, sockets: &mut S, instance: u32)
+        ensures serving { KeepsServing
+            (S.happened sockets.old) self.old.server.instances self.old.moment
+            (S.happened sockets.new) self.new.server.instances self.new.moment }
+        ensures instances { self.new.instances ≡ self.old.instances }
+    {
+        let found = longest_silent(&self.server, &self.connections, instance, self.moment);
+        let Some(place) = found else {
+            return;
+        };
+        let silent = self.connections.remove(place);
+        close(&mut self.server, sockets, self.moment, silent.socket);
+    }
+
+    /// Whether a socket that is not closed has this number. The server may have let go of its
+    /// connection.
+    fn has(&self, socket: Socket) -> bool {
+        for open in &self.connections {
+            if open.socket == socket {
+                return true;
+            }
+        }
+        false
     }
 
     /// Receives and sends on each connection that is due, and lets go of those that are over. It
     /// says whether anything moved.
-    fn exchange_all<S: Sockets>(&mut self, sockets: &mut S) -> Result<bool, AllocError>
-        ensures serving { KeepsServing result
+    fn exchange_all<S: Sockets>(&mut self, sockets: &mut S) -> bool
+        ensures serving { KeepsServing
             (S.happened sockets.old) self.old.server.instances self.old.moment
             (S.happened sockets.new) self.new.server.instances self.new.moment }
-        ensures instances { OnOk result (self.new.instances ≡ self.old.instances) }
+        ensures instances { self.new.instances ≡ self.old.instances }
     {
         let alloc = *self.connections.allocator();
         let mut moved = false;
@@ -168,25 +183,27 @@ impl Serving {
                 at += 1;
                 continue;
             }
-            let socket = self.connections[at].socket;
+            let mut open = self.connections[at];
             let (server, room) = (&mut self.server, &mut self.room);
-            match exchange(alloc, server, sockets, self.moment, socket, room)? {
+            match exchange(alloc, server, sockets, self.moment, &mut open, room) {
                 Tried::Over => {
                     self.connections.remove(at);
                     moved = true;
                 }
                 Tried::Moved => {
-                    self.connections[at].moved = self.moment;
+                    open.moved = self.moment;
+                    self.connections[at] = open;
                     at += 1;
                     moved = true;
                 }
                 Tried::NotReady => {
-                    self.connections[at].tried = self.moment;
+                    open.tried = self.moment;
+                    self.connections[at] = open;
                     at += 1;
                 }
             }
         }
-        Ok(moved)
+        moved
     }
 }
 
@@ -197,11 +214,15 @@ impl Serving {
 /// millisecond at most; of each connection at most 16,384 bytes are read, and what waits on it is
 /// written. A connection on which nothing moved for 20 milliseconds is tried once a millisecond,
 /// until something moves on it again. A connection is closed where its client is gone or its socket
-/// failed, and where an error of it was met and the client was sent all that waited.
+/// failed, where an error of it was met and the client was sent all that waited, and where memory
+/// was refused for what it sent. Where an instance has as many as it may have and another client
+/// comes, that client's is closed, and so is one of the others: the longest silent of those with no
+/// call in course from which no byte came for 60 seconds, or for 10 where the preface is not whole.
 ///
 /// `served`: a connection is accepted under a number that no open one of its instance has, and what
 /// is written to one is each time what its instance alone, by its own events, has waiting on it
-/// then. No fault of a socket ends the turns. An error is want of memory.
+/// then; of these events some may have been carried out in part, for want of memory. No fault of a
+/// socket and no such refusal ends the turns: an error is want of memory before the first.
 pub fn serve<S: Sockets>(
     alloc: Global,
     configs: &Configs,
@@ -210,11 +231,13 @@ pub fn serve<S: Sockets>(
 ) -> Result<(), AllocError>
     requires fresh { IfSome (S.happened sockets.old) (λ h. h ≡ []) }
     ensures served { WasServed configs.now (S.happened sockets.new) }
+    // Where memory is refused later than at the beginning, the turns go on.
+    ensures unbegun { IfErr result (λ error. S.happened sockets.new ≡ S.happened sockets.old) }
 {
     let mut serving = Serving::new(alloc, configs)?;
     let mut idle_turns: u64 = 0;
     for _ in 0..turns {
-        if serving.turn(sockets)? {
+        if serving.turn(sockets) {
             idle_turns = 0;
         } else {
             sockets.rest(idle_turns);

@@ -40,13 +40,13 @@ happened_is event l = replied_is (answer l.state event).replies (record l { stat
 abbrev pub with_due : List CallEvent → Past → Past
 with_due due p = record p { due = due }
 
-abbrev due_of : Past → List CallEvent
+abbrev pub due_of : Past → List CallEvent
 due_of p = p.due
 
-due_is : (c : ℕ) (l : LoneInstance) (p : Past) → open_at c l.connections ≡ Some p → due_at c l ≡ p.due
+pub due_is : (c : ℕ) (l : LoneInstance) (p : Past) → open_at c l.connections ≡ Some p → due_at c l ≡ p.due
 due_is c l p h = ap (λ (o : Option Past). option_map_or due_of o []) h
 
-due_left : (c : ℕ) (rs : List ReplyValue) (rest : List CallEvent) (ks : List LoneConnection) (p : Past) → open_at c ks ≡ Some p → option_map_or due_of (open_at c (given rs (at_open c (with_due rest) ks))) [] ≡ rest
+pub due_left : (c : ℕ) (rs : List ReplyValue) (rest : List CallEvent) (ks : List LoneConnection) (p : Past) → open_at c ks ≡ Some p → option_map_or due_of (open_at c (given rs (at_open c (with_due rest) ks))) [] ≡ rest
 due_left c rs rest ks p h =
     let xs = at_open c (with_due rest) ks in
     let a : option_map due_of (open_at c (given rs xs)) ≡ option_map due_of (open_at c xs) = given_keeps due_of c rs xs items_keep_due in
@@ -102,7 +102,7 @@ some_wire None x h = cc
 some_wire (Some q) x h = (q, refl, cc)
 
 -- after a step of c and what is due then
-stepped_wire : (c : ℕ) (step : Past → Past) (l : LoneInstance) (p : Past) → open_at c l.connections ≡ Some p → (q : Past) × (open_at c (after_due_on c (record l { connections = at_open c step l.connections })).connections ≡ Some q) × (wire q ≡ wire (step p))
+pub stepped_wire : (c : ℕ) (step : Past → Past) (l : LoneInstance) (p : Past) → open_at c l.connections ≡ Some p → (q : Past) × (open_at c (after_due_on c (record l { connections = at_open c step l.connections })).connections ≡ Some q) × (wire q ≡ wire (step p))
 stepped_wire c step l p h =
     some_wire (open_at c (after_due_on c (record l { connections = at_open c step l.connections })).connections) (wire (step p))
     (due_wire c (record l { connections = at_open c step l.connections }) ∙ ap (option_map wire) (open_stepped c step l.connections ∙ ap (option_map step) h))
@@ -119,10 +119,10 @@ read_from c l x = read_on c l (length (received_raw_frames x.1)) (split CLIENT_P
 rest_is : (c : ℕ) (l : LoneInstance) (p : Past) → open_at c l.connections ≡ Some p → after_rest_on c l ≡ read_from c l (wire p)
 rest_is c l p h = ap (λ (o : Option Past). after_reading_on c l o) h
 
-over_is : (c : ℕ) (l : LoneInstance) (p : Past) → open_at c l.connections ≡ Some p → is_over c l ≡ has_failed p.history
+pub over_is : (c : ℕ) (l : LoneInstance) (p : Past) → open_at c l.connections ≡ Some p → is_over c l ≡ has_failed p.history
 over_is c l p h = ap (λ (o : Option Past). option_map_or (λ (q : Past). has_failed q.history) o true) h
 
-raw_more : (d : List Entry) (f : RawFrame) → received_raw_frames (d ++ frame_entries d f) ≡ received_raw_frames d ++ f ∷ []
+pub raw_more : (d : List Entry) (f : RawFrame) → received_raw_frames (d ++ frame_entries d f) ≡ received_raw_frames d ++ f ∷ []
 raw_more d f = filter_map-append raw_in d (frame_entries d f) ∙ ap (λ (fs : List RawFrame). received_raw_frames d ++ f ∷ fs) (raw_out [] (outcome d f).put)
 
 -- a frame was read, and the others are left
@@ -147,7 +147,7 @@ or_true : (b : Bool) → (b || true) ≡ true
 or_true true = refl
 or_true false = refl
 
-failed_now : (d : List Entry) (e : FrameError) (code : ErrorCode) → has_failed d ≡ false → has_failed (d ++ fault_entries d e code) ≡ true
+pub failed_now : (d : List Entry) (e : FrameError) (code : ErrorCode) → has_failed d ≡ false → has_failed (d ++ fault_entries d e code) ≡ true
 failed_now d e code h =
     ap (λ (b : Bool). has_failed (d ++ Unreadable e ∷ map Out (fault_frames b (highest_stream d) code))) h
     ∙ ap (list_any is_goaway) (filter_map-append frame_out d (Unreadable e ∷ Out (goaway_frame (highest_stream d) code) ∷ []))

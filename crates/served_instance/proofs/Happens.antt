@@ -90,10 +90,10 @@ pub given_counted : (given : Holders) (p q : Slots) (i j : InstanceSlots) (vs : 
     (k : ℕ) → holders_of_instance j k + range_holders vs k + given k ≤ count_at q k
 given_counted given p q i j vs kept m k = omega (arith, m.counts k, kept.counted k)
 
-asked_finds : (given : Holders) (p q : Slots) (i j : InstanceSlots) (vs : List ServedConnection) → IsServedInPool p (slots_at i vs) → Moves p q (holders_of_instance i) (λ k. holders_of_instance j k + given k) → AgreeOn (sources_at vs) (text_at p) (text_at q)
+pub asked_finds : (given : Holders) (p q : Slots) (i j : InstanceSlots) (vs : List ServedConnection) → IsServedInPool p (slots_at i vs) → Moves p q (holders_of_instance i) (λ k. holders_of_instance j k + given k) → AgreeOn (sources_at vs) (text_at p) (text_at q)
 asked_finds given p q i j vs kept m k some = sym (m.texts k (omega (arith, some, kept.counted k)))
 
-taken_finds : (given : Holders) (IsGood : SourceTexts → Type 0) (p q r : Slots) (i j : InstanceSlots) (vs ws : List ServedConnection) → IsAnswered given IsGood p q r i j vs ws → AgreeOn (sources_at ws) (text_at q) (text_at r)
+pub taken_finds : (given : Holders) (IsGood : SourceTexts → Type 0) (p q r : Slots) (i j : InstanceSlots) (vs ws : List ServedConnection) → IsAnswered given IsGood p q r i j vs ws → AgreeOn (sources_at ws) (text_at q) (text_at r)
 taken_finds given IsGood p q r i j vs ws a k some =
     let held = given_counted given p q i j vs a.kept a.moves k in
     sym (a.takes.moves.texts k (omega (arith, some, held, a.takes.sources k)))
@@ -109,7 +109,7 @@ answered_moves given IsGood p q r i j vs ws a = record {
 abbrev with_visible : InstanceSlots → List Blob → InstanceState
 with_visible i bs = record { name = i.name; quota = i.quota; slots = i.slots; moment = i.moment; visible = bs; uploads = i.uploads; results = i.results; calls = i.calls }
 
-answered_state : (given : Holders) (IsGood : SourceTexts → Type 0) (p q r : Slots) (i j : InstanceSlots) (vs ws : List ServedConnection) → IsAnswered given IsGood p q r i j vs ws → state_in r j ≡ state_in q j
+pub answered_state : (given : Holders) (IsGood : SourceTexts → Type 0) (p q r : Slots) (i j : InstanceSlots) (vs ws : List ServedConnection) → IsAnswered given IsGood p q r i j vs ws → state_in r j ≡ state_in q j
 answered_state given IsGood p q r i j vs ws a =
     ap (with_visible j) (shown_same q r j.view.entries (λ k some.
     let held = given_counted given p q i j vs a.kept a.moves k in

@@ -53,16 +53,16 @@ still_served texts c os ns v w ks p h e o r s =
     let P : List LoneConnection → Type 0 = λ xs. AreServed texts (map connection_shown ns) (open_ones xs) in
     subst P (idle c ks) (served_at texts c os ns v w (λ q. q) ks h e s (λ q k x. let same : p ≡ q = cc in subst (λ (y : Past). IsConnection texts w y) same r))
 
-stepped_served : (texts : SourceTexts) (c : ℕ) (os ns : List OpenConnection) (v w : ConnectionValue) (f : Past → Past) (ks : List LoneConnection) (p : Past) → present_at c os ≡ Some v → ns ≡ with_present c w os → open_at c ks ≡ Some p → IsConnection texts w (f p) → AreServed texts (map connection_shown os) (open_ones ks) → AreServed texts (map connection_shown ns) (open_ones (at_open c f ks))
+pub stepped_served : (texts : SourceTexts) (c : ℕ) (os ns : List OpenConnection) (v w : ConnectionValue) (f : Past → Past) (ks : List LoneConnection) (p : Past) → present_at c os ≡ Some v → ns ≡ with_present c w os → open_at c ks ≡ Some p → IsConnection texts w (f p) → AreServed texts (map connection_shown os) (open_ones ks) → AreServed texts (map connection_shown ns) (open_ones (at_open c f ks))
 stepped_served texts c os ns v w f ks p h e o r s =
     served_at texts c os ns v w f ks h e s (λ q k x. let same : p ≡ q = cc in subst (λ (y : Past). IsConnection texts w (f y)) same r)
 
-unchanged_stands : (texts : SourceTexts) (s : InstanceState) (os ns : List OpenConnection) (l k : LoneInstance) → ns ≡ os → k ≡ l → StandsBy texts s os l → StandsBy texts s ns k
+pub unchanged_stands : (texts : SourceTexts) (s : InstanceState) (os ns : List OpenConnection) (l k : LoneInstance) → ns ≡ os → k ≡ l → StandsBy texts s os l → StandsBy texts s ns k
 unchanged_stands texts s os ns l k e f st =
     subst (λ (x : LoneInstance). StandsBy texts s ns x) (sym f) (subst (λ (xs : List OpenConnection). StandsBy texts s xs l) (sym e) st)
 
 -- a step that the past of its connection does not show
-keeps_still : (texts : SourceTexts) (c : ℕ) (s : InstanceState) (os ns : List OpenConnection) (R : ConnectionValue → ConnectionValue → Type 0) (l k : LoneInstance) → BecomesAt c os ns R → (open_at c l.connections ≡ None → k ≡ l) →
+pub keeps_still : (texts : SourceTexts) (c : ℕ) (s : InstanceState) (os ns : List OpenConnection) (R : ConnectionValue → ConnectionValue → Type 0) (l k : LoneInstance) → BecomesAt c os ns R → (open_at c l.connections ≡ None → k ≡ l) →
     ((v w : ConnectionValue) (p : Past) → open_at c l.connections ≡ Some p → R v w → IsConnection texts v p → IsConnection texts w p × (k ≡ l)) → StandsBy texts s os l → StandsBy texts s ns k
 keeps_still texts c s os ns R l k d none there st = elim (kept_or_not (present_at c os)) [
   | inl gone ↦ unchanged_stands texts s os ns l k (changed_nowhere c os ns R gone d) (none (no_past texts c os l.connections gone st.connections)) st

@@ -21,5 +21,10 @@ pub mod Brought
 pub mod Growth
 pub mod Moments
 pub mod LimitsKept
+mod Cut
+mod Answered
+mod CutEvents
+mod Broken
+mod Losses
 pub use Rattle.grpc_sending.proofs.Agreeing
 pub use Rattle.grpc_sending.proofs.Histories

@@ -43,7 +43,7 @@ seen_connection texts s p h = record {
   streams = h.streams;
   sending = subst (λ (qs : List Queue). IsSending (record { pending = s.connection.sending.pending; position = s.connection.sending.position; queues = qs }) p.history p.owed) (sym (same_queues no_texts texts s.connection.sending.queues)) h.sending;
   due = h.due;
-  alive = λ e. let a = h.alive e in record { reader = a.reader; calls = a.calls; order = a.order };
+  alive = λ e. let a = h.alive e in record { reader = a.reader; calls = a.calls; order = a.order; counted = a.counted };
 }
 
 plain_connection : (texts : SourceTexts) (s : ServedConnection) (p : Past) → IsConnection no_texts (served_with texts s).connection p → IsConnection texts s.connection p
@@ -52,7 +52,7 @@ plain_connection texts s p h = record {
   streams = h.streams;
   sending = subst (λ (qs : List Queue). IsSending (record { pending = s.connection.sending.pending; position = s.connection.sending.position; queues = qs }) p.history p.owed) (same_queues no_texts texts s.connection.sending.queues) h.sending;
   due = h.due;
-  alive = λ e. let a = h.alive e in record { reader = a.reader; calls = a.calls; order = a.order };
+  alive = λ e. let a = h.alive e in record { reader = a.reader; calls = a.calls; order = a.order; counted = a.counted };
 }
 
 pub seen_served : (texts : SourceTexts) (vs : List ServedConnection) (ls : List LoneConnection) → AreServed texts vs ls → AreServed no_texts (map (served_with texts) vs) ls

@@ -1,11 +1,13 @@
 -- What is refused by what is kept is refused by all that happened.
 use Rattle.std.proofs.Common.{◌≡◌, refl, sym, ap, ◌∙◌, subst}
-use Rattle.std.specs.Prelude.{ℕ, nat_le, nat_lt, if◌then◌else◌, Bool, true, false, List, length, Option, Some, None, Err}
+use Rattle.std.specs.Prelude.{ℕ, nat_le, nat_lt, ◌==◌, ◌&&◌, if◌then◌else◌, Bool, true, false, not, List, length, Option, Some, None, Err}
 use Rattle.std.specs.Option.{is_some, option_map, option_map_or}
 use Rattle.conn_core.specs.History.{has_failed}
 use Rattle.grpc_sending.specs.Bytes.{pending_bytes, untaken_count}
 use Rattle.grpc_sending.specs.StoredSending.{SourceTexts}
 use Rattle.blob_pool.specs.Slots.{Slots, text_at}
+use Rattle.conn_core.specs.CallsInCourse.{has_calls}
+use Rattle.conn_core.proofs.CallsInCourse.{same_calls}
 use Rattle.conn_core.specs.Past.{Past}
 use Rattle.conn_core.specs.StandsFor.{ConnectionValue}
 use Rattle.server_events.specs.Events.{EventValue, WhatValue, opened, received, took, closed, tick, ended}
@@ -50,6 +52,15 @@ same_pending texts None None s = refl
 same_pending texts (Some v) (Some p) s = ap Some s.sending.pending
 same_pending texts None (Some p) s = absurd s
 same_pending texts (Some v) None s = absurd s
+
+abbrev pub calls_kept : ConnectionValue → Bool
+calls_kept v = not v.ended && not (length v.streams.live == 0)
+
+pub same_presence_of_calls : (texts : SourceTexts) (a : Option ConnectionValue) (b : Option Past) → SameAt texts a b → option_map calls_kept a ≡ option_map (λ (p : Past). has_calls p.history) b
+same_presence_of_calls texts None None s = refl
+same_presence_of_calls texts (Some v) (Some p) s = ap Some (same_calls texts v p s)
+same_presence_of_calls texts None (Some p) s = absurd s
+same_presence_of_calls texts (Some v) None s = absurd s
 
 pub same_ended : (texts : SourceTexts) (a : Option ConnectionValue) (b : Option Past) → SameAt texts a b → option_map (λ (v : ConnectionValue). v.ended) a ≡ option_map (λ (p : Past). has_failed p.history) b
 same_ended texts None None s = refl

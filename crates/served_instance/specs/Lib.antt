@@ -10,9 +10,13 @@ pub mod Slots
 pub mod Shown
 pub mod Present
 pub mod Acts
+pub mod Events
+pub mod Short
+pub mod Cuts
 pub use Rattle.conn_core.specs.Writing
 pub use Rattle.conn_core.specs.History
 pub use Rattle.grpc_sending.specs.Bytes
 pub use Rattle.grpc_sending.specs.Sources
 pub use Rattle.grpc_sending.specs.StoredSending
 pub use Rattle.conn_core.specs.Past
+pub use Rattle.conn_core.specs.CallsInCourse

@@ -1,7 +1,8 @@
 //! What happens to the calls on an instance's connections.
 
-ghost use Rattle.std.specs.Prelude.{◌≡◌, ◌<◌, ◌≤◌, ℕ, List, false, IsTrue, IfOk, OnOk, length, map};
+ghost use Rattle.std.specs.Prelude.{◌≡◌, ◌<◌, ◌≤◌, ℕ, List, false, IsTrue, IfOk, OnOk, OnErr, length, map};
 ghost use Rattle.instance_core.specs.Calls.{IsShortEvent};
+ghost use Rattle.instance_core.specs.Apart.{calls_apart};
 ghost use Rattle.instance_core.specs.Shown.{event_shown};
 ghost use Rattle.instance_core.specs.Slots.{state_in, holders_of_instance, IsInstanceInPool};
 ghost use Rattle.served_instance.specs.Slots.{holders_of, IsServedInPool};
@@ -11,6 +12,10 @@ ghost use Rattle.served_instance.specs.declared.open_connection.OpenConnection.{
 ghost use Rattle.served_instance.specs.Acts.{Acts, ActsIn, LeadsIn, Keeps, present_at, slots_of, unread_at, after_rest_on, cancels_of};
 ghost use Rattle.served_instance.specs.Ranges.{Releases, range_holders};
 ghost use Rattle.served_instance.specs.Shown.{connection_shown};
+ghost use Rattle.served_instance.specs.Events.{due_events, rest_events, bytes_events};
+ghost use Rattle.served_instance.specs.Short.{IsMadeInPart};
+ghost use Rattle.served_instance.specs.Cuts.{others_of, KeepsOthers, OthersFindAlike, CutsShort, CutLeads};
+ghost use Rattle.instance_core.specs.Apart.{IsCallOn};
 ghost use Rattle.served_instance.specs.Lone.{LoneInstance, after_call_event, after_call_events, after_due_on, after_bytes_on, after_closing};
 
 use crate::open_connection::{OpenConnection, feed, find, pop_event, read_frame};
@@ -34,6 +39,12 @@ fn happen(
     ensures happened { OnOk result (ActsIn pool.old instance.old connections.old
         pool.new instance.new connections.new (after_call_event (event_shown event))) }
     ensures rest { OnOk result (Keeps connections.old connections.new) }
+    ensures memory { OnErr result (IsMadeInPart (event_shown event)
+        (state_in pool.old instance.old) (state_in pool.new instance.new)) }
+    ensures others { (c : ℕ) → IsCallOn c (event_shown event)
+        → KeepsOthers c connections.old connections.new }
+    ensures finds { (c : ℕ) → IsCallOn c (event_shown event)
+        → OthersFindAlike c pool.old pool.new connections.old }
     ensures moves { Moves pool.old pool.new (holders_of (slots_of instance.old connections.old))
         (holders_of (slots_of instance.new connections.new)) }
     ensures kept { IsServedInPool pool.new (slots_of instance.new connections.new) }
@@ -55,6 +66,10 @@ fn give_due(
         pool.new instance.new connections.new (after_due_on number)) }
     ensures unread { OnOk result (unread_at number connections.new
         ≡ unread_at number connections.old) }
+    ensures memory { OnErr result (CutsShort pool.old instance.old connections.old
+        pool.new instance.new (due_events number)) }
+    ensures others { KeepsOthers number connections.old connections.new }
+    ensures finds { OthersFindAlike number pool.old pool.new connections.old }
     ensures moves { Moves pool.old pool.new (holders_of (slots_of instance.old connections.old))
         (holders_of (slots_of instance.new connections.new)) }
     ensures kept { IsServedInPool pool.new (slots_of instance.new connections.new) }
@@ -82,6 +97,12 @@ fn read_next(
         pool.new instance.new connections.new (after_rest_on number)) }
     ensures fewer { IfOk result (λ more. IsTrue more
         → unread_at number connections.new < unread_at number connections.old) }
+    ensures cuts { OnOk result (CutLeads pool.old instance.old connections.old
+        pool.new instance.new connections.new (rest_events number) (rest_events number)) }
+    ensures memory { OnErr result (CutsShort pool.old instance.old connections.old
+        pool.new instance.new (rest_events number)) }
+    ensures others { KeepsOthers number connections.old connections.new }
+    ensures finds { OthersFindAlike number pool.old pool.new connections.old }
     ensures moves { Moves pool.old pool.new (holders_of (slots_of instance.old connections.old))
         (holders_of (slots_of instance.new connections.new)) }
     ensures kept { IsServedInPool pool.new (slots_of instance.new connections.new) }
@@ -107,6 +128,10 @@ pub(crate) fn receive(
     requires kept { IsServedInPool pool.old (slots_of instance.old connections.old) }
     ensures came { OnOk result (ActsIn pool.old instance.old connections.old
         pool.new instance.new connections.new (after_bytes_on number bytes.items)) }
+    ensures memory { OnErr result (CutsShort pool.old instance.old connections.old
+        pool.new instance.new (bytes_events number bytes.items)) }
+    ensures others { KeepsOthers number connections.old connections.new }
+    ensures finds { OthersFindAlike number pool.old pool.new connections.old }
     ensures moves { Moves pool.old pool.new (holders_of (slots_of instance.old connections.old))
         (holders_of (slots_of instance.new connections.new)) }
     ensures kept { IsServedInPool pool.new (slots_of instance.new connections.new) }
@@ -142,6 +167,50 @@ pub(crate) fn close(
             closed.close();
             release_spent(pool, &mut closed);
             give_up(instance, number, closed)
+        }
+    }
+}
+
+/// The connection goes after memory was refused in the midst of it: whatever it stands for, the
+/// sources of its ranges are released, and the calls on it are forgotten. This takes no memory.
+pub(crate) fn break_off(
+    pool: &mut Pool,
+    instance: &mut Instance,
+    connections: &mut Vec<OpenConnection>,
+    number: u32,
+)
+    requires { (k : ℕ) → range_holders (map connection_shown connections.old.items) k
+        ≤ count_at pool.old k }
+    ensures left { connections.new.items ≡ others_of number connections.old.items }
+    ensures forgotten { (p : Slots) → state_in p instance.new
+        ≡ (let old = state_in p instance.old in
+        record old { calls = calls_apart number old.calls }) }
+    ensures fewer { length connections.new.items ≤ length connections.old.items }
+    ensures releases { Releases pool.old (map connection_shown connections.old.items)
+        pool.new (map connection_shown connections.new.items) }
+    ensures holders { (k : ℕ) → holders_of_instance instance.new k
+        ≡ holders_of_instance instance.old k }
+    ensures kept { (p : Slots) → IsInstanceInPool p instance.old → IsInstanceInPool p instance.new }
+{
+    remove(pool, connections, number);
+    instance.forget(number);
+}
+
+/// The connection goes, and the sources of its ranges are released.
+fn remove(pool: &mut Pool, connections: &mut Vec<OpenConnection>, number: u32)
+    requires { (k : ℕ) → range_holders (map connection_shown connections.old.items) k
+        ≤ count_at pool.old k }
+    ensures left { connections.new.items ≡ others_of number connections.old.items }
+    ensures fewer { length connections.new.items ≤ length connections.old.items }
+    ensures releases { Releases pool.old (map connection_shown connections.old.items)
+        pool.new (map connection_shown connections.new.items) }
+{
+    match find(connections, number) {
+        None => {}
+        Some(place) => {
+            let mut broken = connections.remove(place).connection;
+            broken.close();
+            release_spent(pool, &mut broken);
         }
     }
 }

@@ -1,26 +1,29 @@
 //! One instance and its connections.
 
-ghost use Rattle.std.specs.Prelude.{◌≡◌, ◌≢◌, ◌≤◌, ◌<◌, ◌^◌, ℕ, List, [], None, length, map, Option, option_map, string_bytes, IfSome, IfOk, OnOk, OnErr, IfErr};
+ghost use Rattle.std.specs.Prelude.{◌≡◌, ◌≢◌, ◌≤◌, ◌<◌, ◌^◌, ℕ, List, [], None, length, map, Option, option_map, string_bytes, IfSome, IfOk, OnOk, OnErr, IfErr, Err};
 ghost use Rattle.server_events.specs.Shown.{event_value, what_value};
 ghost use Rattle.grpc_sending.specs.Bytes.{most_untaken, pending_bytes};
 ghost use Rattle.conn_core.specs.History.{has_failed};
+ghost use Rattle.conn_core.specs.CallsInCourse.{has_calls};
 ghost use Rattle.conn_core.specs.Past.{Past, with_pumped};
 ghost use Rattle.served_instance.specs.Connections.{LoneConnection, AreApart, open_at, open_ones, at_all_open};
 ghost use Rattle.served_instance.specs.Lone.{LoneInstance, new_lone, effect_of, after_opening, after_pump};
 ghost use Rattle.served_instance.specs.Refusals.{NeedsNoMemory, refusal_of, lone_step, IsRefusalOutcome};
 ghost use Rattle.served_instance.specs.StandsFor.{IsServedInstance, IsServedWithin, AreServed, AreSettled};
 ghost use Rattle.served_instance.specs.Present.{refusal_by, refusal_by_what, refusal_to_open, unless_present, refusal_to_take};
+ghost use Rattle.served_instance.specs.Short.{IsServedShort};
+ghost use Rattle.served_instance.specs.Cuts.{CutsShort, others_by, others_than, receiver_of, state_without, events_brought};
 ghost use Rattle.served_instance.specs.Shown.{connection_shown};
-ghost use Rattle.served_instance.specs.Acts.{Acts, ActsIn, HoldAlike, slots_of};
+ghost use Rattle.served_instance.specs.Acts.{Acts, ActsIn, HoldAlike, FindAlike, slots_of};
 ghost use Rattle.served_instance.specs.Ranges.{RangesEndWithin, Releases, range_holders, spent_sources};
 ghost use Rattle.instance_core.specs.State.{InstanceState};
-ghost use Rattle.instance_core.specs.Slots.{state_in};
+ghost use Rattle.instance_core.specs.Slots.{state_in, holders_of_instance, IsInstanceInPool};
 ghost use Rattle.served_instance.specs.Slots.{served_state_in, holders_of, IsServedInPool, HasConnections};
 ghost use Rattle.blob_pool.specs.Slots.{Slots, text_at, count_at};
 ghost use Rattle.blob_pool.specs.Moves.{Moves, no_holders};
 ghost use Rattle.instance_core.specs.Within.{most_stored_bytes};
 
-use crate::calls::{close, receive};
+use crate::calls::{break_off, close, receive};
 use crate::open_connection::{OpenConnection, connection_at, connection_near, take};
 use crate::pool_parts::PoolParts;
 use crate::refusal::EventRefusal;
@@ -87,9 +90,8 @@ impl ServedInstance {
 
     /// Takes an event, with the pool that has the instance's texts: it is refused for the first
     /// reason that stands, and then nothing is changed; or it is carried out to its end, and all
-    /// that can be put on open connections is put. After a refusal of memory the instance may have
-    /// done a part of it, and stands for no instance by itself any more: it is to be dropped. Its
-    /// limits stand then too, and the pool still counts it.
+    /// that can be put on open connections is put. Where memory is refused a part of it was done,
+    /// as `Short` says, and the event's connection is gone; the instance goes on from there.
     pub fn step(&mut self, pool: &mut Pool, event: Event) -> Result<(), EventRefusal>
         requires kept { IsServedInPool pool.old self.old }
         ensures outcome { (l : LoneInstance) →
@@ -99,6 +101,9 @@ impl ServedInstance {
             → (result ≢ Err EventRefusal.NoMemory)
             → IsServedInstance (served_state_in pool.new self.new)
             (lone_step (event_value event) l) }
+        ensures short { result ≡ Err EventRefusal.NoMemory → (l : LoneInstance)
+            → IsServedInstance (served_state_in pool.old self.old) l
+            → IsServedShort (event_value event) l (served_state_in pool.new self.new) }
         ensures here { result ≢ Err EventRefusal.NoSuchInstance }
         ensures memory_free { NeedsNoMemory (event_value event).what
             → result ≢ Err EventRefusal.NoMemory }
@@ -117,6 +122,7 @@ impl ServedInstance {
         }
         self.instance.set_moment(event.moment);
         let alloc = *self.connections.allocator();
+        let broken = receiver(&event.what);
         match act(
             alloc,
             pool,
@@ -124,7 +130,10 @@ impl ServedInstance {
             &mut self.connections,
             event.what,
         ) {
-            Err(_) => Err(EventRefusal::NoMemory),
+            Err(_) => {
+                break_off_if(pool, &mut self.instance, &mut self.connections, broken);
+                Err(EventRefusal::NoMemory)
+            }
             Ok(()) => {
                 self.pump(pool);
                 Ok(())
@@ -170,6 +179,17 @@ impl ServedInstance {
         }
     }
 
+    /// Whether a call is in course on an open connection.
+    pub fn has_calls(&self, connection: u32) -> Option<bool>
+        ensures { (l : LoneInstance) → HasConnections self.now l
+            → result ≡ option_map (λ p. has_calls p.history) (open_at connection l.connections) }
+    {
+        match connection_at(&self.connections, connection) {
+            None => None,
+            Some(kept) => Some(kept.has_calls()),
+        }
+    }
+
     /// Why the event is refused, if it is.
     fn refusal(&self, event: &Event) -> Option<EventRefusal>
         ensures { result ≡ refusal_by (event_value event.now) self.now }
@@ -200,6 +220,40 @@ impl ServedInstance {
     }
 }
 
+/// The connection whose bytes the event brings.
+pub fn receiver(what: &What) -> Option<u32>
+    ensures { result ≡ receiver_of (what_value what.now) }
+{
+    match what {
+        What::Bytes(number, _) => Some(*number),
+        What::Open(_) | What::Took(..) | What::Closed(_) | What::Tick | What::Outcome(..) => None,
+    }
+}
+
+/// Lets go of the connection on which memory was refused, if there is one. This takes no memory.
+fn break_off_if(
+    pool: &mut Pool,
+    instance: &mut Instance,
+    connections: &mut Vec<OpenConnection>,
+    broken: Option<u32>,
+)
+    requires { (k : ℕ) → range_holders (map connection_shown connections.old.items) k
+        ≤ count_at pool.old k }
+    ensures left { connections.new.items ≡ others_by broken connections.old.items }
+    ensures forgotten { (p : Slots) → state_in p instance.new
+        ≡ state_without broken (state_in p instance.old) }
+    ensures fewer { length connections.new.items ≤ length connections.old.items }
+    ensures releases { Releases pool.old (map connection_shown connections.old.items)
+        pool.new (map connection_shown connections.new.items) }
+    ensures holders { (k : ℕ) → holders_of_instance instance.new k
+        ≡ holders_of_instance instance.old k }
+    ensures kept { (p : Slots) → IsInstanceInPool p instance.old → IsInstanceInPool p instance.new }
+{
+    if let Some(number) = broken {
+        break_off(pool, instance, connections, number);
+    }
+}
+
 /// Does what the event asks for.
 fn act(
     alloc: Global,
@@ -215,6 +269,12 @@ fn act(
     ensures acted { OnOk result (ActsIn pool.old instance.old connections.old.items
         pool.new instance.new connections.new.items (effect_of (what_value what))) }
     ensures memory_free { OnErr result (NeedsNoMemory (what_value what) → ⊥) }
+    ensures memory { OnErr result (CutsShort pool.old instance.old connections.old.items
+        pool.new instance.new (events_brought (what_value what))) }
+    ensures others { OnErr result (others_than (what_value what) connections.new.items
+        ≡ others_than (what_value what) connections.old.items) }
+    ensures finds { OnErr result (FindAlike pool.old pool.new
+        (others_than (what_value what) connections.old.items)) }
     ensures moves { Moves pool.old pool.new
         (holders_of (slots_of instance.old connections.old.items))
         (holders_of (slots_of instance.new connections.new.items)) }
@@ -246,6 +306,7 @@ fn open(alloc: Global, connections: &mut Vec<OpenConnection>, number: u32) -> Re
         → Acts s connections.old.items s connections.new.items (after_opening number)) }
     ensures few { length connections.new.items ≤ CONNECTION_LIMIT }
     ensures holds { HoldAlike connections.old.items connections.new.items }
+    ensures err { OnErr result (connections.new.items ≡ connections.old.items) }
 {
     let connection = Connection::new(alloc)?;
     connections.push(OpenConnection { number, connection })?;

@@ -4,6 +4,7 @@
 
 mod calls;
 mod instance;
+mod laws;
 mod limits;
 mod open_connection;
 mod pool_parts;
@@ -11,6 +12,7 @@ mod refusal;
 mod release;
 mod replies;
 
-pub use instance::{CONNECTION_LIMIT, ServedInstance};
+pub use instance::{CONNECTION_LIMIT, ServedInstance, receiver};
+pub use laws::want_of_memory_loses_by_rules;
 pub use limits::limit_of_connections;
 pub use refusal::EventRefusal;

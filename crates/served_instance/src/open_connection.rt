@@ -5,6 +5,7 @@ ghost use Rattle.std.specs.Option.{option_map_or};
 ghost use Rattle.grpc_sending.specs.StoredSending.{SourceTexts};
 ghost use Rattle.conn_core.specs.Past.{Past, with_taken};
 ghost use Rattle.served_instance.specs.Acts.{BecomesAt, TakesStep, Pops, ReadsFrame, present_at, HoldAlike};
+ghost use Rattle.served_instance.specs.Cuts.{KeepsOthers};
 ghost use Rattle.served_instance.specs.Shown.{connection_shown};
 ghost use Rattle.served_instance.specs.Present.{is_numbered, CanTake};
 ghost use Rattle.served_instance.specs.Connections.{LoneConnection, AreApart, open_ones};
@@ -67,6 +68,7 @@ pub(crate) fn feed(
     ensures fed { OnOk result (BecomesAt number connections.old connections.new
         (TakesStep (λ p. record p { text = p.text ++ bytes.items }))) }
     ensures holds { HoldAlike connections.old connections.new }
+    ensures others { KeepsOthers number connections.old connections.new }
 {
     match find(connections, number) {
         None => Ok(()),
@@ -83,6 +85,7 @@ pub(crate) fn read_frame(
         (ReadsFrame more)) }
     ensures none { IfOk result (λ more. present_at number connections.old ≡ None → more ≡ false) }
     ensures holds { HoldAlike connections.old connections.new }
+    ensures others { KeepsOthers number connections.old connections.new }
 {
     match find(connections, number) {
         None => Ok(false),
@@ -95,6 +98,7 @@ pub(crate) fn pop_event(connections: &mut [OpenConnection], number: u32) -> Opti
     ensures event { BecomesAt number connections.old connections.new (Pops result) }
     ensures none { present_at number connections.old ≡ None → result ≡ None }
     ensures holds { HoldAlike connections.old connections.new }
+    ensures others { KeepsOthers number connections.old connections.new }
 {
     match find(connections, number) {
         None => None,

@@ -15,6 +15,8 @@ ghost use Rattle.served_instance.specs.Calls.{call_event_on, item_of};
 ghost use Rattle.served_instance.specs.Connections.{LoneConnection, open_ones};
 ghost use Rattle.served_instance.specs.Lone.{LoneInstance, after_replies};
 ghost use Rattle.served_instance.specs.OwedReplies.{item_by, reply_by, with_owed, CanBeOwed, ReplyCanBeOwed, ItemEndsWithin, ItemsEndWithin, ReplyEndsWithin, RepliesEndWithin, TakesRanges, AllTakeRanges};
+ghost use Rattle.served_instance.specs.Cuts.{KeepsOthers};
+ghost use Rattle.instance_core.specs.Apart.{AreRepliesTo};
 ghost use Rattle.served_instance.specs.Shown.{connection_shown};
 ghost use Rattle.served_instance.specs.StandsFor.{AreServed};
 
@@ -57,6 +59,8 @@ pub(crate) fn give_all(
         → AreServed texts (map connection_shown connections.new)
         (open_ones (after_replies (map (reply_by texts) replies.items) l).connections)) }
     ensures rest { OnOk result (Keeps connections.old connections.new) }
+    ensures others { (c : ℕ) → AreRepliesTo c replies.items
+        → KeepsOthers c connections.old connections.new }
     ensures takes { AllTakeRanges (replies_holders replies.items) (RepliesEndWithin replies.items)
         pool.old (map connection_shown connections.old) pool.new
         (map connection_shown connections.new) }
@@ -78,6 +82,7 @@ fn give(pool: &mut Pool, connections: &mut [OpenConnection], reply: Reply) -> Re
     requires counted { (k : ℕ) → items_holders reply.items.items k ≤ count_at pool.old k }
     ensures given { OnOk result (BecomesAt reply.call.connection connections.old connections.new
         (Owes (with_owed reply.call.stream reply.items.items))) }
+    ensures others { KeepsOthers reply.call.connection connections.old connections.new }
     ensures takes { AllTakeRanges (items_holders reply.items.items) (ReplyEndsWithin reply)
         pool.old (map connection_shown connections.old) pool.new
         (map connection_shown connections.new) }

@@ -80,7 +80,7 @@ value_same p k =
 cons_both : (o q : OpenRecord) (os qs : Values) → o ≡ q → os ≡ qs → o ∷ os ≡ q ∷ qs
 cons_both o q os qs h k = cc
 
-known_same : (p : ℕ) (ks : List LoneConnection) → known_from p (map sent_bytes_on ks) ks ≡ open_from p ks
+pub known_same : (p : ℕ) (ks : List LoneConnection) → known_from p (map sent_bytes_on ks) ks ≡ open_from p ks
 known_same p [] = refl
 known_same p (k ∷ ks) =
     let later = known_same (p + 1) ks in
@@ -171,7 +171,7 @@ none_gone c p (k ∷ ks) h =
       | inr is ↦ ap more (pick_false k.is_open here rest is) ∙ later ∙ sym (pick_false k.is_open here rest is)
     ]
 
-known_closed : (c p : ℕ) (ks : List LoneConnection) → AreApart ks → known_from p (map sent_bytes_on ks) (with_closed c ks) ≡ filter (others c) (open_from p ks)
+pub known_closed : (c p : ℕ) (ks : List LoneConnection) → AreApart ks → known_from p (map sent_bytes_on ks) (with_closed c ks) ≡ filter (others c) (open_from p ks)
 known_closed c p [] apart = refl
 known_closed c p (k ∷ ks) apart =
     let rest : Values = open_from (p + 1) ks in

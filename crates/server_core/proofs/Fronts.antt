@@ -116,7 +116,7 @@ fronts_took c n (k ∷ ks) h may =
 front_closed : (k : LoneConnection) → IsFront (sent_bytes_on k) (record k { is_open = false })
 front_closed k = record { number = refl; more = []; bytes = sym (append-nil (bytes_put k.past.history)); within = λ is. absurd (true≢false (sym is)); closed = λ is. refl }
 
-fronts_closed : (c : ℕ) (ks : List LoneConnection) → AreWithin ks → AreFronts (map sent_bytes_on ks) (with_closed c ks)
+pub fronts_closed : (c : ℕ) (ks : List LoneConnection) → AreWithin ks → AreFronts (map sent_bytes_on ks) (with_closed c ks)
 fronts_closed c [] h = tt
 fronts_closed c (k ∷ ks) h =
     let yes = record k { is_open = false } ∷ ks in

@@ -12,3 +12,4 @@ mod Begins
 mod Steps
 mod Ends
 mod Runs
+mod Marks

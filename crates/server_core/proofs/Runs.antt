@@ -29,7 +29,7 @@ strays_push place count (x ∷ es) e =
     ap (λ ps. stray_at place count x ++ ps) (strays_push (place + 1) count es e ∙ ap (λ p. strays_from (place + 1) count es ++ stray_at p count e) same)
     ∙ sym (append_assoc (stray_at place count x) (strays_from (place + 1) count es) (stray_at (place + length (x ∷ es)) count e))
 
-strays_more : (configs : List ConfigValue) (events : List EventValue) (e : EventValue) (place : ℕ) → place ≡ length events + 1 → strays configs (events ++ e ∷ []) ≡ strays configs events ++ stray_at place (length configs) e
+pub strays_more : (configs : List ConfigValue) (events : List EventValue) (e : EventValue) (place : ℕ) → place ≡ length events + 1 → strays configs (events ++ e ∷ []) ≡ strays configs events ++ stray_at place (length configs) e
 strays_more configs events e place is =
     let at_place : 1 + length events ≡ place = omega (arith, is) in
     strays_push 1 (length configs) events e ∙ ap (λ p. strays configs events ++ stray_at p (length configs) e) at_place

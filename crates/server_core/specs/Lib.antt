@@ -1,5 +1,6 @@
 pub mod Outputs
 pub mod Runs
+pub mod Marked
 pub mod LoneOutput
 pub mod Notes
 pub mod Shown

@@ -1,6 +1,6 @@
 -- What an event changes of what is noted of a run. For the code alone, but for `connection_change`,
 -- which `InstanceRecord::note` asks for.
-use Rattle.std.specs.Prelude.{ℕ, zero, suc, ◌==◌, ◌-◌, if◌then◌else◌, not, List, [], ◌∷◌, ◌++◌, map, filter, drop, length, fold}
+use Rattle.std.specs.Prelude.{ℕ, zero, suc, ◌==◌, ◌-◌, if◌then◌else◌, not, List, [], ◌∷◌, ◌++◌, map, filter, drop, length, fold, Option, Some, None}
 use Rattle.std.specs.Option.{option_map_or}
 use Rattle.served_instance.specs.Bytes.{pending_bytes}
 use Rattle.server_events.specs.Events.{WhatValue, opened, took, closed}
@@ -29,6 +29,11 @@ open_records_changed (Opened c) count os =
 open_records_changed (Took c n) count os = map (record_after_taking c n) os
 open_records_changed (Closed c) count os = filter (λ o. not (o.number == c)) os
 open_records_changed Nothing count os = os
+
+-- where the connection of this number is gone
+abbrev pub open_records_left : Option ℕ → List OpenRecord → List OpenRecord
+open_records_left None os = os
+open_records_left (Some c) os = filter (λ o. not (o.number == c)) os
 
 abbrev pub open_records_after : WhatValue → ℕ → List OpenRecord → List OpenRecord
 open_records_after what = open_records_changed (connection_change what)

@@ -1,8 +1,9 @@
 -- A run of a server so far.
-use Rattle.std.specs.Prelude.{◌≡◌, ◌<◌, ◌+◌, ℕ, List, All, Some, length, false}
+use Rattle.std.specs.Prelude.{◌≡◌, ◌<◌, ◌+◌, ℕ, List, All, Some, length}
 use Rattle.server_events.specs.Configs.{ConfigValue}
 use Rattle.server_events.specs.Events.{EventValue, own_events}
 use Rattle.server_core.specs.Runs.{run_of}
+use Rattle.server_core.specs.Marked.{MarkedRun}
 use Rattle.server_core.specs.Records.{RecordValue}
 use Rattle.server_core.specs.LoneOutput.{config_at, strays}
 use Rattle.server_core.specs.RunTo.{HasRun}
@@ -26,9 +27,24 @@ pub record HasTaken (configs : List ConfigValue) (events : List EventValue)
       → HasRun i v.server.instances v.records (run_of config (own_events i events))
   pub strays : v.strays ≡ strays configs events
 
--- the server has not failed, and each of its instances has a record, which counts no more events
--- than there were
+-- the instance of this number has come as far as a run of its own events by itself, of which some
+-- may be marked
+pub record HasCome (config : ConfigValue) (own : List EventValue) (i : ℕ)
+    (v : RunValue) : Type 0 where
+  pub came : MarkedRun config own
+  pub there : HasRun i v.server.instances v.records came.run
+
+-- a run to which these events happened, of which some may have been refused for want of memory:
+-- each instance has come as far as such a run
+pub record HasPassed (configs : List ConfigValue) (events : List EventValue)
+    (v : RunValue) : Type 0 where
+  pub many : length v.server.instances ≡ length configs
+  pub count : v.count ≡ length events
+  pub own : (i : ℕ) (config : ConfigValue) → config_at i configs ≡ Some config
+      → HasCome config (own_events i events) i v
+  pub strays : v.strays ≡ strays configs events
+
+-- each of the server's instances has a record, which counts no more events than there were
 pub record IsRunning (v : RunValue) : Type 0 where
-  pub serves : v.server.failed ≡ false
   pub each : length v.records ≡ length v.server.instances
   pub room : All (λ r. r.count < v.count + 1) v.records

@@ -1,8 +1,10 @@
 -- How far the instances of a server and their records have come.
-use Rattle.std.specs.Prelude.{◌≡◌, ℕ, List, Some}
+use Rattle.std.specs.Prelude.{◌≡◌, ◌≢◌, ℕ, Bool, List, Some}
 use Rattle.std.specs.List.{slice_get}
 use Rattle.served_instance.specs.StandsFor.{ServedState}
+use Rattle.server_events.specs.Events.{EventValue}
 use Rattle.server_core.specs.Runs.{Run}
+use Rattle.server_core.specs.Marked.{IsRunStep}
 use Rattle.server_core.specs.Records.{RecordValue, IsRecord}
 use Rattle.server_core.specs.StandsFor.{StandsAt}
 
@@ -15,3 +17,17 @@ pub record HasRun (i : ℕ) (vs : List ServedState) (records : List RecordValue)
     (r : Run) : Type 0 where
   pub stands : StandsAt i vs r.lone
   pub noted : IsNotedAt i records r
+
+-- .. as this run after the event, which may have been refused for want of memory
+pub record HasStepped (e : EventValue) (r : Run) (i : ℕ) (vs : List ServedState)
+    (records : List RecordValue) : Type 0 where
+  pub marked : Bool
+  pub run : Run
+  pub step : IsRunStep r (e, marked) run
+  pub there : HasRun i vs records run
+
+-- the event took its instance a step on, and no other
+pub record HasGoneOn (e : EventValue) (r : Run) (i : ℕ) (vs : List ServedState)
+    (records : List RecordValue) : Type 0 where
+  pub own : e.instance ≡ i → HasStepped e r i vs records
+  pub other : e.instance ≢ i → HasRun i vs records r

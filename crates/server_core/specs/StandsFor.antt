@@ -1,13 +1,12 @@
 -- What a server keeps of each instance stands for that instance alone.
-use Rattle.std.specs.Prelude.{◌≡◌, ℕ, Bool, List, Option, Some}
+use Rattle.std.specs.Prelude.{◌≡◌, ℕ, List, Option, Some}
 use Rattle.std.specs.List.{slice_get}
 use Rattle.served_instance.specs.Lone.{LoneInstance}
 use Rattle.served_instance.specs.StandsFor.{ServedState, IsServedInstance}
 
--- a server: its instances, and whether it ran out of memory
+-- a server: its instances
 pub record ServerState : Type 0 where
   pub instances : List ServedState
-  pub failed : Bool
 
 abbrev pub instance_at : ℕ → List ServedState → Option ServedState
 instance_at i vs = slice_get vs i

@@ -1,12 +1,15 @@
 //! What follows from the definitions alone.
 
 ghost use Rattle.std.specs.Prelude.{◌≡◌, ◌≤◌, ℕ, List};
+ghost use Rattle.std.specs.List.{AllByRecursion};
 ghost use Rattle.instance_core.specs.State.{IsInstanceWithin};
 ghost use Rattle.server_events.specs.Configs.{ConfigValue};
 ghost use Rattle.server_events.specs.Events.{EventValue, own_events};
 ghost use Rattle.server_events.specs.Instance.{quota_limit};
 ghost use Rattle.server_core.specs.LoneOutput.{lone_output};
 ghost use Rattle.server_core.specs.Runs.{run_of};
+ghost use Rattle.server_core.specs.Outputs.{InstanceOutputValue};
+ghost use Rattle.server_core.specs.Marked.{IsRunOutput, IsNotForMemory};
 
 /// No instance learns anything of another: two runs, of two servers, that agree on an instance's
 /// configuration and on its own events give it equal bytes on each connection and equal refusals,
@@ -24,4 +27,12 @@ pub fn equal_events_give_equal_outputs()
 pub fn a_run_keeps_its_limits()
     ensures { (config : ConfigValue) (events : List EventValue) → config.quota ≤ quota_limit
         → IsInstanceWithin (run_of config events).lone.state }
+{}
+
+/// Where none of an instance's events is recorded as refused for want of memory, it gives what it
+/// gives alone, whatever others met.
+pub fn without_refusals_of_memory_it_is_alone()
+    ensures { (config : ConfigValue) (events : List EventValue) (output : InstanceOutputValue)
+        → IsRunOutput config events output → AllByRecursion IsNotForMemory output.refusals
+        → output ≡ lone_output config events }
 {}

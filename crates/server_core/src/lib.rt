@@ -8,8 +8,10 @@ mod record;
 mod server;
 mod whole_run;
 
-pub use laws::{a_run_keeps_its_limits, equal_events_give_equal_outputs};
+pub use laws::{
+    a_run_keeps_its_limits, equal_events_give_equal_outputs, without_refusals_of_memory_it_is_alone,
+};
 pub use outputs::{InstanceOutput, RefusedEvent, SentBytes};
 pub use record::{ConnectionChange, InstanceRecord};
 pub use server::Server;
-pub use whole_run::{Outputs, ServerRun, run};
+pub use whole_run::{Outputs, ServerRun, run, run_on};

@@ -10,7 +10,9 @@ ghost use Rattle.served_instance.specs.Refusals.{refusal_of, lone_step, IsRefusa
 ghost use Rattle.served_instance.specs.Slots.{HasConnections};
 ghost use Rattle.server_core.specs.Runs.{Run, new_run, run_step, output_of_run};
 ghost use Rattle.server_core.specs.Shown.{sent_shown, instance_output_shown};
-ghost use Rattle.server_core.specs.Notes.{connection_change, record_after_taking, open_records_changed, sent_bytes_changed, with_more_at, sent_bytes_with, sent_bytes_with_all, record_after_noting};
+ghost use Rattle.served_instance.specs.Cuts.{receiver_of};
+ghost use Rattle.server_core.specs.Marked.{IsShortStep};
+ghost use Rattle.server_core.specs.Notes.{open_records_left, connection_change, record_after_taking, open_records_changed, sent_bytes_changed, with_more_at, sent_bytes_with, sent_bytes_with_all, record_after_noting};
 ghost use Rattle.server_core.specs.Records.{IsRecord};
 
 use crate::outputs::{InstanceOutput, RefusedEvent, SentBytes};
@@ -130,6 +132,23 @@ impl InstanceRecord {
         }
     }
 
+    /// Notes an event for which memory was refused. Where it brought bytes to a connection, that is
+    /// gone. Where memory is refused for the record, the event is counted and not noted: the record
+    /// is to be dropped.
+    pub fn note_short(&mut self, broken: Option<u32>) -> Result<(), AllocError>
+        requires room { self.old.count < 2 ^ 64 - 1 }
+        ensures stands { OnOk result ((r q : Run) (event : EventValue) → IsRecord self.old r
+            → broken ≡ receiver_of event.what → IsShortStep r event q → IsRecord self.new q) }
+        ensures count { self.new.count ≡ self.old.count + 1 }
+    {
+        self.count += 1;
+        let place = self.count;
+        let refusal = EventRefusal::NoMemory;
+        self.refusals.push(RefusedEvent { place, refusal })?;
+        close_if(&mut self.live, broken);
+        Ok(())
+    }
+
     /// What was noted.
     pub fn output(self) -> InstanceOutput
         ensures { (r : Run) → IsRecord self r → instance_output_shown result ≡ output_of_run r }
@@ -203,6 +222,15 @@ fn close(live: &mut Vec<OpenRecord>, number: u32)
     ensures { live.new.items ≡ filter (λ o. not (o.number == number)) live.old.items }
 {
     live.retain(|connection| connection.number != number);
+}
+
+/// The connection of this number, if there is one, is open no more.
+fn close_if(live: &mut Vec<OpenRecord>, broken: Option<u32>)
+    ensures { live.new.items ≡ open_records_left broken live.old.items }
+{
+    if let Some(number) = broken {
+        close(live, number);
+    }
 }
 
 /// Appends what was put on each open connection since the last event.

@@ -1,11 +1,12 @@
 //! The server, event by event.
 
-ghost use Rattle.std.specs.Prelude.{◌≡◌, ◌≢◌, ◌<◌, ◌≤◌, ◌↔◌, ℕ, Bool, true, false, [], length, option_map, Some, None, IfSome, IfOk, IfErr, OnOk, Err};
+ghost use Rattle.std.specs.Prelude.{◌≡◌, ◌≢◌, ◌<◌, ◌≤◌, ◌↔◌, ℕ, length, option_map, Some, None, IfSome, IfOk, IfErr, OnOk, Err};
 ghost use Rattle.std.specs.List.{AllByRecursion};
 ghost use Rattle.server_events.specs.Configs.{ConfigValue};
 ghost use Rattle.server_events.specs.Shown.{event_value};
 ghost use Rattle.served_instance.specs.Bytes.{most_untaken, pending_bytes};
 ghost use Rattle.served_instance.specs.History.{has_failed};
+ghost use Rattle.served_instance.specs.CallsInCourse.{has_calls};
 ghost use Rattle.served_instance.specs.Past.{Past};
 ghost use Rattle.served_instance.specs.Connections.{open_at};
 ghost use Rattle.served_instance.specs.Lone.{LoneInstance, new_lone};
@@ -15,6 +16,7 @@ ghost use Rattle.served_instance.specs.Slots.{served_state_in};
 ghost use Rattle.server_core.specs.LoneOutput.{config_at};
 ghost use Rattle.server_core.specs.Shared.{all_in, IsServer};
 ghost use Rattle.server_core.specs.StandsFor.{StandsAt, instance_at};
+ghost use Rattle.server_core.specs.Marked.{StandsShortAt};
 ghost use Rattle.server_core.specs.Stored.{AreStored, texts_held, texts_of_all};
 ghost use Rattle.server_core.specs.Pooled.{IsPoolOf};
 ghost use Rattle.blob_pool.specs.Slots.{Slots};
@@ -27,26 +29,22 @@ use std::alloc::{AllocError, Global};
 use std::marker::Model;
 
 /// A server with its instances, by their numbers, over one pool of texts: a text that several
-/// instances have stands there once. After a refusal of memory it holds nothing, and refuses all
-/// events so.
+/// instances have stands there once.
 #[derive(Drop)]
 pub struct Server {
     pool: Pool,
     instances: Vec<ServedInstance>,
-    failed: bool,
 }
 
 impl Model for Server {
-    ghost use Rattle.std.specs.Prelude.{◌≡◌, [], true};
     ghost use Rattle.server_core.specs.Shared.{all_in, IsServer};
     ghost use Rattle.server_core.specs.StandsFor.{ServerState};
 
     ghost Value = { ServerState };
 
-    ghost view = { λ s. record { instances = all_in s.pool s.instances.items; failed = s.failed } };
+    ghost view = { λ s. record { instances = all_in s.pool s.instances.items } };
 
-    ghost invariant = { λ s. (s.failed ≡ true → s.instances.items ≡ [])
-        × IsServer s.pool s.instances.items };
+    ghost invariant = { λ s. IsServer s.pool s.instances.items };
 }
 
 impl Server {
@@ -56,7 +54,6 @@ impl Server {
             → config_at i configs.now ≡ Some config
             → StandsAt i server.instances (new_lone config.name config.quota config.slots)) }
         ensures count { IfOk result (λ server. length server.instances ≡ length configs.now) }
-        ensures serves { IfOk result (λ server. server.failed ≡ false) }
         ensures within { IfOk result (λ server. AllByRecursion IsServedWithin server.instances) }
     {
         let configs = configs.instances();
@@ -67,56 +64,42 @@ impl Server {
             let served = ServedInstance::new(alloc, config)?;
             instances.push(served)?;
         }
-        Ok(Server {
-            pool,
-            instances,
-            failed: false,
-        })
+        Ok(Server { pool, instances })
     }
 
     /// Takes an event. It is refused for the first reason that stands, and then nothing is changed;
-    /// or its instance does what it would do alone. No other instance changes.
+    /// or its instance does what it would do alone; or memory is refused, and its instance did a
+    /// part of it (`Short`) and goes on from there. No other instance changes.
     pub fn step(&mut self, event: Event) -> Result<(), EventRefusal>
         // The event's instance does what it would do alone, which is nothing where it refuses.
         ensures own { result ≢ Err EventRefusal.NoMemory → (l : LoneInstance)
             → StandsAt event.instance self.old.instances l
             → StandsAt event.instance self.new.instances (lone_step (event_value event) l) }
+        // Where memory is refused it did a part of that.
+        ensures short { result ≡ Err EventRefusal.NoMemory → (l : LoneInstance)
+            → StandsAt event.instance self.old.instances l
+            → StandsShortAt (event_value event) l self.new.instances }
         ensures settled { OnOk result ((l : LoneInstance) →
             StandsAt event.instance self.old.instances l
             → AreSettled (lone_step (event_value event) l)) }
-        // No other instance changes.
-        ensures others { result ≢ Err EventRefusal.NoMemory → (j : ℕ) → j ≢ event.instance
+        // No other instance changes, whatever came of the event.
+        ensures others { (j : ℕ) → j ≢ event.instance
             → instance_at j self.new.instances ≡ instance_at j self.old.instances }
-        // Each refusal has its reason, and changes nothing.
-        ensures outcome { self.old.failed ≡ false → (l : LoneInstance)
-            → StandsAt event.instance self.old.instances l
+        // Each refusal has its reason, and but for want of memory changes nothing.
+        ensures outcome { (l : LoneInstance) → StandsAt event.instance self.old.instances l
             → IsRefusalOutcome result (refusal_of (event_value event) l) }
-        ensures stray { self.old.failed ≡ false → (result ≡ Err EventRefusal.NoSuchInstance)
+        ensures stray { (result ≡ Err EventRefusal.NoSuchInstance)
             ↔ (length self.old.instances ≤ event.instance) }
         ensures refused { IfErr result (λ refusal. refusal ≢ EventRefusal.NoMemory
             → self.new ≡ self.old) }
         // Each instance keeps its limits, also where the event is refused.
         ensures within { AllByRecursion IsServedWithin self.new.instances }
         // An event that takes no memory is never refused for want of it.
-        ensures memory_free { NeedsNoMemory (event_value event).what → self.old.failed ≡ false
+        ensures memory_free { NeedsNoMemory (event_value event).what
             → result ≢ Err EventRefusal.NoMemory }
-        // Want of memory is for ever.
-        ensures memory { (result ≡ Err EventRefusal.NoMemory) ↔ (self.new.failed ≡ true) }
-        ensures for_ever { self.old.failed ≡ true → result ≡ Err EventRefusal.NoMemory }
-        ensures empty { self.new.failed ≡ true → self.new.instances ≡ [] }
-        ensures count { self.new.failed ≡ false
-            → length self.new.instances ≡ length self.old.instances }
+        ensures count { length self.new.instances ≡ length self.old.instances }
     {
-        if self.failed {
-            return Err(EventRefusal::NoMemory);
-        }
-        let outcome = step_one(&mut self.pool, &mut self.instances, event);
-        if matches!(outcome, Err(EventRefusal::NoMemory)) {
-            self.failed = true;
-            self.instances.clear();
-            self.pool = Pool::new(*self.instances.allocator());
-        }
-        outcome
+        step_one(&mut self.pool, &mut self.instances, event)
     }
 
     /// The bytes that were put on an open connection and not taken.
@@ -137,6 +120,15 @@ impl Server {
             → result ≡ option_map (λ p. has_failed p.history) (open_at connection l.connections) }
     {
         self.instance(instance)?.ended(connection)
+    }
+
+    /// Whether a call is in course on an open connection.
+    pub fn has_calls(&self, instance: u32, connection: u32) -> Option<bool>
+        ensures none { instance_at instance self.now.instances ≡ None → result ≡ None }
+        ensures calls { (l : LoneInstance) → StandsAt instance self.now.instances l
+            → result ≡ option_map (λ p. has_calls p.history) (open_at connection l.connections) }
+    {
+        self.instance(instance)?.has_calls(connection)
     }
 
     /// How many different texts the instances hold, and how many bytes these have together. An
@@ -181,8 +173,7 @@ fn stored_of(pool: &Pool, instances: &[ServedInstance]) -> (u64, u128)
 fn pool_of<'a>(pool: &'a Pool, instances: &[ServedInstance]) -> &'a Pool
     requires { IsServer pool.now instances.now }
     ensures pool { result.now ≡ pool.now }
-    ensures texts { (failed : Bool) → IsPoolOf result.now
-        (record { instances = all_in pool.now instances.now; failed = failed }) }
+    ensures texts { IsPoolOf result.now (record { instances = all_in pool.now instances.now }) }
 {
     // Neither statement has an effect; they are there for the proof.
     let _instances = instances;
@@ -201,6 +192,9 @@ fn step_one(
         → StandsAt event.instance (all_in pool.old instances.old) l
         → StandsAt event.instance (all_in pool.new instances.new)
         (lone_step (event_value event) l) }
+    ensures short { result ≡ Err EventRefusal.NoMemory → (l : LoneInstance)
+        → StandsAt event.instance (all_in pool.old instances.old) l
+        → StandsShortAt (event_value event) l (all_in pool.new instances.new) }
     ensures settled { OnOk result ((l : LoneInstance) → StandsAt event.instance
         (all_in pool.old instances.old) l → AreSettled (lone_step (event_value event) l)) }
     ensures others { (j : ℕ) → j ≢ event.instance

@@ -1,6 +1,6 @@
 //! A whole run, event by event and at once.
 
-ghost use Rattle.std.specs.Prelude.{◌≡◌, ◌+◌, ◌-◌, ◌^◌, ◌<◌, ◌==◌, ◌++◌, ℕ, List, [], ◌∷◌, All, Some, length, map, IfOk, OnOk, Bool, false, if◌then◌else◌};
+ghost use Rattle.std.specs.Prelude.{◌≡◌, ◌+◌, ◌-◌, ◌^◌, ◌<◌, ◌==◌, ◌++◌, ℕ, List, [], ◌∷◌, All, Some, length, map, IfOk, OnOk, if◌then◌else◌};
 ghost use Rattle.server_events.specs.Configs.{ConfigValue};
 ghost use Rattle.server_events.specs.Events.{EventValue, own_events};
 ghost use Rattle.server_events.specs.Shown.{event_value};
@@ -8,14 +8,15 @@ ghost use Rattle.instance_core.specs.State.{IsInstanceWithin};
 ghost use Rattle.server_core.specs.Runs.{Run, new_run, run_of, run_step, output_of_run};
 ghost use Rattle.server_core.specs.LoneOutput.{config_at, lone_output, strays, stray_at};
 ghost use Rattle.server_core.specs.Shown.{output_at};
-ghost use Rattle.server_core.specs.RunTo.{IsNotedAt, HasRun};
-ghost use Rattle.server_core.specs.RunSoFar.{HasTaken};
+ghost use Rattle.server_core.specs.Marked.{GivesRunOutput};
+ghost use Rattle.server_core.specs.RunTo.{IsNotedAt, HasRun, HasGoneOn};
+ghost use Rattle.server_core.specs.RunSoFar.{HasTaken, HasPassed};
 
 use crate::laws::a_run_keeps_its_limits;
 use crate::outputs::InstanceOutput;
 use crate::record::{ConnectionChange, InstanceRecord};
 use crate::server::Server;
-use served_instance::EventRefusal;
+use served_instance::{EventRefusal, receiver};
 use server_events::laws::the_fault_is_the_first;
 use server_events::{Configs, Event};
 use std::alloc::{AllocError, Global};
@@ -30,8 +31,7 @@ pub struct Outputs {
     pub strays: Vec<u64>,
 }
 
-/// A run of a server so far: the server, what it put and what it refused. It ends when memory is
-/// refused.
+/// A run of a server so far: the server, what it put and what it refused.
 #[derive(Drop)]
 pub struct ServerRun {
     server: Server,
@@ -68,7 +68,7 @@ impl ServerRun {
     }
 
     /// The run after one more event, before which it had fewer than 2^64 - 1. An error is want of
-    /// memory.
+    /// memory, for the event or for the record.
     pub fn step(self, event: Event) -> Result<ServerRun, AllocError>
         requires room { self.count < 2 ^ 64 - 1 }
         ensures { IfOk result (λ run. (configs : List ConfigValue) (events : List EventValue)
@@ -88,19 +88,52 @@ impl ServerRun {
         })
     }
 
+    /// The run after one more event, which may be refused for want of memory and is recorded so. An
+    /// error is want of memory for the record.
+    pub fn step_on(self, event: Event) -> Result<ServerRun, AllocError>
+        requires room { self.count < 2 ^ 64 - 1 }
+        ensures { IfOk result (λ run. (configs : List ConfigValue) (events : List EventValue)
+            → HasPassed configs events self
+            → HasPassed configs (events ++ event_value event ∷ []) run) }
+    {
+        let count = self.count + 1;
+        let mut server = self.server;
+        let mut records = self.records;
+        let mut strays = self.strays;
+        step_on_and_note(&mut server, &mut records, &mut strays, event, count)?;
+        Ok(ServerRun {
+            server,
+            records,
+            strays,
+            count,
+        })
+    }
+
     /// What the run gave. Each instance gives the very bytes on its connections, and the refusals,
-    /// that it would give alone.
+    /// that it would give alone; where some of its events were refused for want of memory, those of
+    /// a run in which just these were done in part.
     pub fn outputs(self, alloc: Global) -> Result<Outputs, AllocError>
         ensures alone { IfOk result (λ outputs. (configs : List ConfigValue)
             (events : List EventValue) → HasTaken configs events self
             → (i : ℕ) (config : ConfigValue) → config_at i configs ≡ Some config
             → output_at i outputs.instances.items
             ≡ Some (lone_output config (own_events i events))) }
+        ensures may { IfOk result (λ outputs. (configs : List ConfigValue)
+            (events : List EventValue) → HasPassed configs events self
+            → (i : ℕ) (config : ConfigValue) → config_at i configs ≡ Some config
+            → GivesRunOutput config (own_events i events)
+            (output_at i outputs.instances.items)) }
         ensures count { IfOk result (λ outputs. (configs : List ConfigValue)
             (events : List EventValue) → HasTaken configs events self
             → length outputs.instances.items ≡ length configs) }
+        ensures may_count { IfOk result (λ outputs. (configs : List ConfigValue)
+            (events : List EventValue) → HasPassed configs events self
+            → length outputs.instances.items ≡ length configs) }
         ensures strays { IfOk result (λ outputs. (configs : List ConfigValue)
             (events : List EventValue) → HasTaken configs events self
+            → outputs.strays.items ≡ strays configs events) }
+        ensures may_strays { IfOk result (λ outputs. (configs : List ConfigValue)
+            (events : List EventValue) → HasPassed configs events self
             → outputs.strays.items ≡ strays configs events) }
     {
         Ok(Outputs {
@@ -133,6 +166,25 @@ pub fn run(alloc: Global, configs: &Configs, events: Vec<Event>) -> Result<Outpu
     run.outputs(alloc)
 }
 
+/// Runs a server through events, also past those that are refused for want of memory. What each
+/// instance gives is a run of it by itself, over its own events, in which just those that are
+/// recorded so were done in part. An error is want of memory for the new server or for the record.
+pub fn run_on(alloc: Global, configs: &Configs, events: Vec<Event>) -> Result<Outputs, AllocError>
+    ensures may { IfOk result (λ outputs. (i : ℕ) (config : ConfigValue)
+        → config_at i configs.now ≡ Some config
+        → GivesRunOutput config (own_events i (map event_value events.items))
+        (output_at i outputs.instances.items)) }
+    ensures count { IfOk result (λ outputs. length outputs.instances.items ≡ length configs.now) }
+    ensures strays { IfOk result (λ outputs. outputs.strays.items
+        ≡ strays configs.now (map event_value events.items)) }
+{
+    let mut run = ServerRun::new(alloc, configs)?;
+    for event in events {
+        run = run.step_on(event)?;
+    }
+    run.outputs(alloc)
+}
+
 /// Instances with these configurations keep their limits.
 fn limits_are_kept(configs: &Configs)
     ensures { (i : ℕ) (config : ConfigValue) (events : List EventValue)
@@ -152,10 +204,8 @@ fn step_and_note(
     event: Event,
     place: u64,
 ) -> Result<(), AllocError>
-    requires serves { server.old.failed ≡ false }
     requires count { length records.old ≡ length server.old.instances }
     requires room { All (λ r. r.count < place) records.old }
-    ensures serves { OnOk result (server.new.failed ≡ false) }
     ensures count { OnOk result (length server.new.instances ≡ length server.old.instances) }
     ensures room { OnOk result (All (λ r. r.count < place + 1) records.new) }
     ensures runs { OnOk result ((i : ℕ) (r : Run) → HasRun i server.old.instances records.old r
@@ -177,6 +227,43 @@ fn step_and_note(
             Ok(())
         }
         Some(served) => records[instance as usize].note(served, change, outcome),
+    }
+}
+
+/// Gives the server the event of this place, and notes what came of it in the record of its
+/// instance, or among the strays, also where memory was refused.
+fn step_on_and_note(
+    server: &mut Server,
+    records: &mut [InstanceRecord],
+    strays: &mut Vec<u64>,
+    event: Event,
+    place: u64,
+) -> Result<(), AllocError>
+    requires count { length records.old ≡ length server.old.instances }
+    requires room { All (λ r. r.count < place) records.old }
+    ensures count { OnOk result (length server.new.instances ≡ length server.old.instances) }
+    ensures room { OnOk result (All (λ r. r.count < place + 1) records.new) }
+    ensures runs { OnOk result ((i : ℕ) (r : Run) → HasRun i server.old.instances records.old r
+        → HasGoneOn (event_value event) r i server.new.instances records.new) }
+    ensures strays { OnOk result (strays.new.items
+        ≡ strays.old.items ++ stray_at place (length server.old.instances)
+        (event_value event)) }
+{
+    let instance = event.instance;
+    let change = ConnectionChange::made_by(&event.what);
+    let broken = receiver(&event.what);
+    let outcome = server.step(event);
+    match server.instance(instance) {
+        None => {
+            strays.push(place)?;
+            Ok(())
+        }
+        Some(served) => {
+            if matches!(outcome, Err(EventRefusal::NoMemory)) {
+                return records[instance as usize].note_short(broken);
+            }
+            records[instance as usize].note(served, change, outcome)
+        }
     }
 }
 

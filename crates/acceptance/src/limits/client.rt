@@ -1,7 +1,7 @@
-//! A client on the one connection of a server that has one instance.
+//! A client of one instance of a server at a time, on a connection of its own.
 
-use grpc_messages::{Message as Reply, Messages};
-use http2_frames::{FrameReader, MAX_FRAME_SIZE, RawFrame};
+use grpc_messages::{Message as Reply, Messages, MessagesError};
+use http2_frames::{FrameError, FrameReader, MAX_FRAME_SIZE, RawFrame};
 use program_status::{Fault, Output};
 use server_core::Server;
 use server_events::{Event, What};
@@ -29,6 +29,22 @@ const END_HEADERS: u8 = 4;
 
 /// That the server does not do what every server does.
 const FAULT: Fault = Fault::InputOrOutput;
+
+/// Why frames could not be read.
+fn fault_of_frames(error: FrameError) -> Fault {
+    match error {
+        FrameError::NoMemory => Fault::OutOfMemory,
+        _ => FAULT,
+    }
+}
+
+/// Why messages could not be read.
+fn fault_of_messages(error: MessagesError) -> Fault {
+    match error {
+        MessagesError::NoMemory => Fault::OutOfMemory,
+        _ => FAULT,
+    }
+}
 
 /// A frame (RFC 9113, section 4.1).
 fn frame(
@@ -83,14 +99,14 @@ impl Answer {
     }
 
     fn take_data(&mut self, payload: &[u8], output: &mut Output) {
-        if self.data.feed(payload).is_err() {
-            output.fail(FAULT);
+        if let Err(error) = self.data.feed(payload) {
+            output.fail(fault_of_messages(error));
         }
         for _ in 0..u32::MAX {
             match self.data.next() {
                 Ok(Some(message)) => output.expect(self.messages.push(message)),
                 Ok(None) => break,
-                Err(_) => return output.fail(FAULT),
+                Err(error) => return output.fail(fault_of_messages(error)),
             }
         }
     }
@@ -99,21 +115,26 @@ impl Answer {
 #[derive(Drop)]
 pub struct Client {
     server: Box<Server>,
+    instance: u32,
     received: FrameReader,
     next_stream: u32,
 }
 
 impl Client {
-    /// The client of a server, which it has yet to greet.
+    /// The client of a server, of which it has yet to greet an instance.
     pub fn new(alloc: Global, server: Box<Server>) -> Client {
         Client {
             server,
+            instance: 0,
             received: FrameReader::without_preface(alloc),
             next_stream: 1,
         }
     }
 
-    pub fn greet(&mut self, output: &mut Output) {
+    /// Opens connection 0 of an instance, on which the calls are made from now on.
+    pub fn greet(&mut self, instance: u32, output: &mut Output) {
+        self.instance = instance;
+        self.received = FrameReader::without_preface(output.alloc);
         let greeting = output.bytes(Vec::from_slice(output.alloc, GREETING));
         self.step(What::Open(0), output);
         self.step(What::Bytes(0, greeting), output);
@@ -122,12 +143,10 @@ impl Client {
     fn step(&mut self, what: What, output: &mut Output) {
         let event = Event {
             moment: 0,
-            instance: 0,
+            instance: self.instance,
             what,
         };
-        if self.server.step(event).is_err() {
-            output.fail(FAULT);
-        }
+        output.expect(self.server.step(event));
     }
 
     fn send(&mut self, head: (u8, u8), stream: u32, payload: &[u8], output: &mut Output) {
@@ -137,7 +156,7 @@ impl Client {
 
     /// Takes what waits, and tells whether more may come.
     fn receive(&mut self, output: &mut Output) -> bool {
-        let Some(pending) = self.server.pending(0, 0) else {
+        let Some(pending) = self.server.pending(self.instance, 0) else {
             return false;
         };
         let count = u32::try_from(pending.len()).unwrap_or(0);
@@ -145,8 +164,8 @@ impl Client {
             return false;
         }
         let piece = output.bytes(Vec::from_slice(output.alloc, pending));
-        if self.received.feed(piece).is_err() {
-            output.fail(FAULT);
+        if let Err(error) = self.received.feed(piece) {
+            output.fail(fault_of_frames(error));
         }
         self.step(What::Took(0, count), output);
         !output.has_failed()
@@ -164,7 +183,7 @@ impl Client {
                 return true;
             }
             Ok(false) => {}
-            Err(_) => output.fail(FAULT),
+            Err(error) => output.fail(fault_of_frames(error)),
         }
         false
     }

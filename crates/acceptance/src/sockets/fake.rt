@@ -13,6 +13,9 @@ pub struct Habits {
     pub seed: u64,
     /// No client goes, and no call fails.
     pub is_steady: bool,
+    /// How many milliseconds pass in a turn, where the seed does not decide it. Then it decides
+    /// nothing: every call moves what it can at once.
+    pub pace: Option<u64>,
 }
 
 /// A client.
@@ -82,13 +85,19 @@ impl<'a> Fake<'a> {
         self.dice >> 8
     }
 
-    /// A number from 1 to this one, or 1.
+    /// A number from 1 to this one, or 1; where a pace is given, the highest.
     fn up_to(&mut self, most: usize) -> usize {
+        if self.habits.pace.is_some() {
+            return most.max(1);
+        }
         self.throw() as usize % most.max(1) + 1
     }
 
     /// An error, now and then, but never with steady clients.
     fn may_fail(&mut self, kind: ErrorKind, one_in: u64) -> io::Result<()> {
+        if self.habits.pace.is_some() {
+            return Ok(());
+        }
         if !self.habits.is_steady && self.throw() % one_in.max(1) == 0 {
             self.faults = self.faults.saturating_add(1);
             return Err(io::Error::from(kind));
@@ -166,7 +175,11 @@ impl<'a> Fake<'a> {
 
 impl<'a> Sockets for Fake<'a> {
     fn now(&mut self) -> u64 {
-        self.moment = self.moment.saturating_add(self.throw() % 3);
+        let passed = match self.habits.pace {
+            Some(pace) => pace,
+            None => self.throw() % 3,
+        };
+        self.moment = self.moment.saturating_add(passed);
         for instance in 0..2 {
             self.note(instance, What::Tick);
         }

@@ -1,17 +1,12 @@
-use Rattle.serve.proofs.Keeps.{written_told, written_lost, at_exit}
+use Rattle.serve.proofs.Keeps.{written_told}
 use Rattle.serve.proofs.exchange.send.Goals as goal
-
-pub returns-in_err-tell-in-Ok : goal.returns-in_err-tell-in-Ok
-returns-in_err-tell-in-Ok g c = record {
-  serving = λ configs at. at_exit _ _ c.from_residual.ensures.1 configs _ _ _ (written_lost configs _ _ _ _ _ _ _ _ c.in-Ok.ensures.bound c.in-Some.ensures.bytes c.in-Ok.ensures.adds at);
-}
 
 pub returns-then-count-eq0 : goal.returns-then-count-eq0
 returns-then-count-eq0 g c = record {
-  serving = λ configs at. written_told configs _ _ _ _ _ _ _ _ _ c.in-Ok.ensures.bound c.in-Some.ensures.bytes c.in-Ok.ensures.adds c.in_ok-tell-in-Ok.ensures.takes at;
+  serving = λ configs at. written_told configs _ _ _ _ _ _ _ _ _ c.in-Ok.ensures.bound c.in-Some.ensures.bytes c.in-Ok.ensures.adds c.tell.ensures.takes at;
 }
 
 pub returns-else-count-eq0 : goal.returns-else-count-eq0
 returns-else-count-eq0 g c = record {
-  serving = λ configs at. written_told configs _ _ _ _ _ _ _ _ _ c.in-Ok.ensures.bound c.in-Some.ensures.bytes c.in-Ok.ensures.adds c.in_ok-tell-in-Ok.ensures.takes at;
+  serving = λ configs at. written_told configs _ _ _ _ _ _ _ _ _ c.in-Ok.ensures.bound c.in-Some.ensures.bytes c.in-Ok.ensures.adds c.tell.ensures.takes at;
 }

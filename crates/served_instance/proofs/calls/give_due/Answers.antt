@@ -13,6 +13,14 @@ use Rattle.served_instance.proofs.Changes.{changed_fewer, keeps_due, keeps_unrea
 use Rattle.served_instance.proofs.Kept.{alike_moves}
 use Rattle.served_instance.proofs.Leads.{leads_here, leads_acts_by, due_leads, popped_all, popped_unread}
 use Rattle.served_instance.proofs.Writes.{alike_writes}
+use Rattle.instance_core.specs.Calls.{CallEventValue}
+use Rattle.served_instance.specs.Events.{due_events}
+use Rattle.served_instance.specs.Cuts.{others_of}
+use Rattle.instance_core.specs.Apart.{IsCallOn}
+use Rattle.served_instance.proofs.Cut.{finds_here, finds_trans}
+use Rattle.served_instance.proofs.CutEvents.{cut_leads_here, due_answered, due_refused}
+use Rattle.served_instance.proofs.Answered.{event_on}
+use Rattle.served_instance.proofs.Broken.{on_err}
 use Rattle.served_instance.proofs.calls.give_due.Goals as goal
 
 pub events-init : goal.events-init
@@ -24,6 +32,9 @@ events-init c =
       unread = refl;
       moves = moves_none p (holders_of here) (holders_of here) (λ k. refl);
       kept = c.requires.kept;
+      cuts = cut_leads_here (text_at p) (state_in p c.args.instance.now) c.args.connections.now (due_events c.args.number);
+      others = refl;
+      finds = finds_here p (others_of c.args.number c.args.connections.now);
     }
 
 pub happen-requires : goal.happen-requires
@@ -59,7 +70,14 @@ events-preserved c =
     let before = holders_of (slots_of c.events.instance os) in
     let between = holders_of (slots_of c.events.instance ns) in
     let after = holders_of (slots_of c.happen.new.instance xs) in
+    let what = event_shown c.call_event_on-event.result in
+    let on : IsCallOn n what = subst (λ (e : CallEventValue). IsCallOn n e) (sym c.call_event_on-event.ensures.event) (event_on n c.in-Some.event) in
+    let same = c.pop_event.ensures.others ∙ c.events.invariant.others in
     record {
+      cuts = due_answered (text_at p) (text_at q) (text_at r) n (state_in p c.args.instance.now) (state_in q c.events.instance) (state_in r c.happen.new.instance) c.args.connections.now os ns xs c.in-Some.event what
+          c.events.invariant.cuts c.in-Some.ensures.event there c.call_event_on-event.ensures.event c.in_ok-happen.ensures.happened;
+      others = c.happen.ensures.others n on ∙ same;
+      finds = finds_trans p q r (others_of n c.args.connections.now) (others_of n ns) same c.events.invariant.finds (c.happen.ensures.finds n on);
       leads = due_leads (text_at p) (text_at q) (text_at r) n (state_in p c.args.instance.now) (state_in q c.events.instance) (state_in r c.happen.new.instance) c.args.connections.now os ns xs c.in-Some.event (event_shown c.call_event_on-event.result)
           c.events.invariant.leads c.in-Some.ensures.event there c.call_event_on-event.ensures.event c.in_ok-happen.ensures.happened;
       unread = keeps_unread n ns xs c.in_ok-happen.ensures.rest ∙ popped_unread n os ns (Some c.in-Some.event) c.in-Some.ensures.event ∙ c.events.invariant.unread;
@@ -85,6 +103,9 @@ returns c =
       unread = popped_unread n os ns None popped ∙ c.events.invariant.unread;
       moves = moves_trans p q q first before after c.events.invariant.moves (alike_moves q c.events.instance (map connection_shown os) (map connection_shown ns) c.pop_event.ensures.holds);
       kept = alike_writes q c.events.instance os os ns ns refl refl c.pop_event.auto.connections c.events.invariant.kept c.pop_event.ensures.holds;
+      memory = tt;
+      others = c.pop_event.ensures.others ∙ c.events.invariant.others;
+      finds = c.events.invariant.finds;
     }
 
 pub returns-in_err-happen-clause-moves : goal.returns-in_err-happen-clause-moves
@@ -100,3 +121,28 @@ returns-in_err-happen-clause-moves c =
     let after = holders_of (slots_of c.happen.new.instance c.happen.new.connections) in
     moves_trans p q r first before after c.events.invariant.moves
     (moves_trans q q r before between after (alike_moves q c.events.instance (map connection_shown os) (map connection_shown ns) c.pop_event.ensures.holds) c.happen.ensures.moves)
+
+pub returns-in_err-happen-clause-memory : goal.returns-in_err-happen-clause-memory
+returns-in_err-happen-clause-memory c =
+    let n = c.args.number in
+    let p = c.args.pool.now in
+    let q = c.events.pool in
+    let r = c.happen.new.pool in
+    let os = c.events.connections in
+    let ns = c.pop_event.new.connections in
+    let there : present_at n os ≡ None → ⊥ = λ none. let e = c.in-Some.ensures.none none in cc in
+    on_err c.from_residual.result
+    (due_refused (text_at p) (text_at q) n (state_in p c.args.instance.now) (state_in q c.events.instance) (state_in r c.happen.new.instance) c.args.connections.now os ns c.in-Some.event (event_shown c.call_event_on-event.result)
+    c.events.invariant.cuts c.in-Some.ensures.event there c.call_event_on-event.ensures.event c.in_err-happen.ensures.memory)
+
+pub returns-in_err-happen-clause-others : goal.returns-in_err-happen-clause-others
+returns-in_err-happen-clause-others c =
+    let n = c.args.number in
+    let on : IsCallOn n (event_shown c.call_event_on-event.result) = subst (λ (e : CallEventValue). IsCallOn n e) (sym c.call_event_on-event.ensures.event) (event_on n c.in-Some.event) in
+    c.happen.ensures.others n on ∙ (c.pop_event.ensures.others ∙ c.events.invariant.others)
+
+pub returns-in_err-happen-clause-finds : goal.returns-in_err-happen-clause-finds
+returns-in_err-happen-clause-finds c =
+    let n = c.args.number in
+    let on : IsCallOn n (event_shown c.call_event_on-event.result) = subst (λ (e : CallEventValue). IsCallOn n e) (sym c.call_event_on-event.ensures.event) (event_on n c.in-Some.event) in
+    finds_trans c.args.pool.now c.events.pool c.happen.new.pool (others_of n c.args.connections.now) (others_of n c.pop_event.new.connections) (c.pop_event.ensures.others ∙ c.events.invariant.others) c.events.invariant.finds (c.happen.ensures.finds n on)

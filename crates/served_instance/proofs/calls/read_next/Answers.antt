@@ -1,4 +1,4 @@
-use Rattle.std.proofs.Common.{◌≡◌, subst, map}
+use Rattle.std.proofs.Common.{◌≡◌, ◌∙◌, subst, map}
 use Rattle.std.specs.Prelude.{Bool, None}
 use Rattle.blob_pool.specs.Slots.{text_at}
 use Rattle.instance_core.specs.Slots.{state_in}
@@ -7,6 +7,11 @@ use Rattle.served_instance.specs.Shown.{connection_shown}
 use Rattle.served_instance.proofs.Kept.{alike_moves}
 use Rattle.served_instance.proofs.Leads.{read_leads, read_done, done_leads, read_fewer}
 use Rattle.served_instance.proofs.Writes.{alike_after, moves_after}
+use Rattle.served_instance.specs.Events.{rest_events}
+use Rattle.served_instance.specs.Cuts.{others_of}
+use Rattle.served_instance.proofs.Cut.{finds_here, finds_after}
+use Rattle.served_instance.proofs.CutEvents.{nothing_cut, read_refused, read_cut_leads, done_cut_leads}
+use Rattle.served_instance.proofs.Broken.{on_err}
 use Rattle.served_instance.proofs.calls.read_next.Goals as goal
 
 pub give_due-requires : goal.give_due-requires
@@ -62,3 +67,52 @@ returns-else-branch-clause-moves c = alike_moves c.args.pool.now c.args.instance
 
 pub returns-else-branch-clause-kept : goal.returns-else-branch-clause-kept
 returns-else-branch-clause-kept c = alike_after c.args.pool.now c.args.instance.now c.args.connections.now c.read_frame.new.connections c.read_frame.auto.connections c.requires.kept c.read_frame.ensures.holds
+
+pub returns-in_ok-give_due-clause-cuts : goal.returns-in_ok-give_due-clause-cuts
+returns-in_ok-give_due-clause-cuts c =
+    let n = c.args.number in
+    let p = c.args.pool.now in
+    let q = c.give_due.new.pool in
+    let os = c.args.connections.now in
+    let ns = c.read_frame.new.connections in
+    let read = subst (λ (b : Bool). BecomesAt n os ns (ReadsFrame b)) c.if-branch.true c.in_ok-read_frame.ensures.read in
+    let there : present_at n os ≡ None → ⊥ = λ none. let e = c.in_ok-read_frame.ensures.none none in cc in
+    read_cut_leads (text_at p) (text_at q) n (state_in p c.args.instance.now) (state_in q c.give_due.new.instance) os ns c.give_due.new.connections read there c.in_ok-give_due.ensures.due
+
+pub returns-in_err-give_due-clause-memory : goal.returns-in_err-give_due-clause-memory
+returns-in_err-give_due-clause-memory c =
+    let n = c.args.number in
+    let p = c.args.pool.now in
+    let q = c.give_due.new.pool in
+    let os = c.args.connections.now in
+    let ns = c.read_frame.new.connections in
+    let read = subst (λ (b : Bool). BecomesAt n os ns (ReadsFrame b)) c.if-branch.true c.in_ok-read_frame.ensures.read in
+    let there : present_at n os ≡ None → ⊥ = λ none. let e = c.in_ok-read_frame.ensures.none none in cc in
+    on_err c.from_residual-in_err-give_due.result
+    (read_refused (text_at p) n (state_in p c.args.instance.now) (state_in q c.give_due.new.instance) os ns read there c.in_err-give_due.ensures.memory)
+
+pub returns-in_err-read_frame-clause-memory : goal.returns-in_err-read_frame-clause-memory
+returns-in_err-read_frame-clause-memory c = on_err c.from_residual.result (nothing_cut (text_at c.args.pool.now) (state_in c.args.pool.now c.args.instance.now) c.args.connections.now (rest_events c.args.number))
+
+pub returns-else-branch-clause-cuts : goal.returns-else-branch-clause-cuts
+returns-else-branch-clause-cuts c =
+    let read = subst (λ (b : Bool). BecomesAt c.args.number c.args.connections.now c.read_frame.new.connections (ReadsFrame b)) c.if-branch.false c.in_ok-read_frame.ensures.read in
+    done_cut_leads (text_at c.args.pool.now) c.args.number (state_in c.args.pool.now c.args.instance.now) c.args.connections.now c.read_frame.new.connections read
+
+pub returns-in_ok-give_due-clause-others : goal.returns-in_ok-give_due-clause-others
+returns-in_ok-give_due-clause-others c = c.give_due.ensures.others ∙ c.read_frame.ensures.others
+
+pub returns-in_ok-give_due-clause-finds : goal.returns-in_ok-give_due-clause-finds
+returns-in_ok-give_due-clause-finds c = finds_after c.args.number c.args.pool.now c.give_due.new.pool c.args.connections.now c.read_frame.new.connections c.read_frame.ensures.others c.give_due.ensures.finds
+
+pub returns-in_err-give_due-clause-others : goal.returns-in_err-give_due-clause-others
+returns-in_err-give_due-clause-others c = c.give_due.ensures.others ∙ c.read_frame.ensures.others
+
+pub returns-in_err-give_due-clause-finds : goal.returns-in_err-give_due-clause-finds
+returns-in_err-give_due-clause-finds c = finds_after c.args.number c.args.pool.now c.give_due.new.pool c.args.connections.now c.read_frame.new.connections c.read_frame.ensures.others c.give_due.ensures.finds
+
+pub returns-in_err-read_frame-clause-finds : goal.returns-in_err-read_frame-clause-finds
+returns-in_err-read_frame-clause-finds c = finds_here c.args.pool.now (others_of c.args.number c.args.connections.now)
+
+pub returns-else-branch-clause-finds : goal.returns-else-branch-clause-finds
+returns-else-branch-clause-finds c = finds_here c.args.pool.now (others_of c.args.number c.args.connections.now)

@@ -1,4 +1,4 @@
-use Rattle.std.proofs.Common.{refl, map}
+use Rattle.std.proofs.Common.{refl, map, ◌∙◌}
 use Rattle.blob_pool.specs.Slots.{text_at}
 use Rattle.blob_pool.proofs.Moves.{moves_trans}
 use Rattle.instance_core.specs.Slots.{state_in}
@@ -11,6 +11,11 @@ use Rattle.served_instance.specs.Slots.{holders_of}
 use Rattle.served_instance.proofs.Kept.{alike_moves}
 use Rattle.served_instance.proofs.Leads.{step_acts, leads_trans, leads_acts_by}
 use Rattle.served_instance.proofs.Writes.{alike_after}
+use Rattle.served_instance.specs.Events.{bytes_come, bytes_events, rest_events}
+use Rattle.served_instance.specs.Cuts.{others_of}
+use Rattle.served_instance.proofs.Cut.{finds_here, finds_trans}
+use Rattle.served_instance.proofs.CutEvents.{nothing_cut, cut_leads_trans, cut_leads_short}
+use Rattle.served_instance.proofs.Broken.{on_err}
 use Rattle.served_instance.proofs.calls.receive.Goals as goal
 
 pub frames-init : goal.frames-init
@@ -24,6 +29,11 @@ frames-init c =
           (k, step_acts c.args.number (state_in p c.args.instance.now) os ns (with_bytes c.args.bytes.items) c.in_ok-feed.ensures.fed (text_at p) l st, refl);
       moves = alike_moves p c.args.instance.now (map connection_shown os) (map connection_shown ns) c.feed.ensures.holds;
       kept = alike_after p c.args.instance.now os ns c.feed.auto.connections c.requires.kept c.feed.ensures.holds;
+      cuts = λ l st.
+          let k = bytes_come c.args.number c.args.bytes.items l in
+          (k, step_acts c.args.number (state_in p c.args.instance.now) os ns (with_bytes c.args.bytes.items) c.in_ok-feed.ensures.fed (text_at p) l st, λ u cut. cut);
+      others = c.feed.ensures.others;
+      finds = finds_here p (others_of c.args.number os);
     }
 
 pub returns-in_err-feed-clause-moves : goal.returns-in_err-feed-clause-moves
@@ -46,6 +56,10 @@ frames-preserved c =
       moves = moves_trans p q r (holders_of (slots_of c.args.instance.now c.args.connections.now)) (holders_of (slots_of c.frames.instance c.frames.connections)) (holders_of (slots_of c.read_next.new.instance c.read_next.new.connections))
           c.frames.invariant.moves c.read_next.ensures.moves;
       kept = c.read_next.ensures.kept;
+      cuts = cut_leads_trans (text_at p) (text_at q) (text_at r) (state_in p c.args.instance.now) (state_in q c.frames.instance) (state_in r c.read_next.new.instance) c.args.connections.now c.frames.connections c.read_next.new.connections
+          (bytes_events c.args.number c.args.bytes.items) (rest_events c.args.number) (rest_events c.args.number) c.frames.invariant.cuts c.in_ok-read_next.ensures.cuts;
+      others = c.read_next.ensures.others ∙ c.frames.invariant.others;
+      finds = finds_trans p q r (others_of c.args.number c.args.connections.now) (others_of c.args.number c.frames.connections) c.frames.invariant.others c.frames.invariant.finds c.read_next.ensures.finds;
     }
 
 pub returns-clause-came : goal.returns-clause-came
@@ -65,3 +79,30 @@ pub returns-in_err-read_next-clause-moves : goal.returns-in_err-read_next-clause
 returns-in_err-read_next-clause-moves c =
     moves_trans c.args.pool.now c.frames.pool c.read_next.new.pool (holders_of (slots_of c.args.instance.now c.args.connections.now)) (holders_of (slots_of c.frames.instance c.frames.connections)) (holders_of (slots_of c.read_next.new.instance c.read_next.new.connections))
     c.frames.invariant.moves c.read_next.ensures.moves
+
+pub returns-in_err-feed-clause-memory : goal.returns-in_err-feed-clause-memory
+returns-in_err-feed-clause-memory c = on_err c.from_residual.result (nothing_cut (text_at c.args.pool.now) (state_in c.args.pool.now c.args.instance.now) c.args.connections.now (bytes_events c.args.number c.args.bytes.items))
+
+pub returns-in_err-feed-clause-finds : goal.returns-in_err-feed-clause-finds
+returns-in_err-feed-clause-finds c = finds_here c.args.pool.now (others_of c.args.number c.args.connections.now)
+
+pub returns-in_err-read_next-clause-memory : goal.returns-in_err-read_next-clause-memory
+returns-in_err-read_next-clause-memory c =
+    let p = c.args.pool.now in
+    let q = c.frames.pool in
+    let r = c.read_next.new.pool in
+    on_err c.from_residual-in_err-read_next.result
+    (cut_leads_short (text_at p) (text_at q) (state_in p c.args.instance.now) (state_in q c.frames.instance) (state_in r c.read_next.new.instance) c.args.connections.now c.frames.connections
+    (bytes_events c.args.number c.args.bytes.items) (rest_events c.args.number) c.frames.invariant.cuts c.in_err-read_next.ensures.memory)
+
+pub returns-clause-others : goal.returns-clause-others
+returns-clause-others c = c.read_next.ensures.others ∙ c.frames.invariant.others
+
+pub returns-clause-finds : goal.returns-clause-finds
+returns-clause-finds c = finds_trans c.args.pool.now c.frames.pool c.read_next.new.pool (others_of c.args.number c.args.connections.now) (others_of c.args.number c.frames.connections) c.frames.invariant.others c.frames.invariant.finds c.read_next.ensures.finds
+
+pub returns-in_err-read_next-clause-others : goal.returns-in_err-read_next-clause-others
+returns-in_err-read_next-clause-others c = c.read_next.ensures.others ∙ c.frames.invariant.others
+
+pub returns-in_err-read_next-clause-finds : goal.returns-in_err-read_next-clause-finds
+returns-in_err-read_next-clause-finds c = finds_trans c.args.pool.now c.frames.pool c.read_next.new.pool (others_of c.args.number c.args.connections.now) (others_of c.args.number c.frames.connections) c.frames.invariant.others c.frames.invariant.finds c.read_next.ensures.finds

@@ -20,6 +20,13 @@ use Rattle.served_instance.proofs.Kept.{alike_keeps, few_connections, instance_a
 use Rattle.served_instance.proofs.Stands.{released_acts}
 use Rattle.served_instance.proofs.Writes.{alike_writes, moves_written, seen_kept}
 use Rattle.served_instance.proofs.Leads.{step_acts}
+use Rattle.server_events.specs.Events.{WhatValue, opened, received}
+use Rattle.served_instance.specs.Acts.{FindAlike}
+use Rattle.served_instance.specs.Cuts.{others_than, others_of, events_brought, CutsShort, KeepsOthers, OthersFindAlike}
+use Rattle.served_instance.specs.Events.{bytes_events}
+use Rattle.served_instance.proofs.Cut.{finds_here}
+use Rattle.served_instance.proofs.CutEvents.{nothing_cut}
+use Rattle.served_instance.proofs.Broken.{on_err, err_map, cuts_seen, others_seen, finds_seen}
 use Rattle.served_instance.proofs.instance.act.Goals as goal
 
 pub take-requires : goal.take-requires
@@ -135,3 +142,42 @@ returns-in-Tick-clause-kept c =
     let here = slots_of c.args.instance.now os in
     moment_keeps p c.args.instance.now c.tick.new.self (map connection_shown os) c.requires.kept c.tick.ensures.holders
     (c.tick.ensures.kept p (instance_kept p here here refl c.requires.kept))
+
+pub returns-in-Open-clause-memory : goal.returns-in-Open-clause-memory
+returns-in-Open-clause-memory c =
+    let p = c.args.pool.now in
+    let os = c.args.connections.now.items in
+    on_err c.open.result (nothing_cut (text_at p) (state_in p c.args.instance.now) os (events_brought (what_value c.args.what)))
+
+pub returns-in-Open-clause-others : goal.returns-in-Open-clause-others
+returns-in-Open-clause-others c = err_map c.open.result (λ same. ap (others_than (what_value c.args.what)) same) c.open.ensures.err
+
+pub returns-in-Open-clause-finds : goal.returns-in-Open-clause-finds
+returns-in-Open-clause-finds c = on_err c.open.result (finds_here c.args.pool.now (others_than (what_value c.args.what) c.args.connections.now.items))
+
+pub returns-in-Bytes-clause-memory : goal.returns-in-Bytes-clause-memory
+returns-in-Bytes-clause-memory c =
+    let p = c.args.pool.now in
+    let q = c.receive.new.pool in
+    let n = c.in-Bytes.number in
+    let xs = c.deref_mut.result.now in
+    let v : WhatValue = received n c.in-Bytes.bytes.items in
+    let H : Type 0 = CutsShort p c.args.instance.now xs q c.receive.new.instance (events_brought v) in
+    err_map {A = H} c.receive.result
+    (λ h. cuts_seen (what_value c.args.what) v (text_at p) (state_in p c.args.instance.now) (state_in q c.receive.new.instance) c.args.connections.now.items xs (ap what_value c.in-Bytes.is) c.deref_mut.ensures.value h)
+    c.receive.ensures.memory
+
+pub returns-in-Bytes-clause-others : goal.returns-in-Bytes-clause-others
+returns-in-Bytes-clause-others c =
+    let all = c.args.connections.now in
+    let ns = c.receive.new.connections in
+    let v : WhatValue = received c.in-Bytes.number c.in-Bytes.bytes.items in
+    on_err c.receive.result
+    (others_seen (what_value c.args.what) v all.items c.deref_mut.result.now ns _ (ap what_value c.in-Bytes.is) c.deref_mut.ensures.value
+    (written_back all.len ns all.items (c.receive.auto.connections ∙ ap length c.deref_mut.ensures.value) (grind (arith, common_steps))) c.receive.ensures.others)
+
+pub returns-in-Bytes-clause-finds : goal.returns-in-Bytes-clause-finds
+returns-in-Bytes-clause-finds c =
+    let v : WhatValue = received c.in-Bytes.number c.in-Bytes.bytes.items in
+    on_err c.receive.result
+    (finds_seen (what_value c.args.what) v c.args.pool.now c.receive.new.pool c.args.connections.now.items c.deref_mut.result.now (ap what_value c.in-Bytes.is) c.deref_mut.ensures.value c.receive.ensures.finds)

@@ -5,6 +5,7 @@ use Rattle.conn_core.specs.Past.{with_bytes}
 use Rattle.served_instance.proofs.Ranges.{alike_here, alike_place, keeps_here}
 use Rattle.served_instance.specs.Shown.{connection_shown}
 use Rattle.served_instance.proofs.Changes.{changed_none, changed_ok}
+use Rattle.served_instance.proofs.Cut.{others_kept}
 use Rattle.served_instance.proofs.open_connection.feed.Goals as goal
 
 pub returns-in-None-clause-fed : goal.returns-in-None-clause-fed
@@ -19,3 +20,6 @@ returns-in-None-clause-holds c = alike_here (map connection_shown c.args.connect
 pub returns-in-Some-clause-holds : goal.returns-in-Some-clause-holds
 returns-in-Some-clause-holds c =
     alike_place c.args.number c.args.connections.now c.in-Some.place c.index-connections-place.result c.feed.new.self (sym c.find.ensures ∙ c.in-Some.is) (keeps_here _ _ (ap (λ (v : ConnectionValue). v.sending) c.feed.ensures.rest))
+
+pub returns-in-Some-clause-others : goal.returns-in-Some-clause-others
+returns-in-Some-clause-others c = others_kept c.args.number c.args.connections.now c.in-Some.place c.index-connections-place.result c.feed.new.self (sym c.find.ensures ∙ c.in-Some.is)

@@ -4,6 +4,7 @@ use Rattle.served_instance.specs.Acts.{ReadsFrame}
 use Rattle.served_instance.proofs.Ranges.{alike_here, alike_place}
 use Rattle.served_instance.specs.Shown.{connection_shown}
 use Rattle.served_instance.proofs.Changes.{changed_none, changed_read, none_read}
+use Rattle.served_instance.proofs.Cut.{others_kept}
 use Rattle.served_instance.proofs.open_connection.read_frame.Goals as goal
 
 pub returns-in-None-clause-read : goal.returns-in-None-clause-read
@@ -21,3 +22,6 @@ returns-in-None-clause-holds c = alike_here (map connection_shown c.args.connect
 pub returns-in-Some-clause-holds : goal.returns-in-Some-clause-holds
 returns-in-Some-clause-holds c =
     alike_place c.args.number c.args.connections.now c.in-Some.place c.index-connections-place.result c.read_frame.new.self (sym c.find.ensures ∙ c.in-Some.is) (record { sources = c.read_frame.ensures.sources; fit = c.read_frame.ensures.fit })
+
+pub returns-in-Some-clause-others : goal.returns-in-Some-clause-others
+returns-in-Some-clause-others c = others_kept c.args.number c.args.connections.now c.in-Some.place c.index-connections-place.result c.read_frame.new.self (sym c.find.ensures ∙ c.in-Some.is)

@@ -6,6 +6,7 @@ use Rattle.served_instance.specs.Acts.{Owes}
 use Rattle.served_instance.specs.OwedReplies.{ItemsEndWithin, ReplyEndsWithin, TakesRanges, with_owed}
 use Rattle.served_instance.proofs.Changes.{changed_none, changed_ok}
 use Rattle.served_instance.proofs.Taking.{take_at}
+use Rattle.served_instance.proofs.Cut.{others_kept}
 use Rattle.served_instance.proofs.replies.give.Goals as goal
 
 pub returns-in-None-clause-given : goal.returns-in-None-clause-given
@@ -28,3 +29,6 @@ returns-in-Some-clause-takes c =
     let d = c.index-connections-place.result in
     take_at (items_holders r.items.items) (ReplyEndsWithin r) c.args.pool.now c.owe.new.pool r.call.connection os c.in-Some.place d c.owe.new.connection (sym c.find.ensures ∙ c.in-Some.is)
     (subst (λ (items : List ReplyItem). TakesRanges (items_holders items) (ItemsEndWithin items) c.args.pool.now (get_or os c.in-Some.place d).connection c.owe.new.pool c.owe.new.connection) c.from-items.ensures.0 c.owe.ensures.takes)
+
+pub returns-in-Some-clause-others : goal.returns-in-Some-clause-others
+returns-in-Some-clause-others c = others_kept c.args.reply.call.connection c.args.connections.now c.in-Some.place c.index-connections-place.result c.owe.new.connection (sym c.find.ensures ∙ c.in-Some.is)

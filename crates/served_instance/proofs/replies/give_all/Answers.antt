@@ -5,6 +5,7 @@ use Rattle.served_instance.specs.OwedReplies.{with_owed}
 use Rattle.served_instance.specs.Shown.{connection_shown}
 use Rattle.served_instance.proofs.Gives.{give_more, give_keeps, keeps_trans}
 use Rattle.served_instance.proofs.Taking.{replies_left, reply_held, replies_owed, take_more, take_end, take_released}
+use Rattle.served_instance.proofs.Cut.{given_others}
 use Rattle.served_instance.proofs.replies.give_all.Goals as goal
 
 pub give-requires : goal.give-requires
@@ -32,6 +33,7 @@ replies-preserved c =
       takes = λ x ws more. c.replies.invariant.takes x ws (take_more c.replies.left.items rest r p q x (map connection_shown os) (map connection_shown ns) ws is takes more);
       counted = replies_left p q c.replies.left.items rest r is c.replies.invariant.counted less;
       owed = (replies_owed c.replies.left.items rest r is c.replies.invariant.owed).1;
+      others = λ n all. given_others n c.replies.left.items rest r c.args.connections.now os ns is (c.replies.invariant.others n all) c.give.ensures.others;
     }
 
 pub returns-in-Err-clause-takes : goal.returns-in-Err-clause-takes
@@ -49,3 +51,11 @@ pub returns-clause-takes : goal.returns-clause-takes
 returns-clause-takes c =
     let none : c.replies.left.items ≡ [] = search rules in
     c.replies.invariant.takes c.replies.pool (map connection_shown c.replies.connections) (take_end c.replies.left.items c.replies.pool (map connection_shown c.replies.connections) none)
+
+pub returns-in-Err-clause-others : goal.returns-in-Err-clause-others
+returns-in-Err-clause-others c = λ n all.
+    let is : c.replies.left.items ≡ c.in-Some.first ∷ c.pop_front.new.self.items = c.in-Some.ensures.items in
+    (given_others n c.replies.left.items c.pop_front.new.self.items c.in-Some.first c.args.connections.now c.replies.connections c.give.new.connections is (c.replies.invariant.others n all) c.give.ensures.others).0
+
+pub returns-clause-others : goal.returns-clause-others
+returns-clause-others c = λ n all. (c.replies.invariant.others n all).0

@@ -53,3 +53,12 @@ returns-clause-refused c =
 pub returns-clause-server : goal.returns-clause-server
 returns-clause-server c =
     server_after c.args.pool.now c.step.new.pool c.args.instances.now c.args.event.instance (found c) c.step.new.self (there c) c.requires.server c.step.ensures.moves c.step.ensures.kept
+
+pub returns-clause-short : goal.returns-clause-short
+returns-clause-short c = λ memory l s.
+    let t = c.step.ensures.short memory l (stood c l s) in
+    record {
+      left = t.left;
+      short = t.short;
+      stands = stands_after c.step.new.pool c.args.instances.now c.args.event.instance (found c) c.step.new.self t.left (there c) t.stands;
+    }

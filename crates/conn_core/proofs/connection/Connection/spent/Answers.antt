@@ -3,4 +3,4 @@ use Rattle.grpc_sending.specs.StoredSending.{StoredSending, IsAtRest}
 use Rattle.conn_core.proofs.connection.Connection.spent.Goals as goal
 
 pub invariant_of-self : goal.invariant_of-self
-invariant_of-self c = (λ alive. omega (arith, ap (λ (w : StoredSending). length w.pending) c.spent.ensures.rest, c.self.invariant.0 alive), λ yes. subst (λ (w : StoredSending). IsAtRest c.self.inside.streams w) (sym c.spent.ensures.rest) (c.self.invariant.1 yes))
+invariant_of-self c = (λ alive. omega (arith, ap (λ (w : StoredSending). length w.pending) c.spent.ensures.rest, c.self.invariant.0 alive), λ yes. subst (λ (w : StoredSending). IsAtRest c.self.inside.streams w) (sym c.spent.ensures.rest) (c.self.invariant.1 yes), c.self.invariant.2)

@@ -1,11 +1,13 @@
 use Rattle.std.proofs.Common.{arith, refl}
-use Rattle.std.proofs.lemmas.Option.{none-some}
 use Rattle.serve.proofs.serving.Serving.new.Goals as goal
 
 pub returns-clause-serving : goal.returns-clause-serving
 returns-clause-serving c = record {
-  stands = c.in_ok-new.ensures.stands;
-  served = λ k s is. absurd (none-some s is);
-  times = λ i config. omega arith;
+  each = λ i config is. record {
+    now = _;
+    serves = refl;
+    times = omega arith;
+    stands = c.in_ok-new.ensures.stands i config is;
+  };
   moment = refl;
 }

@@ -1,5 +1,7 @@
-use Rattle.std.proofs.Common.{◌≡◌, refl, sym, ◌∙◌, subst}
-use Rattle.std.specs.Prelude.{map, None}
+use Rattle.std.proofs.Common.{◌≡◌, refl, sym, ap, ◌∙◌, subst}
+use Rattle.std.specs.Prelude.{ℕ, map, Option, None}
+use Rattle.instance_core.specs.Slots.{state_in}
+use Rattle.served_instance.specs.Cuts.{others_by, state_without}
 use Rattle.blob_pool.specs.Slots.{text_at}
 use Rattle.served_instance.specs.Shown.{connection_shown}
 use Rattle.server_events.specs.Shown.{event_value}
@@ -11,6 +13,11 @@ use Rattle.served_instance.proofs.Refuses.{no_reason, refused_outcome, kept_at_r
 use Rattle.served_instance.proofs.Serves.{pump_settles}
 use Rattle.served_instance.proofs.Kept.{slots_at, instance_kept, moment_keeps}
 use Rattle.served_instance.proofs.Stands.{came_by, stands_for}
+use Rattle.blob_pool.proofs.Moves.{moves_trans}
+use Rattle.served_instance.specs.Acts.{slots_of}
+use Rattle.served_instance.specs.Slots.{holders_of}
+use Rattle.served_instance.specs.Short.{IsServedShort}
+use Rattle.served_instance.proofs.Broken.{IsBroken, is_left, left_counted, left_moves, left_kept}
 use Rattle.served_instance.proofs.instance.ServedInstance.step.Goals as goal
 
 pub returns-in-Some-clause-outcome : goal.returns-in-Some-clause-outcome
@@ -68,3 +75,30 @@ pub returns-in-Some-clause-memory_free : goal.returns-in-Some-clause-memory_free
 returns-in-Some-clause-memory_free c = λ free h.
     let same : c.in-Some.refusal ≡ NoMemory = cc in
     not_for_memory (event_value c.args.event) c.args.self.now c.in-Some.refusal c.in-Some.ensures same
+
+pub break_off_if-requires : goal.break_off_if-requires
+break_off_if-requires c = λ k. left_counted c.act.new.pool c.act.new.instance c.act.new.connections.items c.act.ensures.kept k
+
+pub returns-in-Err-clause-short : goal.returns-in-Err-clause-short
+returns-in-Err-clause-short c = λ memory l s.
+    let e = event_value c.args.event in
+    let p = c.args.pool.now in
+    let q = c.act.new.pool in
+    let r = c.break_off_if.new.pool in
+    let m = lone_at_moment e.moment l in
+    let came = came_by p c.self.inside.instance c.set_moment.new.self c.self.inside.connections.items c.args.self.now e.moment l c.self.view_is (c.set_moment.ensures.changed p) s in
+    let broken : IsBroken e.what p q r c.set_moment.new.self c.act.new.instance c.break_off_if.new.instance c.self.inside.connections.items c.act.new.connections.items c.break_off_if.new.connections.items = record {
+      kept = c.act.ensures.kept;
+      releases = c.break_off_if.ensures.releases;
+      cuts = c.in-Err.ensures.memory;
+      others = c.in-Err.ensures.others;
+      finds = c.in-Err.ensures.finds;
+      left = c.break_off_if.ensures.left ∙ ap (λ (o : Option ℕ). others_by o c.act.new.connections.items) c.receiver-broken.ensures;
+      forgotten = c.break_off_if.ensures.forgotten r ∙ ap (λ (o : Option ℕ). state_without o (state_in r c.act.new.instance)) c.receiver-broken.ensures;
+    } in
+    let left = is_left e.what p q r c.set_moment.new.self c.act.new.instance c.break_off_if.new.instance c.self.inside.connections.items c.act.new.connections.items c.break_off_if.new.connections.items m c.in-Err.ensures.memory_free broken came in
+    record { left = left.0; short = left.1; stands = left.2 }
+
+pub returns-in-Err-clause-kept : goal.returns-in-Err-clause-kept
+returns-in-Err-clause-kept c =
+    left_kept c.act.new.pool c.break_off_if.new.pool c.act.new.instance c.break_off_if.new.instance c.act.new.connections.items c.break_off_if.new.connections.items c.act.ensures.kept c.break_off_if.ensures.releases c.break_off_if.ensures.holders c.break_off_if.ensures.kept c.break_off_if.ensures.fewer

@@ -1,5 +1,4 @@
 use Rattle.std.proofs.Common.{◌≡◌, ap, ◌∙◌, sym, length, ◌+◌, ◌≤◌, map, take, arith}
-use Rattle.std.proofs.lemmas.Bool.{true≢false}
 use Rattle.server_events.specs.Configs.{config_fault, instance_limit}
 use Rattle.server_core.specs.LoneOutput.{config_at}
 use Rattle.server_events.specs.Shown.{config_value}
@@ -41,7 +40,5 @@ invariant_of-result c =
     let ys = c.loop-config.instances.items in
     let good = ap config_fault c.instances-configs.ensures.instances ∙ c.instances-configs.ensures.good in
     let some = (c.the_fault_is_the_first.ensures.none.0 good).few in
-    let few : length ys ≤ instance_limit = omega (arith, c.loop-config.invariant.count, c.loop-config.auto.config-index-end, length-map xs config_value, some) in (
-      λ none. absurd (true≢false (sym none)),
-      server_begun c.new-pool.result ys c.new-pool.ensures few c.loop-config.invariant.nobody (c.loop-config.invariant.within c.new-pool.result),
-    )
+    let few : length ys ≤ instance_limit = omega (arith, c.loop-config.invariant.count, c.loop-config.auto.config-index-end, length-map xs config_value, some) in
+    server_begun c.new-pool.result ys c.new-pool.ensures few c.loop-config.invariant.nobody (c.loop-config.invariant.within c.new-pool.result)

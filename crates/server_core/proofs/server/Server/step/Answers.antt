@@ -5,16 +5,27 @@ use Rattle.served_instance.specs.StandsFor.{ServedState}
 use Rattle.served_instance.specs.Slots.{ServedSlots}
 use Rattle.server_core.specs.Shared.{all_in}
 use Rattle.served_instance.specs.Refusals.{lone_step}
+use Rattle.server_core.specs.Marked.{StandsShortAt}
 use Rattle.server_core.specs.StandsFor.{StandsAt}
 use Rattle.server_core.proofs.Lists.{written}
 use Rattle.server_core.proofs.server.Server.step.Goals as goal
 
-pub returns-else-matches-clause-own : goal.returns-else-matches-clause-own
-returns-else-matches-clause-own c = λ ne l s.
+pub returns-clause-own : goal.returns-clause-own
+returns-clause-own c = λ ne l s.
     let n : ℕ = c.args.event.instance in
     let p = c.self.inside.pool in
-    let q = c.step_one-outcome.new.pool in
-    let long : c.self.inside.instances.len ≡ length c.step_one-outcome.new.instances = grind (arith, common_steps) in
+    let q = c.step_one.new.pool in
+    let long : c.self.inside.instances.len ≡ length c.step_one.new.instances = grind (arith, common_steps) in
     let old = ap (all_in p) c.deref_mut.ensures.value ∙ ap (λ v. v.instances) c.self.view_is in
     let before = subst (λ (vs : List ServedState). StandsAt n vs l) (sym old) s in
-    subst (λ (xs : List ServedSlots). StandsAt n (all_in q xs) (lone_step (event_value c.args.event) l)) (sym (written _ _ _ long)) (c.step_one-outcome.ensures.own ne l before)
+    subst (λ (xs : List ServedSlots). StandsAt n (all_in q xs) (lone_step (event_value c.args.event) l)) (sym (written _ _ _ long)) (c.step_one.ensures.own ne l before)
+
+pub returns-clause-short : goal.returns-clause-short
+returns-clause-short c = λ memory l s.
+    let n : ℕ = c.args.event.instance in
+    let p = c.self.inside.pool in
+    let q = c.step_one.new.pool in
+    let long : c.self.inside.instances.len ≡ length c.step_one.new.instances = grind (arith, common_steps) in
+    let old = ap (all_in p) c.deref_mut.ensures.value ∙ ap (λ v. v.instances) c.self.view_is in
+    let before = subst (λ (vs : List ServedState). StandsAt n vs l) (sym old) s in
+    subst (λ (xs : List ServedSlots). StandsShortAt (event_value c.args.event) l (all_in q xs)) (sym (written _ _ _ long)) (c.step_one.ensures.short memory l before)

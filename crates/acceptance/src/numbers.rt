@@ -1,0 +1,15 @@
+//! Numbers in the lines of cases.
+
+use decimals::decimal;
+use program_status::{Fault, Output};
+
+/// The number that a word is; where it is none, that is remembered.
+pub fn number(word: &[u8], output: &mut Output) -> u64 {
+    match decimal(word) {
+        Some(number) => number,
+        None => {
+            output.fail(Fault::InputOrOutput);
+            0
+        }
+    }
+}

@@ -1,0 +1,46 @@
+//! What runs of scripts give.
+
+use crate::scripts::{configs, events};
+use program_status::{Fault, Output};
+use script::replay_lines::{write_refusal, write_sent};
+use server_core::{InstanceOutput, Outputs, run};
+use server_events::{Configs, Event};
+
+/// What a run of these events gives; where memory is refused, that is remembered.
+pub fn outcome(configs: &Configs, events: Vec<Event>, output: &mut Output) -> Option<Outputs> {
+    match run(output.alloc, configs, events) {
+        Ok(outputs) => Some(outputs),
+        Err(_) => {
+            output.fail(Fault::OutOfMemory);
+            None
+        }
+    }
+}
+
+/// What a script gives, or just the instance of this number, alone.
+pub fn outcome_of(script: &[u8], only: Option<u32>, output: &mut Output) -> Option<Outputs> {
+    let configs = configs(script, only, output)?;
+    let events = events(script, only, output);
+    outcome(&configs, events, output)
+}
+
+/// The lines that tell what the instance of this number gave, as `replay` writes them.
+pub fn shown(instance: u32, given: &InstanceOutput, output: &mut Output) -> Vec<u8> {
+    let mut text = Vec::new(output.alloc);
+    for sent in &given.sent {
+        output.expect(write_sent(&mut text, instance, sent.connection, &sent.bytes));
+    }
+    for refused in &given.refusals {
+        let code = refused.refusal.code();
+        output.expect(write_refusal(&mut text, instance, refused.place, code));
+    }
+    text
+}
+
+/// The lines of the instance of this number, or none.
+pub fn shown_at(outputs: &Outputs, instance: u32, output: &mut Output) -> Vec<u8> {
+    match outputs.instances.get(instance as usize) {
+        Some(given) => shown(instance, given, output),
+        None => Vec::new(output.alloc),
+    }
+}

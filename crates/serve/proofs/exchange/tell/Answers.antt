@@ -1,0 +1,7 @@
+use Rattle.serve.proofs.Keeps.{taken}
+use Rattle.serve.proofs.exchange.tell.Goals as goal
+
+pub returns : goal.returns
+returns c =
+    let did = c.step.ensures in
+    record { takes = taken c.step.result _ _ _ did.own did.short did.outcome did.others }

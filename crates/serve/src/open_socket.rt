@@ -1,0 +1,125 @@
+//! An open connection, and which of them makes room for another.
+
+ghost use Rattle.std.specs.Prelude.{◌≡◌, ◌-◌, ◌<◌, ◌≤◌, ◌↔◌, length, IfSome, IsTrue};
+ghost use Rattle.served_instance.specs.Lone.{LoneInstance};
+ghost use Rattle.server_core.specs.StandsFor.{StandsAt};
+ghost use Rattle.serve.specs.Silence.{silence_limit, MayMakeRoom, IsLongestSilent};
+
+use crate::sockets::Socket;
+use server_core::Server;
+
+/// For how many milliseconds after something moved on a connection it is tried in each turn.
+const BUSY_TIME: u64 = 20;
+
+/// For how many milliseconds no byte came from a client, where its connection may make room.
+const SILENCE_LIMIT: u64 = 60_000;
+
+/// The same where the client's preface did not come whole.
+const PREFACE_LIMIT: u64 = 10_000;
+
+/// How many bytes a client's preface has.
+const PREFACE_LENGTH: u64 = 24;
+
+/// An open connection, and what is known of its traffic. Moments are in milliseconds.
+#[derive(Clone, Copy)]
+pub(crate) struct OpenSocket {
+    pub(crate) socket: Socket,
+    /// When something moved on it last, or it was opened.
+    pub(crate) moved: u64,
+    /// When it was tried last.
+    pub(crate) tried: u64,
+    /// When a byte came last, or it was opened.
+    heard: u64,
+    /// How many bytes came, or 2^64 - 1 where more came.
+    received: u64,
+}
+
+impl OpenSocket {
+    /// A connection that is opened now.
+    pub(crate) fn new(socket: Socket, moment: u64) -> OpenSocket
+        ensures { result.socket ≡ socket }
+    {
+        OpenSocket {
+            socket,
+            moved: moment,
+            tried: moment,
+            heard: moment,
+            received: 0,
+        }
+    }
+
+    /// Whether it is to be tried now: where nothing moved on it for long, once a millisecond.
+    pub(crate) fn is_due(&self, moment: u64) -> bool {
+        moment.saturating_sub(self.moved) <= BUSY_TIME || moment != self.tried
+    }
+
+    /// So many bytes came, which are not none.
+    pub(crate) fn hear(&mut self, moment: u64, count: usize)
+        ensures { self.new.socket ≡ self.old.socket }
+    {
+        self.heard = moment;
+        self.received = self.received.saturating_add(count as u64);
+    }
+
+    /// For how many milliseconds no byte must have come from its client, where it may make room.
+    fn silence_limit(&self) -> u64
+        ensures { result ≡ silence_limit self.now }
+    {
+        if self.received < PREFACE_LENGTH {
+            PREFACE_LIMIT
+        } else {
+            SILENCE_LIMIT
+        }
+    }
+
+    /// Whether its client was silent for so long that it may make room.
+    fn is_silent(&self, moment: u64) -> bool
+        ensures { IsTrue result ↔ silence_limit self.now ≤ moment - self.now.heard }
+    {
+        moment.saturating_sub(self.heard) >= self.silence_limit()
+    }
+}
+
+/// Whether a connection may make room for another one of an instance: it is one of it, was silent
+/// for long, and no call on it is in course.
+fn may_make_room(server: &Server, candidate: &OpenSocket, instance: u32, moment: u64) -> bool
+    ensures { (l : LoneInstance) → StandsAt instance server.now.instances l
+        → (IsTrue result ↔ MayMakeRoom instance moment l candidate.now) }
+{
+    if candidate.socket.instance != instance || !candidate.is_silent(moment) {
+        return false;
+    }
+    match server.has_calls(instance, candidate.socket.connection) {
+        Some(has_calls) => !has_calls,
+        None => false,
+    }
+}
+
+/// The place of the connection of an instance that has been silent longest, of those that may make
+/// room; of several, of the one that was opened first.
+pub(crate) fn longest_silent(
+    server: &Server,
+    connections: &[OpenSocket],
+    instance: u32,
+    moment: u64,
+) -> Option<usize>
+    ensures place { IfSome result (λ n. n < length connections.now) }
+    ensures longest { (l : LoneInstance) → StandsAt instance server.now.instances l
+        → IsLongestSilent instance moment l connections.now result }
+{
+    let mut longest = None;
+    // Who may make room was not heard now.
+    let mut heard = moment;
+    for place in 0..connections.len() {
+        let candidate = &connections[place];
+        if candidate.heard >= heard {
+            continue;
+        }
+        if !may_make_room(server, candidate, instance, moment) {
+            continue;
+        }
+        longest = Some(place);
+        heard = candidate.heard;
+    }
+    longest
+}

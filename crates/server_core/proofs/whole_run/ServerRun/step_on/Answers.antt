@@ -1,0 +1,25 @@
+use Rattle.std.proofs.Common.{◌≡◌, ◌+◌, ◌++◌, List, [], ◌∷◌, arith, length, refl, subst, sym}
+use Rattle.std.proofs.lemmas.Grind.{common_steps}
+use Rattle.server_events.specs.Shown.{event_value}
+use Rattle.server_core.specs.Records.{RecordValue}
+use Rattle.server_core.specs.RunSoFar.{HasPassed, RunValue}
+use Rattle.server_events.specs.Shown.{event_value}
+use Rattle.server_core.specs.RunTo.{HasRun, HasGoneOn}
+use Rattle.server_core.proofs.Lists.{written}
+use Rattle.server_core.proofs.Marks.{passed_more}
+use Rattle.server_core.proofs.whole_run.ServerRun.step_on.Goals as goal
+
+pub returns : goal.returns
+returns c configs events h =
+    let did = c.in_ok-step_on_and_note.ensures in
+    let old = c.self.inside in
+    let new = c.step_on_and_note.new in
+    let before : RunValue = record { server = old.server; records = old.records.items; strays = old.strays.items; count = old.count } in
+    let long : old.records.len ≡ length new.records = grind (arith, common_steps) in
+    let after : RunValue = record { server = new.server; records = new.records; strays = new.strays.items; count = old.count + 1 } in
+    let taken = passed_more configs events (event_value c.args.event) before after (subst (HasPassed configs events) (sym c.self.view_is) h)
+    refl did.count
+    (λ i r was. did.runs i r (subst (λ (rs : List RecordValue). HasRun i old.server.instances rs r) (sym c.deref_mut.ensures.value) was))
+    did.strays in
+    subst (λ (rs : List RecordValue). HasPassed configs (events ++ event_value c.args.event ∷ []) (record { server = new.server; records = rs; strays = new.strays.items; count = old.count + 1 }))
+    (sym (written _ _ _ long)) taken

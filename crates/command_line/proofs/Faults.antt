@@ -8,9 +8,9 @@ use Rattle.clap.specs.declared.error.kind.ErrorKind.TheVariants.{MissingRequired
 use Rattle.command_line.specs.declared.CommandLineError.{CommandLineError}
 use Rattle.command_line.specs.declared.CommandLineError.TheVariants.{NoMemory, Answered}
 use Rattle.command_line.specs.CommandLine.{command_line}
-use Rattle.command_line.specs.Shown.{task_asked, HasNoFault, IsFaultOf, IsFrom}
+use Rattle.command_line.specs.Shown.{invocation_asked, HasNoFault, IsFaultOf, IsFrom}
 
-pub missing_is_fault : (words : List Text) (error : Error) (fault : CommandLineError) → kind_of error ≡ MissingRequiredArgument → task_asked words ≡ None → IsFrom error fault → IsFaultOf words fault
+pub missing_is_fault : (words : List Text) (error : Error) (fault : CommandLineError) → kind_of error ≡ MissingRequiredArgument → invocation_asked words ≡ None → IsFrom error fault → IsFaultOf words fault
 missing_is_fault words error NoMemory kind none from = tt
 missing_is_fault words error (Answered kept) kind none from = inr (ap kind_of from.0 ∙ kind, none)
 

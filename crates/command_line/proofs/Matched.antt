@@ -14,8 +14,8 @@ use Rattle.clap.specs.Matches.{ReadsOne}
 use Rattle.clap.proofs.WalkLemmas.{both, one_text-rows}
 use Rattle.clap.specs.declared.parser.matches.ArgMatches.{ArgMatches}
 use Rattle.clap.specs.declared.parser.matches.Found.{Found}
-use Rattle.command_line.specs.CommandLine.{command_line, number_below, number_of, task_of}
-use Rattle.command_line.specs.Shown.{task_asked}
+use Rattle.command_line.specs.CommandLine.{command_line, number_below, number_of, invocation_of}
+use Rattle.command_line.specs.Shown.{invocation_asked}
 
 digit_passes : (digit : ℕ) → digit_value digit < 10 → is_decimal_digit digit ≡ true
 digit_passes digit below = grind (arith, nat_tests)
@@ -64,6 +64,6 @@ is_simple_command = refl
 
 -- what the words ask for is what their matches do
 pub asked_is : (app : App) (words : List Text) (m : ArgMatches) → app ≡ command_line → HasMatchesOf app words m
-    → task_asked words ≡ task_of (subcommand_rows_of m)
+    → invocation_asked words ≡ invocation_of (subcommand_rows_of m)
 asked_is app words m is has =
-    sym (ap task_of ((has (ap is_simple is ∙ is_simple_command)).1 ∙ ap (λ (a : App). subcommand_of a words) is))
+    sym (ap invocation_of ((has (ap is_simple is ∙ is_simple_command)).1 ∙ ap (λ (a : App). subcommand_of a words) is))

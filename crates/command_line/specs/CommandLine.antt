@@ -79,15 +79,15 @@ command_line =
 
 -- ---- what is asked for
 
-pub data TaskValue : Type 0 where
+pub data InvocationValue : Type 0 where
   -- the script of calls of a file, or of standard input
-  unary : Option Text → TaskValue
+  unary : Option Text → InvocationValue
   -- the script of events of a file
-  replay : Text → TaskValue
+  replay : Text → InvocationValue
   -- to serve the instances of these words, for so many turns
-  serve : (work : Text) (turns : ℕ) (instances : List Text) → TaskValue
+  serve : (work : Text) (turns : ℕ) (instances : List Text) → InvocationValue
   -- to send a file's bytes to a port, and to wait for so many, for so many turns
-  probe : (port : ℕ) (send : Text) (want turns : ℕ) → TaskValue
+  probe : (port : ℕ) (send : Text) (want turns : ℕ) → InvocationValue
 
 -- the number below a bound that a text writes in decimal, with a plus sign or none
 abbrev pub number_below : ℕ → Text → Option ℕ
@@ -104,21 +104,21 @@ number_of name given = option_and_then (number_below (2 ^ 64)) (one_of name give
 abbrev pub port_of : ℕ → Option ℕ
 port_of number = if nat_lt number (2 ^ 16) then Some number else None
 
-abbrev pub probe_of : List Row → Option TaskValue
+abbrev pub probe_of : List Row → Option InvocationValue
 probe_of given =
     option_and_then (λ port. option_and_then (λ send. option_and_then (λ want.
     option_map (λ turns. probe port send want turns) (number_of (codes "turns") given))
     (number_of (codes "want") given)) (first_of (codes "send") given))
     (option_and_then port_of (number_of (codes "port") given))
 
-abbrev pub serve_of : List Row → Option TaskValue
+abbrev pub serve_of : List Row → Option InvocationValue
 serve_of given =
     option_and_then (λ work. option_and_then (λ turns.
     option_map (λ instances. serve work turns instances)
     (all_of (codes "NAME:PORT:QUOTA:SLOTS") given))
     (number_of (codes "turns") given)) (first_of (codes "work") given)
 
-abbrev pub file_or_probe_by : Text → List Row → Option TaskValue
+abbrev pub file_or_probe_by : Text → List Row → Option InvocationValue
 file_or_probe_by name given =
     if bytes_eq name (codes "unary")
     then option_map (λ file. unary (Some file)) (first_of (codes "FILE") given)
@@ -127,12 +127,12 @@ file_or_probe_by name given =
     else probe_of given)
 
 -- what a command of this name asks for, with what was given to it
-abbrev pub task_by : Text → List Row → Option TaskValue
-task_by name given =
+abbrev pub invocation_by : Text → List Row → Option InvocationValue
+invocation_by name given =
     if bytes_eq name (codes "serve") then serve_of given else file_or_probe_by name given
 
 -- what the command that the words name asks for; where they name none, it is the script on standard
 -- input
-abbrev pub task_of : Option (Text × List Row) → Option TaskValue
-task_of None = Some (unary None)
-task_of (Some (name, given)) = task_by name given
+abbrev pub invocation_of : Option (Text × List Row) → Option InvocationValue
+invocation_of None = Some (unary None)
+invocation_of (Some (name, given)) = invocation_by name given

@@ -1,4 +1,4 @@
--- Tasks and faults as clauses see them.
+-- Invocations and faults as clauses see them.
 use Rattle.std.specs.Prelude.{◌≡◌, ◌≢◌, ◌⊎◌, ⊤, false, List, [], map, option_map, Option, None}
 use Rattle.clap.specs.Words.{App, Rule, Shape, Text, app_of, kind_of, rule_of, shape_of, subcommand_of}
 use Rattle.clap.specs.Faults.{fault_of}
@@ -8,18 +8,18 @@ use Rattle.clap.specs.declared.builder.command.Command.{Command}
 use Rattle.clap.specs.declared.builder.command.Command.TheViews.{out-Command as fields_of}
 use Rattle.clap.specs.declared.error.Error.{Error}
 use Rattle.clap.specs.declared.error.kind.ErrorKind.TheVariants.{MissingRequiredArgument, OutOfMemory}
-use Rattle.command_line.specs.declared.Task.{Task}
-use Rattle.command_line.specs.declared.Task.TheVariants as task
+use Rattle.command_line.specs.declared.Invocation.{Invocation}
+use Rattle.command_line.specs.declared.Invocation.TheVariants as invocation
 use Rattle.command_line.specs.declared.CommandLineError.{CommandLineError}
 use Rattle.command_line.specs.declared.CommandLineError.TheVariants.{NoMemory, Answered}
-use Rattle.command_line.specs.CommandLine.{TaskValue, unary, replay, serve, probe, command_line, task_of}
+use Rattle.command_line.specs.CommandLine.{InvocationValue, unary, replay, serve, probe, command_line, invocation_of}
 
-abbrev pub task_value : Task → TaskValue
-task_value (task.Unary file) = unary (option_map (λ f. f.now) file)
-task_value (task.Replay file) = replay file.now
-task_value (task.Serve work turns instances) =
+abbrev pub invocation_value : Invocation → InvocationValue
+invocation_value (invocation.Unary file) = unary (option_map (λ f. f.now) file)
+invocation_value (invocation.Replay file) = replay file.now
+invocation_value (invocation.Serve work turns instances) =
     serve work.now turns (map (λ word. word.now) instances.items)
-task_value (task.Probe port send want turns) = probe port send.now want turns
+invocation_value (invocation.Probe port send want turns) = probe port send.now want turns
 
 -- an argument with this rule, which is for its own command alone
 abbrev pub HasRule : Rule → Arg → Type 0
@@ -34,8 +34,8 @@ abbrev pub HasShape : Shape → Command → Type 0
 HasShape shape command = (shape_of command ≡ shape) × ((fields_of command).has_globals ≡ false)
 
 -- what the words of a command line ask for
-abbrev pub task_asked : List Text → Option TaskValue
-task_asked words = task_of (subcommand_of command_line words)
+abbrev pub invocation_asked : List Text → Option InvocationValue
+invocation_asked words = invocation_of (subcommand_of command_line words)
 
 -- `clap` finds no fault in the words
 abbrev pub HasNoFault : List Text → Type 0
@@ -47,7 +47,7 @@ abbrev pub IsFaultOf : List Text → CommandLineError → Type 0
 IsFaultOf words NoMemory = ⊤
 IsFaultOf words (Answered error) =
     IsAmong (kind_of error) (fault_of command_line words)
-    ⊎ ((kind_of error ≡ MissingRequiredArgument) × (task_asked words ≡ None))
+    ⊎ ((kind_of error ≡ MissingRequiredArgument) × (invocation_asked words ≡ None))
 
 -- an error of `clap` as the crate's own: it is kept, but for want of memory
 abbrev pub IsFrom : Error → CommandLineError → Type 0

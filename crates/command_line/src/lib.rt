@@ -4,8 +4,8 @@
 ghost use Rattle.std.specs.Prelude.{◌≡◌, ◌≢◌, ◌⊎◌, ℕ, List, Some, None, map, string_bytes, IfOk, IfErr, option_map};
 ghost use Rattle.clap.specs.Words.{all_of, app_of, first_of, found_of, kind_of, new_app, rows_of, subcommand_rows_of};
 ghost use Rattle.clap.specs.declared.error.kind.ErrorKind.TheVariants.{DisplayHelp, DisplayVersion};
-ghost use Rattle.command_line.specs.CommandLine.{command_line, file_rule, long_option, number_of, port_rule, send_rule, want_rule, turns_rule, script_command, probe_command, probe_of, work_rule, instances_rule, with_scripts, serve_command, serve_of, file_or_probe_by, task_by, task_of};
-ghost use Rattle.command_line.specs.Shown.{task_value, task_asked, HasApp, HasNoFault, HasRule, HasShape, IsFaultOf, IsFrom};
+ghost use Rattle.command_line.specs.CommandLine.{command_line, file_rule, long_option, number_of, port_rule, send_rule, want_rule, turns_rule, script_command, probe_command, probe_of, work_rule, instances_rule, with_scripts, serve_command, serve_of, file_or_probe_by, invocation_by, invocation_of};
+ghost use Rattle.command_line.specs.Shown.{invocation_value, invocation_asked, HasApp, HasNoFault, HasRule, HasShape, IsFaultOf, IsFrom};
 
 use clap::error::ErrorKind;
 use clap::{Arg, ArgAction, ArgMatches, Command, Error, value_parser};
@@ -33,7 +33,7 @@ const SERVE_ABOUT: &str = "Serve instances on ports of 127.0.0.1";
 
 /// What the program is asked for.
 #[derive(Drop)]
-pub enum Task<'a> {
+pub enum Invocation<'a> {
     /// Carries out a script of calls: a file's, or that of standard input.
     Unary {
         file: Option<&'a str>,
@@ -199,11 +199,11 @@ fn number(found: &ArgMatches<'_>, name: &str) -> Option<u64>
     found.get_one::<u64>(name)
 }
 
-fn requested_probe<'a>(found: &ArgMatches<'a>) -> Option<Task<'a>>
-    ensures { option_map task_value result ≡ probe_of (rows_of (found_of found.now)) }
+fn requested_probe<'a>(found: &ArgMatches<'a>) -> Option<Invocation<'a>>
+    ensures { option_map invocation_value result ≡ probe_of (rows_of (found_of found.now)) }
 {
     let port = number(found, "port")?;
-    Some(Task::Probe {
+    Some(Invocation::Probe {
         port: u16::try_from(port).ok()?,
         send: text(found, "send")?,
         want: number(found, "want")?,
@@ -228,8 +228,8 @@ fn texts<'a>(
 fn requested_serve<'a>(
     alloc: Global,
     found: &ArgMatches<'a>,
-) -> Result<Option<Task<'a>>, AllocError>
-    ensures { IfOk result (λ task. option_map task_value task
+) -> Result<Option<Invocation<'a>>, AllocError>
+    ensures { IfOk result (λ invocation. option_map invocation_value invocation
         ≡ serve_of (rows_of (found_of found.now))) }
 {
     let Some(work) = text(found, "work") else {
@@ -239,7 +239,7 @@ fn requested_serve<'a>(
         return Ok(None);
     };
     match texts(alloc, found, INSTANCES)? {
-        Some(instances) => Ok(Some(Task::Serve {
+        Some(instances) => Ok(Some(Invocation::Serve {
             work,
             turns,
             instances,
@@ -248,15 +248,15 @@ fn requested_serve<'a>(
     }
 }
 
-fn requested_file_or_probe<'a>(name: &str, found: &ArgMatches<'a>) -> Option<Task<'a>>
-    ensures { option_map task_value result
+fn requested_file_or_probe<'a>(name: &str, found: &ArgMatches<'a>) -> Option<Invocation<'a>>
+    ensures { option_map invocation_value result
         ≡ file_or_probe_by name.now (rows_of (found_of found.now)) }
 {
     match name {
-        "unary" => Some(Task::Unary {
+        "unary" => Some(Invocation::Unary {
             file: Some(text(found, "FILE")?),
         }),
-        "replay" => Some(Task::Replay {
+        "replay" => Some(Invocation::Replay {
             file: text(found, "FILE")?,
         }),
         _ => requested_probe(found),
@@ -267,9 +267,9 @@ fn requested_by<'a>(
     alloc: Global,
     name: &str,
     found: &ArgMatches<'a>,
-) -> Result<Option<Task<'a>>, AllocError>
-    ensures { IfOk result (λ task. option_map task_value task
-        ≡ task_by name.now (rows_of (found_of found.now))) }
+) -> Result<Option<Invocation<'a>>, AllocError>
+    ensures { IfOk result (λ invocation. option_map invocation_value invocation
+        ≡ invocation_by name.now (rows_of (found_of found.now))) }
 {
     if name == "serve" {
         requested_serve(alloc, found)
@@ -278,13 +278,16 @@ fn requested_by<'a>(
     }
 }
 
-fn requested<'a>(alloc: Global, matches: &ArgMatches<'a>) -> Result<Option<Task<'a>>, AllocError>
-    ensures { IfOk result (λ task. option_map task_value task
-        ≡ task_of (subcommand_rows_of matches.now)) }
+fn requested<'a>(
+    alloc: Global,
+    matches: &ArgMatches<'a>,
+) -> Result<Option<Invocation<'a>>, AllocError>
+    ensures { IfOk result (λ invocation. option_map invocation_value invocation
+        ≡ invocation_of (subcommand_rows_of matches.now)) }
 {
     match matches.subcommand() {
         Some((name, found)) => requested_by(alloc, name, found),
-        None => Ok(Some(Task::Unary { file: None })),
+        None => Ok(Some(Invocation::Unary { file: None })),
     }
 }
 
@@ -320,7 +323,7 @@ impl From<Error> for CommandLineError {
 }
 
 fn missing(command: &mut Command<'_>) -> CommandLineError
-    ensures { (words : List (List ℕ)) → task_asked words ≡ None → IsFaultOf words result }
+    ensures { (words : List (List ℕ)) → invocation_asked words ≡ None → IsFaultOf words result }
 {
     match command.error(ErrorKind::MissingRequiredArgument, "an argument is missing") {
         Ok(error) => CommandLineError::from(error),
@@ -333,10 +336,10 @@ fn asked<'a>(
     alloc: Global,
     command: &mut Command<'a>,
     words: &'a [String],
-) -> Result<Task<'a>, CommandLineError>
+) -> Result<Invocation<'a>, CommandLineError>
     requires { app_of command.old ≡ command_line }
-    ensures task { IfOk result (λ task. task_asked (map string_bytes words.entry.now)
-        ≡ Some (task_value task)) }
+    ensures invocation { IfOk result (λ invocation. invocation_asked (map string_bytes words.entry.now)
+        ≡ Some (invocation_value invocation)) }
     ensures faultless { IfOk result (λ _. HasNoFault (map string_bytes words.entry.now)) }
     ensures fault { IfErr result (IsFaultOf (map string_bytes words.entry.now)) }
 {
@@ -345,15 +348,15 @@ fn asked<'a>(
         Err(error) => return Err(CommandLineError::from(error)),
     };
     match requested(alloc, &matches)? {
-        Some(task) => Ok(task),
+        Some(invocation) => Ok(invocation),
         None => Err(missing(command)),
     }
 }
 
 /// What the words of a command line ask for.
-pub fn parse<'a>(alloc: Global, words: &'a [String]) -> Result<Task<'a>, CommandLineError>
-    ensures task { IfOk result (λ task. task_asked (map string_bytes words.entry.now)
-        ≡ Some (task_value task)) }
+pub fn parse<'a>(alloc: Global, words: &'a [String]) -> Result<Invocation<'a>, CommandLineError>
+    ensures invocation { IfOk result (λ invocation. invocation_asked (map string_bytes words.entry.now)
+        ≡ Some (invocation_value invocation)) }
     ensures faultless { IfOk result (λ _. HasNoFault (map string_bytes words.entry.now)) }
     ensures fault { IfErr result (IsFaultOf (map string_bytes words.entry.now)) }
 {

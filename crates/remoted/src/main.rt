@@ -5,7 +5,7 @@ mod instances;
 mod serve_ports;
 
 use crate::serve_ports::{Served, serve_ports};
-use command_line::{CommandLineError, Task, parse};
+use command_line::{CommandLineError, Invocation, parse};
 use probe::{Request, probe};
 use program_status::{Fault, Status, read_file};
 use replay::replay;
@@ -87,25 +87,25 @@ fn probe_with_file<O: Write, E: Write>(
 /// Does what is asked for, and gives the number with which the program ends.
 fn perform<O: Write, E: Write>(
     rt: &HostRuntime,
-    task: &Task<'_>,
+    invocation: &Invocation<'_>,
     output: &mut O,
     errors: &mut E,
 ) -> io::Result<u8> {
-    match task {
-        Task::Unary { file: Some(file) } => {
+    match invocation {
+        Invocation::Unary { file: Some(file) } => {
             carry_out_file(rt, Script::Calls, file, output, errors)
         }
-        Task::Unary { file: None } => {
+        Invocation::Unary { file: None } => {
             Ok(unary(rt.alloc(), &mut rt.stdin(), output, errors).code())
         }
-        Task::Replay { file } => carry_out_file(rt, Script::Events, file, output, errors),
-        Task::Probe {
+        Invocation::Replay { file } => carry_out_file(rt, Script::Events, file, output, errors),
+        Invocation::Probe {
             port,
             send,
             want,
             turns,
         } => probe_with_file(rt, *port, send, (*want, *turns), output, errors),
-        Task::Serve {
+        Invocation::Serve {
             work,
             turns,
             instances,
@@ -129,7 +129,7 @@ fn answer<O: Write, E: Write>(
     errors: &mut E,
 ) -> io::Result<u8> {
     match parse(rt.alloc(), words) {
-        Ok(task) => perform(rt, &task, output, errors),
+        Ok(invocation) => perform(rt, &invocation, output, errors),
         Err(CommandLineError::NoMemory) => Err(io::Error::from(ErrorKind::OutOfMemory)),
         Err(CommandLineError::Answered(error)) => {
             error.print(rt)?;

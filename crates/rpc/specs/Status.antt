@@ -1,7 +1,7 @@
 -- The code (gRPC, "Status codes and their use in gRPC") and the text of each refusal.
 use Rattle.std.specs.Prelude.{ℕ, List, codes}
 use Rattle.rpc.specs.declared.refusal.Refusal.{Refusal}
-use Rattle.rpc.specs.declared.refusal.Refusal.TheVariants.{UnknownMethod, CompressedMessage, MessageTooLarge, MessageCutOff, NoMessage, MoreThanOneMessage, MalformedMessage, UnknownInstance, UnsupportedDigestFunction, UnsupportedCompressor, BadDigest, BatchTooLarge, DigestDoesNotMatch, QuotaExceeded, BlobNotFound, BadResourceName, NegativeLimit, OffsetOutOfRange, WrongOffset, TooManyUploads, UploadNotFound, BadPage, BadDirectory, TreeTooLarge, NoResult}
+use Rattle.rpc.specs.declared.refusal.Refusal.TheVariants.{UnknownMethod, CompressedMessage, MessageTooLarge, MessageCutOff, NoMessage, MoreThanOneMessage, MalformedMessage, UnknownInstance, UnsupportedDigestFunction, UnsupportedCompressor, BadDigest, BatchTooLarge, DigestDoesNotMatch, QuotaExceeded, BlobNotFound, BadResourceName, NegativeLimit, OffsetOutOfRange, WrongOffset, TooManyUploads, UploadNotFound, BadPage, BadDirectory, TreeTooLarge, NoResult, ExecutionIsOff, QueueFull, UnknownOperation}
 
 -- how many codes gRPC has: from 0, OK, to 16, UNAUTHENTICATED
 abbrev pub code_count : ℕ
@@ -51,6 +51,9 @@ code_of BadPage = invalid_argument
 code_of BadDirectory = invalid_argument
 code_of TreeTooLarge = resource_exhausted
 code_of NoResult = not_found
+code_of ExecutionIsOff = unimplemented
+code_of QueueFull = resource_exhausted
+code_of UnknownOperation = not_found
 
 abbrev pub text_of : Refusal → List ℕ
 text_of UnknownMethod = codes "unknown method"
@@ -78,3 +81,6 @@ text_of BadPage = codes "bad page"
 text_of BadDirectory = codes "bad directory"
 text_of TreeTooLarge = codes "tree too large"
 text_of NoResult = codes "no result"
+text_of ExecutionIsOff = codes "execution is off"
+text_of QueueFull = codes "queue full"
+text_of UnknownOperation = codes "unknown operation"

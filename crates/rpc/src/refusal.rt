@@ -56,6 +56,12 @@ pub enum Refusal {
     TreeTooLarge,
     /// There is no complete result of the action.
     NoResult,
+    /// The instance runs no actions.
+    ExecutionIsOff,
+    /// As many actions wait as may, or no number is left for another.
+    QueueFull,
+    /// No execution of the instance has the name, or it ended too long ago.
+    UnknownOperation,
 }
 
 impl Refusal {
@@ -67,13 +73,15 @@ impl Refusal {
             Refusal::MessageTooLarge
             | Refusal::QuotaExceeded
             | Refusal::TooManyUploads
-            | Refusal::TreeTooLarge => 8,
+            | Refusal::TreeTooLarge
+            | Refusal::QueueFull => 8,
             Refusal::UnknownInstance
             | Refusal::BlobNotFound
             | Refusal::UploadNotFound
-            | Refusal::NoResult => 5,
+            | Refusal::NoResult
+            | Refusal::UnknownOperation => 5,
             Refusal::OffsetOutOfRange => 11,
-            Refusal::UnknownMethod | Refusal::CompressedMessage => 12,
+            Refusal::UnknownMethod | Refusal::CompressedMessage | Refusal::ExecutionIsOff => 12,
             Refusal::MessageCutOff => 13,
             Refusal::NoMessage
             | Refusal::MoreThanOneMessage
@@ -121,6 +129,9 @@ impl Refusal {
             Refusal::BadDirectory => "bad directory",
             Refusal::TreeTooLarge => "tree too large",
             Refusal::NoResult => "no result",
+            Refusal::ExecutionIsOff => "execution is off",
+            Refusal::QueueFull => "queue full",
+            Refusal::UnknownOperation => "unknown operation",
         }
     }
 }

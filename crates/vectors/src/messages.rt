@@ -2,6 +2,7 @@
 
 use crate::octets::{BAD_LINE, named, octets};
 use crate::records::word_of;
+use execution_messages::*;
 use grpc_messages::{Messages, MessagesError};
 use program_status::{Fault, Output};
 use reapi_messages::*;
@@ -42,9 +43,18 @@ enum Type {
     GetTreeResponse,
     GetActionResultRequest,
     UpdateActionResultRequest,
+    ExecuteRequest,
+    WaitExecutionRequest,
+    Action,
+    Duration,
+    Command,
+    Operation,
+    ExecuteOperationMetadata,
+    ExecuteResponse,
+    PreconditionFailure,
 }
 
-static TYPES: [(&[u8], Type); 23] = [
+static TYPES: [(&[u8], Type); 32] = [
     (b"Digest", Type::Digest),
     (b"Status", Type::Status),
     (b"FindMissingBlobsRequest", Type::FindMissingBlobsRequest),
@@ -71,6 +81,15 @@ static TYPES: [(&[u8], Type); 23] = [
         b"UpdateActionResultRequest",
         Type::UpdateActionResultRequest,
     ),
+    (b"ExecuteRequest", Type::ExecuteRequest),
+    (b"WaitExecutionRequest", Type::WaitExecutionRequest),
+    (b"Action", Type::Action),
+    (b"Duration", Type::Duration),
+    (b"Command", Type::Command),
+    (b"Operation", Type::Operation),
+    (b"ExecuteOperationMetadata", Type::ExecuteOperationMetadata),
+    (b"ExecuteResponse", Type::ExecuteResponse),
+    (b"PreconditionFailure", Type::PreconditionFailure),
 ];
 
 /// How the bytes are encoded again, as a message of this type.
@@ -105,7 +124,23 @@ fn typed_more(alloc: Global, of: Type, text: &[u8]) -> Result<Vec<u8>, MessageEr
         Type::GetTreeRequest => encoded_again::<GetTreeRequest>(alloc, text),
         Type::GetTreeResponse => encoded_again::<GetTreeResponse>(alloc, text),
         Type::GetActionResultRequest => encoded_again::<GetActionResultRequest>(alloc, text),
-        _ => encoded_again::<UpdateActionResultRequest>(alloc, text),
+        Type::UpdateActionResultRequest => encoded_again::<UpdateActionResultRequest>(alloc, text),
+        _ => typed_of_execution(alloc, of, text),
+    }
+}
+
+/// How the bytes are encoded again, as a message about executions.
+fn typed_of_execution(alloc: Global, of: Type, text: &[u8]) -> Result<Vec<u8>, MessageError> {
+    match of {
+        Type::ExecuteRequest => encoded_again::<ExecuteRequest>(alloc, text),
+        Type::WaitExecutionRequest => encoded_again::<WaitExecutionRequest>(alloc, text),
+        Type::Action => encoded_again::<Action>(alloc, text),
+        Type::Duration => encoded_again::<Duration>(alloc, text),
+        Type::Command => encoded_again::<Command>(alloc, text),
+        Type::Operation => encoded_again::<Operation>(alloc, text),
+        Type::ExecuteOperationMetadata => encoded_again::<ExecuteOperationMetadata>(alloc, text),
+        Type::ExecuteResponse => encoded_again::<ExecuteResponse>(alloc, text),
+        _ => encoded_again::<PreconditionFailure>(alloc, text),
     }
 }
 

@@ -14,7 +14,7 @@ fn words(alloc: Global, line: &str) -> Result<Vec<String>, AllocError> {
     Ok(words)
 }
 
-/// The task that a command line asks for.
+/// The invocation that a command line asks for.
 struct Asks {
     kind: &'static str,
     /// Its file or folder.
@@ -38,17 +38,17 @@ impl Asks {
             && self.instances == instances
     }
 
-    fn is_task(&self, task: &Task<'_>) -> bool {
-        match task {
-            Task::Unary { file } => self.is("unary", *file, (0, 0, 0), &[]),
-            Task::Replay { file } => self.is("replay", Some(*file), (0, 0, 0), &[]),
-            Task::Probe {
+    fn is_invocation(&self, invocation: &Invocation<'_>) -> bool {
+        match invocation {
+            Invocation::Unary { file } => self.is("unary", *file, (0, 0, 0), &[]),
+            Invocation::Replay { file } => self.is("replay", Some(*file), (0, 0, 0), &[]),
+            Invocation::Probe {
                 port,
                 send,
                 want,
                 turns,
             } => self.is("probe", Some(*send), (u64::from(*port), *want, *turns), &[]),
-            Task::Serve {
+            Invocation::Serve {
                 work,
                 turns,
                 instances,
@@ -63,7 +63,7 @@ impl Case for Asks {
             return false;
         };
         match parse(host.alloc(), &words) {
-            Ok(task) => self.is_task(&task),
+            Ok(invocation) => self.is_invocation(&invocation),
             Err(_) => false,
         }
     }
@@ -136,7 +136,7 @@ static TASKS: [(&str, Asks); 7] = [
 ];
 
 #[test]
-fn tasks(rt: HostRuntime) {
+fn invocations(rt: HostRuntime) {
     all_hold(&rt, &rt, &TASKS);
 }
 

@@ -2,6 +2,7 @@
 #![tactic(auto)]
 
 use mio::net::{TcpListener, TcpStream};
+use mio::{Events, Interest, Poll, Token};
 use serve::{Socket, Sockets, is_not_ready};
 use std::alloc::Global;
 use std::collections::HashMap;
@@ -20,6 +21,34 @@ const LINGERING_LIMIT: usize = 256;
 
 /// The most bytes that are dropped of a closed connection at a time.
 const DROP_LIMIT: usize = 16_384;
+
+/// How many ports are found at a time at which clients wait. Any further one is found the next
+/// time.
+const WAITING_LIMIT: usize = 256;
+
+/// A port.
+#[derive(Drop)]
+struct Port {
+    listener: TcpListener,
+    /// Whether a client may wait at it: one came since the port was found empty.
+    may_wait: bool,
+}
+
+impl Port {
+    /// The next client that waits. The system is only asked where one may wait.
+    fn accept(&mut self) -> io::Result<TcpStream> {
+        if !self.may_wait {
+            return Err(io::Error::from(ErrorKind::WouldBlock));
+        }
+        match self.listener.accept() {
+            Ok((stream, _)) => Ok(stream),
+            Err(error) => {
+                self.may_wait = error.kind() != ErrorKind::WouldBlock;
+                Err(error)
+            }
+        }
+    }
+}
 
 /// A closed connection, and when it was closed.
 #[derive(Drop)]
@@ -47,7 +76,11 @@ impl Lingering {
 pub struct HostSockets<'a> {
     rt: &'a HostRuntime,
     /// By the instances' numbers.
-    listeners: Vec<TcpListener>,
+    ports: Vec<Port>,
+    /// Finds the ports to which clients came.
+    poll: Poll,
+    /// Those that it found.
+    found: Events,
     streams: HashMap<Socket, TcpStream>,
     lingering: Vec<Lingering>,
     /// Where dropped bytes are read to.
@@ -63,7 +96,9 @@ impl<'a> HostSockets<'a> {
     pub fn new(rt: &'a HostRuntime, alloc: Global) -> io::Result<HostSockets<'a>> {
         Ok(HostSockets {
             rt,
-            listeners: Vec::new(alloc),
+            ports: Vec::new(alloc),
+            poll: Poll::new(rt)?,
+            found: Events::with_capacity(alloc, WAITING_LIMIT)?,
             streams: HashMap::new(alloc),
             lingering: Vec::with_capacity(alloc, LINGERING_LIMIT)?,
             room: vec![in alloc; 0; DROP_LIMIT]?,
@@ -76,28 +111,34 @@ impl<'a> HostSockets<'a> {
     /// Listens on a port of 127.0.0.1, for the next instance. With port 0 the system chooses one.
     pub fn listen(&mut self, port: u16) -> io::Result<()> {
         let address = SocketAddr::from((Ipv4Addr::LOCALHOST, port));
-        let listener = TcpListener::bind(self.rt, address)?;
-        self.listeners.push(listener)?;
+        let mut listener = TcpListener::bind(self.rt, address)?;
+        let token = Token(self.ports.len());
+        let registry = self.poll.registry();
+        registry.register(&mut listener, token, Interest::READABLE)?;
+        self.ports.push(Port {
+            listener,
+            may_wait: true,
+        })?;
         Ok(())
     }
 
     /// The port on which the instance of this number is served.
     pub fn port(&self, instance: u32) -> io::Result<u16> {
-        match self.listeners.get(instance as usize) {
-            Some(listener) => Ok(listener.local_addr()?.port()),
+        match self.ports.get(instance as usize) {
+            Some(port) => Ok(port.listener.local_addr()?.port()),
             None => Err(io::Error::from(ErrorKind::NotFound)),
         }
     }
 
     fn accept_now(&mut self, socket: Socket) -> io::Result<()> {
-        let Some(listener) = self.listeners.get(socket.instance as usize) else {
+        let Some(port) = self.ports.get_mut(socket.instance as usize) else {
             return Err(io::Error::from(ErrorKind::WouldBlock));
         };
         // Where memory is refused for it the client waits at the port, and is not reset.
         if self.streams.reserve(1).is_err() {
             return Err(io::Error::from(ErrorKind::OutOfMemory));
         }
-        let (stream, _) = listener.accept()?;
+        let stream = port.accept()?;
         // Otherwise the end of a response waits for the client's acknowledgement of what was before
         // it.
         stream.set_nodelay(true)?;
@@ -112,6 +153,33 @@ impl<'a> HostSockets<'a> {
         if let Err(error) = outcome {
             if !is_not_ready(error) {
                 self.faults = self.faults.saturating_add(1);
+            }
+        }
+    }
+
+    /// The milliseconds since the start, or 0 where the clock cannot be read.
+    fn passed(&self) -> u64 {
+        match self.start.elapsed(self.rt) {
+            Ok(passed) => {
+                let seconds = passed.as_secs().saturating_mul(1000);
+                seconds.saturating_add(passed.subsec_millis() as u64)
+            }
+            Err(_) => 0,
+        }
+    }
+
+    /// Finds the ports to which clients came. Where that fails, one may wait at each.
+    fn find_waiting(&mut self) {
+        let polled = self.poll.poll(&mut self.found, Some(Duration::ZERO));
+        self.count(&polled);
+        if polled.is_err() {
+            for port in self.ports.iter_mut() {
+                port.may_wait = true;
+            }
+        }
+        for event in self.found.iter() {
+            if let Some(port) = self.ports.get_mut(event.token().0) {
+                port.may_wait = true;
             }
         }
     }
@@ -132,14 +200,16 @@ impl<'a> HostSockets<'a> {
 }
 
 impl<'a> Sockets for HostSockets<'a> {
+    /// It also looks at which ports clients wait, once for all of them.
     fn now(&mut self) -> u64 {
-        if let Ok(passed) = self.start.elapsed(self.rt) {
-            let moment = passed.as_secs().saturating_mul(1000);
-            let moment = moment.saturating_add(passed.subsec_millis() as u64);
-            self.moment = self.moment.max(moment);
-        }
+        self.moment = self.moment.max(self.passed());
         self.drop_rest();
+        self.find_waiting();
         self.moment
+    }
+
+    fn is_later(&self, moment: u64) -> bool {
+        self.passed() > moment
     }
 
     fn accept(&mut self, socket: Socket) -> io::Result<()> {

@@ -59,6 +59,6 @@ cut_effect_moment (ended job outcome) l m h = absurd h
 -- after an event an instance is not later than the event and than it was
 pub may_within : (e : EventValue) (l k : LoneInstance) (m : ℕ) → MayStep e l k → e.moment ≤ m → l.state.moment ≤ m → k.state.moment ≤ m
 may_within e l k m may le late = elim may [
-  | inl alone ↦ subst (λ (x : LoneInstance). x.state.moment ≤ m) (sym alone) (step_within e l m le late)
-  | inr short ↦ subst (λ (n : ℕ). n ≤ m) (sym (cut_effect_moment e.what (lone_at_moment e.moment l) k short.1)) le
+  | inl alone ↦ subst (λ (x : LoneInstance). x.state.moment ≤ m) (sym alone) (step_within [] e l m le late)
+  | inr short ↦ subst (λ (n : ℕ). n ≤ m) (sym (cut_effect_moment e.what (lone_at_moment e.moment [] l) k short.1)) le
 ]

@@ -46,7 +46,7 @@ memory_or (Err TookTooMuch) = inr (λ is. absurd (subst IsOther is tt))
 
 -- what the server says of an event that it took, all or a part of it
 abbrev Own : Result (Unit {0}) EventRefusal → EventValue → List ServedState → List ServedState → Type 0
-Own outcome e vs ws = outcome ≢ Err NoMemory → (l : LoneInstance) → StandsAt e.instance vs l → StandsAt e.instance ws (lone_step e l)
+Own outcome e vs ws = outcome ≢ Err NoMemory → (l : LoneInstance) → StandsAt e.instance vs l → StandsAt e.instance ws (lone_step [] e l)
 
 abbrev InPart : Result (Unit {0}) EventRefusal → EventValue → List ServedState → List ServedState → Type 0
 InPart outcome e vs ws = outcome ≡ Err NoMemory → (l : LoneInstance) → StandsAt e.instance vs l → StandsShortAt e l ws
@@ -58,7 +58,7 @@ taken outcome e vs ws own short gave others = record {
         let t = short memory l s in
         let accepted : refusal_of e l ≡ None = subst (λ (o : Result (Unit {0}) EventRefusal). IsRefusalOutcome o (refusal_of e l)) memory (gave l s) in
         record { now = t.left; may = inr (accepted, t.short); stands = t.stands }
-    | inr ne ↦ record { now = lone_step e l; may = inl refl; stands = own ne l s }
+    | inr ne ↦ record { now = lone_step [] e l; may = inl refl; stands = own ne l s }
   ];
   others = others;
 }

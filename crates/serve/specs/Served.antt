@@ -19,7 +19,7 @@ use Rattle.serve.specs.SocketEvents.{SocketEvent, port, accepted, written, momen
 -- what an event may make of it: what it does alone; or, where nothing else refuses it and memory
 -- was refused, a part of that
 abbrev pub MayStep : EventValue → LoneInstance → LoneInstance → Type 0
-MayStep e l m = (m ≡ lone_step e l) ⊎ ((refusal_of e l ≡ None) × Short e l m)
+MayStep e l m = (m ≡ lone_step [] e l) ⊎ ((refusal_of e l ≡ None) × Short [] e l m)
 
 abbrev pub MaySteps : List EventValue → LoneInstance → LoneInstance → Type 0
 MaySteps [] l n = n ≡ l

@@ -11,6 +11,30 @@ use server_core::Server;
 use server_events::{Configs, What};
 use std::alloc::{AllocError, Global};
 
+/// Whether an open socket has this number, of whichever instance. The server may have let go of its
+/// connection.
+fn is_taken(connections: &[OpenSocket], number: u32) -> bool {
+    for open in connections {
+        if open.socket.connection == number {
+            return true;
+        }
+    }
+    false
+}
+
+/// The next number that no open socket has.
+fn number_after(connections: &[OpenSocket], number: u32) -> u32 {
+    let mut next = number.wrapping_add(1);
+    // Of one number more than there are sockets one is free.
+    for _ in 0..connections.len() {
+        if !is_taken(connections, next) {
+            break;
+        }
+        next = next.wrapping_add(1);
+    }
+    next
+}
+
 /// A server, and its open connections.
 #[derive(Drop)]
 struct Serving {
@@ -23,7 +47,7 @@ struct Serving {
     tried: Option<u64>,
     /// In order of opening.
     connections: Vec<OpenSocket>,
-    /// The number that is tried for the next connection.
+    /// The number for the next connection, which no open socket has.
     next: u32,
     room: Vec<u8>,
 }
@@ -46,15 +70,15 @@ impl Serving {
         })
     }
 
-    /// Tells the time, tries each port, but only once a millisecond, and tries each connection that
-    /// is due. It says whether anything moved.
+    /// Tells the time and tries each port, but only once a millisecond, and tries each connection
+    /// that is due. It says whether anything moved.
     fn turn<S: Sockets>(&mut self, sockets: &mut S) -> bool
         ensures serving { KeepsServingAtMost self.old.instances
             (S.happened sockets.old) self.old.server.instances self.old.moment
             (S.happened sockets.new) self.new.server.instances self.new.moment }
         ensures instances { self.new.instances ≡ self.old.instances }
     {
-        self.tick(sockets);
+        self.keep_time(sockets);
         let mut moved = false;
         if self.tried != Some(self.moment) {
             self.tried = Some(self.moment);
@@ -62,6 +86,19 @@ impl Serving {
         }
         let exchanged = self.exchange_all(sockets);
         moved || exchanged
+    }
+
+    /// Reads the clock where it went on. While it shows the same nothing is to be told, of which
+    /// many turns of a busy server are spared.
+    fn keep_time<S: Sockets>(&mut self, sockets: &mut S)
+        ensures serving { KeepsServingAtMost self.old.instances
+            (S.happened sockets.old) self.old.server.instances self.old.moment
+            (S.happened sockets.new) self.new.server.instances self.new.moment }
+        ensures instances { self.new.instances ≡ self.old.instances }
+    {
+        if sockets.is_later(self.moment) {
+            self.tick(sockets);
+        }
     }
 
     /// Time goes on for each instance.
@@ -107,13 +144,9 @@ impl Serving {
             instance,
             connection,
         };
-        // An open connection has this number still: in a later turn the next one is tried.
-        if self.has(socket) {
-            self.next = connection.wrapping_add(1);
-            return false;
-        }
+        // A connection of the server has this number still: in a later turn the next one is tried.
         if let Some(_) = self.server.pending(instance, connection) {
-            self.next = connection.wrapping_add(1);
+            self.next = number_after(&self.connections, connection);
             return false;
         }
         if self.connections.reserve(1).is_err() {
@@ -123,7 +156,7 @@ impl Serving {
         let Ok(()) = sockets.accept(socket) else {
             return false;
         };
-        self.next = connection.wrapping_add(1);
+        self.next = number_after(&self.connections, connection);
         let what = What::Open(connection);
         match tell(&mut self.server, self.moment, instance, what) {
             Ok(()) => {
@@ -154,17 +187,6 @@ impl Serving {
         };
         let silent = self.connections.remove(place);
         close(&mut self.server, sockets, self.moment, silent.socket);
-    }
-
-    /// Whether a socket that is not closed has this number. The server may have let go of its
-    /// connection.
-    fn has(&self, socket: Socket) -> bool {
-        for open in &self.connections {
-            if open.socket == socket {
-                return true;
-            }
-        }
-        false
     }
 
     /// Receives and sends on each connection that is due, and lets go of those that are over. It
@@ -210,8 +232,8 @@ impl Serving {
 /// Serves instances with these configurations for so many turns, over sockets at which nothing has
 /// happened yet.
 ///
-/// In each turn the time is told to each instance; at each port one connection is accepted, once a
-/// millisecond at most; of each connection at most 16,384 bytes are read, and what waits on it is
+/// Once a millisecond the time is told to each instance, and at each port one connection is
+/// accepted. In each turn at most 16,384 bytes of each connection are read, and what waits on it is
 /// written. A connection on which nothing moved for 20 milliseconds is tried once a millisecond,
 /// until something moves on it again. A connection is closed where its client is gone or its socket
 /// failed, where an error of it was met and the client was sent all that waited, and where memory

@@ -29,6 +29,10 @@ pub trait Sockets {
         ensures rises { IfSome (happened self.old) (λ h. moment_of h ≤ result) }
         ensures adds { Adds (happened self.old) (happened self.new) (clock result ∷ []) };
 
+    /// Whether the clock is to be read, which showed this moment when it was read last. It need not
+    /// be while it would show the same.
+    fn is_later(&self, moment: u64) -> bool;
+
     /// Gives the next connection that waits at the instance's port this number.
     fn accept(&mut self, socket: Socket) -> io::Result<()>
         ensures adds { Adds (happened self.old) (happened self.new) (accept_events socket result) };

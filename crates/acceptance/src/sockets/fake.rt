@@ -186,6 +186,11 @@ impl<'a> Sockets for Fake<'a> {
         self.moment
     }
 
+    /// The clock is read in each turn.
+    fn is_later(&self, _moment: u64) -> bool {
+        true
+    }
+
     fn accept(&mut self, socket: Socket) -> io::Result<()> {
         self.may_fail(ErrorKind::ConnectionAborted, 8)?;
         if !self.accept_waiting(socket) {

@@ -57,6 +57,11 @@ impl<'a> Sockets for WithPeers<'a> {
         self.sockets.now()
     }
 
+    /// The clients have a part of each turn.
+    fn is_later(&self, _moment: u64) -> bool {
+        true
+    }
+
     fn accept(&mut self, socket: Socket) -> io::Result<()> {
         self.sockets.accept(socket)
     }

@@ -1,0 +1,153 @@
+#!/usr/bin/env python3
+"""proxy.py PROGRAM: calls through HAProxy with TLS, as docs/DEPLOYING.md has it: one certificate may write, one may
+read, and others get no connection.
+
+PROGRAM is the built `remoted`. Certificates are made by openssl, in a folder that is removed. A line for each thing
+that holds; it ends with status 1 at the first that does not. Debian: haproxy, openssl, python3-grpcio; run it by
+/usr/bin/python3.
+"""
+
+import hashlib
+import os
+import subprocess
+import sys
+import tempfile
+import time
+
+import grpc
+
+import messages as m
+from server import Server, free_ports
+
+PIECE = 1_000_000
+
+CONFIG = """
+global
+    maxconn 4096
+
+defaults
+    mode http
+    timeout connect 5s
+    timeout client 1h
+    timeout server 1h
+
+frontend red
+    bind 127.0.0.1:{port} ssl crt {folder}/server-both.pem ca-file {folder}/ca.pem verify required alpn h2
+    acl is_ci ssl_c_s_dn(cn) -m str ci
+    acl writes path /build.bazel.remote.execution.v2.ContentAddressableStorage/BatchUpdateBlobs
+    acl writes path /build.bazel.remote.execution.v2.ActionCache/UpdateActionResult
+    acl writes path /google.bytestream.ByteStream/Write
+    http-request deny if writes !is_ci
+    default_backend red
+
+backend red
+    option httpchk
+    http-check connect proto h2
+    http-check send meth POST uri {capabilities} ver HTTP/2 hdr content-type application/grpc hdr te trailers
+    http-check expect status 200
+    server red 127.0.0.1:{server} proto h2 check inter 1s
+"""
+
+
+def make_certificates(folder):
+    """An authority, certificates of it for the server, CI and a developer, and one of nobody's for a stranger."""
+
+    def openssl(*words):
+        subprocess.run(["openssl", *words], cwd=folder, check=True, capture_output=True)
+
+    new = ["req", "-newkey", "rsa:2048", "-nodes"]
+    openssl(*new, "-x509", "-days", "2", "-subj", "/CN=authority", "-keyout", "ca.key", "-out", "ca.pem")
+    openssl(*new, "-x509", "-days", "2", "-subj", "/CN=ci", "-keyout", "stranger.key", "-out", "stranger.pem")
+    with open(os.path.join(folder, "names"), "w") as names:
+        names.write("subjectAltName=DNS:localhost\n")
+    for name in ["server", "ci", "developer"]:
+        openssl(*new, "-subj", f"/CN={name}", "-keyout", f"{name}.key", "-out", f"{name}.csr")
+        sign = ["x509", "-req", "-in", f"{name}.csr", "-CA", "ca.pem", "-CAkey", "ca.key", "-CAcreateserial"]
+        openssl(*sign, "-days", "2", "-extfile", "names", "-out", f"{name}.pem")
+    with open(os.path.join(folder, "server-both.pem"), "wb") as both:
+        both.write(bytes_of(folder, "server.pem") + bytes_of(folder, "server.key"))
+
+
+def bytes_of(folder, name):
+    with open(os.path.join(folder, name), "rb") as file:
+        return file.read()
+
+
+def channel(folder, port, name):
+    key, own = (bytes_of(folder, f"{name}.{kind}") if name else None for kind in ["key", "pem"])
+    credentials = grpc.ssl_channel_credentials(bytes_of(folder, "ca.pem"), key, own)
+    return grpc.secure_channel(f"localhost:{port}", credentials, [("grpc.max_receive_message_length", -1)])
+
+
+def write(calls, blob):
+    """Stores a blob in one stream; how many bytes are there."""
+    name = f"red/uploads/{'1' * 8}-1111-1111-1111-{'1' * 12}/blobs/{hashlib.sha256(blob).hexdigest()}/{len(blob)}"
+
+    def pieces():
+        for at in range(0, len(blob), PIECE):
+            named = m.field(1, name) if at == 0 else b""
+            last = m.field(3, int(at + PIECE >= len(blob)))
+            yield named + m.field(2, at) + last + m.field(10, blob[at : at + PIECE])
+
+    return m.first(calls.stream_unary(m.WRITE)(pieces(), timeout=60), 1)
+
+
+def read(calls, blob):
+    request = m.field(1, f"red/blobs/{hashlib.sha256(blob).hexdigest()}/{len(blob)}")
+    return b"".join(m.first(each, 10) for each in calls.unary_stream(m.READ)(request, timeout=60))
+
+
+def code(call):
+    """The status with which a call ends."""
+    try:
+        call()
+    except grpc.RpcError as error:
+        return error.code().name
+    return "OK"
+
+
+def expect(holds, what):
+    if not holds:
+        raise SystemExit(f"not so: {what}")
+    print(f"ok {what}", flush=True)
+
+
+def calls_through(folder, port):
+    small, large = os.urandom(3_000), os.urandom(20_000_000)
+    ask = lambda calls: calls.unary_unary(m.CAPABILITIES)(m.capabilities("red"), timeout=10)
+    update = lambda calls: calls.unary_unary(m.BATCH_UPDATE)(m.batch_update("red", [small]), timeout=10)
+    with channel(folder, port, "ci") as calls:
+        expect(code(lambda: ask(calls)) == code(lambda: update(calls)) == "OK", "CI stores a small blob")
+        expect(write(calls, large) == len(large) and read(calls, large) == large, "CI writes 20 MB, and reads them")
+    with channel(folder, port, "developer") as calls:
+        wanted = m.find_missing("red", [m.digest(small)])
+        expect(calls.unary_unary(m.FIND_MISSING)(wanted, timeout=10) == b"", "a developer finds the small blob")
+        expect(read(calls, large) == large, "a developer reads 20 MB")
+        refused = [code(lambda: update(calls)), code(lambda: write(calls, large))]
+        expect(refused == ["PERMISSION_DENIED"] * 2, "a developer may not write")
+    for name in ["stranger", None]:
+        with channel(folder, port, name) as calls:
+            expect(code(lambda: ask(calls)) == "UNAVAILABLE", f"no connection with {name or 'no'} certificate")
+
+
+def main():
+    if len(sys.argv) != 2:
+        raise SystemExit(__doc__)
+    port = free_ports(1)[0]
+    with tempfile.TemporaryDirectory() as folder, Server(sys.argv[1], [("red", 10**9)]) as server:
+        make_certificates(folder)
+        told = CONFIG.format(port=port, folder=folder, server=server.ports[0], capabilities=m.CAPABILITIES)
+        path = os.path.join(folder, "haproxy.cfg")
+        with open(path, "w") as config:
+            config.write(told)
+        proxy = subprocess.Popen(["haproxy", "-f", path], stderr=subprocess.DEVNULL)
+        try:
+            # A check of the server comes each second.
+            time.sleep(3)
+            calls_through(folder, port)
+        finally:
+            proxy.terminate()
+            proxy.wait()
+
+
+main()

@@ -1,13 +1,11 @@
 //! Which results are complete: those that can be read, whose trees can, and of which each blob is
 //! there.
 
-ghost use Rattle.std.specs.Prelude.{◌≡◌, ◌≤◌, ℕ, List, Option, map, is_some, option_map, IfOk};
+ghost use Rattle.std.specs.Prelude.{◌≡◌, List, Option, map, is_some, option_map, IfOk};
 ghost use Rattle.message_fields.specs.Fields.{value_of_text};
 ghost use Rattle.reapi_messages.specs.Digests.{digest_shown};
 ghost use Rattle.tree_messages.specs.Directories.{directory_shown, tree_of};
-ghost use Rattle.blob_pool.specs.Slots.{count_at};
 ghost use Rattle.digest.specs.declared.Digest.{Digest};
-ghost use Rattle.instance_view.specs.Shown.{holders};
 ghost use Rattle.input_tree.specs.Listing.{Lookup};
 ghost use Rattle.input_tree.specs.Texts.{texts_of};
 ghost use Rattle.action_cache.specs.Complete.{with_blob, with_set, with_each, with_root, with_tree, blobs_of};
@@ -15,25 +13,24 @@ ghost use Rattle.action_cache.specs.Complete.{with_blob, with_set, with_each, wi
 use blob_pool::Pool;
 use digest::Digest;
 use input_tree::{digest_written, text_or_none};
-use instance_view::View;
+use instance_view::Sight;
 use message_fields::{Message, MessageError};
 use reapi_messages as messages;
 use std::alloc::{AllocError, Global};
 use tree_messages::{ActionResult, Directory, FileNode, OutputDirectory, OutputFile, Tree};
 
-/// The blobs that an instance has, and the pool where their bytes lie.
+/// The blobs that an instance sees, and the pool where their bytes lie.
 #[derive(Clone, Copy)]
 struct Blobs<'a> {
     alloc: Global,
-    view: &'a View,
+    view: &'a Sight<'a>,
     pool: &'a Pool,
-    ghost held: { (k : ℕ) → holders view.now k ≤ count_at pool.now k },
 }
 
 /// The digests that were named so far, or `None` where a blob is not there.
 type Named = Result<Option<Vec<Digest>>, AllocError>;
 
-/// Whether an instance has a blob. Which bytes it has in the pool makes no difference.
+/// Whether an instance sees a blob. Which bytes it has in the pool makes no difference.
 fn is_there(blobs: &Blobs<'_>, digest: &Digest) -> bool
     ensures { result ≡ is_some (texts_of blobs.now.pool.now blobs.now.view.now digest.now) }
 {
@@ -207,11 +204,10 @@ fn name_tree(blobs: &Blobs<'_>, named: Vec<Digest>, text: &[u8]) -> Named
 /// what it printed. `None` where it or a tree cannot be read, or a blob is not there.
 pub fn blobs_of(
     alloc: Global,
-    view: &View,
+    view: &Sight<'_>,
     pool: &Pool,
     text: &[u8],
 ) -> Result<Option<Vec<Digest>>, AllocError>
-    requires { (k : ℕ) → holders view.now k ≤ count_at pool.now k }
     ensures { IfOk result (λ all. option_map (λ v. v.items) all
         ≡ blobs_of (texts_of pool.now view.now) text.now) }
 {

@@ -5,6 +5,6 @@ mod answering;
 mod complete;
 mod results;
 
-pub use answering::get_result;
+pub use answering::{FoundResult, find_result, get_result, use_result};
 pub use complete::blobs_of;
 pub use results::{MOST_RESULT_BYTES, MOST_RESULTS, Results};

@@ -126,6 +126,14 @@ impl Draft {
         is_same(digest, &own)
     }
 
+    /// The digest of the text, to which nothing is then added. It takes no memory.
+    pub fn digest(&mut self) -> Digest
+        ensures digest { result ≡ digest_of self.old.text }
+        ensures ended { self.new ≡ record self.old { is_open = false } }
+    {
+        end(&mut self.progress)
+    }
+
     /// The text and its digest.
     pub(crate) fn open(self) -> (PagedText, Digest)
         ensures text { result.0 ≡ self.text }

@@ -163,31 +163,37 @@ impl Pool {
         Hold::of(kept.number())
     }
 
-    /// How many bytes the text has. It takes no memory.
-    pub fn length(&self, hold: &Hold) -> u64
-        requires { 0 < count_at self.now hold.now }
-        ensures length { result ≡ length (text_at self.now hold.now) }
+    /// How many bytes the text has: none where no text is held. It takes no memory.
+    pub fn length(&self, kept: Kept) -> u64
+        ensures length { result ≡ length (text_at self.now kept) }
         ensures most { result ≤ MOST_BYTES }
     {
-        text(&self.slots, hold.slot()).len()
+        match text(&self.slots, kept.number()) {
+            Some(text) => text.len(),
+            None => 0,
+        }
     }
 
     /// What the text has from a place on, up to the end of its page of 65,536 bytes and to `most`
-    /// bytes. It takes no memory.
-    pub fn part(&self, hold: &Hold, from: u64, most: u32) -> &[u8]
-        requires { 0 < count_at self.now hold.now }
-        ensures { result.now ≡ part_of PAGE_BYTES (text_at self.now hold.now) from most }
+    /// bytes: nothing where no text is held. It takes no memory.
+    pub fn part(&self, kept: Kept, from: u64, most: u32) -> &[u8]
+        ensures { result.now ≡ part_of PAGE_BYTES (text_at self.now kept) from most }
     {
-        text(&self.slots, hold.slot()).part(from, most)
+        match text(&self.slots, kept.number()) {
+            Some(text) => text.part(from, most),
+            None => &[],
+        }
     }
 
-    /// Adds the text to the end of a vector.
-    pub fn copy_into(&self, hold: &Hold, into: &mut Vec<u8>) -> Result<(), AllocError>
-        requires { 0 < count_at self.now hold.now }
-        ensures ok { OnOk result (into.new.items ≡ into.old.items ++ text_at self.now hold.now) }
+    /// Adds the text to the end of a vector: nothing where no text is held.
+    pub fn copy_into(&self, kept: Kept, into: &mut Vec<u8>) -> Result<(), AllocError>
+        ensures ok { OnOk result (into.new.items ≡ into.old.items ++ text_at self.now kept) }
         ensures err { OnErr result (into.new.items ≡ into.old.items) }
     {
-        text(&self.slots, hold.slot()).copy_into(into)
+        match text(&self.slots, kept.number()) {
+            Some(text) => text.copy_into(into),
+            None => Ok(()),
+        }
     }
 }
 

@@ -1,6 +1,6 @@
 //! The slots of a pool, and what finds them.
 
-ghost use Rattle.std.specs.Prelude.{◌≡◌, ◌+◌, ◌-◌, ◌<◌, ◌≤◌, ◌^◌, ◌↔◌, ℕ, length, Some, None, IsTrue, IfSome, IfNone, IfOk, IfErr, OnErr, slice_index_or};
+ghost use Rattle.std.specs.Prelude.{◌≡◌, ◌+◌, ◌-◌, ◌<◌, ◌≤◌, ◌^◌, ◌↔◌, ℕ, [], length, Some, None, IsTrue, IfSome, IfNone, IfOk, IfErr, OnErr, slice_index_or};
 ghost use Rattle.std.specs.Option.{option_copied};
 ghost use Rattle.digest.specs.Naming.{digest_of};
 ghost use Rattle.paged_text.specs.declared.text.TheConstants.{MOST_BYTES};
@@ -210,13 +210,11 @@ fn drop_text(slots: &mut Slab<Slot>, index: &mut Index, bytes: &mut u128, slot: 
     }
 }
 
-/// The text of a slot.
-pub fn text(slots: &Slab<Slot>, slot: usize) -> &PagedText
-    requires { 0 < count_at slots.now.slots slot }
-    ensures { result.now ≡ text_at slots.now.slots slot }
+/// The text of a slot, where one stands there.
+pub fn text(slots: &Slab<Slot>, slot: usize) -> Option<&PagedText>
+    ensures some { IfSome result (λ text. text.now ≡ text_at slots.now.slots slot) }
+    ensures none { IfNone result (text_at slots.now.slots slot ≡ []) }
 {
-    match slots.get(slot) {
-        Some(held) => held.text(),
-        None => unreachable!(),
-    }
+    let held = slots.get(slot)?;
+    Some(held.text())
 }

@@ -126,11 +126,13 @@ IsOldOrTaken first quota moment part old new =
     ⊎ ((part_outcome first quota part old ≡ Ok tt)
     × (new ≡ after_piece moment part.key part.piece (Ok tt) old))
 
--- the same of a call's first message
-abbrev pub IsFirstOldOrTaken : ℕ → ℕ → Result FirstAsked Refusal → UploadList → UploadList → Type 0
-IsFirstOldOrTaken quota moment (Ok asked) old new =
-    IsOldOrTaken true quota moment asked.part old new
-IsFirstOldOrTaken quota moment (Err refusal) old new = new ≡ old
+-- the same of a call's first message; no piece is taken of a blob that is seen
+abbrev pub IsFirstOldOrTaken : ℕ → ℕ → Result FirstAsked Refusal → WriteState → UploadList → Type 0
+IsFirstOldOrTaken quota moment (Ok asked) s new =
+    (new ≡ s.uploads)
+    ⊎ ((visible_text asked.part.key.digest s.visible ≡ None)
+    × IsOldOrTaken true quota moment asked.part s.uploads new)
+IsFirstOldOrTaken quota moment (Err refusal) s new = new ≡ s.uploads
 
 -- and of a later one
 abbrev pub IsNextOldOrTaken : ℕ → ℕ → Result PartValue Refusal → UploadList → UploadList → Type 0

@@ -1,21 +1,22 @@
 //! `Read`: the range of a blob that a message asks for.
 
-ghost use Rattle.std.specs.Prelude.{◌≡◌, ◌≤◌, ℕ, Some, length, IfOk, IfSome, OnErr, option_map};
+ghost use Rattle.std.specs.Prelude.{◌≡◌, ◌≤◌, ◌+◌, ℕ, Some, length, IfOk, IfSome, OnErr, option_map};
 ghost use Rattle.reapi_messages.specs.Results.{Gives};
 ghost use Rattle.blob_pool.specs.Slots.{Slots, count_at};
 ghost use Rattle.blob_pool.specs.Moves.{Moves, HasRoom, no_holders};
 ghost use Rattle.instance_view.specs.Visible.{visible_text, visible_after_use};
 ghost use Rattle.instance_view.specs.Shown.{visible_in, holders, holders_seen, text_seen};
+ghost use Rattle.instance_view.specs.Sight.{seen_in, sight_holders, sight_of};
 ghost use Rattle.cas_service.specs.Answers.{Answers, IfAnswered, IfNoMemory};
 ghost use Rattle.bytestream.specs.Reading as reading;
 ghost use Rattle.bytestream.specs.Reading.{limit_of, offset_check, until_of, range_asked, read_answer, after_read};
 ghost use Rattle.bytestream.specs.Shown.{source_shown};
 
 use crate::names::read_name;
-use blob_pool::{Pool, keep};
+use blob_pool::Pool;
 use cas_service::{CallError, check_instance};
 use digest::Digest;
-use instance_view::{Seen, View};
+use instance_view::{Seen, Sight, View};
 use reapi_messages::{Message, ReadRequest};
 use rpc::Refusal;
 use std::alloc::Global;
@@ -100,23 +101,16 @@ fn end_of_range(limit: u64, from: u64, size: u64) -> u64
 
 /// How long a text is that an instance has.
 fn length_of(pool: &Pool, seen: Seen) -> u64
-    requires { (k : ℕ) → holders_seen seen k ≤ count_at pool.now k }
     ensures { result ≡ length (text_seen pool.now seen) }
 {
     match seen {
         Seen::Empty => 0,
-        Seen::Text(kept) => {
-            let hold = pool.back(kept);
-            let length = pool.length(&hold);
-            let _ = keep(hold);
-            length
-        }
+        Seen::Text(kept) => pool.length(kept),
     }
 }
 
 /// The range that is asked for of a text.
 fn range_of(pool: &Pool, asked: &ReadAsked, text: &Seen) -> Result<Source, Refusal>
-    requires { (k : ℕ) → holders_seen text.now k ≤ count_at pool.now k }
     ensures source { Gives (source_shown pool.now) result
         (range_asked asked.now (Some (text_seen pool.now text.now))) }
     ensures text { IfOk result (λ source. source.text ≡ text.now) }
@@ -153,16 +147,17 @@ fn hold(pool: &mut Pool, seen: Seen)
 }
 
 /// What was found of a blob, which is then used.
-fn find(view: &mut View, digest: &Digest) -> Option<Seen>
+fn find(view: &mut View, parent: &View, digest: &Digest) -> Option<Seen>
     ensures text { (p : Slots) → option_map (text_seen p) result
-        ≡ visible_text digest.now (visible_in p view.old) }
+        ≡ visible_text digest.now (seen_in p (sight_of view.old parent.now)) }
     ensures used { (p : Slots) → visible_in p view.new
         ≡ visible_after_use digest.now (visible_in p view.old) }
-    ensures held { (k : ℕ) → IfSome result (λ s. holders_seen s k ≤ holders view.old k) }
+    ensures held { (k : ℕ) → IfSome result
+        (λ s. holders_seen s k ≤ sight_holders (sight_of view.old parent.now) k) }
     ensures holders { (k : ℕ) → holders view.new k ≡ holders view.old k }
     ensures limit { view.new.limit ≡ view.old.limit }
 {
-    let found = view.get(digest);
+    let found = Sight::new(view, parent).get(digest);
     view.touch(digest);
     found
 }
@@ -174,13 +169,14 @@ pub fn read(
     alloc: Global,
     own: &str,
     view: &mut View,
+    parent: &View,
     pool: &mut Pool,
     message: &[u8],
 ) -> Result<Source, CallError>
-    requires held { (k : ℕ) → holders view.old k ≤ count_at pool.old k }
+    requires held { (k : ℕ) → holders view.old k + holders parent.now k ≤ count_at pool.old k }
     requires room { HasRoom pool.old }
     ensures answer { Answers (source_shown pool.old) result
-        (read_answer own.now (visible_in pool.old view.old) message.now) }
+        (read_answer own.now (seen_in pool.old (sight_of view.old parent.now)) message.now) }
     ensures used { (p : Slots) → IfAnswered result
         (visible_in p view.new ≡ after_read own.now message.now (visible_in p view.old)) }
     ensures memory { IfNoMemory result (view.new ≡ view.old) }
@@ -193,7 +189,7 @@ pub fn read(
     ensures limit { view.new.limit ≡ view.old.limit }
 {
     let asked = read_asked(alloc, own, message)?;
-    let found = find(view, &asked.digest);
+    let found = find(view, parent, &asked.digest);
     let source = range(pool, &asked, found)?;
     hold(pool, source.text);
     Ok(source)

@@ -164,7 +164,7 @@ pub fn write_first(
         (write_state_with (visible_in pool.old view.old) uploads.old)).uploads) }
     ensures memory { IfNoMemory result ((view.new ≡ view.old) × (pool.new ≡ pool.old)
         × IsFirstOldOrTaken quota moment (writing.first_asked own.now message.now)
-        uploads.old uploads.new) }
+        (write_state_with (visible_in pool.old view.old) uploads.old) uploads.new) }
     ensures within { AreUploadsWithin quota uploads.new }
     ensures moves { Moves pool.old pool.new (holders view.old) (holders view.new) }
     ensures kept { IsViewInPool quota pool.new view.new }

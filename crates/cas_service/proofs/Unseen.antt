@@ -7,10 +7,12 @@ use Rattle.reapi_messages.specs.FindMissing.{find_missing_blobs_response_records
 use Rattle.std.specs.Prelude.{not, is_some, cond, Some, Ok}
 use Rattle.std.specs.Map.{lookup}
 use Rattle.digest.specs.declared.Digest.{Digest}
-use Rattle.digest.specs.Naming.{same_digest, digest_of}
+use Rattle.digest.specs.Naming.{same_digest, is_empty_digest}
 use Rattle.blob_pool.specs.Slots.{Slots}
 use Rattle.instance_view.specs.Visible.{Blob, visible_text}
 use Rattle.instance_view.specs.Shown.{ViewValue, visible_in}
+use Rattle.instance_view.specs.Sight.{SightValue, seen_in}
+use Rattle.instance_view.proofs.Either.{both, both_shown}
 use Rattle.instance_view.proofs.Entries.{is_some-shown}
 use Rattle.cas_service.specs.Changes.{Use, visible_after_changes}
 use Rattle.cas_service.specs.declared.requests.Asked.{Asked}
@@ -43,11 +45,11 @@ reply_is visible asked reply ds written found encoded =
 
 -- which digests are missing is told by the entries alone, whatever their texts
 seen_anywhere : (p q : Slots) (v : ViewValue) (d : Digest) → is_some (visible_text d (visible_in p v)) ≡ is_some (visible_text d (visible_in q v))
-seen_anywhere p q v d = go (same_digest d (digest_of [])) refl where
+seen_anywhere p q v d = go (is_empty_digest d) refl where
   there : (p : Slots) → is_some (lookup (same_digest d) v.entries) ≡ is_some (lookup (same_digest d) (visible_in p v))
   there p = is_some-shown p (same_digest d) v.entries
 
-  go : (t : Bool) → same_digest d (digest_of []) ≡ t → is_some (cond t (Some []) (lookup (same_digest d) (visible_in p v))) ≡ is_some (cond t (Some []) (lookup (same_digest d) (visible_in q v)))
+  go : (t : Bool) → is_empty_digest d ≡ t → is_some (cond t (Some []) (lookup (same_digest d) (visible_in p v))) ≡ is_some (cond t (Some []) (lookup (same_digest d) (visible_in q v)))
   go true is = refl
   go false is = sym (there p) ∙ there q
 
@@ -58,9 +60,15 @@ missing_anywhere p q v (d ∷ ds) =
     let rest = missing_anywhere p q v ds in
     rw (one, rest) refl
 
-pub reply_anywhere : (p q : Slots) (v : ViewValue) (own message : List ℕ) (ds : List Digest) (reply : List ℕ) → digests_asked own message ≡ Ok ds → reply ≡ missing_reply (missing_digests (visible_in q v) ds) → find_missing_reply own (visible_in p v) message ≡ Ok reply
+seen_missing_anywhere : (p q : Slots) (s : SightValue) (ds : List Digest) → missing_digests (seen_in p s) ds ≡ missing_digests (seen_in q s) ds
+seen_missing_anywhere p q s ds =
+    ap (λ (bs : List Blob). missing_digests bs ds) (sym (both_shown p s))
+    ∙ missing_anywhere p q (both s) ds
+    ∙ ap (λ (bs : List Blob). missing_digests bs ds) (both_shown q s)
+
+pub reply_anywhere : (p q : Slots) (v : SightValue) (own message : List ℕ) (ds : List Digest) (reply : List ℕ) → digests_asked own message ≡ Ok ds → reply ≡ missing_reply (missing_digests (seen_in q v) ds) → find_missing_reply own (seen_in p v) message ≡ Ok reply
 reply_anywhere p q v own message ds reply asked is =
-    rw asked (ap (λ (t : List ℕ). Ok t) (ap missing_reply (missing_anywhere p q v ds) ∙ sym is))
+    rw asked (ap (λ (t : List ℕ). Ok t) (ap missing_reply (seen_missing_anywhere p q v ds) ∙ sym is))
 
 pub uses_asked : (limit quota : ℕ) (own message : List ℕ) (ds : List Digest) (old : List Blob) → digests_asked own message ≡ Ok ds → visible_after_changes limit quota (map Use ds) old ≡ visible_after_changes limit quota (find_missing_changes own message) old
 uses_asked limit quota own message ds old asked = rw asked refl

@@ -1,11 +1,12 @@
 //! `FindMissingBlobs`: which of the blobs asked for are not there.
 
-ghost use Rattle.std.specs.Prelude.{◌≡◌, ℕ, List, [], map, is_some, OnOk, OnErr, IfOk};
+ghost use Rattle.std.specs.Prelude.{◌≡◌, ◌++◌, ℕ, List, [], map, is_some, OnOk, OnErr, IfOk};
 ghost use Rattle.std.specs.List.{filter};
 ghost use Rattle.reapi_messages.specs.Digests.{digest_shown};
 ghost use Rattle.blob_pool.specs.Slots.{Slots};
 ghost use Rattle.instance_view.specs.Visible.{visible_text};
 ghost use Rattle.instance_view.specs.Shown.{visible_in, holders};
+ghost use Rattle.instance_view.specs.Sight.{seen_in};
 ghost use Rattle.quota_evict.specs.InPool.{IsViewInPool};
 ghost use Rattle.cas_service.specs.Answers.{Answers};
 ghost use Rattle.cas_service.specs.Changes.{visible_after_changes};
@@ -16,7 +17,7 @@ ghost use Rattle.cas_service.specs.Shown.{asked_digest, digest_as_sent, is_unsee
 use crate::error::CallError;
 use crate::requests::{Asked, check_function, check_instance, read_digests, use_all};
 use digest::Digest;
-use instance_view::View;
+use instance_view::{Sight, View};
 use reapi_messages as messages;
 use reapi_messages::{FindMissingBlobsRequest, FindMissingBlobsResponse, Message};
 use std::alloc::{AllocError, Global};
@@ -40,26 +41,26 @@ fn read_request<'a>(
 }
 
 /// Whether there is a text of the digest.
-fn is_there(view: &View, digest: &Digest) -> bool
-    ensures { result ≡ is_some (visible_text digest.now (visible_in [] view.now)) }
+fn is_there(sight: &Sight<'_>, digest: &Digest) -> bool
+    ensures { result ≡ is_some (visible_text digest.now (seen_in [] sight.now)) }
 {
-    view.contains(digest)
+    sight.contains(digest)
 }
 
 /// The digests that are not there, in order. What is there is told by the digests alone, so any
 /// pool serves to say so.
 fn missing<'a>(
     alloc: Global,
-    view: &View,
+    sight: &Sight<'_>,
     asked: &[Asked<'a>],
 ) -> Result<Vec<messages::Digest<'a>>, AllocError>
     ensures { IfOk result (λ missing. map digest_shown missing.items
-        ≡ map digest_as_sent (filter (is_unseen (visible_in [] view.now)) asked.now)) }
+        ≡ map digest_as_sent (filter (is_unseen (seen_in [] sight.now)) asked.now)) }
 {
     let mut missing = Vec::with_capacity(alloc, asked.len())?;
     let mut left = asked;
     'digests: while let [first, rest @ ..] = left {
-        if !is_there(view, &first.digest) {
+        if !is_there(sight, &first.digest) {
             missing.push(first.sent)?;
         }
         left = rest;
@@ -68,13 +69,13 @@ fn missing<'a>(
 }
 
 /// The message that lists what is missing.
-fn reply_to(alloc: Global, view: &View, asked: &[Asked<'_>]) -> Result<Vec<u8>, AllocError>
+fn reply_to(alloc: Global, sight: &Sight<'_>, asked: &[Asked<'_>]) -> Result<Vec<u8>, AllocError>
     requires written { map digest_as_sent asked.now
         ≡ map digest_value (map asked_digest asked.now) }
     ensures { IfOk result (λ reply. reply.items
-        ≡ missing_reply (missing_digests (visible_in [] view.now) (map asked_digest asked.now))) }
+        ≡ missing_reply (missing_digests (seen_in [] sight.now) (map asked_digest asked.now))) }
 {
-    let missing_blob_digests = missing(alloc, view, asked)?;
+    let missing_blob_digests = missing(alloc, sight, asked)?;
     let response = FindMissingBlobsResponse {
         missing_blob_digests,
     };
@@ -88,10 +89,12 @@ pub fn find_missing(
     alloc: Global,
     own: &str,
     view: &mut View,
+    parent: &View,
     message: &[u8],
 ) -> Result<Vec<u8>, CallError>
     ensures reply { (p : Slots) → Answers (λ reply. reply.items) result
-        (find_missing_reply own.now (visible_in p view.old) message.now) }
+        (find_missing_reply own.now (visible_in p view.old ++ visible_in p parent.now)
+        message.now) }
     ensures used { (p : Slots) (quota : ℕ) →
         OnOk result (visible_in p view.new
         ≡ visible_after_changes view.old.limit quota (find_missing_changes own.now message.now)
@@ -103,7 +106,7 @@ pub fn find_missing(
     ensures limit { view.new.limit ≡ view.old.limit }
 {
     let asked = read_request(alloc, own, message)?;
-    let reply = reply_to(alloc, view, &asked)?;
+    let reply = reply_to(alloc, &Sight::new(view, parent), &asked)?;
     use_all(view, &asked);
     Ok(reply)
 }

@@ -1,12 +1,13 @@
 //! `BatchReadBlobs`: the texts of the blobs asked for, in one reply.
 
-ghost use Rattle.std.specs.Prelude.{◌≡◌, ◌≤◌, ◌<◌, ℕ, List, map, option_map, OnOk, OnErr, IfOk, IfSome};
+ghost use Rattle.std.specs.Prelude.{◌≡◌, ◌≤◌, ◌<◌, ◌+◌, ◌++◌, ℕ, List, map, option_map, OnOk, OnErr, IfOk, IfSome};
 ghost use Rattle.std.specs.List.{flat_map};
 ghost use Rattle.reapi_messages.specs.Batches.{read_blob_response_shown};
 ghost use Rattle.reapi_messages.specs.Pieces.{pieces_text};
 ghost use Rattle.instance_view.specs.Visible.{visible_text};
-ghost use Rattle.blob_pool.specs.Slots.{Slots, count_at, text_at};
-ghost use Rattle.instance_view.specs.Shown.{visible_in, holders, holders_seen, text_seen};
+ghost use Rattle.blob_pool.specs.Slots.{Slots, text_at};
+ghost use Rattle.instance_view.specs.Shown.{visible_in, holders, text_seen};
+ghost use Rattle.instance_view.specs.Sight.{seen_in};
 ghost use Rattle.quota_evict.specs.InPool.{IsViewInPool};
 ghost use Rattle.cas_service.specs.Answers.{Answers};
 ghost use Rattle.cas_service.specs.Changes.{visible_after_changes};
@@ -19,9 +20,9 @@ use crate::requests::{
     Asked, MOST_BATCH_BYTES, check_function, check_instance, read_digests, use_all,
 };
 use crate::statuses::{ok_status, refused_status};
-use blob_pool::{Hold, Kept, Pool, keep};
+use blob_pool::{Kept, Pool};
 use digest::Digest;
-use instance_view::{Seen, View};
+use instance_view::{Seen, Sight, View};
 use paged_text::PAGE_BYTES;
 use reapi_messages::{
     BatchReadBlobsRequest, BatchReadBlobsResponse, Message, Pieces, ReadBlobResponse,
@@ -67,13 +68,10 @@ fn read_request<'a>(
 
 /// Where a text lies, if it is in one page.
 fn page_of(pool: &Pool, kept: Kept) -> Option<&[u8]>
-    requires { 0 < count_at pool.now kept }
     ensures { IfSome result (λ page. page.now ≡ text_at pool.now kept) }
 {
-    let hold = pool.back(kept);
-    let length = pool.length(&hold);
-    let page = pool.part(&hold, 0, u32::MAX);
-    let _ = keep(hold);
+    let length = pool.length(kept);
+    let page = pool.part(kept, 0, u32::MAX);
     if page.len() as u64 == length {
         Some(page)
     } else {
@@ -81,37 +79,23 @@ fn page_of(pool: &Pool, kept: Kept) -> Option<&[u8]>
     }
 }
 
-/// The pages of a text that is held, in order.
-fn pages_held<'a>(alloc: Global, pool: &'a Pool, hold: &Hold) -> Result<Vec<&'a [u8]>, AllocError>
-    requires { 0 < count_at pool.now hold.now }
-    ensures { IfOk result (λ pages. flat_map (λ p. p.now) pages.items
-        ≡ text_at pool.now hold.now) }
+/// The pages of a text, in order.
+fn pages_of<'a>(alloc: Global, pool: &'a Pool, kept: Kept) -> Result<Vec<&'a [u8]>, AllocError>
+    ensures { IfOk result (λ pages. flat_map (λ p. p.now) pages.items ≡ text_at pool.now kept) }
 {
-    let length = pool.length(hold);
+    let length = pool.length(kept);
     let mut pages = Vec::with_capacity(alloc, (length / PAGE_BYTES as u64) as usize + 1)?;
     let mut from = 0;
     'pages: while from < length {
-        let page = pool.part(hold, from, u32::MAX);
+        let page = pool.part(kept, from, u32::MAX);
         pages.push(page)?;
         from += page.len() as u64;
     }
     Ok(pages)
 }
 
-/// The pages of a text, in order.
-fn pages_of<'a>(alloc: Global, pool: &'a Pool, kept: Kept) -> Result<Vec<&'a [u8]>, AllocError>
-    requires { 0 < count_at pool.now kept }
-    ensures { IfOk result (λ pages. flat_map (λ p. p.now) pages.items ≡ text_at pool.now kept) }
-{
-    let hold = pool.back(kept);
-    let pages = pages_held(alloc, pool, &hold);
-    let _ = keep(hold);
-    pages
-}
-
 /// Where a text lies. No byte of it is copied.
 fn pieces_of<'a>(alloc: Global, pool: &'a Pool, seen: Seen) -> Result<Pieces<'a>, AllocError>
-    requires { (k : ℕ) → holders_seen seen k ≤ count_at pool.now k }
     ensures { IfOk result (λ pieces. pieces_text pieces ≡ text_seen pool.now seen) }
 {
     let Seen::Text(kept) = seen else {
@@ -126,15 +110,14 @@ fn pieces_of<'a>(alloc: Global, pool: &'a Pool, seen: Seen) -> Result<Pieces<'a>
 /// Where the text of a digest lies, if there is one.
 fn find<'a>(
     alloc: Global,
-    view: &View,
+    sight: &Sight<'_>,
     pool: &'a Pool,
     digest: &Digest,
 ) -> Result<Option<Pieces<'a>>, AllocError>
-    requires { (k : ℕ) → holders view.now k ≤ count_at pool.now k }
     ensures { IfOk result (λ found. option_map pieces_text found
-        ≡ visible_text digest.now (visible_in pool.now view.now)) }
+        ≡ visible_text digest.now (seen_in pool.now sight.now)) }
 {
-    match view.get(digest) {
+    match sight.get(digest) {
         Some(seen) => Ok(Some(pieces_of(alloc, pool, seen)?)),
         None => Ok(None),
     }
@@ -167,36 +150,34 @@ fn response_with<'a>(
 /// The response to a digest.
 fn response_to<'a>(
     alloc: Global,
-    view: &View,
+    sight: &Sight<'_>,
     pool: &'a Pool,
     asked: &Asked<'a>,
 ) -> Result<ReadBlobResponse<'a>, AllocError>
-    requires held { (k : ℕ) → holders view.now k ≤ count_at pool.now k }
-    requires written { digest_as_sent asked.now ≡ digest_value asked.now.digest }
+    requires { digest_as_sent asked.now ≡ digest_value asked.now.digest }
     ensures { IfOk result (λ response. read_blob_response_shown response
-        ≡ read_response_for (visible_in pool.now view.now) asked.now.digest) }
+        ≡ read_response_for (seen_in pool.now sight.now) asked.now.digest) }
 {
-    let found = find(alloc, view, pool, &asked.digest)?;
+    let found = find(alloc, sight, pool, &asked.digest)?;
     Ok(response_with(alloc, asked, found))
 }
 
 /// A response to each digest, in order.
 fn responses_to<'a>(
     alloc: Global,
-    view: &View,
+    sight: &Sight<'_>,
     pool: &'a Pool,
     asked: &[Asked<'a>],
 ) -> Result<Vec<ReadBlobResponse<'a>>, AllocError>
-    requires held { (k : ℕ) → holders view.now k ≤ count_at pool.now k }
     requires written { map digest_as_sent asked.now
         ≡ map digest_value (map asked_digest asked.now) }
     ensures { IfOk result (λ responses. map read_blob_response_shown responses.items
-        ≡ map (read_response_for (visible_in pool.now view.now)) (map asked_digest asked.now)) }
+        ≡ map (read_response_for (seen_in pool.now sight.now)) (map asked_digest asked.now)) }
 {
     let mut responses = Vec::with_capacity(alloc, asked.len())?;
     let mut left = asked;
     'digests: while let [first, rest @ ..] = left {
-        let response = response_to(alloc, view, pool, first)?;
+        let response = response_to(alloc, sight, pool, first)?;
         responses.push(response)?;
         left = rest;
     }
@@ -206,17 +187,16 @@ fn responses_to<'a>(
 /// The message that gives each text.
 fn reply_to<'a>(
     alloc: Global,
-    view: &View,
+    sight: &Sight<'_>,
     pool: &'a Pool,
     asked: &[Asked<'a>],
 ) -> Result<Vec<u8>, AllocError>
-    requires held { (k : ℕ) → holders view.now k ≤ count_at pool.now k }
     requires written { map digest_as_sent asked.now
         ≡ map digest_value (map asked_digest asked.now) }
     ensures { IfOk result (λ reply. reply.items
-        ≡ read_reply (visible_in pool.now view.now) (map asked_digest asked.now)) }
+        ≡ read_reply (seen_in pool.now sight.now) (map asked_digest asked.now)) }
 {
-    let responses = responses_to(alloc, view, pool, asked)?;
+    let responses = responses_to(alloc, sight, pool, asked)?;
     let response = BatchReadBlobsResponse { responses };
     response.encode(alloc)
 }
@@ -228,12 +208,13 @@ pub fn batch_read(
     alloc: Global,
     own: &str,
     view: &mut View,
+    parent: &View,
     pool: &Pool,
     message: &[u8],
 ) -> Result<Vec<u8>, CallError>
-    requires held { (k : ℕ) → holders view.old k ≤ count_at pool.now k }
     ensures reply { Answers (λ reply. reply.items) result
-        (batch_read_reply own.now (visible_in pool.now view.old) message.now) }
+        (batch_read_reply own.now (visible_in pool.now view.old ++ visible_in pool.now parent.now)
+        message.now) }
     ensures used { (p : Slots) (quota : ℕ) →
         OnOk result (visible_in p view.new
         ≡ visible_after_changes view.old.limit quota (batch_read_changes own.now message.now)
@@ -245,7 +226,7 @@ pub fn batch_read(
     ensures limit { view.new.limit ≡ view.old.limit }
 {
     let asked = read_request(alloc, own, message)?;
-    let reply = reply_to(alloc, view, pool, &asked)?;
+    let reply = reply_to(alloc, &Sight::new(view, parent), pool, &asked)?;
     use_all(view, &asked);
     Ok(reply)
 }

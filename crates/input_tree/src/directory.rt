@@ -1,10 +1,10 @@
 //! Directories that are taken, and their texts.
 
-ghost use Rattle.std.specs.Prelude.{◌≡◌, ◌<◌, ◌≤◌, ℕ, map, option_map, IfOk};
+ghost use Rattle.std.specs.Prelude.{◌≡◌, map, option_map, IfOk};
 ghost use Rattle.std.specs.List.{filter_map};
 ghost use Rattle.tree_messages.specs.Directories.{directory_shown, directory_node_shown};
-ghost use Rattle.blob_pool.specs.Slots.{count_at, text_at};
-ghost use Rattle.instance_view.specs.Shown.{holders, holders_seen, text_seen};
+ghost use Rattle.blob_pool.specs.Slots.{text_at};
+ghost use Rattle.instance_view.specs.Shown.{text_seen};
 ghost use Rattle.input_tree.specs.Directories.{has_nodes, has_order, is_directory, child_digest, children_in};
 ghost use Rattle.input_tree.specs.Listing.{children};
 ghost use Rattle.input_tree.specs.Texts.{texts_of};
@@ -12,9 +12,9 @@ ghost use Rattle.input_tree.specs.Pages.{text_or_none};
 
 use crate::names::{are_apart, are_rising, have_form};
 use crate::nodes::digest_written;
-use blob_pool::{Hold, Pool, keep};
+use blob_pool::{Kept, Pool};
 use digest::Digest;
-use instance_view::{Seen, View, copy_of};
+use instance_view::{Seen, Sight, copy_of};
 use message_fields::{Message, MessageError};
 use std::alloc::{AllocError, Global};
 use tree_messages::{Directory, DirectoryNode};
@@ -82,46 +82,38 @@ pub fn children_in(alloc: Global, text: &[u8]) -> Result<Option<Vec<Digest>>, Al
     }
 }
 
-/// The same for a text that a pool holds, whose length is looked at before its bytes.
-fn children_held(alloc: Global, pool: &Pool, hold: &Hold) -> Result<Option<Vec<Digest>>, AllocError>
-    requires { 0 < count_at pool.now hold.now }
+/// The same for a text of a pool, whose length is looked at before its bytes.
+fn children_kept(alloc: Global, pool: &Pool, kept: Kept) -> Result<Option<Vec<Digest>>, AllocError>
     ensures { IfOk result (λ found. option_map (λ digests. digests.items) found
-        ≡ children_in (text_at pool.now hold.now)) }
+        ≡ children_in (text_at pool.now kept)) }
 {
-    if pool.length(hold) > MOST_DIRECTORY_BYTES as u64 {
+    if pool.length(kept) > MOST_DIRECTORY_BYTES as u64 {
         return Ok(None);
     }
     let mut text = Vec::new(alloc);
-    pool.copy_into(hold, &mut text)?;
+    pool.copy_into(kept, &mut text)?;
     children_in(alloc, &text)
 }
 
-/// The same for a text that an instance has.
+/// The same for a text that an instance sees.
 fn children_seen(alloc: Global, pool: &Pool, seen: Seen) -> Result<Option<Vec<Digest>>, AllocError>
-    requires { (k : ℕ) → holders_seen seen k ≤ count_at pool.now k }
     ensures { IfOk result (λ found. option_map (λ digests. digests.items) found
         ≡ children_in (text_seen pool.now seen)) }
 {
     match seen {
         Seen::Empty => children_in(alloc, &[]),
-        Seen::Text(kept) => {
-            let hold = pool.back(kept);
-            let children = children_held(alloc, pool, &hold);
-            let _ = keep(hold);
-            children
-        }
+        Seen::Text(kept) => children_kept(alloc, pool, kept),
     }
 }
 
-/// The digests of the directories in the directory of a digest, or `None` where an instance has no
+/// The digests of the directories in the directory of a digest, or `None` where an instance sees no
 /// text of it or one that spells no directory that is taken.
 pub fn children(
     alloc: Global,
-    view: &View,
+    view: &Sight<'_>,
     pool: &Pool,
     digest: &Digest,
 ) -> Result<Option<Vec<Digest>>, AllocError>
-    requires { (k : ℕ) → holders view.now k ≤ count_at pool.now k }
     ensures { IfOk result (λ found. option_map (λ digests. digests.items) found
         ≡ children (texts_of pool.now view.now) digest.now) }
 {
@@ -131,14 +123,13 @@ pub fn children(
     }
 }
 
-/// A copy of the text that an instance has of a digest, empty where it has none.
+/// A copy of the text that an instance sees of a digest, empty where it sees none.
 pub fn text_or_none(
     alloc: Global,
-    view: &View,
+    view: &Sight<'_>,
     pool: &Pool,
     digest: &Digest,
 ) -> Result<Vec<u8>, AllocError>
-    requires { (k : ℕ) → holders view.now k ≤ count_at pool.now k }
     ensures { IfOk result (λ text. text.items
         ≡ text_or_none (texts_of pool.now view.now) digest.now) }
 {

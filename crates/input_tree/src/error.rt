@@ -6,7 +6,7 @@ ghost use Rattle.input_tree.specs.declared.error.GetTreeError.TheVariants.{Refus
 use std::alloc::{AllocError, AllocFailed};
 
 /// Why a tree is refused.
-#[derive(Clone, Copy, PartialEq, Eq)]
+#[derive(Clone, Copy, Debug, PartialEq, Eq)]
 pub enum TreeRefusal {
     /// There is no text of the root's digest.
     NotFound,
@@ -19,7 +19,7 @@ pub enum TreeRefusal {
 }
 
 /// Why a tree is not given.
-#[derive(Clone, Copy, PartialEq, Eq)]
+#[derive(Clone, Copy, Debug, PartialEq, Eq)]
 pub enum GetTreeError {
     /// The tree is refused.
     Refused(TreeRefusal),

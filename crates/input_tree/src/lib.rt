@@ -14,7 +14,7 @@ mod uses;
 pub use directory::{MOST_DIRECTORY_BYTES, check, text_or_none};
 pub use error::{GetTreeError, TreeRefusal};
 pub use listing::{MOST_DIRECTORIES, list_tree};
-pub use nodes::digest_written;
+pub use nodes::{digest_written, is_name};
 pub use pages::{MOST_PAGE_BYTES, MOST_PAGE_DIRECTORIES};
 pub use tree::get_tree;
 pub use uses::use_all;

@@ -1,8 +1,6 @@
 //! The list of a tree's directories.
 
-ghost use Rattle.std.specs.Prelude.{◌≡◌, ◌≤◌, ℕ, Ok, IfErr, OnOk};
-ghost use Rattle.blob_pool.specs.Slots.{count_at};
-ghost use Rattle.instance_view.specs.Shown.{holders};
+ghost use Rattle.std.specs.Prelude.{◌≡◌, Ok, IfErr, OnOk};
 ghost use Rattle.input_tree.specs.Answers.{Fails, Lists};
 ghost use Rattle.input_tree.specs.Listing.{AreNone, children, listed_along, tree_list, with_listed, with_all_listed, with_children};
 ghost use Rattle.input_tree.specs.Texts.{texts_of};
@@ -12,7 +10,7 @@ use crate::error::{GetTreeError, TreeRefusal};
 use blob_pool::Pool;
 use digest::Digest;
 use indexmap::IndexSet;
-use instance_view::View;
+use instance_view::Sight;
 use std::alloc::{AllocError, Global};
 
 /// The most directories that a tree's list has.
@@ -28,12 +26,11 @@ pub struct Listing {
 /// Lists a directory that is not listed yet.
 fn list_one(
     alloc: Global,
-    view: &View,
+    view: &Sight<'_>,
     pool: &Pool,
     listing: &mut Listing,
     digest: &Digest,
 ) -> Result<(), AllocError>
-    requires held { (k : ℕ) → holders view.now k ≤ count_at pool.now k }
     requires others { AreNone (texts_of pool.now view.now) listing.old.others.keys }
     ensures listed { OnOk result (listing.new.listed.keys
         ≡ with_listed (texts_of pool.now view.now) listing.old.listed.keys digest.now) }
@@ -53,12 +50,11 @@ fn list_one(
 /// Lists the directories that are not listed yet, in order.
 fn list_each(
     alloc: Global,
-    view: &View,
+    view: &Sight<'_>,
     pool: &Pool,
     listing: &mut Listing,
     digests: &[Digest],
 ) -> Result<(), AllocError>
-    requires held { (k : ℕ) → holders view.now k ≤ count_at pool.now k }
     requires others { AreNone (texts_of pool.now view.now) listing.old.others.keys }
     ensures listed { OnOk result (listing.new.listed.keys
         ≡ with_all_listed (texts_of pool.now view.now) listing.old.listed.keys digests.now) }
@@ -75,12 +71,11 @@ fn list_each(
 /// Lists what is in a directory.
 fn list_children(
     alloc: Global,
-    view: &View,
+    view: &Sight<'_>,
     pool: &Pool,
     listing: &mut Listing,
     digest: &Digest,
 ) -> Result<(), AllocError>
-    requires held { (k : ℕ) → holders view.now k ≤ count_at pool.now k }
     requires others { AreNone (texts_of pool.now view.now) listing.old.others.keys }
     ensures listed { OnOk result (listing.new.listed.keys
         ≡ with_children (texts_of pool.now view.now) listing.old.listed.keys digest.now) }
@@ -96,11 +91,10 @@ fn list_children(
 #[tactic(auto, using(crate::proofs::Listed::along_full, crate::proofs::Listed::along_next, crate::proofs::Listed::along_end))]
 fn list_along(
     alloc: Global,
-    view: &View,
+    view: &Sight<'_>,
     pool: &Pool,
     listing: &mut Listing,
 ) -> Result<(), GetTreeError>
-    requires held { (k : ℕ) → holders view.now k ≤ count_at pool.now k }
     requires others { AreNone (texts_of pool.now view.now) listing.old.others.keys }
     ensures ok { OnOk result (listed_along MOST_DIRECTORIES
         (texts_of pool.now view.now) listing.old.listed.keys 0 ≡ Ok listing.new.listed.keys) }
@@ -125,11 +119,10 @@ fn list_along(
 /// A directory is read once for its own place, and once at most for all that name it.
 pub fn list_tree(
     alloc: Global,
-    view: &View,
+    view: &Sight<'_>,
     pool: &Pool,
     root: &Digest,
 ) -> Result<IndexSet<Digest>, GetTreeError>
-    requires held { (k : ℕ) → holders view.now k ≤ count_at pool.now k }
     ensures { Lists result (tree_list (texts_of pool.now view.now) root.now) }
 {
     if !view.contains(root) {

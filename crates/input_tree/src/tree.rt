@@ -1,8 +1,9 @@
 //! GetTree.
 
-ghost use Rattle.std.specs.Prelude.{◌≡◌, ◌<◌, ◌≤◌, ◌^◌, ℕ, length, map, IfOk, OnOk, OnErr};
-ghost use Rattle.blob_pool.specs.Slots.{Slots, count_at};
+ghost use Rattle.std.specs.Prelude.{◌≡◌, ◌<◌, ◌^◌, ℕ, length, map, IfOk, OnOk, OnErr};
+ghost use Rattle.blob_pool.specs.Slots.{Slots};
 ghost use Rattle.instance_view.specs.Shown.{visible_in, holders};
+ghost use Rattle.instance_view.specs.Sight.{sight_of};
 ghost use Rattle.input_tree.specs.Answers.{Answers};
 ghost use Rattle.input_tree.specs.Listing.{tree_list};
 ghost use Rattle.input_tree.specs.Pages.{digests_of, texts, pages_of, get_tree_reply};
@@ -16,17 +17,16 @@ use crate::pages::{pages, place_asked, size_asked};
 use crate::uses::use_all;
 use blob_pool::Pool;
 use digest::Digest;
-use instance_view::View;
+use instance_view::{Sight, View};
 use std::alloc::{AllocError, Global};
 
 /// Copies of the texts of digests, empty where there is none.
 fn copies(
     alloc: Global,
-    view: &View,
+    view: &Sight<'_>,
     pool: &Pool,
     digests: &[Digest],
 ) -> Result<Vec<Vec<u8>>, AllocError>
-    requires { (k : ℕ) → holders view.now k ≤ count_at pool.now k }
     ensures { IfOk result (λ copies. map (λ t. t.items) copies.items
         ≡ texts (texts_of pool.now view.now) digests.now) }
 {
@@ -42,13 +42,12 @@ fn copies(
 /// The responses that give the directories of a list, from the place that a request asks for.
 fn responses(
     alloc: Global,
-    view: &View,
+    view: &Sight<'_>,
     pool: &Pool,
     listed: &[Digest],
     page_size: i32,
     page_token: &str,
 ) -> Result<Vec<Vec<u8>>, GetTreeError>
-    requires held { (k : ℕ) → holders view.now k ≤ count_at pool.now k }
     requires short { length listed.now < 2 ^ 63 }
     ensures { Answers (λ pages. map (λ page. page.items) pages.items) result
         (pages_of (texts_of pool.now view.now) page_size page_token.now listed.now) }
@@ -63,8 +62,9 @@ fn responses(
 }
 
 /// Answers GetTree: the responses, as messages in order, that give the directories of the root's
-/// tree, from the place that the token says on. Each directory of the list is then used, in order.
-/// A refusal changes nothing.
+/// tree, from the place that the token says on. Directories are read as the instance sees them:
+/// its own text, or else its parent's. Each directory of the list is then used, in order, where it
+/// is the instance's own. An error changes nothing.
 ///
 /// The list is that of `list_tree`. `page_size` is the most directories of a page: 0, and more than
 /// 1,000, are 1,000. A page takes directories until it is full or the next would bring their
@@ -73,24 +73,27 @@ fn responses(
 pub fn get_tree(
     alloc: Global,
     view: &mut View,
+    parent: &View,
     pool: &Pool,
     root: &Digest,
     page_size: i32,
     page_token: &str,
 ) -> Result<Vec<Vec<u8>>, GetTreeError>
-    requires held { (k : ℕ) → holders view.old k ≤ count_at pool.now k }
-    ensures pages { Answers (λ pages. map (λ page. page.items) pages.items) result
-        (get_tree_reply (texts_of pool.now view.old) root.now page_size page_token.now) }
-    ensures used { (p : Slots) → OnOk result
-        (visible_in p view.new
-        ≡ visible_after_uses (digests_of (tree_list (texts_of pool.now view.old) root.now))
-        (visible_in p view.old)) }
+    ensures pages { let look = texts_of pool.now (sight_of view.old parent.now) in
+        Answers (λ pages. map (λ page. page.items) pages.items) result
+        (get_tree_reply look root.now page_size page_token.now) }
+    ensures used { (p : Slots) →
+        let look = texts_of pool.now (sight_of view.old parent.now) in
+        OnOk result (visible_in p view.new
+        ≡ visible_after_uses (digests_of (tree_list look root.now)) (visible_in p view.old)) }
     ensures err { OnErr result (view.new ≡ view.old) }
     ensures holders { (k : ℕ) → holders view.new k ≡ holders view.old k }
     ensures limit { view.new.limit ≡ view.old.limit }
 {
-    let listed = list_tree(alloc, view, pool, root)?;
-    let pages = responses(alloc, view, pool, listed.as_slice(), page_size, page_token)?;
-    use_all(view, listed.as_slice());
+    let sight = Sight::new(view, parent);
+    let listed = list_tree(alloc, &sight, pool, root)?;
+    let listed = listed.as_slice();
+    let pages = responses(alloc, &sight, pool, listed, page_size, page_token)?;
+    use_all(view, listed);
     Ok(pages)
 }

@@ -1,6 +1,6 @@
 -- An event of a call keeps the limits of an instance, and stores only what is named.
 use Rattle.std.proofs.Common.{◌≡◌, ◌<◌, ◌^◌, ℕ, Bool, true, false, cond, List, [], ◌∷◌, ◌++◌, map, Option, Some, None, Result, Ok, Err, refl, ◌∙◌, subst, arith}
-use Rattle.std.specs.Prelude.{◌==◌}
+use Rattle.std.specs.Prelude.{◌==◌, is_some}
 use Rattle.std.specs.List.{AllByRecursion, IsDistinct}
 use Rattle.std.specs.Map.{keys_of}
 use Rattle.std.proofs.lemmas.Bool.Decides.{nat_tests}
@@ -10,24 +10,30 @@ use Rattle.rpc.specs.declared.method.Method.TheVariants as Called
 use Rattle.rpc.specs.declared.refusal.Refusal.{Refusal}
 use Rattle.cas_service.specs.Changes as Texts
 use Rattle.uploads.proofs.ListLemmas.{within_unexpired}
-use Rattle.instance_view.specs.Visible.{Blob}
+use Rattle.digest.specs.declared.Digest.{Digest}
+use Rattle.instance_view.specs.Visible.{Blob, visible_text}
 use Rattle.bytestream.specs.Writing as Writing
-use Rattle.bytestream.specs.Writing.{OpenWriteValue, WrittenValue, first_asked, next_asked}
+use Rattle.bytestream.specs.Writing.{OpenWriteValue, PartValue, FirstAsked, WrittenValue, first_asked, next_asked, after_part}
+use Rattle.bytestream.specs.Reading.{read_asked}
 use Rattle.instance_core.specs.declared.event.CallId.{CallId}
 use Rattle.instance_core.specs.Calls.{Calls, ProgressValue, waits, has, writes, CallValue, CallEventValue, head, message, fault, end, cancel, tick, same_call, call_at, with_call, without_call, IsShortEvent, IsShortProgress}
-use Rattle.instance_core.specs.State.{InstanceState, IsInstanceWithin, most_blobs}
+use Rattle.instance_core.specs.State.{seen, InstanceState, IsInstanceWithin, most_blobs}
 use Rattle.tree_calls.specs.Complete.{AreResultsWithin}
-use Rattle.tree_calls.specs.Results.{after_get, after_update}
+use Rattle.tree_calls.specs.Results.{after_get, after_update, get_action_result_changes}
+use Rattle.tree_calls.specs.GetTree.{get_tree_changes}
+use Rattle.cas_service.specs.FindMissing.{find_missing_changes}
+use Rattle.cas_service.specs.BatchUpdate.{batch_update_changes}
+use Rattle.cas_service.specs.BatchRead.{batch_read_changes}
 use Rattle.tree_calls.proofs.Short.{get_stays_within, update_stays_within}
-use Rattle.instance_core.specs.Methods.{is_served, text_changes, result_changes, request_changes}
+use Rattle.instance_core.specs.Methods.{is_served, use_asked, request_changes}
 use Rattle.instance_core.specs.Changes.{InstanceChange, Text, Goes, Ends, Wrote, Keeps, Expires, state_after_change, state_after_changes}
-use Rattle.instance_core.specs.Writes.{write_state, part_of, first_changes, next_changes, first_outcome, next_outcome}
+use Rattle.instance_core.specs.Writes.{write_state, with_part, part_changes, first_part_changes, changes_asked, first_changes, next_changes, first_outcome, next_outcome}
 use Rattle.instance_core.proofs.Entries.{with_short, without_short}
 use Rattle.instance_core.specs.Answer.{answer, state_after, head_answer, first_write_answer, next_write_answer, first_message_answer, answer_by_progress, message_answer, fault_answer, end_answer_by_progress, request_end_answer}
 use Rattle.instance_core.specs.Named.{StoresNamedText, StoresNamed}
-use Rattle.instance_core.proofs.NamedTexts.{all_append, changes_named, change_within}
-use Rattle.instance_core.proofs.WriteLimits.{IsWithin, piece_within, first_within, next_within, goes_below}
-use Rattle.instance_core.proofs.WriteAdds.{piece_adds, first_adds, next_adds}
+use Rattle.instance_core.proofs.NamedTexts.{all_append, find_named, update_named, batch_named, tree_named, get_named, read_named, change_within}
+use Rattle.instance_core.proofs.WriteLimits.{IsWithin, piece_within, whole_within, goes_below}
+use Rattle.instance_core.proofs.WriteAdds.{piece_adds, whole_adds}
 
 -- ---- calls in course
 
@@ -90,12 +96,12 @@ KeepsLimits quota (Keeps results) = AreResultsWithin results
 KeepsLimits quota Expires = Unit {0}
 
 change_keeps : (c : InstanceChange) (s : InstanceState) → KeepsLimits s.quota c → IsInstanceWithin s → IsInstanceWithin (state_after_change c s)
-change_keeps (Text c) s good w = record { quota = w.quota; texts = change_within most_blobs s.quota c s.visible (omega arith) good w.texts; uploads = w.uploads; results = w.results; calls = w.calls; messages = w.messages }
-change_keeps (Goes id call) s good w = record { quota = w.quota; texts = w.texts; uploads = w.uploads; results = w.results; calls = with_once id call s.calls w.calls; messages = with_short id call s.calls good w.messages }
-change_keeps (Ends id) s good w = record { quota = w.quota; texts = w.texts; uploads = w.uploads; results = w.results; calls = without_once id s.calls w.calls; messages = without_short id s.calls w.messages }
-change_keeps (Wrote left) s good w = record { quota = w.quota; texts = good.texts; uploads = good.uploads; results = w.results; calls = w.calls; messages = w.messages }
-change_keeps (Keeps results) s good w = record { quota = w.quota; texts = w.texts; uploads = w.uploads; results = good; calls = w.calls; messages = w.messages }
-change_keeps Expires s good w = record { quota = w.quota; texts = w.texts; uploads = within_unexpired s.quota s.moment s.uploads w.uploads; results = w.results; calls = w.calls; messages = w.messages }
+change_keeps (Text c) s good w = record { quota = w.quota; texts = change_within most_blobs s.quota c s.visible (omega arith) good w.texts; uploads = w.uploads; results = w.results; calls = w.calls; messages = w.messages; parent = w.parent }
+change_keeps (Goes id call) s good w = record { quota = w.quota; texts = w.texts; uploads = w.uploads; results = w.results; calls = with_once id call s.calls w.calls; messages = with_short id call s.calls good w.messages; parent = w.parent }
+change_keeps (Ends id) s good w = record { quota = w.quota; texts = w.texts; uploads = w.uploads; results = w.results; calls = without_once id s.calls w.calls; messages = without_short id s.calls w.messages; parent = w.parent }
+change_keeps (Wrote left) s good w = record { quota = w.quota; texts = good.texts; uploads = good.uploads; results = w.results; calls = w.calls; messages = w.messages; parent = w.parent }
+change_keeps (Keeps results) s good w = record { quota = w.quota; texts = w.texts; uploads = w.uploads; results = good; calls = w.calls; messages = w.messages; parent = w.parent }
+change_keeps Expires s good w = record { quota = w.quota; texts = w.texts; uploads = within_unexpired s.quota s.moment s.uploads w.uploads; results = w.results; calls = w.calls; messages = w.messages; parent = w.parent }
 
 same_quota : (c : InstanceChange) (s : InstanceState) → s.quota ≡ (state_after_change c s).quota
 same_quota (Text c) s = refl
@@ -119,7 +125,7 @@ record Allows (s : InstanceState) (P : InstanceChange → Type 0) : Type 0 where
   written : (id : CallId) (method : Method) (write : OpenWriteValue) → write.key.digest.size < 2 ^ 63 → P (Goes id (record { method = method; progress = writes write }))
   ended : (id : CallId) → P (Ends id)
   expired : P Expires
-  moved : (message : List ℕ) → P (Keeps (after_get s.name s.visible s.results message))
+  moved : (message : List ℕ) → P (Keeps (after_get s.name (seen s) s.results message))
   sent : (message : List ℕ) → P (Keeps (after_update s.name s.results message))
   first : (bytes : List ℕ) → AllByRecursion P (first_changes s bytes)
   next : (write : OpenWriteValue) (bytes : List ℕ) → AllByRecursion P (next_changes s write bytes)
@@ -181,15 +187,15 @@ message_holds s P a id bytes None keeps = tt
 message_holds s P a id bytes (Some call) keeps = with_holds s P a id call.method bytes call.progress keeps
 
 -- the end of a request
-results_hold : (s : InstanceState) (P : InstanceChange → Type 0) → Allows s P → (method : Method) (request : List ℕ) → AllAre P (result_changes method s request)
-results_hold s P a Called.GetActionResult request = (a.moved request, tt)
-results_hold s P a Called.UpdateActionResult request = (a.sent request, tt)
-results_hold s P a method request = tt
-
 changes_hold : (s : InstanceState) (P : InstanceChange → Type 0) → Allows s P → (method : Method) (request : List ℕ) → AllAre P (request_changes method s request)
-changes_hold s P a method request =
-    all_append P (map Text (text_changes method s request)) (result_changes method s request)
-    (texts_hold s P a (text_changes method s request) (changes_named method s request)) (results_hold s P a method request)
+changes_hold s P a Called.FindMissingBlobs request = texts_hold s P a (find_missing_changes s.name request) (find_named s request)
+changes_hold s P a Called.BatchUpdateBlobs request = texts_hold s P a (batch_update_changes s.name s.quota request) (update_named s request)
+changes_hold s P a Called.BatchReadBlobs request = texts_hold s P a (batch_read_changes s.name request) (batch_named s request)
+changes_hold s P a Called.GetTree request = texts_hold s P a (get_tree_changes s.name (seen s) request) (tree_named s request)
+changes_hold s P a Called.GetActionResult request = (a.moved request, texts_hold s P a (get_action_result_changes s.name (seen s) s.results request) (get_named s request))
+changes_hold s P a Called.UpdateActionResult request = (a.sent request, tt)
+changes_hold s P a Called.Read request = texts_hold s P a (use_asked (read_asked s.name request)) (read_named s request)
+changes_hold s P a method request = tt
 
 request_holds : (s : InstanceState) (P : InstanceChange → Type 0) → Allows s P → (id : CallId) (method : Method) (p : ProgressValue) → AllAre P (end_answer_by_progress s id method p).changes
 request_holds s P a id method waits = (a.ended id, tt)
@@ -212,6 +218,28 @@ answer_holds s P a (end id) keeps = end_holds s P a id (call_at id s.calls)
 answer_holds s P a (cancel id) keeps = (a.ended id, tt)
 answer_holds s P a tick keeps = (a.expired, tt)
 
+-- ---- a message of a Write
+
+-- both changes of a part
+abbrev AllowsPart : Bool → InstanceState → (InstanceChange → Type 0) → Type 0
+AllowsPart first s P = (part : PartValue) → P (Wrote (with_part first s part)) × P (Wrote (after_part first most_blobs s.quota s.moment part (write_state s)))
+
+first_by : (s : InstanceState) (P : InstanceChange → Type 0) → ((d : Digest) → P (Text (Texts.Use d))) → AllowsPart true s P → (bytes : List ℕ) → AllAre P (first_changes s bytes)
+first_by s P used both bytes = go (first_asked s.name bytes) where
+  seen_or_not : (asked : FirstAsked) (b : Bool) → AllAre P (cond b (Text (Texts.Use asked.part.key.digest) ∷ []) (part_changes true s asked.part))
+  seen_or_not asked true = (used asked.part.key.digest, tt)
+  seen_or_not asked false = let two = both asked.part in (two.0, (two.1, tt))
+
+  go : (r : Result FirstAsked Refusal) → AllAre P (changes_asked (first_part_changes s) r)
+  go (Ok asked) = seen_or_not asked (is_some (visible_text asked.part.key.digest s.visible))
+  go (Err refusal) = tt
+
+next_by : (s : InstanceState) (P : InstanceChange → Type 0) → AllowsPart false s P → (write : OpenWriteValue) (bytes : List ℕ) → AllAre P (next_changes s write bytes)
+next_by s P both write bytes = go (next_asked write bytes) where
+  go : (r : Result PartValue Refusal) → AllAre P (changes_asked (part_changes false s) r)
+  go (Ok part) = let two = both part in (two.0, (two.1, tt))
+  go (Err refusal) = tt
+
 -- ---- the limits
 
 limits_allow : (s : InstanceState) → IsInstanceWithin s → Allows s (KeepsLimits s.quota)
@@ -223,10 +251,10 @@ limits_allow s w =
       written = λ id method write below. below;
       ended = λ id. tt;
       expired = tt;
-      moved = λ message. get_stays_within s.name s.visible s.results message w.results;
+      moved = λ message. get_stays_within s.name (seen s) s.results message w.results;
       sent = λ message. update_stays_within s.name s.results message w.results;
-      first = λ bytes. (piece_within true s (part_of (first_asked s.name bytes)) here, (first_within s.name s.quota s.moment bytes (write_state s) here, tt));
-      next = λ write bytes. (piece_within false s (next_asked write bytes) here, (next_within write s.quota s.moment bytes (write_state s) here, tt));
+      first = λ bytes. first_by s (KeepsLimits s.quota) (λ d. tt) (λ part. (piece_within true s part here, whole_within true s part here)) bytes;
+      next = λ write bytes. next_by s (KeepsLimits s.quota) (λ part. (piece_within false s part here, whole_within false s part here)) write bytes;
     }
 
 message_short : (quota : ℕ) (event : CallEventValue) → IsShortEvent event → KeepsMessageOf (KeepsLimits quota) event
@@ -251,8 +279,8 @@ names_allow s = record {
   expired = tt;
   moved = λ message. tt;
   sent = λ message. tt;
-  first = λ bytes. (piece_adds true s (part_of (first_asked s.name bytes)), (first_adds s.name most_blobs s.quota s.moment bytes (write_state s), tt));
-  next = λ write bytes. (piece_adds false s (next_asked write bytes), (next_adds write most_blobs s.quota s.moment bytes (write_state s), tt));
+  first = λ bytes. first_by s (StoresNamed s.visible) (λ d. tt) (λ part. (piece_adds true s part, whole_adds true s part)) bytes;
+  next = λ write bytes. next_by s (StoresNamed s.visible) (λ part. (piece_adds false s part, whole_adds false s part)) write bytes;
 }
 
 message_stores : (visible : List Blob) (event : CallEventValue) → KeepsMessageOf (StoresNamed visible) event

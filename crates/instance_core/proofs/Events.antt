@@ -18,12 +18,21 @@ use Rattle.bytestream.specs.Writing as Writing
 use Rattle.bytestream.specs.Writing.{WrittenValue, unfinished_reply}
 use Rattle.instance_core.specs.declared.event.CallId.{CallId}
 use Rattle.instance_core.specs.Calls.{Calls, CallValue, ProgressValue, waits, has, writes, CallEventValue, head, message, fault, end, cancel, tick, same_call, call_at, IsShortRequest, IsShortProgress, KeepShort}
-use Rattle.instance_core.specs.State.{InstanceState, IsInstanceWithin}
-use Rattle.instance_core.specs.Slots.{InstanceSlots, state_in, IsInstanceInPool}
-use Rattle.instance_core.specs.Methods.{is_served, reply_to, items_to}
+use Rattle.instance_core.specs.State.{InstanceState, IsInstanceWithin, seen}
+use Rattle.instance_core.proofs.Sees.{all_named}
+use Rattle.instance_view.specs.Shown.{ViewValue}
+use Rattle.instance_core.specs.Slots.{state_beside, IsBeside}
+use Rattle.instance_core.specs.Slots.{InstanceSlots, IsInstanceInPool}
+use Rattle.instance_core.specs.Methods.{is_served, answer_to}
+use Rattle.cas_service.specs.FindMissing.{find_missing_reply}
+use Rattle.cas_service.specs.BatchUpdate.{batch_update_reply}
+use Rattle.cas_service.specs.BatchRead.{batch_read_reply}
+use Rattle.bytestream.specs.Querying.{query_reply}
 use Rattle.tree_calls.specs.GetTree.{get_tree_replies}
+use Rattle.tree_calls.specs.Results.{get_action_result_reply, update_action_result_reply}
+use Rattle.instance_core.specs.Capabilities.{get_capabilities_reply}
 use Rattle.tree_calls.proofs.Short.{get_tree_short, get_action_result_short, update_action_result_short}
-use Rattle.instance_core.specs.Replies.{ReplyValue, IsShortReplyItem, IsShortReply, reply_items, message_items, whole_reply_items, gives, ends, read_items}
+use Rattle.instance_core.specs.Replies.{AnswerValue, one_message, messages, range, answering, items_of, ReplyValue, IsShortReplyItem, IsShortReply, says, gives, ends}
 use Rattle.instance_core.specs.Changes.{InstanceChange}
 use Rattle.instance_core.specs.Writes.{first_changes, next_changes, first_outcome, next_outcome}
 use Rattle.instance_core.specs.Answer.{reply_with, continuation_answer, head_answer, first_write_answer, next_write_answer, first_message_answer, answer_by_progress, message_answer, fault_answer, end_answer_by_progress, request_end_answer, answer}
@@ -34,23 +43,9 @@ use Rattle.instance_core.proofs.Told.{first_short, next_short, query_short, unfi
 
 -- ---- replies
 
-if_ok : (r : Result (List ℕ) Refusal) → ((reply : List ℕ) → r ≡ Ok reply → length reply < 2 ^ 32) → AllByRecursion IsShortReplyItem (reply_items r)
+if_ok : (r : Result (List ℕ) Refusal) → ((reply : List ℕ) → r ≡ Ok reply → length reply < 2 ^ 32) → AllByRecursion IsShortReplyItem (items_of (answering one_message r))
 if_ok (Ok reply) f = (tt, (f reply refl, (tt, tt)))
 if_ok (Err e) f = (tt, tt)
-
-reply_short : (method : Method) (s : InstanceState) (request : List ℕ) → IsInstanceWithin s → IsShortRequest request → AllByRecursion IsShortReplyItem (reply_items (reply_to method s request))
-reply_short FindMissingBlobs s request w short = if_ok (reply_to FindMissingBlobs s request) (λ reply h. find_missing_short s.name s.visible request reply short h)
-reply_short BatchUpdateBlobs s request w short = if_ok (reply_to BatchUpdateBlobs s request) (λ reply h. batch_update_short s.name s.quota request reply short h)
-reply_short BatchReadBlobs s request w short = if_ok (reply_to BatchReadBlobs s request) (λ reply h. batch_read_short s.name s.visible request reply w.texts.named short h)
-reply_short GetCapabilities s request w short = if_ok (reply_to GetCapabilities s request) (λ reply h. get_capabilities_short s.name s.slots request reply h)
-reply_short QueryWriteStatus s request w short = if_ok (reply_to QueryWriteStatus s request) (λ reply h. query_short s.name s.quota s.visible s.uploads request reply w.quota w.uploads h)
-reply_short GetTree s request w short = (tt, tt)
-reply_short GetActionResult s request w short = if_ok (reply_to GetActionResult s request) (λ reply h. get_action_result_short s.name s.visible s.results request reply w.results h)
-reply_short UpdateActionResult s request w short = if_ok (reply_to UpdateActionResult s request) (λ reply h. update_action_result_short s.name request reply short h)
-reply_short Execute s request w short = (tt, tt)
-reply_short WaitExecution s request w short = (tt, tt)
-reply_short Read s request w short = (tt, tt)
-reply_short Write s request w short = (tt, tt)
 
 -- ---- ranges
 
@@ -73,7 +68,7 @@ read_within own visible request source h =
     let asked = bind_ok (read_asked own request) _ source h in
     range_within asked.0 (visible_text asked.0.digest visible) source asked.2
 
-read_short : (r : Result SourceValue Refusal) → ((source : SourceValue) → r ≡ Ok source → source.until ≤ length source.text) → AllByRecursion IsShortReplyItem (read_items r)
+read_short : (r : Result SourceValue Refusal) → ((source : SourceValue) → r ≡ Ok source → source.until ≤ length source.text) → AllByRecursion IsShortReplyItem (items_of (answering range r))
 read_short (Err refusal) f = (tt, tt)
 read_short (Ok source) f = (tt, go (nat_lt source.from source.until) refl) where
   go : (b : Bool) → nat_lt source.from source.until ≡ b → AllByRecursion IsShortReplyItem (cond b (gives source ∷ []) [] ++ ends ∷ [])
@@ -82,27 +77,51 @@ read_short (Ok source) f = (tt, go (nat_lt source.from source.until) refl) where
 
 -- ---- pages
 
-said_short : (messages : List (List ℕ)) → AllByRecursion (λ message. length message < 2 ^ 32) messages → AllByRecursion IsShortReplyItem (message_items messages ++ ends ∷ [])
+said_short : (messages : List (List ℕ)) → AllByRecursion (λ message. length message < 2 ^ 32) messages → AllByRecursion IsShortReplyItem (map says messages ++ ends ∷ [])
 said_short [] h = (tt, tt)
 said_short (m ∷ ms) h = (h.0, said_short ms h.1)
 
-messages_short : (r : Result (List (List ℕ)) Refusal) → ((messages : List (List ℕ)) → r ≡ Ok messages → AllByRecursion (λ message. length message < 2 ^ 32) messages) → AllByRecursion IsShortReplyItem (whole_reply_items r)
-messages_short (Ok messages) f = (tt, said_short messages (f messages refl))
+messages_short : (r : Result (List (List ℕ)) Refusal) → ((messages : List (List ℕ)) → r ≡ Ok messages → AllByRecursion (λ message. length message < 2 ^ 32) messages) → AllByRecursion IsShortReplyItem (items_of (answering messages r))
+messages_short (Ok list) f = (tt, said_short list (f list refl))
 messages_short (Err refusal) f = (tt, tt)
 
-items_short : (method : Method) (s : InstanceState) (request : List ℕ) → IsInstanceWithin s → IsShortRequest request → AllByRecursion IsShortReplyItem (items_to method s request)
-items_short Read s request w short = read_short (read_answer s.name s.visible request) (read_within s.name s.visible request)
-items_short FindMissingBlobs s request w short = reply_short FindMissingBlobs s request w short
-items_short BatchUpdateBlobs s request w short = reply_short BatchUpdateBlobs s request w short
-items_short BatchReadBlobs s request w short = reply_short BatchReadBlobs s request w short
-items_short GetCapabilities s request w short = reply_short GetCapabilities s request w short
-items_short QueryWriteStatus s request w short = reply_short QueryWriteStatus s request w short
-items_short GetTree s request w short = messages_short (get_tree_replies s.name s.visible request) (λ pages h. get_tree_short s.name s.visible request pages h)
-items_short GetActionResult s request w short = reply_short GetActionResult s request w short
-items_short UpdateActionResult s request w short = reply_short UpdateActionResult s request w short
-items_short Execute s request w short = (tt, tt)
-items_short WaitExecution s request w short = (tt, tt)
-items_short Write s request w short = (tt, tt)
+-- ---- a whole request
+
+no_range : {X : Type 0} {source : SourceValue} (shape : X → AnswerValue) → ((x : X) → shape x ≡ range source → ⊥) → (r : Result X Refusal) → answering shape r ≡ Ok (range source) → source.until ≤ length source.text
+no_range shape other (Ok x) h = absurd (other x (ok_is _ _ h))
+no_range shape other (Err refusal) h = absurd (cc)
+
+answer_short : (method : Method) (s : InstanceState) (request : List ℕ) → IsInstanceWithin s → IsShortRequest request → AllByRecursion IsShortReplyItem (items_of (answer_to method s request))
+answer_short FindMissingBlobs s request w short = if_ok (find_missing_reply s.name (seen s) request) (λ reply h. find_missing_short s.name (seen s) request reply short h)
+answer_short BatchUpdateBlobs s request w short = if_ok (batch_update_reply s.name s.quota request) (λ reply h. batch_update_short s.name s.quota request reply short h)
+answer_short BatchReadBlobs s request w short = if_ok (batch_read_reply s.name (seen s) request) (λ reply h. batch_read_short s.name (seen s) request reply (all_named s w) short h)
+answer_short GetTree s request w short = messages_short (get_tree_replies s.name (seen s) request) (λ pages h. get_tree_short s.name (seen s) request pages h)
+answer_short GetActionResult s request w short = if_ok (get_action_result_reply s.name (seen s) s.results request) (λ reply h. get_action_result_short s.name (seen s) s.results request reply w.results h)
+answer_short UpdateActionResult s request w short = if_ok (update_action_result_reply s.name request) (λ reply h. update_action_result_short s.name request reply short h)
+answer_short GetCapabilities s request w short = if_ok (get_capabilities_reply s.name s.slots request) (λ reply h. get_capabilities_short s.name s.slots request reply h)
+answer_short Read s request w short = read_short (read_answer s.name (seen s) request) (read_within s.name (seen s) request)
+answer_short QueryWriteStatus s request w short = if_ok (query_reply s.name s.visible s.uploads request) (λ reply h. query_short s.name s.quota s.visible s.uploads request reply w.quota w.uploads h)
+answer_short Execute s request w short = (tt, tt)
+answer_short WaitExecution s request w short = (tt, tt)
+answer_short Write s request w short = (tt, tt)
+
+-- a range that is answered ends within its text
+pub range_within_text : (method : Method) (s : InstanceState) (request : List ℕ) (source : SourceValue) → answer_to method s request ≡ Ok (range source) → source.until ≤ length source.text
+range_within_text Read s request source h = go (read_answer s.name (seen s) request) refl h where
+  go : (r : Result SourceValue Refusal) → read_answer s.name (seen s) request ≡ r → answering range r ≡ Ok (range source) → source.until ≤ length source.text
+  go (Ok given) is h = let same : given ≡ source = cc in rw (← same) (read_within s.name (seen s) request given is)
+  go (Err refusal) is h = absurd (cc)
+range_within_text GetTree s request source h = no_range messages (λ list same. cc) (get_tree_replies s.name (seen s) request) h
+range_within_text FindMissingBlobs s request source h = no_range one_message (λ bytes same. cc) (find_missing_reply s.name (seen s) request) h
+range_within_text BatchUpdateBlobs s request source h = no_range one_message (λ bytes same. cc) (batch_update_reply s.name s.quota request) h
+range_within_text BatchReadBlobs s request source h = no_range one_message (λ bytes same. cc) (batch_read_reply s.name (seen s) request) h
+range_within_text GetActionResult s request source h = no_range one_message (λ bytes same. cc) (get_action_result_reply s.name (seen s) s.results request) h
+range_within_text UpdateActionResult s request source h = no_range one_message (λ bytes same. cc) (update_action_result_reply s.name request) h
+range_within_text GetCapabilities s request source h = no_range one_message (λ bytes same. cc) (get_capabilities_reply s.name s.slots request) h
+range_within_text QueryWriteStatus s request source h = no_range one_message (λ bytes same. cc) (query_reply s.name s.visible s.uploads request) h
+range_within_text Execute s request source h = absurd (cc)
+range_within_text WaitExecution s request source h = absurd (cc)
+range_within_text Write s request source h = absurd (cc)
 
 -- ---- events
 
@@ -147,7 +166,7 @@ end_short s id None w h = tt
 end_short s id (Some call) w h = go call.progress h where
   go : (progress : ProgressValue) → IsShortProgress progress → AllByRecursion IsShortReply (end_answer_by_progress s id call.method progress).replies
   go waits h = ((tt, tt), tt)
-  go (has request) h = (items_short call.method s request w h, tt)
+  go (has request) h = (answer_short call.method s request w h, tt)
   go (writes write) h = ((tt, (unfinished_short s.quota write.key s.uploads w.quota w.uploads, (tt, tt))), tt)
 
 -- what is kept of a call is short
@@ -171,9 +190,14 @@ pub shown_short : (p : Slots) (r : Result (Vec Reply Global) AllocError) (rs : L
 shown_short p (Ok replies) rs is all = rw is all
 shown_short p (Err e) rs is all = tt
 
+pub within_beside : (p : Slots) (v : ViewValue) (i : InstanceSlots) → IsInstanceInPool p i → IsBeside p v i → IsInstanceWithin (state_beside p v i)
+within_beside p v i kept beside =
+    let w = kept.within in
+    record { quota = w.quota; texts = w.texts; uploads = w.uploads; results = w.results; calls = w.calls; messages = w.messages; parent = beside.named }
+
 -- what an instance answers to an event within its limits
-pub event_short : (p q : Slots) (i j : InstanceSlots) (event : CallEventValue) (r : Result (Vec Reply Global) AllocError) → i ≡ j → IsInstanceInPool p j →
-    IfOk r (λ replies. map (reply_shown q) replies.items ≡ (answer (state_in p i) event).replies) → IfOk r (λ replies. AllByRecursion IsShortReply (map (reply_shown q) replies.items))
-event_short p q i j event r same kept replies =
-    let within = subst (λ (k : InstanceSlots). IsInstanceWithin (state_in p k)) (sym same) kept.within in
-    shown_short q r (answer (state_in p i) event).replies replies (replies_short (state_in p i) event within)
+pub event_short : (p q : Slots) (v : ViewValue) (i j : InstanceSlots) (event : CallEventValue) (r : Result (Vec Reply Global) AllocError) → i ≡ j → IsInstanceInPool p j → IsBeside p v j →
+    IfOk r (λ replies. map (reply_shown q) replies.items ≡ (answer (state_beside p v i) event).replies) → IfOk r (λ replies. AllByRecursion IsShortReply (map (reply_shown q) replies.items))
+event_short p q v i j event r same kept beside replies =
+    let within = subst (λ (k : InstanceSlots). IsInstanceWithin (state_beside p v k)) (sym same) (within_beside p v j kept beside) in
+    shown_short q r (answer (state_beside p v i) event).replies replies (replies_short (state_beside p v i) event within)

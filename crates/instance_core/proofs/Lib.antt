@@ -1,6 +1,7 @@
 pub mod Entries
 mod Apart
 pub mod Answered
+pub mod Sees
 mod Parts
 mod Items
 mod Short
@@ -9,6 +10,9 @@ mod Told
 mod Writes
 mod Ranges
 pub mod Events
+mod Carrying
+mod Replying
+mod Beside
 pub mod NamedTexts
 mod StatedSizes
 pub mod WriteLimits

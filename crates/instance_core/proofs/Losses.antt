@@ -1,5 +1,5 @@
 -- What any front of an event's changes leaves: what is lost is lost by a rule.
-use Rattle.std.proofs.Common.{◌≡◌, ℕ, ◌+◌, ◌<◌, Bool, true, false, cond, List, [], ◌∷◌, ◌++◌, length, map, Option, Some, None, Result, Ok, Err, refl, sym, ap, ◌∙◌, subst, arith}
+use Rattle.std.proofs.Common.{◌≡◌, ℕ, ◌+◌, ◌<◌, Bool, true, false, cond, List, [], ◌∷◌, ◌++◌, length, map, Option, Some, None, Result, Ok, Err, refl, sym, ap, subst, arith}
 use Rattle.std.specs.Prelude.{◌==◌, ◌&&◌, not, is_some, nat_eq, nat_le, nat_lt}
 use Rattle.std.specs.List.{AllByRecursion}
 use Rattle.std.proofs.lemmas.Bool.Decides.{nat_tests}
@@ -8,32 +8,35 @@ use Rattle.rpc.specs.declared.method.Method.{Method}
 use Rattle.rpc.specs.declared.method.Method.TheVariants as Called
 use Rattle.rpc.specs.declared.refusal.Refusal.{Refusal}
 use Rattle.digest.specs.declared.Digest.{Digest}
-use Rattle.digest.specs.Naming.{Names, same_digest, digest_of}
+use Rattle.digest.specs.Naming.{Names, same_digest, digest_of, is_digest_of}
 use Rattle.digest.proofs.Same.{same_names}
-use Rattle.instance_view.specs.Visible.{Blob, visible_text, with_match_first}
+use Rattle.instance_view.specs.Visible.{visible_text, with_match_first}
 use Rattle.cas_service.specs.Changes as Texts
 use Rattle.uploads.specs.declared.error.UploadError.{UploadError}
 use Rattle.uploads.specs.declared.error.UploadError.TheVariants.{Offset, Size, Hash, TooMany, OverQuota, NoMemory}
 use Rattle.uploads.specs.declared.steps.TheConstants.{MOST_UPLOADS}
 use Rattle.uploads.specs.Uploads.{KeyValue, UploadList, upload_at, text_so_far, uploads_length}
-use Rattle.uploads.specs.Writing.{PieceValue, is_place, if_ok, piece_answer, may_begin, begin_answer, append_answer, call_answer, finish_answer, after_piece}
-use Rattle.action_cache.specs.Answering.{blobs_for, results_after}
-use Rattle.action_cache.specs.Results.{results_after_store}
+use Rattle.uploads.specs.Writing.{PieceValue, is_place, if_ok, piece_answer, finish_answer}
+use Rattle.action_cache.specs.Answering.{blobs_for}
 use Rattle.tree_calls.specs.Asking.{ResultSentValue, action_asked, result_sent}
-use Rattle.tree_calls.specs.GetTree.{texts_seen}
-use Rattle.tree_calls.specs.Results.{after_asking, after_get, after_sending, after_update}
+use Rattle.tree_calls.specs.GetTree.{texts_seen, get_tree_changes}
+use Rattle.tree_calls.specs.Results.{get_action_result_changes, after_asking, after_get, after_sending, after_update}
+use Rattle.cas_service.specs.FindMissing.{find_missing_changes}
+use Rattle.cas_service.specs.BatchUpdate.{batch_update_changes}
+use Rattle.cas_service.specs.BatchRead.{batch_read_changes}
+use Rattle.bytestream.specs.Reading.{read_asked}
 use Rattle.bytestream.specs.Writing as Writing
-use Rattle.bytestream.specs.Writing.{OpenWriteValue, PartValue, WrittenValue, WriteState, FirstAsked, first_asked, next_asked, part_outcome, after_last_part, after_end, after_taking, after_part, after_first_part, after_first_asked, after_first, after_next_asked, after_next}
+use Rattle.bytestream.specs.Writing.{OpenWriteValue, PartValue, WrittenValue, WriteState, FirstAsked, first_asked, next_asked, part_outcome, after_last_part, after_end, after_taking, after_part}
 use Rattle.instance_core.specs.declared.event.CallId.{CallId}
 use Rattle.instance_core.specs.Calls.{Calls, ProgressValue, waits, has, writes, CallValue, CallEventValue, head, message, fault, end, cancel, tick, call_at, with_call, without_call}
-use Rattle.instance_core.specs.State.{InstanceState, most_blobs}
+use Rattle.instance_core.specs.State.{InstanceState, most_blobs, seen}
 use Rattle.instance_core.specs.Changes.{InstanceChange, Text, Goes, Ends, Wrote, Keeps, Expires, state_after_change, state_after_changes, MadeInPart}
-use Rattle.instance_core.specs.Methods.{is_served, text_changes, result_changes}
+use Rattle.instance_core.specs.Methods.{is_served, use_asked, request_changes}
 use Rattle.instance_core.specs.Named.{StoresNamedText}
-use Rattle.instance_core.specs.Writes.{write_state, with_piece, with_part, part_of, first_changes, next_changes, first_outcome, next_outcome}
-use Rattle.instance_core.specs.Answer.{answer, state_after, head_answer, first_write_answer, next_write_answer, first_message_answer, answer_by_progress, message_answer, fault_answer, method_answer, end_answer_by_progress, request_end_answer}
+use Rattle.instance_core.specs.Writes.{write_state, with_piece, part_changes, first_part_changes, changes_asked, first_changes, next_changes, first_outcome, next_outcome}
+use Rattle.instance_core.specs.Answer.{answer, state_after, head_answer, first_write_answer, next_write_answer, first_message_answer, answer_by_progress, message_answer, fault_answer, end_answer_by_progress, request_end_answer}
 use Rattle.instance_core.specs.Losses.{ChangesByRule, CallsChange, BlobUsed, TextAdmitted, ResultUsed, ResultStored, PieceTaken, UploadFinished, UploadMisnamed, UploadTooLong, UploadsExpired, LeadsThrough, LosesByRules}
-use Rattle.instance_core.proofs.NamedTexts.{changes_named}
+use Rattle.instance_core.proofs.NamedTexts.{find_named, update_named, batch_named, tree_named, get_named, read_named}
 
 -- ---- chains
 
@@ -83,39 +86,36 @@ text_change : (s : InstanceState) (c : Texts.TextChange) → StoresNamedText c �
 text_change s (Texts.Use d) named = BlobUsed d refl
 text_change s (Texts.Store d text) named = TextAdmitted d text named refl
 
-texts_lose : (s r : InstanceState) (cs : List Texts.TextChange) (more ends : List InstanceChange) → r.results ≡ s.results → LosesByRules s r → AllByRecursion StoresNamedText cs
-    → ((q : InstanceState) → q.results ≡ s.results → LosesByRules s q → FrontsLose s q (more ++ ends)) → FrontsLose s r ((map Text cs ++ more) ++ ends)
-texts_lose s r [] more ends same h named rest = rest r same h
-texts_lose s r (c ∷ cs) more ends same h named rest =
+texts_lose : (s r : InstanceState) (id : CallId) (cs : List Texts.TextChange) → LosesByRules s r → AllByRecursion StoresNamedText cs → FrontsLose s r (map Text cs ++ Ends id ∷ [])
+texts_lose s r id [] h named = ends_lose s r id h
+texts_lose s r id (c ∷ cs) h named =
     let next = state_after_change (Text c) r in
-    (h, texts_lose s next cs more ends same (then_change s r next h (text_change r c named.0)) named.1 rest)
+    (h, texts_lose s next id cs (then_change s r next h (text_change r c named.0)) named.1)
 
-abbrev with_results : InstanceState → List Blob → InstanceState
-with_results s results = record s { results = results }
+got : (s : InstanceState) (asked : Result Digest Refusal) → ChangesByRule s (state_after_change (Keeps (after_asking (seen s) s.results asked)) s)
+got s (Ok action) = go (is_some (blobs_for (texts_seen (seen s)) action s.results)) where
+  go : (b : Bool) → ChangesByRule s (record s { results = cond b (with_match_first (same_digest action) s.results) s.results })
+  go true = ResultUsed action refl
+  go false = CallsChange s.calls refl
+got s (Err refusal) = CallsChange s.calls refl
 
--- results that are worked out from those at first, which stand still
-kept_results : (s r : InstanceState) → r.results ≡ s.results → ChangesByRule r (record r { results = s.results })
-kept_results s r same = CallsChange r.calls (ap (λ (rs : List Blob). with_results r rs) (sym same))
+put : (s : InstanceState) (sent : Result ResultSentValue Refusal) → ChangesByRule s (state_after_change (Keeps (after_sending s.results sent)) s)
+put s (Ok sent) = ResultStored sent.action sent.text refl
+put s (Err refusal) = CallsChange s.calls refl
 
-got : (s r : InstanceState) (asked : Result Digest Refusal) → r.results ≡ s.results → ChangesByRule r (record r { results = after_asking s.visible s.results asked })
-got s r (Ok action) same = go (is_some (blobs_for (texts_seen s.visible) action s.results)) where
-  go : (b : Bool) → ChangesByRule r (record r { results = cond b (with_match_first (same_digest action) s.results) s.results })
-  go true = ResultUsed action (ap (λ (rs : List Blob). with_results r (with_match_first (same_digest action) rs)) (sym same))
-  go false = kept_results s r same
-got s r (Err refusal) same = kept_results s r same
-
-put : (s r : InstanceState) (sent : Result ResultSentValue Refusal) → r.results ≡ s.results → ChangesByRule r (record r { results = after_sending s.results sent })
-put s r (Ok sent) same = ResultStored sent.action sent.text (ap (λ (rs : List Blob). with_results r (results_after_store sent.action sent.text rs)) (sym same))
-put s r (Err refusal) same = kept_results s r same
-
-results_lose : (s r : InstanceState) (id : CallId) (method : Method) (request : List ℕ) → r.results ≡ s.results → LosesByRules s r → FrontsLose s r (result_changes method s request ++ Ends id ∷ [])
-results_lose s r id Called.GetActionResult request same h =
-    let next = with_results r (after_get s.name s.visible s.results request) in
-    (h, ends_lose s next id (then_change s r next h (got s r (action_asked s.name request) same)))
-results_lose s r id Called.UpdateActionResult request same h =
-    let next = with_results r (after_update s.name s.results request) in
-    (h, ends_lose s next id (then_change s r next h (put s r (result_sent s.name request) same)))
-results_lose s r id method request same h = ends_lose s r id h
+request_loses : (s : InstanceState) (id : CallId) (method : Method) (request : List ℕ) → FrontsLose s s (request_changes method s request ++ Ends id ∷ [])
+request_loses s id Called.FindMissingBlobs request = texts_lose s s id (find_missing_changes s.name request) (here s) (find_named s request)
+request_loses s id Called.BatchUpdateBlobs request = texts_lose s s id (batch_update_changes s.name s.quota request) (here s) (update_named s request)
+request_loses s id Called.BatchReadBlobs request = texts_lose s s id (batch_read_changes s.name request) (here s) (batch_named s request)
+request_loses s id Called.GetTree request = texts_lose s s id (get_tree_changes s.name (seen s) request) (here s) (tree_named s request)
+request_loses s id Called.GetActionResult request =
+    let next = state_after_change (Keeps (after_get s.name (seen s) s.results request)) s in
+    (here s, texts_lose s next id (get_action_result_changes s.name (seen s) s.results request) (then_change s s next (here s) (got s (action_asked s.name request))) (get_named s request))
+request_loses s id Called.UpdateActionResult request =
+    let next = state_after_change (Keeps (after_update s.name s.results request)) s in
+    (here s, ends_lose s next id (then_change s s next (here s) (put s (result_sent s.name request))))
+request_loses s id Called.Read request = texts_lose s s id (use_asked (read_asked s.name request)) (here s) (read_named s request)
+request_loses s id method request = ends_lose s s id (here s)
 
 -- ---- a piece of an upload, and its end
 
@@ -157,18 +157,18 @@ abbrev wrote : WriteState → InstanceState → InstanceState
 wrote w s = state_after_change (Wrote w) s
 
 -- a digest passes the test of the bytes that it names
-names_same : (d : Digest) (bytes : List ℕ) → Names d bytes → same_digest d (digest_of bytes) ≡ true
+names_same : (d : Digest) (bytes : List ℕ) → Names d bytes → is_digest_of d bytes ≡ true
 names_same d bytes names =
     let hash : pointwise nat_eq d.hash (digest_of bytes).hash ≡ true = (bytes_decides d.hash (digest_of bytes).hash).1 names.hash in
     let size : (d.size == length bytes) ≡ true = grind (arith, nat_tests, names.size) in
     rw (hash, size) refl
 
-misnamed : (d : Digest) (bytes : List ℕ) → same_digest d (digest_of bytes) ≡ false → Names d bytes → ⊥
+misnamed : (d : Digest) (bytes : List ℕ) → is_digest_of d bytes ≡ false → Names d bytes → ⊥
 misnamed d bytes is names = let other = names_same d bytes names in absurd (cc)
 
 finish : (s : InstanceState) (key : KeyValue) → ChangesByRule s (wrote (after_last_part most_blobs s.quota key (finish_answer key s.uploads) (write_state s)) s)
-finish s key = go (same_digest key.digest (digest_of (text_so_far key s.uploads))) refl where
-  go : (b : Bool) → same_digest key.digest (digest_of (text_so_far key s.uploads)) ≡ b
+finish s key = go (is_digest_of key.digest (text_so_far key s.uploads)) refl where
+  go : (b : Bool) → is_digest_of key.digest (text_so_far key s.uploads) ≡ b
       → ChangesByRule s (wrote (after_last_part most_blobs s.quota key (cond b (Ok tt) (Err Hash)) (write_state s)) s)
   go true is = UploadFinished key (same_names key.digest (text_so_far key s.uploads) is) refl
   go false is = UploadMisnamed key (misnamed key.digest (text_so_far key s.uploads) is) refl
@@ -197,55 +197,45 @@ part_loses first s part (Err NoMemory) is = here s
 
 -- ---- a message of a Write
 
-first_piece : (s : InstanceState) (asked : Result FirstAsked Refusal) → LosesByRules s (wrote (with_part true s (part_of asked)) s)
-first_piece s (Ok asked) = piece_loses s asked.part (part_outcome true s.quota asked.part s.uploads)
-first_piece s (Err refusal) = here s
+append_nil : (cs : List InstanceChange) → cs ≡ cs ++ []
+append_nil [] = refl
+append_nil (c ∷ cs) = ap (λ (xs : List InstanceChange). c ∷ xs) (append_nil cs)
 
-first_whole : (s : InstanceState) (asked : Result FirstAsked Refusal) → LosesByRules s (wrote (after_first_asked most_blobs s.quota s.moment asked (write_state s)) s)
-first_whole s (Ok asked) = go (is_some (visible_text asked.part.key.digest s.visible)) where
-  go : (b : Bool) → LosesByRules s (wrote (cond b (record (write_state s) { visible = with_match_first (same_digest asked.part.key.digest) s.visible }) (after_part true most_blobs s.quota s.moment asked.part (write_state s))) s)
-  go true = then_change s s (wrote (record (write_state s) { visible = with_match_first (same_digest asked.part.key.digest) s.visible }) s) (here s) (BlobUsed asked.part.key.digest refl)
-  go false = part_loses true s asked.part (part_outcome true s.quota asked.part s.uploads) refl
-first_whole s (Err refusal) = here s
+-- the changes of a part, and then more; the second leaves what the whole part does, whatever the first
+-- left
+part_changes_lose : (first : Bool) (s : InstanceState) (part : PartValue) (rest : List InstanceChange) → ((q : InstanceState) → LosesByRules s q → FrontsLose s q rest) → FrontsLose s s (part_changes first s part ++ rest)
+part_changes_lose first s part rest more =
+    let whole = part_loses first s part (part_outcome first s.quota part s.uploads) refl in
+    (here s, (piece_loses s part (part_outcome first s.quota part s.uploads), more (wrote (after_part first most_blobs s.quota s.moment part (write_state s)) s) whole))
 
-next_piece : (s : InstanceState) (asked : Result PartValue Refusal) → LosesByRules s (wrote (with_part false s asked) s)
-next_piece s (Ok part) = piece_loses s part (part_outcome false s.quota part s.uploads)
-next_piece s (Err refusal) = here s
+first_changes_lose : (s : InstanceState) (bytes : List ℕ) (rest : List InstanceChange) → ((q : InstanceState) → LosesByRules s q → FrontsLose s q rest) → FrontsLose s s (first_changes s bytes ++ rest)
+first_changes_lose s bytes rest more = go (first_asked s.name bytes) where
+  seen_or_not : (asked : FirstAsked) (b : Bool) → FrontsLose s s (cond b (Text (Texts.Use asked.part.key.digest) ∷ []) (part_changes true s asked.part) ++ rest)
+  seen_or_not asked true =
+      let next = state_after_change (Text (Texts.Use asked.part.key.digest)) s in
+      (here s, more next (then_change s s next (here s) (BlobUsed asked.part.key.digest refl)))
+  seen_or_not asked false = part_changes_lose true s asked.part rest more
 
-next_whole : (s : InstanceState) (asked : Result PartValue Refusal) → LosesByRules s (wrote (after_next_asked most_blobs s.quota s.moment asked (write_state s)) s)
-next_whole s (Ok part) = part_loses false s part (part_outcome false s.quota part s.uploads) refl
-next_whole s (Err refusal) = here s
+  go : (r : Result FirstAsked Refusal) → FrontsLose s s (changes_asked (first_part_changes s) r ++ rest)
+  go (Ok asked) = seen_or_not asked (is_some (visible_text asked.part.key.digest s.visible))
+  go (Err refusal) = more s (here s)
 
--- the second change leaves what the whole message does, whatever the first left
-message_loses : (s : InstanceState) (piece whole : WriteState) (rest : List InstanceChange) → LosesByRules s (wrote piece s) → LosesByRules s (wrote whole s)
-    → FrontsLose s (wrote whole s) rest → FrontsLose s s (Wrote piece ∷ Wrote whole ∷ rest)
-message_loses s piece whole rest first second more = (here s, (first, more))
+next_changes_lose : (s : InstanceState) (write : OpenWriteValue) (bytes : List ℕ) (rest : List InstanceChange) → ((q : InstanceState) → LosesByRules s q → FrontsLose s q rest) → FrontsLose s s (next_changes s write bytes ++ rest)
+next_changes_lose s write bytes rest more = go (next_asked write bytes) where
+  go : (r : Result PartValue Refusal) → FrontsLose s s (changes_asked (part_changes false s) r ++ rest)
+  go (Ok part) = part_changes_lose false s part rest more
+  go (Err refusal) = more s (here s)
 
 first_lose : (s : InstanceState) (id : CallId) (method : Method) (bytes : List ℕ) (r : Result WrittenValue Refusal) → FrontsLose s s (first_write_answer id method (first_changes s bytes) r).changes
-first_lose s id method bytes r = go r where
-  both : (rest : List InstanceChange) → ((q : InstanceState) → LosesByRules s q → FrontsLose s q rest) → FrontsLose s s (first_changes s bytes ++ rest)
-  both rest more =
-      message_loses s (with_part true s (part_of (first_asked s.name bytes))) (after_first s.name most_blobs s.quota s.moment bytes (write_state s)) rest
-      (first_piece s (first_asked s.name bytes)) (first_whole s (first_asked s.name bytes))
-      (more (wrote (after_first s.name most_blobs s.quota s.moment bytes (write_state s)) s) (first_whole s (first_asked s.name bytes)))
-
-  go : (r : Result WrittenValue Refusal) → FrontsLose s s (first_write_answer id method (first_changes s bytes) r).changes
-  go (Ok (Writing.Goes write)) = both (Goes id (record { method = method; progress = writes write }) ∷ []) (λ q. goes_lose s q id (record { method = method; progress = writes write }))
-  go (Ok (Writing.Answered reply)) = both (Ends id ∷ []) (λ q. ends_lose s q id)
-  go (Err refusal) = both (Ends id ∷ []) (λ q. ends_lose s q id)
+first_lose s id method bytes (Ok (Writing.Goes write)) =
+    first_changes_lose s bytes (Goes id (record { method = method; progress = writes write }) ∷ []) (λ q. goes_lose s q id (record { method = method; progress = writes write }))
+first_lose s id method bytes (Ok (Writing.Answered reply)) = first_changes_lose s bytes (Ends id ∷ []) (λ q. ends_lose s q id)
+first_lose s id method bytes (Err refusal) = first_changes_lose s bytes (Ends id ∷ []) (λ q. ends_lose s q id)
 
 next_lose : (s : InstanceState) (id : CallId) (write : OpenWriteValue) (bytes : List ℕ) (r : Result (Option (List ℕ)) Refusal) → FrontsLose s s (next_write_answer id (next_changes s write bytes) r).changes
-next_lose s id write bytes r = go r where
-  both : (rest : List InstanceChange) → ((q : InstanceState) → LosesByRules s q → FrontsLose s q rest) → FrontsLose s s (next_changes s write bytes ++ rest)
-  both rest more =
-      message_loses s (with_part false s (next_asked write bytes)) (after_next write most_blobs s.quota s.moment bytes (write_state s)) rest
-      (next_piece s (next_asked write bytes)) (next_whole s (next_asked write bytes))
-      (more (wrote (after_next write most_blobs s.quota s.moment bytes (write_state s)) s) (next_whole s (next_asked write bytes)))
-
-  go : (r : Result (Option (List ℕ)) Refusal) → FrontsLose s s (next_write_answer id (next_changes s write bytes) r).changes
-  go (Ok None) = both [] (λ q h. h)
-  go (Ok (Some reply)) = both (Ends id ∷ []) (λ q. ends_lose s q id)
-  go (Err refusal) = both (Ends id ∷ []) (λ q. ends_lose s q id)
+next_lose s id write bytes (Ok None) = subst (FrontsLose s s) (sym (append_nil (next_changes s write bytes))) (next_changes_lose s write bytes [] (λ q h. h))
+next_lose s id write bytes (Ok (Some reply)) = next_changes_lose s write bytes (Ends id ∷ []) (λ q. ends_lose s q id)
+next_lose s id write bytes (Err refusal) = next_changes_lose s write bytes (Ends id ∷ []) (λ q. ends_lose s q id)
 
 -- ---- an event, by its kinds
 
@@ -275,9 +265,7 @@ on_fault s id refusal (Some call) = ends_lose s s id (here s)
 
 end_by_progress : (s : InstanceState) (id : CallId) (method : Method) (p : ProgressValue) → FrontsLose s s (end_answer_by_progress s id method p).changes
 end_by_progress s id method waits = ends_lose s s id (here s)
-end_by_progress s id method (has request) =
-    texts_lose s s (text_changes method s request) (result_changes method s request) (Ends id ∷ []) refl (here s) (changes_named method s request)
-    (λ q same h. results_lose s q id method request same h)
+end_by_progress s id method (has request) = request_loses s id method request
 end_by_progress s id method (writes write) = ends_lose s s id (here s)
 
 on_end : (s : InstanceState) (id : CallId) (o : Option CallValue) → FrontsLose s s (request_end_answer s id o).changes
@@ -296,10 +284,6 @@ pub front_loses_by_rules : (s t : InstanceState) (event : CallEventValue) → Ma
 front_loses_by_rules s t event h =
     subst (λ (x : InstanceState). LosesByRules s x) (sym h.so_far)
     (front_loses s s h.made h.left (subst (λ (cs : List InstanceChange). FrontsLose s s cs) h.front (answer_loses s event)))
-
-append_nil : (cs : List InstanceChange) → cs ≡ cs ++ []
-append_nil [] = refl
-append_nil (c ∷ cs) = ap (λ (xs : List InstanceChange). c ∷ xs) (append_nil cs)
 
 pub event_loses_by_rules : (s : InstanceState) (event : CallEventValue) → LosesByRules s (state_after s event)
 event_loses_by_rules s event = front_loses_by_rules s (state_after s event) event (record { made = (answer s event).changes; left = []; front = append_nil (answer s event).changes; so_far = refl })

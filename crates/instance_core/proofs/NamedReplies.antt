@@ -7,7 +7,7 @@ use Rattle.std.proofs.lemmas.List.{length-drop, take_all}
 use Rattle.digest.specs.declared.Digest.{Digest}
 use Rattle.digest.specs.Naming.{Names}
 use Rattle.instance_view.specs.Visible.{visible_text}
-use Rattle.quota_evict.proofs.Seen.{seen_named}
+use Rattle.quota_evict.proofs.Seen.{named_by}
 use Rattle.reapi_messages.specs.Results.{◌>>=◌}
 use Rattle.reapi_messages.specs.Statuses.{StatusValue}
 use Rattle.rpc.specs.declared.refusal.Refusal.{Refusal}
@@ -24,17 +24,22 @@ use Rattle.bytestream.specs.Writing.{WrittenValue}
 use Rattle.instance_core.specs.declared.event.CallId.{CallId}
 use Rattle.tree_calls.specs.Asking.{TreeAskedValue, tree_asked}
 use Rattle.tree_calls.specs.GetTree.{texts_seen, get_tree_replies}
-use Rattle.tree_calls.specs.Results.{get_action_result_reply}
+use Rattle.cas_service.specs.FindMissing.{find_missing_reply}
+use Rattle.cas_service.specs.BatchUpdate.{batch_update_reply}
+use Rattle.bytestream.specs.Querying.{query_reply}
+use Rattle.instance_core.specs.Capabilities.{get_capabilities_reply}
+use Rattle.tree_calls.specs.Results.{get_action_result_reply, update_action_result_reply}
 use Rattle.tree_calls.specs.Pages.{IsNamedPage}
 use Rattle.tree_calls.proofs.Named.{pages_named, result_complete}
 use Rattle.tree_calls.specs.Listing.{tree_list}
-use Rattle.instance_core.specs.Replies.{ReplyItemValue, begins, gives, ends, ReplyValue, reply_items, message_items, whole_reply_items, range_items, read_items}
+use Rattle.instance_core.specs.Replies.{ReplyItemValue, says, gives, ends, ReplyValue, one_message, messages, range, answering, items_of}
 use Rattle.instance_core.specs.Changes.{InstanceChange}
-use Rattle.instance_core.specs.Methods.{is_served, reply_to, items_to}
+use Rattle.instance_core.specs.Methods.{is_served, answer_to}
 use Rattle.instance_core.specs.Writes.{first_changes, next_changes, first_outcome, next_outcome}
 use Rattle.instance_core.specs.Answer.{head_answer, first_write_answer, next_write_answer, first_message_answer, answer_by_progress, message_answer, fault_answer, end_answer_by_progress, request_end_answer}
 use Rattle.instance_core.specs.Calls.{ProgressValue, waits, has, writes, CallValue, CallEventValue, head, message, fault, end, cancel, tick, call_at}
-use Rattle.instance_core.specs.State.{InstanceState, IsInstanceWithin, most_blobs}
+use Rattle.instance_core.proofs.Sees.{all_named}
+use Rattle.instance_core.specs.State.{seen, InstanceState, IsInstanceWithin}
 use Rattle.instance_core.specs.NamedReplies.{Request, whole_request, request_at, bytes_from, IsNamedRange, AreNamed, IsNamedBatch, IsNamedTreePage, IsNamedItem, ServesNamed}
 
 abbrev pub AreNamedItems : InstanceState → Option Request → List ReplyItemValue → Type 0
@@ -45,8 +50,8 @@ AreNamedReplies s request replies = AllByRecursion (λ (r : ReplyValue). AreName
 
 -- ---- one batch
 
-response_named : (s : InstanceState) (d : Digest) (o : Option (List ℕ)) → IsInstanceWithin s → visible_text d s.visible ≡ o → (read_response d o).status ≡ Some ok_status → Names d (read_response d o).content
-response_named s d (Some text) w is ok = seen_named most_blobs s.quota s.visible d text w.texts is
+response_named : (s : InstanceState) (d : Digest) (o : Option (List ℕ)) → IsInstanceWithin s → visible_text d (seen s) ≡ o → (read_response d o).status ≡ Some ok_status → Names d (read_response d o).content
+response_named s d (Some text) w is ok = named_by (seen s) d text (all_named s w) is
 response_named s d None w is ok =
     let same : refused_status BlobNotFound ≡ ok_status = cc in
     let codes : pos 5 ≡ pos 0 = ap (λ (x : StatusValue). x.code) same in
@@ -56,16 +61,16 @@ digest_beside : (d : Digest) (o : Option (List ℕ)) → (read_response d o).dig
 digest_beside d (Some text) = refl
 digest_beside d None = refl
 
-responses_named : (s : InstanceState) (ds : List Digest) → IsInstanceWithin s → AreNamed ds (map (λ d. read_response d (visible_text d s.visible)) ds)
+responses_named : (s : InstanceState) (ds : List Digest) → IsInstanceWithin s → AreNamed ds (map (λ d. read_response d (visible_text d (seen s))) ds)
 responses_named s [] w = tt
-responses_named s (d ∷ ds) w = (digest_beside d (visible_text d s.visible), response_named s d (visible_text d s.visible) w refl, responses_named s ds w)
+responses_named s (d ∷ ds) w = (digest_beside d (visible_text d (seen s)), response_named s d (visible_text d (seen s)) w refl, responses_named s ds w)
 
-batch_named : (s : InstanceState) (request : List ℕ) → IsInstanceWithin s → AreNamedItems s (Some (record { method = BatchReadBlobs; message = request })) (reply_items (reply_to BatchReadBlobs s request))
+batch_named : (s : InstanceState) (request : List ℕ) → IsInstanceWithin s → AreNamedItems s (Some (record { method = BatchReadBlobs; message = request })) (items_of (answer_to BatchReadBlobs s request))
 batch_named s request w = go (digests_to_read s.name request) refl where
   go : (r : Result (List Digest) Refusal) → digests_to_read s.name request ≡ r
-      → AreNamedItems s (Some (record { method = BatchReadBlobs; message = request })) (reply_items (r >>= λ digests. Ok (read_reply s.visible digests)))
+      → AreNamedItems s (Some (record { method = BatchReadBlobs; message = request })) (items_of (answering one_message (r >>= λ digests. Ok (read_reply (seen s) digests))))
   go (Ok ds) is =
-      let batch : IsNamedBatch s request (read_reply s.visible ds) = record { asked = ds; asks = is; responses = map (λ d. read_response d (visible_text d s.visible)) ds; text = refl; named = responses_named s ds w } in
+      let batch : IsNamedBatch s request (read_reply (seen s) ds) = record { asked = ds; asks = is; responses = map (λ d. read_response d (visible_text d (seen s))) ds; text = refl; named = responses_named s ds w } in
       (tt, (record { batch = λ same. batch; tree = λ same. cc; result = λ same. cc }, (tt, tt)))
   go (Err refusal) is = (tt, tt)
 
@@ -104,16 +109,16 @@ place_is (negsuc n) size from is = absurd (cc)
 abbrev reading : List ℕ → Option Request
 reading request = Some (record { method = Read; message = request })
 
-range_named : (s : InstanceState) (request : List ℕ) (given : SourceValue) → IsNamedRange s request given → AreNamedItems s (reading request) (begins ∷ range_items given ++ ends ∷ [])
+range_named : (s : InstanceState) (request : List ℕ) (given : SourceValue) → IsNamedRange s request given → AreNamedItems s (reading request) (items_of (Ok (range given)))
 range_named s request given named = (tt, go (nat_lt given.from given.until)) where
   go : (b : Bool) → AreNamedItems s (reading request) (cond b (gives given ∷ []) [] ++ ends ∷ [])
   go true = ((refl, named), (tt, tt))
   go false = (tt, tt)
 
-read_named : (s : InstanceState) (request : List ℕ) → IsInstanceWithin s → AreNamedItems s (reading request) (read_items (read_answer s.name s.visible request))
+read_named : (s : InstanceState) (request : List ℕ) → IsInstanceWithin s → AreNamedItems s (reading request) (items_of (answering range (read_answer s.name (seen s) request)))
 read_named s request w = asks (read_asked s.name request) refl where
-  placed : (asked : ReadAsked) (text : List ℕ) (r : Result ℕ Refusal) → read_asked s.name request ≡ Ok asked → visible_text asked.digest s.visible ≡ Some text → offset_check asked.offset (length text) ≡ r
-      → AreNamedItems s (reading request) (read_items (r >>= λ from. Ok (record { digest = asked.digest; text = text; from = from; until = until_of asked.limit from (length text) })))
+  placed : (asked : ReadAsked) (text : List ℕ) (r : Result ℕ Refusal) → read_asked s.name request ≡ Ok asked → visible_text asked.digest (seen s) ≡ Some text → offset_check asked.offset (length text) ≡ r
+      → AreNamedItems s (reading request) (items_of (answering range (r >>= λ from. Ok (record { digest = asked.digest; text = text; from = from; until = until_of asked.limit from (length text) }))))
   placed asked text (Ok from) asks own at =
       let place = place_is asked.offset (length text) from at in
       range_named s request (record { digest = asked.digest; text = text; from = from; until = until_of asked.limit from (length text) }) (record {
@@ -121,81 +126,77 @@ read_named s request w = asks (read_asked s.name request) refl where
         asks = asks;
         same_digest = refl;
         own = own;
-        named = seen_named most_blobs s.quota s.visible asked.digest text w.texts own;
+        named = named_by (seen s) asked.digest text (all_named s w) own;
         offset = place.0;
         bytes = bytes_asked asked.limit from text place.1;
       })
   placed asked text (Err refusal) asks own at = (tt, tt)
 
-  found : (asked : ReadAsked) (o : Option (List ℕ)) → read_asked s.name request ≡ Ok asked → visible_text asked.digest s.visible ≡ o → AreNamedItems s (reading request) (read_items (range_asked asked o))
+  found : (asked : ReadAsked) (o : Option (List ℕ)) → read_asked s.name request ≡ Ok asked → visible_text asked.digest (seen s) ≡ o → AreNamedItems s (reading request) (items_of (answering range (range_asked asked o)))
   found asked None asks own = (tt, tt)
   found asked (Some text) asks own = placed asked text (offset_check asked.offset (length text)) asks own refl
 
-  asks : (r : Result ReadAsked Refusal) → read_asked s.name request ≡ r → AreNamedItems s (reading request) (read_items (r >>= λ asked. range_asked asked (visible_text asked.digest s.visible)))
-  asks (Ok asked) is = found asked (visible_text asked.digest s.visible) is refl
+  asks : (r : Result ReadAsked Refusal) → read_asked s.name request ≡ r → AreNamedItems s (reading request) (items_of (answering range (r >>= λ asked. range_asked asked (visible_text asked.digest (seen s)))))
+  asks (Ok asked) is = found asked (visible_text asked.digest (seen s)) is refl
   asks (Err refusal) is = (tt, tt)
 
 -- ---- a whole request
 
 other_named : (s : InstanceState) (method : Method) (request : List ℕ) (r : Result (List ℕ) Refusal) → (method ≡ BatchReadBlobs → ⊥) → (method ≡ GetTree → ⊥) → (method ≡ GetActionResult → ⊥)
-    → AreNamedItems s (Some (record { method = method; message = request })) (reply_items r)
+    → AreNamedItems s (Some (record { method = method; message = request })) (items_of (answering one_message r))
 other_named s method request (Ok reply) unbatched untreed unkept =
     (tt, (record { batch = λ same. absurd (unbatched same); tree = λ same. absurd (untreed same); result = λ same. absurd (unkept same) }, (tt, tt)))
 other_named s method request (Err refusal) unbatched untreed unkept = (tt, tt)
 
-result_named : (s : InstanceState) (request : List ℕ) → AreNamedItems s (Some (record { method = GetActionResult; message = request })) (reply_items (reply_to GetActionResult s request))
-result_named s request = go (get_action_result_reply s.name s.visible s.results request) refl where
-  go : (r : Result (List ℕ) Refusal) → get_action_result_reply s.name s.visible s.results request ≡ r → AreNamedItems s (Some (record { method = GetActionResult; message = request })) (reply_items r)
-  go (Ok reply) is = (tt, (record { batch = λ same. cc; tree = λ same. cc; result = λ same. result_complete s.name s.visible s.results request reply is }, (tt, tt)))
+result_named : (s : InstanceState) (request : List ℕ) → AreNamedItems s (Some (record { method = GetActionResult; message = request })) (items_of (answer_to GetActionResult s request))
+result_named s request = go (get_action_result_reply s.name (seen s) s.results request) refl where
+  go : (r : Result (List ℕ) Refusal) → get_action_result_reply s.name (seen s) s.results request ≡ r → AreNamedItems s (Some (record { method = GetActionResult; message = request })) (items_of (answering one_message r))
+  go (Ok reply) is = (tt, (record { batch = λ same. cc; tree = λ same. cc; result = λ same. result_complete s.name (seen s) s.results request reply is }, (tt, tt)))
   go (Err refusal) is = (tt, tt)
 
 abbrev walking : List ℕ → Option Request
 walking request = Some (record { method = GetTree; message = request })
 
-pages_said : (s : InstanceState) (request : List ℕ) (asked : TreeAskedValue) (listed : List Digest) → tree_asked s.name request ≡ Ok asked → tree_list (texts_seen s.visible) asked.root ≡ Ok listed
-    → (pages : List (List ℕ)) → AllByRecursion (IsNamedPage listed) pages → AreNamedItems s (walking request) (message_items pages ++ ends ∷ [])
+pages_said : (s : InstanceState) (request : List ℕ) (asked : TreeAskedValue) (listed : List Digest) → tree_asked s.name request ≡ Ok asked → tree_list (texts_seen (seen s)) asked.root ≡ Ok listed
+    → (pages : List (List ℕ)) → AllByRecursion (IsNamedPage listed) pages → AreNamedItems s (walking request) (map says pages ++ ends ∷ [])
 pages_said s request asked listed asks lists [] named = (tt, tt)
 pages_said s request asked listed asks lists (page ∷ pages) named =
     let one : IsNamedTreePage s request page = record { asked = asked; asks = asks; listed = listed; lists = lists; page = named.0 } in
     (record { batch = λ same. cc; tree = λ same. one; result = λ same. cc }, pages_said s request asked listed asks lists pages named.1)
 
-tree_named : (s : InstanceState) (request : List ℕ) → IsInstanceWithin s → AreNamedItems s (walking request) (whole_reply_items (get_tree_replies s.name s.visible request))
-tree_named s request w = go (get_tree_replies s.name s.visible request) refl where
-  go : (r : Result (List (List ℕ)) Refusal) → get_tree_replies s.name s.visible request ≡ r → AreNamedItems s (walking request) (whole_reply_items r)
+tree_named : (s : InstanceState) (request : List ℕ) → IsInstanceWithin s → AreNamedItems s (walking request) (items_of (answering messages (get_tree_replies s.name (seen s) request)))
+tree_named s request w = go (get_tree_replies s.name (seen s) request) refl where
+  go : (r : Result (List (List ℕ)) Refusal) → get_tree_replies s.name (seen s) request ≡ r → AreNamedItems s (walking request) (items_of (answering messages r))
   go (Ok pages) is =
-      let named = pages_named s.name s.visible request pages w.texts.named is in
+      let named = pages_named s.name (seen s) request pages (all_named s w) is in
       (tt, pages_said s request named.asked named.listed named.is_asked named.is_listed pages named.pages)
   go (Err refusal) is = (tt, tt)
 
-method_named : (s : InstanceState) (method : Method) (request : List ℕ) → IsInstanceWithin s → AreNamedItems s (Some (record { method = method; message = request })) (items_to method s request)
+method_named : (s : InstanceState) (method : Method) (request : List ℕ) → IsInstanceWithin s → AreNamedItems s (Some (record { method = method; message = request })) (items_of (answer_to method s request))
 method_named s BatchReadBlobs request w = batch_named s request w
 method_named s Read request w = read_named s request w
-method_named s FindMissingBlobs request w = other_named s FindMissingBlobs request (reply_to FindMissingBlobs s request) (λ same. cc) (λ same. cc) (λ same. cc)
-method_named s BatchUpdateBlobs request w = other_named s BatchUpdateBlobs request (reply_to BatchUpdateBlobs s request) (λ same. cc) (λ same. cc) (λ same. cc)
+method_named s FindMissingBlobs request w = other_named s FindMissingBlobs request (find_missing_reply s.name (seen s) request) (λ same. cc) (λ same. cc) (λ same. cc)
+method_named s BatchUpdateBlobs request w = other_named s BatchUpdateBlobs request (batch_update_reply s.name s.quota request) (λ same. cc) (λ same. cc) (λ same. cc)
 method_named s GetTree request w = tree_named s request w
 method_named s GetActionResult request w = result_named s request
-method_named s UpdateActionResult request w = other_named s UpdateActionResult request (reply_to UpdateActionResult s request) (λ same. cc) (λ same. cc) (λ same. cc)
-method_named s Execute request w = other_named s Execute request (reply_to Execute s request) (λ same. cc) (λ same. cc) (λ same. cc)
-method_named s WaitExecution request w = other_named s WaitExecution request (reply_to WaitExecution s request) (λ same. cc) (λ same. cc) (λ same. cc)
-method_named s GetCapabilities request w = other_named s GetCapabilities request (reply_to GetCapabilities s request) (λ same. cc) (λ same. cc) (λ same. cc)
-method_named s Write request w = other_named s Write request (reply_to Write s request) (λ same. cc) (λ same. cc) (λ same. cc)
-method_named s QueryWriteStatus request w = other_named s QueryWriteStatus request (reply_to QueryWriteStatus s request) (λ same. cc) (λ same. cc) (λ same. cc)
+method_named s UpdateActionResult request w = other_named s UpdateActionResult request (update_action_result_reply s.name request) (λ same. cc) (λ same. cc) (λ same. cc)
+method_named s Execute request w = (tt, tt)
+method_named s WaitExecution request w = (tt, tt)
+method_named s GetCapabilities request w = other_named s GetCapabilities request (get_capabilities_reply s.name s.slots request) (λ same. cc) (λ same. cc) (λ same. cc)
+method_named s Write request w = (tt, tt)
+method_named s QueryWriteStatus request w = other_named s QueryWriteStatus request (query_reply s.name s.visible s.uploads request) (λ same. cc) (λ same. cc) (λ same. cc)
 
 -- ---- the other events give no range
 
-plain_named : (s : InstanceState) (r : Result (List ℕ) Refusal) → AreNamedItems s None (reply_items r)
-plain_named s (Ok reply) = (tt, (tt, (tt, tt)))
-plain_named s (Err refusal) = (tt, tt)
-
 first_named : (s : InstanceState) (id : CallId) (method : Method) (changes : List InstanceChange) (r : Result WrittenValue Refusal) → AreNamedReplies s None (first_write_answer id method changes r).replies
 first_named s id method changes (Ok (Writing.Goes write)) = tt
-first_named s id method changes (Ok (Writing.Answered reply)) = (plain_named s (Ok reply), tt)
-first_named s id method changes (Err refusal) = (plain_named s (Err refusal), tt)
+first_named s id method changes (Ok (Writing.Answered reply)) = ((tt, (tt, (tt, tt))), tt)
+first_named s id method changes (Err refusal) = ((tt, tt), tt)
 
 next_named : (s : InstanceState) (id : CallId) (changes : List InstanceChange) (r : Result (Option (List ℕ)) Refusal) → AreNamedReplies s None (next_write_answer id changes r).replies
 next_named s id changes (Ok None) = tt
-next_named s id changes (Ok (Some reply)) = (plain_named s (Ok reply), tt)
-next_named s id changes (Err refusal) = (plain_named s (Err refusal), tt)
+next_named s id changes (Ok (Some reply)) = ((tt, (tt, (tt, tt))), tt)
+next_named s id changes (Err refusal) = ((tt, tt), tt)
 
 with_first_named : (s : InstanceState) (id : CallId) (method : Method) (bytes : List ℕ) → AreNamedReplies s None (first_message_answer s id method bytes).replies
 with_first_named s id Write bytes = first_named s id Write (first_changes s bytes) (first_outcome s bytes)

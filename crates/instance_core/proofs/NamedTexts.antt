@@ -3,25 +3,24 @@ use Rattle.std.proofs.Common.{◌≡◌, ◌<◌, ℕ, Bool, true, false, cond, 
 use Rattle.std.specs.List.{AllByRecursion}
 use Rattle.reapi_messages.specs.Results.{◌>>=◌}
 use Rattle.reapi_messages.specs.Batches.{UpdateBlobRequestValue}
-use Rattle.rpc.specs.declared.method.Method.{Method}
-use Rattle.rpc.specs.declared.method.Method.TheVariants.{FindMissingBlobs, BatchUpdateBlobs, BatchReadBlobs, GetTree, GetActionResult, Read}
 use Rattle.rpc.specs.declared.refusal.Refusal.{Refusal}
 use Rattle.rpc.specs.declared.refusal.Refusal.TheVariants.{DigestDoesNotMatch, QuotaExceeded}
 use Rattle.digest.specs.declared.Digest.{Digest}
-use Rattle.digest.specs.Naming.{Names, same_digest, digest_of}
+use Rattle.digest.specs.Naming.{Names, is_digest_of}
 use Rattle.digest.proofs.Same.{same_names}
 use Rattle.instance_view.specs.Visible.{Blob}
 use Rattle.quota_evict.specs.Within.{AreBlobsWithin}
 use Rattle.quota_evict.proofs.Limits.{used_within, admitted_within}
 use Rattle.cas_service.specs.Changes.{TextChange, Use, Store, visible_after_change, uses}
-use Rattle.cas_service.specs.FindMissing.{digests_asked}
-use Rattle.cas_service.specs.BatchRead.{digests_to_read}
-use Rattle.cas_service.specs.BatchUpdate.{compressor_check, digest_or_refusal, naming_check, quota_check, storage_digest, stores, stores_of_result, store_of, blobs_sent}
+use Rattle.cas_service.specs.FindMissing.{digests_asked, find_missing_changes}
+use Rattle.cas_service.specs.BatchRead.{digests_to_read, batch_read_changes}
+use Rattle.cas_service.specs.BatchUpdate.{compressor_check, digest_or_refusal, naming_check, quota_check, storage_digest, stores, stores_of_result, store_of, blobs_sent, batch_update_changes}
 use Rattle.action_cache.specs.Answering.{blobs_used}
 use Rattle.tree_calls.specs.Asking.{tree_asked, action_asked}
-use Rattle.tree_calls.specs.GetTree.{texts_seen, directories_used}
-use Rattle.instance_core.specs.State.{InstanceState}
-use Rattle.instance_core.specs.Methods.{use_asked, text_changes}
+use Rattle.tree_calls.specs.GetTree.{texts_seen, directories_used, get_tree_changes}
+use Rattle.tree_calls.specs.Results.{get_action_result_changes}
+use Rattle.instance_core.specs.State.{seen, InstanceState}
+use Rattle.instance_core.specs.Methods.{use_asked}
 use Rattle.bytestream.specs.declared.reading.ReadAsked.{ReadAsked}
 use Rattle.bytestream.specs.Reading.{read_asked}
 use Rattle.instance_core.specs.Named.{StoresNamedText}
@@ -36,7 +35,7 @@ accepted = Ok tt
 stored_named : (quota : ℕ) (r : UpdateBlobRequestValue) (d : Digest) → storage_digest quota r ≡ Ok d → Names d r.content
 unfolding storage_digest
 stored_named quota r d h = go (compressor_check r.compressor) (digest_or_refusal r.digest) h where
-  last : (e : Digest) (n q : Bool) → same_digest e (digest_of r.content) ≡ n
+  last : (e : Digest) (n q : Bool) → is_digest_of e r.content ≡ n
       → (cond n accepted (Err DigestDoesNotMatch) >>= λ _. cond q (Err QuotaExceeded) accepted >>= λ _. Ok e) ≡ Ok d → Names d r.content
   last e true false n h =
       let equal : e ≡ d = cc in
@@ -45,7 +44,7 @@ stored_named quota r d h = go (compressor_check r.compressor) (digest_or_refusal
   last e false q n h = absurd (cc)
 
   go : (c : Result Unit Refusal) (s : Result Digest Refusal) → (c >>= λ _. s >>= λ e. naming_check e r.content >>= λ _. quota_check quota r.content >>= λ _. Ok e) ≡ Ok d → Names d r.content
-  go (Ok u) (Ok e) h = last e (same_digest e (digest_of r.content)) (nat_lt quota (length r.content)) refl h
+  go (Ok u) (Ok e) h = last e (is_digest_of e r.content) (nat_lt quota (length r.content)) refl h
   go (Ok u) (Err x) h = absurd (cc)
   go (Err x) s h = absurd (cc)
 
@@ -73,14 +72,25 @@ use_named : (r : Result ReadAsked Refusal) → AllByRecursion StoresNamedText (u
 use_named (Ok asked) = (tt, tt)
 use_named (Err refusal) = tt
 
-pub changes_named : (method : Method) (s : InstanceState) (message : List ℕ) → AllByRecursion StoresNamedText (text_changes method s message)
-changes_named FindMissingBlobs s message = uses_named (digests_asked s.name message)
-changes_named BatchUpdateBlobs s message = result_named s.quota (blobs_sent s.name message)
-changes_named BatchReadBlobs s message = uses_named (digests_to_read s.name message)
-changes_named GetTree s message = uses_named (tree_asked s.name message >>= directories_used s.visible)
-changes_named GetActionResult s message = uses_named (action_asked s.name message >>= λ action. Ok (blobs_used (texts_seen s.visible) action s.results))
-changes_named Read s message = use_named (read_asked s.name message)
-changes_named _ s message = tt
+-- ---- what each method stores
+
+pub find_named : (s : InstanceState) (message : List ℕ) → AllByRecursion StoresNamedText (find_missing_changes s.name message)
+find_named s message = uses_named (digests_asked s.name message)
+
+pub update_named : (s : InstanceState) (message : List ℕ) → AllByRecursion StoresNamedText (batch_update_changes s.name s.quota message)
+update_named s message = result_named s.quota (blobs_sent s.name message)
+
+pub batch_named : (s : InstanceState) (message : List ℕ) → AllByRecursion StoresNamedText (batch_read_changes s.name message)
+batch_named s message = uses_named (digests_to_read s.name message)
+
+pub tree_named : (s : InstanceState) (message : List ℕ) → AllByRecursion StoresNamedText (get_tree_changes s.name (seen s) message)
+tree_named s message = uses_named (tree_asked s.name message >>= directories_used (seen s))
+
+pub get_named : (s : InstanceState) (message : List ℕ) → AllByRecursion StoresNamedText (get_action_result_changes s.name (seen s) s.results message)
+get_named s message = uses_named (action_asked s.name message >>= λ action. Ok (blobs_used (texts_seen (seen s)) action s.results))
+
+pub read_named : (s : InstanceState) (message : List ℕ) → AllByRecursion StoresNamedText (use_asked (read_asked s.name message))
+read_named s message = use_named (read_asked s.name message)
 
 pub change_within : (limit quota : ℕ) (c : TextChange) (bs : List Blob) → 0 < limit → StoresNamedText c → AreBlobsWithin limit quota bs → AreBlobsWithin limit quota (visible_after_change limit quota c bs)
 change_within limit quota (Use d) bs some named w = used_within limit quota d bs w

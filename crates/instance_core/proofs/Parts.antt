@@ -1,11 +1,13 @@
 -- Changes that were made, whole or in part.
 use Rattle.std.proofs.Common.{◌≡◌, ℕ, List, [], ◌∷◌, ◌++◌, map, Option, Some, Result, Ok, Err, refl, sym, ap, subst, ◌∙◌, append_assoc}
-use Rattle.std.specs.Prelude.{IfSome, IsErr, OnOk, OnErr}
+use Rattle.std.proofs.lemmas.List.{map-append}
+use Rattle.std.specs.Prelude.{IfSome, IsErr, IsErrOf, OnOk, OnErr}
+use Rattle.reapi_messages.specs.Batches.{UpdateBlobRequestValue}
+use Rattle.cas_service.specs.BatchUpdate.{stores_of_result}
 use Rattle.std.specs.declared.alloc.Global.{Global}
 use Rattle.std.specs.declared.alloc.AllocError.{AllocError}
 use Rattle.std.specs.declared.vec.Vec.{Vec}
 use Rattle.rpc.specs.declared.method.Method.{Method}
-use Rattle.rpc.specs.declared.method.Method.TheVariants.{GetActionResult, UpdateActionResult}
 use Rattle.reapi_messages.specs.Results.{◌>>=◌}
 use Rattle.rpc.specs.declared.refusal.Refusal.{Refusal}
 use Rattle.digest.specs.declared.Digest.{Digest}
@@ -22,10 +24,13 @@ use Rattle.uploads.specs.Uploads.{UploadList}
 use Rattle.tree_calls.specs.Complete.{AreResultsWithin}
 use Rattle.instance_core.specs.Calls.{CallValue, ProgressValue, has, Calls, without_call, IsShortProgress}
 use Rattle.instance_core.specs.State.{InstanceState, most_blobs}
-use Rattle.instance_core.specs.Methods.{LeavesResults, text_changes, result_changes, request_changes}
+use Rattle.instance_core.specs.Methods.{request_changes}
 use Rattle.instance_core.specs.Changes.{InstanceChange, Text, Ends, Keeps, state_after_change, state_after_changes, MadeInPart}
 use Rattle.instance_core.specs.Answer.{request_end_answer}
-use Rattle.instance_core.specs.Shown.{Makes, MakesTexts, with_calls}
+use Rattle.instance_core.specs.Shown.{Makes, with_calls}
+use Rattle.instance_core.specs.declared.answer.Answer.{Answer}
+use Rattle.instance_core.specs.Replies.{AnswerValue, answering}
+use Rattle.instance_core.specs.Carries.{answer_shown, shaped, Leaves}
 
 -- a call whose reply and changes come from what it asks for: refused, it changes nothing
 pub uses_answered : (r : Result (Vec ℕ Global) CallError) (asked : Result (List Digest) Refusal) (reply : List Digest → List ℕ) (limit most quota : ℕ) (p : Slots) (old new : ViewValue)
@@ -36,30 +41,31 @@ uses_answered (Err (Refused refusal)) (Err other) reply limit most quota p old n
 uses_answered (Err (Refused refusal)) (Ok digests) reply limit most quota p old new same is used err = cc
 uses_answered (Err NoMemory) asked reply limit most quota p old new same is used err = tt
 
-abbrev with_texts : List Blob → InstanceState → InstanceState
-with_texts visible s = record s { visible = visible }
+-- a call that stores what it is sent: refused, it is sent nothing
+pub stores_answered : (r : Result (Vec ℕ Global) CallError) (sent : Result (List UpdateBlobRequestValue) Refusal) (reply : List UpdateBlobRequestValue → List ℕ) (limit most quota : ℕ) (p q : Slots) (old new : ViewValue)
+    → limit ≡ most → Answers (λ (reply : Vec ℕ Global). reply.items) r (sent >>= λ requests. Ok (reply requests)) → OnOk r (visible_in q new ≡ Texts.visible_after_changes limit quota (stores_of_result quota sent) (visible_in p old))
+    → ((refusal : Refusal) → IsErrOf r (Refused refusal) → (new ≡ old) × (q ≡ p))
+    → IfAnswered r (visible_in q new ≡ Texts.visible_after_changes most quota (stores_of_result quota sent) (visible_in p old))
+stores_answered (Ok text) sent reply limit most quota p q old new same is stored refused = subst (λ (n : ℕ). visible_in q new ≡ Texts.visible_after_changes n quota (stores_of_result quota sent) (visible_in p old)) same stored
+stores_answered (Err (Refused refusal)) (Err other) reply limit most quota p q old new same is stored refused =
+    let still = refused refusal refl in
+    ap (visible_in q) still.0 ∙ ap (λ (z : Slots). visible_in z old) still.1
+stores_answered (Err (Refused refusal)) (Ok requests) reply limit most quota p q old new same is stored refused = cc
+stores_answered (Err NoMemory) sent reply limit most quota p q old new same is stored refused = tt
 
--- changes of the texts, and what comes after them
-pub changed_texts : (cs : List Texts.TextChange) (rest : List InstanceChange) (s : InstanceState)
-    → state_after_changes (map Text cs ++ rest) s ≡ state_after_changes rest (with_texts (Texts.visible_after_changes most_blobs s.quota cs s.visible) s)
-changed_texts [] rest s = refl
-changed_texts (c ∷ cs) rest s = changed_texts cs rest (with_texts (Texts.visible_after_change most_blobs s.quota c s.visible) s)
+abbrev pub with_texts : List Blob → InstanceState → InstanceState
+with_texts visible s = record s { visible = visible }
 
 made_texts : (cs : List Texts.TextChange) (s : InstanceState) → state_after_changes (map Text cs) s ≡ with_texts (Texts.visible_after_changes most_blobs s.quota cs s.visible) s
 made_texts [] s = refl
 made_texts (c ∷ cs) s = made_texts cs (with_texts (Texts.visible_after_change most_blobs s.quota c s.visible) s)
 
-joined_texts : (made left : List Texts.TextChange) (rest : List InstanceChange) → map Text (made ++ left) ++ rest ≡ map Text made ++ (map Text left ++ rest)
-joined_texts [] left rest = refl
-joined_texts (c ∷ made) left rest = ap (λ (cs : List InstanceChange). Text c ∷ cs) (joined_texts made left rest)
-
--- a front of the changes of the texts is a front of all changes
-pub texts_in_part : (cs : List Texts.TextChange) (rest : List InstanceChange) (s : InstanceState) (new : List Blob)
-    → Texts.MadeInPart most_blobs s.quota cs s.visible new → MadeInPart (map Text cs ++ rest) s (with_texts new s)
-texts_in_part cs rest s new part = record {
+-- a front of the changes of the texts
+texts_in_part : (cs : List Texts.TextChange) (s : InstanceState) (new : List Blob) → Texts.MadeInPart most_blobs s.quota cs s.visible new → MadeInPart (map Text cs) s (with_texts new s)
+texts_in_part cs s new part = record {
   made = map Text part.made;
-  left = map Text part.left ++ rest;
-  front = ap (λ (xs : List Texts.TextChange). map Text xs ++ rest) part.front ∙ joined_texts part.made part.left rest;
+  left = map Text part.left;
+  front = ap (λ (xs : List Texts.TextChange). map Text xs) part.front ∙ map-append Text part.made part.left;
   so_far = ap (λ (visible : List Blob). with_texts visible s) part.so_far ∙ sym (made_texts part.made s);
 }
 
@@ -81,7 +87,7 @@ pub becomes_same : (s : InstanceState) (visible visible' : List Blob) (uploads u
 becomes_same s visible visible' uploads uploads' calls calls' p q r = rw (p, q, r) refl
 
 -- changes, and then others
-changed_more : (a b : List InstanceChange) (s : InstanceState) → state_after_changes (a ++ b) s ≡ state_after_changes b (state_after_changes a s)
+pub changed_more : (a b : List InstanceChange) (s : InstanceState) → state_after_changes (a ++ b) s ≡ state_after_changes b (state_after_changes a s)
 changed_more [] b s = refl
 changed_more (c ∷ a) b s = changed_more a b (state_after_change c s)
 
@@ -127,85 +133,82 @@ progress_short call progress there is same h =
     let here : IfSome (Some call) (λ c. IsShortProgress c.progress) = subst (λ (o : Option CallValue). IfSome o (λ c. IsShortProgress c.progress)) (sym is) h in
     subst IsShortProgress (sym same) here
 
-pub on_err : (r : Result (Vec Reply Global) AllocError) (P : Type 0) → P → OnErr r P
-on_err (Ok replies) P p = tt
-on_err (Err e) P p = p
-
--- ---- what a method leaves of texts and results
-
-abbrev pub leaves : List Blob → List Blob → InstanceState → InstanceState
-leaves visible results s = record s { visible = visible; results = results }
-
-leaves_same : (s : InstanceState) (visible visible' results results' : List Blob) → visible ≡ visible' → results ≡ results' → leaves visible results s ≡ leaves visible' results' s
-leaves_same s visible visible' results results' p q = rw (p, q) refl
-
-no_results : (method : Method) (s : InstanceState) (message : List ℕ) → LeavesResults method → result_changes method s message ≡ []
-no_results GetActionResult s message h = absurd (h.0 refl)
-no_results UpdateActionResult s message h = absurd (h.1 refl)
-no_results _ s message h = refl
-
--- a method that leaves the results as they are
-pub texts_make : (r : Result (Vec Reply Global) AllocError) (method : Method) (s : InstanceState) (message : List ℕ) (new results : List Blob) → LeavesResults method
-    → MakesTexts r method message s new → results ≡ s.results → Makes r (request_changes method s message) s (leaves new results s)
-texts_make r method s message new results h made same =
-    rw (no_results method s message h) (go r made.whole made.memory)
-  where
-    texts : List Texts.TextChange
-    texts = text_changes method s message
-
-    go : (r : Result (Vec Reply Global) AllocError) → OnOk r (new ≡ Texts.visible_after_changes most_blobs s.quota (text_changes method s message) s.visible) → OnErr r (Texts.MadeInPart most_blobs s.quota (text_changes method s message) s.visible new)
-        → Makes r (map Text (text_changes method s message) ++ []) s (leaves new results s)
-    go (Ok replies) whole part = record {
-      whole = leaves_same s new (Texts.visible_after_changes most_blobs s.quota (text_changes method s message) s.visible) results s.results whole same ∙ sym (changed_texts (text_changes method s message) [] s);
-      memory = tt;
-    }
-    go (Err e) whole part = record {
-      whole = tt;
-      memory = subst (MadeInPart (map Text (text_changes method s message) ++ []) s) (leaves_same s new new s.results results refl (sym same)) (texts_in_part (text_changes method s message) [] s new part);
-    }
+-- ---- what a method leaves
 
 append_nil : (cs : List InstanceChange) → cs ≡ cs ++ []
 append_nil [] = refl
 append_nil (c ∷ cs) = ap (λ (xs : List InstanceChange). c ∷ xs) (append_nil cs)
 
--- a method that uses texts, and leaves results
-answered_makes : (r : Result (Vec Reply Global) AllocError) (s : InstanceState) (texts : List Texts.TextChange) (kept new results : List Blob)
-    → new ≡ Texts.visible_after_changes most_blobs s.quota texts s.visible → results ≡ kept → Makes r (map Text texts ++ Keeps kept ∷ []) s (leaves new results s)
-answered_makes r s texts kept new results used left = go r where
-  all : leaves new results s ≡ state_after_changes (map Text texts ++ Keeps kept ∷ []) s
-  all = leaves_same s new (Texts.visible_after_changes most_blobs s.quota texts s.visible) results kept used left ∙ sym (changed_texts texts (Keeps kept ∷ []) s)
+-- texts alone
+pub leaves_texts : {X : Type 0} (r : Result X CallError) (shape : X → Answer) (cs : List Texts.TextChange) (s : InstanceState) (new : List Blob)
+    → IfAnswered r (new ≡ Texts.visible_after_changes most_blobs s.quota cs s.visible) → IfNoMemory r (Texts.MadeInPart most_blobs s.quota cs s.visible new) → Leaves (shaped shape r) (map Text cs) s (with_texts new s)
+leaves_texts (Ok x) shape cs s new whole part = record { whole = ap (λ (bs : List Blob). with_texts bs s) whole ∙ sym (made_texts cs s); memory = tt }
+leaves_texts (Err (Refused refusal)) shape cs s new whole part = record { whole = ap (λ (bs : List Blob). with_texts bs s) whole ∙ sym (made_texts cs s); memory = tt }
+leaves_texts (Err NoMemory) shape cs s new whole part = record { whole = tt; memory = texts_in_part cs s new part }
 
-  go : (r : Result (Vec Reply Global) AllocError) → Makes r (map Text texts ++ Keeps kept ∷ []) s (leaves new results s)
-  go (Ok replies) = record { whole = all; memory = tt }
-  go (Err e) = record {
-    whole = tt;
-    memory = record { made = map Text texts ++ Keeps kept ∷ []; left = []; front = append_nil (map Text texts ++ Keeps kept ∷ []); so_far = all };
-  }
+abbrev pub with_results : List Blob → InstanceState → InstanceState
+with_results results s = record s { results = results }
 
-pub results_make : {A : Type 0} (outcome : Result A CallError) (r : Result (Vec Reply Global) AllocError) (s : InstanceState) (texts : List Texts.TextChange) (kept new results : List Blob)
-    → IfAnswered outcome (new ≡ Texts.visible_after_changes most_blobs s.quota texts s.visible) → IfAnswered outcome (results ≡ kept) → OnErr outcome ((results ≡ s.results) × (new ≡ s.visible)) → IfNoMemory outcome (OnOk r ⊥)
-    → Makes r (map Text texts ++ Keeps kept ∷ []) s (leaves new results s)
-results_make (Ok x) r s texts kept new results used left err none = answered_makes r s texts kept new results used left
-results_make (Err (Refused refusal)) r s texts kept new results used left err none = answered_makes r s texts kept new results used left
-results_make (Err NoMemory) (Ok replies) s texts kept new results used left err none = absurd none
-results_make (Err NoMemory) (Err e) s texts kept new results used left err none = record {
+both_set : (s : InstanceState) (new visible results rs : List Blob) → new ≡ visible → results ≡ rs → with_texts new (with_results results s) ≡ with_texts visible (with_results rs s)
+both_set s new visible results rs p q = rw (p, q) refl
+
+all_set : (s : InstanceState) (kept : List Blob) (cs : List Texts.TextChange) (new results : List Blob) → new ≡ Texts.visible_after_changes most_blobs s.quota cs s.visible → results ≡ kept
+    → with_texts new (with_results results s) ≡ state_after_changes (Keeps kept ∷ map Text cs) s
+all_set s kept cs new results p q = both_set s new (Texts.visible_after_changes most_blobs s.quota cs s.visible) results kept p q ∙ sym (made_texts cs (with_results kept s))
+
+-- results, and then texts
+pub leaves_results : {X : Type 0} (r : Result X CallError) (shape : X → Answer) (kept : List Blob) (cs : List Texts.TextChange) (s : InstanceState) (new results : List Blob)
+    → IfAnswered r (new ≡ Texts.visible_after_changes most_blobs s.quota cs s.visible) → IfAnswered r (results ≡ kept) → OnErr r ((results ≡ s.results) × (new ≡ s.visible))
+    → Leaves (shaped shape r) (Keeps kept ∷ map Text cs) s (with_texts new (with_results results s))
+leaves_results (Ok x) shape kept cs s new results whole left err = record { whole = all_set s kept cs new results whole left; memory = tt }
+leaves_results (Err (Refused refusal)) shape kept cs s new results whole left err = record { whole = all_set s kept cs new results whole left; memory = tt }
+leaves_results (Err NoMemory) shape kept cs s new results whole left err = record {
   whole = tt;
-  memory = record { made = []; left = map Text texts ++ Keeps kept ∷ []; front = refl; so_far = leaves_same s new s.visible results s.results err.1 err.0 };
+  memory = record { made = []; left = Keeps kept ∷ map Text cs; front = refl; so_far = both_set s new s.visible results s.results err.1 err.0 };
 }
 
--- ---- what was settled
+-- all of the changes, or a front of them
+pub front_left : (r : Result Answer CallError) (changes : List InstanceChange) (s t : InstanceState) → Leaves r changes s t → MadeInPart changes s t
+front_left (Ok x) changes s t h = record { made = changes; left = []; front = append_nil changes; so_far = h.whole }
+front_left (Err (Refused refusal)) changes s t h = record { made = changes; left = []; front = append_nil changes; so_far = h.whole }
+front_left (Err NoMemory) changes s t h = h.memory
 
--- what holds of an answer holds where it was sent
-pub settled_whole : {A : Type 0} (outcome : Result A CallError) (r : Result (Vec Reply Global) AllocError) (P : Type 0) → IfAnswered outcome P → IfNoMemory outcome (OnOk r ⊥) → OnOk r P
-settled_whole outcome (Err e) P h none = tt
-settled_whole (Ok x) (Ok replies) P h none = h
-settled_whole (Err (Refused refusal)) (Ok replies) P h none = h
-settled_whole (Err NoMemory) (Ok replies) P h none = absurd none
+-- where a reply is sent, memory had not run out before
+pub all_left : (o : Result Answer CallError) (r : Result (Vec Reply Global) AllocError) (replies : Vec Reply Global) (changes : List InstanceChange) (s t : InstanceState) → r ≡ Ok replies → IfNoMemory o (OnOk r ⊥) → Leaves o changes s t → t ≡ state_after_changes changes s
+all_left (Ok x) r replies changes s t is none h = h.whole
+all_left (Err (Refused refusal)) r replies changes s t is none h = h.whole
+all_left (Err NoMemory) (Ok other) replies changes s t is none h = absurd none
+all_left (Err NoMemory) (Err e) replies changes s t is none h = absurd cc
 
-pub settled_in_part : {A : Type 0} (outcome : Result A CallError) (r : Result (Vec Reply Global) AllocError) (P : Type 0) → IfAnswered outcome P → OnErr outcome P → OnErr r P
-settled_in_part outcome (Ok replies) P h part = tt
-settled_in_part (Ok x) (Err e) P h part = h
-settled_in_part (Err e) (Err e') P h part = part
+-- ---- answers
+
+abbrev pub pages_said : Vec (Vec ℕ Global) Global → List (List ℕ)
+pages_said pages = map (λ (page : Vec ℕ Global). page.items) pages.items
+
+abbrev pub bytes_said : Vec ℕ Global → List ℕ
+bytes_said reply = reply.items
+
+pub answers_shaped : {X Y : Type 0} (view : X → Y) (shape : X → Answer) (form : Y → AnswerValue) (q : Slots) (r : Result X CallError) (meaning : Result Y Refusal) → ((x : X) → answer_shown q (shape x) ≡ form (view x))
+    → Answers view r meaning → Answers (answer_shown q) (shaped shape r) (answering form meaning)
+answers_shaped view shape form q (Ok x) meaning same h = rw (h, same x) refl
+answers_shaped view shape form q (Err (Refused refusal)) meaning same h = rw h refl
+answers_shaped view shape form q (Err NoMemory) meaning same h = tt
+
+pub on_answered : {X : Type 0} (r : Result X CallError) (P : Type 0) → P → IfAnswered r P
+on_answered (Ok x) P p = p
+on_answered (Err (Refused refusal)) P p = p
+on_answered (Err NoMemory) P p = tt
+
+pub no_memory_leaves : {X : Type 0} (r : Result X CallError) (P : Type 0) → P → IfNoMemory r P
+no_memory_leaves (Ok x) P p = tt
+no_memory_leaves (Err (Refused refusal)) P p = tt
+no_memory_leaves (Err NoMemory) P p = p
+
+-- what stays where a call is not answered
+pub if_no_memory : {X : Type 0} (r : Result X CallError) (P Q : Type 0) → (P → Q) → OnErr r P → IfNoMemory r Q
+if_no_memory (Ok x) P Q f p = tt
+if_no_memory (Err (Refused refusal)) P Q f p = tt
+if_no_memory (Err NoMemory) P Q f p = f p
 
 -- results of an answer, and without one
 pub settled_results : {A : Type 0} (outcome : Result A CallError) (old kept new : List Blob) → IfAnswered outcome (new ≡ kept) → OnErr outcome (new ≡ old) → AreResultsWithin old → AreResultsWithin kept → AreResultsWithin new
@@ -216,11 +219,6 @@ pub both_same : {A : Type 0} (outcome : Result A CallError) (P Q : Type 0) → O
 both_same (Ok x) P Q h = tt
 both_same (Err e) P Q h = h.0
 
-pub answered_always : {A : Type 0} (outcome : Result A CallError) (P : Type 0) → P → IfAnswered outcome P
-answered_always (Ok x) P p = p
-answered_always (Err (Refused refusal)) P p = p
-answered_always (Err NoMemory) P p = tt
-
 pub err_both : {A : Type 0} (outcome : Result A CallError) (P Q : Type 0) → OnErr outcome P → Q → OnErr outcome (P × Q)
 err_both (Ok x) P Q p q = tt
 err_both (Err e) P Q p q = (p, q)
@@ -230,12 +228,3 @@ pub seen_same : {A : Type 0} (outcome : Result A CallError) (results old : List 
     → OnErr outcome ((results ≡ old) × (visible_in p w ≡ visible_in p v))
 seen_same (Ok x) results old p v w h = tt
 seen_same (Err e) results old p v w h = (h.0, ap (visible_in p) h.1)
-
-pub on_ok : (r : Result (Vec Reply Global) AllocError) (P : Type 0) → P → OnOk r P
-on_ok (Ok replies) P p = p
-on_ok (Err e) P p = tt
-
--- uploads that are as they were
-pub same_uploads : (r : Result (Vec Reply Global) AllocError) (changes : List InstanceChange) (s new : InstanceState) (uploads : UploadList) → uploads ≡ new.uploads → Makes r changes s new
-    → Makes r changes s (record new { uploads = uploads })
-same_uploads r changes s new uploads same h = subst (λ (us : UploadList). Makes r changes s (record new { uploads = us })) (sym same) h

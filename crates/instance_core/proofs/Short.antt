@@ -362,12 +362,12 @@ found_size d (b ∷ bs) text h is = go (same_digest d b.0) refl is (λ later. fo
   go false one is ih = ih is
 
 seen_size : (d : Digest) (visible : List Blob) → AllByRecursion (λ (b : Blob). Names b.0 b.1) visible → length (read_response d (visible_text d visible)).content ≤ d.size
-seen_size d visible h = go (same_digest d (Rattle.digest.specs.Naming.digest_of [])) refl where
+seen_size d visible h = go (Rattle.digest.specs.Naming.is_empty_digest d) refl where
   at : (o : Option (List ℕ)) → ((text : List ℕ) → o ≡ Some text → length text ≤ d.size) → length (read_response d o).content ≤ d.size
   at None f = omega arith
   at (Some records_text) f = f records_text refl
 
-  go : (c : Bool) → same_digest d (Rattle.digest.specs.Naming.digest_of []) ≡ c → length (read_response d (cond c (Some []) (lookup (same_digest d) visible))).content ≤ d.size
+  go : (c : Bool) → Rattle.digest.specs.Naming.is_empty_digest d ≡ c → length (read_response d (cond c (Some []) (lookup (same_digest d) visible))).content ≤ d.size
   go true is = omega arith
   go false is = at (lookup (same_digest d) visible) (λ text found. found_size d visible text h found)
 

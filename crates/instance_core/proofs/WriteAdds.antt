@@ -9,12 +9,11 @@ use Rattle.digest.specs.Naming.{Names, same_digest}
 use Rattle.instance_view.specs.Visible.{Blob, visible_text, visible_after_use, with_match_first}
 use Rattle.quota_evict.specs.Admission.{longest_front, visible_after_admission}
 use Rattle.quota_evict.proofs.Limits.{take-all}
-use Rattle.rpc.specs.declared.refusal.Refusal.{Refusal}
 use Rattle.uploads.specs.declared.error.UploadError.{UploadError}
 use Rattle.uploads.specs.Uploads.{KeyValue, text_so_far}
 use Rattle.uploads.specs.Writing.{finish_answer, after_piece}
-use Rattle.bytestream.specs.Writing.{OpenWriteValue, PartValue, WriteState, FirstAsked, first_asked, next_asked, part_outcome, after_last_part, after_end, after_taking, after_part, after_first_asked, after_first, after_next_asked, after_next}
-use Rattle.instance_core.specs.State.{InstanceState}
+use Rattle.bytestream.specs.Writing.{PartValue, WriteState, part_outcome, after_last_part, after_end, after_taking, after_part}
+use Rattle.instance_core.specs.State.{InstanceState, most_blobs}
 use Rattle.instance_core.specs.Writes.{write_state, with_piece, with_part}
 use Rattle.instance_core.specs.Named.{IsOldOrNamed}
 use Rattle.instance_core.proofs.WriteLimits.{finish_names}
@@ -77,39 +76,17 @@ part_all : (P : Blob → Type 0) (limit quota moment : ℕ) (part : PartValue) (
 part_all P limit quota moment part w (Ok u) named h = end_all P limit quota part (record w { uploads = after_piece moment part.key part.piece (Ok u) w.uploads }) named h
 part_all P limit quota moment part w (Err e) named h = h
 
--- ---- a message of a Write
-
-first_all : (P : Blob → Type 0) (own : List ℕ) (limit quota moment : ℕ) (message : List ℕ) (w : WriteState) → HoldsNamed P → AllByRecursion P w.visible → AllByRecursion P (after_first own limit quota moment message w).visible
-first_all P own limit quota moment message w named h = go (first_asked own message) where
-  asked_all : (asked : FirstAsked) (b : Bool) → AllByRecursion P (cond b (record w { visible = visible_after_use asked.part.key.digest w.visible }) (after_part true limit quota moment asked.part w)).visible
-  asked_all asked true = used_all P asked.part.key.digest w.visible h
-  asked_all asked false = part_all P limit quota moment asked.part w (part_outcome true quota asked.part w.uploads) named h
-
-  go : (r : Result FirstAsked Refusal) → AllByRecursion P (after_first_asked limit quota moment r w).visible
-  go (Ok asked) = asked_all asked (is_some (visible_text asked.part.key.digest w.visible))
-  go (Err refusal) = h
-
-next_all : (P : Blob → Type 0) (call : OpenWriteValue) (limit quota moment : ℕ) (message : List ℕ) (w : WriteState) → HoldsNamed P → AllByRecursion P w.visible → AllByRecursion P (after_next call limit quota moment message w).visible
-next_all P call limit quota moment message w named h = go (next_asked call message) where
-  go : (r : Result PartValue Refusal) → AllByRecursion P (after_next_asked limit quota moment r w).visible
-  go (Ok part) = part_all P limit quota moment part w (part_outcome false quota part w.uploads) named h
-  go (Err refusal) = h
-
 -- ---- old texts, and named ones
 
 old_ones : (bs : List Blob) → AllByRecursion (IsOldOrNamed bs) bs
 old_ones bs = recursion_from_All (IsOldOrNamed bs) bs (λ k d within. inl (All-contains_itself bs k d within))
 
-pub first_adds : (own : List ℕ) (limit quota moment : ℕ) (message : List ℕ) (w : WriteState) → AllByRecursion (IsOldOrNamed w.visible) (after_first own limit quota moment message w).visible
-first_adds own limit quota moment message w = first_all (IsOldOrNamed w.visible) own limit quota moment message w (λ b named. inr named) (old_ones w.visible)
-
-pub next_adds : (call : OpenWriteValue) (limit quota moment : ℕ) (message : List ℕ) (w : WriteState) → AllByRecursion (IsOldOrNamed w.visible) (after_next call limit quota moment message w).visible
-next_adds call limit quota moment message w = next_all (IsOldOrNamed w.visible) call limit quota moment message w (λ b named. inr named) (old_ones w.visible)
+pub whole_adds : (first : Bool) (s : InstanceState) (part : PartValue) → AllByRecursion (IsOldOrNamed s.visible) (after_part first most_blobs s.quota s.moment part (write_state s)).visible
+whole_adds first s part = part_all (IsOldOrNamed s.visible) most_blobs s.quota s.moment part (write_state s) (part_outcome first s.quota part s.uploads) (λ b named. inr named) (old_ones s.visible)
 
 -- a piece changes no text
-pub piece_adds : (first : Bool) (s : InstanceState) (asked : Result PartValue Refusal) → AllByRecursion (IsOldOrNamed s.visible) (with_part first s asked).visible
-piece_adds first s (Ok part) = go (part_outcome first s.quota part s.uploads) where
+pub piece_adds : (first : Bool) (s : InstanceState) (part : PartValue) → AllByRecursion (IsOldOrNamed s.visible) (with_part first s part).visible
+piece_adds first s part = go (part_outcome first s.quota part s.uploads) where
   go : (r : Result Unit UploadError) → AllByRecursion (IsOldOrNamed s.visible) (with_piece s.moment part r (write_state s)).visible
   go (Ok u) = old_ones s.visible
   go (Err e) = old_ones s.visible
-piece_adds first s (Err refusal) = old_ones s.visible

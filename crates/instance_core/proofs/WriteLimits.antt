@@ -5,11 +5,11 @@ use Rattle.reapi_messages.specs.Results.{◌>>=◌}
 use Rattle.reapi_messages.specs.Fields.{value_of_text}
 use Rattle.reapi_messages.specs.ByteStream.{WriteRequestValue, write_request_of}
 use Rattle.rpc.specs.declared.refusal.Refusal.{Refusal}
-use Rattle.digest.specs.Naming.{Names, same_digest, digest_of}
+use Rattle.digest.specs.Naming.{Names, is_digest_of}
 use Rattle.digest.proofs.Same.{same_names}
 use Rattle.instance_view.specs.Visible.{visible_text}
 use Rattle.quota_evict.specs.Within.{AreBlobsWithin}
-use Rattle.quota_evict.proofs.Limits.{used_within, admitted_within}
+use Rattle.quota_evict.proofs.Limits.{admitted_within}
 use Rattle.cas_service.specs.Requests.{message_or_refusal, instance_check}
 use Rattle.bytestream.specs.NameError.{NameError}
 use Rattle.bytestream.specs.Names.{WriteNameValue, write_name}
@@ -21,7 +21,7 @@ use Rattle.uploads.proofs.ListLemmas.{within_without, within_call}
 use Rattle.bytestream.specs.Refusals.{name_or_refusal}
 use Rattle.bytestream.specs.Querying.{key_of_name}
 use Rattle.bytestream.specs.Writing as Writing
-use Rattle.bytestream.specs.Writing.{OpenWriteValue, PartValue, WrittenValue, WriteState, FirstAsked, first_asked, next_asked, part_outcome, part_answer, after_last_part, after_end, after_taking, after_part, reply_first, first_part_answer, first_answer, after_first_part, after_first_asked, after_first, after_next_asked, after_next}
+use Rattle.bytestream.specs.Writing.{OpenWriteValue, PartValue, WrittenValue, WriteState, FirstAsked, first_asked, part_outcome, part_answer, after_last_part, after_end, after_taking, after_part, reply_first, first_part_answer}
 use Rattle.instance_core.proofs.StatedSizes.{name_below}
 use Rattle.instance_core.specs.State.{InstanceState, most_blobs}
 use Rattle.instance_core.specs.Writes.{write_state, with_piece, with_part, first_outcome}
@@ -48,8 +48,8 @@ taken_within first quota moment part us r is w = within_call first quota moment 
 -- ---- the end of an upload
 
 pub finish_names : (key : KeyValue) (us : UploadList) (u : Unit {0}) → Ok u ≡ finish_answer key us → Names key.digest (text_so_far key us)
-finish_names key us u is = go (same_digest key.digest (digest_of (text_so_far key us))) refl is where
-  go : (b : Bool) → same_digest key.digest (digest_of (text_so_far key us)) ≡ b → Ok u ≡ cond b (Ok tt) (Err WrongHash) → Names key.digest (text_so_far key us)
+finish_names key us u is = go (is_digest_of key.digest (text_so_far key us)) refl is where
+  go : (b : Bool) → is_digest_of key.digest (text_so_far key us) ≡ b → Ok u ≡ cond b (Ok tt) (Err WrongHash) → Names key.digest (text_so_far key us)
   go true test is = same_names key.digest (text_so_far key us) test
   go false test is = cc
 
@@ -72,33 +72,17 @@ part_within first quota moment part w (Ok u) is h =
     end_within quota part taken (record { texts = h.texts; uploads = taken_within first quota moment part w.uploads (Ok u) is h.uploads })
 part_within first quota moment part w (Err e) is h = record { texts = h.texts; uploads = taken_within first quota moment part w.uploads (Err e) is h.uploads }
 
--- ---- a message
+-- ---- a part of a message
 
-first_part_within : (quota moment : ℕ) (asked : FirstAsked) (w : WriteState) → IsWithin quota w → IsWithin quota (after_first_part most_blobs quota moment asked w)
-first_part_within quota moment asked w h = go (is_some (visible_text asked.part.key.digest w.visible)) refl where
-  go : (b : Bool) → is_some (visible_text asked.part.key.digest w.visible) ≡ b → IsWithin quota (after_first_part most_blobs quota moment asked w)
-  go true is = rw is (record { texts = used_within most_blobs quota asked.part.key.digest w.visible h.texts; uploads = h.uploads })
-  go false is = rw is (part_within true quota moment asked.part w (part_outcome true quota asked.part w.uploads) refl h)
-
-pub first_within : (own : List ℕ) (quota moment : ℕ) (message : List ℕ) (w : WriteState) → IsWithin quota w → IsWithin quota (after_first own most_blobs quota moment message w)
-first_within own quota moment message w h = go (first_asked own message) where
-  go : (r : Result FirstAsked Refusal) → IsWithin quota (after_first_asked most_blobs quota moment r w)
-  go (Ok asked) = first_part_within quota moment asked w h
-  go (Err refusal) = h
-
-pub next_within : (call : OpenWriteValue) (quota moment : ℕ) (message : List ℕ) (w : WriteState) → IsWithin quota w → IsWithin quota (after_next call most_blobs quota moment message w)
-next_within call quota moment message w h = go (next_asked call message) where
-  go : (r : Result PartValue Refusal) → IsWithin quota (after_next_asked most_blobs quota moment r w)
-  go (Ok part) = part_within false quota moment part w (part_outcome false quota part w.uploads) refl h
-  go (Err refusal) = h
+pub whole_within : (first : Bool) (s : InstanceState) (part : PartValue) → IsWithin s.quota (write_state s) → IsWithin s.quota (after_part first most_blobs s.quota s.moment part (write_state s))
+whole_within first s part h = part_within first s.quota s.moment part (write_state s) (part_outcome first s.quota part s.uploads) refl h
 
 -- a piece that was taken, before its upload ends
-pub piece_within : (first : Bool) (s : InstanceState) (asked : Result PartValue Refusal) → IsWithin s.quota (write_state s) → IsWithin s.quota (with_part first s asked)
-piece_within first s (Ok part) h = go (part_outcome first s.quota part s.uploads) refl where
+pub piece_within : (first : Bool) (s : InstanceState) (part : PartValue) → IsWithin s.quota (write_state s) → IsWithin s.quota (with_part first s part)
+piece_within first s part h = go (part_outcome first s.quota part s.uploads) refl where
   go : (r : Result Unit UploadError) → r ≡ part_outcome first s.quota part s.uploads → IsWithin s.quota (with_piece s.moment part r (write_state s))
   go (Ok u) is = record { texts = h.texts; uploads = taken_within first s.quota s.moment part s.uploads (Ok u) is h.uploads }
   go (Err e) is = h
-piece_within first s (Err refusal) h = h
 
 -- ---- the size of an upload
 

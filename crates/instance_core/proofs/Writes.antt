@@ -1,5 +1,5 @@
 -- What a message of a Write leaves of an instance, and of its call.
-use Rattle.std.proofs.Common.{◌≡◌, inl, inr, ℕ, Bool, true, false, List, [], ◌∷◌, ◌++◌, Option, Some, None, Result, Ok, Err, refl, sym, ap, subst, ◌∙◌}
+use Rattle.std.proofs.Common.{◌≡◌, inl, inr, ℕ, Bool, true, false, cond, is_some, List, [], ◌∷◌, ◌++◌, Option, Some, None, Result, Ok, Err, refl, sym, ap, subst, ◌∙◌}
 use Rattle.std.specs.Prelude.{OnOk, OnErr, option_map}
 use Rattle.std.specs.declared.alloc.Global.{Global}
 use Rattle.std.specs.declared.alloc.AllocError.{AllocError}
@@ -8,7 +8,8 @@ use Rattle.rpc.specs.declared.method.Method.{Method}
 use Rattle.rpc.specs.declared.method.Method.TheVariants.{Write}
 use Rattle.rpc.specs.declared.refusal.Refusal.{Refusal}
 use Rattle.blob_pool.specs.Slots.{Slots}
-use Rattle.instance_view.specs.Visible.{Blob}
+use Rattle.instance_view.specs.Visible.{Blob, visible_text, visible_after_use}
+use Rattle.cas_service.specs.Changes.{Use}
 use Rattle.instance_view.specs.Shown.{ViewValue, visible_in}
 use Rattle.cas_service.specs.declared.error.CallError.{CallError}
 use Rattle.cas_service.specs.declared.error.CallError.TheVariants.{Refused, NoMemory}
@@ -16,21 +17,18 @@ use Rattle.cas_service.specs.Answers.{Answers, IfAnswered, IfNoMemory}
 use Rattle.uploads.specs.Uploads.{UploadList}
 use Rattle.bytestream.specs.declared.writing.Written.{Written}
 use Rattle.bytestream.specs.Writing as Writing
-use Rattle.bytestream.specs.Writing.{OpenWriteValue, PartValue, WrittenValue, FirstAsked, WriteState, first_asked, next_asked, part_outcome, after_first, after_next, IsOldOrTaken, IsFirstOldOrTaken, IsNextOldOrTaken}
+use Rattle.bytestream.specs.Writing.{OpenWriteValue, PartValue, WrittenValue, FirstAsked, WriteState, first_asked, next_asked, after_part, after_first_asked, after_first, after_next_asked, after_next, IsOldOrTaken, IsFirstOldOrTaken, IsNextOldOrTaken}
 use Rattle.instance_core.specs.declared.event.CallId.{CallId}
 use Rattle.instance_core.specs.declared.event.Reply.{Reply}
 use Rattle.instance_core.specs.Calls.{Calls}
 use Rattle.instance_core.specs.State.{InstanceState, most_blobs}
-use Rattle.instance_core.specs.Changes.{InstanceChange, Wrote, state_after_changes, MadeInPart}
-use Rattle.instance_core.specs.Writes.{write_state, with_piece, with_part, part_of, first_changes, next_changes, first_outcome, next_outcome}
+use Rattle.instance_core.specs.Changes.{InstanceChange, Text, Wrote, state_after_changes, MadeInPart}
+use Rattle.instance_core.specs.Writes.{write_state, with_part, part_changes, first_part_changes, changes_asked, first_changes, next_changes, first_outcome, next_outcome}
 use Rattle.instance_core.specs.Answer.{first_write_answer, next_write_answer, first_message_answer}
 use Rattle.instance_core.specs.Shown.{Makes, with_calls}
-use Rattle.instance_core.proofs.Parts.{becomes, becomes_same}
+use Rattle.instance_core.proofs.Parts.{becomes, becomes_same, changed_more}
 
 -- ---- what an answer means
-
-abbrev err : {Y : Type 0} → Refusal → Result Y Refusal
-err refusal = Err refusal
 
 abbrev pub reply_seen : Option (Vec ℕ Global) → Option (List ℕ)
 reply_seen o = option_map (λ (reply : Vec ℕ Global). reply.items) o
@@ -70,7 +68,27 @@ next_replies id changes (Ok None) = refl
 next_replies id changes (Ok (Some reply)) = refl
 next_replies id changes (Err refusal) = refl
 
--- ---- what want of memory leaves
+-- ---- what a message leaves, carried out whole or in part
+
+abbrev leaving : WriteState → InstanceState → InstanceState
+leaving w s = becomes w.visible w.uploads s.calls s
+
+first_whole : (s : InstanceState) (message : List ℕ) → leaving (after_first s.name most_blobs s.quota s.moment message (write_state s)) s ≡ state_after_changes (first_changes s message) s
+first_whole s message = go (first_asked s.name message) where
+  seen_or_not : (asked : FirstAsked) (b : Bool) → leaving (cond b (record (write_state s) { visible = visible_after_use asked.part.key.digest s.visible }) (after_part true most_blobs s.quota s.moment asked.part (write_state s))) s
+      ≡ state_after_changes (cond b (Text (Use asked.part.key.digest) ∷ []) (part_changes true s asked.part)) s
+  seen_or_not asked true = refl
+  seen_or_not asked false = refl
+
+  go : (r : Result FirstAsked Refusal) → leaving (after_first_asked most_blobs s.quota s.moment r (write_state s)) s ≡ state_after_changes (changes_asked (first_part_changes s) r) s
+  go (Ok asked) = seen_or_not asked (is_some (visible_text asked.part.key.digest s.visible))
+  go (Err refusal) = refl
+
+next_whole : (s : InstanceState) (write : OpenWriteValue) (message : List ℕ) → leaving (after_next write most_blobs s.quota s.moment message (write_state s)) s ≡ state_after_changes (next_changes s write message) s
+next_whole s write message = go (next_asked write message) where
+  go : (r : Result PartValue Refusal) → leaving (after_next_asked most_blobs s.quota s.moment r (write_state s)) s ≡ state_after_changes (changes_asked (part_changes false s) r) s
+  go (Ok part) = refl
+  go (Err refusal) = refl
 
 same_in_part : (s : InstanceState) (changes : List InstanceChange) (uploads : UploadList) → uploads ≡ s.uploads → MadeInPart changes s (becomes s.visible uploads s.calls s)
 same_in_part s changes uploads same = record {
@@ -81,56 +99,61 @@ same_in_part s changes uploads same = record {
 }
 
 taken_in_part : (first : Bool) (s : InstanceState) (part : PartValue) (rest : List InstanceChange) (uploads : UploadList) → IsOldOrTaken first s.quota s.moment part s.uploads uploads
-    → MadeInPart (Wrote (with_piece s.moment part (part_outcome first s.quota part s.uploads) (write_state s)) ∷ rest) s (becomes s.visible uploads s.calls s)
-taken_in_part first s part rest uploads (inl same) = same_in_part s (Wrote (with_piece s.moment part (part_outcome first s.quota part s.uploads) (write_state s)) ∷ rest) uploads same
+    → MadeInPart (part_changes first s part ++ rest) s (becomes s.visible uploads s.calls s)
+taken_in_part first s part rest uploads (inl same) = same_in_part s (part_changes first s part ++ rest) uploads same
 taken_in_part first s part rest uploads (inr taken) = record {
-  made = Wrote (with_piece s.moment part (part_outcome first s.quota part s.uploads) (write_state s)) ∷ [];
-  left = rest;
+  made = Wrote (with_part first s part) ∷ [];
+  left = Wrote (after_part first most_blobs s.quota s.moment part (write_state s)) ∷ rest;
   front = refl;
   so_far = rw taken.0 (ap (λ (u : UploadList). becomes s.visible u s.calls s) taken.1);
 }
 
-first_in_part : (s : InstanceState) (r : Result FirstAsked Refusal) (rest : List InstanceChange) (uploads : UploadList) → IsFirstOldOrTaken s.quota s.moment r s.uploads uploads
-    → MadeInPart (Wrote (with_part true s (part_of r)) ∷ rest) s (becomes s.visible uploads s.calls s)
-first_in_part s (Ok asked) rest uploads h = taken_in_part true s asked.part rest uploads h
-first_in_part s (Err refusal) rest uploads h = same_in_part s (Wrote (with_part true s (part_of (err {Y = FirstAsked} refusal))) ∷ rest) uploads h
+first_in_part : (s : InstanceState) (message : List ℕ) (rest : List InstanceChange) (uploads : UploadList) → IsFirstOldOrTaken s.quota s.moment (first_asked s.name message) (write_state s) uploads
+    → MadeInPart (first_changes s message ++ rest) s (becomes s.visible uploads s.calls s)
+first_in_part s message rest uploads = go (first_asked s.name message) where
+  go : (r : Result FirstAsked Refusal) → IsFirstOldOrTaken s.quota s.moment r (write_state s) uploads → MadeInPart (changes_asked (first_part_changes s) r ++ rest) s (becomes s.visible uploads s.calls s)
+  go (Ok asked) (inl same) = same_in_part s (first_part_changes s asked ++ rest) uploads same
+  go (Ok asked) (inr none) = rw none.0 (taken_in_part true s asked.part rest uploads none.1)
+  go (Err refusal) h = same_in_part s rest uploads h
 
-next_in_part : (s : InstanceState) (r : Result PartValue Refusal) (rest : List InstanceChange) (uploads : UploadList) → IsNextOldOrTaken s.quota s.moment r s.uploads uploads
-    → MadeInPart (Wrote (with_part false s r) ∷ rest) s (becomes s.visible uploads s.calls s)
-next_in_part s (Ok part) rest uploads h = taken_in_part false s part rest uploads h
-next_in_part s (Err refusal) rest uploads h = same_in_part s (Wrote (with_part false s (err {Y = PartValue} refusal)) ∷ rest) uploads h
+next_in_part : (s : InstanceState) (write : OpenWriteValue) (message : List ℕ) (rest : List InstanceChange) (uploads : UploadList) → IsNextOldOrTaken s.quota s.moment (next_asked write message) s.uploads uploads
+    → MadeInPart (next_changes s write message ++ rest) s (becomes s.visible uploads s.calls s)
+next_in_part s write message rest uploads = go (next_asked write message) where
+  go : (r : Result PartValue Refusal) → IsNextOldOrTaken s.quota s.moment r s.uploads uploads → MadeInPart (changes_asked (part_changes false s) r ++ rest) s (becomes s.visible uploads s.calls s)
+  go (Ok part) h = taken_in_part false s part rest uploads h
+  go (Err refusal) h = same_in_part s rest uploads h
 
--- ---- a message that is carried out, whole or in part
+-- ---- a message that is answered, or ends for want of memory
 
-answered : (r : Result (Vec Reply Global) AllocError) (s : InstanceState) (w1 w2 : WriteState) (tail : List InstanceChange) (visible : List Blob) (uploads : UploadList) (calls : Calls)
-    → visible ≡ w2.visible → uploads ≡ w2.uploads
+answered : (r : Result (Vec Reply Global) AllocError) (s : InstanceState) (changes tail : List InstanceChange) (w : WriteState) (visible : List Blob) (uploads : UploadList) (calls : Calls)
+    → leaving w s ≡ state_after_changes changes s → visible ≡ w.visible → uploads ≡ w.uploads
     → ((t : InstanceState) → OnOk r (with_calls calls t ≡ state_after_changes tail (with_calls s.calls t))) → OnErr r (calls ≡ s.calls)
-    → Makes r (Wrote w1 ∷ Wrote w2 ∷ tail) s (becomes visible uploads calls s)
-answered (Ok x) s w1 w2 tail visible uploads calls texts ups all same = record {
-  whole = becomes_same s visible w2.visible uploads w2.uploads calls calls texts ups refl ∙ all (becomes w2.visible w2.uploads s.calls s);
+    → Makes r (changes ++ tail) s (becomes visible uploads calls s)
+answered (Ok x) s changes tail w visible uploads calls left texts ups all same = record {
+  whole = becomes_same s visible w.visible uploads w.uploads calls calls texts ups refl ∙ all (leaving w s) ∙ ap (state_after_changes tail) left ∙ sym (changed_more changes tail s);
   memory = tt;
 }
-answered (Err e) s w1 w2 tail visible uploads calls texts ups all same = record {
+answered (Err e) s changes tail w visible uploads calls left texts ups all same = record {
   whole = tt;
   memory = record {
-    made = Wrote w1 ∷ Wrote w2 ∷ [];
+    made = changes;
     left = tail;
     front = refl;
-    so_far = becomes_same s visible w2.visible uploads w2.uploads calls s.calls texts ups same;
+    so_far = becomes_same s visible w.visible uploads w.uploads calls s.calls texts ups same ∙ left;
   };
 }
 
-written : {A : Type 0} (o : Result A CallError) (r : Result (Vec Reply Global) AllocError) (s : InstanceState) (w1 w2 : WriteState) (tail : List InstanceChange) (visible : List Blob) (uploads : UploadList) (calls : Calls)
-    → IfAnswered o (visible ≡ w2.visible) → IfAnswered o (uploads ≡ w2.uploads)
-    → IfNoMemory o (MadeInPart (Wrote w1 ∷ Wrote w2 ∷ tail) s (becomes visible uploads s.calls s)) → IfNoMemory o (OnOk r ⊥)
+written : {A : Type 0} (o : Result A CallError) (r : Result (Vec Reply Global) AllocError) (s : InstanceState) (changes tail : List InstanceChange) (w : WriteState) (visible : List Blob) (uploads : UploadList) (calls : Calls)
+    → leaving w s ≡ state_after_changes changes s → IfAnswered o (visible ≡ w.visible) → IfAnswered o (uploads ≡ w.uploads)
+    → IfNoMemory o (MadeInPart (changes ++ tail) s (becomes visible uploads s.calls s)) → IfNoMemory o (OnOk r ⊥)
     → ((t : InstanceState) → OnOk r (with_calls calls t ≡ state_after_changes tail (with_calls s.calls t))) → OnErr r (calls ≡ s.calls)
-    → Makes r (Wrote w1 ∷ Wrote w2 ∷ tail) s (becomes visible uploads calls s)
-written (Ok x) r s w1 w2 tail visible uploads calls texts ups part none all same = answered r s w1 w2 tail visible uploads calls texts ups all same
-written (Err (Refused refusal)) r s w1 w2 tail visible uploads calls texts ups part none all same = answered r s w1 w2 tail visible uploads calls texts ups all same
-written (Err NoMemory) (Ok x) s w1 w2 tail visible uploads calls texts ups part none all same = absurd none
-written (Err NoMemory) (Err e) s w1 w2 tail visible uploads calls texts ups part none all same = record {
+    → Makes r (changes ++ tail) s (becomes visible uploads calls s)
+written (Ok x) r s changes tail w visible uploads calls left texts ups part none all same = answered r s changes tail w visible uploads calls left texts ups all same
+written (Err (Refused refusal)) r s changes tail w visible uploads calls left texts ups part none all same = answered r s changes tail w visible uploads calls left texts ups all same
+written (Err NoMemory) (Ok x) s changes tail w visible uploads calls left texts ups part none all same = absurd none
+written (Err NoMemory) (Err e) s changes tail w visible uploads calls left texts ups part none all same = record {
   whole = tt;
-  memory = subst (λ (cs : Calls). MadeInPart (Wrote w1 ∷ Wrote w2 ∷ tail) s (becomes visible uploads cs s)) (sym same) part;
+  memory = subst (λ (cs : Calls). MadeInPart (changes ++ tail) s (becomes visible uploads cs s)) (sym same) part;
 }
 
 -- what a pool shows, where neither it nor the view has changed
@@ -146,17 +169,16 @@ pub first_done : (o : Result Written CallError) (r : Result (Vec Reply Global) A
     → limit ≡ most_blobs → s.visible ≡ visible_in p v
     → IfAnswered o (visible_in q w ≡ (after_first s.name limit s.quota s.moment message (write_state s)).visible)
     → IfAnswered o (uploads ≡ (after_first s.name limit s.quota s.moment message (write_state s)).uploads)
-    → IfNoMemory o ((w ≡ v) × (q ≡ p) × IsFirstOldOrTaken s.quota s.moment (first_asked s.name message) s.uploads uploads) → IfNoMemory o (OnOk r ⊥)
+    → IfNoMemory o ((w ≡ v) × (q ≡ p) × IsFirstOldOrTaken s.quota s.moment (first_asked s.name message) (write_state s) uploads) → IfNoMemory o (OnOk r ⊥)
     → ((t : InstanceState) → OnOk r (with_calls calls t ≡ state_after_changes (first_write_answer id Write [] (first_outcome s message)).changes (with_calls s.calls t))) → OnErr r (calls ≡ s.calls)
     → Makes r (first_message_answer s id Write message).changes s (becomes (visible_in q w) uploads calls s)
 first_done o r p q v w s id message limit uploads calls most is texts ups part none all same =
     let tail = (first_write_answer id Write [] (first_outcome s message)).changes in
-    let taken = with_part true s (part_of (first_asked s.name message)) in
-    let ended = after_first s.name most_blobs s.quota s.moment message (write_state s) in
-    let P = IsFirstOldOrTaken s.quota s.moment (first_asked s.name message) s.uploads uploads in
-    let here = shown_part o p q v w s (Wrote taken ∷ Wrote ended ∷ tail) uploads P is (first_in_part s (first_asked s.name message) (Wrote ended ∷ tail) uploads) part in
-    rw (first_split id Write (first_changes s message) (first_outcome s message))
-    (written o r s taken ended tail (visible_in q w) uploads calls
+    let changes = first_changes s message in
+    let P = IsFirstOldOrTaken s.quota s.moment (first_asked s.name message) (write_state s) uploads in
+    let here = shown_part o p q v w s (changes ++ tail) uploads P is (first_in_part s message tail uploads) part in
+    rw (first_split id Write changes (first_outcome s message))
+    (written o r s changes tail (after_first s.name most_blobs s.quota s.moment message (write_state s)) (visible_in q w) uploads calls (first_whole s message)
     (subst (λ (n : ℕ). IfAnswered o (visible_in q w ≡ (after_first s.name n s.quota s.moment message (write_state s)).visible)) most texts)
     (subst (λ (n : ℕ). IfAnswered o (uploads ≡ (after_first s.name n s.quota s.moment message (write_state s)).uploads)) most ups)
     here none all same)
@@ -170,12 +192,11 @@ pub next_done : (o : Result (Option (Vec ℕ Global)) CallError) (r : Result (Ve
     → Makes r (next_write_answer id (next_changes s call message) (next_outcome s call message)).changes s (becomes (visible_in q w) uploads calls s)
 next_done o r p q v w s id call message limit uploads calls most is texts ups part none all same =
     let tail = (next_write_answer id [] (next_outcome s call message)).changes in
-    let taken = with_part false s (next_asked call message) in
-    let ended = after_next call most_blobs s.quota s.moment message (write_state s) in
+    let changes = next_changes s call message in
     let P = IsNextOldOrTaken s.quota s.moment (next_asked call message) s.uploads uploads in
-    let here = shown_part o p q v w s (Wrote taken ∷ Wrote ended ∷ tail) uploads P is (next_in_part s (next_asked call message) (Wrote ended ∷ tail) uploads) part in
-    rw (next_split id (next_changes s call message) (next_outcome s call message))
-    (written o r s taken ended tail (visible_in q w) uploads calls
+    let here = shown_part o p q v w s (changes ++ tail) uploads P is (next_in_part s call message tail uploads) part in
+    rw (next_split id changes (next_outcome s call message))
+    (written o r s changes tail (after_next call most_blobs s.quota s.moment message (write_state s)) (visible_in q w) uploads calls (next_whole s call message)
     (subst (λ (n : ℕ). IfAnswered o (visible_in q w ≡ (after_next call n s.quota s.moment message (write_state s)).visible)) most texts)
     (subst (λ (n : ℕ). IfAnswered o (uploads ≡ (after_next call n s.quota s.moment message (write_state s)).uploads)) most ups)
     here none all same)

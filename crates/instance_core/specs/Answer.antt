@@ -2,8 +2,8 @@
 -- complete; each other method takes one message, and is answered at the end of its request. What
 -- comes for a call that is not in course is dropped: it was answered before, or given up. To be
 -- read from the last definitions up: `answer` has a case for each event. A call is named by the
--- numbers of its connection and of its stream (`CallId`). `items_to` is what a method sends for its
--- one message, and `request_changes` what it does to the instance (Methods.antt);
+-- numbers of its connection and of its stream (`CallId`). `answer_to` is what a method answers to
+-- its one message, and `request_changes` what it does to the instance (Methods.antt);
 -- `first_outcome` and `next_outcome` are what the messages of a Write are answered (Writes.antt). A
 -- change is `Text`, a use or an admission of a text, `Wrote`, the texts and uploads that a message
 -- of a Write leaves, `Keeps`, the results that a call leaves, `Goes`, a call begins or goes on,
@@ -17,9 +17,9 @@ use Rattle.bytestream.specs.Writing as Writing
 use Rattle.bytestream.specs.Writing.{OpenWriteValue, WrittenValue, unfinished_reply}
 use Rattle.instance_core.specs.declared.event.CallId.{CallId}
 use Rattle.instance_core.specs.Calls.{ProgressValue, waits, has, writes, CallValue, CallEventValue, head, message, fault, end, cancel, tick, call_at}
-use Rattle.instance_core.specs.Replies.{ReplyItemValue, ReplyValue, reply_items}
+use Rattle.instance_core.specs.Replies.{AnswerValue, one_message, ReplyItemValue, ReplyValue, items_of}
 use Rattle.instance_core.specs.State.{InstanceState}
-use Rattle.instance_core.specs.Methods.{is_served, items_to, request_changes}
+use Rattle.instance_core.specs.Methods.{is_served, answer_to, request_changes}
 use Rattle.instance_core.specs.Writes.{first_changes, next_changes, first_outcome, next_outcome}
 use Rattle.instance_core.specs.Changes.{InstanceChange, Goes, Ends, Expires, state_after_changes}
 
@@ -27,9 +27,13 @@ pub record Answer : Type 0 where
   pub replies : List ReplyValue
   pub changes : List InstanceChange
 
--- the one answer to a call: one message with status OK, or a refusal
-abbrev pub reply_with : CallId → Result (List ℕ) Refusal → List ReplyValue
-reply_with id outcome = record { call = id; items = reply_items outcome } ∷ []
+-- these items are sent at once
+abbrev pub reply_of_items : CallId → List ReplyItemValue → List ReplyValue
+reply_of_items id items = record { call = id; items = items } ∷ []
+
+-- the one answer to a call: a whole reply with status OK, or a refusal
+abbrev pub reply_with : CallId → Result AnswerValue Refusal → List ReplyValue
+reply_with id outcome = reply_of_items id (items_of outcome)
 
 abbrev pub no_answer : Answer
 no_answer = record { replies = []; changes = [] }
@@ -39,7 +43,7 @@ abbrev pub continuation_answer : CallId → CallValue → Answer
 continuation_answer id call = record { replies = []; changes = Goes id call ∷ [] }
 
 -- a call in course is answered, and ends
-abbrev pub final_answer : CallId → Result (List ℕ) Refusal → Answer
+abbrev pub final_answer : CallId → Result AnswerValue Refusal → Answer
 final_answer id outcome = record { replies = reply_with id outcome; changes = Ends id ∷ [] }
 
 -- a call of a method that is not served is answered at once; a call that is in course does not
@@ -60,7 +64,7 @@ first_write_answer id method changes (Ok (Writing.Goes write)) = record {
   changes = changes ++ Goes id (record { method = method; progress = writes write }) ∷ [];
 }
 first_write_answer id method changes (Ok (Writing.Answered reply)) =
-    record { replies = reply_with id (Ok reply); changes = changes ++ Ends id ∷ [] }
+    record { replies = reply_with id (Ok (one_message reply)); changes = changes ++ Ends id ∷ [] }
 first_write_answer id method changes (Err refusal) =
     record { replies = reply_with id (Err refusal); changes = changes ++ Ends id ∷ [] }
 
@@ -68,7 +72,7 @@ abbrev pub next_write_answer : CallId → List InstanceChange → Result (Option
     Answer
 next_write_answer id changes (Ok None) = record { replies = []; changes = changes }
 next_write_answer id changes (Ok (Some reply)) =
-    record { replies = reply_with id (Ok reply); changes = changes ++ Ends id ∷ [] }
+    record { replies = reply_with id (Ok (one_message reply)); changes = changes ++ Ends id ∷ [] }
 next_write_answer id changes (Err refusal) =
     record { replies = reply_with id (Err refusal); changes = changes ++ Ends id ∷ [] }
 
@@ -98,14 +102,10 @@ fault_answer id refusal (Some call) = final_answer id (Err refusal)
 
 -- ---- ends of requests
 
--- these items are sent at once
-abbrev pub reply_of_items : CallId → List ReplyItemValue → List ReplyValue
-reply_of_items id items = record { call = id; items = items } ∷ []
-
 -- the method's own answer and changes
 abbrev pub method_answer : InstanceState → CallId → Method → List ℕ → Answer
 method_answer s id method request = record {
-  replies = reply_of_items id (items_to method s request);
+  replies = reply_with id (answer_to method s request);
   changes = request_changes method s request ++ Ends id ∷ [];
 }
 
@@ -114,7 +114,7 @@ abbrev pub end_answer_by_progress : InstanceState → CallId → Method → Prog
 end_answer_by_progress s id method waits = final_answer id (Err NoMessage)
 end_answer_by_progress s id method (has request) = method_answer s id method request
 end_answer_by_progress s id method (writes write) =
-    final_answer id (Ok (unfinished_reply write.key s.uploads))
+    final_answer id (Ok (one_message (unfinished_reply write.key s.uploads)))
 
 abbrev pub request_end_answer : InstanceState → CallId → Option CallValue → Answer
 request_end_answer s id None = no_answer

@@ -10,6 +10,7 @@ pub mod Replies
 pub mod Writes
 pub mod Answer
 pub mod Shown
+pub mod Carries
 pub mod ReplyHolders
 pub mod Named
 pub mod NamedReplies

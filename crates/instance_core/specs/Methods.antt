@@ -1,12 +1,10 @@
 -- What each method but Write answers to the one message of its request, and what it does to the
--- texts and the results. For the code alone: `LeavesResults`, `AnswersFromTexts`, `ShowsAfter` and
--- `ShowsInPart`.
-use Rattle.std.specs.Prelude.{◌≡◌, ◌≢◌, ℕ, Bool, true, false, List, [], ◌∷◌, ◌++◌, map, Result, Ok, Err}
+-- instance: `answer_to` and `request_changes` have a case for each.
+use Rattle.std.specs.Prelude.{ℕ, Bool, true, false, List, [], ◌∷◌, map, Result, Ok, Err}
 use Rattle.rpc.specs.declared.method.Method.{Method}
-use Rattle.rpc.specs.declared.method.Method.TheVariants.{FindMissingBlobs, BatchUpdateBlobs, BatchReadBlobs, GetTree, GetActionResult, UpdateActionResult, GetCapabilities, Read, Write, QueryWriteStatus}
+use Rattle.rpc.specs.declared.method.Method.TheVariants.{FindMissingBlobs, BatchUpdateBlobs, BatchReadBlobs, GetTree, GetActionResult, UpdateActionResult, Execute, WaitExecution, GetCapabilities, Read, QueryWriteStatus}
 use Rattle.rpc.specs.declared.refusal.Refusal.{Refusal}
 use Rattle.rpc.specs.declared.refusal.Refusal.TheVariants.{UnknownMethod}
-use Rattle.instance_view.specs.Visible.{Blob}
 use Rattle.cas_service.specs.Changes as Texts
 use Rattle.cas_service.specs.FindMissing.{find_missing_reply, find_missing_changes}
 use Rattle.cas_service.specs.BatchUpdate.{batch_update_reply, batch_update_changes}
@@ -17,81 +15,51 @@ use Rattle.bytestream.specs.Querying.{query_reply}
 use Rattle.tree_calls.specs.GetTree.{get_tree_replies, get_tree_changes}
 use Rattle.tree_calls.specs.Results.{get_action_result_reply, get_action_result_changes, after_get, update_action_result_reply, after_update}
 use Rattle.instance_core.specs.Changes.{InstanceChange, Text, Keeps}
-use Rattle.instance_core.specs.Replies.{ReplyItemValue, reply_items, whole_reply_items, read_items}
-use Rattle.instance_core.specs.State.{InstanceState, most_blobs}
+use Rattle.instance_core.specs.Replies.{AnswerValue, one_message, messages, range, answering}
+use Rattle.instance_core.specs.State.{InstanceState, seen}
 use Rattle.instance_core.specs.Capabilities.{get_capabilities_reply}
 
+-- whether a call of the method begins, or is refused at once
 abbrev pub is_served : Method → Bool
-is_served FindMissingBlobs = true
-is_served BatchUpdateBlobs = true
-is_served BatchReadBlobs = true
-is_served GetTree = true
-is_served GetActionResult = true
-is_served UpdateActionResult = true
-is_served GetCapabilities = true
-is_served Read = true
-is_served Write = true
-is_served QueryWriteStatus = true
-is_served _ = false
+is_served Execute = false
+is_served WaitExecution = false
+is_served _ = true
 
--- a method that leaves the results of actions as they are
-abbrev pub LeavesResults : Method → Type 0
-LeavesResults method = (method ≢ GetActionResult) × (method ≢ UpdateActionResult)
-
--- a method that answers by one message, from the texts alone
-abbrev pub AnswersFromTexts : Method → Type 0
-AnswersFromTexts method = LeavesResults method × (method ≢ Read) × (method ≢ GetTree)
-
--- the reply's message, or the refusal
-abbrev pub reply_to : Method → InstanceState → List ℕ → Result (List ℕ) Refusal
-reply_to FindMissingBlobs s message = find_missing_reply s.name s.visible message
-reply_to BatchUpdateBlobs s message = batch_update_reply s.name s.quota message
-reply_to BatchReadBlobs s message = batch_read_reply s.name s.visible message
-reply_to GetCapabilities s message = get_capabilities_reply s.name s.slots message
-reply_to GetActionResult s message = get_action_result_reply s.name s.visible s.results message
-reply_to UpdateActionResult s message = update_action_result_reply s.name message
-reply_to QueryWriteStatus s message = query_reply s.name s.visible s.uploads message
-reply_to _ s message = Err UnknownMethod
-
--- what is sent: a Read sends a range of a blob, GetTree pages, each other method a message
-abbrev pub items_to : Method → InstanceState → List ℕ → List ReplyItemValue
-items_to Read s message = read_items (read_answer s.name s.visible message)
-items_to GetTree s message = whole_reply_items (get_tree_replies s.name s.visible message)
-items_to method s message = reply_items (reply_to method s message)
+-- what a method answers, or its refusal; no request of the others is kept to its end
+abbrev pub answer_to : Method → InstanceState → List ℕ → Result AnswerValue Refusal
+answer_to FindMissingBlobs s message =
+    answering one_message (find_missing_reply s.name (seen s) message)
+answer_to BatchUpdateBlobs s message =
+    answering one_message (batch_update_reply s.name s.quota message)
+answer_to BatchReadBlobs s message =
+    answering one_message (batch_read_reply s.name (seen s) message)
+answer_to GetTree s message = answering messages (get_tree_replies s.name (seen s) message)
+answer_to GetActionResult s message =
+    answering one_message (get_action_result_reply s.name (seen s) s.results message)
+answer_to UpdateActionResult s message =
+    answering one_message (update_action_result_reply s.name message)
+answer_to GetCapabilities s message =
+    answering one_message (get_capabilities_reply s.name s.slots message)
+answer_to Read s message = answering range (read_answer s.name (seen s) message)
+answer_to QueryWriteStatus s message =
+    answering one_message (query_reply s.name s.visible s.uploads message)
+answer_to _ s message = Err UnknownMethod
 
 -- a Read uses the blob that it asks for
 abbrev pub use_asked : Result ReadAsked Refusal → List Texts.TextChange
 use_asked (Ok asked) = Texts.Use asked.digest ∷ []
 use_asked (Err refusal) = []
 
--- what is done to the texts
-abbrev pub text_changes : Method → InstanceState → List ℕ → List Texts.TextChange
-text_changes FindMissingBlobs s message = find_missing_changes s.name message
-text_changes BatchUpdateBlobs s message = batch_update_changes s.name s.quota message
-text_changes BatchReadBlobs s message = batch_read_changes s.name message
-text_changes GetTree s message = get_tree_changes s.name s.visible message
-text_changes GetActionResult s message =
-    get_action_result_changes s.name s.visible s.results message
-text_changes Read s message = use_asked (read_asked s.name message)
-text_changes _ s message = []
-
--- the texts that are seen once a message was carried out, or a part of it for want of memory
-abbrev pub ShowsAfter : Method → List ℕ → InstanceState → List Blob → Type 0
-ShowsAfter method message s visible =
-    visible ≡
-    Texts.visible_after_changes most_blobs s.quota (text_changes method s message) s.visible
-
-abbrev pub ShowsInPart : Method → List ℕ → InstanceState → List Blob → Type 0
-ShowsInPart method message s visible =
-    Texts.MadeInPart most_blobs s.quota (text_changes method s message) s.visible visible
-
--- what is done to the results
-abbrev pub result_changes : Method → InstanceState → List ℕ → List InstanceChange
-result_changes GetActionResult s message = Keeps (after_get s.name s.visible s.results message) ∷ []
-result_changes UpdateActionResult s message = Keeps (after_update s.name s.results message) ∷ []
-result_changes _ s message = []
-
--- all that a request does but end its call
+-- all that a request does but end its call, in this order
 abbrev pub request_changes : Method → InstanceState → List ℕ → List InstanceChange
-request_changes method s message =
-    map Text (text_changes method s message) ++ result_changes method s message
+request_changes FindMissingBlobs s message = map Text (find_missing_changes s.name message)
+request_changes BatchUpdateBlobs s message =
+    map Text (batch_update_changes s.name s.quota message)
+request_changes BatchReadBlobs s message = map Text (batch_read_changes s.name message)
+request_changes GetTree s message = map Text (get_tree_changes s.name (seen s) message)
+request_changes GetActionResult s message =
+    Keeps (after_get s.name (seen s) s.results message)
+    ∷ map Text (get_action_result_changes s.name (seen s) s.results message)
+request_changes UpdateActionResult s message = Keeps (after_update s.name s.results message) ∷ []
+request_changes Read s message = map Text (use_asked (read_asked s.name message))
+request_changes _ s message = []

@@ -23,7 +23,7 @@ use Rattle.rpc.specs.declared.method.Method.TheVariants.{BatchReadBlobs, GetTree
 use Rattle.instance_core.specs.Calls.{ProgressValue, waits, has, writes, CallEventValue, end, call_at}
 use Rattle.instance_core.specs.Replies.{ReplyItemValue, begins, says, gives, ends, refuses, ReplyValue}
 use Rattle.instance_core.specs.Answer.{answer}
-use Rattle.instance_core.specs.State.{InstanceState}
+use Rattle.instance_core.specs.State.{InstanceState, seen}
 
 -- an event of a call, and the state in which the instance answers to it
 pub record AnsweredEvent : Type 0 where
@@ -65,7 +65,7 @@ pub record IsNamedRange (s : InstanceState) (message : List ℕ) (given : Source
   pub asked : ReadAsked
   pub asks : read_asked s.name message ≡ Ok asked
   pub same_digest : given.digest ≡ asked.digest
-  pub own : visible_text asked.digest s.visible ≡ Some given.text
+  pub own : visible_text asked.digest (seen s) ≡ Some given.text
   pub named : Names asked.digest given.text
   pub offset : asked.offset ≡ pos given.from
   pub bytes : take (given.until - given.from) (drop given.from given.text)
@@ -98,7 +98,7 @@ pub record IsNamedTreePage (s : InstanceState) (message bytes : List ℕ) : Type
   pub asked : TreeAskedValue
   pub asks : tree_asked s.name message ≡ Ok asked
   pub listed : List Digest
-  pub lists : tree_list (texts_seen s.visible) asked.root ≡ Ok listed
+  pub lists : tree_list (texts_seen (seen s)) asked.root ≡ Ok listed
   pub page : IsNamedPage listed bytes
 
 -- ---- each blob that is served
@@ -109,7 +109,7 @@ pub record IsNamedMessage (s : InstanceState) (request : Request) (bytes : List 
   pub batch : request.method ≡ BatchReadBlobs → IsNamedBatch s request.message bytes
   pub tree : request.method ≡ GetTree → IsNamedTreePage s request.message bytes
   pub result : request.method ≡ GetActionResult →
-      IsCompleteReply s.name s.visible s.results request.message bytes
+      IsCompleteReply s.name (seen s) s.results request.message bytes
 
 -- a range is given to a Read alone, and is named by the digest that it asks for
 abbrev pub IsNamedItem : InstanceState → Option Request → ReplyItemValue → Type 0

@@ -37,25 +37,25 @@ IsShortReplyItem _ = Unit {0}
 abbrev pub IsShortReply : ReplyValue → Type 0
 IsShortReply reply = AllByRecursion IsShortReplyItem reply.items
 
--- a whole reply of one message, or a refusal
-abbrev pub reply_items : Result (List ℕ) Refusal → List ReplyItemValue
-reply_items (Ok message) = begins ∷ says message ∷ ends ∷ []
-reply_items (Err refusal) = refuses refusal ∷ []
+-- what a method answers: a message, messages in order, or a range of a blob
+pub data AnswerValue : Type 0 where
+  one_message : List ℕ → AnswerValue
+  messages : List (List ℕ) → AnswerValue
+  range : SourceValue → AnswerValue
 
--- each message, in order
-abbrev pub message_items : List (List ℕ) → List ReplyItemValue
-message_items messages = map says messages
+-- an answer of this shape, or a refusal
+abbrev pub answering : {X : Type 0} → (X → AnswerValue) → Result X Refusal →
+    Result AnswerValue Refusal
+answering shape (Ok x) = Ok (shape x)
+answering shape (Err refusal) = Err refusal
 
--- a whole reply of messages, or a refusal
-abbrev pub whole_reply_items : Result (List (List ℕ)) Refusal → List ReplyItemValue
-whole_reply_items (Ok messages) = begins ∷ message_items messages ++ ends ∷ []
-whole_reply_items (Err refusal) = refuses refusal ∷ []
+-- what is sent of an answer; nothing of a range without bytes
+abbrev pub answer_items : AnswerValue → List ReplyItemValue
+answer_items (one_message bytes) = says bytes ∷ []
+answer_items (messages list) = map says list
+answer_items (range source) = if nat_lt source.from source.until then gives source ∷ [] else []
 
--- the messages of a range; there is none where it has no bytes
-abbrev pub range_items : SourceValue → List ReplyItemValue
-range_items source = if nat_lt source.from source.until then gives source ∷ [] else []
-
--- a whole reply of a range, or a refusal
-abbrev pub read_items : Result SourceValue Refusal → List ReplyItemValue
-read_items (Ok source) = begins ∷ range_items source ++ ends ∷ []
-read_items (Err refusal) = refuses refusal ∷ []
+-- a whole reply, or a refusal
+abbrev pub items_of : Result AnswerValue Refusal → List ReplyItemValue
+items_of (Ok answer) = begins ∷ answer_items answer ++ ends ∷ []
+items_of (Err refusal) = refuses refusal ∷ []

@@ -1,12 +1,11 @@
 -- Calls, events and replies as plain values, through the pool that has the texts of ranges. For the
--- code alone: `outcome_shown`, `with_calls`, `ChangesCalls`, `contents_state`, `Makes` and
--- `MakesTexts`.
+-- code alone: `outcome_shown`, `with_calls`, `ChangesCalls`, `slots_of`, `contents_state`,
+-- `contents_seen` and `Makes`.
 use Rattle.std.specs.Prelude.{◌≡◌, ℕ, List, map, string_bytes, Result, Ok, Err, IfOk, OnOk, OnErr}
 use Rattle.std.specs.List.{AllByRecursion}
 use Rattle.std.specs.declared.alloc.AllocError.{AllocError}
 use Rattle.std.specs.declared.alloc.Global.{Global}
 use Rattle.std.specs.declared.vec.Vec.{Vec}
-use Rattle.rpc.specs.declared.method.Method.{Method}
 use Rattle.rpc.specs.declared.refusal.Refusal.{Refusal}
 use Rattle.instance_view.specs.Visible.{Blob}
 use Rattle.instance_core.specs.declared.event.CallEvent.{CallEvent}
@@ -18,11 +17,10 @@ use Rattle.instance_core.specs.declared.event.ReplyItem.TheVariants as Item
 use Rattle.instance_core.specs.declared.calls.Progress.{Progress}
 use Rattle.instance_core.specs.declared.calls.Progress.TheVariants as Part
 use Rattle.instance_core.specs.Calls.{Calls, ProgressValue, waits, has, writes, CallEventValue, head, message, fault, end, cancel, tick}
-use Rattle.instance_core.specs.Replies.{ReplyItemValue, begins, says, gives, ends, refuses, ReplyValue, IsShortReply}
+use Rattle.instance_core.specs.Replies.{AnswerValue, one_message, ReplyItemValue, begins, says, gives, ends, refuses, ReplyValue, IsShortReply}
 use Rattle.instance_core.specs.Answer.{Answer}
 use Rattle.instance_core.specs.Changes.{InstanceChange, state_after_changes, MadeInPart}
-use Rattle.instance_core.specs.Methods.{ShowsAfter, ShowsInPart}
-use Rattle.instance_core.specs.State.{InstanceState}
+use Rattle.instance_core.specs.State.{InstanceState, seeing}
 use Rattle.instance_core.specs.Slots.{InstanceSlots, state_in}
 use Rattle.instance_core.specs.declared.contents.Settings.{Settings}
 use Rattle.instance_core.specs.declared.contents.Contents.{Contents}
@@ -62,8 +60,8 @@ item_shown p (Item.Refuses refusal) = refuses refusal
 abbrev pub reply_shown : Slots → Reply → ReplyValue
 reply_shown p reply = record { call = reply.call; items = map (item_shown p) reply.items.items }
 
-abbrev pub outcome_shown : Result (Vec ℕ Global) Refusal → Result (List ℕ) Refusal
-outcome_shown (Ok bytes) = Ok bytes.items
+abbrev pub outcome_shown : Result (Vec ℕ Global) Refusal → Result AnswerValue Refusal
+outcome_shown (Ok bytes) = Ok (one_message bytes.items)
 outcome_shown (Err refusal) = Err refusal
 
 -- what comes of an event of a call: replies, or want of memory
@@ -89,12 +87,12 @@ ChangesCalls result a old new =
     OnOk result (with_calls new s ≡ state_after_changes a.changes (with_calls old s))
 
 -- what an instance is configured as, and what it keeps
-abbrev pub slots_of : Settings → ℕ → Contents → Calls → InstanceSlots
-slots_of settings moment contents calls = record {
+abbrev pub slots_of : Settings → Contents → Calls → InstanceSlots
+slots_of settings contents calls = record {
   name = string_bytes settings.name;
   quota = settings.quota;
   slots = settings.slots;
-  moment = moment;
+  moment = settings.moment;
   view = contents.view;
   uploads = contents.uploads;
   results = contents.results;
@@ -102,18 +100,16 @@ slots_of settings moment contents calls = record {
 }
 
 -- the state of an instance that is configured so, with contents whose texts stand in a pool
-abbrev pub contents_state : Settings → ℕ → Slots → Contents → Calls → InstanceState
-contents_state settings moment p contents calls =
-    state_in p (slots_of settings moment contents calls)
+abbrev pub contents_state : Settings → Slots → Contents → Calls → InstanceState
+contents_state settings p contents calls = state_in p (slots_of settings contents calls)
+
+-- .. which reads these texts of its parent, too
+abbrev pub contents_seen : Settings → List Blob → Slots → Contents → Calls → InstanceState
+contents_seen settings parent p contents calls =
+    seeing parent (contents_state settings p contents calls)
 
 -- the changes are made, and for want of memory a front of them
 pub record Makes (result : CallResult) (changes : List InstanceChange)
     (old new : InstanceState) : Type 0 where
   pub whole : OnOk result (new ≡ state_after_changes changes old)
   pub memory : OnErr result (MadeInPart changes old new)
-
--- .. those that a request makes of the texts
-pub record MakesTexts (result : CallResult) (method : Method) (message : List ℕ)
-    (old : InstanceState) (visible : List Blob) : Type 0 where
-  pub whole : OnOk result (ShowsAfter method message old visible)
-  pub memory : OnErr result (ShowsInPart method message old visible)

@@ -1,13 +1,15 @@
 -- What an instance keeps of its own: of each text its digest, and the slot where a pool that it
 -- shares with other instances has the text; of each result its bytes.
-use Rattle.std.specs.Prelude.{◌≡◌, ℕ, List}
-use Rattle.blob_pool.specs.Slots.{Slots}
+use Rattle.std.specs.Prelude.{◌≡◌, ◌≤◌, ◌+◌, ℕ, List, []}
+use Rattle.blob_pool.specs.Slots.{Slots, count_at}
 use Rattle.blob_pool.specs.Moves.{Holders, AreHeld}
 use Rattle.instance_view.specs.Visible.{Blob}
 use Rattle.instance_view.specs.Shown.{ViewValue, visible_in, holders}
 use Rattle.uploads.specs.Uploads.{UploadList}
 use Rattle.instance_core.specs.Calls.{Calls}
-use Rattle.instance_core.specs.State.{InstanceState, IsInstanceWithin}
+use Rattle.instance_core.specs.State.{InstanceState, IsInstanceWithin, seeing}
+use Rattle.std.specs.List.{AllByRecursion}
+use Rattle.digest.specs.Naming.{Names}
 
 pub record InstanceSlots : Type 0 where
   pub name : List ℕ
@@ -27,10 +29,21 @@ state_in p i = record {
   slots = i.slots;
   moment = i.moment;
   visible = visible_in p i.view;
+  parent = [];
   uploads = i.uploads;
   results = i.results;
   calls = i.calls;
 }
+
+-- the instance, which reads what the pool has of its parent's texts
+abbrev pub state_beside : Slots → ViewValue → InstanceSlots → InstanceState
+state_beside p parent i = seeing (visible_in p parent) (state_in p i)
+
+-- the pool counts what its parent holds beside what it holds, and its parent's texts are what their
+-- digests say
+pub record IsBeside (p : Slots) (parent : ViewValue) (i : InstanceSlots) : Type 0 where
+  pub counted : (k : ℕ) → holders i.view k + holders parent k ≤ count_at p k
+  pub named : AllByRecursion (λ (b : Blob). Names b.0 b.1) (visible_in p parent)
 
 -- what it was configured with stays: its name, its quota and how many actions it runs at once
 abbrev pub KeepsConfig : InstanceSlots → InstanceSlots → Type 0

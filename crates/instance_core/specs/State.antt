@@ -1,8 +1,9 @@
 -- An instance: its name, its quota in bytes, how many actions it may run at once, the moment of
 -- what happens to it in milliseconds, its texts (the most recently used first), its unfinished
 -- uploads, its results of actions (the most recently used first) and its calls in course.
-use Rattle.std.specs.Prelude.{ℕ, ◌≤◌, List, []}
-use Rattle.std.specs.List.{IsDistinct}
+use Rattle.std.specs.Prelude.{ℕ, ◌≤◌, List, [], ◌++◌}
+use Rattle.std.specs.List.{AllByRecursion, IsDistinct}
+use Rattle.digest.specs.Naming.{Names}
 use Rattle.std.specs.Map.{keys_of}
 use Rattle.instance_view.specs.Visible.{Blob}
 use Rattle.quota_evict.specs.Within.{AreBlobsWithin, most_stored_bytes}
@@ -17,6 +18,8 @@ pub record InstanceState : Type 0 where
   pub slots : ℕ
   pub moment : ℕ
   pub visible : List Blob
+  -- what the instance's parent has, while an event is carried out
+  pub parent : List Blob
   pub uploads : UploadList
   pub results : List Blob
   pub calls : Calls
@@ -29,6 +32,7 @@ new_instance name quota slots = record {
   slots = slots;
   moment = 0;
   visible = [];
+  parent = [];
   uploads = [];
   results = [];
   calls = [];
@@ -36,6 +40,14 @@ new_instance name quota slots = record {
 
 abbrev pub at_moment : ℕ → InstanceState → InstanceState
 at_moment moment s = record s { moment = moment }
+
+-- the instance reads these texts, too
+abbrev pub seeing : List Blob → InstanceState → InstanceState
+seeing parent s = record s { parent = parent }
+
+-- what it sees: its own texts, and those that its parent has besides
+abbrev pub seen : InstanceState → List Blob
+seen s = s.visible ++ s.parent
 
 -- the limits that an instance keeps
 pub record IsInstanceWithin (s : InstanceState) : Type 0 where
@@ -46,3 +58,5 @@ pub record IsInstanceWithin (s : InstanceState) : Type 0 where
   -- no call stands twice
   pub calls : IsDistinct same_call (keys_of s.calls)
   pub messages : KeepShort s.calls
+  -- what it reads of its parent is what its digests say
+  pub parent : AllByRecursion (λ (b : Blob). Names b.0 b.1) s.parent

@@ -1,10 +1,12 @@
 -- What a message of a Write is answered, and what it does to an instance (bytestream.proto).
-use Rattle.std.specs.Prelude.{ℕ, Bool, true, false, List, [], ◌∷◌, Option, Result, Ok, Err}
+use Rattle.std.specs.Prelude.{ℕ, Bool, true, false, if◌then◌else◌, is_some, List, [], ◌∷◌, Option, Result, Ok, Err}
 use Rattle.rpc.specs.declared.refusal.Refusal.{Refusal}
 use Rattle.uploads.specs.declared.error.UploadError.{UploadError}
 use Rattle.uploads.specs.Writing.{after_piece}
-use Rattle.bytestream.specs.Writing.{OpenWriteValue, PartValue, WrittenValue, WriteState, FirstAsked, write_state_with, first_asked, next_asked, part_outcome, first_answer, next_answer, after_first, after_next}
-use Rattle.instance_core.specs.Changes.{InstanceChange, Wrote}
+use Rattle.instance_view.specs.Visible.{visible_text}
+use Rattle.cas_service.specs.Changes.{Use}
+use Rattle.bytestream.specs.Writing.{OpenWriteValue, PartValue, WrittenValue, WriteState, FirstAsked, write_state_with, first_asked, next_asked, part_outcome, first_answer, next_answer, after_part}
+use Rattle.instance_core.specs.Changes.{InstanceChange, Text, Wrote}
 use Rattle.instance_core.specs.State.{InstanceState, most_blobs}
 
 -- the texts and the uploads of an instance
@@ -18,26 +20,35 @@ with_piece moment part (Ok u) w =
     record w { uploads = after_piece moment part.key part.piece (Ok u) w.uploads }
 with_piece moment part (Err e) w = w
 
-abbrev pub with_part : Bool → InstanceState → Result PartValue Refusal → WriteState
-with_part first s (Ok part) =
+abbrev pub with_part : Bool → InstanceState → PartValue → WriteState
+with_part first s part =
     with_piece s.moment part (part_outcome first s.quota part s.uploads) (write_state s)
-with_part first s (Err refusal) = write_state s
 
-abbrev pub part_of : Result FirstAsked Refusal → Result PartValue Refusal
-part_of (Ok asked) = Ok asked.part
-part_of (Err refusal) = Err refusal
+-- ---- what a message does: its piece first, and then the end of its upload
 
--- ---- what a message leaves: its piece first, and then the end of its upload
+abbrev pub part_changes : Bool → InstanceState → PartValue → List InstanceChange
+part_changes first s part =
+    Wrote (with_part first s part)
+    ∷ Wrote (after_part first most_blobs s.quota s.moment part (write_state s)) ∷ []
+
+-- a blob that the instance has is used, and no upload begins
+abbrev pub first_part_changes : InstanceState → FirstAsked → List InstanceChange
+first_part_changes s asked =
+    if is_some (visible_text asked.part.key.digest s.visible)
+    then Text (Use asked.part.key.digest) ∷ []
+    else part_changes true s asked.part
+
+-- a refused message does nothing
+abbrev pub changes_asked : {X : Type 0} → (X → List InstanceChange) → Result X Refusal →
+    List InstanceChange
+changes_asked changes (Ok x) = changes x
+changes_asked changes (Err refusal) = []
 
 abbrev pub first_changes : InstanceState → List ℕ → List InstanceChange
-first_changes s message =
-    Wrote (with_part true s (part_of (first_asked s.name message)))
-    ∷ Wrote (after_first s.name most_blobs s.quota s.moment message (write_state s)) ∷ []
+first_changes s message = changes_asked (first_part_changes s) (first_asked s.name message)
 
 abbrev pub next_changes : InstanceState → OpenWriteValue → List ℕ → List InstanceChange
-next_changes s write message =
-    Wrote (with_part false s (next_asked write message))
-    ∷ Wrote (after_next write most_blobs s.quota s.moment message (write_state s)) ∷ []
+next_changes s write message = changes_asked (part_changes false s) (next_asked write message)
 
 -- ---- what it is answered
 

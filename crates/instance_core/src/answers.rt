@@ -1,23 +1,24 @@
 //! What an instance answers to each event of a call.
 
-ghost use Rattle.std.specs.Prelude.{◌≡◌, ◌+◌, ℕ, OnErr};
-ghost use Rattle.blob_pool.specs.Slots.{Slots};
+ghost use Rattle.std.specs.Prelude.{◌≤◌, ◌≡◌, ◌+◌, ℕ, OnErr};
+ghost use Rattle.blob_pool.specs.Slots.{Slots, count_at};
 ghost use Rattle.blob_pool.specs.Moves.{Moves};
-ghost use Rattle.instance_view.specs.Shown.{holders};
+ghost use Rattle.instance_view.specs.Shown.{holders, visible_in};
 ghost use Rattle.instance_core.specs.Calls.{call_at, IsShortRequest, AreInCourse};
 ghost use Rattle.instance_core.specs.Contents.{AreContentsInPool, AreContentsWithin};
 ghost use Rattle.instance_core.specs.Answer.{head_answer, message_answer, fault_answer, request_end_answer};
-ghost use Rattle.instance_core.specs.Shown.{Gives, ChangesCalls, Makes, contents_state};
+ghost use Rattle.instance_core.specs.Shown.{Gives, ChangesCalls, Makes, contents_state, contents_seen};
 ghost use Rattle.instance_core.specs.ReplyHolders.{result_holders};
 
 use crate::calls::{Call, Calls, Progress, let_go};
 use crate::contents::{Contents, Settings};
 use crate::event::{CallId, Reply};
-use crate::methods::{answer_request, is_served};
-use crate::replies::reply_with;
+use crate::methods::{carry_out, is_served};
+use crate::replies::{reply_to_request, reply_with};
 use crate::writing::{finish, on_first_part, settle_next};
 use blob_pool::Pool;
 use bytestream::{ended_unfinished, write_next};
+use instance_view::View;
 use rpc::{Method, Refusal};
 use std::alloc::{AllocError, Global};
 
@@ -51,7 +52,6 @@ pub fn on_head(
 pub fn on_message(
     alloc: Global,
     settings: &Settings,
-    moment: u64,
     contents: &mut Contents,
     pool: &mut Pool,
     calls: &mut Calls,
@@ -60,14 +60,14 @@ pub fn on_message(
 ) -> Result<Vec<Reply>, AllocError>
     requires request { IsShortRequest message.items }
     requires kept { AreContentsInPool settings.now pool.old contents.old }
-    ensures replies { let old = contents_state settings.now moment pool.old contents.old calls.old
+    ensures replies { let old = contents_state settings.now pool.old contents.old calls.old
         in
         let answer = message_answer old id message.items (call_at id calls.old) in
         (p : Slots) → Gives p result answer.replies }
     ensures given { (k : ℕ) → result_holders result k ≡ 0 }
-    ensures changed { let old = contents_state settings.now moment pool.old contents.old calls.old
+    ensures changed { let old = contents_state settings.now pool.old contents.old calls.old
         in
-        let new = contents_state settings.now moment pool.new contents.new calls.new in
+        let new = contents_state settings.now pool.new contents.new calls.new in
         Makes result (message_answer old id message.items (call_at id calls.old)).changes old new }
     ensures moves { Moves pool.old pool.new (holders contents.old.view)
         (holders contents.new.view) }
@@ -84,7 +84,7 @@ pub fn on_message(
             match method {
                 Method::Write => {
                     let replies = on_first_part(
-                        alloc, settings, moment, contents, pool, calls, id, &message,
+                        alloc, settings, contents, pool, calls, id, &message,
                     );
                     let_go(message);
                     replies
@@ -100,7 +100,7 @@ pub fn on_message(
             let outcome = write_next(
                 alloc,
                 settings.quota,
-                moment,
+                settings.moment,
                 &mut contents.view,
                 pool,
                 &mut contents.uploads,
@@ -139,17 +139,20 @@ pub fn on_end(
     alloc: Global,
     settings: &Settings,
     contents: &mut Contents,
+    parent: &View,
     pool: &mut Pool,
     calls: &mut Calls,
     id: CallId,
 ) -> Result<Vec<Reply>, AllocError>
     requires kept { AreContentsInPool settings.now pool.old contents.old }
-    ensures replies { (moment : ℕ) →
-        let old = contents_state settings.now moment pool.old contents.old calls.old in
+    requires beside { (k : ℕ) → holders contents.old.view k + holders parent.now k
+        ≤ count_at pool.old k }
+    ensures replies { let seen = visible_in pool.old parent.now in
+        let old = contents_seen settings.now seen pool.old contents.old calls.old in
         Gives pool.new result (request_end_answer old id (call_at id calls.old)).replies }
-    ensures changed { (moment : ℕ) →
-        let old = contents_state settings.now moment pool.old contents.old calls.old in
-        let new = contents_state settings.now moment pool.new contents.new calls.new in
+    ensures changed { let seen = visible_in pool.old parent.now in
+        let old = contents_seen settings.now seen pool.old contents.old calls.old in
+        let new = contents_seen settings.now seen pool.new contents.new calls.new in
         Makes result (request_end_answer old id (call_at id calls.old)).changes old new }
     ensures moves { Moves pool.old pool.new (holders contents.old.view)
         (λ k. holders contents.new.view k + result_holders result k) }
@@ -163,7 +166,8 @@ pub fn on_end(
         Progress::Waits => finish(alloc, calls, id, Err(Refusal::NoMessage)),
         Progress::Has(message) => {
             let method = call.method();
-            let replies = answer_request(alloc, settings, contents, pool, id, method, message)?;
+            let outcome = carry_out(alloc, settings, contents, parent, pool, method, message);
+            let replies = reply_to_request(alloc, pool, id, outcome)?;
             calls.end(id);
             Ok(replies)
         }

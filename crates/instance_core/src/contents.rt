@@ -4,12 +4,14 @@ use action_cache::Results;
 use instance_view::View;
 use uploads::Uploads;
 
-/// What an instance is configured as.
+/// What an instance is configured as, and the moment of what happens to it.
 #[derive(Drop)]
 pub struct Settings {
     pub name: String,
     pub quota: u64,
     pub slots: u32,
+    /// In milliseconds.
+    pub moment: u64,
 }
 
 /// The texts of an instance, its unfinished uploads, and its results of actions.

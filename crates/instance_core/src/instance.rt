@@ -1,12 +1,13 @@
 //! One instance: its settings, what it keeps, and the calls in course.
 
-ghost use Rattle.std.specs.Prelude.{◌≡◌, ◌≤◌, ◌+◌, ◌^◌, ℕ, [], OnOk, OnErr, IfOk};
+ghost use Rattle.std.specs.Prelude.{◌≡◌, ◌≤◌, ◌+◌, ◌^◌, ℕ, List, [], OnOk, OnErr, IfOk};
 ghost use Rattle.blob_pool.specs.Slots.{Slots};
 ghost use Rattle.blob_pool.specs.Moves.{Moves};
 ghost use Rattle.instance_core.specs.Calls.{IsShortEvent, cancel, tick};
 ghost use Rattle.instance_core.specs.Apart.{calls_apart};
-ghost use Rattle.instance_core.specs.State.{IsInstanceWithin, new_instance, at_moment};
-ghost use Rattle.instance_core.specs.Slots.{KeepsConfig, state_in, holders_of_instance, IsInstanceInPool};
+ghost use Rattle.instance_core.specs.State.{InstanceState, IsInstanceWithin, new_instance, at_moment, seeing};
+ghost use Rattle.instance_view.specs.Visible.{Blob};
+ghost use Rattle.instance_core.specs.Slots.{KeepsConfig, state_in, state_beside, holders_of_instance, IsInstanceInPool, IsBeside};
 ghost use Rattle.instance_core.specs.Changes.{MadeInPart};
 ghost use Rattle.instance_core.specs.Answer.{answer, state_after};
 ghost use Rattle.instance_core.specs.Shown.{Gives, GivesShort, event_shown};
@@ -28,8 +29,6 @@ use uploads::Uploads;
 /// One instance of the server. Its texts lie in a pool that it shares with other instances.
 pub struct Instance {
     settings: Settings,
-    /// Of what happens, in milliseconds.
-    moment: u64,
     contents: Contents,
     calls: Calls,
 }
@@ -41,7 +40,6 @@ impl Drop for Instance {
             settings,
             contents,
             calls,
-            moment: _,
         } = self;
         drop(settings);
         drop(contents);
@@ -59,7 +57,7 @@ impl Model for Instance {
     ghost use Rattle.instance_core.specs.Calls.{AreInCourse};
     ghost use Rattle.instance_core.specs.Shown.{slots_of};
 
-    ghost view = { λ i. slots_of i.settings i.moment i.contents i.calls };
+    ghost view = { λ i. slots_of i.settings i.contents i.calls };
 
     ghost invariant = { λ i. (i.settings.quota ≤ most_stored_bytes)
         × (i.contents.view.limit ≡ most_blobs) × AreInCourse i.calls };
@@ -80,8 +78,12 @@ impl Instance {
         let view = View::new(alloc, MOST_BLOBS)?;
         let results = Results::new(alloc)?;
         Ok(Instance {
-            settings: Settings { name, quota, slots },
-            moment: 0,
+            settings: Settings {
+                name,
+                quota,
+                slots,
+                moment: 0,
+            },
             contents: Contents {
                 view,
                 uploads: Uploads::new(alloc),
@@ -91,11 +93,18 @@ impl Instance {
         })
     }
 
+    /// Its texts, for reading.
+    pub fn view(&self) -> &View
+        ensures { result.now ≡ self.now.view }
+    {
+        &self.contents.view
+    }
+
     /// The moment of what happens, in milliseconds.
     pub fn moment(&self) -> u64
         ensures { result ≡ self.now.moment }
     {
-        self.moment
+        self.settings.moment
     }
 
     /// Sets the moment of what happens from now on, in milliseconds. This takes no memory.
@@ -107,7 +116,7 @@ impl Instance {
         ensures kept { (p : Slots) → IsInstanceInPool p self.old → IsInstanceInPool p self.new }
         ensures config { KeepsConfig self.old self.new }
     {
-        self.moment = moment;
+        self.settings.moment = moment;
     }
 
     /// Carries out an event of a call, and gives the replies that it brings. An event of a call
@@ -117,18 +126,21 @@ impl Instance {
     pub fn call_event(
         &mut self,
         alloc: Global,
+        parent: &View,
         pool: &mut Pool,
         event: CallEvent,
     ) -> Result<Vec<Reply>, AllocError>
         requires short { IsShortEvent (event_shown event) }
         requires kept { IsInstanceInPool pool.old self.old }
-        ensures replies { let old = state_in pool.old self.old in
+        requires beside { IsBeside pool.old parent.now self.old }
+        ensures replies { let old = state_beside pool.old parent.now self.old in
             Gives pool.new result (answer old (event_shown event)).replies }
-        ensures changed { let old = state_in pool.old self.old in
-            OnOk result (state_in pool.new self.new ≡ state_after old (event_shown event)) }
-        ensures memory { let old = state_in pool.old self.old in
+        ensures changed { let old = state_beside pool.old parent.now self.old in
+            let new = state_beside pool.new parent.now self.new in
+            OnOk result (new ≡ state_after old (event_shown event)) }
+        ensures memory { let old = state_beside pool.old parent.now self.old in
             let changes = (answer old (event_shown event)).changes in
-            OnErr result (MadeInPart changes old (state_in pool.new self.new)) }
+            OnErr result (MadeInPart changes old (state_beside pool.new parent.now self.new)) }
         ensures moves { Moves pool.old pool.new (holders_of_instance self.old)
             (λ k. holders_of_instance self.new k + result_holders result k) }
         ensures within { IsInstanceWithin (state_in pool.new self.new) }
@@ -140,7 +152,6 @@ impl Instance {
             CallEvent::Message(id, message) => on_message(
                 alloc,
                 &self.settings,
-                self.moment,
                 &mut self.contents,
                 pool,
                 &mut self.calls,
@@ -152,6 +163,7 @@ impl Instance {
                 alloc,
                 &self.settings,
                 &mut self.contents,
+                parent,
                 pool,
                 &mut self.calls,
                 id,
@@ -170,23 +182,23 @@ impl Instance {
     /// Time passes: uploads whose last write is 600,000 or more milliseconds old are forgotten.
     /// This brings no reply, takes no memory, and is the same over every pool.
     pub fn tick(&mut self)
-        ensures replies { (p : Slots) → (answer (state_in p self.old) tick).replies ≡ [] }
-        ensures changed { (p : Slots) → state_in p self.new
-            ≡ state_after (state_in p self.old) tick }
+        ensures replies { (s : InstanceState) → (answer s tick).replies ≡ [] }
+        ensures changed { (p : Slots) (parent : List Blob) → seeing parent (state_in p self.new)
+            ≡ state_after (seeing parent (state_in p self.old)) tick }
         ensures holders { (k : ℕ) → holders_of_instance self.new k
             ≡ holders_of_instance self.old k }
         ensures kept { (p : Slots) → IsInstanceInPool p self.old → IsInstanceInPool p self.new }
         ensures config { KeepsConfig self.old self.new }
     {
-        self.contents.uploads.expire(self.moment);
+        self.contents.uploads.expire(self.settings.moment);
     }
 
     /// Nobody waits for the call any more: it ends without a reply. This takes no memory, and is
     /// the same over every pool.
     pub fn cancel(&mut self, call: CallId)
-        ensures replies { (p : Slots) → (answer (state_in p self.old) (cancel call)).replies ≡ [] }
-        ensures changed { (p : Slots) →
-            state_in p self.new ≡ state_after (state_in p self.old) (cancel call) }
+        ensures replies { (s : InstanceState) → (answer s (cancel call)).replies ≡ [] }
+        ensures changed { (p : Slots) (parent : List Blob) → seeing parent (state_in p self.new)
+            ≡ state_after (seeing parent (state_in p self.old)) (cancel call) }
         ensures holders { (k : ℕ) → holders_of_instance self.new k
             ≡ holders_of_instance self.old k }
         ensures kept { (p : Slots) → IsInstanceInPool p self.old → IsInstanceInPool p self.new }

@@ -26,9 +26,9 @@ pub fn calls_serve_named_blobs()
         → ServesNamed (record { state = s; event = event }) }
 {}
 
-/// Where any front of an event's changes was made, and so where all were, what was kept is lost only
-/// by rule: a blob to an admission, a result to a store, an upload at its end, to a piece that would
-/// bring it past its size, or by its age.
+/// Where any front of an event's changes was made, and so where all were, what was kept is lost
+/// only by rule: a blob to an admission, a result to a store, an upload at its end, to a piece that
+/// would bring it past its size, or by its age.
 pub fn calls_lose_by_rules()
     ensures { (s t : InstanceState) (event : CallEventValue)
         → MadeInPart (answer s event).changes s t → LosesByRules s t }

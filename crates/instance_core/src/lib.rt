@@ -4,6 +4,7 @@
 //! instance, are functions of the instance's own state and the event alone.
 #![tactic(auto)]
 
+mod answer;
 mod answers;
 mod calls;
 mod capabilities;

@@ -1,212 +1,166 @@
 //! What each method but `Write` answers to the one message of its request.
 
-ghost use Rattle.std.specs.Prelude.{◌≡◌, ◌+◌, ℕ, OnErr};
-ghost use Rattle.blob_pool.specs.Slots.{Slots};
-ghost use Rattle.blob_pool.specs.Moves.{Moves};
+ghost use Rattle.std.specs.Prelude.{◌≡◌, ◌+◌, ◌≤◌, ℕ};
+ghost use Rattle.blob_pool.specs.Slots.{Slots, count_at};
+ghost use Rattle.rpc.specs.declared.method.Method.TheVariants.{FindMissingBlobs, BatchUpdateBlobs, BatchReadBlobs, GetCapabilities, QueryWriteStatus};
+ghost use Rattle.instance_view.specs.Visible.{Blob};
 ghost use Rattle.instance_view.specs.Shown.{visible_in, holders};
-ghost use Rattle.cas_service.specs.Answers.{Answers, IfAnswered};
-ghost use Rattle.instance_core.specs.Calls.{Calls};
-ghost use Rattle.instance_core.specs.Contents.{AreContentsInPool, AreContentsWithin};
-ghost use Rattle.instance_core.specs.Methods.{AnswersFromTexts, LeavesResults, is_served, reply_to, items_to, request_changes, ShowsAfter, ShowsInPart};
-ghost use Rattle.instance_core.specs.Answer.{reply_with, reply_of_items};
-ghost use Rattle.instance_core.specs.Shown.{Gives, Makes, MakesTexts, contents_state};
-ghost use Rattle.instance_core.specs.ReplyHolders.{result_holders};
+ghost use Rattle.std.specs.Prelude.{List};
+ghost use Rattle.instance_core.specs.Contents.{AreContentsInPool};
+ghost use Rattle.instance_core.specs.Methods.{is_served};
+ghost use Rattle.instance_core.specs.Carries.{Carries};
 
+use crate::answer::{Answer, one_message};
 use crate::capabilities::get_capabilities;
 use crate::contents::{Contents, Settings};
-use crate::event::{CallId, Reply};
-use crate::reading::answer_read;
-use crate::replies::settle;
-use crate::results::{answer_get, answer_update};
-use crate::trees::answer_tree;
+use crate::reading::read_range;
+use crate::results::{get_result, update_result};
+use crate::trees::get_pages;
 use blob_pool::Pool;
 use bytestream::query;
 use cas_service::{CallError, batch_read, batch_update, find_missing};
+use instance_view::View;
 use rpc::{Method, Refusal};
-use std::alloc::{AllocError, Global};
+use std::alloc::Global;
 
-/// Whether calls of the method are served.
+/// Whether a call of the method begins, or is refused at once.
 pub fn is_served(method: Method) -> bool
     ensures { result ≡ is_served method }
 {
-    matches!(
-        method,
-        Method::FindMissingBlobs
-            | Method::BatchUpdateBlobs
-            | Method::BatchReadBlobs
-            | Method::GetTree
-            | Method::GetActionResult
-            | Method::UpdateActionResult
-            | Method::GetCapabilities
-            | Method::Read
-            | Method::Write
-            | Method::QueryWriteStatus
-    )
+    !matches!(method, Method::Execute | Method::WaitExecution)
 }
 
-/// The message that a method answers with, which answers by one message from the texts alone.
-fn reply_to(
+/// Answers a `FindMissingBlobs`. What is there is used.
+fn find_blobs(
+    alloc: Global,
+    settings: &Settings,
+    contents: &mut Contents,
+    parent: &View,
+    message: &[u8],
+) -> Result<Answer, CallError>
+    ensures carried { (p : Slots) → AreContentsInPool settings.now p contents.old →
+        Carries FindMissingBlobs settings.now (visible_in p parent.now) message.now
+        p contents.old result p contents.new }
+{
+    let outcome = find_missing(alloc, &settings.name, &mut contents.view, parent, message);
+    one_message(outcome)
+}
+
+/// Answers a `BatchUpdateBlobs`. For want of memory the first of its blobs may have been stored.
+fn update_blobs(
     alloc: Global,
     settings: &Settings,
     contents: &mut Contents,
     pool: &mut Pool,
+    message: &[u8],
+) -> Result<Answer, CallError>
+    requires kept { AreContentsInPool settings.now pool.old contents.old }
+    ensures carried { (parent : List Blob) → Carries BatchUpdateBlobs settings.now parent
+        message.now pool.old contents.old result pool.new contents.new }
+{
+    let outcome = batch_update(
+        alloc,
+        &settings.name,
+        settings.quota,
+        &mut contents.view,
+        pool,
+        message,
+    );
+    one_message(outcome)
+}
+
+/// Answers a `BatchReadBlobs`. What is there is used.
+fn read_blobs(
+    alloc: Global,
+    settings: &Settings,
+    contents: &mut Contents,
+    parent: &View,
+    pool: &Pool,
+    message: &[u8],
+) -> Result<Answer, CallError>
+    requires kept { AreContentsInPool settings.now pool.now contents.old }
+    requires beside { (k : ℕ) → holders contents.old.view k + holders parent.now k
+        ≤ count_at pool.now k }
+    ensures carried { Carries BatchReadBlobs settings.now (visible_in pool.now parent.now)
+        message.now pool.now contents.old result pool.now contents.new }
+{
+    let outcome = batch_read(
+        alloc,
+        &settings.name,
+        &mut contents.view,
+        parent,
+        pool,
+        message,
+    );
+    one_message(outcome)
+}
+
+/// Answers a `GetCapabilities`.
+fn tell_capabilities(
+    alloc: Global,
+    settings: &Settings,
+    contents: &Contents,
+    message: &[u8],
+) -> Result<Answer, CallError>
+    ensures carried { (parent : List Blob) (p : Slots) →
+        AreContentsInPool settings.now p contents.now → Carries GetCapabilities settings.now
+        parent message.now p contents.now result p contents.now }
+{
+    let outcome = get_capabilities(alloc, &settings.name, settings.slots, message);
+    one_message(outcome)
+}
+
+/// Answers a `QueryWriteStatus`.
+fn tell_status(
+    alloc: Global,
+    settings: &Settings,
+    contents: &Contents,
+    message: &[u8],
+) -> Result<Answer, CallError>
+    ensures carried { (parent : List Blob) (p : Slots) →
+        AreContentsInPool settings.now p contents.now → Carries QueryWriteStatus settings.now
+        parent message.now p contents.now result p contents.now }
+{
+    let outcome = query(
+        alloc,
+        &settings.name,
+        &contents.view,
+        &contents.uploads,
+        message,
+    );
+    one_message(outcome)
+}
+
+/// Carries out the one message of a request of the method, beside the texts of the instance's
+/// parent. The text of a range that is answered is held.
+pub fn carry_out(
+    alloc: Global,
+    settings: &Settings,
+    contents: &mut Contents,
+    parent: &View,
+    pool: &mut Pool,
     method: Method,
     message: &[u8],
-) -> Result<Vec<u8>, CallError>
+) -> Result<Answer, CallError>
     requires kept { AreContentsInPool settings.now pool.old contents.old }
-    requires plain { AnswersFromTexts method }
-    ensures reply { (moment : ℕ) (calls : Calls) →
-        let old = contents_state settings.now moment pool.old contents.old calls in
-        Answers (λ reply. reply.items) result (reply_to method old message.now) }
-    ensures changed { (moment : ℕ) (calls : Calls) →
-        let old = contents_state settings.now moment pool.old contents.old calls in
-        IfAnswered result (ShowsAfter method message.now old
-        (visible_in pool.new contents.new.view)) }
-    ensures memory { (moment : ℕ) (calls : Calls) →
-        let old = contents_state settings.now moment pool.old contents.old calls in
-        OnErr result (ShowsInPart method message.now old (visible_in pool.new contents.new.view)) }
-    ensures moves { Moves pool.old pool.new (holders contents.old.view)
-        (holders contents.new.view) }
-    ensures kept { AreContentsInPool settings.now pool.new contents.new }
-    ensures uploads { contents.new.uploads ≡ contents.old.uploads }
-    ensures results { contents.new.results ≡ contents.old.results }
+    requires beside { (k : ℕ) → holders contents.old.view k + holders parent.now k
+        ≤ count_at pool.old k }
+    ensures carried { Carries method settings.now (visible_in pool.old parent.now) message.now
+        pool.old contents.old result pool.new contents.new }
 {
     match method {
-        Method::FindMissingBlobs => {
-            find_missing(alloc, &settings.name, &mut contents.view, message)
+        Method::FindMissingBlobs => find_blobs(alloc, settings, contents, parent, message),
+        Method::BatchUpdateBlobs => update_blobs(alloc, settings, contents, pool, message),
+        Method::BatchReadBlobs => read_blobs(alloc, settings, contents, parent, pool, message),
+        Method::GetTree => get_pages(alloc, settings, contents, parent, pool, message),
+        Method::GetActionResult => get_result(alloc, settings, contents, parent, pool, message),
+        Method::UpdateActionResult => update_result(alloc, settings, contents, message),
+        Method::GetCapabilities => tell_capabilities(alloc, settings, contents, message),
+        Method::Read => read_range(alloc, settings, contents, parent, pool, message),
+        Method::QueryWriteStatus => tell_status(alloc, settings, contents, message),
+        // No request of these is kept to its end.
+        Method::Write | Method::Execute | Method::WaitExecution => {
+            Err(CallError::Refused(Refusal::UnknownMethod))
         }
-        Method::BatchUpdateBlobs => batch_update(
-            alloc,
-            &settings.name,
-            settings.quota,
-            &mut contents.view,
-            pool,
-            message,
-        ),
-        Method::BatchReadBlobs => {
-            batch_read(alloc, &settings.name, &mut contents.view, pool, message)
-        }
-        Method::GetCapabilities => {
-            get_capabilities(alloc, &settings.name, settings.slots, message)
-        }
-        Method::QueryWriteStatus => query(
-            alloc,
-            &settings.name,
-            &contents.view,
-            &contents.uploads,
-            message,
-        ),
-        // Methods that are not served; the messages of a Write are answered elsewhere.
-        _ => Err(CallError::Refused(Refusal::UnknownMethod)),
-    }
-}
-
-/// Answers a call of a method that answers by one message from the texts alone.
-fn answer_by_message(
-    alloc: Global,
-    settings: &Settings,
-    contents: &mut Contents,
-    pool: &mut Pool,
-    call: CallId,
-    method: Method,
-    message: &[u8],
-) -> Result<Vec<Reply>, AllocError>
-    requires kept { AreContentsInPool settings.now pool.old contents.old }
-    requires plain { AnswersFromTexts method }
-    ensures replies { (moment : ℕ) (calls : Calls) →
-        let old = contents_state settings.now moment pool.old contents.old calls in
-        (p : Slots) → Gives p result (reply_with call (reply_to method old message.now)) }
-    ensures given { (k : ℕ) → result_holders result k ≡ 0 }
-    ensures texts { (moment : ℕ) (calls : Calls) →
-        let old = contents_state settings.now moment pool.old contents.old calls in
-        MakesTexts result method message.now old (visible_in pool.new contents.new.view) }
-    ensures moves { Moves pool.old pool.new (holders contents.old.view)
-        (holders contents.new.view) }
-    ensures kept { AreContentsInPool settings.now pool.new contents.new }
-    ensures uploads { contents.new.uploads ≡ contents.old.uploads }
-    ensures results { contents.new.results ≡ contents.old.results }
-{
-    let outcome = reply_to(alloc, settings, contents, pool, method, message);
-    settle(alloc, call, outcome)
-}
-
-/// Answers a call of a method that leaves the results as they are. The texts of the ranges that it
-/// gives are held.
-fn answer_from_texts(
-    alloc: Global,
-    settings: &Settings,
-    contents: &mut Contents,
-    pool: &mut Pool,
-    call: CallId,
-    method: Method,
-    message: &[u8],
-) -> Result<Vec<Reply>, AllocError>
-    requires kept { AreContentsInPool settings.now pool.old contents.old }
-    requires apart { LeavesResults method }
-    ensures replies { (moment : ℕ) (calls : Calls) →
-        let old = contents_state settings.now moment pool.old contents.old calls in
-        Gives pool.new result (reply_of_items call (items_to method old message.now)) }
-    ensures texts { (moment : ℕ) (calls : Calls) →
-        let old = contents_state settings.now moment pool.old contents.old calls in
-        MakesTexts result method message.now old (visible_in pool.new contents.new.view) }
-    ensures moves { Moves pool.old pool.new (holders contents.old.view)
-        (λ k. holders contents.new.view k + result_holders result k) }
-    ensures within { AreContentsWithin settings.now pool.new contents.new }
-    ensures uploads { contents.new.uploads ≡ contents.old.uploads }
-    ensures results { contents.new.results ≡ contents.old.results }
-{
-    match method {
-        Method::Read => {
-            answer_read(
-                alloc,
-                &settings.name,
-                &mut contents.view,
-                pool,
-                call,
-                message,
-            )
-        }
-        Method::GetTree => {
-            answer_tree(
-                alloc,
-                &settings.name,
-                &mut contents.view,
-                pool,
-                call,
-                message,
-            )
-        }
-        _ => answer_by_message(alloc, settings, contents, pool, call, method, message),
-    }
-}
-
-/// Answers a call by the one message of its request. The texts of the ranges that it gives are
-/// held.
-pub fn answer_request(
-    alloc: Global,
-    settings: &Settings,
-    contents: &mut Contents,
-    pool: &mut Pool,
-    call: CallId,
-    method: Method,
-    message: &[u8],
-) -> Result<Vec<Reply>, AllocError>
-    requires kept { AreContentsInPool settings.now pool.old contents.old }
-    ensures replies { (moment : ℕ) (calls : Calls) →
-        let old = contents_state settings.now moment pool.old contents.old calls in
-        Gives pool.new result (reply_of_items call (items_to method old message.now)) }
-    ensures changed { (moment : ℕ) (calls : Calls) →
-        let old = contents_state settings.now moment pool.old contents.old calls in
-        let new = contents_state settings.now moment pool.new contents.new calls in
-        Makes result (request_changes method old message.now) old new }
-    ensures moves { Moves pool.old pool.new (holders contents.old.view)
-        (λ k. holders contents.new.view k + result_holders result k) }
-    ensures within { AreContentsWithin settings.now pool.new contents.new }
-    ensures uploads { contents.new.uploads ≡ contents.old.uploads }
-{
-    match method {
-        Method::GetActionResult => answer_get(alloc, settings, contents, pool, call, message),
-        Method::UpdateActionResult => answer_update(alloc, settings, contents, call, message),
-        _ => answer_from_texts(alloc, settings, contents, pool, call, method, message),
     }
 }

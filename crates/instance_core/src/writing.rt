@@ -114,7 +114,6 @@ pub fn settle_next(
 pub fn on_first_part(
     alloc: Global,
     settings: &Settings,
-    moment: u64,
     contents: &mut Contents,
     pool: &mut Pool,
     calls: &mut Calls,
@@ -123,13 +122,13 @@ pub fn on_first_part(
 ) -> Result<Vec<Reply>, AllocError>
     requires kept { AreContentsInPool settings.now pool.old contents.old }
     requires calls { AreInCourse calls.old }
-    ensures replies { let old = contents_state settings.now moment pool.old contents.old calls.old
+    ensures replies { let old = contents_state settings.now pool.old contents.old calls.old
         in
         (p : Slots) → Gives p result (first_message_answer old id Write message.now).replies }
     ensures given { (k : ℕ) → result_holders result k ≡ 0 }
-    ensures changed { let old = contents_state settings.now moment pool.old contents.old calls.old
+    ensures changed { let old = contents_state settings.now pool.old contents.old calls.old
         in
-        let new = contents_state settings.now moment pool.new contents.new calls.new in
+        let new = contents_state settings.now pool.new contents.new calls.new in
         Makes result (first_message_answer old id Write message.now).changes old new }
     ensures moves { Moves pool.old pool.new (holders contents.old.view)
         (holders contents.new.view) }
@@ -141,7 +140,7 @@ pub fn on_first_part(
         alloc,
         &settings.name,
         settings.quota,
-        moment,
+        settings.moment,
         &mut contents.view,
         pool,
         &mut contents.uploads,

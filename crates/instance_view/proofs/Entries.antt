@@ -4,7 +4,7 @@ use Rattle.std.specs.Prelude.{is_some, option_map, IfSome, IfNone}
 use Rattle.std.specs.Map.{lookup, lookup_entry, remove_entry}
 use Rattle.lru.specs.LruCache.{LruCache, put_entries, last_entry}
 use Rattle.digest.specs.declared.Digest.{Digest}
-use Rattle.digest.specs.Naming.{same_digest, digest_of}
+use Rattle.digest.specs.Naming.{same_digest, is_empty_digest}
 use Rattle.blob_pool.specs.Slots.{Slots, text_at}
 use Rattle.blob_pool.specs.Moves.{one_at}
 use Rattle.instance_view.specs.Visible.{Blob, visible_text, with_match_first}
@@ -111,8 +111,8 @@ put_new d k c absent few =
 
 -- what is seen nowhere is not there
 pub unseen_absent : (d : Digest) (v : List ViewEntry) → visible_text d (blobs_in [] v) ≡ None → lookup (same_digest d) v ≡ None
-unseen_absent d v h = go (same_digest d (digest_of [])) (lookup (same_digest d) v) refl (lookup-shown [] (same_digest d) v) h where
-  go : (t : Bool) (o : Option ℕ) → same_digest d (digest_of []) ≡ t → lookup (same_digest d) (blobs_in [] v) ≡ option_map (text_at []) o → cond t (Some []) (lookup (same_digest d) (blobs_in [] v)) ≡ None → o ≡ None
+unseen_absent d v h = go (is_empty_digest d) (lookup (same_digest d) v) refl (lookup-shown [] (same_digest d) v) h where
+  go : (t : Bool) (o : Option ℕ) → is_empty_digest d ≡ t → lookup (same_digest d) (blobs_in [] v) ≡ option_map (text_at []) o → cond t (Some []) (lookup (same_digest d) (blobs_in [] v)) ≡ None → o ≡ None
   go true o is at h = absurd (cc)
   go false None is at h = refl
   go false (Some k) is at h = absurd (cc)

@@ -5,7 +5,7 @@ ghost use Rattle.std.specs.Option.{option_copied};
 ghost use Rattle.std.specs.Map.{lookup};
 ghost use Rattle.digest.specs.declared.Digest.{Digest};
 ghost use Rattle.digest.specs.Naming.{same_digest};
-ghost use Rattle.blob_pool.specs.Slots.{Slots, count_at};
+ghost use Rattle.blob_pool.specs.Slots.{Slots};
 ghost use Rattle.blob_pool.specs.Moves.{Moves, AreHeld, one_at, no_holders};
 ghost use Rattle.instance_view.specs.Visible.{visible_text, visible_after_use, without_oldest};
 ghost use Rattle.instance_view.specs.Shown.{ViewEntry, ViewValue, blobs_in, entry_holders, visible_in, holders, sizes, text_seen, holders_seen, size_of};
@@ -255,15 +255,11 @@ fn find(cache: &Cache, digest: &Digest) -> Option<Seen>
 
 /// A copy of a text that an instance has.
 pub fn copy_of(alloc: Global, pool: &Pool, seen: Seen) -> Result<Vec<u8>, AllocError>
-    requires { (k : ℕ) → holders_seen seen k ≤ count_at pool.now k }
     ensures { IfOk result (λ text. text.items ≡ text_seen pool.now seen) }
 {
     let mut text = Vec::new(alloc);
     if let Seen::Text(kept) = seen {
-        let hold = pool.back(kept);
-        let done = pool.copy_into(&hold, &mut text);
-        let _ = keep(hold);
-        done?;
+        pool.copy_into(kept, &mut text)?;
     }
     Ok(text)
 }

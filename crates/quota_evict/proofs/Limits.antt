@@ -6,7 +6,7 @@ use Rattle.std.specs.Map.{keys_of, lookup, lookup_entry, remove_entry}
 use Rattle.std.proofs.lemmas.Map.Keys.{IsDistinct-head, IsDistinct-tail, IsDistinct-cons}
 use Rattle.std.proofs.lemmas.Bool.Decides.{nat_tests}
 use Rattle.digest.specs.declared.Digest.{Digest}
-use Rattle.digest.specs.Naming.{Names, same_digest, digest_of}
+use Rattle.digest.specs.Naming.{Names, same_digest, is_empty_digest}
 use Rattle.digest.proofs.Same.{same_symm}
 use Rattle.instance_view.specs.Visible.{Blob, visible_text, visible_after_use, with_match_first, blobs_length, visible_after_insertion}
 use Rattle.instance_view.proofs.Visibles.{blobs_length-with_match_first, length-with_match_first}
@@ -156,8 +156,8 @@ new_within limit quota n d text bs names small absent most w =
     }
 
 unseen_absent : (d : Digest) (bs : List Blob) → is_some (visible_text d bs) ≡ false → lookup (same_digest d) bs ≡ None
-unseen_absent d bs h = go (same_digest d (digest_of [])) (lookup (same_digest d) bs) refl refl h where
-  go : (t : Bool) (o : Option (List ℕ)) → same_digest d (digest_of []) ≡ t → lookup (same_digest d) bs ≡ o → is_some (cond t (Some []) o) ≡ false → lookup (same_digest d) bs ≡ None
+unseen_absent d bs h = go (is_empty_digest d) (lookup (same_digest d) bs) refl refl h where
+  go : (t : Bool) (o : Option (List ℕ)) → is_empty_digest d ≡ t → lookup (same_digest d) bs ≡ o → is_some (cond t (Some []) o) ≡ false → lookup (same_digest d) bs ≡ None
   go true o is at h = absurd (cc)
   go false None is at h = at
   go false (Some text) is at h = absurd (cc)

@@ -24,7 +24,9 @@ use Rattle.conn_core.specs.declared.event.CallEvent.TheVariants as Seen
 use Rattle.conn_core.specs.Calls.{is_call, cancels, answer_to_head, items_at_once}
 use Rattle.conn_core.specs.Received.{received_raw_frames, outcome}
 use Rattle.conn_core.specs.Past.{Past, new_past, owed_with_items, with_frame, with_fault, with_taken, with_pumped, with_bytes}
-use Rattle.instance_core.specs.State.{InstanceState}
+use Rattle.instance_core.specs.State.{InstanceState, seeing}
+use Rattle.instance_core.specs.Visible.{Blob}
+use Rattle.served_instance.proofs.Losses.{changes_parent}
 use Rattle.instance_core.specs.Calls.{tick as time_passes}
 use Rattle.instance_core.specs.Replies.{ReplyValue}
 use Rattle.instance_core.specs.Answer.{answer, state_after}
@@ -32,7 +34,7 @@ use Rattle.server_events.specs.Events.{EventValue, WhatValue, opened, received, 
 use Rattle.served_instance.specs.declared.refusal.EventRefusal.{EventRefusal}
 use Rattle.served_instance.specs.Connections.{LoneConnection, is_open_at, open_at, at_open, with_closed, at_all_open}
 use Rattle.served_instance.specs.Calls.{call_event_on, owed_items, with_items}
-use Rattle.served_instance.specs.Lone.{LoneInstance, after_replies, after_call_event, after_call_events, due_at, without_due, after_frame_on, is_over, after_frames_on, after_fault_on, after_end_on, unread_frames, after_reading_on, after_bytes_on, after_opening, after_closing, effect_of, after_pump, lone_at_moment, after_event, new_lone}
+use Rattle.served_instance.specs.Lone.{LoneInstance, after_replies, after_call_event, after_call_events, due_at, without_due, after_frame_on, is_over, after_frames_on, after_fault_on, after_end_on, unread_frames, after_reading_on, after_bytes_on, after_opening, after_closing, effect_of, lone_at_rest, after_pump, lone_at_moment, after_event, new_lone}
 use Rattle.served_instance.specs.Refusals.{refusal_of, after_event_unless, lone_step}
 use Rattle.server_core.specs.Runs.{Run, run_step}
 use Rattle.client_reading.specs.Answerable.{IsAnswerableStream, CanGoOn}
@@ -42,7 +44,7 @@ use Rattle.client_reading.proofs.Choices.{choose, all_append, all_by}
 use Rattle.client_reading.proofs.Pasts.{frames_received}
 use Rattle.served_instance.proofs.Brought.{IsShortCall, short_on, frame_short}
 use Rattle.run_reading.proofs.Connections.{HasPast, ArePasts}
-use Rattle.run_reading.specs.Happenings.{Happening, MomentCame, TimePassed, connection_place, call_happenings, due_happenings, answer_happenings, request_happenings, frame_happenings, happenings_of_frames, fault_happenings, end_happenings, reading_happenings, happenings_of_bytes, close_happenings, happenings_by, happenings_unless, step_happenings, happenings}
+use Rattle.run_reading.specs.Happenings.{Happening, MomentCame, TimePassed, connection_place, call_happenings, due_happenings, answer_happenings, request_happenings, frame_happenings, happenings_of_frames, fault_happenings, end_happenings, reading_happenings, happenings_of_bytes, close_happenings, happenings_by, happenings_unless, step_happenings, happenings, RequestAnswered, CallEventCame}
 use Rattle.run_reading.specs.Replies.{GivenItems, given_items_at, state_after_happening, given_items_from}
 use Rattle.run_reading.proofs.Lifts.{frame_made, fault_made, acted_made, pumped_made, bytes_made, all_drop}
 use Rattle.run_reading.proofs.Owes.{OwedFrom, Gift, give, gifts_on, Gives, AreBelow, all_owed, closed_owed, opened_owed, below_more, all_length, closed_length, open_step, none_open, open_has}
@@ -362,8 +364,8 @@ unanswered l m h state none short same = record {
 tick_moves : (l : LoneInstance) → Moves l (TimePassed ∷ []) (after_call_event time_passes l)
 tick_moves l = unanswered l (after_call_event time_passes l) TimePassed refl refl tt refl
 
-came_moves_at : (moment : ℕ) (l : LoneInstance) → Moves l (MomentCame moment ∷ []) (lone_at_moment moment l)
-came_moves_at moment l = unanswered l (lone_at_moment moment l) (MomentCame moment) refl refl tt refl
+came_moves_at : (moment : ℕ) (l : LoneInstance) → Moves l (MomentCame moment ∷ []) (lone_at_moment moment [] l)
+came_moves_at moment l = unanswered l (lone_at_moment moment [] l) (MomentCame moment) refl refl tt refl
 
 what_moves : (w : WhatValue) (l : LoneInstance) → Moves l (happenings_by w l) (effect_of w l)
 what_moves (opened c) l = opened_moves c l
@@ -380,25 +382,45 @@ pumped_moves l = quietly l (after_pump l) refl (λ gs h. record {
   due = pumped_due l.connections h.due;
 })
 
-accepted_moves : (e : EventValue) (l : LoneInstance) → Moves l (MomentCame e.moment ∷ happenings_by e.what (lone_at_moment e.moment l)) (after_event e l)
-accepted_moves e l =
-    let at : LoneInstance = lone_at_moment e.moment l in
-    let hs : List Happening = happenings_by e.what at in
-    let all : Moves l (MomentCame e.moment ∷ (hs ++ [])) (after_event e l) = then_moves l at (after_event e l) (MomentCame e.moment ∷ []) (hs ++ []) (came_moves_at e.moment l) (then_moves at (effect_of e.what at) (after_event e l) hs [] (what_moves e.what at) (pumped_moves (effect_of e.what at))) in
-    subst (λ (ks : List Happening). Moves l (MomentCame e.moment ∷ ks) (after_event e l)) (append-nil hs) all
+-- nothing that happens makes the instance read more of a parent's
+happening_reads_none : (s : InstanceState) (h : Happening) → s.parent ≡ [] → (state_after_happening s h).parent ≡ []
+happening_reads_none s (MomentCame moment) none = refl
+happening_reads_none s TimePassed none = changes_parent (answer s time_passes).changes s ∙ none
+happening_reads_none s (RequestAnswered place stream item) none = none
+happening_reads_none s (CallEventCame place event) none = changes_parent (answer s event).changes s ∙ none
 
-unless_moves : (e : EventValue) (l : LoneInstance) (o : Option EventRefusal) → Moves l (happenings_unless e l o) (after_event_unless e l o)
+happenings_read_none : (hs : List Happening) (s : InstanceState) → s.parent ≡ [] → (fold state_after_happening s hs).parent ≡ []
+happenings_read_none [] s none = none
+happenings_read_none (h ∷ hs) s none = happenings_read_none hs (state_after_happening s h) (happening_reads_none s h none)
+
+-- behind the event the instance is at rest
+rest_moves : (l : LoneInstance) → l.state.parent ≡ [] → Moves l [] (lone_at_rest l)
+rest_moves l none = quietly l (lone_at_rest l) (ap (λ (bs : List Blob). seeing bs l.state) (sym none)) (λ gs h. holds_at gs l (lone_at_rest l) refl h)
+
+accepted_moves : (e : EventValue) (l : LoneInstance) → Moves l (MomentCame e.moment ∷ happenings_by e.what (lone_at_moment e.moment [] l)) (after_event [] e l)
+accepted_moves e l =
+    let at : LoneInstance = lone_at_moment e.moment [] l in
+    let after : LoneInstance = effect_of e.what at in
+    let rest : LoneInstance = lone_at_rest after in
+    let hs : List Happening = happenings_by e.what at in
+    let moved : Moves at hs after = what_moves e.what at in
+    let none : after.state.parent ≡ [] = ap (λ (s : InstanceState). s.parent) moved.state ∙ happenings_read_none hs at.state refl in
+    let ended : Moves after [] (after_event [] e l) = then_moves after rest (after_event [] e l) [] [] (rest_moves after none) (pumped_moves rest) in
+    let all : Moves l (MomentCame e.moment ∷ (hs ++ [])) (after_event [] e l) = then_moves l at (after_event [] e l) (MomentCame e.moment ∷ []) (hs ++ []) (came_moves_at e.moment l) (then_moves at after (after_event [] e l) hs [] moved ended) in
+    subst (λ (ks : List Happening). Moves l (MomentCame e.moment ∷ ks) (after_event [] e l)) (append-nil hs) all
+
+unless_moves : (e : EventValue) (l : LoneInstance) (o : Option EventRefusal) → Moves l (happenings_unless e l o) (after_event_unless [] e l o)
 unless_moves e l None = accepted_moves e l
 unless_moves e l (Some refusal) = quietly l l refl (λ gs h. h)
 
-pub step_moves : (e : EventValue) (l : LoneInstance) → Moves l (step_happenings e l) (lone_step e l)
+pub step_moves : (e : EventValue) (l : LoneInstance) → Moves l (step_happenings e l) (lone_step [] e l)
 step_moves e l = unless_moves e l (refusal_of e l)
 
 -- ---- a run
 
 pub run_moves : (r : Run) (es : List EventValue) → Moves r.lone (happenings r.lone es) (fold run_step r es).lone
 run_moves r [] = quietly r.lone r.lone refl (λ gs h. h)
-run_moves r (e ∷ es) = then_moves r.lone (lone_step e r.lone) (fold run_step (run_step r e) es).lone (step_happenings e r.lone) (happenings (lone_step e r.lone) es) (step_moves e r.lone) (run_moves (run_step r e) es)
+run_moves r (e ∷ es) = then_moves r.lone (lone_step [] e r.lone) (fold run_step (run_step r e) es).lone (step_happenings e r.lone) (happenings (lone_step [] e r.lone) es) (step_moves e r.lone) (run_moves (run_step r e) es)
 
 pub first_holds : (name : List ℕ) (quota slots : ℕ) → Holds [] (new_lone name quota slots)
 first_holds name quota slots = record { owes = record { owed = tt; below = tt }; pasts = tt; due = tt }

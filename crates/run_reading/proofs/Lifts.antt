@@ -122,10 +122,10 @@ bytes_made c bytes l h = at_open_made c (with_bytes bytes) l.connections (λ p k
 pub start_made : (name : List ℕ) (quota slots : ℕ) → ArePasts (new_lone name quota slots)
 start_made name quota slots = tt
 
-pub accepted_made : (e : EventValue) (l : LoneInstance) → ArePasts l → ArePasts (after_event e l)
+pub accepted_made : (e : EventValue) (l : LoneInstance) → ArePasts l → ArePasts (after_event [] e l)
 accepted_made e l h =
-    let m : ArePasts (effect_of e.what (lone_at_moment e.moment l)) = acted_made e.what (lone_at_moment e.moment l) h in
-    all_open_made with_pumped (effect_of e.what (lone_at_moment e.moment l)).connections (λ p k. next_past p FramesPut tt k) m
+    let m : ArePasts (effect_of e.what (lone_at_moment e.moment [] l)) = acted_made e.what (lone_at_moment e.moment [] l) h in
+    all_open_made with_pumped (effect_of e.what (lone_at_moment e.moment [] l)).connections (λ p k. next_past p FramesPut tt k) m
 
 pub all_read_by_clients : (l : LoneInstance) → ArePasts l → AllByRecursion (λ (k : LoneConnection). IsReadByClient k.past) l.connections
 all_read_by_clients l h = all_by (λ (k : LoneConnection). IsPast k.past) (λ (k : LoneConnection). IsReadByClient k.past) l.connections (λ k is. past_read k.past is) h

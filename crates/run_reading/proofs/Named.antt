@@ -9,8 +9,9 @@ use Rattle.instance_core.specs.Replies.{ReplyItemValue, begins, says, gives, end
 use Rattle.instance_core.specs.Answer.{answer, state_after}
 use Rattle.instance_core.specs.Calls.{CallEventValue, tick, IsShortEvent}
 use Rattle.instance_core.specs.State.{InstanceState, IsInstanceWithin, at_moment}
+use Rattle.served_instance.specs.Lone.{state_at_event}
 use Rattle.served_instance.specs.Calls.{item_of, owed_items}
-use Rattle.served_instance.proofs.LimitsKept.{moment_within}
+use Rattle.served_instance.proofs.LimitsKept.{moment_within, seeing_within}
 use Rattle.client_reading.proofs.Choices.{all_append}
 use Rattle.instance_core.proofs.EventLimits.{after_keeps}
 use Rattle.run_reading.specs.Replies.{GivenItems, items_of_reply, given_items_from}
@@ -36,7 +37,7 @@ IsShortHappening (CallEventCame place event) = IsShortEvent event
 -- what holds of each answer that is given within the limits, holds of all
 pub each_answer : (P : AnsweredEvent → Type 0) (s : InstanceState) (hs : List Happening) → ((t : InstanceState) (event : CallEventValue) → IsInstanceWithin t → P (record { state = t; event = event })) → AllByRecursion IsShortHappening hs → IsInstanceWithin s → AllByRecursion P (answered_events s hs)
 each_answer P s [] good short w = tt
-each_answer P s (MomentCame moment ∷ hs) good short w = each_answer P (at_moment moment s) hs good short.1 (moment_within moment s w)
+each_answer P s (MomentCame moment ∷ hs) good short w = each_answer P (state_at_event moment [] s) hs good short.1 (seeing_within [] (at_moment moment s) tt (moment_within moment s w))
 each_answer P s (TimePassed ∷ hs) good short w = each_answer P (state_after s tick) hs good short.1 (after_keeps s tick tt w)
 each_answer P s (RequestAnswered place stream item ∷ hs) good short w = each_answer P s hs good short.1 w
 each_answer P s (CallEventCame place event ∷ hs) good short w = (good s event w, each_answer P (state_after s event) hs good short.1 (after_keeps s event short.0 w))
@@ -72,7 +73,7 @@ pub all_given : (P : Item → Type 0) → ((item : Item) → IsShortItem item �
     → ((place : ℕ) (t : InstanceState) (event : CallEventValue) → IsInstanceWithin t → AllByRecursion (λ (g : GivenItems). AllByRecursion P g.items) (map (items_of_reply place) (answer t event).replies))
     → (s : InstanceState) (hs : List Happening) → AllByRecursion IsShortHappening hs → IsInstanceWithin s → AllByRecursion (λ (g : GivenItems). AllByRecursion P g.items) (given_items_from s hs)
 all_given P one replies s [] short w = tt
-all_given P one replies s (MomentCame moment ∷ hs) short w = all_given P one replies (at_moment moment s) hs short.1 (moment_within moment s w)
+all_given P one replies s (MomentCame moment ∷ hs) short w = all_given P one replies (state_at_event moment [] s) hs short.1 (seeing_within [] (at_moment moment s) tt (moment_within moment s w))
 all_given P one replies s (TimePassed ∷ hs) short w = all_given P one replies (state_after s tick) hs short.1 (after_keeps s tick tt w)
 all_given P one replies s (RequestAnswered place stream item ∷ hs) short w = ((one item short.0, tt), all_given P one replies s hs short.1 w)
 all_given P one replies s (CallEventCame place event ∷ hs) short w =

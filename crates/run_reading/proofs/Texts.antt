@@ -228,8 +228,8 @@ pumped_reads : (ks : List LoneConnection) → AllRead ks → AllRead (at_all_ope
 pumped_reads [] h = tt
 pumped_reads (k ∷ ks) h = (choose (λ (j : LoneConnection). ReadsText j.past) k.is_open (record k { past = with_pumped k.past }) k (λ _. same_frames k.past.history (with_pumped k.past).history k.past.text (pumped_raw k.past.history k.past.owed) h.0) (λ _. h.0), pumped_reads ks h.1)
 
-step_reads : (e : EventValue) (l : LoneInstance) (o : Option EventRefusal) → AllRead l.connections → AllRead (after_event_unless e l o).connections
-step_reads e l None h = pumped_reads (effect_of e.what (lone_at_moment e.moment l)).connections (acted_reads e.what (lone_at_moment e.moment l) h)
+step_reads : (e : EventValue) (l : LoneInstance) (o : Option EventRefusal) → AllRead l.connections → AllRead (after_event_unless [] e l o).connections
+step_reads e l None h = pumped_reads (effect_of e.what (lone_at_moment e.moment [] l)).connections (acted_reads e.what (lone_at_moment e.moment [] l) h)
 step_reads e l (Some refusal) h = h
 
 pub run_reads : (r : Run) (es : List EventValue) → AllRead r.lone.connections → AllByRecursion (λ (k : LoneConnection). ReadsText k.past) (fold run_step r es).lone.connections

@@ -107,7 +107,7 @@ happenings_by (ended job outcome) l = []
 
 -- a refused event changes nothing
 abbrev pub happenings_unless : EventValue → LoneInstance → Option EventRefusal → List Happening
-happenings_unless e l None = MomentCame e.moment ∷ happenings_by e.what (lone_at_moment e.moment l)
+happenings_unless e l None = MomentCame e.moment ∷ happenings_by e.what (lone_at_moment e.moment [] l)
 happenings_unless e l (Some refusal) = []
 
 abbrev pub step_happenings : EventValue → LoneInstance → List Happening
@@ -116,4 +116,4 @@ step_happenings e l = happenings_unless e l (refusal_of e l)
 -- all that happens of these events, one after another
 abbrev pub happenings : LoneInstance → List EventValue → List Happening
 happenings l [] = []
-happenings l (e ∷ es) = step_happenings e l ++ happenings (lone_step e l) es
+happenings l (e ∷ es) = step_happenings e l ++ happenings (lone_step [] e l) es

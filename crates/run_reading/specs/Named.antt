@@ -5,7 +5,8 @@ use Rattle.instance_core.specs.Naming.{Names}
 use Rattle.grpc_sending.specs.Owed.{Item, Headed, Message, Range}
 use Rattle.instance_core.specs.Calls.{tick}
 use Rattle.instance_core.specs.Answer.{state_after}
-use Rattle.instance_core.specs.State.{InstanceState, at_moment}
+use Rattle.instance_core.specs.State.{InstanceState}
+use Rattle.served_instance.specs.Lone.{state_at_event}
 use Rattle.instance_core.specs.NamedReplies.{AnsweredEvent}
 use Rattle.server_events.specs.Configs.{ConfigValue}
 use Rattle.server_events.specs.Events.{EventValue}
@@ -16,7 +17,7 @@ use Rattle.run_reading.specs.Happenings.{Happening, MomentCame, TimePassed, Requ
 
 abbrev pub answered_events : InstanceState → List Happening → List AnsweredEvent
 answered_events s [] = []
-answered_events s (MomentCame moment ∷ hs) = answered_events (at_moment moment s) hs
+answered_events s (MomentCame moment ∷ hs) = answered_events (state_at_event moment [] s) hs
 answered_events s (TimePassed ∷ hs) = answered_events (state_after s tick) hs
 answered_events s (RequestAnswered place stream item ∷ hs) = answered_events s hs
 answered_events s (CallEventCame place event ∷ hs) =

@@ -14,12 +14,12 @@ use Rattle.conn_core.specs.Received.{received_raw_frames}
 use Rattle.instance_core.specs.Calls.{tick}
 use Rattle.instance_core.specs.Replies.{ReplyValue}
 use Rattle.instance_core.specs.Answer.{answer, state_after}
-use Rattle.instance_core.specs.State.{InstanceState, new_instance, at_moment}
+use Rattle.instance_core.specs.State.{InstanceState, new_instance}
 use Rattle.server_events.specs.Configs.{ConfigValue}
 use Rattle.server_events.specs.Events.{EventValue}
 use Rattle.served_instance.specs.Connections.{LoneConnection}
 use Rattle.served_instance.specs.Calls.{owed_items}
-use Rattle.served_instance.specs.Lone.{new_lone}
+use Rattle.served_instance.specs.Lone.{new_lone, state_at_event}
 use Rattle.server_core.specs.Runs.{run_of}
 use Rattle.client_reading.specs.Changes.{IsPast}
 use Rattle.client_reading.specs.Responses.{stream_parts, response_of, IsBeginning}
@@ -44,7 +44,7 @@ given_items_at s (RequestAnswered place stream item) =
 given_items_at s (CallEventCame place event) = map (items_of_reply place) (answer s event).replies
 
 abbrev pub state_after_happening : InstanceState → Happening → InstanceState
-state_after_happening s (MomentCame moment) = at_moment moment s
+state_after_happening s (MomentCame moment) = state_at_event moment [] s
 state_after_happening s TimePassed = state_after s tick
 state_after_happening s (RequestAnswered place stream item) = s
 state_after_happening s (CallEventCame place event) = state_after s event

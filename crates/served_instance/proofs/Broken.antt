@@ -7,16 +7,17 @@ use Rattle.blob_pool.specs.Slots.{Slots, text_at}
 use Rattle.instance_core.specs.Answer.{answer, state_after}
 use Rattle.instance_core.specs.Calls.{CallEventValue}
 use Rattle.instance_core.specs.Apart.{calls_apart}
-use Rattle.instance_core.specs.State.{InstanceState}
+use Rattle.instance_core.specs.State.{InstanceState, seeing}
+use Rattle.instance_core.specs.InstanceViewShown.{ViewValue}
 use Rattle.blob_pool.specs.Slots.{count_at}
 use Rattle.blob_pool.specs.Moves.{Moves}
-use Rattle.instance_core.specs.Slots.{InstanceSlots, state_in, holders_of_instance, IsInstanceInPool}
+use Rattle.instance_core.specs.Slots.{InstanceSlots, state_in, state_beside, holders_of_instance, IsInstanceInPool}
 use Rattle.server_events.specs.Events.{WhatValue, opened, received, took, closed, tick, ended}
 use Rattle.served_instance.specs.declared.open_connection.OpenConnection.{OpenConnection}
 use Rattle.served_instance.specs.Acts.{StandsBy, FindAlike, slots_of}
 use Rattle.served_instance.specs.Connections.{LoneConnection, open_ones, with_closed}
 use Rattle.served_instance.specs.Cuts.{others_of, KeepsOthers, OthersFindAlike, CutsShort, CutsShortBy, events_brought, receiver_of, others_by, others_than, state_without}
-use Rattle.served_instance.specs.Lone.{LoneInstance}
+use Rattle.served_instance.specs.Lone.{LoneInstance, lone_at_rest}
 use Rattle.served_instance.specs.Ranges.{Releases, range_holders}
 use Rattle.served_instance.specs.Refusals.{NeedsNoMemory}
 use Rattle.served_instance.specs.Short.{IsMadeInPart, IsCutShort, after_break, IsCutEffect}
@@ -66,46 +67,47 @@ abbrev pub IsLeft : WhatValue → Slots → InstanceSlots → List OpenConnectio
 IsLeft w r k xs m = (n : LoneInstance) × IsCutEffect w m n × IsServedInstance (served_state_in r (slots_of k xs)) n
 
 -- before the event, where it was refused, and when its connection was gone
-pub record IsBroken (w : WhatValue) (p q r : Slots) (i j k : InstanceSlots) (os ns xs : List OpenConnection) : Type 0 where
+pub record IsBroken (parent : ViewValue) (w : WhatValue) (p q r : Slots) (i j k : InstanceSlots) (os ns xs : List OpenConnection) : Type 0 where
   pub kept : IsServedInPool q (slots_of j ns)
   pub releases : Releases q (map connection_shown ns) r (map connection_shown xs)
-  pub cuts : CutsShort p i os q j (events_brought w)
+  pub cuts : CutsShort parent p i os q j (events_brought w)
   pub others : others_than w ns ≡ others_than w os
   pub finds : FindAlike p q (others_than w os)
   pub left : xs ≡ others_by (receiver_of w) ns
   pub forgotten : state_in r k ≡ state_without (receiver_of w) (state_in r j)
 
-same_at : (w : WhatValue) (p q r : Slots) (i j k : InstanceSlots) (os ns xs : List OpenConnection) → IsBroken w p q r i j k os ns xs → state_in r k ≡ state_without (receiver_of w) (state_in q j)
-same_at w p q r i j k os ns xs b =
+same_at : (parent : ViewValue) (w : WhatValue) (p q r : Slots) (i j k : InstanceSlots) (os ns xs : List OpenConnection) → IsBroken parent w p q r i j k os ns xs → state_in r k ≡ state_without (receiver_of w) (state_in q j)
+same_at parent w p q r i j k os ns xs b =
     b.forgotten ∙ ap (state_without (receiver_of w)) (same_state q r j (map connection_shown ns) (map connection_shown xs) b.kept b.releases)
 
 -- the connections that are left stand for these
-others_stand : (w : WhatValue) (p q r : Slots) (i j k : InstanceSlots) (os ns xs : List OpenConnection) (ls : List LoneConnection) → IsBroken w p q r i j k os ns xs → AreServed (text_at p) (map connection_shown (others_than w os)) ls → AreServed (text_at q) (map connection_shown xs) ls
-others_stand w p q r i j k os ns xs ls b s =
+others_stand : (parent : ViewValue) (w : WhatValue) (p q r : Slots) (i j k : InstanceSlots) (os ns xs : List OpenConnection) (ls : List LoneConnection) → IsBroken parent w p q r i j k os ns xs → AreServed (text_at p) (map connection_shown (others_than w os)) ls → AreServed (text_at q) (map connection_shown xs) ls
+others_stand parent w p q r i j k os ns xs ls b s =
     let now = served_agreed (text_at p) (text_at q) (map connection_shown (others_than w os)) ls b.finds s in
     subst (λ (ys : List OpenConnection). AreServed (text_at q) (map connection_shown ys) ls) (sym (b.left ∙ b.others)) now
 
-left_stands : (w : WhatValue) (p q r : Slots) (i j k : InstanceSlots) (os ns xs : List OpenConnection) (n : LoneInstance) → IsBroken w p q r i j k os ns xs → state_in r k ≡ n.state → AreServed (text_at q) (map connection_shown xs) (open_ones n.connections) → IsServedInstance (served_state_in r (slots_of k xs)) n
-left_stands w p q r i j k os ns xs n b e s =
+left_stands : (parent : ViewValue) (w : WhatValue) (p q r : Slots) (i j k : InstanceSlots) (os ns xs : List OpenConnection) (n : LoneInstance) → IsBroken parent w p q r i j k os ns xs → state_in r k ≡ n.state → AreServed (text_at q) (map connection_shown xs) (open_ones n.connections) → IsServedInstance (served_state_in r (slots_of k xs)) n
+left_stands parent w p q r i j k os ns xs n b e s =
     stands_for q r k xs n (release_finds q r j (map connection_shown ns) (map connection_shown xs) b.kept b.releases) (record { state = e; connections = s })
 
-pub is_left : (w : WhatValue) (p q r : Slots) (i j k : InstanceSlots) (os ns xs : List OpenConnection) (m : LoneInstance) → (NeedsNoMemory w → ⊥) → IsBroken w p q r i j k os ns xs → StandsBy (text_at p) (state_in p i) os m → IsLeft w r k xs m
-is_left (opened c) p q r i j k os ns xs m need b st =
+pub is_left : (parent : ViewValue) (w : WhatValue) (p q r : Slots) (i j k : InstanceSlots) (os ns xs : List OpenConnection) (m : LoneInstance) → (NeedsNoMemory w → ⊥) → IsBroken parent w p q r i j k os ns xs → StandsBy (text_at p) (state_beside p parent i) os m → IsLeft w r k xs m
+is_left parent (opened c) p q r i j k os ns xs m need b st =
     let w = opened c in
-    let same : state_in r k ≡ m.state = same_at w p q r i j k os ns xs b ∙ b.cuts m st in
-    (m, refl, left_stands w p q r i j k os ns xs m b same (others_stand w p q r i j k os ns xs (open_ones m.connections) b st.connections))
-is_left (received c bytes) p q r i j k os ns xs m need b st =
+    let n = lone_at_rest m in
+    let same : state_in r k ≡ n.state = same_at parent w p q r i j k os ns xs b ∙ ap (seeing []) (b.cuts m st) in
+    (n, refl, left_stands parent w p q r i j k os ns xs n b same (others_stand parent w p q r i j k os ns xs (open_ones m.connections) b st.connections))
+is_left parent (received c bytes) p q r i j k os ns xs m need b st =
     let w = received c bytes in
-    let n = after_break c (state_in q j) m in
+    let n = after_break c (state_beside q parent j) m in
     let gone = others_served (text_at p) c os m.connections st.connections in (
       n,
-      record { left = state_in q j; cut = b.cuts m st; gone = refl },
-      left_stands w p q r i j k os ns xs n b (same_at w p q r i j k os ns xs b) (others_stand w p q r i j k os ns xs (open_ones n.connections) b gone),
+      record { left = state_beside q parent j; cut = b.cuts m st; gone = refl },
+      left_stands parent w p q r i j k os ns xs n b (same_at parent w p q r i j k os ns xs b) (others_stand parent w p q r i j k os ns xs (open_ones n.connections) b gone),
     )
-is_left (took c n) p q r i j k os ns xs m need b st = absurd (need tt)
-is_left (closed c) p q r i j k os ns xs m need b st = absurd (need tt)
-is_left tick p q r i j k os ns xs m need b st = absurd (need tt)
-is_left (ended job outcome) p q r i j k os ns xs m need b st = absurd (need tt)
+is_left parent (took c n) p q r i j k os ns xs m need b st = absurd (need tt)
+is_left parent (closed c) p q r i j k os ns xs m need b st = absurd (need tt)
+is_left parent tick p q r i j k os ns xs m need b st = absurd (need tt)
+is_left parent (ended job outcome) p q r i j k os ns xs m need b st = absurd (need tt)
 
 -- ---- what the pool counts
 

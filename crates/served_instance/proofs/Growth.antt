@@ -27,6 +27,7 @@ use Rattle.server_events.specs.Events.{EventValue, WhatValue, opened, received, 
 use Rattle.std.specs.Option.{option_map_or}
 use Rattle.served_instance.specs.Connections.{LoneConnection, is_open_at, open_at, at_open, with_closed, at_all_open}
 use Rattle.served_instance.specs.Calls.{call_event_on, owed_items, with_items}
+use Rattle.instance_core.specs.Visible.{Blob}
 use Rattle.served_instance.specs.Lone.{LoneInstance, after_replies, after_call_event, after_call_events, due_at, without_due, after_due_on, after_frame_on, is_over, after_frames_on, after_fault_on, after_end_on, unread_frames, after_reading_on, after_bytes_on, after_opening, effect_of, after_pump, lone_at_moment, after_event}
 
 -- ---- one connection
@@ -214,7 +215,7 @@ acted_more (closed c) l = all_happened_more c (option_map_or (λ p. cancels p.hi
 acted_more tick l = more_same l
 acted_more (ended job outcome) l = more_same l
 
-pub accepted_more : (e : EventValue) (l : LoneInstance) → AreGrown (connections_after e.what l.connections) (after_event e l).connections
-accepted_more e l =
-    let m : LoneInstance = effect_of e.what (lone_at_moment e.moment l) in
-    all_trans (connections_after e.what l.connections) m.connections (after_pump m).connections (acted_more e.what (lone_at_moment e.moment l)) (all_open_grow with_pumped pump_grows m.connections)
+pub accepted_more : (parent : List Blob) (e : EventValue) (l : LoneInstance) → AreGrown (connections_after e.what l.connections) (after_event parent e l).connections
+accepted_more parent e l =
+    let m : LoneInstance = effect_of e.what (lone_at_moment e.moment parent l) in
+    all_trans (connections_after e.what l.connections) m.connections (after_pump m).connections (acted_more e.what (lone_at_moment e.moment parent l)) (all_open_grow with_pumped pump_grows m.connections)

@@ -4,7 +4,7 @@ use Rattle.std.specs.Prelude.{ℕ, List, [], ◌∷◌, length, map, Result, Ok,
 use Rattle.std.specs.List.{AllByRecursion}
 use Rattle.std.proofs.lemmas.List.{length-map}
 use Rattle.blob_pool.specs.Slots.{Slots, text_at, count_at}
-use Rattle.blob_pool.specs.Moves.{Holders, Moves}
+use Rattle.blob_pool.specs.Moves.{no_holders, Holders, Moves}
 use Rattle.grpc_sending.specs.StoredSending.{SourceTexts, AgreeOn}
 use Rattle.instance_core.specs.declared.event.Reply.{Reply}
 use Rattle.instance_core.specs.declared.event.ReplyItem.{ReplyItem}
@@ -14,7 +14,10 @@ use Rattle.instance_core.specs.Calls.{CallEventValue}
 use Rattle.instance_core.specs.ReplyHolders.{replies_holders}
 use Rattle.instance_core.specs.Replies.{ReplyItemValue, ReplyValue, IsShortReplyItem, IsShortReply}
 use Rattle.instance_core.specs.Shown.{item_shown, reply_shown}
-use Rattle.instance_core.specs.Slots.{InstanceSlots, state_in, holders_of_instance}
+use Rattle.instance_core.specs.InstanceViewShown.{ViewValue}
+use Rattle.instance_core.proofs.Sees.{parent_same}
+use Rattle.served_instance.proofs.Besides.{both_same}
+use Rattle.instance_core.specs.Slots.{state_beside, InstanceSlots, state_in, holders_of_instance}
 use Rattle.instance_core.specs.State.{InstanceState, IsInstanceWithin}
 use Rattle.instance_core.specs.Visible.{Blob}
 use Rattle.instance_core.proofs.Held.{shown_same}
@@ -24,7 +27,7 @@ use Rattle.served_instance.specs.OwedReplies.{item_by, reply_by, CanBeOwed, Repl
 use Rattle.served_instance.specs.Lone.{LoneInstance, after_replies, after_call_event}
 use Rattle.served_instance.specs.Ranges.{served_with, sources_at, range_holders}
 use Rattle.served_instance.specs.Shown.{connection_shown}
-use Rattle.served_instance.specs.Slots.{holders_of, IsServedInPool}
+use Rattle.served_instance.specs.Slots.{IsServedBeside, holders_of, IsServedInPool}
 use Rattle.served_instance.specs.StandsFor.{ServedConnection, AreServed}
 use Rattle.served_instance.specs.Acts.{ActsIn, StandsBy, slots_of}
 use Rattle.served_instance.proofs.Commutes.{given, replied_is}
@@ -107,13 +110,17 @@ answered_moves given IsGood p q r i j vs ws a = record {
 }
 
 abbrev with_visible : InstanceSlots → List Blob → InstanceState
-with_visible i bs = record { name = i.name; quota = i.quota; slots = i.slots; moment = i.moment; visible = bs; uploads = i.uploads; results = i.results; calls = i.calls }
+with_visible i bs = record { name = i.name; quota = i.quota; slots = i.slots; moment = i.moment; visible = bs; parent = []; uploads = i.uploads; results = i.results; calls = i.calls }
 
 pub answered_state : (given : Holders) (IsGood : SourceTexts → Type 0) (p q r : Slots) (i j : InstanceSlots) (vs ws : List ServedConnection) → IsAnswered given IsGood p q r i j vs ws → state_in r j ≡ state_in q j
 answered_state given IsGood p q r i j vs ws a =
     ap (with_visible j) (shown_same q r j.view.entries (λ k some.
     let held = given_counted given p q i j vs a.kept a.moves k in
     a.takes.moves.texts k (omega (arith, some, held, a.takes.sources k))))
+
+pub answered_beside : (given : Holders) (IsGood : SourceTexts → Type 0) (parent : ViewValue) (p q r : Slots) (i j : InstanceSlots) (vs ws : List ServedConnection) → IsAnswered given IsGood p q r i j vs ws → IsServedBeside p parent (slots_at i vs) → state_beside r parent j ≡ state_beside q parent j
+answered_beside given IsGood parent p q r i j vs ws a beside =
+    both_same q r parent j (parent_same q r parent a.takes.gone no_holders a.takes.moves (λ k. omega (arith, a.moves.counts k, beside.counted k, a.takes.fewer k))) (answered_state given IsGood p q r i j vs ws a)
 
 pub answered_kept : (given : Holders) (IsGood : SourceTexts → Type 0) (p q r : Slots) (i j : InstanceSlots) (vs ws : List ServedConnection) → IsAnswered given IsGood p q r i j vs ws → length ws ≤ 64 → IsServedInPool r (slots_at j ws)
 answered_kept given IsGood p q r i j vs ws a short =
@@ -147,9 +154,9 @@ answers_given p q r i j os ns rs ys is kept moves takes within short = record {
 replied_at : (rs : List ReplyValue) (l : LoneInstance) → (after_replies rs l).connections ≡ given rs l.connections
 replied_at rs l = ap (λ (k : LoneInstance). k.connections) (replied_is rs l)
 
-pub happens : {T E : Type 0} (result : Result T E) (p q r : Slots) (i j : InstanceSlots) (os ns : List OpenConnection) (what : CallEventValue) (rs : List Reply) → IsAnswered (replies_holders rs) (RepliesEndWithin rs) p q r i j (map connection_shown os) (map connection_shown ns) →
-    map (reply_shown q) rs ≡ (answer (state_in p i) what).replies → state_in q j ≡ state_after (state_in p i) what → OnOk result (AreGiven rs os ns) → OnOk result (ActsIn p i os r j ns (after_call_event what))
-happens (Ok x) p q r i j os ns what rs a e f h = λ l st.
+pub happens : {T E : Type 0} (result : Result T E) (parent : ViewValue) (p q r : Slots) (i j : InstanceSlots) (os ns : List OpenConnection) (what : CallEventValue) (rs : List Reply) → IsAnswered (replies_holders rs) (RepliesEndWithin rs) p q r i j (map connection_shown os) (map connection_shown ns) → IsServedBeside p parent (slots_of i os) →
+    map (reply_shown q) rs ≡ (answer (state_beside p parent i) what).replies → state_beside q parent j ≡ state_after (state_beside p parent i) what → OnOk result (AreGiven rs os ns) → OnOk result (ActsIn parent p i os r j ns (after_call_event what))
+happens (Ok x) parent p q r i j os ns what rs a beside e f h = λ l st.
     let vs = map connection_shown os in
     let ws = map connection_shown ns in
     let held = replies_holders rs in
@@ -160,9 +167,9 @@ happens (Ok x) p q r i j os ns what rs a e f h = λ l st.
     let taken : AreServed (text_at q) ws (open_ones (given (answer l.state what).replies l.connections)) =
     subst (λ (ks : List LoneConnection). AreServed (text_at q) ws (open_ones ks)) (replied_at (map (reply_by (text_at q)) rs) l ∙ same) (h (text_at q) l asked) in
     let k : LoneInstance = record l { state = state_after l.state what; connections = given (answer l.state what).replies l.connections } in
-    let now : StandsBy (text_at r) (state_in r j) ns k = record {
-      state = answered_state held (RepliesEndWithin rs) p q r i j vs ws a ∙ (f ∙ ap (λ (y : InstanceState). state_after y what) st.state);
+    let now : StandsBy (text_at r) (state_beside r parent j) ns k = record {
+      state = answered_beside held (RepliesEndWithin rs) parent p q r i j vs ws a beside ∙ (f ∙ ap (λ (y : InstanceState). state_after y what) st.state);
       connections = served_agreed (text_at q) (text_at r) ws (open_ones k.connections) (taken_finds held (RepliesEndWithin rs) p q r i j vs ws a) taken;
     } in
-    subst (λ (x : LoneInstance). StandsBy (text_at r) (state_in r j) ns x) (sym (happened_is what l)) now
-happens (Err x) p q r i j os ns what rs a e f h = tt
+    subst (λ (x : LoneInstance). StandsBy (text_at r) (state_beside r parent j) ns x) (sym (happened_is what l)) now
+happens (Err x) parent p q r i j os ns what rs a beside e f h = tt

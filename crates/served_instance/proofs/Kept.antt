@@ -1,5 +1,5 @@
 -- What the pool counts of an instance with its connections.
-use Rattle.std.proofs.Common.{◌≡◌, ◌*◌, ◌<◌, ◌≤◌, ◌^◌, ℕ, List, length, sym, ap, subst, arith}
+use Rattle.std.proofs.Common.{◌≡◌, ◌*◌, ◌<◌, ◌≤◌, ◌^◌, ℕ, List, [], length, sym, ap, subst, arith}
 use Rattle.std.proofs.lemmas.List.{length-map}
 use Rattle.blob_pool.specs.Slots.{Slots, text_at}
 use Rattle.blob_pool.specs.Moves.{Moves}
@@ -45,7 +45,7 @@ pub own_texts : (p q : Slots) (i : InstanceSlots) (vs ws : List ServedConnection
 own_texts p q i vs ws kept r k some = r.moves.texts k (omega (arith, some, r.sources k, kept.counted k))
 
 abbrev with_visible : InstanceSlots → List Blob → InstanceState
-with_visible i bs = record { name = i.name; quota = i.quota; slots = i.slots; moment = i.moment; visible = bs; uploads = i.uploads; results = i.results; calls = i.calls }
+with_visible i bs = record { name = i.name; quota = i.quota; slots = i.slots; moment = i.moment; visible = bs; parent = []; uploads = i.uploads; results = i.results; calls = i.calls }
 
 pub same_state : (p q : Slots) (i : InstanceSlots) (vs ws : List ServedConnection) → IsServedInPool p (slots_at i vs) → Releases p vs q ws → state_in q i ≡ state_in p i
 same_state p q i vs ws kept r = ap (with_visible i) (shown_same p q i.view.entries (λ k some. own_texts p q i vs ws kept r k some))

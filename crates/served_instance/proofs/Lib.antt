@@ -11,6 +11,7 @@ pub mod Leads
 pub mod Gives
 pub mod Closes
 pub mod Kept
+mod Besides
 mod Writes
 mod Taking
 mod Happens
@@ -25,6 +26,6 @@ mod Cut
 mod Answered
 mod CutEvents
 mod Broken
-mod Losses
+pub mod Losses
 pub use Rattle.grpc_sending.proofs.Agreeing
 pub use Rattle.grpc_sending.proofs.Histories

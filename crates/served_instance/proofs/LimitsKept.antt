@@ -14,7 +14,9 @@ use Rattle.conn_core.specs.declared.event.CallEvent.{CallEvent}
 use Rattle.conn_core.specs.Calls.{cancels}
 use Rattle.conn_core.specs.Past.{Past, new_past, with_frame, with_fault, with_taken, with_pumped, with_bytes}
 use Rattle.instance_core.specs.Calls.{CallEventValue, tick as time_passes, IsShortEvent}
-use Rattle.instance_core.specs.State.{InstanceState, IsInstanceWithin, at_moment}
+use Rattle.instance_core.specs.Visible.{Blob}
+use Rattle.instance_core.specs.Naming.{Names}
+use Rattle.instance_core.specs.State.{seeing, InstanceState, IsInstanceWithin, at_moment}
 use Rattle.instance_core.specs.Answer.{answer, state_after}
 use Rattle.instance_core.specs.Replies.{ReplyValue}
 use Rattle.server_events.specs.Events.{EventValue, WhatValue, opened, received, took, closed, tick, ended}
@@ -152,13 +154,22 @@ acted_keeps tick l h = happened_keeps time_passes l tt h
 acted_keeps (ended job outcome) l h = h
 
 pub moment_within : (moment : ℕ) (s : InstanceState) → IsInstanceWithin s → IsInstanceWithin (at_moment moment s)
-moment_within moment s w = record { quota = w.quota; texts = w.texts; uploads = w.uploads; results = w.results; calls = w.calls; messages = w.messages }
+moment_within moment s w = record { quota = w.quota; texts = w.texts; uploads = w.uploads; results = w.results; calls = w.calls; messages = w.messages; parent = w.parent }
 
-accepted_keeps : (e : EventValue) (l : LoneInstance) → Keeps l (after_event e l)
-accepted_keeps e l h =
-    let m = acted_keeps e.what (lone_at_moment e.moment l) (record { within = moment_within e.moment l.state h.within; short = h.short }) in
-    record { within = m.within; short = all_open_short with_pumped (λ p short. short) (effect_of e.what (lone_at_moment e.moment l)).connections m.short }
+abbrev pub AreNamed : List Blob → Type 0
+AreNamed bs = AllByRecursion (λ (b : Blob). Names b.0 b.1) bs
 
-pub stepped_keeps : (e : EventValue) (l : LoneInstance) (o : Option EventRefusal) → Keeps l (after_event_unless e l o)
-stepped_keeps e l None h = accepted_keeps e l h
-stepped_keeps e l (Some refusal) h = h
+pub seeing_within : (parent : List Blob) (s : InstanceState) → AreNamed parent → IsInstanceWithin s → IsInstanceWithin (seeing parent s)
+seeing_within parent s named w = record { quota = w.quota; texts = w.texts; uploads = w.uploads; results = w.results; calls = w.calls; messages = w.messages; parent = named }
+
+accepted_keeps : (parent : List Blob) (e : EventValue) (l : LoneInstance) → AreNamed parent → Keeps l (after_event parent e l)
+accepted_keeps parent e l named h =
+    let m = acted_keeps e.what (lone_at_moment e.moment parent l) (record { within = seeing_within parent (at_moment e.moment l.state) named (moment_within e.moment l.state h.within); short = h.short }) in
+    record {
+      within = seeing_within [] (effect_of e.what (lone_at_moment e.moment parent l)).state tt m.within;
+      short = all_open_short with_pumped (λ p short. short) (effect_of e.what (lone_at_moment e.moment parent l)).connections m.short;
+    }
+
+pub stepped_keeps : (parent : List Blob) (e : EventValue) (l : LoneInstance) (o : Option EventRefusal) → AreNamed parent → Keeps l (after_event_unless parent e l o)
+stepped_keeps parent e l None named h = accepted_keeps parent e l named h
+stepped_keeps parent e l (Some refusal) named h = h

@@ -24,6 +24,7 @@ use Rattle.served_instance.specs.declared.refusal.EventRefusal.{EventRefusal}
 use Rattle.served_instance.specs.declared.refusal.EventRefusal.TheVariants.{TimeWentBack, NoSuchConnection, TookTooMuch}
 use Rattle.served_instance.specs.Connections.{open_at, at_open, with_closed}
 use Rattle.served_instance.specs.Calls.{call_event_on, owed_items, with_items}
+use Rattle.instance_core.specs.Visible.{Blob}
 use Rattle.served_instance.specs.Lone.{LoneInstance, after_replies, after_call_event, after_call_events, due_at, without_due, after_due_on, after_frame_on, is_over, after_frames_on, after_fault_on, after_end_on, unread_frames, after_reading_on, lone_at_moment, effect_of}
 use Rattle.served_instance.specs.Refusals.{refusal_of, refusal_of_what, after_event_unless, lone_step}
 
@@ -87,13 +88,13 @@ acted_moment (closed c) l = all_happened_moment c (option_map_or (λ p. cancels 
 acted_moment tick l = happened_moment time_passes l
 acted_moment (ended job outcome) l = refl
 
-stepped_within : (e : EventValue) (l : LoneInstance) (m : ℕ) (refusal : Option EventRefusal) → e.moment ≤ m → l.state.moment ≤ m → (after_event_unless e l refusal).state.moment ≤ m
-stepped_within e l m None le late = subst (λ (n : ℕ). n ≤ m) (sym (acted_moment e.what (lone_at_moment e.moment l))) le
-stepped_within e l m (Some refusal) le late = late
+stepped_within : (parent : List Blob) (e : EventValue) (l : LoneInstance) (m : ℕ) (refusal : Option EventRefusal) → e.moment ≤ m → l.state.moment ≤ m → (after_event_unless parent e l refusal).state.moment ≤ m
+stepped_within parent e l m None le late = subst (λ (n : ℕ). n ≤ m) (sym (acted_moment e.what (lone_at_moment e.moment parent l))) le
+stepped_within parent e l m (Some refusal) le late = late
 
 -- after an event an instance is not later than the event and than it was
-pub step_within : (e : EventValue) (l : LoneInstance) (m : ℕ) → e.moment ≤ m → l.state.moment ≤ m → (lone_step e l).state.moment ≤ m
-step_within e l m le late = stepped_within e l m (refusal_of e l) le late
+pub step_within : (parent : List Blob) (e : EventValue) (l : LoneInstance) (m : ℕ) → e.moment ≤ m → l.state.moment ≤ m → (lone_step parent e l).state.moment ≤ m
+step_within parent e l m le late = stepped_within parent e l m (refusal_of e l) le late
 
 -- ---- that bytes were taken is not refused
 

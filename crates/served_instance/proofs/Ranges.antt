@@ -22,6 +22,9 @@ use Rattle.served_instance.specs.Shown.{connection_shown}
 use Rattle.served_instance.specs.Acts.{HoldAlike}
 use Rattle.served_instance.specs.Present.{is_numbered}
 use Rattle.served_instance.proofs.Places.{IsPlace, is_place}
+use Rattle.grpc_sending.specs.Pieces.{most_read}
+use Rattle.grpc_sending.specs.Spans.{span_pieces, span_front}
+use Rattle.grpc_sending.proofs.Spans.{span_is, span_rest}
 
 -- ---- with their texts
 
@@ -36,6 +39,30 @@ same_queues t texts (q ∷ qs) =
     ap (λ (ps : List Piece). record { stream = q.stream; pieces = ps } ∷ map (queue_in t) (map (queue_with texts) qs)) (same_pieces t (flat_map (pieces_in texts) q.pieces))
     ∙ ap (λ (rs : List Queue). queue_in texts q ∷ rs) (same_queues t texts qs)
 
+with_on : (texts : SourceTexts) (s : ℕ) (qs : List StoredQueue) → stored_on s (map (queue_with texts) qs) ≡ map stored_piece (flat_map (pieces_in texts) (stored_on s qs))
+with_on texts s [] = refl
+with_on texts s (q ∷ qs) = elim (cases_Bool (q.stream == s)) [
+  | inl here ↦ rw here refl
+  | inr later ↦ rw later (with_on texts s qs)
+]
+
+-- nothing is kept for a stream, with the texts and without them
+seen_none : (texts : SourceTexts) (s : ℕ) (qs : List StoredQueue) → stored_on s qs ≡ [] → stored_on s (map (queue_with texts) qs) ≡ []
+seen_none texts s qs none = with_on texts s qs ∙ ap (λ (ps : List StoredPiece). map stored_piece (flat_map (pieces_in texts) ps)) none
+
+no_pieces : (texts : SourceTexts) (ps : List StoredPiece) → EndWithinTexts texts ps → map stored_piece (flat_map (pieces_in texts) ps) ≡ [] → ps ≡ []
+no_pieces texts [] fit none = refl
+no_pieces texts (Encoded block ∷ ps) fit none = let no : Encoded block ∷ map stored_piece (flat_map (pieces_in texts) ps) ≡ [] = none in cc
+no_pieces texts (Framed bytes ∷ ps) fit none = let no : Framed bytes ∷ map stored_piece (flat_map (pieces_in texts) ps) ≡ [] = none in cc
+no_pieces texts (Ranged s ∷ ps) fit none =
+    let first : span_pieces most_read s (texts s.source) ≡ Part (span_front most_read s (texts s.source)) ∷ span_rest most_read s (texts s.source) = span_is most_read s (texts s.source) (omega arith) fit.0 in
+    let no : Framed (span_front most_read s (texts s.source)) ∷ map stored_piece (span_rest most_read s (texts s.source) ++ flat_map (pieces_in texts) ps) ≡ [] =
+    sym (ap (λ (xs : List Piece). map stored_piece (xs ++ flat_map (pieces_in texts) ps)) first) ∙ none in
+    cc
+
+plain_none : (texts : SourceTexts) (s : ℕ) (qs : List StoredQueue) → QueuesEndWithin texts qs → stored_on s (map (queue_with texts) qs) ≡ [] → stored_on s qs ≡ []
+plain_none texts s qs fit none = no_pieces texts (stored_on s qs) (fit s) (sym (with_on texts s qs) ∙ none)
+
 -- what is seen of a connection stands by no texts for what it stands for by these
 seen_connection : (texts : SourceTexts) (s : ServedConnection) (p : Past) → IsConnection texts s.connection p → IsConnection no_texts (served_with texts s).connection p
 seen_connection texts s p h = record {
@@ -43,16 +70,18 @@ seen_connection texts s p h = record {
   streams = h.streams;
   sending = subst (λ (qs : List Queue). IsSending (record { pending = s.connection.sending.pending; position = s.connection.sending.position; queues = qs }) p.history p.owed) (sym (same_queues no_texts texts s.connection.sending.queues)) h.sending;
   due = h.due;
-  alive = λ e. let a = h.alive e in record { reader = a.reader; calls = a.calls; order = a.order; counted = a.counted };
+  over = λ failed t. seen_none texts t s.connection.sending.queues (h.over failed t);
+  alive = λ e. let a = h.alive e in record { reader = a.reader; calls = a.calls; order = a.order; live = λ t out. seen_none texts t s.connection.sending.queues (a.live t out); finished = λ t was. let k = a.finished t was in (k.0, seen_none texts t s.connection.sending.queues k.1); counted = a.counted };
 }
 
-plain_connection : (texts : SourceTexts) (s : ServedConnection) (p : Past) → IsConnection no_texts (served_with texts s).connection p → IsConnection texts s.connection p
-plain_connection texts s p h = record {
+plain_connection : (texts : SourceTexts) (s : ServedConnection) (p : Past) → QueuesEndWithin texts s.connection.sending.queues → IsConnection no_texts (served_with texts s).connection p → IsConnection texts s.connection p
+plain_connection texts s p fit h = record {
   ended = h.ended;
   streams = h.streams;
   sending = subst (λ (qs : List Queue). IsSending (record { pending = s.connection.sending.pending; position = s.connection.sending.position; queues = qs }) p.history p.owed) (same_queues no_texts texts s.connection.sending.queues) h.sending;
   due = h.due;
-  alive = λ e. let a = h.alive e in record { reader = a.reader; calls = a.calls; order = a.order; counted = a.counted };
+  over = λ failed t. plain_none texts t s.connection.sending.queues fit (h.over failed t);
+  alive = λ e. let a = h.alive e in record { reader = a.reader; calls = a.calls; order = a.order; live = λ t out. plain_none texts t s.connection.sending.queues fit (a.live t out); finished = λ t was. let k = a.finished t was in (k.0, plain_none texts t s.connection.sending.queues fit k.1); counted = a.counted };
 }
 
 pub seen_served : (texts : SourceTexts) (vs : List ServedConnection) (ls : List LoneConnection) → AreServed texts vs ls → AreServed no_texts (map (served_with texts) vs) ls
@@ -61,11 +90,11 @@ seen_served texts [] (l ∷ ls) s = absurd s
 seen_served texts (v ∷ vs) [] s = absurd s
 seen_served texts (v ∷ vs) (l ∷ ls) s = (s.0, seen_connection texts v l.past s.1, seen_served texts vs ls s.2)
 
-pub plain_served : (texts : SourceTexts) (vs : List ServedConnection) (ls : List LoneConnection) → AreServed no_texts (map (served_with texts) vs) ls → AreServed texts vs ls
-plain_served texts [] [] s = tt
-plain_served texts [] (l ∷ ls) s = absurd s
-plain_served texts (v ∷ vs) [] s = absurd s
-plain_served texts (v ∷ vs) (l ∷ ls) s = (s.0, plain_connection texts v l.past s.1, plain_served texts vs ls s.2)
+pub plain_served : (texts : SourceTexts) (vs : List ServedConnection) (ls : List LoneConnection) → RangesEndWithin texts vs → AreServed no_texts (map (served_with texts) vs) ls → AreServed texts vs ls
+plain_served texts [] [] fit s = tt
+plain_served texts [] (l ∷ ls) fit s = absurd s
+plain_served texts (v ∷ vs) [] fit s = absurd s
+plain_served texts (v ∷ vs) (l ∷ ls) fit s = (s.0, plain_connection texts v l.past fit.0 s.1, plain_served texts vs ls fit.1 s.2)
 
 -- ---- only the texts of their sources matter
 
@@ -84,6 +113,7 @@ connection_agreed t u v p agree st = record {
   streams = st.streams;
   sending = stands_agreed t u v.sending p.history p.owed agree st.sending;
   due = st.due;
+  over = st.over;
   alive = st.alive;
 }
 

@@ -14,7 +14,8 @@ use Rattle.server_events.specs.Events.{EventValue, WhatValue, opened, received, 
 use Rattle.served_instance.specs.declared.refusal.EventRefusal.{EventRefusal}
 use Rattle.served_instance.specs.declared.refusal.EventRefusal.TheVariants.{NoSuchInstance, TimeWentBack, ConnectionExists, TooManyConnections, NoSuchConnection, NoSuchJob, TookTooMuch, NoMemory}
 use Rattle.served_instance.specs.Connections.{open_ones, open_at}
-use Rattle.instance_core.specs.State.{InstanceState, at_moment}
+use Rattle.instance_core.specs.Visible.{Blob}
+use Rattle.instance_core.specs.State.{seeing, InstanceState, at_moment}
 use Rattle.served_instance.specs.Lone.{LoneInstance, lone_at_moment, after_event}
 use Rattle.served_instance.specs.declared.instance.TheConstants.{CONNECTION_LIMIT}
 use Rattle.served_instance.specs.Refusals.{refusal_of, refusal_of_what, after_event_unless, lone_step, IsRefusalOutcome}
@@ -22,6 +23,7 @@ use Rattle.served_instance.specs.StandsFor.{ServedConnection, ServedState, IsSer
 use Rattle.served_instance.specs.declared.open_connection.OpenConnection.{OpenConnection}
 use Rattle.served_instance.specs.Slots.{ServedSlots, served_state_in}
 use Rattle.served_instance.specs.Acts.{StandsBy}
+use Rattle.served_instance.specs.Ranges.{RangesEndWithin}
 use Rattle.served_instance.proofs.Ranges.{plain_served}
 use Rattle.served_instance.specs.Present.{refusal_by, refusal_by_what, unless_more}
 use Rattle.served_instance.proofs.Serves.{SameAt, same_at, same_length}
@@ -80,11 +82,11 @@ same_by_what texts (closed c) vs l s n = same_unless texts _ _ (Some NoSuchConne
 same_by_what texts tick vs l s n = refl
 same_by_what texts (ended job outcome) vs l s n = refl
 
-pub same_refusal : (p : Slots) (e : EventValue) (v : ServedSlots) (l : LoneInstance) → IsServedInstance (served_state_in p v) l → refusal_by e v ≡ refusal_of e l
-same_refusal p e v l s =
+pub same_refusal : (p : Slots) (e : EventValue) (v : ServedSlots) (l : LoneInstance) → RangesEndWithin (text_at p) v.connections → IsServedInstance (served_state_in p v) l → refusal_by e v ≡ refusal_of e l
+same_refusal p e v l fit s =
     let texts = text_at p in
     let vs = v.connections in
-    let stand = plain_served texts vs (open_ones l.connections) s.connections in
+    let stand = plain_served texts vs (open_ones l.connections) fit s.connections in
     ap (λ (x : InstanceState). if nat_lt e.moment x.moment then Some TimeWentBack else refusal_by_what e.what vs) s.state
     ∙ ap (λ (r : Option EventRefusal). if nat_lt e.moment l.state.moment then Some TimeWentBack else r) (same_by_what texts e.what vs l (λ c. same_at texts c vs l.connections stand) (same_length texts vs (open_ones l.connections) stand))
 
@@ -125,33 +127,33 @@ outcome_of A TimeWentBack reason h e = e
 outcome_of A TookTooMuch reason h e = e
 outcome_of A NoMemory reason h e = absurd h
 
-pub no_reason : (p : Slots) (e : EventValue) (v : ServedSlots) (l : LoneInstance) → None ≡ refusal_by e v → IsServedInstance (served_state_in p v) l → refusal_of e l ≡ None
-no_reason p e v l h s = sym (same_refusal p e v l s) ∙ sym h
+pub no_reason : (p : Slots) (e : EventValue) (v : ServedSlots) (l : LoneInstance) → None ≡ refusal_by e v → RangesEndWithin (text_at p) v.connections → IsServedInstance (served_state_in p v) l → refusal_of e l ≡ None
+no_reason p e v l h fit s = sym (same_refusal p e v l fit s) ∙ sym h
 
-reason : (p : Slots) (e : EventValue) (v : ServedSlots) (l : LoneInstance) (r : EventRefusal) → Some r ≡ refusal_by e v → IsServedInstance (served_state_in p v) l → refusal_of e l ≡ Some r
-reason p e v l r h s = sym (same_refusal p e v l s) ∙ sym h
+reason : (p : Slots) (e : EventValue) (v : ServedSlots) (l : LoneInstance) (r : EventRefusal) → Some r ≡ refusal_by e v → RangesEndWithin (text_at p) v.connections → IsServedInstance (served_state_in p v) l → refusal_of e l ≡ Some r
+reason p e v l r h fit s = sym (same_refusal p e v l fit s) ∙ sym h
 
-pub refused_outcome : (p : Slots) (A : Type 0) (e : EventValue) (v : ServedSlots) (l : LoneInstance) (r : EventRefusal) → Some r ≡ refusal_by e v → IsServedInstance (served_state_in p v) l → IsRefusalOutcome {A = A} (Err r) (refusal_of e l)
-refused_outcome p A e v l r h s = outcome_of A r (refusal_of e l) (subst IsReason (sym h) (is_reason e v)) (reason p e v l r h s)
+pub refused_outcome : (p : Slots) (A : Type 0) (e : EventValue) (v : ServedSlots) (l : LoneInstance) (r : EventRefusal) → Some r ≡ refusal_by e v → RangesEndWithin (text_at p) v.connections → IsServedInstance (served_state_in p v) l → IsRefusalOutcome {A = A} (Err r) (refusal_of e l)
+refused_outcome p A e v l r h fit s = outcome_of A r (refusal_of e l) (subst IsReason (sym h) (is_reason e v)) (reason p e v l r h fit s)
 
-pub kept_at_refusal : (p : Slots) (e : EventValue) (v : ServedSlots) (l : LoneInstance) (r : EventRefusal) → Some r ≡ refusal_by e v → IsServedInstance (served_state_in p v) l → IsServedInstance (served_state_in p v) (lone_step e l)
-kept_at_refusal p e v l r h s =
-    let P : Option EventRefusal → Type 0 = λ o. IsServedInstance (served_state_in p v) (after_event_unless e l o) in
-    subst P (sym (reason p e v l r h s)) s
+pub kept_at_refusal : (parent : List Blob) (p : Slots) (e : EventValue) (v : ServedSlots) (l : LoneInstance) (r : EventRefusal) → Some r ≡ refusal_by e v → RangesEndWithin (text_at p) v.connections → IsServedInstance (served_state_in p v) l → IsServedInstance (served_state_in p v) (lone_step parent e l)
+kept_at_refusal parent p e v l r h fit s =
+    let P : Option EventRefusal → Type 0 = λ o. IsServedInstance (served_state_in p v) (after_event_unless parent e l o) in
+    subst P (sym (reason p e v l r h fit s)) s
 
-pub stands_accepted : (p : Slots) (e : EventValue) (v : ServedSlots) (w : ServedState) (l : LoneInstance) → None ≡ refusal_by e v → IsServedInstance (served_state_in p v) l → IsServedInstance w (after_event e l) → IsServedInstance w (lone_step e l)
-stands_accepted p e v w l h s a =
-    let P : Option EventRefusal → Type 0 = λ o. IsServedInstance w (after_event_unless e l o) in
-    subst P (sym (no_reason p e v l h s)) a
+pub stands_accepted : (parent : List Blob) (p : Slots) (e : EventValue) (v : ServedSlots) (w : ServedState) (l : LoneInstance) → None ≡ refusal_by e v → RangesEndWithin (text_at p) v.connections → IsServedInstance (served_state_in p v) l → IsServedInstance w (after_event parent e l) → IsServedInstance w (lone_step parent e l)
+stands_accepted parent p e v w l h fit s a =
+    let P : Option EventRefusal → Type 0 = λ o. IsServedInstance w (after_event_unless parent e l o) in
+    subst P (sym (no_reason p e v l h fit s)) a
 
-pub settled_accepted : (p : Slots) (e : EventValue) (v : ServedSlots) (l : LoneInstance) → None ≡ refusal_by e v → IsServedInstance (served_state_in p v) l → AreSettled (after_event e l) → AreSettled (lone_step e l)
-settled_accepted p e v l h s a =
-    let P : Option EventRefusal → Type 0 = λ o. AreSettled (after_event_unless e l o) in
-    subst P (sym (no_reason p e v l h s)) a
+pub settled_accepted : (parent : List Blob) (p : Slots) (e : EventValue) (v : ServedSlots) (l : LoneInstance) → None ≡ refusal_by e v → RangesEndWithin (text_at p) v.connections → IsServedInstance (served_state_in p v) l → AreSettled (after_event parent e l) → AreSettled (lone_step parent e l)
+settled_accepted parent p e v l h fit s a =
+    let P : Option EventRefusal → Type 0 = λ o. AreSettled (after_event_unless parent e l o) in
+    subst P (sym (no_reason p e v l h fit s)) a
 
 -- an event comes
-pub came_stands : (texts : SourceTexts) (m : ℕ) (s t : InstanceState) (os : List OpenConnection) (l : LoneInstance) → t ≡ at_moment m s → StandsBy texts s os l → StandsBy texts t os (lone_at_moment m l)
-came_stands texts m s t os l e st = record { state = e ∙ ap (at_moment m) st.state; connections = st.connections }
+pub came_stands : (parent : List Blob) (texts : SourceTexts) (m : ℕ) (s t : InstanceState) (os : List OpenConnection) (l : LoneInstance) → t ≡ at_moment m s → StandsBy texts s os l → StandsBy texts (seeing parent t) os (lone_at_moment m parent l)
+came_stands parent texts m s t os l e st = record { state = ap (seeing parent) (e ∙ ap (at_moment m) st.state); connections = st.connections }
 
 pub not_elsewhere : (e : EventValue) (v : ServedSlots) (r : EventRefusal) → Some r ≡ refusal_by e v → r ≡ NoSuchInstance → ⊥
 not_elsewhere e v r h x =

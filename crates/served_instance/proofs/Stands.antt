@@ -1,32 +1,35 @@
 -- From what is kept in a pool to connections with its texts, and back.
-use Rattle.std.proofs.Common.{◌≡◌, ℕ, List, map, sym, subst, ◌∙◌}
+use Rattle.std.proofs.Common.{◌≡◌, ℕ, List, [], map, sym, ap, subst, ◌∙◌}
 use Rattle.blob_pool.specs.Slots.{Slots, text_at}
 use Rattle.instance_core.specs.State.{at_moment}
-use Rattle.instance_core.specs.Slots.{InstanceSlots, state_in}
+use Rattle.instance_core.specs.Slots.{InstanceSlots, state_in, state_beside}
+use Rattle.instance_core.specs.InstanceViewShown.{ViewValue, visible_in}
+use Rattle.instance_core.specs.State.{seeing}
 use Rattle.served_instance.specs.declared.open_connection.OpenConnection.{OpenConnection}
 use Rattle.served_instance.specs.Connections.{open_ones}
-use Rattle.served_instance.specs.Lone.{LoneInstance, lone_at_moment}
-use Rattle.served_instance.specs.Ranges.{Releases}
+use Rattle.served_instance.specs.Lone.{LoneInstance, lone_at_moment, lone_at_rest}
+use Rattle.served_instance.specs.Ranges.{Releases, RangesEndWithin}
 use Rattle.served_instance.specs.StandsFor.{IsServedInstance}
-use Rattle.served_instance.specs.Slots.{ServedSlots, served_state_in, IsServedInPool}
+use Rattle.served_instance.specs.Slots.{ServedSlots, served_state_in, IsServedInPool, IsServedBeside}
+use Rattle.served_instance.proofs.Besides.{released_beside}
 use Rattle.served_instance.specs.Shown.{connection_shown}
 use Rattle.served_instance.specs.Acts.{Acts, ActsIn, StandsBy, FindAlike, slots_of}
 use Rattle.served_instance.proofs.Kept.{release_finds, same_state}
 use Rattle.served_instance.proofs.Refuses.{came_stands}
 use Rattle.served_instance.proofs.Ranges.{seen_served, plain_served, served_agreed}
 
-pub stands_by : (p : Slots) (i : InstanceSlots) (os : List OpenConnection) (l : LoneInstance) → IsServedInstance (served_state_in p (slots_of i os)) l → StandsBy (text_at p) (state_in p i) os l
-stands_by p i os l st = record {
+pub stands_by : (p : Slots) (i : InstanceSlots) (os : List OpenConnection) (l : LoneInstance) → RangesEndWithin (text_at p) (map connection_shown os) → IsServedInstance (served_state_in p (slots_of i os)) l → StandsBy (text_at p) (state_in p i) os l
+stands_by p i os l fit st = record {
   state = st.state;
-  connections = plain_served (text_at p) (map connection_shown os) (open_ones l.connections) st.connections;
+  connections = plain_served (text_at p) (map connection_shown os) (open_ones l.connections) fit st.connections;
 }
 
 -- an event came at a moment
-pub came_by : (p : Slots) (i j : InstanceSlots) (os : List OpenConnection) (v : ServedSlots) (moment : ℕ) (l : LoneInstance) → slots_of i os ≡ v → state_in p j ≡ at_moment moment (state_in p i) → IsServedInstance (served_state_in p v) l →
-    StandsBy (text_at p) (state_in p j) os (lone_at_moment moment l)
-came_by p i j os v moment l seen changed s =
+pub came_by : (parent : ViewValue) (p : Slots) (i j : InstanceSlots) (os : List OpenConnection) (v : ServedSlots) (moment : ℕ) (l : LoneInstance) → slots_of i os ≡ v → state_in p j ≡ at_moment moment (state_in p i) → RangesEndWithin (text_at p) v.connections → IsServedInstance (served_state_in p v) l →
+    StandsBy (text_at p) (state_beside p parent j) os (lone_at_moment moment (visible_in p parent) l)
+came_by parent p i j os v moment l seen changed fit s =
     let S : ServedSlots → Type 0 = λ x. IsServedInstance (served_state_in p x) l in
-    came_stands (text_at p) moment (state_in p i) (state_in p j) os l changed (stands_by p i os l (subst S (sym seen) s))
+    came_stands (visible_in p parent) (text_at p) moment (state_in p i) (state_in p j) os l changed (stands_by p i os l (subst (λ (x : ServedSlots). RangesEndWithin (text_at p) x.connections) (sym seen) fit) (subst S (sym seen) s))
 
 -- in another pool that has the texts of the ranges
 pub stands_for : (p q : Slots) (j : InstanceSlots) (ns : List OpenConnection) (l : LoneInstance) → FindAlike p q ns → StandsBy (text_at p) (state_in q j) ns l → IsServedInstance (served_state_in q (slots_of j ns)) l
@@ -37,10 +40,14 @@ stands_for p q j ns l find st = record {
 }
 
 -- what was done with the texts of the one pool stands in the other, where sources were released
-pub released_acts : (p q : Slots) (i j : InstanceSlots) (os ns : List OpenConnection) (step : LoneInstance → LoneInstance) → IsServedInPool p (slots_of i os) → Releases p (map connection_shown os) q (map connection_shown ns) → Acts (state_in q i) os (state_in q j) ns step → ActsIn p i os q j ns step
-released_acts p q i j os ns step kept r act = λ l st.
-    let done = act (text_at p) l (record { state = same_state p q i (map connection_shown os) (map connection_shown ns) kept r ∙ st.state; connections = st.connections }) in
+pub released_acts : (parent : ViewValue) (p q : Slots) (i j : InstanceSlots) (os ns : List OpenConnection) (step : LoneInstance → LoneInstance) → IsServedInPool p (slots_of i os) → IsServedBeside p parent (slots_of i os) → Releases p (map connection_shown os) q (map connection_shown ns) → Acts (state_beside q parent i) os (state_beside q parent j) ns step → ActsIn parent p i os q j ns step
+released_acts parent p q i j os ns step kept beside r act = λ l st.
+    let done = act (text_at p) l (record { state = released_beside p q parent i (map connection_shown os) (map connection_shown ns) kept beside r ∙ st.state; connections = st.connections }) in
     record {
       state = done.state;
       connections = served_agreed (text_at p) (text_at q) (map connection_shown ns) (open_ones (step l).connections) (release_finds p q i (map connection_shown os) (map connection_shown ns) kept r) done.connections;
     }
+
+-- behind an event the parent's texts are not seen any more
+pub at_rest : (parent : ViewValue) (q : Slots) (j : InstanceSlots) (ns : List OpenConnection) (l : LoneInstance) → StandsBy (text_at q) (state_beside q parent j) ns l → StandsBy (text_at q) (state_in q j) ns (lone_at_rest l)
+at_rest parent q j ns l st = record { state = ap (seeing []) st.state; connections = st.connections }

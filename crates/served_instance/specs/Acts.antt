@@ -14,7 +14,8 @@ use Rattle.served_instance.specs.Lone.{LoneInstance, after_reading_on}
 use Rattle.served_instance.specs.StandsFor.{AreServed, connection_at}
 use Rattle.served_instance.specs.Ranges.{AllKeepRanges, sources_at}
 use Rattle.served_instance.specs.Slots.{ServedSlots}
-use Rattle.instance_core.specs.Slots.{InstanceSlots, state_in}
+use Rattle.instance_core.specs.Slots.{InstanceSlots, state_beside}
+use Rattle.instance_core.specs.InstanceViewShown.{ViewValue}
 use Rattle.blob_pool.specs.Slots.{Slots, text_at}
 use Rattle.served_instance.specs.Shown.{connection_shown}
 
@@ -93,9 +94,10 @@ abbrev pub Acts : InstanceState → List OpenConnection → InstanceState → Li
 Acts s os t ns step = (texts : SourceTexts) → ActsBy texts s os texts t ns step
 
 -- .. by those of a pool
-abbrev pub ActsIn : Slots → InstanceSlots → List OpenConnection → Slots → InstanceSlots →
-    List OpenConnection → (LoneInstance → LoneInstance) → Type 0
-ActsIn p i os q j ns step = ActsBy (text_at p) (state_in p i) os (text_at q) (state_in q j) ns step
+abbrev pub ActsIn : ViewValue → Slots → InstanceSlots → List OpenConnection → Slots →
+    InstanceSlots → List OpenConnection → (LoneInstance → LoneInstance) → Type 0
+ActsIn parent p i os q j ns step =
+    ActsBy (text_at p) (state_beside p parent i) os (text_at q) (state_beside q parent j) ns step
 
 abbrev pub without_sending : ConnectionValue → ConnectionValue
 without_sending v = record v { sending = new_stored_sending }
@@ -132,10 +134,12 @@ abbrev pub LeadsOn : InstanceState → List OpenConnection → InstanceState →
 LeadsOn s os t ns before after = (texts : SourceTexts) → LeadsBy texts s os texts t ns before after
 
 -- .. by those of a pool
-abbrev pub LeadsIn : Slots → InstanceSlots → List OpenConnection → Slots → InstanceSlots →
-    List OpenConnection → (LoneInstance → LoneInstance) → (LoneInstance → LoneInstance) → Type 0
-LeadsIn p i os q j ns before after =
-    LeadsBy (text_at p) (state_in p i) os (text_at q) (state_in q j) ns before after
+abbrev pub LeadsIn : ViewValue → Slots → InstanceSlots → List OpenConnection → Slots →
+    InstanceSlots → List OpenConnection → (LoneInstance → LoneInstance) →
+    (LoneInstance → LoneInstance) → Type 0
+LeadsIn parent p i os q j ns before after =
+    LeadsBy (text_at p) (state_beside p parent i) os (text_at q) (state_beside q parent j) ns
+    before after
 
 -- all that was received on connection c and not read yet is read
 abbrev pub after_rest_on : ℕ → LoneInstance → LoneInstance

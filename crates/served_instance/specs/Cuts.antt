@@ -6,7 +6,8 @@ use Rattle.instance_core.specs.Apart.{calls_apart}
 use Rattle.instance_core.specs.Calls.{CallEventValue}
 use Rattle.instance_core.specs.State.{InstanceState}
 use Rattle.blob_pool.specs.Slots.{Slots, text_at}
-use Rattle.instance_core.specs.Slots.{InstanceSlots, state_in}
+use Rattle.instance_core.specs.InstanceViewShown.{ViewValue}
+use Rattle.instance_core.specs.Slots.{InstanceSlots, state_beside}
 use Rattle.server_events.specs.Events.{WhatValue, opened, received, took, closed, tick, ended}
 use Rattle.served_instance.specs.declared.open_connection.OpenConnection.{OpenConnection}
 use Rattle.served_instance.specs.Lone.{LoneInstance}
@@ -33,9 +34,10 @@ abbrev pub CutsShortBy : SourceTexts → InstanceState → List OpenConnection �
 CutsShortBy texts s os t events =
     (l : LoneInstance) → StandsBy texts s os l → IsCutShort (events l) l.state t
 
-abbrev pub CutsShort : Slots → InstanceSlots → List OpenConnection → Slots → InstanceSlots →
-    (LoneInstance → List CallEventValue) → Type 0
-CutsShort p i os q j events = CutsShortBy (text_at p) (state_in p i) os (state_in q j) events
+abbrev pub CutsShort : ViewValue → Slots → InstanceSlots → List OpenConnection → Slots →
+    InstanceSlots → (LoneInstance → List CallEventValue) → Type 0
+CutsShort parent p i os q j events =
+    CutsShortBy (text_at p) (state_beside p parent i) os (state_beside q parent j) events
 
 -- they are where a front of these leaves the same as a front of those
 abbrev pub CutLeadsBy : SourceTexts → InstanceState → List OpenConnection → SourceTexts →
@@ -46,11 +48,12 @@ CutLeadsBy texts s os others t ns before after =
     (k : LoneInstance) × StandsBy others t ns k
     × ((u : InstanceState) → IsCutShort (after k) k.state u → IsCutShort (before l) l.state u)
 
-abbrev pub CutLeads : Slots → InstanceSlots → List OpenConnection → Slots → InstanceSlots →
-    List OpenConnection → (LoneInstance → List CallEventValue) →
+abbrev pub CutLeads : ViewValue → Slots → InstanceSlots → List OpenConnection → Slots →
+    InstanceSlots → List OpenConnection → (LoneInstance → List CallEventValue) →
     (LoneInstance → List CallEventValue) → Type 0
-CutLeads p i os q j ns before after =
-    CutLeadsBy (text_at p) (state_in p i) os (text_at q) (state_in q j) ns before after
+CutLeads parent p i os q j ns before after =
+    CutLeadsBy (text_at p) (state_beside p parent i) os (text_at q) (state_beside q parent j) ns
+    before after
 
 -- ---- by the kind of the event
 

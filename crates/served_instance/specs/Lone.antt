@@ -20,7 +20,8 @@ use Rattle.conn_core.specs.Received.{received_raw_frames}
 use Rattle.conn_core.specs.Calls.{cancels}
 use Rattle.conn_core.specs.Past.{Past, new_past, with_frame, with_fault, with_taken, with_pumped, with_bytes}
 use Rattle.instance_core.specs.Calls.{CallEventValue, tick as time_passes}
-use Rattle.instance_core.specs.State.{InstanceState, new_instance, at_moment}
+use Rattle.instance_core.specs.State.{InstanceState, new_instance, at_moment, seeing}
+use Rattle.instance_core.specs.Visible.{Blob}
 use Rattle.instance_core.specs.Replies.{ReplyValue}
 use Rattle.instance_core.specs.Answer.{answer, state_after}
 use Rattle.server_events.specs.Events.{EventValue, WhatValue, opened, received, took, closed, tick, ended}
@@ -140,12 +141,20 @@ effect_of (ended job outcome) l = l
 abbrev pub after_pump : LoneInstance → LoneInstance
 after_pump l = record l { connections = at_all_open with_pumped l.connections }
 
--- an event comes at this moment
-abbrev pub lone_at_moment : ℕ → LoneInstance → LoneInstance
-lone_at_moment moment l = record l { state = at_moment moment l.state }
+-- an event comes at this moment, while the instance's parent has these texts
+abbrev pub state_at_event : ℕ → List Blob → InstanceState → InstanceState
+state_at_event moment parent s = seeing parent (at_moment moment s)
 
-abbrev pub after_event : EventValue → LoneInstance → LoneInstance
-after_event e l = after_pump (effect_of e.what (lone_at_moment e.moment l))
+abbrev pub lone_at_moment : ℕ → List Blob → LoneInstance → LoneInstance
+lone_at_moment moment parent l = record l { state = state_at_event moment parent l.state }
+
+-- behind an event nothing is kept of what the parent has
+abbrev pub lone_at_rest : LoneInstance → LoneInstance
+lone_at_rest l = record l { state = seeing [] l.state }
+
+abbrev pub after_event : List Blob → EventValue → LoneInstance → LoneInstance
+after_event parent e l =
+    after_pump (lone_at_rest (effect_of e.what (lone_at_moment e.moment parent l)))
 
 -- ---- what came of it
 

@@ -1,7 +1,8 @@
 -- Which events an instance refuses, and why: the first of these reasons, in their order.
-use Rattle.std.specs.Prelude.{◌≡◌, ℕ, nat_le, nat_lt, if◌then◌else◌, length, Option, Some, None, Result, Ok, Err}
+use Rattle.std.specs.Prelude.{◌≡◌, ℕ, List, nat_le, nat_lt, if◌then◌else◌, length, Option, Some, None, Result, Ok, Err}
 use Rattle.std.specs.Option.{is_some, option_map_or}
 use Rattle.grpc_sending.specs.Bytes.{untaken_count}
+use Rattle.instance_core.specs.Visible.{Blob}
 use Rattle.server_events.specs.Events.{EventValue, WhatValue, opened, received, took, closed, tick, ended}
 use Rattle.served_instance.specs.declared.refusal.EventRefusal.{EventRefusal}
 use Rattle.served_instance.specs.declared.refusal.EventRefusal.TheVariants.{TimeWentBack, ConnectionExists, TooManyConnections, NoSuchConnection, TookTooMuch, NoSuchJob, NoMemory}
@@ -33,12 +34,14 @@ refusal_of e l =
     if nat_lt e.moment l.state.moment then Some TimeWentBack else refusal_of_what e.what l
 
 -- a refused event changes nothing
-abbrev pub after_event_unless : EventValue → LoneInstance → Option EventRefusal → LoneInstance
-after_event_unless e l None = after_event e l
-after_event_unless e l (Some refusal) = l
+abbrev pub after_event_unless : List Blob → EventValue → LoneInstance → Option EventRefusal →
+    LoneInstance
+after_event_unless parent e l None = after_event parent e l
+after_event_unless parent e l (Some refusal) = l
 
-abbrev pub lone_step : EventValue → LoneInstance → LoneInstance
-lone_step e l = after_event_unless e l (refusal_of e l)
+-- what an event makes of an instance, while its parent has these texts
+abbrev pub lone_step : List Blob → EventValue → LoneInstance → LoneInstance
+lone_step parent e l = after_event_unless parent e l (refusal_of e l)
 
 -- an event is refused for its reason, where there is one; and for want of memory only where there
 -- is none

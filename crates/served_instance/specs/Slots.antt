@@ -3,6 +3,10 @@ use Rattle.std.specs.Prelude.{ℕ, ◌+◌, ◌≤◌, ◌<◌, ◌^◌, List, m
 use Rattle.blob_pool.specs.Slots.{Slots, text_at, count_at}
 use Rattle.blob_pool.specs.Moves.{Holders}
 use Rattle.instance_core.specs.Slots.{InstanceSlots, state_in, holders_of_instance}
+use Rattle.instance_core.specs.InstanceViewShown.{ViewValue, visible_in, holders}
+use Rattle.instance_core.specs.Visible.{Blob}
+use Rattle.instance_core.specs.Naming.{Names}
+use Rattle.std.specs.List.{AllByRecursion}
 use Rattle.served_instance.specs.Connections.{open_ones}
 use Rattle.served_instance.specs.Lone.{LoneInstance}
 use Rattle.served_instance.specs.StandsFor.{ServedConnection, ServedState, AreServed, IsServedWithin}
@@ -35,6 +39,12 @@ pub record IsServedInPool (p : Slots) (v : ServedSlots) : Type 0 where
   pub within : IsServedWithin (served_state_in p v)
   pub fit : RangesEndWithin (text_at p) v.connections
   pub few : HaveFewSources v.connections
+
+-- the pool counts what its parent holds beside what it holds, and its parent's texts are what their
+-- digests say
+pub record IsServedBeside (p : Slots) (parent : ViewValue) (v : ServedSlots) : Type 0 where
+  pub counted : (k : ℕ) → holders_of v k + holders parent k ≤ count_at p k
+  pub named : AllByRecursion (λ (b : Blob). Names b.0 b.1) (visible_in p parent)
 
 -- its open connections stand for those of an instance by itself, by the texts of some pool
 pub record HasConnections (v : ServedSlots) (l : LoneInstance) : Type 0 where

@@ -4,8 +4,10 @@ ghost use Rattle.std.specs.Prelude.{◌≡◌, ◌<◌, ◌≤◌, ℕ, List, fa
 ghost use Rattle.instance_core.specs.Calls.{IsShortEvent};
 ghost use Rattle.instance_core.specs.Apart.{calls_apart};
 ghost use Rattle.instance_core.specs.Shown.{event_shown};
-ghost use Rattle.instance_core.specs.Slots.{state_in, holders_of_instance, IsInstanceInPool};
-ghost use Rattle.served_instance.specs.Slots.{holders_of, IsServedInPool};
+ghost use Rattle.instance_core.specs.Visible.{Blob};
+ghost use Rattle.instance_core.specs.State.{seeing};
+ghost use Rattle.instance_core.specs.Slots.{state_in, state_beside, holders_of_instance, IsInstanceInPool};
+ghost use Rattle.served_instance.specs.Slots.{holders_of, IsServedInPool, IsServedBeside};
 ghost use Rattle.blob_pool.specs.Slots.{Slots, count_at};
 ghost use Rattle.blob_pool.specs.Moves.{Moves};
 ghost use Rattle.served_instance.specs.declared.open_connection.OpenConnection.{OpenConnection};
@@ -24,11 +26,13 @@ use crate::replies::{call_event_on, give_all};
 use blob_pool::Pool;
 use conn_core::Connection;
 use instance_core::{CallEvent, CallId, Instance};
+use instance_view::View;
 use std::alloc::{AllocError, Global};
 
 /// Something happens to a call: the instance answers.
 fn happen(
     alloc: Global,
+    parent: &View,
     pool: &mut Pool,
     instance: &mut Instance,
     connections: &mut [OpenConnection],
@@ -36,11 +40,13 @@ fn happen(
 ) -> Result<(), AllocError>
     requires short { IsShortEvent (event_shown event) }
     requires kept { IsServedInPool pool.old (slots_of instance.old connections.old) }
-    ensures happened { OnOk result (ActsIn pool.old instance.old connections.old
+    requires beside { IsServedBeside pool.old parent.now (slots_of instance.old connections.old) }
+    ensures happened { OnOk result (ActsIn parent.now pool.old instance.old connections.old
         pool.new instance.new connections.new (after_call_event (event_shown event))) }
     ensures rest { OnOk result (Keeps connections.old connections.new) }
     ensures memory { OnErr result (IsMadeInPart (event_shown event)
-        (state_in pool.old instance.old) (state_in pool.new instance.new)) }
+        (state_beside pool.old parent.now instance.old)
+        (state_beside pool.new parent.now instance.new)) }
     ensures others { (c : ℕ) → IsCallOn c (event_shown event)
         → KeepsOthers c connections.old connections.new }
     ensures finds { (c : ℕ) → IsCallOn c (event_shown event)
@@ -49,24 +55,26 @@ fn happen(
         (holders_of (slots_of instance.new connections.new)) }
     ensures kept { IsServedInPool pool.new (slots_of instance.new connections.new) }
 {
-    let replies = instance.call_event(alloc, pool, event)?;
+    let replies = instance.call_event(alloc, parent, pool, event)?;
     give_all(pool, connections, replies)
 }
 
 /// What is due on the connection happens.
 fn give_due(
     alloc: Global,
+    parent: &View,
     pool: &mut Pool,
     instance: &mut Instance,
     connections: &mut [OpenConnection],
     number: u32,
 ) -> Result<(), AllocError>
     requires kept { IsServedInPool pool.old (slots_of instance.old connections.old) }
-    ensures due { OnOk result (ActsIn pool.old instance.old connections.old
+    requires beside { IsServedBeside pool.old parent.now (slots_of instance.old connections.old) }
+    ensures due { OnOk result (ActsIn parent.now pool.old instance.old connections.old
         pool.new instance.new connections.new (after_due_on number)) }
     ensures unread { OnOk result (unread_at number connections.new
         ≡ unread_at number connections.old) }
-    ensures memory { OnErr result (CutsShort pool.old instance.old connections.old
+    ensures memory { OnErr result (CutsShort parent.now pool.old instance.old connections.old
         pool.new instance.new (due_events number)) }
     ensures others { KeepsOthers number connections.old connections.new }
     ensures finds { OthersFindAlike number pool.old pool.new connections.old }
@@ -76,7 +84,7 @@ fn give_due(
 {
     'events: while let Some(event) = pop_event(connections, number) {
         let event = call_event_on(number, event);
-        happen(alloc, pool, instance, connections, event)?;
+        happen(alloc, parent, pool, instance, connections, event)?;
     }
     Ok(())
 }
@@ -85,21 +93,23 @@ fn give_due(
 /// brings to calls.
 fn read_next(
     alloc: Global,
+    parent: &View,
     pool: &mut Pool,
     instance: &mut Instance,
     connections: &mut [OpenConnection],
     number: u32,
 ) -> Result<bool, AllocError>
     requires kept { IsServedInPool pool.old (slots_of instance.old connections.old) }
-    ensures reads { OnOk result (LeadsIn pool.old instance.old connections.old
+    requires beside { IsServedBeside pool.old parent.now (slots_of instance.old connections.old) }
+    ensures reads { OnOk result (LeadsIn parent.now pool.old instance.old connections.old
         pool.new instance.new connections.new (after_rest_on number) (after_rest_on number)) }
-    ensures ends { IfOk result (λ more. more ≡ false → ActsIn pool.old instance.old connections.old
+    ensures ends { IfOk result (λ more. more ≡ false → ActsIn parent.now pool.old instance.old connections.old
         pool.new instance.new connections.new (after_rest_on number)) }
     ensures fewer { IfOk result (λ more. IsTrue more
         → unread_at number connections.new < unread_at number connections.old) }
-    ensures cuts { OnOk result (CutLeads pool.old instance.old connections.old
+    ensures cuts { OnOk result (CutLeads parent.now pool.old instance.old connections.old
         pool.new instance.new connections.new (rest_events number) (rest_events number)) }
-    ensures memory { OnErr result (CutsShort pool.old instance.old connections.old
+    ensures memory { OnErr result (CutsShort parent.now pool.old instance.old connections.old
         pool.new instance.new (rest_events number)) }
     ensures others { KeepsOthers number connections.old connections.new }
     ensures finds { OthersFindAlike number pool.old pool.new connections.old }
@@ -108,7 +118,7 @@ fn read_next(
     ensures kept { IsServedInPool pool.new (slots_of instance.new connections.new) }
 {
     if read_frame(connections, number)? {
-        give_due(alloc, pool, instance, connections, number)?;
+        give_due(alloc, parent, pool, instance, connections, number)?;
         Ok(true)
     } else {
         Ok(false)
@@ -119,6 +129,7 @@ fn read_next(
 /// read.
 pub(crate) fn receive(
     alloc: Global,
+    parent: &View,
     pool: &mut Pool,
     instance: &mut Instance,
     connections: &mut [OpenConnection],
@@ -126,9 +137,10 @@ pub(crate) fn receive(
     bytes: Vec<u8>,
 ) -> Result<(), AllocError>
     requires kept { IsServedInPool pool.old (slots_of instance.old connections.old) }
-    ensures came { OnOk result (ActsIn pool.old instance.old connections.old
+    requires beside { IsServedBeside pool.old parent.now (slots_of instance.old connections.old) }
+    ensures came { OnOk result (ActsIn parent.now pool.old instance.old connections.old
         pool.new instance.new connections.new (after_bytes_on number bytes.items)) }
-    ensures memory { OnErr result (CutsShort pool.old instance.old connections.old
+    ensures memory { OnErr result (CutsShort parent.now pool.old instance.old connections.old
         pool.new instance.new (bytes_events number bytes.items)) }
     ensures others { KeepsOthers number connections.old connections.new }
     ensures finds { OthersFindAlike number pool.old pool.new connections.old }
@@ -137,7 +149,7 @@ pub(crate) fn receive(
     ensures kept { IsServedInPool pool.new (slots_of instance.new connections.new) }
 {
     feed(connections, number, bytes)?;
-    'frames: while read_next(alloc, pool, instance, connections, number)? {}
+    'frames: while read_next(alloc, parent, pool, instance, connections, number)? {}
     Ok(())
 }
 
@@ -151,8 +163,9 @@ pub(crate) fn close(
 )
     requires { (k : ℕ) → range_holders (map connection_shown connections.old.items) k
         ≤ count_at pool.old k }
-    ensures closed { (p : Slots) → Acts (state_in p instance.old) connections.old.items
-        (state_in p instance.new) connections.new.items (after_closing number) }
+    ensures closed { (p : Slots) (seen : List Blob) →
+        Acts (seeing seen (state_in p instance.old)) connections.old.items
+        (seeing seen (state_in p instance.new)) connections.new.items (after_closing number) }
     ensures fewer { length connections.new.items ≤ length connections.old.items }
     ensures releases { Releases pool.old (map connection_shown connections.old.items)
         pool.new (map connection_shown connections.new.items) }
@@ -217,8 +230,9 @@ fn remove(pool: &mut Pool, connections: &mut Vec<OpenConnection>, number: u32)
 
 /// Each call of the closed connection is given up, which is nothing to any other connection.
 fn give_up(instance: &mut Instance, number: u32, mut closed: Connection)
-    ensures cancelled { (p : Slots) (others : List OpenConnection)
-        → Acts (state_in p instance.old) others (state_in p instance.new) others
+    ensures cancelled { (p : Slots) (seen : List Blob) (others : List OpenConnection)
+        → Acts (seeing seen (state_in p instance.old)) others
+        (seeing seen (state_in p instance.new)) others
         (after_call_events number (cancels_of closed)) }
     ensures holders { (k : ℕ) → holders_of_instance instance.new k
         ≡ holders_of_instance instance.old k }

@@ -18,7 +18,8 @@ ghost use Rattle.served_instance.specs.Acts.{Acts, ActsIn, HoldAlike, FindAlike,
 ghost use Rattle.served_instance.specs.Ranges.{RangesEndWithin, Releases, range_holders, spent_sources};
 ghost use Rattle.instance_core.specs.State.{InstanceState};
 ghost use Rattle.instance_core.specs.Slots.{state_in, holders_of_instance, IsInstanceInPool};
-ghost use Rattle.served_instance.specs.Slots.{served_state_in, holders_of, IsServedInPool, HasConnections};
+ghost use Rattle.instance_core.specs.InstanceViewShown.{visible_in};
+ghost use Rattle.served_instance.specs.Slots.{served_state_in, holders_of, IsServedInPool, IsServedBeside, HasConnections};
 ghost use Rattle.blob_pool.specs.Slots.{Slots, text_at, count_at};
 ghost use Rattle.blob_pool.specs.Moves.{Moves, no_holders};
 ghost use Rattle.instance_core.specs.Within.{most_stored_bytes};
@@ -31,6 +32,7 @@ use crate::release::release_all;
 use blob_pool::Pool;
 use conn_core::Connection;
 use instance_core::Instance;
+use instance_view::View;
 use server_events::{Event, InstanceConfig, What};
 use std::alloc::{AllocError, Global};
 use std::marker::Model;
@@ -88,22 +90,32 @@ impl ServedInstance {
         })
     }
 
+    /// Its texts, for reading.
+    pub fn view(&self) -> &View
+        ensures { result.now ≡ self.now.instance.view }
+    {
+        self.instance.view()
+    }
+
     /// Takes an event, with the pool that has the instance's texts: it is refused for the first
     /// reason that stands, and then nothing is changed; or it is carried out to its end, and all
     /// that can be put on open connections is put. Where memory is refused a part of it was done,
-    /// as `Short` says, and the event's connection is gone; the instance goes on from there.
-    pub fn step(&mut self, pool: &mut Pool, event: Event) -> Result<(), EventRefusal>
+    /// as `Short` says, and the event's connection is gone; the instance goes on from there. The
+    /// texts of `parent` are read too, and stay.
+    pub fn step(&mut self, parent: &View, pool: &mut Pool, event: Event) -> Result<(), EventRefusal>
         requires kept { IsServedInPool pool.old self.old }
+        requires beside { IsServedBeside pool.old parent.now self.old }
         ensures outcome { (l : LoneInstance) →
             IsServedInstance (served_state_in pool.old self.old) l
             → IsRefusalOutcome result (refusal_of (event_value event) l) }
         ensures stands { (l : LoneInstance) → IsServedInstance (served_state_in pool.old self.old) l
             → (result ≢ Err EventRefusal.NoMemory)
             → IsServedInstance (served_state_in pool.new self.new)
-            (lone_step (event_value event) l) }
+            (lone_step (visible_in pool.old parent.now) (event_value event) l) }
         ensures short { result ≡ Err EventRefusal.NoMemory → (l : LoneInstance)
             → IsServedInstance (served_state_in pool.old self.old) l
-            → IsServedShort (event_value event) l (served_state_in pool.new self.new) }
+            → IsServedShort (visible_in pool.old parent.now) (event_value event) l
+            (served_state_in pool.new self.new) }
         ensures here { result ≢ Err EventRefusal.NoSuchInstance }
         ensures memory_free { NeedsNoMemory (event_value event).what
             → result ≢ Err EventRefusal.NoMemory }
@@ -111,7 +123,7 @@ impl ServedInstance {
             → (self.new ≡ self.old) × (pool.new ≡ pool.old)) }
         ensures settled { OnOk result ((l : LoneInstance) →
             IsServedInstance (served_state_in pool.old self.old) l
-            → AreSettled (lone_step (event_value event) l)) }
+            → AreSettled (lone_step (visible_in pool.old parent.now) (event_value event) l)) }
         // No source is held of a range that is over.
         ensures released { OnOk result (spent_sources self.new.connections ≡ []) }
         ensures moves { Moves pool.old pool.new (holders_of self.old) (holders_of self.new) }
@@ -125,6 +137,7 @@ impl ServedInstance {
         let broken = receiver(&event.what);
         match act(
             alloc,
+            parent,
             pool,
             &mut self.instance,
             &mut self.connections,
@@ -257,6 +270,7 @@ fn break_off_if(
 /// Does what the event asks for.
 fn act(
     alloc: Global,
+    parent: &View,
     pool: &mut Pool,
     instance: &mut Instance,
     connections: &mut Vec<OpenConnection>,
@@ -266,10 +280,12 @@ fn act(
         (map connection_shown connections.old.items)
         ≡ None }
     requires kept { IsServedInPool pool.old (slots_of instance.old connections.old.items) }
-    ensures acted { OnOk result (ActsIn pool.old instance.old connections.old.items
+    requires beside { IsServedBeside pool.old parent.now
+        (slots_of instance.old connections.old.items) }
+    ensures acted { OnOk result (ActsIn parent.now pool.old instance.old connections.old.items
         pool.new instance.new connections.new.items (effect_of (what_value what))) }
     ensures memory_free { OnErr result (NeedsNoMemory (what_value what) → ⊥) }
-    ensures memory { OnErr result (CutsShort pool.old instance.old connections.old.items
+    ensures memory { OnErr result (CutsShort parent.now pool.old instance.old connections.old.items
         pool.new instance.new (events_brought (what_value what))) }
     ensures others { OnErr result (others_than (what_value what) connections.new.items
         ≡ others_than (what_value what) connections.old.items) }
@@ -282,7 +298,9 @@ fn act(
 {
     match what {
         What::Open(number) => open(alloc, connections, number),
-        What::Bytes(number, bytes) => receive(alloc, pool, instance, connections, number, bytes),
+        What::Bytes(number, bytes) => {
+            receive(alloc, parent, pool, instance, connections, number, bytes)
+        },
         What::Took(number, count) => {
             take(connections, number, count as usize);
             Ok(())

@@ -4,7 +4,7 @@ ghost use Rattle.std.specs.Prelude.{◌<◌, length};
 ghost use Rattle.blob_pool.specs.Slots.{text_at};
 ghost use Rattle.grpc_sending.specs.Parts.{IsPart};
 
-use blob_pool::{Kept, Pool, keep};
+use blob_pool::{Kept, Pool};
 use grpc_sending::Parts;
 
 /// The texts of a pool, by the numbers of their slots.
@@ -17,11 +17,6 @@ impl<'a> Parts for PoolParts<'a> {
     ghost text_of = { λ it n. text_at it.pool.now n };
 
     fn part(&self, source: usize, from: u64, most: u32) -> &[u8] {
-        // What stands in the pool is held, as the pool tells with what is stored.
-        self.pool.stored();
-        let hold = self.pool.back(Kept::of_number(source));
-        let part = self.pool.part(&hold, from, most);
-        let _ = keep(hold);
-        part
+        self.pool.part(Kept::of_number(source), from, most)
     }
 }

@@ -17,7 +17,8 @@ use Rattle.served_instance.specs.Lone.{LoneInstance, lone_at_moment, sent_bytes_
 use Rattle.served_instance.specs.Refusals.{refusal_of, lone_step, IsRefusalOutcome}
 use Rattle.served_instance.specs.Slots.{ServedSlots, served_state_in, HasConnections}
 use Rattle.served_instance.specs.StandsFor.{IsServedInstance}
-use Rattle.blob_pool.specs.Slots.{Slots}
+use Rattle.blob_pool.specs.Slots.{Slots, text_at}
+use Rattle.served_instance.specs.Ranges.{RangesEndWithin}
 use Rattle.served_instance.specs.Short.{IsCutEffect, Short}
 use Rattle.served_instance.specs.StandsFor.{ServedState}
 use Rattle.server_core.specs.declared.record.OpenRecord.{OpenRecord}
@@ -155,9 +156,9 @@ gone_on e vs ws records d new others own i r h = record {
 }
 
 -- an event that was not refused for want of memory, which its record notes
-pub noted_on : {A : Type 0} (outcome : Result A EventRefusal) (e : EventValue) (vs ws : List ServedState) (records : List RecordValue) (p : Slots) (served : ServedSlots) (d new : RecordValue) → Own e vs ws → Others e vs ws → ((l : LoneInstance) → StandsAt e.instance vs l → IsRefusalOutcome outcome (refusal_of e l)) → instance_at e.instance ws ≡ Some (served_state_in p served) → Notes e outcome served (get_or records e.instance d) new →
+pub noted_on : {A : Type 0} (outcome : Result A EventRefusal) (e : EventValue) (vs ws : List ServedState) (records : List RecordValue) (p : Slots) (served : ServedSlots) (d new : RecordValue) → Own e vs ws → Others e vs ws → ((l : LoneInstance) → StandsAt e.instance vs l → IsRefusalOutcome outcome (refusal_of e l)) → instance_at e.instance ws ≡ Some (served_state_in p served) → RangesEndWithin (text_at p) served.connections → Notes e outcome served (get_or records e.instance d) new →
     (i : ℕ) (r : Run) → HasRun i vs records r → HasGoneOn e r i ws (set records e.instance new)
-noted_on outcome e vs ws records p served d new own others gave here notes =
+noted_on outcome e vs ws records p served d new own others gave here fit notes =
     gone_on e vs ws records d new others (λ r s old.
     let t = own r.lone s in
     let is : t.0 ≡ served_state_in p served = same_Some t.0 (served_state_in p served) (sym t.1 ∙ here) in
@@ -166,7 +167,7 @@ noted_on outcome e vs ws records p served d new own others gave here notes =
       run = run_step r e;
       step = refl;
       stands = t;
-      noted = notes r old (gave r.lone s) (connections_of p served (lone_step e r.lone) (subst (λ (v : ServedState). IsServedInstance v (lone_step e r.lone)) is t.2));
+      noted = notes r old (gave r.lone s) (connections_of p served (lone_step [] e r.lone) fit (subst (λ (v : ServedState). IsServedInstance v (lone_step [] e r.lone)) is t.2));
     })
 
 -- the run after an event that was done in part
@@ -232,7 +233,7 @@ pub short_noted : (v : RecordValue) (r q : Run) (e : EventValue) (o : Option ℕ
     IsRecord (record { count = v.count + 1; refusals = v.refusals ++ (v.count + 1, NoMemory) ∷ []; sent = v.sent; live = open_records_left o v.live }) q
 short_noted v r q e o is st step =
     let ks = r.lone.connections in
-    let left : q.lone.connections ≡ connections_left o ks = left_by e.what (lone_at_moment e.moment r.lone) q.lone step.lone ∙ ap (λ (x : Option ℕ). connections_left x ks) (sym is) in
+    let left : q.lone.connections ≡ connections_left o ks = left_by e.what (lone_at_moment e.moment [] r.lone) q.lone step.lone ∙ ap (λ (x : Option ℕ). connections_left x ks) (sym is) in
     let a = are_left o v.live ks st.live st.taken st.apart in
     record {
       count = ap (λ n. n + 1) st.count ∙ sym step.count;

@@ -56,23 +56,23 @@ length_sent : (ks : List LoneConnection) → length (map sent_bytes_on ks) ≡ l
 length_sent [] = refl
 length_sent (k ∷ ks) = ap suc (length_sent ks)
 
-pub noted_apart : (v : RecordValue) (r : Run) (e : EventValue) → IsRecord v r → refusal_of e r.lone ≡ None → AreApart (lone_step e r.lone).connections
+pub noted_apart : (v : RecordValue) (r : Run) (e : EventValue) → IsRecord v r → refusal_of e r.lone ≡ None → AreApart (lone_step [] e r.lone).connections
 noted_apart v r e st none =
     let ks = r.lone.connections in
     let k1 = connections_after e.what ks in
-    let m : LoneInstance = lone_step e r.lone in
-    let step : m ≡ after_event e r.lone = ap (after_event_unless e r.lone) none in
-    let grown : AreGrown k1 m.connections = subst (λ (n : LoneInstance). AreGrown k1 n.connections) (sym step) (accepted_more e r.lone) in
+    let m : LoneInstance = lone_step [] e r.lone in
+    let step : m ≡ after_event [] e r.lone = ap (after_event_unless [] e r.lone) none in
+    let grown : AreGrown k1 m.connections = subst (λ (n : LoneInstance). AreGrown k1 n.connections) (sym step) (accepted_more [] e r.lone) in
     apart_grown k1 m.connections grown (apart_after e.what ks (may e r.lone none) st.apart)
 
-pub noted : (v : RecordValue) (r : Run) (e : EventValue) (ss : List (ℕ × List ℕ)) (os : List OpenRecord) → IsRecord v r → refusal_of e r.lone ≡ None → ss ≡ sent_bytes_with_all (lone_step e r.lone) (open_records_after e.what (length v.sent) v.live) (sent_bytes_after e.what v.sent) → os ≡ map (record_after_noting (lone_step e r.lone)) (open_records_after e.what (length v.sent) v.live) → IsRecord (record { count = v.count + 1; refusals = v.refusals; sent = ss; live = os }) (run_step r e)
+pub noted : (v : RecordValue) (r : Run) (e : EventValue) (ss : List (ℕ × List ℕ)) (os : List OpenRecord) → IsRecord v r → refusal_of e r.lone ≡ None → ss ≡ sent_bytes_with_all (lone_step [] e r.lone) (open_records_after e.what (length v.sent) v.live) (sent_bytes_after e.what v.sent) → os ≡ map (record_after_noting (lone_step [] e r.lone)) (open_records_after e.what (length v.sent) v.live) → IsRecord (record { count = v.count + 1; refusals = v.refusals; sent = ss; live = os }) (run_step r e)
 noted v r e ss os st none ss_is os_is =
     let ks = r.lone.connections in
-    let m : LoneInstance = lone_step e r.lone in
+    let m : LoneInstance = lone_step [] e r.lone in
     let s1 = sent_bytes_after e.what (map sent_bytes_on ks) in
     let k1 = connections_after e.what ks in
-    let step : m ≡ after_event e r.lone = ap (after_event_unless e r.lone) none in
-    let grown : AreGrown k1 m.connections = subst (λ (n : LoneInstance). AreGrown k1 n.connections) (sym step) (accepted_more e r.lone) in
+    let step : m ≡ after_event [] e r.lone = ap (after_event_unless [] e r.lone) none in
+    let grown : AreGrown k1 m.connections = subst (λ (n : LoneInstance). AreGrown k1 n.connections) (sym step) (accepted_more [] e r.lone) in
     let can : May e.what ks = may e r.lone none in
     let fronts : AreFronts s1 m.connections = fronts_grown s1 k1 m.connections (fronts_after e.what ks (all_within ks st.taken) can) grown in
     let apart : AreApart m.connections = noted_apart v r e st none in

@@ -1,6 +1,6 @@
 -- What one instance does in the pool, and what the others find there.
 use Rattle.std.proofs.Common.{◌≡◌, ◌≢◌, ℕ, zero, suc, ◌+◌, ◌*◌, ◌<◌, ◌≤◌, ◌^◌, List, [], ◌∷◌, length, map, refl, sym, ap, subst, ◌∙◌, arith, inl, inr}
-use Rattle.std.specs.Prelude.{◌⊎◌, ◌==◌, true, cond, Option, Some, None, Result, Ok, Err, IfErr}
+use Rattle.std.specs.Prelude.{◌⊎◌, ◌==◌, true, cond, Option, Some, None, Result, Ok, Err, IfErr, IfSome}
 use Rattle.std.specs.Option.{option_map}
 use Rattle.std.specs.List.{slice_get, AllByRecursion}
 use Rattle.std.proofs.Math.ListN.{set}
@@ -14,6 +14,8 @@ use Rattle.blob_pool.specs.Moves.{Moves}
 use Rattle.served_instance.specs.Sources.{count_of}
 use Rattle.served_instance.specs.StoredSending.{SourceTexts, AgreeOn, sources_of}
 use Rattle.instance_core.specs.Visible.{Blob}
+use Rattle.instance_core.specs.Naming.{Names}
+use Rattle.instance_view.specs.Shown.{ViewValue, ViewEntry, blobs_in, visible_in, holders, entry_holders}
 use Rattle.instance_core.proofs.Held.{shown_same, holders-few}
 use Rattle.instance_core.proofs.Steps.{length-visible_in}
 use Rattle.instance_core.specs.State.{most_blobs}
@@ -22,11 +24,11 @@ use Rattle.served_instance.specs.declared.refusal.EventRefusal.TheVariants.{NoMe
 use Rattle.served_instance.specs.Lone.{LoneInstance}
 use Rattle.served_instance.specs.Connections.{open_ones}
 use Rattle.served_instance.specs.StandsFor.{ServedConnection, ServedState, IsServedInstance, IsServedWithin}
-use Rattle.served_instance.specs.Ranges.{served_with, sources_at, range_holders}
+use Rattle.served_instance.specs.Ranges.{served_with, sources_at, range_holders, RangesEndWithin}
 use Rattle.served_instance.specs.declared.instance.TheConstants.{CONNECTION_LIMIT}
 use Rattle.served_instance.proofs.Agreeing.{count_append}
 use Rattle.served_instance.proofs.Ranges.{fit_agreed_each, plain_served, same_served}
-use Rattle.served_instance.specs.Slots.{ServedSlots, served_state_in, holders_of, IsServedInPool, HasConnections}
+use Rattle.served_instance.specs.Slots.{ServedSlots, served_state_in, holders_of, IsServedInPool, IsServedBeside, HasConnections}
 use Rattle.server_core.specs.Shared.{all_in, all_holders, IsServer, HasRanges}
 use Rattle.server_core.specs.StandsFor.{StandsAt, instance_at}
 use Rattle.server_core.proofs.Lists.{get-set_same, get-set_other}
@@ -258,10 +260,22 @@ refused_after (Err refusal) p q xs i a b at h = λ ne.
     ∙ ap (λ (y : ServedSlots). all_in p (set xs i y)) same.0
     ∙ ap (all_in p) (set-same xs i a at)
 
--- what an instance by itself is seen to have on its connections
-pub connections_of : (p : Slots) (v : ServedSlots) (l : LoneInstance) → IsServedInstance (served_state_in p v) l → HasConnections v l
-connections_of p v l st = record { pool = p; stand = plain_served (text_at p) v.connections (open_ones l.connections) st.connections }
+-- the ranges of the instance that was found
+pub ranges_got : {A : Type 0} (f : A → ServedSlots) (o : Option A) (p : Slots) (xs : List ServedSlots) (i : ℕ) → option_map f o ≡ slice_get xs i → AllByRecursion (HasRanges p) xs → IfSome o (λ r. RangesEndWithin (text_at p) (f r).connections)
+ranges_got f None p xs i at w = tt
+ranges_got f (Some r) p xs i at w = (ranges_at p xs i (f r) w (sym at)).fit
 
-pub connections_there : (p : Slots) (vs : List ServedState) (i : ℕ) (v : ServedSlots) (l : LoneInstance) → Some (served_state_in p v) ≡ instance_at i vs → StandsAt i vs l → HasConnections v l
-connections_there p vs i v l there s =
-    connections_of p v l (subst (λ (w : ServedState). IsServedInstance w l) (same_Some s.0 (served_state_in p v) (sym s.1 ∙ sym there)) s.2)
+-- what an instance by itself is seen to have on its connections
+pub connections_of : (p : Slots) (v : ServedSlots) (l : LoneInstance) → RangesEndWithin (text_at p) v.connections → IsServedInstance (served_state_in p v) l → HasConnections v l
+connections_of p v l fit st = record { pool = p; stand = plain_served (text_at p) v.connections (open_ones l.connections) fit st.connections }
+
+pub connections_there : (p : Slots) (vs : List ServedState) (i : ℕ) (v : ServedSlots) (l : LoneInstance) → Some (served_state_in p v) ≡ instance_at i vs → RangesEndWithin (text_at p) v.connections → StandsAt i vs l → HasConnections v l
+connections_there p vs i v l there fit s =
+    connections_of p v l fit (subst (λ (w : ServedState). IsServedInstance w l) (same_Some s.0 (served_state_in p v) (sym s.1 ∙ sym there)) s.2)
+
+-- an instance beside the texts of nobody
+pub beside_nobody : (p : Slots) (nobody : ViewValue) (v : ServedSlots) → nobody.entries ≡ [] → IsServedInPool p v → IsServedBeside p nobody v
+beside_nobody p nobody v none kept = record {
+  counted = λ k. let here : holders nobody k ≡ 0 = ap (λ (es : List ViewEntry). entry_holders es k) none in omega (arith, kept.counted k, here);
+  named = subst (λ (bs : List Blob). AllByRecursion (λ (b : Blob). Names b.0 b.1) bs) (sym (ap (blobs_in p) none)) tt;
+}

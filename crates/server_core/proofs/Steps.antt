@@ -11,7 +11,8 @@ use Rattle.served_instance.specs.Lone.{LoneInstance}
 use Rattle.served_instance.specs.Refusals.{refusal_of, lone_step, IsRefusalOutcome}
 use Rattle.served_instance.specs.StandsFor.{ServedState, IsServedInstance}
 use Rattle.served_instance.specs.Slots.{ServedSlots, served_state_in, HasConnections}
-use Rattle.blob_pool.specs.Slots.{Slots}
+use Rattle.blob_pool.specs.Slots.{Slots, text_at}
+use Rattle.served_instance.specs.Ranges.{RangesEndWithin}
 use Rattle.server_core.specs.Runs.{Run, run_step}
 use Rattle.server_core.specs.Records.{RecordValue, IsRecord}
 use Rattle.server_core.specs.LoneOutput.{stray_at}
@@ -21,7 +22,7 @@ use Rattle.server_core.proofs.Lists.{get-set_same, get-set_other, length-none}
 use Rattle.server_core.proofs.Others.{connections_of}
 
 abbrev pub Own : EventValue → List ServedState → List ServedState → Type 0
-Own e vs ws = (l : LoneInstance) → StandsAt e.instance vs l → StandsAt e.instance ws (lone_step e l)
+Own e vs ws = (l : LoneInstance) → StandsAt e.instance vs l → StandsAt e.instance ws (lone_step [] e l)
 
 abbrev pub Others : EventValue → List ServedState → List ServedState → Type 0
 Others e vs ws = (j : ℕ) → j ≢ e.instance → instance_at j ws ≡ instance_at j vs
@@ -48,11 +49,11 @@ stray_runs e vs ws records own others none i r h =
     ]
 
 abbrev pub Notes : {A : Type 0} → EventValue → Result A EventRefusal → ServedSlots → RecordValue → RecordValue → Type 0
-Notes e outcome served old new = (r : Run) → IsRecord old r → IsRefusalOutcome outcome (refusal_of e r.lone) → HasConnections served (lone_step e r.lone) → IsRecord new (run_step r e)
+Notes e outcome served old new = (r : Run) → IsRecord old r → IsRefusalOutcome outcome (refusal_of e r.lone) → HasConnections served (lone_step [] e r.lone) → IsRecord new (run_step r e)
 
 -- an event of an instance, that its record notes
-pub noted_runs : {A : Type 0} (outcome : Result A EventRefusal) (e : EventValue) (vs ws : List ServedState) (records : List RecordValue) (p : Slots) (served : ServedSlots) (d new : RecordValue) → Own e vs ws → Others e vs ws → ((l : LoneInstance) → StandsAt e.instance vs l → IsRefusalOutcome outcome (refusal_of e l)) → instance_at e.instance ws ≡ Some (served_state_in p served) → Notes e outcome served (get_or records e.instance d) new → (i : ℕ) (r : Run) → HasRun i vs records r → HasRun i ws (set records e.instance new) (if e.instance == i then run_step r e else r)
-noted_runs outcome e vs ws records p served d new own others gave here notes i r h =
+pub noted_runs : {A : Type 0} (outcome : Result A EventRefusal) (e : EventValue) (vs ws : List ServedState) (records : List RecordValue) (p : Slots) (served : ServedSlots) (d new : RecordValue) → Own e vs ws → Others e vs ws → ((l : LoneInstance) → StandsAt e.instance vs l → IsRefusalOutcome outcome (refusal_of e l)) → instance_at e.instance ws ≡ Some (served_state_in p served) → RangesEndWithin (text_at p) served.connections → Notes e outcome served (get_or records e.instance d) new → (i : ℕ) (r : Run) → HasRun i vs records r → HasRun i ws (set records e.instance new) (if e.instance == i then run_step r e else r)
+noted_runs outcome e vs ws records p served d new own others gave here fit notes i r h =
     elim (cases_eq i e.instance) [
       | inl same ↦
           let n : ℕ = e.instance in
@@ -61,7 +62,7 @@ noted_runs outcome e vs ws records p served d new own others gave here notes i r
           let t = own r.lone s in
           let is : t.0 ≡ served_state_in p served = same_Some t.0 (served_state_in p served) (sym t.1 ∙ here) in
           let old : k.0 ≡ get_or records n d = sym (get_or_from_slice_get records n k.0 d k.1) in
-          let new_record : IsRecord new (run_step r e) = notes r (subst (λ (v : RecordValue). IsRecord v r) old k.2) (gave r.lone s) (connections_of p served (lone_step e r.lone) (subst (λ (v : ServedState). IsServedInstance v (lone_step e r.lone)) is t.2)) in
+          let new_record : IsRecord new (run_step r e) = notes r (subst (λ (v : RecordValue). IsRecord v r) old k.2) (gave r.lone s) (connections_of p served (lone_step [] e r.lone) fit (subst (λ (v : ServedState). IsServedInstance v (lone_step [] e r.lone)) is t.2)) in
           let b : (e.instance == i) ≡ true = eq-eqb e.instance i (sym same) in
           let it : HasRun n ws (set records n new) (run_step r e) = record {
             stands = t;

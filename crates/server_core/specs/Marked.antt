@@ -24,7 +24,7 @@ event_of e = e.0
 -- there was no other reason to refuse the event; it was done in part, and it is recorded
 pub record IsShortStep (r : Run) (e : EventValue) (q : Run) : Type 0 where
   pub accepted : refusal_of e r.lone ≡ None
-  pub lone : Short e r.lone q.lone
+  pub lone : Short [] e r.lone q.lone
   pub count : q.count ≡ r.count + 1
   pub refusals : q.refusals ≡ r.refusals ++ (r.count + 1, NoMemory) ∷ []
 
@@ -61,7 +61,7 @@ pub record GivesRunOutput (config : ConfigValue) (events : List EventValue)
 -- the instance of the event stands for some state that the event leaves of l
 pub record StandsShortAt (e : EventValue) (l : LoneInstance) (vs : List ServedState) : Type 0 where
   pub left : LoneInstance
-  pub short : Short e l left
+  pub short : Short [] e l left
   pub stands : StandsAt e.instance vs left
 
 -- this event is not recorded as refused for want of memory

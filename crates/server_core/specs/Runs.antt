@@ -26,7 +26,7 @@ refusals_at place (Some refusal) = (place, refusal) ∷ []
 
 abbrev pub run_step : Run → EventValue → Run
 run_step r e = record {
-  lone = lone_step e r.lone;
+  lone = lone_step [] e r.lone;
   count = r.count + 1;
   refusals = r.refusals ++ refusals_at (r.count + 1) (refusal_of e r.lone);
 }

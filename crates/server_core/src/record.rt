@@ -1,6 +1,6 @@
 //! What is noted of the run of one instance.
 
-ghost use Rattle.std.specs.Prelude.{◌≡◌, ◌≢◌, ◌<◌, ◌+◌, ◌-◌, ◌^◌, ◌==◌, not, map, filter, length, drop, Result, Err, IfOk, OnOk, OnErr};
+ghost use Rattle.std.specs.Prelude.{◌≡◌, ◌≢◌, ◌<◌, ◌+◌, ◌-◌, ◌^◌, ◌==◌, [], not, map, filter, length, drop, Result, Err, IfOk, OnOk, OnErr};
 ghost use Rattle.server_events.specs.Configs.{ConfigValue};
 ghost use Rattle.server_events.specs.Events.{EventValue};
 ghost use Rattle.server_events.specs.Shown.{what_value};
@@ -111,7 +111,7 @@ impl InstanceRecord {
         ensures stands { OnOk result ((r : Run) (event : EventValue) → IsRecord self.old r
             → change ≡ connection_change event.what
             → IsRefusalOutcome outcome (refusal_of event r.lone)
-            → HasConnections instance.now (lone_step event r.lone)
+            → HasConnections instance.now (lone_step [] event r.lone)
             → IsRecord self.new (run_step r event)) }
         ensures count { self.new.count ≡ self.old.count + 1 }
         ensures err { OnErr result (self.new.refusals ≡ self.old.refusals) }

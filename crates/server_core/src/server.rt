@@ -1,6 +1,6 @@
 //! The server, event by event.
 
-ghost use Rattle.std.specs.Prelude.{◌≡◌, ◌≢◌, ◌<◌, ◌≤◌, ◌↔◌, ℕ, length, option_map, Some, None, IfSome, IfOk, IfErr, OnOk, Err};
+ghost use Rattle.std.specs.Prelude.{◌≡◌, ◌≢◌, ◌<◌, ◌≤◌, ◌↔◌, ℕ, [], length, option_map, Some, None, IfSome, IfOk, IfErr, OnOk, Err};
 ghost use Rattle.std.specs.List.{AllByRecursion};
 ghost use Rattle.server_events.specs.Configs.{ConfigValue};
 ghost use Rattle.server_events.specs.Shown.{event_value};
@@ -19,9 +19,11 @@ ghost use Rattle.server_core.specs.StandsFor.{StandsAt, instance_at};
 ghost use Rattle.server_core.specs.Marked.{StandsShortAt};
 ghost use Rattle.server_core.specs.Stored.{AreStored, texts_held, texts_of_all};
 ghost use Rattle.server_core.specs.Pooled.{IsPoolOf};
-ghost use Rattle.blob_pool.specs.Slots.{Slots};
+ghost use Rattle.blob_pool.specs.Slots.{Slots, text_at};
+ghost use Rattle.served_instance.specs.Ranges.{RangesEndWithin};
 
 use blob_pool::Pool;
+use instance_view::View;
 use served_instance::{EventRefusal, ServedInstance};
 use server_events::laws::the_fault_is_the_first;
 use server_events::{Configs, Event};
@@ -33,10 +35,13 @@ use std::marker::Model;
 #[derive(Drop)]
 pub struct Server {
     pool: Pool,
+    /// The texts of no instance: what an instance reads that builds on none.
+    nobody: View,
     instances: Vec<ServedInstance>,
 }
 
 impl Model for Server {
+    ghost use Rattle.std.specs.Prelude.{◌≡◌, []};
     ghost use Rattle.server_core.specs.Shared.{all_in, IsServer};
     ghost use Rattle.server_core.specs.StandsFor.{ServerState};
 
@@ -44,7 +49,7 @@ impl Model for Server {
 
     ghost view = { λ s. record { instances = all_in s.pool s.instances.items } };
 
-    ghost invariant = { λ s. IsServer s.pool s.instances.items };
+    ghost invariant = { λ s. IsServer s.pool s.instances.items × (s.nobody.entries ≡ []) };
 }
 
 impl Server {
@@ -59,12 +64,17 @@ impl Server {
         let configs = configs.instances();
         the_fault_is_the_first(configs);
         let pool = Pool::new(alloc);
+        let nobody = View::new(alloc, 1)?;
         let mut instances = Vec::new(alloc);
         for config in configs {
             let served = ServedInstance::new(alloc, config)?;
             instances.push(served)?;
         }
-        Ok(Server { pool, instances })
+        Ok(Server {
+            pool,
+            nobody,
+            instances,
+        })
     }
 
     /// Takes an event. It is refused for the first reason that stands, and then nothing is changed;
@@ -74,14 +84,14 @@ impl Server {
         // The event's instance does what it would do alone, which is nothing where it refuses.
         ensures own { result ≢ Err EventRefusal.NoMemory → (l : LoneInstance)
             → StandsAt event.instance self.old.instances l
-            → StandsAt event.instance self.new.instances (lone_step (event_value event) l) }
+            → StandsAt event.instance self.new.instances (lone_step [] (event_value event) l) }
         // Where memory is refused it did a part of that.
         ensures short { result ≡ Err EventRefusal.NoMemory → (l : LoneInstance)
             → StandsAt event.instance self.old.instances l
             → StandsShortAt (event_value event) l self.new.instances }
         ensures settled { OnOk result ((l : LoneInstance) →
             StandsAt event.instance self.old.instances l
-            → AreSettled (lone_step (event_value event) l)) }
+            → AreSettled (lone_step [] (event_value event) l)) }
         // No other instance changes, whatever came of the event.
         ensures others { (j : ℕ) → j ≢ event.instance
             → instance_at j self.new.instances ≡ instance_at j self.old.instances }
@@ -99,7 +109,7 @@ impl Server {
             → result ≢ Err EventRefusal.NoMemory }
         ensures count { length self.new.instances ≡ length self.old.instances }
     {
-        step_one(&mut self.pool, &mut self.instances, event)
+        step_one(&mut self.pool, &self.nobody, &mut self.instances, event)
     }
 
     /// The bytes that were put on an open connection and not taken.
@@ -153,7 +163,8 @@ impl Server {
     /// pool has.
     pub fn instance(&self, number: u32) -> Option<&ServedInstance>
         ensures { (p : Slots) × (option_map (λ served. served_state_in p served.now) result
-            ≡ instance_at number self.now.instances) }
+            ≡ instance_at number self.now.instances)
+            × IfSome result (λ served. RangesEndWithin (text_at p) served.now.connections) }
     {
         self.instances.get(number as usize)
     }
@@ -181,22 +192,24 @@ fn pool_of<'a>(pool: &'a Pool, instances: &[ServedInstance]) -> &'a Pool
     pool
 }
 
-/// Gives the event to the instance that it names.
+/// Gives the event to the instance that it names, which builds on no other.
 fn step_one(
     pool: &mut Pool,
+    nobody: &View,
     instances: &mut [ServedInstance],
     event: Event,
 ) -> Result<(), EventRefusal>
     requires server { IsServer pool.old instances.old }
+    requires nobody { nobody.now.entries ≡ [] }
     ensures own { result ≢ Err EventRefusal.NoMemory → (l : LoneInstance)
         → StandsAt event.instance (all_in pool.old instances.old) l
         → StandsAt event.instance (all_in pool.new instances.new)
-        (lone_step (event_value event) l) }
+        (lone_step [] (event_value event) l) }
     ensures short { result ≡ Err EventRefusal.NoMemory → (l : LoneInstance)
         → StandsAt event.instance (all_in pool.old instances.old) l
         → StandsShortAt (event_value event) l (all_in pool.new instances.new) }
     ensures settled { OnOk result ((l : LoneInstance) → StandsAt event.instance
-        (all_in pool.old instances.old) l → AreSettled (lone_step (event_value event) l)) }
+        (all_in pool.old instances.old) l → AreSettled (lone_step [] (event_value event) l)) }
     ensures others { (j : ℕ) → j ≢ event.instance
         → instance_at j (all_in pool.new instances.new)
         ≡ instance_at j (all_in pool.old instances.old) }
@@ -215,5 +228,5 @@ fn step_one(
     if number >= instances.len() {
         return Err(EventRefusal::NoSuchInstance);
     }
-    instances[number].step(pool, event)
+    instances[number].step(nobody, pool, event)
 }

@@ -7,7 +7,7 @@ use crate::shapes::{Ending, ending_of};
 use crate::stored::store;
 use blob_pool::Pool;
 use digest::Digest;
-use instance_view::View;
+use instance_view::{Sight, View};
 use message_fields::Message;
 use reapi_messages as messages;
 use std::alloc::{AllocError, Global};
@@ -122,7 +122,8 @@ fn walked(alloc: Global, stored: &Stored) -> Result<Plan, TreeFault> {
     let mut pool = Pool::new(alloc);
     let mut view = View::new(alloc, 100)?;
     let root = store_mixed(alloc, &mut view, &mut pool, stored)?;
-    walk(alloc, &view, &pool, &root)
+    let nobody = View::new(alloc, 1)?;
+    walk(alloc, &Sight::new(&view, &nobody), &pool, &root)
 }
 
 /// How the walk ends.

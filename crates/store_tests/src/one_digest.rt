@@ -5,7 +5,7 @@ ghost use Rattle.blob_pool.specs.Slots.{count_at};
 ghost use Rattle.blob_pool.specs.Moves.{Moves, HasRoom, no_holders, one_at};
 
 use crate::texts::is_read;
-use blob_pool::{Draft, Kept, Pool, keep};
+use blob_pool::{Draft, Kept, Pool, keep, release_kept};
 use digest::Digest;
 use std::alloc::{AllocError, Global};
 
@@ -39,9 +39,8 @@ fn is_given_back(
     requires { 0 < count_at pool.old kept }
     ensures { Moves pool.old pool.new (one_at kept) no_holders }
 {
-    let hold = pool.back(kept);
-    let is_read = is_read(alloc, pool, &hold, text);
-    pool.release(hold);
+    let is_read = is_read(alloc, pool, kept, text);
+    release_kept(pool, kept);
     is_read
 }
 

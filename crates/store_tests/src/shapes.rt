@@ -5,7 +5,7 @@ ghost use Rattle.quota_evict.specs.InPool.{IsViewInPool};
 use crate::stored::store;
 use blob_pool::Pool;
 use digest::Digest;
-use instance_view::View;
+use instance_view::{Sight, View};
 use message_fields::Message;
 use reapi_messages as messages;
 use std::alloc::{AllocError, Global};
@@ -140,7 +140,9 @@ fn walked(alloc: Global, shape: &Shape) -> Result<Ending, AllocError> {
     let mut pool = Pool::new(alloc);
     let mut view = View::new(alloc, 100)?;
     let root = store_tree(alloc, &mut view, &mut pool, shape)?;
-    Ok(ending_of(&walk(alloc, &view, &pool, &root)))
+    let nobody = View::new(alloc, 1)?;
+    let sight = Sight::new(&view, &nobody);
+    Ok(ending_of(&walk(alloc, &sight, &pool, &root)))
 }
 
 /// The first of the shapes whose walk ends otherwise than it says.

@@ -1,9 +1,8 @@
 //! Texts in pieces and in pages.
 
 ghost use Rattle.std.specs.Prelude.{◌≡◌, ◌<◌, ◌+◌, ◌≤◌, ◌^◌, length, true};
-ghost use Rattle.blob_pool.specs.Slots.{count_at};
 
-use blob_pool::{Draft, Hold, Pool};
+use blob_pool::{Draft, Kept, Pool, keep, release_kept};
 use digest::Digest;
 use std::alloc::{AllocError, Global};
 
@@ -23,13 +22,11 @@ fn push_in_pieces(draft: &mut Draft, text: &[u8]) -> Result<(), AllocError>
 }
 
 /// Adds the parts of a text that follow one another, each of `most` bytes or less.
-fn add_parts(pool: &Pool, hold: &Hold, most: u32, into: &mut Vec<u8>) -> Result<(), AllocError>
-    requires { 0 < count_at pool.now hold.now }
-{
-    let end = pool.length(hold);
+fn add_parts(pool: &Pool, kept: Kept, most: u32, into: &mut Vec<u8>) -> Result<(), AllocError> {
+    let end = pool.length(kept);
     let mut from = 0;
     'parts: while from < end {
-        let part = pool.part(hold, from, most);
+        let part = pool.part(kept, from, most);
         let count = part.len() as u64;
         if count == 0 || count > MOST_BYTES {
             return Ok(());
@@ -41,17 +38,15 @@ fn add_parts(pool: &Pool, hold: &Hold, most: u32, into: &mut Vec<u8>) -> Result<
 }
 
 /// Whether the text is read whole, by parts and at once.
-pub fn is_read(alloc: Global, pool: &Pool, hold: &Hold, text: &[u8]) -> Result<bool, AllocError>
-    requires { 0 < count_at pool.now hold.now }
-{
+pub fn is_read(alloc: Global, pool: &Pool, kept: Kept, text: &[u8]) -> Result<bool, AllocError> {
     let mut copy = Vec::new(alloc);
-    pool.copy_into(hold, &mut copy)?;
+    pool.copy_into(kept, &mut copy)?;
     let mut parts = Vec::new(alloc);
-    add_parts(pool, hold, 7_000, &mut parts)?;
+    add_parts(pool, kept, 7_000, &mut parts)?;
     Ok(
         copy.as_slice() == text
             && parts.as_slice() == text
-            && pool.length(hold) == text.len() as u64,
+            && pool.length(kept) == text.len() as u64,
     )
 }
 
@@ -63,8 +58,9 @@ pub fn comes_back(alloc: Global, text: &[u8]) -> Result<bool, AllocError> {
     let is_named = draft.names(&Digest::of(text));
     match pool.seal(draft) {
         Ok(hold) => {
-            let is_read = is_read(alloc, &pool, &hold, text);
-            pool.release(hold);
+            let kept = keep(hold);
+            let is_read = is_read(alloc, &pool, kept, text);
+            release_kept(&mut pool, kept);
             Ok(is_named && is_read? && pool.stored().0 == 0)
         }
         Err(_draft) => Err(AllocError),

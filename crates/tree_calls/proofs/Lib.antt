@@ -3,4 +3,5 @@ mod Using
 mod Whole
 mod Pages
 pub mod Named
+mod Given
 pub mod Short

@@ -1,5 +1,5 @@
--- GetTree (remote_execution.proto, ContentAddressableStorage): a function of the instance's own
--- texts and the message.
+-- GetTree (remote_execution.proto, ContentAddressableStorage): a function of the texts that the
+-- instance sees and the message.
 use Rattle.std.specs.Prelude.{ℕ, List, Result, Ok, Err}
 use Rattle.reapi_messages.specs.Results.{◌>>=◌}
 use Rattle.rpc.specs.declared.refusal.Refusal.{Refusal}
@@ -46,7 +46,7 @@ pages_asked visible asked =
 abbrev pub directories_asked : List Blob → TreeAskedValue → Result (List Digest) Refusal
 directories_asked visible asked = of_tree (tree_list (texts_seen visible) asked.root)
 
--- the messages of the reply, for an instance of this name with these texts
+-- the messages of the reply, for an instance of this name that sees these texts
 abbrev pub get_tree_replies : List ℕ → List Blob → List ℕ → Result (List (List ℕ)) Refusal
 get_tree_replies own visible message = tree_asked own message >>= pages_asked visible
 

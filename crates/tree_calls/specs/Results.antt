@@ -1,5 +1,5 @@
 -- GetActionResult and UpdateActionResult (remote_execution.proto, ActionCache): functions of the
--- instance's own texts and results, and of the message.
+-- texts that the instance sees, of its own results, and of the message.
 use Rattle.std.specs.Prelude.{ℕ, List, Option, Some, None, Result, Ok, Err}
 use Rattle.reapi_messages.specs.Results.{◌>>=◌}
 use Rattle.rpc.specs.declared.refusal.Refusal.{Refusal}

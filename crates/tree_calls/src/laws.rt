@@ -51,6 +51,13 @@ pub fn results_given_are_complete()
         IsCompleteReply own visible results request reply }
 {}
 
+/// Where the result that is stored under the action is complete, it answers `GetActionResult`.
+pub fn complete_results_are_given()
+    ensures { (own request reply : List ℕ) (visible results : List Blob) →
+        IsCompleteReply own visible results request reply →
+        get_action_result_reply own visible results request ≡ Ok reply }
+{}
+
 /// An instance has at most 10,000 results of at most 67,108,864 bytes together, whatever calls it
 /// answers.
 pub fn results_stay_within()

@@ -1,8 +1,9 @@
 //! GetActionResult and UpdateActionResult.
 
-ghost use Rattle.std.specs.Prelude.{◌≡◌, ◌≤◌, ℕ, OnErr};
-ghost use Rattle.blob_pool.specs.Slots.{Slots, count_at};
+ghost use Rattle.std.specs.Prelude.{◌≡◌, ℕ, OnErr};
+ghost use Rattle.blob_pool.specs.Slots.{Slots};
 ghost use Rattle.instance_view.specs.Shown.{visible_in, holders};
+ghost use Rattle.instance_view.specs.Sight.{seen_in, sight_of};
 ghost use Rattle.cas_service.specs.InPool.{IsViewInPool};
 ghost use Rattle.cas_service.specs.Answers.{Answers, IfAnswered};
 ghost use Rattle.cas_service.specs.Changes.{visible_after_changes};
@@ -18,23 +19,25 @@ use std::alloc::Global;
 
 /// Answers `GetActionResult`: the bytes of the action's result as they were stored, where it is
 /// complete (`action_cache::get_result`), else `NOT_FOUND`. A result that is answered becomes the
-/// most recently used, and its blobs are used in order. A refused call changes nothing.
+/// most recently used, and then its blobs are used in order, where they are the instance's own. A
+/// refused call changes nothing.
 pub fn get_action_result(
     alloc: Global,
     own: &str,
     results: &mut Results,
     view: &mut View,
+    parent: &View,
     pool: &Pool,
     message: &[u8],
 ) -> Result<Vec<u8>, CallError>
-    requires held { (k : ℕ) → holders view.old k ≤ count_at pool.now k }
-    ensures reply { Answers (λ reply. reply.items) result
-        (get_action_result_reply own.now (visible_in pool.now view.old) results.old message.now) }
-    ensures results { IfAnswered result
-        (results.new ≡ after_get own.now (visible_in pool.now view.old) results.old message.now) }
+    ensures reply { let seen = seen_in pool.now (sight_of view.old parent.now) in
+        Answers (λ reply. reply.items) result
+        (get_action_result_reply own.now seen results.old message.now) }
+    ensures results { let seen = seen_in pool.now (sight_of view.old parent.now) in
+        IfAnswered result (results.new ≡ after_get own.now seen results.old message.now) }
     ensures used { (p : Slots) (quota : ℕ) →
-        let visible = visible_in pool.now view.old in
-        let changes = get_action_result_changes own.now visible results.old message.now in
+        let seen = seen_in pool.now (sight_of view.old parent.now) in
+        let changes = get_action_result_changes own.now seen results.old message.now in
         IfAnswered result
         (visible_in p view.new
         ≡ visible_after_changes view.old.limit quota changes (visible_in p view.old)) }
@@ -45,7 +48,7 @@ pub fn get_action_result(
     ensures limit { view.new.limit ≡ view.old.limit }
 {
     let action = action_asked(alloc, own, message)?;
-    match get_result(alloc, results, view, pool, &action)? {
+    match get_result(alloc, results, view, parent, pool, &action)? {
         Some(text) => Ok(text),
         None => Err(CallError::Refused(Refusal::NoResult)),
     }

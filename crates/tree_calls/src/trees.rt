@@ -1,8 +1,9 @@
 //! GetTree.
 
-ghost use Rattle.std.specs.Prelude.{◌≡◌, ◌≤◌, ℕ, map, OnErr};
-ghost use Rattle.blob_pool.specs.Slots.{Slots, count_at};
+ghost use Rattle.std.specs.Prelude.{◌≡◌, ℕ, map, OnErr};
+ghost use Rattle.blob_pool.specs.Slots.{Slots};
 ghost use Rattle.instance_view.specs.Shown.{visible_in, holders};
+ghost use Rattle.instance_view.specs.Sight.{seen_in, sight_of};
 ghost use Rattle.cas_service.specs.InPool.{IsViewInPool};
 ghost use Rattle.cas_service.specs.Answers.{Answers, IfAnswered};
 ghost use Rattle.cas_service.specs.Changes.{visible_after_changes};
@@ -39,8 +40,8 @@ fn tree_error(error: GetTreeError) -> CallError
 }
 
 /// Answers `GetTree`: the pages of the root's tree, as messages in order, from the place that the
-/// token says on. Each directory of the list is then used, in order. A refused call changes
-/// nothing.
+/// token says on. Each directory of the list is then used, in order, where it is the instance's
+/// own. A refused call changes nothing.
 ///
 /// After the message, the instance name, the digest function and the root's digest these are
 /// tested in this order: that the root is there (`NOT_FOUND`), that it is a directory that is taken
@@ -50,14 +51,16 @@ pub fn get_tree(
     alloc: Global,
     own: &str,
     view: &mut View,
+    parent: &View,
     pool: &Pool,
     message: &[u8],
 ) -> Result<Vec<Vec<u8>>, CallError>
-    requires held { (k : ℕ) → holders view.old k ≤ count_at pool.now k }
-    ensures replies { Answers (λ pages. map (λ page. page.items) pages.items) result
-        (get_tree_replies own.now (visible_in pool.now view.old) message.now) }
+    ensures replies { let seen = seen_in pool.now (sight_of view.old parent.now) in
+        Answers (λ pages. map (λ page. page.items) pages.items) result
+        (get_tree_replies own.now seen message.now) }
     ensures used { (p : Slots) (quota : ℕ) →
-        let changes = get_tree_changes own.now (visible_in pool.now view.old) message.now in
+        let seen = seen_in pool.now (sight_of view.old parent.now) in
+        let changes = get_tree_changes own.now seen message.now in
         IfAnswered result
         (visible_in p view.new
         ≡ visible_after_changes view.old.limit quota changes (visible_in p view.old)) }
@@ -71,6 +74,7 @@ pub fn get_tree(
     match input_tree::get_tree(
         alloc,
         view,
+        parent,
         pool,
         &asked.root,
         asked.page_size,

@@ -1,5 +1,5 @@
--- The paths of a plan's nodes, which follow from their names and levels: a path is the list of names
--- from the root on.
+-- The paths of a plan's nodes, which follow from their names and levels: a path is the list of
+-- names from the root on.
 use Rattle.std.specs.Prelude.{◌≡◌, ℕ, ◌-◌, List, [], ◌∷◌, ◌++◌, take, Ok}
 use Rattle.input_tree.specs.Listing.{Lookup}
 use Rattle.tree_plan.specs.Nodes.{PlanNodeValue}

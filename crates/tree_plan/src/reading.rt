@@ -1,10 +1,10 @@
-//! The nodes of a directory whose text an instance has.
+//! The nodes of a directory whose text an instance sees.
 
-ghost use Rattle.std.specs.Prelude.{◌≡◌, ◌++◌, ◌<◌, ◌≤◌, ℕ, map, option_map, IfOk, OnOk};
+ghost use Rattle.std.specs.Prelude.{◌≡◌, ◌++◌, map, option_map, IfOk, OnOk};
 ghost use Rattle.std.specs.List.{filter_map};
 ghost use Rattle.tree_messages.specs.Directories.{directory_shown};
-ghost use Rattle.blob_pool.specs.Slots.{count_at, text_at};
-ghost use Rattle.instance_view.specs.Shown.{holders, holders_seen, text_seen};
+ghost use Rattle.blob_pool.specs.Slots.{text_at};
+ghost use Rattle.instance_view.specs.Shown.{text_seen};
 ghost use Rattle.input_tree.specs.Texts.{texts_of};
 ghost use Rattle.tree_plan.specs.Nodes.{nodes_in, nodes_of};
 ghost use Rattle.tree_plan.specs.Shown.{nodes_shown};
@@ -13,10 +13,10 @@ ghost use Rattle.tree_plan.specs.Answers.{Answers};
 
 use crate::fault::TreeFault;
 use crate::node::{NodeMessage, PlanNode};
-use blob_pool::{Hold, Pool, keep};
+use blob_pool::{Kept, Pool};
 use digest::Digest;
 use input_tree::{MOST_DIRECTORY_BYTES, check};
-use instance_view::{Seen, View};
+use instance_view::{Seen, Sight};
 use message_fields::{Message, MessageError};
 use std::alloc::{AllocError, Global};
 use tree_messages::Directory;
@@ -72,56 +72,48 @@ fn nodes_in(alloc: Global, level: usize, text: &[u8]) -> Result<Option<Vec<PlanN
     }
 }
 
-/// The same for a text that a pool holds, whose length is looked at before its bytes.
-fn nodes_held(
+/// The same for a text of a pool, whose length is looked at before its bytes.
+fn nodes_kept(
     alloc: Global,
     level: usize,
     pool: &Pool,
-    hold: &Hold,
+    kept: Kept,
 ) -> Result<Option<Vec<PlanNode>>, AllocError>
-    requires { 0 < count_at pool.now hold.now }
     ensures { IfOk result (λ found. option_map (λ nodes. nodes_shown nodes.items) found
-        ≡ nodes_in level (text_at pool.now hold.now)) }
+        ≡ nodes_in level (text_at pool.now kept)) }
 {
-    if pool.length(hold) > MOST_DIRECTORY_BYTES as u64 {
+    if pool.length(kept) > MOST_DIRECTORY_BYTES as u64 {
         return Ok(None);
     }
     let mut text = Vec::new(alloc);
-    pool.copy_into(hold, &mut text)?;
+    pool.copy_into(kept, &mut text)?;
     nodes_in(alloc, level, &text)
 }
 
-/// The same for a text that an instance has.
+/// The same for a text that an instance sees.
 fn nodes_seen(
     alloc: Global,
     level: usize,
     pool: &Pool,
     seen: Seen,
 ) -> Result<Option<Vec<PlanNode>>, AllocError>
-    requires { (k : ℕ) → holders_seen seen k ≤ count_at pool.now k }
     ensures { IfOk result (λ found. option_map (λ nodes. nodes_shown nodes.items) found
         ≡ nodes_in level (text_seen pool.now seen)) }
 {
     match seen {
         Seen::Empty => nodes_in(alloc, level, &[]),
-        Seen::Text(kept) => {
-            let hold = pool.back(kept);
-            let nodes = nodes_held(alloc, level, pool, &hold);
-            let _ = keep(hold);
-            nodes
-        }
+        Seen::Text(kept) => nodes_kept(alloc, level, pool, kept),
     }
 }
 
-/// The nodes of the directory of a digest, none where the instance has no text of it.
+/// The nodes of the directory of a digest, none where the instance sees no text of it.
 pub fn directory_nodes(
     alloc: Global,
-    view: &View,
+    view: &Sight<'_>,
     pool: &Pool,
     level: usize,
     digest: &Digest,
 ) -> Result<Vec<PlanNode>, TreeFault>
-    requires { (k : ℕ) → holders view.now k ≤ count_at pool.now k }
     ensures { Answers (λ nodes. nodes_shown nodes.items) result
         (directory_nodes (texts_of pool.now view.now) level digest.now) }
 {

@@ -1,8 +1,6 @@
 //! The walk.
 
-ghost use Rattle.std.specs.Prelude.{◌≡◌, ◌++◌, ◌≤◌, ◌<◌, ℕ, [], map, reverse, IfOk, OnOk};
-ghost use Rattle.blob_pool.specs.Slots.{count_at};
-ghost use Rattle.instance_view.specs.Shown.{holders};
+ghost use Rattle.std.specs.Prelude.{◌≡◌, ◌++◌, [], reverse, IfOk, OnOk};
 ghost use Rattle.input_tree.specs.Texts.{texts_of};
 ghost use Rattle.tree_plan.specs.Shown.{node_shown, nodes_shown};
 ghost use Rattle.tree_plan.specs.Walk.{digests_met, missing_among, nodes_inside, nodes_met, walk, walk_along, digest_of_node};
@@ -13,7 +11,7 @@ use crate::node::{NodeKind, PlanNode};
 use crate::reading::directory_nodes;
 use blob_pool::Pool;
 use digest::Digest;
-use instance_view::View;
+use instance_view::Sight;
 use std::alloc::{AllocError, Global};
 
 /// The most nodes that a tree has below its root.
@@ -33,11 +31,10 @@ pub struct Plan {
 /// The nodes in what a node is, none where it is no directory.
 fn nodes_inside(
     alloc: Global,
-    view: &View,
+    view: &Sight<'_>,
     pool: &Pool,
     node: &PlanNode,
 ) -> Result<Vec<PlanNode>, TreeFault>
-    requires { (k : ℕ) → holders view.now k ≤ count_at pool.now k }
     ensures { Answers (λ nodes. nodes_shown nodes.items) result
         (nodes_inside (texts_of pool.now view.now) (node_shown node.now)) }
 {
@@ -65,11 +62,10 @@ fn stack(todo: &mut Vec<PlanNode>, nodes: Vec<PlanNode>) -> Result<(), AllocErro
 /// Walks on from nodes, the first of which is on top of a stack.
 fn walk_along(
     alloc: Global,
-    view: &View,
+    view: &Sight<'_>,
     pool: &Pool,
     todo: Vec<PlanNode>,
 ) -> Result<Vec<PlanNode>, TreeFault>
-    requires { (k : ℕ) → holders view.now k ≤ count_at pool.now k }
     ensures { Answers (λ nodes. nodes_shown nodes.items) result
         (walk_along MOST_NODES (texts_of pool.now view.now) (reverse (nodes_shown todo.items)) []) }
 {
@@ -89,11 +85,10 @@ fn walk_along(
 /// The nodes of a root's tree, in the order met.
 fn nodes_met(
     alloc: Global,
-    view: &View,
+    view: &Sight<'_>,
     pool: &Pool,
     root: &Digest,
 ) -> Result<Vec<PlanNode>, TreeFault>
-    requires { (k : ℕ) → holders view.now k ≤ count_at pool.now k }
     ensures { Answers (λ nodes. nodes_shown nodes.items) result
         (nodes_met (texts_of pool.now view.now) root.now) }
 {
@@ -113,11 +108,11 @@ fn digest_of(node: &PlanNode) -> Option<Digest>
     }
 }
 
-/// The digests of the root, of files and of directories of which the instance has no text, in
+/// The digests of the root, of files and of directories of which the instance sees no text, in
 /// order, each as often as it stands.
 fn missing_among(
     alloc: Global,
-    view: &View,
+    view: &Sight<'_>,
     pool: &Pool,
     root: &Digest,
     nodes: &[PlanNode],
@@ -148,8 +143,7 @@ fn missing_among(
 /// first fault that is met is answered. What is missing is answered where the whole walk has no
 /// other fault. The work is bounded by the nodes that are counted: a directory that stands in many
 /// places is read once for each.
-pub fn walk(alloc: Global, view: &View, pool: &Pool, root: &Digest) -> Result<Plan, TreeFault>
-    requires { (k : ℕ) → holders view.now k ≤ count_at pool.now k }
+pub fn walk(alloc: Global, view: &Sight<'_>, pool: &Pool, root: &Digest) -> Result<Plan, TreeFault>
     ensures { Answers (λ plan. nodes_shown plan.nodes.items) result
         (walk (texts_of pool.now view.now) root.now) }
 {

@@ -1,6 +1,6 @@
 //! An instance with its texts, as a script fills and asks it.
 
-ghost use Rattle.std.specs.Prelude.{◌≡◌, ◌≤◌, ◌^◌, ℕ, List, OnOk, OnErr, IfOk};
+ghost use Rattle.std.specs.Prelude.{◌≡◌, ◌≤◌, ◌^◌, ℕ, List, [], OnOk, OnErr, IfOk};
 ghost use Rattle.script.specs.UnaryShown.{instance_value};
 ghost use Rattle.cas_service.specs.Answers.{Answers, IfAnswered};
 ghost use Rattle.cas_service.specs.Changes.{visible_after_changes};
@@ -20,17 +20,25 @@ use script::unary::{Instance, Method};
 use std::alloc::{AllocError, Global};
 use std::marker::Model;
 
+/// The texts of an instance that builds on no other.
+#[derive(Drop)]
+struct Texts {
+    pool: Pool,
+    view: View,
+    /// The texts of no instance.
+    nobody: View,
+}
+
 /// An instance with its texts, in a pool of its own.
 #[derive(Drop)]
 pub struct Store {
     name: String,
     quota: u64,
-    pool: Pool,
-    view: View,
+    texts: Texts,
 }
 
 impl Model for Store {
-    ghost use Rattle.std.specs.Prelude.{◌≡◌, ◌≤◌, ◌^◌, string_bytes};
+    ghost use Rattle.std.specs.Prelude.{◌≡◌, ◌≤◌, ◌^◌, [], string_bytes};
     ghost use Rattle.quota_evict.specs.Within.{most_blobs, most_stored_bytes};
     ghost use Rattle.instance_view.specs.Shown.{visible_in};
     ghost use Rattle.quota_evict.specs.InPool.{IsViewInPool};
@@ -38,11 +46,15 @@ impl Model for Store {
 
     ghost Value = { StoreValue };
 
-    ghost view = { λ s. record
-        { name = string_bytes s.name; quota = s.quota; visible = visible_in s.pool s.view } };
+    ghost view = { λ s. record {
+      name = string_bytes s.name;
+      quota = s.quota;
+      visible = visible_in s.texts.pool s.texts.view;
+    } };
 
-    ghost invariant = { λ s. (s.quota ≤ most_stored_bytes) × IsViewInPool s.quota s.pool s.view
-        × (s.view.limit ≡ most_blobs) };
+    ghost invariant = { λ s. (s.quota ≤ most_stored_bytes)
+        × IsViewInPool s.quota s.texts.pool s.texts.view
+        × (s.texts.view.limit ≡ most_blobs) × (s.texts.nobody.entries ≡ []) };
 }
 
 impl Store {
@@ -53,11 +65,15 @@ impl Store {
     {
         let name = String::from_str(alloc, &instance.name)?;
         let view = View::new(alloc, MOST_BLOBS)?;
+        let nobody = View::new(alloc, 1)?;
         Ok(Store {
             name,
             quota: instance.quota,
-            pool: Pool::new(alloc),
-            view,
+            texts: Texts {
+                pool: Pool::new(alloc),
+                view,
+                nobody,
+            },
         })
     }
 
@@ -69,7 +85,12 @@ impl Store {
         ensures stored { OnOk result (self.new ≡ store_after_put bytes.now self.old) }
         ensures err { OnErr result (self.new ≡ self.old) }
     {
-        put(&mut self.view, &mut self.pool, self.quota, bytes)
+        put(
+            &mut self.texts.view,
+            &mut self.texts.pool,
+            self.quota,
+            bytes,
+        )
     }
 
     /// Answers a call.
@@ -88,8 +109,7 @@ impl Store {
             alloc,
             &self.name,
             self.quota,
-            &mut self.view,
-            &mut self.pool,
+            &mut self.texts,
             method,
             message,
         )
@@ -121,28 +141,30 @@ fn call(
     alloc: Global,
     own: &str,
     quota: u64,
-    view: &mut View,
-    pool: &mut Pool,
+    texts: &mut Texts,
     method: Method,
     message: &[u8],
 ) -> Result<Vec<u8>, CallError>
     requires quota { quota ≤ most_stored_bytes }
-    requires kept { IsViewInPool quota pool.old view.old }
-    ensures reply { Answers (λ reply. reply.items) result
-        (reply_from_store method (record
-        { name = own.now; quota = quota; visible = visible_in pool.old view.old }) message.now) }
-    ensures called { IfAnswered result
-        (visible_in pool.new view.new
-        ≡ visible_after_changes view.old.limit quota
-        (changes_by method (record
-        { name = own.now; quota = quota; visible = visible_in pool.old view.old }) message.now)
-        (visible_in pool.old view.old)) }
-    ensures kept { IsViewInPool quota pool.new view.new }
-    ensures limit { view.new.limit ≡ view.old.limit }
+    requires kept { IsViewInPool quota texts.old.pool texts.old.view }
+    requires nobody { texts.old.nobody.entries ≡ [] }
+    ensures reply { let visible = visible_in texts.old.pool texts.old.view in
+        Answers (λ reply. reply.items) result
+        (reply_from_store method (record { name = own.now; quota = quota; visible = visible })
+        message.now) }
+    ensures called { let visible = visible_in texts.old.pool texts.old.view in
+        IfAnswered result (visible_in texts.new.pool texts.new.view
+        ≡ visible_after_changes texts.old.view.limit quota
+        (changes_by method (record { name = own.now; quota = quota; visible = visible })
+        message.now) visible) }
+    ensures kept { IsViewInPool quota texts.new.pool texts.new.view }
+    ensures limit { texts.new.view.limit ≡ texts.old.view.limit }
+    ensures nobody { texts.new.nobody.entries ≡ [] }
 {
+    let Texts { pool, view, nobody } = texts;
     match method {
-        Method::FindMissingBlobs => find_missing(alloc, own, view, message),
+        Method::FindMissingBlobs => find_missing(alloc, own, view, nobody, message),
         Method::BatchUpdateBlobs => batch_update(alloc, own, quota, view, pool, message),
-        Method::BatchReadBlobs => batch_read(alloc, own, view, pool, message),
+        Method::BatchReadBlobs => batch_read(alloc, own, view, nobody, pool, message),
     }
 }

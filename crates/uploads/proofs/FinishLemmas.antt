@@ -1,13 +1,12 @@
 -- An upload that ends.
-use Rattle.std.proofs.Common.{refl, ◌≡◌, ◌<◌, ℕ, ◌≤◌, Result, Ok, Err, List, length, Some, ap, sym, ◌∙◌, arith}
+use Rattle.std.proofs.Common.{refl, ◌≡◌, ◌<◌, ℕ, ◌≤◌, List, length, Some, ap, arith}
 use Rattle.std.specs.Prelude.{◌↔◌}
-use Rattle.digest.specs.declared.Digest.{Digest}
 use Rattle.quota_evict.specs.declared.admission.AdmitError.{AdmitError}
 use Rattle.quota_evict.specs.declared.admission.AdmitError.TheVariants as Admit
 use Rattle.uploads.specs.declared.error.UploadError.{UploadError}
 use Rattle.uploads.specs.declared.error.UploadError.TheVariants.{NoMemory}
 use Rattle.uploads.specs.Errors.{of_admit}
-use Rattle.uploads.specs.Uploads.{KeyValue, UploadValue, UploadList, upload_at, text_in, text_so_far, uploads_length}
+use Rattle.uploads.specs.Uploads.{KeyValue, UploadValue, UploadList, upload_at, text_in, uploads_length}
 use Rattle.uploads.proofs.ListLemmas.{text-short}
 
 -- a text of an upload is never too large to be admitted

@@ -1,15 +1,14 @@
 -- Uploads as a plain list.
-use Rattle.std.proofs.Common.{◌≡◌, ℕ, ℤ, ◌+◌, ◌-◌, ◌<◌, ◌≤◌, ◌^◌, Bool, true, false, not, ◌&&◌, List, [], ◌∷◌, ◌++◌, length, Option, Some, None, Result, Ok, Err, cond, refl, sym, ap, ◌∙◌, arith, length-append}
+use Rattle.std.proofs.Common.{◌≡◌, ℕ, ◌+◌, ◌<◌, ◌≤◌, ◌^◌, Bool, true, false, not, ◌&&◌, List, [], ◌∷◌, ◌++◌, length, Some, Result, Ok, Err, cond, refl, sym, ap, ◌∙◌, arith, length-append}
 use Rattle.std.specs.Prelude.{nat_eq, nat_lt, nat_le, is_some, IsSome, OnOk, OnErr}
 use Rattle.std.specs.List.{filter}
-use Rattle.std.specs.Map.{lookup, remove_entry}
 use Rattle.std.proofs.lemmas.Bool.Decides.{nat_tests}
 use lib.Pointwise.{pointwise}
 use Rattle.digest.proofs.Same.{same_refl}
 use Rattle.uploads.specs.declared.error.UploadError.{UploadError}
 use Rattle.uploads.specs.declared.error.UploadError.TheVariants.{Offset, Size, Hash, TooMany, OverQuota, NoMemory}
 use Rattle.uploads.specs.Uploads.{KeyValue, UploadValue, UploadList, same_upload, upload_at, with_upload, without_upload, uploads_length, text_in, text_so_far, is_recent, uploads_at, AreUploadsWithin}
-use Rattle.uploads.specs.Writing.{PieceValue, is_place, if_ok, piece_answer, may_begin, begin_answer, append_answer, call_answer, finish_answer, after_piece, after_finish, Fits, Answers}
+use Rattle.uploads.specs.Writing.{PieceValue, is_place, if_ok, piece_answer, may_begin, begin_answer, append_answer, call_answer, after_piece, Fits, Answers}
 
 same_bytes : (bs : List ℕ) → pointwise nat_eq bs bs ≡ true
 same_bytes [] = refl

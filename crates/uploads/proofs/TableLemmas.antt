@@ -1,5 +1,5 @@
 -- The table of uploads, seen by texts.
-use Rattle.std.proofs.Common.{◌≡◌, ℕ, ◌+◌, ◌-◌, Bool, true, false, ◌&&◌, List, [], ◌∷◌, map, length, Option, Some, None, refl, sym, ap, ◌∙◌}
+use Rattle.std.proofs.Common.{◌≡◌, ℕ, ◌+◌, ◌-◌, Bool, true, false, List, [], ◌∷◌, map, length, Option, Some, None, refl, sym, ap, ◌∙◌}
 use Rattle.std.specs.Prelude.{option_map, nat_lt, IsSome, IsOk, OnOk, OnErr, IfOk, Result, Ok, Err}
 use Rattle.std.specs.List.{filter, sum_by}
 use Rattle.std.specs.Map.{lookup, remove_entry}
@@ -13,7 +13,7 @@ use lib.Pointwise.{pointwise}
 use Rattle.std.specs.Prelude.{nat_eq}
 use Rattle.uploads.specs.declared.key.UploadKey.{UploadKey}
 use Rattle.uploads.specs.declared.table.Upload.{Upload}
-use Rattle.uploads.specs.Uploads.{KeyValue, UploadValue, same_upload, upload_at, with_upload, without_upload, is_recent, uploads_at, uploads_length, text_so_far}
+use Rattle.uploads.specs.Uploads.{KeyValue, UploadValue, same_upload, upload_at, with_upload, without_upload, uploads_at, uploads_length}
 use Rattle.uploads.specs.Shown.{key_shown, upload_shown, entry_shown, IsWhole, AreWhole}
 
 -- whether two keys are one, as the table compares them

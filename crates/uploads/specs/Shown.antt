@@ -1,5 +1,5 @@
 -- What the code's own types stand for.
-use Rattle.std.specs.Prelude.{◌≡◌, ℕ, false, length, List}
+use Rattle.std.specs.Prelude.{◌≡◌, false, length, List}
 use Rattle.std.specs.List.{AllByRecursion}
 use Rattle.uploads.specs.declared.key.UploadKey.{UploadKey}
 use Rattle.uploads.specs.declared.table.Upload.{Upload}

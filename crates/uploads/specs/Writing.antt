@@ -1,7 +1,7 @@
 -- What a piece of an upload is answered, and what becomes of the uploads (bytestream.proto,
 -- `Write`).
-use Rattle.std.specs.Prelude.{◌≡◌, ℕ, ℤ, pos, negsuc, ◌+◌, ◌≤◌, Bool, true, false, ◌&&◌, ◌==◌, not, nat_le, nat_lt, is_some, if◌then◌else◌, List, ◌++◌, length, Result, Ok, Err}
-use Rattle.digest.specs.Naming.{same_digest, digest_of}
+use Rattle.std.specs.Prelude.{◌≡◌, ℕ, ℤ, pos, negsuc, ◌+◌, ◌≤◌, Bool, false, ◌&&◌, ◌==◌, not, nat_le, nat_lt, is_some, if◌then◌else◌, List, ◌++◌, length, Result, Ok, Err}
+use Rattle.digest.specs.Naming.{is_digest_of}
 use Rattle.blob_pool.specs.TextConstants.{MOST_BYTES}
 use Rattle.uploads.specs.declared.error.UploadError.{UploadError}
 use Rattle.uploads.specs.declared.error.UploadError.TheVariants.{Offset, Size, Hash, TooMany, OverQuota, NoMemory}
@@ -72,7 +72,7 @@ after_piece moment key piece (Err e) uploads = uploads
 -- an upload ends well where its digest names its text
 abbrev pub finish_answer : KeyValue → UploadList → Result Unit UploadError
 finish_answer key uploads =
-    if same_digest key.digest (digest_of (text_so_far key uploads)) then Ok tt else Err Hash
+    if is_digest_of key.digest (text_so_far key uploads) then Ok tt else Err Hash
 
 -- it is then forgotten, and stays for want of memory alone
 abbrev pub after_finish : KeyValue → Result Unit UploadError → UploadList → UploadList

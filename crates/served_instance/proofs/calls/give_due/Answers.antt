@@ -3,7 +3,7 @@ use Rattle.std.specs.Prelude.{Option, Some, None}
 use Rattle.conn_core.specs.declared.event.CallEvent.{CallEvent}
 use Rattle.blob_pool.specs.Slots.{text_at}
 use Rattle.blob_pool.proofs.Moves.{moves_none, moves_trans}
-use Rattle.instance_core.specs.Slots.{state_in}
+use Rattle.instance_core.specs.Slots.{state_beside}
 use Rattle.instance_core.specs.Shown.{event_shown}
 use Rattle.served_instance.specs.Lone.{after_due_on}
 use Rattle.served_instance.specs.Acts.{BecomesAt, Pops, due_count, present_at, slots_of}
@@ -12,6 +12,7 @@ use Rattle.served_instance.specs.Slots.{holders_of}
 use Rattle.served_instance.proofs.Changes.{changed_fewer, keeps_due, keeps_unread}
 use Rattle.served_instance.proofs.Kept.{alike_moves}
 use Rattle.served_instance.proofs.Leads.{leads_here, leads_acts_by, due_leads, popped_all, popped_unread}
+use Rattle.served_instance.proofs.Besides.{moved_beside}
 use Rattle.served_instance.proofs.Writes.{alike_writes}
 use Rattle.instance_core.specs.Calls.{CallEventValue}
 use Rattle.served_instance.specs.Events.{due_events}
@@ -28,11 +29,11 @@ events-init c =
     let p = c.args.pool.now in
     let here = slots_of c.args.instance.now c.args.connections.now in
     record {
-      leads = leads_here (state_in p c.args.instance.now) c.args.connections.now (after_due_on c.args.number) (text_at p);
+      leads = leads_here (state_beside p c.args.parent.now c.args.instance.now) c.args.connections.now (after_due_on c.args.number) (text_at p);
       unread = refl;
       moves = moves_none p (holders_of here) (holders_of here) (λ k. refl);
       kept = c.requires.kept;
-      cuts = cut_leads_here (text_at p) (state_in p c.args.instance.now) c.args.connections.now (due_events c.args.number);
+      cuts = cut_leads_here (text_at p) (state_beside p c.args.parent.now c.args.instance.now) c.args.connections.now (due_events c.args.number);
       others = refl;
       finds = finds_here p (others_of c.args.number c.args.connections.now);
     }
@@ -44,6 +45,13 @@ happen-requires c =
     record {
       short = c.call_event_on-event.ensures.short;
       kept = alike_writes c.events.pool c.events.instance os os ns ns refl refl c.pop_event.auto.connections c.events.invariant.kept c.pop_event.ensures.holds;
+      beside =
+          let p = c.args.pool.now in
+          let q = c.events.pool in
+          let first = slots_of c.args.instance.now c.args.connections.now in
+          moved_beside p q c.args.parent.now first (slots_of c.events.instance ns)
+          (moves_trans p q q (holders_of first) (holders_of (slots_of c.events.instance os)) (holders_of (slots_of c.events.instance ns)) c.events.invariant.moves (alike_moves q c.events.instance (map connection_shown os) (map connection_shown ns) c.pop_event.ensures.holds))
+          c.requires.beside;
     }
 
 pub events-smaller : goal.events-smaller
@@ -74,11 +82,11 @@ events-preserved c =
     let on : IsCallOn n what = subst (λ (e : CallEventValue). IsCallOn n e) (sym c.call_event_on-event.ensures.event) (event_on n c.in-Some.event) in
     let same = c.pop_event.ensures.others ∙ c.events.invariant.others in
     record {
-      cuts = due_answered (text_at p) (text_at q) (text_at r) n (state_in p c.args.instance.now) (state_in q c.events.instance) (state_in r c.happen.new.instance) c.args.connections.now os ns xs c.in-Some.event what
+      cuts = due_answered (text_at p) (text_at q) (text_at r) n (state_beside p c.args.parent.now c.args.instance.now) (state_beside q c.args.parent.now c.events.instance) (state_beside r c.args.parent.now c.happen.new.instance) c.args.connections.now os ns xs c.in-Some.event what
           c.events.invariant.cuts c.in-Some.ensures.event there c.call_event_on-event.ensures.event c.in_ok-happen.ensures.happened;
       others = c.happen.ensures.others n on ∙ same;
       finds = finds_trans p q r (others_of n c.args.connections.now) (others_of n ns) same c.events.invariant.finds (c.happen.ensures.finds n on);
-      leads = due_leads (text_at p) (text_at q) (text_at r) n (state_in p c.args.instance.now) (state_in q c.events.instance) (state_in r c.happen.new.instance) c.args.connections.now os ns xs c.in-Some.event (event_shown c.call_event_on-event.result)
+      leads = due_leads (text_at p) (text_at q) (text_at r) n (state_beside p c.args.parent.now c.args.instance.now) (state_beside q c.args.parent.now c.events.instance) (state_beside r c.args.parent.now c.happen.new.instance) c.args.connections.now os ns xs c.in-Some.event (event_shown c.call_event_on-event.result)
           c.events.invariant.leads c.in-Some.ensures.event there c.call_event_on-event.ensures.event c.in_ok-happen.ensures.happened;
       unread = keeps_unread n ns xs c.in_ok-happen.ensures.rest ∙ popped_unread n os ns (Some c.in-Some.event) c.in-Some.ensures.event ∙ c.events.invariant.unread;
       moves = moves_trans p q r first before after c.events.invariant.moves
@@ -98,8 +106,8 @@ returns c =
     let before = holders_of (slots_of c.events.instance os) in
     let after = holders_of (slots_of c.events.instance ns) in
     record {
-      due = leads_acts_by (text_at p) (text_at q) (text_at q) (state_in p c.args.instance.now) (state_in q c.events.instance) (state_in q c.events.instance) c.args.connections.now os ns (after_due_on n) (after_due_on n)
-          c.events.invariant.leads (popped_all n (state_in q c.events.instance) os ns popped (text_at q));
+      due = leads_acts_by (text_at p) (text_at q) (text_at q) (state_beside p c.args.parent.now c.args.instance.now) (state_beside q c.args.parent.now c.events.instance) (state_beside q c.args.parent.now c.events.instance) c.args.connections.now os ns (after_due_on n) (after_due_on n)
+          c.events.invariant.leads (popped_all n (state_beside q c.args.parent.now c.events.instance) os ns popped (text_at q));
       unread = popped_unread n os ns None popped ∙ c.events.invariant.unread;
       moves = moves_trans p q q first before after c.events.invariant.moves (alike_moves q c.events.instance (map connection_shown os) (map connection_shown ns) c.pop_event.ensures.holds);
       kept = alike_writes q c.events.instance os os ns ns refl refl c.pop_event.auto.connections c.events.invariant.kept c.pop_event.ensures.holds;
@@ -132,7 +140,7 @@ returns-in_err-happen-clause-memory c =
     let ns = c.pop_event.new.connections in
     let there : present_at n os ≡ None → ⊥ = λ none. let e = c.in-Some.ensures.none none in cc in
     on_err c.from_residual.result
-    (due_refused (text_at p) (text_at q) n (state_in p c.args.instance.now) (state_in q c.events.instance) (state_in r c.happen.new.instance) c.args.connections.now os ns c.in-Some.event (event_shown c.call_event_on-event.result)
+    (due_refused (text_at p) (text_at q) n (state_beside p c.args.parent.now c.args.instance.now) (state_beside q c.args.parent.now c.events.instance) (state_beside r c.args.parent.now c.happen.new.instance) c.args.connections.now os ns c.in-Some.event (event_shown c.call_event_on-event.result)
     c.events.invariant.cuts c.in-Some.ensures.event there c.call_event_on-event.ensures.event c.in_err-happen.ensures.memory)
 
 pub returns-in_err-happen-clause-others : goal.returns-in_err-happen-clause-others

@@ -1,8 +1,9 @@
 use Rattle.std.proofs.Common.{◌≡◌, ◌∙◌, subst, map}
 use Rattle.std.specs.Prelude.{Bool, None}
 use Rattle.blob_pool.specs.Slots.{text_at}
-use Rattle.instance_core.specs.Slots.{state_in}
-use Rattle.served_instance.specs.Acts.{BecomesAt, ReadsFrame, present_at}
+use Rattle.instance_core.specs.Slots.{state_beside}
+use Rattle.served_instance.specs.Acts.{BecomesAt, ReadsFrame, present_at, slots_of}
+use Rattle.served_instance.proofs.Besides.{moved_beside}
 use Rattle.served_instance.specs.Shown.{connection_shown}
 use Rattle.served_instance.proofs.Kept.{alike_moves}
 use Rattle.served_instance.proofs.Leads.{read_leads, read_done, done_leads, read_fewer}
@@ -16,7 +17,11 @@ use Rattle.served_instance.proofs.calls.read_next.Goals as goal
 
 pub give_due-requires : goal.give_due-requires
 give_due-requires c =
-    record { kept = alike_after c.args.pool.now c.args.instance.now c.args.connections.now c.read_frame.new.connections c.read_frame.auto.connections c.requires.kept c.read_frame.ensures.holds }
+    record {
+      kept = alike_after c.args.pool.now c.args.instance.now c.args.connections.now c.read_frame.new.connections c.read_frame.auto.connections c.requires.kept c.read_frame.ensures.holds;
+      beside = moved_beside c.args.pool.now c.args.pool.now c.args.parent.now (slots_of c.args.instance.now c.args.connections.now) (slots_of c.args.instance.now c.read_frame.new.connections)
+          (alike_moves c.args.pool.now c.args.instance.now (map connection_shown c.args.connections.now) (map connection_shown c.read_frame.new.connections) c.read_frame.ensures.holds) c.requires.beside;
+    }
 
 pub returns-in_ok-give_due-clause-reads : goal.returns-in_ok-give_due-clause-reads
 returns-in_ok-give_due-clause-reads c =
@@ -27,7 +32,7 @@ returns-in_ok-give_due-clause-reads c =
     let ns = c.read_frame.new.connections in
     let read = subst (λ (b : Bool). BecomesAt n os ns (ReadsFrame b)) c.if-branch.true c.in_ok-read_frame.ensures.read in
     let there : present_at n os ≡ None → ⊥ = λ none. let e = c.in_ok-read_frame.ensures.none none in cc in
-    read_leads (text_at p) (text_at q) n (state_in p c.args.instance.now) (state_in q c.give_due.new.instance) os ns c.give_due.new.connections read there c.in_ok-give_due.ensures.due
+    read_leads (text_at p) (text_at q) n (state_beside p c.args.parent.now c.args.instance.now) (state_beside q c.args.parent.now c.give_due.new.instance) os ns c.give_due.new.connections read there c.in_ok-give_due.ensures.due
 
 pub returns-in_ok-give_due-clause-fewer : goal.returns-in_ok-give_due-clause-fewer
 returns-in_ok-give_due-clause-fewer c = λ more.
@@ -55,12 +60,12 @@ returns-in_err-read_frame-clause-kept c = alike_after c.args.pool.now c.args.ins
 pub returns-else-branch-clause-reads : goal.returns-else-branch-clause-reads
 returns-else-branch-clause-reads c =
     let read = subst (λ (b : Bool). BecomesAt c.args.number c.args.connections.now c.read_frame.new.connections (ReadsFrame b)) c.if-branch.false c.in_ok-read_frame.ensures.read in
-    done_leads c.args.number (state_in c.args.pool.now c.args.instance.now) c.args.connections.now c.read_frame.new.connections read (text_at c.args.pool.now)
+    done_leads c.args.number (state_beside c.args.pool.now c.args.parent.now c.args.instance.now) c.args.connections.now c.read_frame.new.connections read (text_at c.args.pool.now)
 
 pub returns-else-branch-clause-ends : goal.returns-else-branch-clause-ends
 returns-else-branch-clause-ends c = λ last.
     let read = subst (λ (b : Bool). BecomesAt c.args.number c.args.connections.now c.read_frame.new.connections (ReadsFrame b)) c.if-branch.false c.in_ok-read_frame.ensures.read in
-    read_done c.args.number (state_in c.args.pool.now c.args.instance.now) c.args.connections.now c.read_frame.new.connections read (text_at c.args.pool.now)
+    read_done c.args.number (state_beside c.args.pool.now c.args.parent.now c.args.instance.now) c.args.connections.now c.read_frame.new.connections read (text_at c.args.pool.now)
 
 pub returns-else-branch-clause-moves : goal.returns-else-branch-clause-moves
 returns-else-branch-clause-moves c = alike_moves c.args.pool.now c.args.instance.now (map connection_shown c.args.connections.now) (map connection_shown c.read_frame.new.connections) c.read_frame.ensures.holds
@@ -77,7 +82,7 @@ returns-in_ok-give_due-clause-cuts c =
     let ns = c.read_frame.new.connections in
     let read = subst (λ (b : Bool). BecomesAt n os ns (ReadsFrame b)) c.if-branch.true c.in_ok-read_frame.ensures.read in
     let there : present_at n os ≡ None → ⊥ = λ none. let e = c.in_ok-read_frame.ensures.none none in cc in
-    read_cut_leads (text_at p) (text_at q) n (state_in p c.args.instance.now) (state_in q c.give_due.new.instance) os ns c.give_due.new.connections read there c.in_ok-give_due.ensures.due
+    read_cut_leads (text_at p) (text_at q) n (state_beside p c.args.parent.now c.args.instance.now) (state_beside q c.args.parent.now c.give_due.new.instance) os ns c.give_due.new.connections read there c.in_ok-give_due.ensures.due
 
 pub returns-in_err-give_due-clause-memory : goal.returns-in_err-give_due-clause-memory
 returns-in_err-give_due-clause-memory c =
@@ -89,15 +94,15 @@ returns-in_err-give_due-clause-memory c =
     let read = subst (λ (b : Bool). BecomesAt n os ns (ReadsFrame b)) c.if-branch.true c.in_ok-read_frame.ensures.read in
     let there : present_at n os ≡ None → ⊥ = λ none. let e = c.in_ok-read_frame.ensures.none none in cc in
     on_err c.from_residual-in_err-give_due.result
-    (read_refused (text_at p) n (state_in p c.args.instance.now) (state_in q c.give_due.new.instance) os ns read there c.in_err-give_due.ensures.memory)
+    (read_refused (text_at p) n (state_beside p c.args.parent.now c.args.instance.now) (state_beside q c.args.parent.now c.give_due.new.instance) os ns read there c.in_err-give_due.ensures.memory)
 
 pub returns-in_err-read_frame-clause-memory : goal.returns-in_err-read_frame-clause-memory
-returns-in_err-read_frame-clause-memory c = on_err c.from_residual.result (nothing_cut (text_at c.args.pool.now) (state_in c.args.pool.now c.args.instance.now) c.args.connections.now (rest_events c.args.number))
+returns-in_err-read_frame-clause-memory c = on_err c.from_residual.result (nothing_cut (text_at c.args.pool.now) (state_beside c.args.pool.now c.args.parent.now c.args.instance.now) c.args.connections.now (rest_events c.args.number))
 
 pub returns-else-branch-clause-cuts : goal.returns-else-branch-clause-cuts
 returns-else-branch-clause-cuts c =
     let read = subst (λ (b : Bool). BecomesAt c.args.number c.args.connections.now c.read_frame.new.connections (ReadsFrame b)) c.if-branch.false c.in_ok-read_frame.ensures.read in
-    done_cut_leads (text_at c.args.pool.now) c.args.number (state_in c.args.pool.now c.args.instance.now) c.args.connections.now c.read_frame.new.connections read
+    done_cut_leads (text_at c.args.pool.now) c.args.number (state_beside c.args.pool.now c.args.parent.now c.args.instance.now) c.args.connections.now c.read_frame.new.connections read
 
 pub returns-in_ok-give_due-clause-others : goal.returns-in_ok-give_due-clause-others
 returns-in_ok-give_due-clause-others c = c.give_due.ensures.others ∙ c.read_frame.ensures.others

@@ -1,7 +1,7 @@
 use Rattle.std.proofs.Common.{refl, map, ◌∙◌}
 use Rattle.blob_pool.specs.Slots.{text_at}
 use Rattle.blob_pool.proofs.Moves.{moves_trans}
-use Rattle.instance_core.specs.Slots.{state_in}
+use Rattle.instance_core.specs.Slots.{state_beside}
 use Rattle.served_instance.specs.Connections.{at_open}
 use Rattle.conn_core.specs.Past.{with_bytes}
 use Rattle.served_instance.specs.Lone.{LoneInstance, after_bytes_on}
@@ -10,6 +10,7 @@ use Rattle.served_instance.specs.Shown.{connection_shown}
 use Rattle.served_instance.specs.Slots.{holders_of}
 use Rattle.served_instance.proofs.Kept.{alike_moves}
 use Rattle.served_instance.proofs.Leads.{step_acts, leads_trans, leads_acts_by}
+use Rattle.served_instance.proofs.Besides.{moved_beside}
 use Rattle.served_instance.proofs.Writes.{alike_after}
 use Rattle.served_instance.specs.Events.{bytes_come, bytes_events, rest_events}
 use Rattle.served_instance.specs.Cuts.{others_of}
@@ -26,12 +27,12 @@ frames-init c =
     record {
       leads = λ l st.
           let k : LoneInstance = record l { connections = at_open c.args.number (with_bytes c.args.bytes.items) l.connections } in
-          (k, step_acts c.args.number (state_in p c.args.instance.now) os ns (with_bytes c.args.bytes.items) c.in_ok-feed.ensures.fed (text_at p) l st, refl);
+          (k, step_acts c.args.number (state_beside p c.args.parent.now c.args.instance.now) os ns (with_bytes c.args.bytes.items) c.in_ok-feed.ensures.fed (text_at p) l st, refl);
       moves = alike_moves p c.args.instance.now (map connection_shown os) (map connection_shown ns) c.feed.ensures.holds;
       kept = alike_after p c.args.instance.now os ns c.feed.auto.connections c.requires.kept c.feed.ensures.holds;
       cuts = λ l st.
           let k = bytes_come c.args.number c.args.bytes.items l in
-          (k, step_acts c.args.number (state_in p c.args.instance.now) os ns (with_bytes c.args.bytes.items) c.in_ok-feed.ensures.fed (text_at p) l st, λ u cut. cut);
+          (k, step_acts c.args.number (state_beside p c.args.parent.now c.args.instance.now) os ns (with_bytes c.args.bytes.items) c.in_ok-feed.ensures.fed (text_at p) l st, λ u cut. cut);
       others = c.feed.ensures.others;
       finds = finds_here p (others_of c.args.number os);
     }
@@ -42,6 +43,10 @@ returns-in_err-feed-clause-moves c = alike_moves c.args.pool.now c.args.instance
 pub returns-in_err-feed-clause-kept : goal.returns-in_err-feed-clause-kept
 returns-in_err-feed-clause-kept c = alike_after c.args.pool.now c.args.instance.now c.args.connections.now c.feed.new.connections c.feed.auto.connections c.requires.kept c.feed.ensures.holds
 
+pub read_next-requires-clause-beside : goal.read_next-requires-clause-beside
+read_next-requires-clause-beside c =
+    moved_beside c.args.pool.now c.frames.pool c.args.parent.now (slots_of c.args.instance.now c.args.connections.now) (slots_of c.frames.instance c.frames.connections) c.frames.invariant.moves c.requires.beside
+
 pub frames-smaller : goal.frames-smaller
 frames-smaller c = c.in_ok-read_next.ensures.fewer c.if-branch.true
 
@@ -51,12 +56,12 @@ frames-preserved c =
     let q = c.frames.pool in
     let r = c.read_next.new.pool in
     record {
-      leads = leads_trans (text_at p) (text_at q) (text_at r) (state_in p c.args.instance.now) (state_in q c.frames.instance) (state_in r c.read_next.new.instance) c.args.connections.now c.frames.connections c.read_next.new.connections
+      leads = leads_trans (text_at p) (text_at q) (text_at r) (state_beside p c.args.parent.now c.args.instance.now) (state_beside q c.args.parent.now c.frames.instance) (state_beside r c.args.parent.now c.read_next.new.instance) c.args.connections.now c.frames.connections c.read_next.new.connections
           (after_bytes_on c.args.number c.args.bytes.items) (after_rest_on c.args.number) (after_rest_on c.args.number) c.frames.invariant.leads c.in_ok-read_next.ensures.reads;
       moves = moves_trans p q r (holders_of (slots_of c.args.instance.now c.args.connections.now)) (holders_of (slots_of c.frames.instance c.frames.connections)) (holders_of (slots_of c.read_next.new.instance c.read_next.new.connections))
           c.frames.invariant.moves c.read_next.ensures.moves;
       kept = c.read_next.ensures.kept;
-      cuts = cut_leads_trans (text_at p) (text_at q) (text_at r) (state_in p c.args.instance.now) (state_in q c.frames.instance) (state_in r c.read_next.new.instance) c.args.connections.now c.frames.connections c.read_next.new.connections
+      cuts = cut_leads_trans (text_at p) (text_at q) (text_at r) (state_beside p c.args.parent.now c.args.instance.now) (state_beside q c.args.parent.now c.frames.instance) (state_beside r c.args.parent.now c.read_next.new.instance) c.args.connections.now c.frames.connections c.read_next.new.connections
           (bytes_events c.args.number c.args.bytes.items) (rest_events c.args.number) (rest_events c.args.number) c.frames.invariant.cuts c.in_ok-read_next.ensures.cuts;
       others = c.read_next.ensures.others ∙ c.frames.invariant.others;
       finds = finds_trans p q r (others_of c.args.number c.args.connections.now) (others_of c.args.number c.frames.connections) c.frames.invariant.others c.frames.invariant.finds c.read_next.ensures.finds;
@@ -67,7 +72,7 @@ returns-clause-came c =
     let p = c.args.pool.now in
     let q = c.frames.pool in
     let r = c.read_next.new.pool in
-    leads_acts_by (text_at p) (text_at q) (text_at r) (state_in p c.args.instance.now) (state_in q c.frames.instance) (state_in r c.read_next.new.instance) c.args.connections.now c.frames.connections c.read_next.new.connections
+    leads_acts_by (text_at p) (text_at q) (text_at r) (state_beside p c.args.parent.now c.args.instance.now) (state_beside q c.args.parent.now c.frames.instance) (state_beside r c.args.parent.now c.read_next.new.instance) c.args.connections.now c.frames.connections c.read_next.new.connections
     (after_bytes_on c.args.number c.args.bytes.items) (after_rest_on c.args.number) c.frames.invariant.leads (c.in_ok-read_next.ensures.ends c.if-branch.false)
 
 pub returns-clause-moves : goal.returns-clause-moves
@@ -81,7 +86,7 @@ returns-in_err-read_next-clause-moves c =
     c.frames.invariant.moves c.read_next.ensures.moves
 
 pub returns-in_err-feed-clause-memory : goal.returns-in_err-feed-clause-memory
-returns-in_err-feed-clause-memory c = on_err c.from_residual.result (nothing_cut (text_at c.args.pool.now) (state_in c.args.pool.now c.args.instance.now) c.args.connections.now (bytes_events c.args.number c.args.bytes.items))
+returns-in_err-feed-clause-memory c = on_err c.from_residual.result (nothing_cut (text_at c.args.pool.now) (state_beside c.args.pool.now c.args.parent.now c.args.instance.now) c.args.connections.now (bytes_events c.args.number c.args.bytes.items))
 
 pub returns-in_err-feed-clause-finds : goal.returns-in_err-feed-clause-finds
 returns-in_err-feed-clause-finds c = finds_here c.args.pool.now (others_of c.args.number c.args.connections.now)
@@ -92,7 +97,7 @@ returns-in_err-read_next-clause-memory c =
     let q = c.frames.pool in
     let r = c.read_next.new.pool in
     on_err c.from_residual-in_err-read_next.result
-    (cut_leads_short (text_at p) (text_at q) (state_in p c.args.instance.now) (state_in q c.frames.instance) (state_in r c.read_next.new.instance) c.args.connections.now c.frames.connections
+    (cut_leads_short (text_at p) (text_at q) (state_beside p c.args.parent.now c.args.instance.now) (state_beside q c.args.parent.now c.frames.instance) (state_beside r c.args.parent.now c.read_next.new.instance) c.args.connections.now c.frames.connections
     (bytes_events c.args.number c.args.bytes.items) (rest_events c.args.number) c.frames.invariant.cuts c.in_err-read_next.ensures.memory)
 
 pub returns-clause-others : goal.returns-clause-others

@@ -8,7 +8,8 @@ use Rattle.server_events.specs.declared.event.What.{What}
 use Rattle.server_events.specs.Shown.{what_value}
 use Rattle.served_instance.specs.declared.open_connection.OpenConnection.{OpenConnection}
 use Rattle.instance_core.specs.Calls.{tick as time_passes}
-use Rattle.instance_core.specs.Slots.{state_in}
+use Rattle.instance_core.specs.Slots.{state_beside}
+use Rattle.instance_core.specs.InstanceViewShown.{visible_in}
 use Rattle.blob_pool.specs.Slots.{text_at}
 use Rattle.served_instance.specs.Connections.{at_open}
 use Rattle.served_instance.specs.Lone.{LoneInstance, effect_of, after_call_event, after_opening, after_closing, after_bytes_on}
@@ -17,6 +18,7 @@ use Rattle.served_instance.specs.Shown.{connection_shown}
 use Rattle.served_instance.specs.Acts.{present_at, slots_of}
 use Rattle.served_instance.proofs.Closes.{acts_between, at_state, written_back, can_take, tick_acts}
 use Rattle.served_instance.proofs.Kept.{alike_keeps, few_connections, instance_after, instance_kept, moment_keeps, release_keeps}
+use Rattle.served_instance.specs.Slots.{IsServedBeside}
 use Rattle.served_instance.proofs.Stands.{released_acts}
 use Rattle.served_instance.proofs.Writes.{alike_writes, moves_written, seen_kept}
 use Rattle.served_instance.proofs.Leads.{step_acts}
@@ -42,13 +44,16 @@ returns-in-Open-clause-acted c =
     let os = c.args.connections.now.items in
     let ns = c.open.new.connections.items in
     let t = text_at c.args.pool.now in
-    let s = state_in c.args.pool.now c.args.instance.now in
+    let s = state_beside c.args.pool.now c.args.parent.now c.args.instance.now in
     acts_between c.open.result t t s s os os ns ns (after_opening c.in-Open.number) (effect_of (what_value c.args.what)) refl refl
     (ap (λ (w : What). effect_of (what_value w)) c.in-Open.is) (at_state c.open.result t s os ns (after_opening c.in-Open.number) c.open.ensures.opened)
 
 pub receive-requires : goal.receive-requires
 receive-requires c =
-    record { kept = seen_kept c.args.pool.now c.args.instance.now c.args.connections.now.items c.deref_mut.result.now c.deref_mut.ensures.value c.requires.kept }
+    record {
+      kept = seen_kept c.args.pool.now c.args.instance.now c.args.connections.now.items c.deref_mut.result.now c.deref_mut.ensures.value c.requires.kept;
+      beside = subst (λ (ys : List OpenConnection). IsServedBeside c.args.pool.now c.args.parent.now (slots_of c.args.instance.now ys)) (sym c.deref_mut.ensures.value) c.requires.beside;
+    }
 
 pub returns-in-Bytes-clause-acted : goal.returns-in-Bytes-clause-acted
 returns-in-Bytes-clause-acted c =
@@ -56,7 +61,7 @@ returns-in-Bytes-clause-acted c =
     let q = c.receive.new.pool in
     let all = c.args.connections.now in
     let ns = c.receive.new.connections in
-    acts_between c.receive.result (text_at p) (text_at q) (state_in p c.args.instance.now) (state_in q c.receive.new.instance) all.items c.deref_mut.result.now ns _ (after_bytes_on c.in-Bytes.number c.in-Bytes.bytes.items) (effect_of (what_value c.args.what))
+    acts_between c.receive.result (text_at p) (text_at q) (state_beside p c.args.parent.now c.args.instance.now) (state_beside q c.args.parent.now c.receive.new.instance) all.items c.deref_mut.result.now ns _ (after_bytes_on c.in-Bytes.number c.in-Bytes.bytes.items) (effect_of (what_value c.args.what))
     c.deref_mut.ensures.value (written_back all.len ns all.items (c.receive.auto.connections ∙ ap length c.deref_mut.ensures.value) (grind (arith, common_steps)))
     (ap (λ (w : What). effect_of (what_value w)) c.in-Bytes.is) c.receive.ensures.came
 
@@ -72,7 +77,7 @@ returns-in-Took-clause-acted c =
     let all = c.args.connections.now in
     let ns = c.take.new.connections in
     let t = text_at c.args.pool.now in
-    let s = state_in c.args.pool.now c.args.instance.now in
+    let s = state_beside c.args.pool.now c.args.parent.now c.args.instance.now in
     let step : LoneInstance → LoneInstance = λ l. record l { connections = at_open c.in-Took.number (λ p. with_taken p c.in-Took.count) l.connections } in
     let done : Result (Unit {0}) AllocError = Ok tt in
     acts_between done t t s s all.items c.deref_mut-in-Took.result.now ns _ step (effect_of (what_value c.args.what))
@@ -88,19 +93,19 @@ returns-in-Closed-clause-acted c =
     let os = c.args.connections.now.items in
     let ns = c.close.new.connections.items in
     let done : Result (Unit {0}) AllocError = Ok tt in
-    acts_between done (text_at p) (text_at q) (state_in p i) (state_in q j) os os ns ns (after_closing c.in-Closed.number) (effect_of (what_value c.args.what)) refl refl
+    acts_between done (text_at p) (text_at q) (state_beside p c.args.parent.now i) (state_beside q c.args.parent.now j) os os ns ns (after_closing c.in-Closed.number) (effect_of (what_value c.args.what)) refl refl
     (ap (λ (w : What). effect_of (what_value w)) c.in-Closed.is)
-    (released_acts p q i j os ns (after_closing c.in-Closed.number) c.requires.kept c.close.ensures.releases (c.close.ensures.closed q))
+    (released_acts c.args.parent.now p q i j os ns (after_closing c.in-Closed.number) c.requires.kept c.requires.beside c.close.ensures.releases (c.close.ensures.closed q (visible_in q c.args.parent.now)))
 
 pub returns-in-Tick-clause-acted : goal.returns-in-Tick-clause-acted
 returns-in-Tick-clause-acted c =
     let os = c.args.connections.now.items in
     let t = text_at c.args.pool.now in
-    let before = state_in c.args.pool.now c.args.instance.now in
-    let after = state_in c.args.pool.now c.tick.new.self in
+    let before = state_beside c.args.pool.now c.args.parent.now c.args.instance.now in
+    let after = state_beside c.args.pool.now c.args.parent.now c.tick.new.self in
     let done : Result (Unit {0}) AllocError = Ok tt in
     acts_between done t t before after os os os os (after_call_event time_passes) (effect_of (what_value c.args.what)) refl refl
-    (ap (λ (w : What). effect_of (what_value w)) c.in-Tick.is) (tick_acts before after os (c.tick.ensures.changed c.args.pool.now) t)
+    (ap (λ (w : What). effect_of (what_value w)) c.in-Tick.is) (tick_acts before after os (c.tick.ensures.changed c.args.pool.now (visible_in c.args.pool.now c.args.parent.now)) t)
 
 pub returns-in-Open-clause-kept : goal.returns-in-Open-clause-kept
 returns-in-Open-clause-kept c =
@@ -147,7 +152,7 @@ pub returns-in-Open-clause-memory : goal.returns-in-Open-clause-memory
 returns-in-Open-clause-memory c =
     let p = c.args.pool.now in
     let os = c.args.connections.now.items in
-    on_err c.open.result (nothing_cut (text_at p) (state_in p c.args.instance.now) os (events_brought (what_value c.args.what)))
+    on_err c.open.result (nothing_cut (text_at p) (state_beside p c.args.parent.now c.args.instance.now) os (events_brought (what_value c.args.what)))
 
 pub returns-in-Open-clause-others : goal.returns-in-Open-clause-others
 returns-in-Open-clause-others c = err_map c.open.result (λ same. ap (others_than (what_value c.args.what)) same) c.open.ensures.err
@@ -162,9 +167,9 @@ returns-in-Bytes-clause-memory c =
     let n = c.in-Bytes.number in
     let xs = c.deref_mut.result.now in
     let v : WhatValue = received n c.in-Bytes.bytes.items in
-    let H : Type 0 = CutsShort p c.args.instance.now xs q c.receive.new.instance (events_brought v) in
+    let H : Type 0 = CutsShort c.args.parent.now p c.args.instance.now xs q c.receive.new.instance (events_brought v) in
     err_map {A = H} c.receive.result
-    (λ h. cuts_seen (what_value c.args.what) v (text_at p) (state_in p c.args.instance.now) (state_in q c.receive.new.instance) c.args.connections.now.items xs (ap what_value c.in-Bytes.is) c.deref_mut.ensures.value h)
+    (λ h. cuts_seen (what_value c.args.what) v (text_at p) (state_beside p c.args.parent.now c.args.instance.now) (state_beside q c.args.parent.now c.receive.new.instance) c.args.connections.now.items xs (ap what_value c.in-Bytes.is) c.deref_mut.ensures.value h)
     c.receive.ensures.memory
 
 pub returns-in-Bytes-clause-others : goal.returns-in-Bytes-clause-others

@@ -1,14 +1,19 @@
-use Rattle.std.proofs.Common.{◌≡◌, ◌<◌, Some, length, get_or, arith}
+use Rattle.std.proofs.Common.{◌≡◌, ◌<◌, List, [], Some, length, get_or, ap, subst, arith}
 use Rattle.std.specs.List.{slice_get}
 use Rattle.std.proofs.lemmas.Grind.{common_steps}
 use Rattle.std.proofs.lemmas.Option.{slice_get-get_or}
 use Rattle.std.proofs.lemmas.Result.{on_ok_weaker}
+use Rattle.server_events.specs.Shown.{event_value}
+use Rattle.instance_view.specs.Visible.{Blob}
+use Rattle.instance_view.specs.Shown.{blobs_in, visible_in}
 use Rattle.served_instance.specs.Lone.{LoneInstance}
+use Rattle.served_instance.specs.Refusals.{lone_step}
+use Rattle.served_instance.specs.Short.{Short}
 use Rattle.served_instance.specs.Slots.{ServedSlots, served_state_in}
-use Rattle.served_instance.specs.StandsFor.{IsServedInstance}
+use Rattle.served_instance.specs.StandsFor.{IsServedInstance, AreSettled}
 use Rattle.server_core.specs.Shared.{all_in}
 use Rattle.server_core.specs.StandsFor.{StandsAt}
-use Rattle.server_core.proofs.Others.{kept_at, others_after, server_after, stands_here, stands_after, refused_after}
+use Rattle.server_core.proofs.Others.{kept_at, others_after, server_after, stands_here, stands_after, refused_after, beside_nobody}
 use Rattle.server_core.proofs.server.step_one.Goals as goal
 use Rattle.server_core.proofs.server.step_one.Goals.{After-step}
 
@@ -18,7 +23,8 @@ step-requires c =
     let i = c.args.event.instance in
     let d = c.index-instances-number.result in
     let lt : i < length xs = grind (arith, common_steps) in
-    record { kept = kept_at c.args.pool.now xs i (get_or xs i d) (slice_get-get_or xs i d lt) c.requires.server }
+    let kept = kept_at c.args.pool.now xs i (get_or xs i d) (slice_get-get_or xs i d lt) c.requires.server in
+    record { kept = kept; beside = beside_nobody c.args.pool.now c.args.nobody.now (get_or xs i d) c.requires.nobody kept }
 
 -- the instance to which the event is given, as it was
 abbrev found : After-step → ServedSlots
@@ -32,12 +38,20 @@ there c =
 stood : (c : After-step) (l : LoneInstance) → StandsAt c.args.event.instance (all_in c.args.pool.now c.args.instances.now) l → IsServedInstance (served_state_in c.args.pool.now (found c)) l
 stood c l s = stands_here c.args.pool.now c.args.instances.now c.args.event.instance (found c) l (there c) s
 
+-- what nobody has is nothing
+read_nobody : (c : After-step) → visible_in c.args.pool.now c.args.nobody.now ≡ []
+read_nobody c = ap (blobs_in c.args.pool.now) c.requires.nobody
+
 pub returns-clause-own : goal.returns-clause-own
 returns-clause-own c = λ ne l s.
-    stands_after c.step.new.pool c.args.instances.now c.args.event.instance (found c) c.step.new.self _ (there c) (c.step.ensures.stands l (stood c l s) ne)
+    let stands = subst (λ (bs : List Blob). IsServedInstance (served_state_in c.step.new.pool c.step.new.self) (lone_step bs (event_value c.args.event) l)) (read_nobody c) (c.step.ensures.stands l (stood c l s) ne) in
+    stands_after c.step.new.pool c.args.instances.now c.args.event.instance (found c) c.step.new.self _ (there c) stands
 
 pub returns-clause-settled : goal.returns-clause-settled
-returns-clause-settled c = on_ok_weaker c.step.result (λ settled l s. settled l (stood c l s)) c.step.ensures.settled
+returns-clause-settled c =
+    on_ok_weaker c.step.result (λ settled l s.
+    subst (λ (bs : List Blob). AreSettled (lone_step bs (event_value c.args.event) l)) (read_nobody c) (settled l (stood c l s)))
+    c.step.ensures.settled
 
 pub returns-clause-others : goal.returns-clause-others
 returns-clause-others c = λ j ne.
@@ -59,6 +73,6 @@ returns-clause-short c = λ memory l s.
     let t = c.step.ensures.short memory l (stood c l s) in
     record {
       left = t.left;
-      short = t.short;
+      short = subst (λ (bs : List Blob). Short bs (event_value c.args.event) l t.left) (read_nobody c) t.short;
       stands = stands_after c.step.new.pool c.args.instances.now c.args.event.instance (found c) c.step.new.self t.left (there c) t.stands;
     }

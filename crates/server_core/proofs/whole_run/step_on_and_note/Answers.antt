@@ -43,7 +43,7 @@ pub returns-else-matches-clause-runs : goal.returns-else-matches-clause-runs
 returns-else-matches-clause-runs c =
     let did = c.step-outcome.ensures in
     let ne : c.step-outcome.result ≢ Err NoMemory = grind (arith, common_steps) in
-    on_ok_weaker c.note.result (λ notes. noted_on c.step-outcome.result (event_value c.args.event) _ _ _ _ c.in-Some.served.now _ _ (did.own ne) did.others did.outcome (sym c.in-Some.ensures.1) (λ r st. notes r (event_value c.args.event) st c.made_by-change.ensures)) c.note.ensures.stands
+    on_ok_weaker c.note.result (λ notes. noted_on c.step-outcome.result (event_value c.args.event) _ _ _ _ c.in-Some.served.now _ _ (did.own ne) did.others did.outcome (sym c.in-Some.ensures.1) c.in-Some.ensures.2 (λ r st. notes r (event_value c.args.event) st c.made_by-change.ensures)) c.note.ensures.stands
 
 pub returns-else-matches-clause-strays : goal.returns-else-matches-clause-strays
 returns-else-matches-clause-strays c =

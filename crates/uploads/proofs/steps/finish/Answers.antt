@@ -1,4 +1,4 @@
-use Rattle.std.proofs.Common.{◌≡◌, map, ap, sym, ◌∙◌}
+use Rattle.std.proofs.Common.{map, ap}
 use Rattle.uploads.specs.Uploads.{UploadValue}
 use Rattle.uploads.specs.Shown.{key_shown, upload_shown, entry_shown}
 use Rattle.uploads.proofs.ListLemmas.{there_with, forgotten, put_back, within_without, within_same}

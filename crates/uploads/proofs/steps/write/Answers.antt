@@ -1,4 +1,4 @@
-use Rattle.std.proofs.Common.{map, ap, OnErr, ◌≡◌}
+use Rattle.std.proofs.Common.{map}
 use Rattle.uploads.specs.Shown.{key_shown, upload_shown, entry_shown}
 use Rattle.uploads.proofs.ListLemmas.{there_with, extended_ok, extended_err}
 use Rattle.uploads.proofs.steps.write.Goals as goal

@@ -1,8 +1,7 @@
-use Rattle.std.proofs.Common.{◌≡◌, map, sym, ap, ◌∙◌, Some}
+use Rattle.std.proofs.Common.{sym, ap, ◌∙◌}
 use Rattle.std.specs.Prelude.{option_map}
-use Rattle.std.specs.Map.{lookup}
-use Rattle.uploads.specs.Shown.{entry_shown, upload_shown}
-use Rattle.uploads.proofs.TableLemmas.{same_key, with_shown, whole_with, whole_at, at_shown, there_ok, there_some, old_at, entries_at}
+use Rattle.uploads.specs.Shown.{upload_shown}
+use Rattle.uploads.proofs.TableLemmas.{with_shown, whole_with, whole_at, at_shown, there_ok, there_some, old_at, entries_at}
 use Rattle.uploads.proofs.table.exchange.Goals as goal
 
 pub unwrap-old-requires : goal.unwrap-old-requires

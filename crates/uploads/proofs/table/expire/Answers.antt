@@ -1,10 +1,9 @@
-use Rattle.std.proofs.Common.{◌≡◌, ◌-◌, ◌<◌, map, rules}
+use Rattle.std.proofs.Common.{◌≡◌, ◌-◌, rules}
 use Rattle.std.specs.Prelude.{nat_lt}
 use Rattle.std.specs.List.{filter}
 use Rattle.indexmap.proofs.CallerLemmas.{filter-RetainsPairs}
 use Rattle.uploads.specs.declared.key.UploadKey.{UploadKey}
 use Rattle.uploads.specs.declared.table.Upload.{Upload}
-use Rattle.uploads.specs.Shown.{entry_shown, AreWhole}
 use Rattle.uploads.proofs.TableLemmas.{unexpired_shown, whole_filter}
 use Rattle.uploads.proofs.table.expire.Goals as goal
 

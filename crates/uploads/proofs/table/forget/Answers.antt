@@ -1,5 +1,3 @@
-use Rattle.std.proofs.Common.{map}
-use Rattle.uploads.specs.Shown.{entry_shown}
 use Rattle.uploads.proofs.TableLemmas.{without_shown, whole_without}
 use Rattle.uploads.proofs.table.forget.Goals as goal
 

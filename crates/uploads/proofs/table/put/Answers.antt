@@ -1,5 +1,3 @@
-use Rattle.std.proofs.Common.{map}
-use Rattle.uploads.specs.Shown.{entry_shown}
 use Rattle.uploads.proofs.TableLemmas.{with_shown, whole_with}
 use Rattle.uploads.proofs.table.put.Goals as goal
 

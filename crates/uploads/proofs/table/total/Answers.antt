@@ -1,4 +1,4 @@
-use Rattle.std.proofs.Common.{arith, ◌∙◌}
+use Rattle.std.proofs.Common.{◌∙◌}
 use Rattle.uploads.proofs.TableLemmas.{bytes_shown}
 use Rattle.uploads.proofs.table.total.Goals as goal
 

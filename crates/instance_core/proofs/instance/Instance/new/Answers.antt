@@ -11,4 +11,5 @@ returns-clause-within c = λ p. record {
   results = rw c.in_ok-results.ensures (record { few = omega arith; short = omega arith });
   calls = c.new-4.ensures.calls.once;
   messages = c.new-4.ensures.calls.messages;
+  parent = tt;
 }

@@ -1,4 +1,4 @@
-use Rattle.std.proofs.Common.{◌≡◌, ap, ◌∙◌, sym, subst, List, length}
+use Rattle.std.proofs.Common.{[], ◌≡◌, ap, ◌∙◌, sym, subst, List, length}
 use Rattle.std.specs.Prelude.{map, Result, None}
 use Rattle.std.specs.Vec.{with_items}
 use Rattle.std.proofs.lemmas.List.{with_items_is}
@@ -14,7 +14,7 @@ use Rattle.server_core.proofs.record.InstanceRecord.note.Goals as goal
 
 pub returns-in_ok-gather-in-Ok-clause-stands : goal.returns-in_ok-gather-in-Ok-clause-stands
 returns-in_ok-gather-in-Ok-clause-stands c = λ r e st change outcome served.
-    let m = lone_step e r.lone in
+    let m = lone_step [] e r.lone in
     let v : RecordValue = record { count = c.self.inside.count; refusals = map refused_shown c.self.inside.refusals.items; sent = map sent_shown c.self.inside.sent.items; live = c.self.inside.live.items } in
     let st0 : IsRecord v r = subst (λ (w : RecordValue). IsRecord w r) (sym c.self.view_is) st in
     let none : refusal_of e r.lone ≡ None = subst (λ (o : Result (Unit {0}) EventRefusal). IsRefusalOutcome o (refusal_of e r.lone)) c.in-Ok.is outcome in

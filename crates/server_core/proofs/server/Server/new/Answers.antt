@@ -6,10 +6,11 @@ use Rattle.served_instance.specs.Slots.{served_state_in}
 use Rattle.std.proofs.lemmas.List.{length_push, length-map, take_all}
 use Rattle.server_core.specs.Shared.{all_in}
 use Rattle.server_core.proofs.Begins.{quota_in, starts_more, all_pushed, within_pushed, nobody_pushed, server_begun}
+use Rattle.instance_view.specs.Shown.{ViewValue}
 use Rattle.server_core.proofs.server.Server.new.Goals as goal
 
-pub new-requires : goal.new-requires
-new-requires c =
+pub new-requires-in-loop-config : goal.new-requires-in-loop-config
+new-requires-in-loop-config c =
     let good = ap config_fault c.instances-configs.ensures.instances ∙ c.instances-configs.ensures.good in
     let each = (c.the_fault_is_the_first.ensures.none.0 good).good.each in
     record { quota = quota_in _ _ _ c.loop-config-test.true c.config-item.is each }
@@ -40,5 +41,7 @@ invariant_of-result c =
     let ys = c.loop-config.instances.items in
     let good = ap config_fault c.instances-configs.ensures.instances ∙ c.instances-configs.ensures.good in
     let some = (c.the_fault_is_the_first.ensures.none.0 good).few in
-    let few : length ys ≤ instance_limit = omega (arith, c.loop-config.invariant.count, c.loop-config.auto.config-index-end, length-map xs config_value, some) in
-    server_begun c.new-pool.result ys c.new-pool.ensures few c.loop-config.invariant.nobody (c.loop-config.invariant.within c.new-pool.result)
+    let few : length ys ≤ instance_limit = omega (arith, c.loop-config.invariant.count, c.loop-config.auto.config-index-end, length-map xs config_value, some) in (
+      server_begun c.new-pool.result ys c.new-pool.ensures few c.loop-config.invariant.nobody (c.loop-config.invariant.within c.new-pool.result),
+      ap (λ (v : ViewValue). v.entries) c.in_ok-nobody.ensures,
+    )

@@ -1,4 +1,4 @@
-use Rattle.std.proofs.Common.{ap, ◌∙◌, ◌≡◌, sym, length, subst, List, arith, ℕ}
+use Rattle.std.proofs.Common.{[], ap, ◌∙◌, ◌≡◌, sym, length, subst, List, arith, ℕ}
 use Rattle.std.proofs.lemmas.Grind.{common_steps}
 use Rattle.server_events.specs.Shown.{event_value}
 use Rattle.served_instance.specs.StandsFor.{ServedState}
@@ -18,7 +18,7 @@ returns-clause-own c = λ ne l s.
     let long : c.self.inside.instances.len ≡ length c.step_one.new.instances = grind (arith, common_steps) in
     let old = ap (all_in p) c.deref_mut.ensures.value ∙ ap (λ v. v.instances) c.self.view_is in
     let before = subst (λ (vs : List ServedState). StandsAt n vs l) (sym old) s in
-    subst (λ (xs : List ServedSlots). StandsAt n (all_in q xs) (lone_step (event_value c.args.event) l)) (sym (written _ _ _ long)) (c.step_one.ensures.own ne l before)
+    subst (λ (xs : List ServedSlots). StandsAt n (all_in q xs) (lone_step [] (event_value c.args.event) l)) (sym (written _ _ _ long)) (c.step_one.ensures.own ne l before)
 
 pub returns-clause-short : goal.returns-clause-short
 returns-clause-short c = λ memory l s.

@@ -1,8 +1,8 @@
-use Rattle.std.proofs.Common.{◌≡◌, ◌+◌, ◌++◌, List, [], ◌∷◌, arith, length, refl, subst, sym}
+use Rattle.std.proofs.Common.{◌≡◌, ◌+◌, ◌++◌, ◌∙◌, List, [], ◌∷◌, ap, arith, length, refl, subst, sym}
 use Rattle.std.proofs.lemmas.Grind.{common_steps}
 use Rattle.server_events.specs.Shown.{event_value}
 use Rattle.server_core.specs.Records.{RecordValue}
-use Rattle.server_core.specs.RunSoFar.{HasPassed, RunValue}
+use Rattle.server_core.specs.RunSoFar.{HasPassed, IsRunning, RunValue}
 use Rattle.server_events.specs.Shown.{event_value}
 use Rattle.server_core.specs.RunTo.{HasRun, HasGoneOn}
 use Rattle.server_core.proofs.Lists.{written}
@@ -23,3 +23,13 @@ returns c configs events h =
     did.strays in
     subst (λ (rs : List RecordValue). HasPassed configs (events ++ event_value c.args.event ∷ []) (record { server = new.server; records = rs; strays = new.strays.items; count = old.count + 1 }))
     (sym (written _ _ _ long)) taken
+
+pub invariant_of-result : goal.invariant_of-result
+invariant_of-result c =
+    let did = c.in_ok-step_on_and_note.ensures in
+    let old = c.self.inside in
+    let new = c.step_on_and_note.new in
+    let long : old.records.len ≡ length new.records = grind (arith, common_steps) in
+    let each : length new.records ≡ length new.server.instances = c.step_on_and_note.auto.records ∙ ap length c.deref_mut.ensures.value ∙ c.self.invariant.each ∙ sym did.count in
+    subst (λ (rs : List RecordValue). IsRunning (record { server = new.server; records = rs; strays = new.strays.items; count = old.count + 1 }))
+    (sym (written _ _ _ long)) (record { each = each; room = did.room })

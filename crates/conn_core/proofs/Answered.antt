@@ -1,5 +1,6 @@
 -- What a frame whose answer fits leaves.
 use Rattle.std.proofs.Common.{◌≡◌, ℕ, List, [], ◌∷◌, ◌++◌, length, refl, ap, ◌∙◌, sym, subst, append_assoc, inl, inr}
+use Rattle.grpc_sending.specs.StoredSending.{ForgetsEnded}
 use Rattle.std.specs.Prelude.{Bool, true, false, not, map, cond, ◌==◌, ◌&&◌, ◌||◌, Result, Ok, Err}
 use Rattle.std.specs.List.{list_any}
 use Rattle.std.proofs.lemmas.Bool.{cases_Bool}
@@ -12,18 +13,22 @@ use Rattle.http2_frames.specs.declared.frame.Frame.TheVariants.{Data, Headers, P
 use Rattle.http2_frames.specs.declared.reader.TheConstants.{CLIENT_PREFACE}
 use Rattle.http2_frames.specs.Reader.{IsReader}
 use Rattle.http2_streams.specs.declared.event.StreamEvent.{StreamEvent}
-use Rattle.http2_streams.specs.History.{Entry, In, Out, sent_frames, frame_out, has_failed, is_goaway, is_not_closed, opened_streams, highest_stream}
+use Rattle.http2_streams.specs.History.{Entry, In, Out, ends, frame_out, has_failed, highest_stream, is_ended_by_server, is_goaway, is_not_closed, opened_streams, sent_frames}
 use Rattle.http2_streams.specs.Standing.{Standing, standing}
 use Rattle.http2_streams.specs.StandsFor.{AreStreams}
 use Rattle.http2_streams.specs.Rules.{answer_after}
 use Rattle.http2_streams.specs.Entries.{control_frames, frames_put, entries_of}
 use Rattle.grpc_sending.specs.Bytes.{untaken_count}
 use Rattle.grpc_sending.specs.StoredSending.{SourceTexts, sending_in, StoredSending, IsStoredSending}
-use Rattle.grpc_sending.proofs.Histories.{append-nil}
+use Rattle.grpc_sending.proofs.Histories.{append-nil, sent_more}
+use Rattle.conn_core.proofs.Numbers.{or_none}
+use Rattle.std.proofs.lemmas.List.Folds.{list_any-append}
 use Rattle.grpc_sending.proofs.Received.{frame_heard}
 use Rattle.conn_core.specs.Floods.{is_flood, resets_since_taking}
 use Rattle.conn_core.proofs.ResetCounts.{count_frame}
 use Rattle.conn_core.specs.Received.{fits, received_raw_frames, raw_in, Outcome, outcome, outcome_of, frame_entries, fault_outcome, frames_to_put, may_put_all}
+use Rattle.grpc_sending.specs.declared.queue.StoredQueue.{StoredQueue}
+use Rattle.conn_core.specs.StandsFor.{AreForLive}
 use Rattle.conn_core.specs.Past.{Past}
 use Rattle.conn_core.specs.StandsFor.{ConnectionValue}
 use Rattle.conn_core.specs.Step.{AreCalls, ChangesStreams, HasBrought, after_frame}
@@ -86,6 +91,38 @@ answers_quiet (f ∷ fs) h = elim (cases_Bool (has_answer_form f)) [
 pub failed_after : (d : List Entry) (f : RawFrame) (fs : List Frame) → list_any is_goaway fs ≡ false → has_failed (d ++ In f ∷ map Out fs) ≡ has_failed d
 failed_after d f fs quiet = ap has_failed (in_front d f fs) ∙ failed_same (d ++ In f ∷ []) fs quiet ∙ ap (λ (gs : List Frame). list_any is_goaway gs) (sent_in d f)
 
+no_end : (s : ℕ) (f : Frame) → has_answer_form f ≡ true → ends s f ≡ false
+no_end s (GoAway t c b) h = refl
+no_end s (Data t e b) h = cc
+no_end s (Headers t e x b) h = cc
+no_end s (Priority t p) h = refl
+no_end s (RstStream t c) h = refl
+no_end s (Settings a ss) h = refl
+no_end s (PushPromise f t p) h = refl
+no_end s (Ping a o) h = refl
+no_end s (WindowUpdate t n) h = refl
+no_end s (Continuation t x b) h = refl
+no_end s (Unknown k f t p) h = refl
+
+answers_end : (s : ℕ) (fs : List Frame) → have_answer_form fs ≡ true → list_any (ends s) fs ≡ false
+answers_end s [] h = refl
+answers_end s (f ∷ fs) h = elim (cases_Bool (has_answer_form f)) [
+  | inl is ↦
+      let h' : have_answer_form fs ≡ true = rw is at h in
+      ap (λ b. b || list_any (ends s) fs) (no_end s f is) ∙ answers_end s fs h'
+  | inr other ↦ let no : false ≡ true = rw other at h in cc
+]
+
+-- the answers to a frame end no stream
+ends_after : (d : List Entry) (f : RawFrame) (fs : List Frame) (s : ℕ) → have_answer_form fs ≡ true → is_ended_by_server (d ++ In f ∷ map Out fs) s ≡ is_ended_by_server d s
+ends_after d f fs s h =
+    ap (λ (x : List Entry). is_ended_by_server x s) (in_front d f fs)
+    ∙ ap (list_any (ends s)) (sent_more (d ++ In f ∷ []) fs)
+    ∙ list_any-append (ends s) (sent_frames (d ++ In f ∷ [])) fs
+    ∙ ap (λ b. list_any (ends s) (sent_frames (d ++ In f ∷ [])) || b) (answers_end s fs h)
+    ∙ or_none (list_any (ends s) (sent_frames (d ++ In f ∷ [])))
+    ∙ ap (list_any (ends s)) (sent_in d f)
+
 pub raw_after : (d : List Entry) (f : RawFrame) (fs : List Frame) → received_raw_frames (d ++ In f ∷ map Out fs) ≡ received_raw_frames d ++ f ∷ []
 raw_after d f fs = ap received_raw_frames (in_front d f fs) ∙ raw_out (d ++ In f ∷ []) fs ∙ filter_map-append raw_in d (In f ∷ [])
 
@@ -110,11 +147,11 @@ changes u d f a at fine h = record {
 
 -- ---- all of it
 
-kept_calls : (v : ConnectionValue) (w : StoredSending) (d : List Entry) → AreCalls v d → AreCalls (with_sending v w) d
-kept_calls v w d h = record { calls = h.calls; order = h.order }
+kept_calls : (v : ConnectionValue) (w : StoredSending) (d : List Entry) → w.queues ≡ v.sending.queues → AreCalls v d → AreCalls (with_sending v w) d
+kept_calls v w d queues h = record { calls = h.calls; order = h.order; live = subst (λ (qs : List StoredQueue). AreForLive qs d) (sym queues) h.live; finished = subst (λ (qs : List StoredQueue). ForgetsEnded qs d) (sym queues) h.finished }
 
-has_brought : (texts : SourceTexts) (v : ConnectionValue) (p : Past) (f : RawFrame) (a : StreamEvent) (w : StoredSending) → AwaitsItsAnswer texts v p f a false → fits (is_flood p.history f) (untaken_count p.history) a ≡ true → IsStoredSending texts w (p.history ++ In f ∷ map Out (control_frames a)) p.owed → HasBrought texts (with_sending v w) p f a.event
-has_brought texts v p f a w h fit sending =
+has_brought : (texts : SourceTexts) (v : ConnectionValue) (p : Past) (f : RawFrame) (a : StreamEvent) (w : StoredSending) → AwaitsItsAnswer texts v p f a false → w.queues ≡ v.sending.queues → fits (is_flood p.history f) (untaken_count p.history) a ≡ true → IsStoredSending texts w (p.history ++ In f ∷ map Out (control_frames a)) p.owed → HasBrought texts (with_sending v w) p f a.event
+has_brought texts v p f a w h queues fit sending =
     let o : outcome p.history f ≡ good a = outcome_good p.history f a h.causes fit in
     let es : frame_entries p.history f ≡ In f ∷ map Out (control_frames a) = ap (λ (x : Outcome). In f ∷ map Out x.put) o in
     let is : after_frame p f ≡ p.history ++ In f ∷ map Out (control_frames a) = ap (λ (xs : List Entry). p.history ++ xs) es in
@@ -128,7 +165,8 @@ has_brought texts v p f a w h fit sending =
       streams = subst (λ (x : List Entry). AreStreams v.streams x) same h.streams;
       sending = subst (λ (x : List Entry). IsStoredSending texts w x p.owed) (sym is) sending;
       due = h.due;
-      calls = kept_calls v w p.history h.calls;
+      calls = kept_calls v w p.history queues h.calls;
+      ends = λ s. ap (λ (x : List Entry). is_ended_by_server x s) is ∙ ends_after p.history f (control_frames a) s (answers_are p.history f a h.causes);
       change = subst (λ (x : List Entry). ChangesStreams p.history x a.event) same (changes h.before p.history f a h.stood h.lives h.causes);
       counted = h.counted refl ∙ sym (count_frame p.history f (control_frames a)) ∙ ap resets_since_taking (sym is);
     }
@@ -149,4 +187,4 @@ answered_fits texts v w p f a h puts =
     let fit = fits_of texts v p f a false w true h puts in
     let all : fits (is_flood p.history f) (untaken_count p.history) a ≡ true = ap (λ b. may_put_all (untaken_count p.history) (control_frames a) && not b) (sym h.floods) ∙ ap (λ b. b && true) fit in
     let sending : IsStoredSending texts w.sending (p.history ++ In f ∷ map Out (control_frames a)) p.owed = subst (λ (fs : List Frame). IsStoredSending texts w.sending (p.history ++ In f ∷ map Out fs) p.owed) (fitting_all (untaken_count p.history) (control_frames a) fit) (put_behind texts v p f a false w true h puts) in
-    subst (λ (y : ConnectionValue). HasBrought texts y p f a.event) (sym puts.rest) (has_brought texts v p f a w.sending h all sending)
+    subst (λ (y : ConnectionValue). HasBrought texts y p f a.event) (sym puts.rest) (has_brought texts v p f a w.sending h puts.queues all sending)

@@ -18,10 +18,10 @@ use Rattle.grpc_calls.specs.Requests.{head_of}
 use Rattle.grpc_sending.proofs.Histories.{append-nil}
 use Rattle.conn_core.specs.declared.call.Call.{Call}
 use Rattle.conn_core.specs.Calls.{is_call, stream_text, messages_of}
-use Rattle.conn_core.specs.StandsFor.{IsRestOfCall, KeepsOpen, call_on, call_stream, members_of}
+use Rattle.conn_core.specs.StandsFor.{IsRestOfCall, call_on, call_stream, members_of}
 use Rattle.conn_core.specs.Step.{ChangesStreams}
 use Rattle.conn_core.proofs.Numbers.{or_none, any_later, filter_agree, filter_less, filter-append, same_number}
-use Rattle.conn_core.proofs.Places.{kept_on, none_kept, kept_streams, more_on, last_on, not_among}
+use Rattle.conn_core.proofs.Places.{KeepsOpen, kept_on, none_kept, kept_streams, more_on, last_on, not_among}
 use Rattle.conn_core.proofs.Brought.{Brings, After, Holds, IsOrdered, call_frame, text_frame, call_same, not_called}
 
 abbrev Kept : Type 0

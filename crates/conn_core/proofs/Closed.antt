@@ -11,14 +11,14 @@ use Rattle.http2_streams.specs.Rules.{number_is}
 use Rattle.conn_core.specs.declared.call.Call.{Call}
 use Rattle.conn_core.specs.Calls.{is_call}
 use Rattle.conn_core.specs.Past.{Past}
-use Rattle.conn_core.specs.StandsFor.{ConnectionValue, IsConnection, IsRestOfCall, KeepsOpen, call_on, call_stream, members_of}
+use Rattle.conn_core.specs.StandsFor.{ConnectionValue, IsConnection, IsRestOfCall, call_on, call_stream, members_of}
 use Rattle.conn_core.proofs.Answered.{both}
 use Rattle.conn_core.proofs.Began.{IsThinned, none_left}
 use Rattle.conn_core.proofs.Bring.{listed_streams}
 use Rattle.conn_core.proofs.Brought.{Holds}
 use Rattle.conn_core.proofs.Numbers.{filter_less}
 use Rattle.conn_core.proofs.Opened.{call_opened}
-use Rattle.conn_core.proofs.Places.{kept_on, none_kept, kept_streams}
+use Rattle.conn_core.proofs.Places.{KeepsOpen, kept_on, none_kept, kept_streams}
 use Rattle.conn_core.proofs.StreamsLaws.{in_live}
 
 -- a call on a stream that is not closed is on a live one
@@ -50,6 +50,7 @@ open_kept texts v kept p st keeps = record {
   streams = st.streams;
   sending = st.sending;
   due = st.due;
+  over = st.over;
   alive = λ alive.
       let a = st.alive alive in
       let thin = open_thinned p.history v.streams.live v.calls kept (λ t. listed_streams v.streams p.history t st.streams alive) a.calls keeps in
@@ -58,5 +59,7 @@ open_kept texts v kept p st keeps = record {
         calls = λ s lives. subst (λ (o : Option (Result (List ℕ) MessagesError)). IsRestOfCall p.history s o) (sym (thin.calls s lives)) (a.calls s lives);
         order = thin.order ∙ a.order;
         counted = a.counted;
+        live = a.live;
+        finished = a.finished;
       };
 }

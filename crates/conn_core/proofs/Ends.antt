@@ -172,6 +172,7 @@ ended_stands texts v x code reset d q h is sending due =
       streams = h.streams q.history failed;
       sending = subst (λ (es : List Entry). IsStoredSending texts x.sending es q.owed) (sym is) (h.sending texts d q.owed sending);
       due = h.due ∙ sym due;
+      over = λ yes' s. h.none s;
       alive = λ alive. let no : true ≡ false = sym failed ∙ alive in absurd (let z : ⊥ = cc in z);
     }
 

@@ -23,7 +23,7 @@ use Rattle.http2_streams.specs.StandsFor.{InMemory, AreStreams}
 use Rattle.http2_streams.specs.Rules.{answer_after, reading_fault}
 use Rattle.http2_streams.specs.Entries.{control_frames, entries_of, goaway_frame}
 use Rattle.grpc_sending.specs.Owed.{OwedItem}
-use Rattle.grpc_sending.specs.StoredSending.{SourceTexts, StoredSending, QueuesEndWithin, IsStoredSending}
+use Rattle.grpc_sending.specs.StoredSending.{SourceTexts, StoredSending, QueuesEndWithin, IsStoredSending, stored_on}
 use Rattle.grpc_sending.proofs.Histories.{append-nil}
 use Rattle.conn_core.specs.declared.call.Call.{Call}
 use Rattle.conn_core.specs.declared.event.CallEvent.{CallEvent}
@@ -46,9 +46,9 @@ pub fails_by : (v old : ConnectionValue) (code : ErrorCode) (reset : Option ℕ)
     → ((texts : SourceTexts) (d : List Entry) (os : List OwedItem) → IsStoredSending texts v.sending d os → IsStoredSending texts one (d ++ Out f ∷ []) os)
     → ((texts : SourceTexts) (d : List Entry) (os : List OwedItem) → has_failed d ≡ true → IsStoredSending texts one d os → IsStoredSending texts two d os)
     → ((d : List Entry) → has_failed (d ++ Out (goaway_frame v.streams.highest code) ∷ []) ≡ true)
-    → live ≡ v.streams.live → calls ≡ v.calls → due ≡ v.due ++ ended_calls live reset (map call_stream calls) → ((d : List Entry) → has_failed d ≡ true → AreStreams u d) → none ≡ []
+    → live ≡ v.streams.live → calls ≡ v.calls → due ≡ v.due ++ ended_calls live reset (map call_stream calls) → ((d : List Entry) → has_failed d ≡ true → AreStreams u d) → none ≡ [] → two.queues ≡ []
     → Fails old code reset (record { reader = v.reader; streams = u; sending = two; calls = none; due = due; ended = true; reset_count = v.reset_count })
-fails_by v old code reset one two u calls none due f h live is top is_goaway put forget failed lives same ends streams empty =
+fails_by v old code reset one two u calls none due f h live is top is_goaway put forget failed lives same ends streams empty dropped =
     let f_is : f ≡ goaway_frame v.streams.highest code = is_goaway ∙ ap (λ (n : ℕ). goaway_frame n code) top in
     subst (λ (y : ConnectionValue). Fails y code reset (record { reader = v.reader; streams = u; sending = two; calls = none; due = due; ended = true; reset_count = v.reset_count })) is (record {
       ended = refl;
@@ -56,6 +56,7 @@ fails_by v old code reset one two u calls none due f h live is top is_goaway put
       sending = λ texts d os st. forget texts (d ++ Out (goaway_frame v.streams.highest code) ∷ []) os (failed d) (subst (λ (g : Frame). IsStoredSending texts one (d ++ Out g ∷ []) os) f_is (put texts d os st));
       due = ends ∙ ap (λ (xs : List Stream). v.due ++ ended_calls xs reset (map call_stream calls)) lives ∙ ap (λ (cs : List Call). v.due ++ ended_calls v.streams.live reset (map call_stream cs)) same;
       calls = empty;
+      none = λ s. ap (stored_on s) dropped;
     })
 
 -- ---- the answer to a frame
@@ -131,7 +132,7 @@ is_answered texts v u m p f a flood n h is streams = record {
   streams = streams;
   sending = h.sending;
   due = h.due;
-  calls = record { calls = h.calls.calls; order = h.calls.order };
+  calls = record { calls = h.calls.calls; order = h.calls.order; live = h.calls.live; finished = h.calls.finished };
 }
 
 pub taken_by : (texts : SourceTexts) {T E : Type 0} (r : Result T E) (o : Result StreamEvent ConnectionFault) (v old x : ConnectionValue) (u : Standing) (m : ℕ) (f : RawFrame) (a : StreamEvent) (flood : Bool) → Counts v f flood m → v ≡ old → o ≡ Ok a
@@ -175,9 +176,10 @@ looked texts v u p alike st = record {
   streams = st.streams;
   sending = st.sending;
   due = st.due;
+  over = st.over;
   alive = λ fine.
       let a = st.alive fine in
-      record { reader = alike CLIENT_PREFACE.now p.text (received_raw_frames p.history) a.reader; calls = a.calls; order = a.order; counted = a.counted };
+      record { reader = alike CLIENT_PREFACE.now p.text (received_raw_frames p.history) a.reader; calls = a.calls; order = a.order; live = a.live; finished = a.finished; counted = a.counted };
 }
 
 pub read_none : (texts : SourceTexts) (v old : ConnectionValue) (u : Result FrameReaderValue FrameError) (r : Result Bool FrameError) → v ≡ old → v.ended ≡ false → r ≡ Ok false → ReadAlike v.reader u
@@ -217,7 +219,7 @@ front_taken texts v x none u f alive front frame passes take p st =
           streams = st.streams;
           sending = st.sending;
           due = st.due;
-          calls = record { calls = a.calls; order = a.order };
+          calls = record { calls = a.calls; order = a.order; live = a.live; finished = a.finished };
           counted = a.counted;
         }),
       ),
@@ -248,7 +250,7 @@ read_refused texts v old x u r e code is alive err fault refused fails p st0 =
         e,
         code,
         record { read = refused' CLIENT_PREFACE.now p.text (received_raw_frames p.history) a.reader; fault = fault },
-        read_fault texts (with_reader u v) x p e code (sym st.ended ∙ alive) st.streams st.sending st.due (record { calls = a.calls; order = a.order }) fails,
+        read_fault texts (with_reader u v) x p e code (sym st.ended ∙ alive) st.streams st.sending st.due (record { calls = a.calls; order = a.order; live = a.live; finished = a.finished }) fails,
       ),
     )
 

@@ -19,6 +19,7 @@ pub mod Ends
 pub mod Frames
 pub mod Closed
 pub mod CallsInCourse
+pub mod Forgets
 mod Looks
 mod Readers
 pub use Rattle.http2_frames.proofs.WireItemsDivisions as Divisions

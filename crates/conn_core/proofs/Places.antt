@@ -1,7 +1,7 @@
 -- One call among others.
 use Rattle.std.proofs.Common.{◌≡◌, ℕ, suc, ◌<◌, ◌≤◌, List, [], ◌∷◌, ◌++◌, length, refl, ap, ◌∙◌, sym, subst, append_assoc, arith, inl, inr, get_or}
 use Rattle.std.proofs.Math.ListN.{set}
-use Rattle.std.specs.Prelude.{Bool, true, false, ◌==◌, cond, map, filter, Option, Some, None, Result, Ok, Err, OnOk}
+use Rattle.std.specs.Prelude.{Bool, true, false, ◌==◌, ◌⊎◌, nat_lt, cond, map, filter, Option, Some, None, Result, Ok, Err, OnOk}
 use Rattle.std.specs.List.{list_any}
 use Rattle.std.specs.Option.{is_some}
 use Rattle.std.proofs.lemmas.Bool.{cases_Bool, eqb-true}
@@ -13,7 +13,7 @@ use Rattle.conn_core.specs.declared.call.Call.{Call}
 use Rattle.conn_core.specs.declared.event.CallEvent.{CallEvent}
 use Rattle.conn_core.specs.declared.event.CallEvent.TheVariants.{Head}
 use Rattle.conn_core.specs.Calls.{messages_of, events_of_content}
-use Rattle.conn_core.specs.StandsFor.{KeepsOpen, call_on, call_stream}
+use Rattle.conn_core.specs.StandsFor.{calls_kept, has_live_stream, call_on, call_stream}
 use Rattle.conn_core.specs.CallSteps.{call_place, TakesOn, BeginsCall, has_call}
 use Rattle.conn_core.proofs.Takes.{Took}
 
@@ -186,14 +186,22 @@ takes_at_by (Ok x) s i n content end_stream cs old new d before after at less si
     (takes_at s content end_stream cs new d before after (omega (arith, at, less, size)) (same ∙ ap (λ (c : Call). c.stream) is')
     (subst (λ (c : Call). (t : List ℕ) → c.messages ≡ (messages_of t).end → Took c.stream content end_stream new.messages before after t) is' (λ t h. record { messages = messages t h; events = events t h })))
 
-pub begins_by : (s : ℕ) (method : Method) (end_stream : Bool) (live : List Stream) (old kept new : List Call) (fresh call : Call) (before mid after : List CallEvent) → KeepsOpen live old kept → fresh.stream ≡ s → fresh.messages ≡ (messages_of []).end → call.stream ≡ fresh.stream → TakesMessages fresh call [] → mid ≡ before ++ Head s method ∷ [] → TakesEvents fresh call [] end_stream mid after → new ≡ kept ++ call ∷ [] → BeginsCall s method end_stream live old new before after
-begins_by s method end_stream live old kept new fresh call before mid after keeps at nothing same messages head events calls = record {
-  kept = kept;
-  keeps = keeps;
+-- all calls stay, or those on live streams
+abbrev pub KeepsOpen : List Stream → List Call → List Call → Type 0
+KeepsOpen live old new = (new ≡ old) ⊎ (new ≡ filter (has_live_stream live) old)
+
+pub kept_open : (n : ℕ) (live : List Stream) (old new : List Call) → new ≡ calls_kept n live old → KeepsOpen live old new
+kept_open n live old new is = elim (cases_Bool (nat_lt (length live) n)) [
+  | inl fewer ↦ inr (is ∙ rw fewer refl)
+  | inr all ↦ inl (is ∙ rw all refl)
+]
+
+pub begins_by : (s : ℕ) (method : Method) (end_stream : Bool) (n : ℕ) (live : List Stream) (old kept new : List Call) (fresh call : Call) (before mid after : List CallEvent) → n ≡ length old → kept ≡ calls_kept n live old → fresh.stream ≡ s → fresh.messages ≡ (messages_of []).end → call.stream ≡ fresh.stream → TakesMessages fresh call [] → mid ≡ before ++ Head s method ∷ [] → TakesEvents fresh call [] end_stream mid after → new ≡ kept ++ call ∷ [] → BeginsCall s method end_stream live old new before after
+begins_by s method end_stream n live old kept new fresh call before mid after count keeps at nothing same messages head events calls = record {
   call = call;
   stream = same ∙ at;
   messages = messages [] nothing;
-  calls = calls;
+  calls = calls ∙ ap (λ (cs : List Call). cs ++ call ∷ []) (keeps ∙ ap (λ (k : ℕ). calls_kept k live old) count);
   events = events [] nothing
       ∙ ap (λ (n : ℕ). mid ++ events_of_content n [] [] end_stream) at
       ∙ ap (λ (es : List CallEvent). es ++ events_of_content s [] [] end_stream) head

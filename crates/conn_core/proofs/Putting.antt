@@ -70,6 +70,7 @@ puts_none v = record {
   all = refl;
   sending = λ texts d os st. subst (λ (e : List Entry). IsStoredSending texts v.sending e os) (sym (append-nil d)) st;
   size = omega arith;
+  queues = refl;
   rest = refl;
 }
 
@@ -89,6 +90,7 @@ puts_more v w x fs gs all a b =
           append_assoc d (map Out fs) (map Out (frames_to_put (length w.sending.pending) gs)) ∙ ap (λ (es : List Entry). d ++ es) (sym (map-append Out fs (frames_to_put (length w.sending.pending) gs))) ∙ ap (λ (xs : List Frame). d ++ map Out xs) (sym joined) in
           subst (λ (e : List Entry). IsStoredSending texts x.sending e os) e two;
       size = omega (arith, b.size, size, ap (λ (xs : List Frame). length (flat_map text_of xs)) joined, ap length (flat_map-append text_of fs (frames_to_put (length w.sending.pending) gs)), length-append (flat_map text_of fs) (flat_map text_of (frames_to_put (length w.sending.pending) gs)));
+      queues = b.queues ∙ a.queues;
       rest = b.rest ∙ ap (λ (y : ConnectionValue). with_sending y x.sending) a.rest;
     }
 
@@ -99,6 +101,7 @@ puts_short v w fs gs a =
       all = sym e.0;
       sending = λ texts d os st. subst (λ (xs : List Frame). IsStoredSending texts w.sending (d ++ map Out xs) os) (sym e.1) (a.sending texts d os st);
       size = a.size ∙ ap (λ (xs : List Frame). length v.sending.pending + length (flat_map text_of xs)) (sym e.1);
+      queues = a.queues;
       rest = a.rest;
     }
 
@@ -114,14 +117,15 @@ fits_is n f false h = elim (cases_Bool (may_put n f)) [
   | inr many ↦ many
 ]
 
-pub puts_one : (v old : ConnectionValue) (w : StoredSending) (f : Frame) (b : Bool) → v ≡ old → b ≡ true → (IsTrue b ↔ ((length v.sending.pending + (9 + length (raw_of f).payload)) ≤ 131055)) → ((texts : SourceTexts) (d : List Entry) (os : List OwedItem) → IsStoredSending texts v.sending d os → IsStoredSending texts w (d ++ Out f ∷ []) os) → length w.pending ≡ length v.sending.pending + (9 + length (raw_of f).payload) → Puts old (f ∷ []) true (with_sending v w)
-puts_one v old w f b is room-is room stands size =
+pub puts_one : (v old : ConnectionValue) (w : StoredSending) (f : Frame) (b : Bool) → v ≡ old → b ≡ true → (IsTrue b ↔ ((length v.sending.pending + (9 + length (raw_of f).payload)) ≤ 131055)) → ((texts : SourceTexts) (d : List Entry) (os : List OwedItem) → IsStoredSending texts v.sending d os → IsStoredSending texts w (d ++ Out f ∷ []) os) → length w.pending ≡ length v.sending.pending + (9 + length (raw_of f).payload) → w.queues ≡ v.sending.queues → Puts old (f ∷ []) true (with_sending v w)
+puts_one v old w f b is room-is room stands size queues =
     let fit : may_put (length v.sending.pending) f ≡ true = fits_is (length v.sending.pending) f b room ∙ room-is in
     let one : frames_to_put (length v.sending.pending) (f ∷ []) ≡ f ∷ [] = rw fit refl in
     subst (λ (y : ConnectionValue). Puts y (f ∷ []) true (with_sending v w)) is (record {
       all = sym (rw fit refl);
       sending = λ texts d os st. subst (λ (xs : List Frame). IsStoredSending texts w (d ++ map Out xs) os) (sym one) (stands texts d os st);
       size = omega (arith, size, ap (λ (xs : List Frame). length (flat_map text_of xs)) one, ap length (append-nil (text_of f)), text_length (raw_of f));
+      queues = queues;
       rest = refl;
     })
 
@@ -133,6 +137,7 @@ puts_not v old f b is room-is room =
       all = sym (rw fit refl);
       sending = λ texts d os st. subst (λ (xs : List Frame). IsStoredSending texts v.sending (d ++ map Out xs) os) (sym none) (subst (λ (e : List Entry). IsStoredSending texts v.sending e os) (sym (append-nil d)) st);
       size = omega (arith, ap (λ (xs : List Frame). length (flat_map text_of xs)) none);
+      queues = refl;
       rest = refl;
     })
 

@@ -24,7 +24,7 @@ for_this P (Err e) h reader texts = tt
 pub puts_beside : (reader : Reader) (v w : ConnectionValue) (fs : List Frame) (fit : Bool) → (have_answer_form fs ≡ true → Puts v fs fit w) → have_answer_form fs ≡ true → Puts (with_reader reader v) fs fit (with_reader reader w)
 puts_beside reader v w fs fit puts are =
     let h = puts are in
-    record { all = h.all; sending = h.sending; size = h.size; rest = ap (with_reader reader) h.rest }
+    record { all = h.all; sending = h.sending; size = h.size; queues = h.queues; rest = ap (with_reader reader) h.rest }
 
 pub unless_beside : (reader : Reader) (flood : Bool) (v w : ConnectionValue) (fs : List Frame) (fit : Bool) → (have_answer_form fs ≡ true → PutsUnless flood v fs fit w) → have_answer_form fs ≡ true → PutsUnless flood (with_reader reader v) fs fit (with_reader reader w)
 unless_beside reader flood v w fs fit puts are =
@@ -32,5 +32,5 @@ unless_beside reader flood v w fs fit puts are =
     record { all = h.all; puts = puts_beside reader v w fs h.all (λ _. h.puts) are; is = h.is }
 
 pub fails_beside : {T E : Type 0} (reader : Reader) (r : Result T E) (v w : ConnectionValue) (code : ErrorCode) (reset : Option ℕ) → OnOk r (Fails v code reset w) → OnOk r (Fails (with_reader reader v) code reset (with_reader reader w))
-fails_beside reader (Ok x) v w code reset h = record { ended = h.ended; streams = h.streams; sending = h.sending; due = h.due; calls = h.calls }
+fails_beside reader (Ok x) v w code reset h = record { ended = h.ended; streams = h.streams; sending = h.sending; due = h.due; calls = h.calls; none = h.none }
 fails_beside reader (Err e) v w code reset h = tt

@@ -1,6 +1,6 @@
 -- What one step does to the calls that are kept. For the code alone: no public contract speaks of
 -- it.
-use Rattle.std.specs.Prelude.{◌≡◌, ◌==◌, ℕ, suc, if◌then◌else◌, Bool, false, not, List, [], ◌∷◌, ◌++◌, map, filter, Some, None, Result}
+use Rattle.std.specs.Prelude.{◌≡◌, ◌==◌, ℕ, suc, if◌then◌else◌, Bool, false, not, List, [], ◌∷◌, ◌++◌, length, map, filter, Some, None, Result}
 use Rattle.std.specs.List.{list_any}
 use Rattle.std.specs.Result.{is_ok}
 use Rattle.http2_streams.specs.declared.stream.Stream.{Stream}
@@ -11,7 +11,7 @@ use Rattle.conn_core.specs.declared.call.Call.{Call}
 use Rattle.conn_core.specs.declared.event.CallEvent.{CallEvent}
 use Rattle.conn_core.specs.declared.event.CallEvent.TheVariants.{Head, Message, Cancel}
 use Rattle.conn_core.specs.Calls.{message_limit, messages_of, events_behind_messages, events_of_content}
-use Rattle.conn_core.specs.StandsFor.{KeepsOpen, call_on, call_stream}
+use Rattle.conn_core.specs.StandsFor.{calls_kept, call_on, call_stream}
 
 -- ---- the text of one call
 
@@ -58,12 +58,10 @@ pub record TakesOn (s : ℕ) (content : List ℕ) (end_stream : Bool) (old new :
 
 pub record BeginsCall (s : ℕ) (method : Method) (end_stream : Bool) (live : List Stream)
     (old new : List Call) (before after : List CallEvent) : Type 0 where
-  pub kept : List Call
-  pub keeps : KeepsOpen live old kept
   pub call : Call
   pub stream : call.stream ≡ s
   pub messages : call.messages ≡ (messages_of []).end
-  pub calls : new ≡ kept ++ call ∷ []
+  pub calls : new ≡ calls_kept (length old) live old ++ call ∷ []
   pub events : after ≡ before ++ Head s method ∷ events_of_content s [] [] end_stream
 
 abbrev pub without_call : ℕ → List Call → List Call

@@ -19,7 +19,7 @@ use Rattle.http2_streams.specs.Rules.{number_is, answer_after}
 use Rattle.http2_streams.specs.Entries.{entries_of, goaway_frame}
 use Rattle.http2_streams.specs.StandsFor.{AreStreams}
 use Rattle.grpc_sending.specs.Owed.{OwedItem}
-use Rattle.grpc_sending.specs.StoredSending.{SourceTexts, IsStoredSending}
+use Rattle.grpc_sending.specs.StoredSending.{SourceTexts, IsStoredSending, stored_on}
 use Rattle.conn_core.specs.declared.event.CallEvent.{CallEvent}
 use Rattle.conn_core.specs.declared.event.CallEvent.TheVariants.{Cancel as CallCancel}
 use Rattle.conn_core.specs.Received.{received_raw_frames, frames_to_put, may_put_all}
@@ -50,6 +50,7 @@ pub record Puts (v : ConnectionValue) (fs : List Frame) (fit : Bool)
   pub size : length w.sending.pending
       ≡ length v.sending.pending + length
       (flat_map text_of (frames_to_put (length v.sending.pending) fs))
+  pub queues : w.sending.queues ≡ v.sending.queues
   pub rest : w ≡ record v { sending = w.sending }
 
 abbrev pub is_that : Option ℕ → ℕ → Bool
@@ -81,6 +82,7 @@ pub record Fails (v : ConnectionValue) (code : ErrorCode) (reset : Option ℕ)
       IsStoredSending texts w.sending (d ++ Out (goaway_frame v.streams.highest code) ∷ []) os
   pub due : w.due ≡ v.due ++ ended_calls v.streams.live reset (map call_stream v.calls)
   pub calls : w.calls ≡ []
+  pub none : (s : ℕ) → stored_on s w.sending.queues ≡ []
 
 -- the streams took the frame, and its answer is not put yet
 pub record AwaitsItsAnswer (texts : SourceTexts) (v : ConnectionValue) (p : Past)

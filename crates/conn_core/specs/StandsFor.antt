@@ -1,5 +1,5 @@
 -- What is kept of a connection stands for its past.
-use Rattle.std.specs.Prelude.{◌≡◌, ◌==◌, ◌+◌, ◌-◌, ℕ, if◌then◌else◌, Bool, true, false, List, [], ◌∷◌, ◌++◌, length, map, filter, Option, Some, None, Result, Ok, Err, ◌⊎◌}
+use Rattle.std.specs.Prelude.{◌≡◌, ◌==◌, ◌+◌, ◌-◌, ℕ, nat_lt, if◌then◌else◌, Bool, true, false, List, [], ◌∷◌, ◌++◌, length, map, filter, Option, Some, None, Result, Ok, Err, ◌⊎◌}
 use Rattle.std.specs.List.{list_any}
 use Rattle.http2_frames.specs.declared.reader.TheConstants.{CLIENT_PREFACE}
 use Rattle.http2_frames.specs.declared.codes.ErrorCode.{ErrorCode}
@@ -8,12 +8,14 @@ use Rattle.http2_frames.specs.declared.frame.RawFrame.{RawFrame}
 use Rattle.http2_frames.specs.Reading.{split}
 use Rattle.http2_frames.specs.Reader.{FrameReaderValue, IsReader, text_left}
 use Rattle.http2_streams.specs.History.{Entry, live_streams, is_not_closed, has_failed}
+use Rattle.http2_streams.specs.LiveStreams.{has_stream}
 use Rattle.http2_streams.specs.declared.stream.Stream.{Stream}
 use Rattle.http2_streams.specs.Rules.{reading_fault, number_is}
 use Rattle.http2_streams.specs.Standing.{Standing}
 use Rattle.http2_streams.specs.StandsFor.{AreStreams}
 use Rattle.grpc_messages.specs.declared.error.MessagesError.{MessagesError}
-use Rattle.grpc_sending.specs.StoredSending.{SourceTexts, StoredSending, IsStoredSending}
+use Rattle.grpc_sending.specs.StoredSending.{SourceTexts, StoredSending, IsStoredSending, ForgetsEnded, stored_on}
+use Rattle.grpc_sending.specs.declared.queue.StoredQueue.{StoredQueue}
 use Rattle.grpc_sending.specs.Owed.{Item, Range}
 use Rattle.grpc_sending.specs.Digest.{Digest}
 use Rattle.conn_core.specs.declared.call.Call.{Call}
@@ -57,6 +59,14 @@ unread_length v = if v.ended then 0 else 1 + length (text_left v.reader)
 abbrev pub members_of : List ℕ → List ℕ → List ℕ
 members_of ss ts = filter (λ t. list_any (λ s. s == t) ss) ts
 
+-- nothing is kept to be put but on live streams
+abbrev pub AreForLive : List StoredQueue → List Entry → Type 0
+AreForLive qs d = (s : ℕ) → has_stream (live_streams d) s ≡ false → stored_on s qs ≡ []
+
+-- after an error of the connection nothing is kept to be put
+abbrev pub ForgetsFailed : List StoredQueue → List Entry → Type 0
+ForgetsFailed qs d = has_failed d ≡ true → (s : ℕ) → stored_on s qs ≡ []
+
 -- what is kept while no error of the connection was met
 pub record IsAlive (v : ConnectionValue) (p : Past) : Type 0 where
   pub reader : IsReader CLIENT_PREFACE.now v.reader p.text (received_raw_frames p.history)
@@ -64,6 +74,8 @@ pub record IsAlive (v : ConnectionValue) (p : Past) : Type 0 where
       IsRestOfCall p.history s (call_on s v.calls)
   pub order : members_of (live_streams p.history) (map call_stream v.calls)
       ≡ filter (is_call p.history) (live_streams p.history)
+  pub live : AreForLive v.sending.queues p.history
+  pub finished : ForgetsEnded v.sending.queues p.history
   pub counted : v.reset_count ≡ resets_since_taking p.history
 
 -- the streams of the calls on live streams
@@ -73,9 +85,10 @@ live_numbers live cs = filter (λ s. list_any (number_is s) live) (map call_stre
 abbrev pub has_live_stream : List Stream → Call → Bool
 has_live_stream live c = list_any (number_is c.stream) live
 
--- all calls stay, or those on live streams
-abbrev pub KeepsOpen : List Stream → List Call → List Call → Type 0
-KeepsOpen live old new = (new ≡ old) ⊎ (new ≡ filter (has_live_stream live) old)
+-- the calls that stay: where fewer streams are live than so many, those on live streams; else all
+abbrev pub calls_kept : ℕ → List Stream → List Call → List Call
+calls_kept count live cs =
+    if nat_lt (length live) count then filter (has_live_stream live) cs else cs
 
 -- the calls that are given up with the connection; after an error of it none is left
 abbrev pub live_calls : ConnectionValue → List ℕ
@@ -86,6 +99,7 @@ pub record IsConnection (texts : SourceTexts) (v : ConnectionValue) (p : Past) :
   pub streams : AreStreams v.streams p.history
   pub sending : IsStoredSending texts v.sending p.history p.owed
   pub due : v.due ≡ p.due
+  pub over : ForgetsFailed v.sending.queues p.history
   pub alive : has_failed p.history ≡ false → IsAlive v p
 
 -- what is kept stands by the one look-up for all that it stands for by the other

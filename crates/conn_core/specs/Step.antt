@@ -7,15 +7,15 @@ use Rattle.http2_frames.specs.declared.frame.RawFrame.{RawFrame}
 use Rattle.http2_frames.specs.declared.reader.TheConstants.{CLIENT_PREFACE}
 use Rattle.http2_frames.specs.Reader.{FrameReaderValue, IsReader}
 use Rattle.http2_streams.specs.declared.event.Event.{Event}
-use Rattle.http2_streams.specs.History.{Entry, live_streams, is_not_closed, has_failed, highest_stream}
+use Rattle.http2_streams.specs.History.{Entry, live_streams, is_not_closed, is_ended_by_server, has_failed, highest_stream}
 use Rattle.http2_streams.specs.LiveStreams.{IsOnItsStream, live_after}
 use Rattle.http2_streams.specs.StandsFor.{AreStreams}
-use Rattle.grpc_sending.specs.StoredSending.{SourceTexts, IsStoredSending}
+use Rattle.grpc_sending.specs.StoredSending.{SourceTexts, IsStoredSending, ForgetsEnded}
 use Rattle.conn_core.specs.Floods.{resets_since_taking}
 use Rattle.conn_core.specs.Received.{received_raw_frames, outcome, frame_entries}
 use Rattle.conn_core.specs.Calls.{is_call, stream_text}
 use Rattle.conn_core.specs.Past.{Past, with_frame}
-use Rattle.conn_core.specs.StandsFor.{IsConnection, ConnectionValue, IsRestOfCall, call_on, members_of, call_stream}
+use Rattle.conn_core.specs.StandsFor.{IsConnection, AreForLive, ConnectionValue, IsRestOfCall, call_on, members_of, call_stream}
 use Rattle.http2_frames.specs.declared.reader.TheConstants.{MAX_FRAME_SIZE}
 
 -- what is kept of the calls, by the history before the frame
@@ -23,6 +23,8 @@ pub record AreCalls (v : ConnectionValue) (d : List Entry) : Type 0 where
   pub calls : (s : ℕ) → is_not_closed d s ≡ true → IsRestOfCall d s (call_on s v.calls)
   pub order : members_of (live_streams d) (map call_stream v.calls)
       ≡ filter (is_call d) (live_streams d)
+  pub live : AreForLive v.sending.queues d
+  pub finished : ForgetsEnded v.sending.queues d
 
 -- the frame was read, and nothing else was done yet
 pub record IsTaking (texts : SourceTexts) (v : ConnectionValue) (p : Past)
@@ -68,6 +70,8 @@ pub record HasBrought (texts : SourceTexts) (v : ConnectionValue) (p : Past)
   pub calls : AreCalls v p.history
   pub change : ChangesStreams p.history (after_frame p f) event
   pub counted : v.reset_count ≡ resets_since_taking (after_frame p f)
+  -- what is put for a frame ends no stream
+  pub ends : (s : ℕ) → is_ended_by_server (after_frame p f) s ≡ is_ended_by_server p.history s
 
 -- the reader that lends the frame is apart from what acts on it, which does the same beside each
 abbrev pub with_reader : Result FrameReaderValue FrameError → ConnectionValue → ConnectionValue

@@ -5,7 +5,7 @@ ghost use Rattle.std.specs.Option.{option_to_list};
 ghost use Rattle.grpc_messages.specs.Reader.{bytes_left};
 ghost use Rattle.grpc_messages.specs.declared.error.MessagesError.{MessagesError};
 ghost use Rattle.conn_core.specs.Calls.{messages_of, events_of_content, events_at_end, message_refusal};
-ghost use Rattle.conn_core.specs.StandsFor.{KeepsOpen, has_live_stream, live_numbers};
+ghost use Rattle.conn_core.specs.StandsFor.{calls_kept, has_live_stream, live_numbers};
 ghost use Rattle.conn_core.specs.CallSteps.{TakesAll, TakesOn, BeginsCall, call_place, without_call, cancel_if, has_call};
 ghost use Rattle.conn_core.specs.declared.event.CallEvent.TheVariants.{Fault};
 
@@ -177,7 +177,7 @@ pub(crate) fn begin_call(
 /// Drops the calls on closed streams, with what they keep of messages, where fewer streams than
 /// `count` are live.
 pub(crate) fn drop_closed_if_fewer(calls: &mut Vec<Call>, live: &[Stream], count: usize)
-    ensures { KeepsOpen live.now calls.old.items calls.new.items }
+    ensures { calls.new.items ≡ calls_kept count live.now calls.old.items }
 {
     if live.len() < count {
         drop_closed(calls, live);

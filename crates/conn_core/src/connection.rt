@@ -10,7 +10,7 @@ ghost use Rattle.grpc_sending.specs.Bytes.{most_untaken};
 ghost use Rattle.grpc_sending.specs.StoredSending.{SourceTexts, QueuesEndWithin, Tells, KeepsFit, KeepsFitWith, KeepsSources, HoldsMore, HasFewSources, sources_of};
 ghost use Rattle.grpc_sending.specs.Owed.{Headed, Message};
 ghost use Rattle.conn_core.specs.Past.{new_past, with_bytes, with_taken};
-ghost use Rattle.conn_core.specs.StandsFor.{IsConnection, Becomes, Owes, OwesRange, Pumps, PopsOne, ReadsOneFrame, KeepsOpen, unread_length, live_calls, call_stream};
+ghost use Rattle.conn_core.specs.StandsFor.{IsConnection, Becomes, Owes, OwesRange, Pumps, PopsOne, ReadsOneFrame, calls_kept, unread_length, live_calls, call_stream};
 ghost use Rattle.conn_core.specs.Step.{TakesFrame, BringsEvent, ChangesCalls};
 ghost use Rattle.conn_core.specs.Putting.{Puts, PutsUnless, Fails, Answers, has_answer_form, have_answer_form, is_ending, ended_calls};
 ghost use Rattle.http2_streams.specs.Entries.{control_frames, goaway_frame};
@@ -252,7 +252,8 @@ impl Connection {
         ensures stands { Pumps (P.text_of parts.now) self.old self.new }
         ensures fit { KeepsFit self.old.sending self.new.sending }
         ensures sources { KeepsSources self.old.sending self.new.sending }
-        ensures calls { KeepsOpen self.new.streams.live self.old.calls self.new.calls }
+        ensures calls { self.new.calls
+            ≡ calls_kept (length self.old.streams.live) self.new.streams.live self.old.calls }
         ensures rest { self.new ≡ record self.old
             { streams = self.new.streams; sending = self.new.sending; calls = self.new.calls } }
     {
@@ -285,7 +286,7 @@ impl Connection {
         ensures rest { self.new ≡ record self.old { sending = self.new.sending } }
     {
         self.at_rest = false;
-        self.sender.forget_all();
+        self.sender.forget_all()
     }
 
     /// The bytes that were put and not taken.

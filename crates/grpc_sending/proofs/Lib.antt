@@ -18,5 +18,7 @@ pub mod Sources
 pub mod Heads
 pub mod Sorted
 pub mod Keeping
+pub mod Nothing
+pub mod Endings
 pub mod Agreeing
 mod Wire

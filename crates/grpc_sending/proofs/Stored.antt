@@ -45,7 +45,7 @@ none_stored s (q ∷ qs) = elim (cases_Bool (q.stream == s)) [ inl at ↦ rw at 
 abbrev stored_at : (List StoredPiece → List StoredPiece) → ℕ → StoredQueue → StoredQueue
 stored_at g s q = cond (q.stream == s) (record q { pieces = g q.pieces }) q
 
-stored_changed : (g : List StoredPiece → List StoredPiece) (s t : ℕ) (qs : List StoredQueue) → g [] ≡ [] → stored_on t (map (stored_at g s) qs) ≡ cond (s == t) (g (stored_on t qs)) (stored_on t qs)
+pub stored_changed : (g : List StoredPiece → List StoredPiece) (s t : ℕ) (qs : List StoredQueue) → g [] ≡ [] → stored_on t (map (stored_at g s) qs) ≡ cond (s == t) (g (stored_on t qs)) (stored_on t qs)
 stored_changed g s t [] h = elim (cases_Bool (s == t)) [ inl yes' ↦ rw yes' (sym h) | inr no' ↦ rw no' refl ]
 stored_changed g s t (q ∷ qs) h = elim (cases_Bool (q.stream == t)) [
   | inl here ↦
@@ -251,7 +251,7 @@ fit_removed texts s qs rs is h t = subst (EndWithinTexts texts) (sym (ap (stored
 pub fit_taken : (texts : SourceTexts) (s n : ℕ) (qs rs : List StoredQueue) → rs ≡ map (stored_front_at s n) qs → QueuesEndWithin texts qs → QueuesEndWithin texts rs
 fit_taken texts s n qs rs is h t = subst (EndWithinTexts texts) (sym (ap (stored_on t) is ∙ stored_changed (stored_front n) s t qs refl)) (fit_if texts (s == t) (stored_front n (stored_on t qs)) (stored_on t qs) (fit_front texts n (stored_on t qs) (h t)) (h t))
 
-forgotten_stored : (s t : ℕ) (qs : List StoredQueue) → (s == t) ≡ false → stored_on t (filter (λ q. not (q.stream == s)) qs) ≡ stored_on t qs
+pub forgotten_stored : (s t : ℕ) (qs : List StoredQueue) → (s == t) ≡ false → stored_on t (filter (λ q. not (q.stream == s)) qs) ≡ stored_on t qs
 forgotten_stored s t [] h = refl
 forgotten_stored s t (q ∷ qs) h = elim (cases_Bool (q.stream == s)) [
   | inl at ↦ let off : (q.stream == t) ≡ false = grind (arith, nat_tests) in rw (at, off) (forgotten_stored s t qs h)

@@ -1,16 +1,18 @@
 -- What the code keeps for sending, and what it is seen as through a look-up of the texts of
 -- sources. `PutsBy`, `ResetsBy` and `FinishesBy` are for the code alone.
-use Rattle.std.specs.Prelude.{◌≡◌, ◌<◌, ◌≤◌, ◌-◌, ◌^◌, ℕ, suc, true, ℤ, ◌==◌, nat_lt, if◌then◌else◌, Bool, false, List, [], ◌∷◌, ◌++◌, length, take, drop, map, Option, Some, None, MatchOption}
+use Rattle.std.specs.Prelude.{◌≡◌, ◌<◌, ◌≤◌, ◌-◌, ◌^◌, ℕ, suc, true, ℤ, ◌==◌, nat_lt, if◌then◌else◌, Bool, false, List, [], ◌∷◌, ◌++◌, length, take, drop, map, Option, Some, None, MatchOption, ◌⊎◌}
 use Rattle.std.specs.List.{flat_map, AllByRecursion}
 use Rattle.hpack.specs.declared.encoder.Position.{Position}
 use Rattle.hpack.specs.declared.encoder.Position.TheVariants.{First}
 use Rattle.http2_streams.specs.Credit.{window_left}
 use Rattle.http2_frames.specs.declared.frame.Frame.TheVariants.{Data}
 use Rattle.http2_frames.specs.Writing.{text_of}
-use Rattle.http2_streams.specs.History.{Entry, is_not_closed, has_failed}
+use Rattle.http2_streams.specs.History.{Entry, Out, is_not_closed, is_ended_by_server, has_failed}
+use Rattle.http2_frames.specs.declared.frame.Frame.{Frame}
 use Rattle.http2_streams.specs.declared.stream.Stream.{Stream}
 use Rattle.http2_streams.specs.Standing.{Standing}
 use Rattle.http2_streams.specs.StandsFor.{AreStreams}
+use Rattle.http2_streams.specs.Rules.{is_live_at}
 use Rattle.digest.specs.declared.Digest.{Digest}
 use Rattle.grpc_sending.specs.declared.piece.StoredPiece.{StoredPiece}
 use Rattle.grpc_sending.specs.declared.piece.StoredPiece.TheVariants.{Encoded, Framed, Ranged}
@@ -23,7 +25,7 @@ use Rattle.grpc_sending.specs.Pieces.{Piece, Block, Part, Queue, most_read}
 use Rattle.grpc_sending.specs.Sources.{count_of, sources_held}
 use Rattle.grpc_sending.specs.Spans.{Span, span_pieces, span_front, span_size, span_after, IsSpan}
 use Rattle.grpc_sending.specs.Owed.{OwedItem, Item, Range, pieces_left_on, owed_with_item}
-use Rattle.grpc_sending.specs.Pump.{part_size, first_of, history_after_pump}
+use Rattle.grpc_sending.specs.Pump.{part_size, first_of, next_frames, history_after_pump}
 use Rattle.grpc_sending.specs.Step.{Puts, Rests, Resets, Finishes}
 use Rattle.grpc_sending.specs.StandsFor.{Sending, IsSending}
 
@@ -200,7 +202,35 @@ KeepsFitWith source until v w =
     (texts : SourceTexts) → until ≤ length (texts source) →
     QueuesEndWithin texts v.queues → QueuesEndWithin texts w.queues
 
+-- where nothing is kept for a stream nothing is kept after the call
+abbrev pub AddsNothing : StoredSending → StoredSending → Type 0
+AddsNothing v w = (s : ℕ) → stored_on s v.queues ≡ [] → stored_on s w.queues ≡ []
+
+-- .. but for a live stream, where no error of the connection was met
+abbrev pub AddsToLive : Standing → StoredSending → StoredSending → Type 0
+AddsToLive streams v w =
+    (s : ℕ) → (streams.failed ≡ true) ⊎ (is_live_at streams s ≡ false) →
+    stored_on s v.queues ≡ [] → stored_on s w.queues ≡ []
+
+-- nothing is kept for a stream that the server ended, which is closed
+abbrev pub ForgetsEnded : List StoredQueue → List Entry → Type 0
+ForgetsEnded qs d =
+    (s : ℕ) → is_ended_by_server d s ≡ true → (is_not_closed d s ≡ false) × (stored_on s qs ≡ [])
+
+-- .. after the pump, too
+abbrev pub PumpsEnded : SourceTexts → Standing → StoredSending → StoredSending → Type 0
+PumpsEnded texts streams v w =
+    (d : List Entry) (os : List OwedItem) → AreStreams streams d → IsStoredSending texts v d os →
+    ForgetsEnded v.queues d → ForgetsEnded w.queues (history_after_pump d os)
+
 -- ---- for the code alone: no public contract speaks of what follows
+
+-- .. after a turn
+abbrev pub EndsBy : SourceTexts → Standing → StoredSending → StoredSending → Type 0
+EndsBy texts streams v w =
+    (d : List Entry) (os : List OwedItem) → AreStreams streams d → IsStoredSending texts v d os →
+    ForgetsEnded v.queues d → (fs : List Frame) → next_frames d os ≡ Some fs →
+    ForgetsEnded w.queues (d ++ map Out fs)
 
 -- ---- changes of the queues
 

@@ -10,7 +10,7 @@ ghost use Rattle.grpc_messages.specs.Wire.{message_length_limit};
 ghost use Rattle.grpc_sending.specs.Bytes.{most_untaken};
 ghost use Rattle.grpc_sending.specs.Owed.{OwedItem, Headed, Message, Range, owed_with_item};
 ghost use Rattle.grpc_sending.specs.Pump.{history_after_pump, next_frames};
-ghost use Rattle.grpc_sending.specs.StoredSending.{Tells, Enters, DropsClosed, DropsAll, Owes, OwesRange, IsAtRest, PumpsStreams, PumpsSending, PutsBy, ResetsBy, FinishesBy, KeepsFit, KeepsFitWith, SourceTexts, StoredSending, IsStoredSending, QueuesEndWithin, EndsWithinText, KeepsSources, HoldsMore, HasFewSources, new_stored_sending, sending_in, stored_on, front_bytes, front_frame};
+ghost use Rattle.grpc_sending.specs.StoredSending.{Tells, PumpsEnded, EndsBy, AddsNothing, AddsToLive, Enters, DropsClosed, DropsAll, Owes, OwesRange, IsAtRest, PumpsStreams, PumpsSending, PutsBy, ResetsBy, FinishesBy, KeepsFit, KeepsFitWith, SourceTexts, StoredSending, IsStoredSending, QueuesEndWithin, EndsWithinText, KeepsSources, HoldsMore, HasFewSources, new_stored_sending, sending_in, stored_on, front_bytes, front_frame};
 ghost use Rattle.grpc_sending.specs.SortedQueues.{AreSorted};
 ghost use Rattle.grpc_sending.specs.Step.{Puts, Rests, IsControl, Finishes, Resets};
 ghost use Rattle.http2_frames.specs.declared.reader.TheConstants.{MAX_FRAME_SIZE};
@@ -131,6 +131,7 @@ impl Sender {
     pub fn forget(&mut self, stream: u32)
         ensures stands { DropsClosed stream self.old self.new }
         ensures dropped { stored_on stream self.new.queues ≡ [] }
+        ensures none { AddsNothing self.old self.new }
         ensures fit { KeepsFit self.old self.new }
         ensures sources { KeepsSources self.old self.new }
         ensures pending { self.new.pending ≡ self.old.pending }
@@ -168,6 +169,7 @@ impl Sender {
     ) -> Result<(), AllocError>
         ensures ok { OnOk result (Owes streams.now stream (Headed block) self.old self.new) }
         ensures fit { KeepsFit self.old self.new }
+        ensures none { AddsToLive streams.now self.old self.new }
         ensures sources { KeepsSources self.old self.new }
         ensures pending { self.new.pending ≡ self.old.pending }
         ensures err { OnErr result (self.new ≡ self.old) }
@@ -190,6 +192,7 @@ impl Sender {
         ensures ok { OnOk result (Owes streams.now stream (Message message.items) self.old
             self.new) }
         ensures fit { KeepsFit self.old self.new }
+        ensures none { AddsToLive streams.now self.old self.new }
         ensures sources { KeepsSources self.old self.new }
         ensures pending { self.new.pending ≡ self.old.pending }
         ensures err { OnErr result (self.new ≡ self.old) }
@@ -217,6 +220,7 @@ impl Sender {
         ensures ok { OnOk result (OwesRange streams.now stream source from until self.old
             self.new) }
         ensures fit { KeepsFitWith source until self.old self.new }
+        ensures none { AddsToLive streams.now self.old self.new }
         ensures sources { OnOk result (HoldsMore source self.old self.new) }
         ensures few { OnOk result (HasFewSources self.new) }
         ensures pending { self.new.pending ≡ self.old.pending }
@@ -240,6 +244,8 @@ impl Sender {
         ensures streams { PumpsStreams (P.text_of parts.now) streams.old self.old streams.new }
         ensures sending { PumpsSending (P.text_of parts.now) streams.old self.old self.new }
         ensures rests { IsAtRest streams.new self.new }
+        ensures ended { PumpsEnded (P.text_of parts.now) streams.old self.old self.new }
+        ensures none { AddsNothing self.old self.new }
         ensures fit { KeepsFit self.old self.new }
         ensures sources { KeepsSources self.old self.new }
 
@@ -261,6 +267,9 @@ impl Sender {
         ensures rests { result ≡ false → IsAtRest streams.old self.old }
         ensures streams { result ≡ false → streams.new ≡ streams.old }
         ensures same { result ≡ false → self.new ≡ self.old }
+        ensures ended { IsTrue result → EndsBy (P.text_of parts.now) streams.old self.old
+            self.new }
+        ensures none { AddsNothing self.old self.new }
         ensures fit { KeepsFit self.old self.new }
         ensures sources { KeepsSources self.old self.new }
     {
@@ -312,6 +321,8 @@ impl Sender {
         requires { length self.old.pending + (HEADER_LENGTH + 4) ≤ CAPACITY }
         ensures finishes { FinishesBy streams.old self.old stream ended_by_client streams.new
             self.new }
+        ensures dropped { stored_on stream self.new.queues ≡ [] }
+        ensures none { AddsNothing self.old self.new }
         ensures fit { KeepsFit self.old self.new }
         ensures sources { KeepsSources self.old self.new }
         ensures grows { length self.old.pending ≤ length self.new.pending }
@@ -328,6 +339,7 @@ impl Sender {
     fn put_reset(&mut self, streams: &mut Streams, stream: u32)
         requires { length self.old.pending + (HEADER_LENGTH + 4) ≤ CAPACITY }
         ensures stands { ResetsBy streams.old self.old stream streams.new self.new }
+        ensures none { AddsNothing self.old self.new }
         ensures fit { KeepsFit self.old self.new }
         ensures sources { KeepsSources self.old self.new }
         ensures grows { length self.old.pending ≤ length self.new.pending }

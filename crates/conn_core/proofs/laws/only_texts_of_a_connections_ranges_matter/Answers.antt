@@ -7,5 +7,6 @@ returns c = λ t u v agree p st. record {
   streams = st.streams;
   sending = stands_agreed t u v.sending p.history p.owed agree st.sending;
   due = st.due;
+  over = st.over;
   alive = st.alive;
 }

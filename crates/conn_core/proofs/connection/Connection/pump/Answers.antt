@@ -2,8 +2,9 @@ use Rattle.conn_core.proofs.Pumps.{pumped_by, rested_by}
 use Rattle.conn_core.specs.Past.{with_pumped}
 use Rattle.std.proofs.Common.{List, subst}
 use Rattle.http2_streams.specs.declared.stream.Stream.{Stream}
-use Rattle.conn_core.specs.StandsFor.{ConnectionValue, KeepsOpen}
+use Rattle.conn_core.specs.StandsFor.{ConnectionValue}
 use Rattle.conn_core.proofs.Closed.{open_kept}
+use Rattle.conn_core.proofs.Places.{KeepsOpen, kept_open}
 use Rattle.conn_core.proofs.Looks.{fit_by, fit_same}
 use Rattle.conn_core.proofs.connection.Connection.pump.Goals as goal
 
@@ -12,8 +13,8 @@ returns-clause-stands g c =
     let texts = g.P.Parts.text_of c.args.parts.now in
     let v : ConnectionValue = record { reader = c.self.inside.reader; streams = c.self.inside.streams; sending = c.self.inside.sender; calls = c.self.inside.calls.items; due = c.self.inside.due.items; ended = c.self.inside.ended; reset_count = c.self.inside.reset_count } in
     let w : ConnectionValue = record v { streams = c.pump.new.streams; sending = c.pump.new.self } in
-    λ p st. open_kept texts w c.drop_closed_if_fewer.new.calls.items (with_pumped p) (pumped_by texts v c.args.self.now c.pump.new.streams c.pump.new.self c.self.view_is c.pump.ensures.streams c.pump.ensures.sending p st)
-    (subst (λ (live : List Stream). KeepsOpen live v.calls c.drop_closed_if_fewer.new.calls.items) c.live.ensures.list c.drop_closed_if_fewer.ensures)
+    λ p st. open_kept texts w c.drop_closed_if_fewer.new.calls.items (with_pumped p) (pumped_by texts v c.args.self.now c.pump.new.streams c.pump.new.self c.self.view_is c.pump.ensures.none c.pump.ensures.ended c.pump.ensures.streams c.pump.ensures.sending p st)
+    (subst (λ (live : List Stream). KeepsOpen live v.calls c.drop_closed_if_fewer.new.calls.items) c.live.ensures.list (kept_open _ _ _ _ c.drop_closed_if_fewer.ensures))
 
 pub pump-requires : goal.pump-requires
 pump-requires g c = record { fit = fit_same (record { reader = c.self.inside.reader; streams = c.self.inside.streams; sending = c.self.inside.sender; calls = c.self.inside.calls.items; due = c.self.inside.due.items; ended = c.self.inside.ended; reset_count = c.self.inside.reset_count }) c.args.self.now c.self.view_is (g.P.Parts.text_of c.args.parts.now) c.requires.fit }

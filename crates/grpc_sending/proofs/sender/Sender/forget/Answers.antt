@@ -4,6 +4,7 @@ use Rattle.grpc_sending.specs.StoredSending.{StoredSending, QueuesEndWithin, sto
 use Rattle.grpc_sending.proofs.Stored.{none_stored, fit_forgotten}
 use Rattle.grpc_sending.proofs.Takes.{forget_by}
 use Rattle.grpc_sending.proofs.Keeping.{keeps_by}
+use Rattle.grpc_sending.proofs.Nothing.{none_by, none_forgotten}
 use Rattle.grpc_sending.proofs.sender.Sender.forget.Goals as goal
 
 pub returns-clause-stands : goal.returns-clause-stands
@@ -17,3 +18,6 @@ returns-clause-fit c = λ texts h. fit_forgotten texts c.args.stream c.self.insi
 
 pub returns-clause-sources : goal.returns-clause-sources
 returns-clause-sources c = keeps_by (record { pending = c.self.inside.buffer; position = c.self.inside.position; queues = c.self.inside.backlog.queues; spent = c.self.inside.backlog.spent }) c.args.self.now c.forget.new.self c.self.view_is c.forget.ensures.sources
+
+pub returns-clause-none : goal.returns-clause-none
+returns-clause-none c = none_by (record { pending = c.self.inside.buffer; position = c.self.inside.position; queues = c.self.inside.backlog.queues; spent = c.self.inside.backlog.spent }) c.args.self.now c.forget.new.self.queues c.self.view_is (none_forgotten c.args.stream c.self.inside.backlog.queues c.forget.new.self.queues c.forget.ensures.queues)

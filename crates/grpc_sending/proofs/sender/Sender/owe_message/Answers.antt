@@ -5,6 +5,7 @@ use Rattle.grpc_sending.specs.Pieces.{Part}
 use Rattle.grpc_sending.specs.StoredSending.{sending_in}
 use Rattle.grpc_sending.proofs.Takes.{owe_by, stands_failed, stands_unowed}
 use Rattle.grpc_sending.proofs.Keeping.{fit_push, keeps_push}
+use Rattle.grpc_sending.proofs.Nothing.{none_pushed}
 use Rattle.grpc_sending.proofs.sender.Sender.owe_message.Goals as goal
 use Rattle.grpc_sending.proofs.sender.Sender.owe_message.Goals.{then-has_failed-via-then-has_failed, then-has_failed-via-else-has_failed+then-not-is_live}
 
@@ -22,3 +23,6 @@ returns-clause-fit c = λ texts. fit_push c.push.result (record { pending = c.se
 
 pub returns-clause-sources : goal.returns-clause-sources
 returns-clause-sources c = keeps_push c.push.result (record { pending = c.self.inside.buffer; position = c.self.inside.position; queues = c.self.inside.backlog.queues; spent = c.self.inside.backlog.spent }) c.args.self.now c.push.new.self c.self.view_is c.push.ensures.sources c.push.ensures.err
+
+pub returns-clause-none : goal.returns-clause-none
+returns-clause-none c = none_pushed c.push.result c.args.streams.now (record { pending = c.self.inside.buffer; position = c.self.inside.position; queues = c.self.inside.backlog.queues; spent = c.self.inside.backlog.spent }) c.args.self.now c.push.new.self c.args.stream (Framed c.new-message.result) c.self.view_is (sym c.has_failed.ensures ∙ c.if-has_failed.false) (sym c.is_live.ensures ∙ c.if-not-is_live.false) c.push.ensures.ok c.push.ensures.err

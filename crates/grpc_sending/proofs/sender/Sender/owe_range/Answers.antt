@@ -3,6 +3,7 @@ use Rattle.grpc_sending.specs.declared.piece.StoredPiece.TheVariants.{Ranged}
 use Rattle.grpc_sending.proofs.Spans.{new_span}
 use Rattle.grpc_sending.proofs.Takes.{IsNothing, owe_range_by, owe_nothing_by}
 use Rattle.grpc_sending.proofs.Keeping.{fit_push, fit_same, holds_push, holds_spent, few_of, queues_spent, on_ok}
+use Rattle.grpc_sending.proofs.Nothing.{none_pushed, none_same}
 use Rattle.grpc_sending.proofs.sender.Sender.owe_range.Goals as goal
 use Rattle.grpc_sending.proofs.sender.Sender.owe_range.Goals.{then-from-until-via-then-from-until, then-from-until-via-else-from-until+then-has_failed, then-from-until-via-else-from-until+else-has_failed+then-not-is_live}
 
@@ -35,3 +36,9 @@ returns-clause-few c = few_of c.push_range.result c.push_range.new.self (2 ^ 64)
 
 pub returns-then-from-until-clause-few : goal.returns-then-from-until-clause-few
 returns-then-from-until-clause-few c = few_of c.spend.result c.spend.new.self (2 ^ 64) c.spend.ensures.few
+
+pub returns-clause-none : goal.returns-clause-none
+returns-clause-none c = none_pushed c.push_range.result c.args.streams.now (record { pending = c.self.inside.buffer; position = c.self.inside.position; queues = c.self.inside.backlog.queues; spent = c.self.inside.backlog.spent }) c.args.self.now c.push_range.new.self c.args.stream (Ranged (record { source = c.args.source; from = c.args.from; until = c.args.until; put = 0 })) c.self.view_is (sym c.has_failed.ensures ∙ c.if-has_failed.false) (sym c.is_live.ensures ∙ c.if-not-is_live.false) c.push_range.ensures.ok c.push_range.ensures.err
+
+pub returns-then-from-until-clause-none : goal.returns-then-from-until-clause-none
+returns-then-from-until-clause-none c = λ t dead. none_same (record { pending = c.self.inside.buffer; position = c.self.inside.position; queues = c.self.inside.backlog.queues; spent = c.self.inside.backlog.spent }) c.args.self.now c.spend.new.self.queues c.self.view_is (queues_spent c.spend.result (record { pending = c.self.inside.buffer; position = c.self.inside.position; queues = c.self.inside.backlog.queues; spent = c.self.inside.backlog.spent }) c.spend.new.self c.args.source c.spend.ensures.ok c.spend.ensures.err) t

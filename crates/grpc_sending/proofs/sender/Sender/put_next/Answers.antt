@@ -11,6 +11,8 @@ use Rattle.grpc_sending.specs.StoredSending.{StoredSending, QueuesEndWithin, sen
 use Rattle.grpc_sending.proofs.Stored.{fit_removed, fit_taken}
 use Rattle.grpc_sending.proofs.Dues.{given, puts_given, rests_given, rests_undue, opens_lives, HasOpened, opens_block, opens_last}
 use Rattle.grpc_sending.proofs.Keeping.{keeps_by}
+use Rattle.grpc_sending.proofs.Nothing.{none_by, none_removed, none_taken}
+use Rattle.grpc_sending.proofs.Endings.{last_ends, opens_ends, given_ends}
 use Rattle.grpc_sending.proofs.sender.Sender.put_next.Goals as goal
 
 pub on_headers_put-requires : goal.on_headers_put-requires
@@ -139,3 +141,39 @@ pub put_content-requires-clause-fit : goal.put_content-requires-clause-fit
 put_content-requires-clause-fit g c =
     let fit : QueuesEndWithin (g.P.Parts.text_of c.args.parts.now) c.self.inside.backlog.queues = subst (λ (x : StoredSending). QueuesEndWithin (g.P.Parts.text_of c.args.parts.now) x.queues) (sym c.self.view_is) c.requires.fit in
     subst (λ (qs : List StoredQueue). QueuesEndWithin (g.P.Parts.text_of c.args.parts.now) qs) (sym c.queues-in-Some-Gives.ensures.list) fit
+
+pub returns-then-is_last-clause-none : goal.returns-then-is_last-clause-none
+returns-then-is_last-clause-none g c = λ t h. c.finish.ensures.none t (none_by (record { pending = c.self.inside.buffer; position = c.self.inside.position; queues = c.self.inside.backlog.queues; spent = c.self.inside.backlog.spent }) c.args.self.now c.remove_first.new.self.queues c.self.view_is (none_removed c.in-Some-Opens.stream c.self.inside.backlog.queues c.remove_first.new.self.queues c.remove_first.ensures.queues) t h)
+
+pub returns-else-is_last-clause-none : goal.returns-else-is_last-clause-none
+returns-else-is_last-clause-none g c = none_by (record { pending = c.self.inside.buffer; position = c.self.inside.position; queues = c.self.inside.backlog.queues; spent = c.self.inside.backlog.spent }) c.args.self.now c.remove_first.new.self.queues c.self.view_is (none_removed c.in-Some-Opens.stream c.self.inside.backlog.queues c.remove_first.new.self.queues c.remove_first.ensures.queues)
+
+pub returns-else-not-can_send-clause-none : goal.returns-else-not-can_send-clause-none
+returns-else-not-can_send-clause-none g c = none_by (record { pending = c.self.inside.buffer; position = c.self.inside.position; queues = c.self.inside.backlog.queues; spent = c.self.inside.backlog.spent }) c.args.self.now c.take_off.new.self.queues c.self.view_is (none_taken c.in-Some-Gives.stream c.in-Some-Gives.count c.self.inside.backlog.queues c.take_off.new.self.queues c.take_off.ensures.queues)
+
+pub returns-then-is_last-clause-ended : goal.returns-then-is_last-clause-ended
+returns-then-is_last-clause-ended g c =
+    let fit : QueuesEndWithin (g.P.Parts.text_of c.args.parts.now) c.self.inside.backlog.queues = subst (λ (x : StoredSending). QueuesEndWithin (g.P.Parts.text_of c.args.parts.now) x.queues) (sym c.self.view_is) c.requires.fit in
+    let turn : next_due c.self.inside.backlog.queues (window_left c.args.streams.now.connection_window) c.args.streams.now.live ≡ Some (Opens c.in-Some-Opens.stream c.in-Some-Opens.block c.in-Some-Opens.ended_by_client) =
+    sym (c.next_due.ensures ∙ ap (λ (qs : List StoredQueue). next_due qs (window_left c.args.streams.now.connection_window) c.args.streams.now.live) c.queues.ensures.list) ∙ c.in-Some-Opens.is ∙ ap Some c.in-Some-Opens.field-0-is in
+    let alive : c.args.streams.now.failed ≡ false = sym c.has_failed.ensures ∙ c.if-has_failed.false in
+    let room : length c.self.inside.buffer < 65536 = omega (arith, c.if-len-ge-PUMP_LIMIT.false, c.len.ensures) in
+    λ yes'. last_ends (g.P.Parts.text_of c.args.parts.now) c.args.streams.now (record { pending = c.self.inside.buffer; position = c.self.inside.position; queues = c.self.inside.backlog.queues; spent = c.self.inside.backlog.spent }) c.args.self.now c.in-Some-Opens.stream c.in-Some-Opens.block c.in-Some-Opens.ended_by_client c.is_last-is_last.result c.finish.new.self.queues c.self.view_is alive room fit turn c.is_last-is_last.ensures c.if-is_last.true c.finish.ensures.dropped (returns-then-is_last-clause-none g c)
+
+pub returns-else-is_last-clause-ended : goal.returns-else-is_last-clause-ended
+returns-else-is_last-clause-ended g c =
+    let fit : QueuesEndWithin (g.P.Parts.text_of c.args.parts.now) c.self.inside.backlog.queues = subst (λ (x : StoredSending). QueuesEndWithin (g.P.Parts.text_of c.args.parts.now) x.queues) (sym c.self.view_is) c.requires.fit in
+    let turn : next_due c.self.inside.backlog.queues (window_left c.args.streams.now.connection_window) c.args.streams.now.live ≡ Some (Opens c.in-Some-Opens.stream c.in-Some-Opens.block c.in-Some-Opens.ended_by_client) =
+    sym (c.next_due.ensures ∙ ap (λ (qs : List StoredQueue). next_due qs (window_left c.args.streams.now.connection_window) c.args.streams.now.live) c.queues.ensures.list) ∙ c.in-Some-Opens.is ∙ ap Some c.in-Some-Opens.field-0-is in
+    let alive : c.args.streams.now.failed ≡ false = sym c.has_failed.ensures ∙ c.if-has_failed.false in
+    let room : length c.self.inside.buffer < 65536 = omega (arith, c.if-len-ge-PUMP_LIMIT.false, c.len.ensures) in
+    λ yes'. opens_ends (g.P.Parts.text_of c.args.parts.now) c.args.streams.now (record { pending = c.self.inside.buffer; position = c.self.inside.position; queues = c.self.inside.backlog.queues; spent = c.self.inside.backlog.spent }) c.args.self.now c.in-Some-Opens.stream c.in-Some-Opens.block c.in-Some-Opens.ended_by_client c.is_last-is_last.result c.remove_first.new.self.queues c.self.view_is alive room fit turn c.is_last-is_last.ensures c.if-is_last.false (returns-else-is_last-clause-none g c)
+
+pub returns-else-not-can_send-clause-ended : goal.returns-else-not-can_send-clause-ended
+returns-else-not-can_send-clause-ended g c =
+    let fit : QueuesEndWithin (g.P.Parts.text_of c.args.parts.now) c.self.inside.backlog.queues = subst (λ (x : StoredSending). QueuesEndWithin (g.P.Parts.text_of c.args.parts.now) x.queues) (sym c.self.view_is) c.requires.fit in
+    let turn : next_due c.self.inside.backlog.queues (window_left c.args.streams.now.connection_window) c.args.streams.now.live ≡ Some (Gives c.in-Some-Gives.stream c.in-Some-Gives.count) =
+    sym (c.next_due.ensures ∙ ap (λ (qs : List StoredQueue). next_due qs (window_left c.args.streams.now.connection_window) c.args.streams.now.live) c.queues.ensures.list) ∙ c.in-Some-Gives.is ∙ ap Some c.in-Some-Gives.field-0-is in
+    let alive : c.args.streams.now.failed ≡ false = sym c.has_failed.ensures ∙ c.if-has_failed.false in
+    let room : length c.self.inside.buffer < 65536 = omega (arith, c.if-len-ge-PUMP_LIMIT.false, c.len.ensures) in
+    λ yes'. given_ends (g.P.Parts.text_of c.args.parts.now) c.args.streams.now (record { pending = c.self.inside.buffer; position = c.self.inside.position; queues = c.self.inside.backlog.queues; spent = c.self.inside.backlog.spent }) c.args.self.now c.in-Some-Gives.stream c.in-Some-Gives.count c.take_off.new.self.queues c.self.view_is alive room fit turn (returns-else-not-can_send-clause-none g c)

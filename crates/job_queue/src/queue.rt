@@ -1,6 +1,6 @@
 //! Jobs that wait, run and have ended.
 
-ghost use Rattle.std.specs.Prelude.{◌≡◌, ◌≤◌, ◌<◌, ◌+◌, ◌⊎◌, ◌↔◌, ◌++◌, None, Some, drop, length, map, option_map, vec_len, vec_capacity, IsTrue, IfOk, OnOk, IfErr, OnErr, IfNone};
+ghost use Rattle.std.specs.Prelude.{◌≡◌, ◌≤◌, ◌<◌, ◌+◌, ◌⊎◌, ◌↔◌, ◌++◌, None, Some, drop, length, map, option_map, slice_get, vec_len, vec_capacity, IsTrue, IfOk, OnOk, IfErr, OnErr, IfNone};
 ghost use Rattle.std.specs.VecDeque.{deque_len, deque_capacity};
 ghost use Rattle.std.specs.Option.{option_copied};
 ghost use Rattle.std.specs.Map.{lookup, remove_entry};
@@ -264,6 +264,30 @@ impl<J: Drop> Queue<J> {
     {
         let (_, job) = self.waiting.front()?;
         Some(job)
+    }
+
+    /// The job that waits at a place, where one does, and its number: the least-numbered waits at
+    /// place 0, and the others follow in rising order.
+    pub fn waiting_at(&self, place: usize) -> Option<&(u64, J)>
+        ensures { option_copied result ≡ slice_get self.now.waiting place }
+    {
+        self.waiting.get(place)
+    }
+
+    /// The jobs that run, in rising number.
+    pub fn running(&self) -> &[(u64, Running<J>)]
+        ensures value { result.now ≡ self.now.running }
+        ensures few { length result.now ≤ MOST_RUNNING }
+    {
+        &self.running
+    }
+
+    /// The job that runs under a number, where one does.
+    pub fn running_job(&self, number: u64) -> Option<&J>
+        ensures { option_copied result ≡ running_job number self.now }
+    {
+        let running = find_in(&self.running, number)?;
+        Some(&running.job)
     }
 
     /// How many jobs run.

@@ -13,3 +13,4 @@ mod size;
 pub use laws::{a_read_is_named_by_its_written_form, a_write_is_named_by_its_written_form};
 pub use name::{NameError, ReadName, WriteName};
 pub use parse::{MOST_UUID, parse_read, parse_write};
+pub use segments::first_segment;

@@ -36,7 +36,7 @@ pub(crate) struct Division<'a> {
 }
 
 /// The first segment of a text, and what follows its slash where it has one.
-pub(crate) fn first_segment(text: &str) -> (&str, Option<&str>)
+pub fn first_segment(text: &str) -> (&str, Option<&str>)
     ensures { segments_of text.now ≡ result.0.now ∷ segments_left result.1 }
 {
     match text.split_once('/') {

@@ -1,0 +1,8 @@
+pub mod WalkFaults
+pub mod KeptTexts
+pub mod Calling
+pub mod Starts
+pub mod Timings
+pub mod Turns
+pub mod Taken
+pub mod Numbers

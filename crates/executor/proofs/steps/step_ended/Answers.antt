@@ -1,0 +1,14 @@
+use Rattle.std.proofs.Common.{rules, ◌≡◌, List, [], ◌∷◌, ◌∙◌, ℕ, ap}
+use Rattle.operations.specs.Operations.{completed_text}
+use Rattle.operations.specs.Shown.{end_shown}
+use Rattle.executor.specs.declared.job.Job.{Job}
+use Rattle.executor.specs.Steps.{StepValue, ends}
+use Rattle.executor.specs.Taking.{steps_shown}
+use Rattle.executor.proofs.Taken.{ended_some}
+use Rattle.executor.proofs.steps.step_ended.Goals as goal
+
+pub returns : goal.returns
+returns c = λ p.
+    let operation : List ℕ = c.in_ok-operation.operation.items in
+    let pushed : steps_shown c.push.new.self.items ≡ ends c.args.number operation ∷ [] = search rules in
+    pushed ∙ ended_some p c.args.number (end_shown c.args.end) c.args.queue.now c.in-Some.job.now operation c.in-Some.ensures c.in_ok-operation.ensures

@@ -1,0 +1,31 @@
+//! Executions of an instance (remote_execution.proto, Execution): how calls are answered, and what
+//! happens to jobs at each event.
+#![tactic(auto)]
+
+mod answer;
+mod asked;
+mod executing;
+mod job;
+mod keeping;
+mod laws;
+mod making;
+mod orders;
+mod preparing;
+mod steps;
+mod taking;
+mod waiting;
+
+pub use answer::{ExecuteAnswer, WaitAnswer};
+pub use asked::Asked;
+pub use executing::execute;
+pub use job::{Executions, Job, Task};
+pub use keeping::KeptText;
+pub use laws::{
+    a_job_keeps_each_text_once, a_refused_call_changes_nothing, an_answer_takes_one_number,
+    at_most_slots_run, names_are_read_so, no_slot_is_left_empty, steps_can_be_taken,
+    steps_keep_jobs,
+};
+pub use orders::{Order, Told, task_of};
+pub use steps::{Step, end_steps, start_steps, tick_steps};
+pub use taking::take_steps;
+pub use waiting::wait;

@@ -1,0 +1,9 @@
+mod Children
+mod Opening
+mod Gathered
+mod Walked
+mod Collected
+mod Freshness
+mod Once
+mod Root
+mod Completed

@@ -1,0 +1,15 @@
+use Rattle.std.proofs.Common.{◌≡◌, ◌++◌, List, length}
+use Rattle.outcomes.specs.Gathering.{IsGathered}
+use Rattle.outcomes.specs.Outcomes.{OutputNodeValue}
+use Rattle.outcomes.specs.Shown.{nodes_shown}
+use Rattle.outcomes.proofs.gathering.gather_nodes.Given as goal
+
+abbrev pub invariant-loop-node : goal.invariant-loop-node
+invariant-loop-node l = record {
+  done : List OutputNodeValue;
+  whole : nodes_shown l.left ++ done ≡ nodes_shown l.nodes;
+  gathered : IsGathered l.like l.gathering done;
+}
+
+abbrev pub decreases-loop-node : goal.decreases-loop-node
+decreases-loop-node l = length l.left

@@ -1,0 +1,9 @@
+pub mod Outcomes
+pub mod Asked
+pub mod Naming
+pub mod Trees
+pub mod Results
+pub mod Shown
+pub mod Gathering
+pub mod Completing
+pub mod Fresh

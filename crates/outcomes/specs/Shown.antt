@@ -1,0 +1,47 @@
+-- What the values of the code stand for.
+use Rattle.std.specs.Prelude.{ℕ, List, map, string_bytes}
+use Rattle.instance_view.specs.Visible.{Blob}
+use Rattle.outcomes.specs.declared.asked.AskedOutput.{AskedOutput}
+use Rattle.outcomes.specs.declared.outcome.NodeKind.{NodeKind}
+use Rattle.outcomes.specs.declared.outcome.NodeKind.TheVariants as kinds
+use Rattle.outcomes.specs.declared.outcome.OutputNode.{OutputNode}
+use Rattle.outcomes.specs.declared.outcome.OutputKind.{OutputKind}
+use Rattle.outcomes.specs.declared.outcome.OutputKind.TheVariants as outputs
+use Rattle.outcomes.specs.declared.outcome.Output.{Output}
+use Rattle.outcomes.specs.declared.outcome.Exited.{Exited}
+use Rattle.outcomes.specs.declared.outcome.Outcome.{Outcome}
+use Rattle.outcomes.specs.declared.outcome.Outcome.TheVariants as ends
+use Rattle.outcomes.specs.Asked.{AskedValue}
+use Rattle.outcomes.specs.Outcomes.{ExitedValue, NodeKindValue, OutcomeValue, OutputNodeValue, OutputValue, as_directory, as_file, exited, failed, output_file, output_tree}
+
+abbrev pub kind_shown : NodeKind → NodeKindValue
+kind_shown (kinds.File text is_executable) = as_file text is_executable
+kind_shown kinds.Directory = as_directory
+
+abbrev pub node_shown : OutputNode → OutputNodeValue
+node_shown n = record { name = string_bytes n.name; level = n.level; kind = kind_shown n.kind }
+
+abbrev pub nodes_shown : List OutputNode → List OutputNodeValue
+nodes_shown nodes = map node_shown nodes
+
+abbrev pub output_of : OutputKind → List ℕ → OutputValue
+output_of (outputs.File text is_executable) path = output_file path text is_executable
+output_of (outputs.Tree nodes) path = output_tree path (nodes_shown nodes.items)
+
+abbrev pub output_shown : Output → OutputValue
+output_shown o = output_of o.kind (string_bytes o.path)
+
+abbrev pub exited_shown : Exited → ExitedValue
+exited_shown x = record {
+  code = x.code;
+  stdout = x.stdout;
+  stderr = x.stderr;
+  outputs = map output_shown x.outputs.items;
+}
+
+abbrev pub outcome_shown : Outcome → OutcomeValue
+outcome_shown ends.Failed = failed
+outcome_shown (ends.Exited x) = exited (exited_shown x)
+
+abbrev pub asked_shown : AskedOutput → AskedValue
+asked_shown a = record { path = a.path.now; as_file = a.as_file; as_tree = a.as_tree }

@@ -1,0 +1,46 @@
+//! Outputs that an action asks for.
+
+ghost use Rattle.std.specs.Prelude.{◌≡◌, map};
+ghost use Rattle.outcomes.specs.Asked.{are_asked, is_asked};
+ghost use Rattle.outcomes.specs.Shown.{asked_shown, output_shown};
+
+use crate::outcome::{Output, OutputKind};
+
+/// An output that an action asks for.
+#[derive(Clone, Copy)]
+pub struct AskedOutput<'a> {
+    pub path: &'a str,
+    /// Whether it may be a file.
+    pub as_file: bool,
+    /// Whether it may be a directory.
+    pub as_tree: bool,
+}
+
+/// Whether an output is the one that is asked for.
+fn is_asked(asked: &AskedOutput<'_>, output: &Output) -> bool
+    ensures { result ≡ is_asked (asked_shown asked.now) (output_shown output.now) }
+{
+    let may_be = match &output.kind {
+        OutputKind::File { .. } => asked.as_file,
+        OutputKind::Tree { .. } => asked.as_tree,
+    };
+    may_be && asked.path == output.path.as_str()
+}
+
+/// Whether outputs are some of those that are asked for, in their order, each as often at most.
+pub(crate) fn are_asked(asked: &[AskedOutput<'_>], outputs: &[Output]) -> bool
+    ensures { result ≡ are_asked (map asked_shown asked.now) (map output_shown outputs.now) }
+{
+    let mut left = outputs;
+    let mut asked_left = asked;
+    while let [output, next @ ..] = left {
+        let [first, rest @ ..] = asked_left else {
+            return false;
+        };
+        if is_asked(first, output) {
+            left = next;
+        }
+        asked_left = rest;
+    }
+    true
+}

@@ -1,0 +1,10 @@
+pub mod Calls
+pub mod Collect
+pub mod Counting
+pub mod Ended
+pub mod Pieces
+pub mod Items
+pub mod Lists
+pub mod Popped
+pub mod WentOn
+pub mod Trees

@@ -1,0 +1,21 @@
+use Rattle.std.proofs.Common.{◌≡◌, [], ◌∷◌, ◌++◌, refl, sym, ap, ◌∙◌, map, length, append-nil, append_assoc, arith}
+use Rattle.std.specs.Prelude.{Ok, string_bytes}
+use Rattle.runner.specs.Values.{place_shown}
+use Rattle.runner.specs.Calls.{look_asked, file_asked, list_asked, bytes_asked, found_of, facts_of, entries_of, folder_bytes_of}
+use Rattle.runner.specs.Gathered.{call_items, file_item, directory_item, numbered, output_items, nodes_items}
+use Rattle.runner.proofs.Collect.{goes_alone, goes_folder, goes_from}
+use Rattle.runner.proofs.Popped.{was_ok, popped, popped_none, bytes_say, more_gathered, no_items}
+use Rattle.runner.proofs.Pieces.{read_whole, read_more, read_inside, one_behind, more_inside, nothing_more, begun, begun_inside}
+use Rattle.runner.proofs.gathering.list_in_tree.Goals as goal
+
+pub returns-clause-goes : goal.returns-clause-goes
+returns-clause-goes g c = λ text p.
+    let is = was_ok _ _ _ c.of_folder.ensures c.in_ok-entries.was in
+    let path = string_bytes c.args.tree.path in
+    let asked = map string_bytes c.above.result.now in
+    let items = ap (λ r. call_items (list_asked (place_shown c.args.place.now) c.as_str.result.now asked 10001) (entries_of r)) is
+    ∙ ap (λ s. directory_item (place_shown c.args.place.now) s asked ∷ []) c.as_str.ensures.value ∙ ap (λ ns. directory_item (place_shown c.args.place.now) path ns ∷ []) c.above.ensures in
+    goes_folder text (place_shown c.args.place.now) _ _ _ _ p (list_asked (place_shown c.args.place.now) c.as_str.result.now asked 10001) _ c.list.ensures.adds refl refl refl
+    (one_behind (output_items (place_shown c.args.place.now) c.args.gathering.exited.outputs.items) (directory_item (place_shown c.args.place.now) path [] ∷ nodes_items (place_shown c.args.place.now) path [] c.args.tree.nodes.nodes) _ _
+    (ap (λ zs. directory_item (place_shown c.args.place.now) path [] ∷ zs) (c.in_ok-nodes.ensures.items (place_shown c.args.place.now) path ∙ ap (λ is. nodes_items (place_shown c.args.place.now) path [] c.args.tree.nodes.nodes ++ is) (sym items))))
+    refl

@@ -1,0 +1,53 @@
+use Rattle.std.proofs.Common.{◌≡◌, [], ◌∷◌, ◌++◌, refl, sym, ap, ◌∙◌, map, length, append-nil, append_assoc, arith}
+use Rattle.std.specs.Prelude.{Ok, string_bytes}
+use Rattle.runner.specs.Values.{place_shown}
+use Rattle.runner.specs.Calls.{look_asked, file_asked, list_asked, bytes_asked, found_of, facts_of, entries_of, folder_bytes_of}
+use Rattle.runner.specs.Gathered.{call_items, file_item, directory_item, numbered, output_items, nodes_items}
+use Rattle.runner.proofs.Collect.{goes_alone, goes_folder, goes_from}
+use Rattle.runner.proofs.Popped.{was_ok, popped, popped_none, bytes_say, more_gathered, no_items}
+use Rattle.runner.proofs.Pieces.{read_whole, read_more, read_inside, one_behind, more_inside, nothing_more, begun, begun_inside}
+use Rattle.runner.proofs.gathering.next_output.Goals as goal
+
+pub returns-in_default-clause-goes : goal.returns-in_default-clause-goes
+returns-in_default-clause-goes g c = λ text p.
+    goes_alone text (place_shown c.args.place.now) _ _ _ p refl refl
+    (ap (λ l. map (look_asked (place_shown c.args.place.now)) (map string_bytes l)) (popped_none _ _ _ c.pop_front.ensures.items c.pop_front.ensures.rest c.in_default.is))
+    refl refl
+
+pub returns-else-is_too_large-clause-goes : goal.returns-else-is_too_large-clause-goes
+returns-else-is_too_large-clause-goes g c = λ text p.
+    let is = was_ok _ _ _ c.of_folder.ensures c.in_ok-facts.was ∙ ap Ok c.in-File.is in
+    let first = popped _ _ _ _ c.pop_front.ensures.items c.in-Some.is in
+    let path = string_bytes c.in-Some.path in
+    let items = ap (λ r. call_items (look_asked (place_shown c.args.place.now) c.as_str.result.now) (found_of r)) is ∙ ap (λ s. file_item (place_shown c.args.place.now) s [] c.in-File.facts.is_executable ∷ []) c.as_str.ensures.value in
+    goes_folder text (place_shown c.args.place.now) _ _ _ _ p (look_asked (place_shown c.args.place.now) c.as_str.result.now) _ c.look.ensures.adds refl refl
+    (ap (λ l. map (look_asked (place_shown c.args.place.now)) (map string_bytes l)) first ∙ ap (λ s. look_asked (place_shown c.args.place.now) s ∷ map (look_asked (place_shown c.args.place.now)) (map string_bytes c.pop_front.new.self.items)) (sym c.as_str.ensures.value))
+    (begun (output_items (place_shown c.args.place.now) c.args.gathering.exited.outputs.items) (file_item (place_shown c.args.place.now) path [] c.in-File.facts.is_executable) _ _ (ap (numbered (place_shown c.args.place.now) path [] 0) c.new.ensures) items)
+    refl
+
+pub returns-in-Directory-clause-goes : goal.returns-in-Directory-clause-goes
+returns-in-Directory-clause-goes g c = λ text p.
+    let is = was_ok _ _ _ c.of_folder.ensures c.in_ok-facts.was ∙ ap Ok c.in-Directory.is in
+    let first = popped _ _ _ _ c.pop_front.ensures.items c.in-Some.is in
+    goes_folder text (place_shown c.args.place.now) _ _ _ _ p (look_asked (place_shown c.args.place.now) c.as_str.result.now) _ c.look.ensures.adds refl refl
+    (ap (λ l. map (look_asked (place_shown c.args.place.now)) (map string_bytes l)) first ∙ ap (λ s. look_asked (place_shown c.args.place.now) s ∷ map (look_asked (place_shown c.args.place.now)) (map string_bytes c.pop_front.new.self.items)) (sym c.as_str.ensures.value))
+    (nothing_more _ _ (ap (λ r. call_items (look_asked (place_shown c.args.place.now) c.as_str.result.now) (found_of r)) is))
+    refl
+
+pub returns-in-Nothing-clause-goes : goal.returns-in-Nothing-clause-goes
+returns-in-Nothing-clause-goes g c = λ text p.
+    let is = was_ok _ _ _ c.of_folder.ensures c.in_ok-facts.was ∙ ap Ok c.in-Nothing.is in
+    let first = popped _ _ _ _ c.pop_front.ensures.items c.in-Some.is in
+    goes_folder text (place_shown c.args.place.now) _ _ _ _ p (look_asked (place_shown c.args.place.now) c.as_str.result.now) _ c.look.ensures.adds refl refl
+    (ap (λ l. map (look_asked (place_shown c.args.place.now)) (map string_bytes l)) first ∙ ap (λ s. look_asked (place_shown c.args.place.now) s ∷ map (look_asked (place_shown c.args.place.now)) (map string_bytes c.pop_front.new.self.items)) (sym c.as_str.ensures.value))
+    (nothing_more _ _ (ap (λ r. call_items (look_asked (place_shown c.args.place.now) c.as_str.result.now) (found_of r)) is))
+    refl
+
+pub returns-in-Other-clause-goes : goal.returns-in-Other-clause-goes
+returns-in-Other-clause-goes g c = λ text p.
+    let is = was_ok _ _ _ c.of_folder.ensures c.in_ok-facts.was ∙ ap Ok c.in-Other.is in
+    let first = popped _ _ _ _ c.pop_front.ensures.items c.in-Some.is in
+    goes_folder text (place_shown c.args.place.now) _ _ _ _ p (look_asked (place_shown c.args.place.now) c.as_str.result.now) _ c.look.ensures.adds refl refl
+    (ap (λ l. map (look_asked (place_shown c.args.place.now)) (map string_bytes l)) first ∙ ap (λ s. look_asked (place_shown c.args.place.now) s ∷ map (look_asked (place_shown c.args.place.now)) (map string_bytes c.pop_front.new.self.items)) (sym c.as_str.ensures.value))
+    (nothing_more _ _ (ap (λ r. call_items (look_asked (place_shown c.args.place.now) c.as_str.result.now) (found_of r)) is))
+    refl

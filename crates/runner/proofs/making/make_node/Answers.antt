@@ -1,0 +1,31 @@
+use Rattle.std.proofs.Common.{refl, sym, ap, subst, map, ◌++◌}
+use Rattle.std.specs.Prelude.{string_bytes}
+use Rattle.runner.specs.Values.{place_shown, kind_shown}
+use Rattle.runner.specs.Calls.{node_asked, look_asked, call, Adds, done_of}
+use Rattle.runner.specs.Made.{nodes_made}
+use Rattle.runner.specs.Steps.{prepared_left}
+use Rattle.runner.proofs.Collect.{goes_alone, goes_folder, quiet}
+use Rattle.runner.proofs.Popped.{popped, popped_none, named, node_step}
+use Rattle.runner.proofs.making.make_node.Goals as goal
+
+pub returns-in_default-clause-goes : goal.returns-in_default-clause-goes
+returns-in_default-clause-goes g c = λ text p.
+    goes_alone text (place_shown c.args.place.now) _ _ _ p
+    (ap (λ ns. nodes_made text c.args.place.now.run (map string_bytes c.args.nodes.above.items) ns ++ prepared_left (place_shown c.args.place.now) c.args.nodes.next)
+    (popped_none _ _ _ c.pop_front.ensures.items c.pop_front.ensures.rest c.in_default.is))
+    refl refl refl refl
+
+pub returns-clause-goes : goal.returns-clause-goes
+returns-clause-goes g c = λ text p.
+    let names = map string_bytes c.push.new.self.items in
+    let q = node_asked c.args.place.now.run (map string_bytes c.push.new.self.items) (kind_shown c.in-Some.node.kind) in
+    goes_folder text (place_shown c.args.place.now) _ _ _ _ p q _
+    (subst (λ ns. Adds (g.F.Folder.asked c.args.folder.now) (g.F.Folder.asked c.make_node.new.self) (call (node_asked c.args.place.now.run (map string_bytes ns) (kind_shown c.in-Some.node.kind)) (done_of c.make_node.result)))
+    c.deref.ensures.value c.make_node.ensures.adds)
+    (node_step text c.args.place.now.run (map string_bytes c.args.nodes.above.items) names c.in-Some.node _ _ _ _
+    (popped _ _ _ _ c.pop_front.ensures.items c.in-Some.is)
+    (named string_bytes _ _ _ _ _ _ c.in_ok-push.ensures.items c.truncate.ensures.items c.saturating_sub.ensures)
+    (c.after_node-making.ensures.left text (place_shown c.args.place.now)))
+    (sym (c.after_node-making.ensures.starts (place_shown c.args.place.now)))
+    (ap (map (look_asked (place_shown c.args.place.now))) (sym c.after_node-making.ensures.outputs))
+    (sym (quiet q _ (λ x. refl))) refl

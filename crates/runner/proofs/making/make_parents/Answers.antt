@@ -1,0 +1,30 @@
+use Rattle.std.proofs.Common.{refl, sym, ap, ◌∙◌, subst, map, ◌++◌, append-nil}
+use Rattle.std.specs.Prelude.{string_bytes}
+use Rattle.runner.specs.Values.{place_shown}
+use Rattle.runner.specs.Calls.{parents_asked, look_asked, call, Adds, done_of}
+use Rattle.runner.specs.Made.{parents_item}
+use Rattle.runner.proofs.Collect.{goes_alone, goes_folder, quiet}
+use Rattle.runner.proofs.Popped.{popped, popped_none, moved}
+use Rattle.runner.proofs.making.make_parents.Goals as goal
+
+pub returns-in_default-clause-goes : goal.returns-in_default-clause-goes
+returns-in_default-clause-goes g c = λ text p.
+    let none = popped_none _ _ _ c.pop_front.ensures.items c.pop_front.ensures.rest c.in_default.is in
+    goes_alone text (place_shown c.args.place.now) _ _ _ p
+    (ap (map (λ o. parents_item (place_shown c.args.place.now) (string_bytes o))) none)
+    refl
+    (ap (λ l. map (look_asked (place_shown c.args.place.now)) (map string_bytes c.args.parents.made.items ++ map string_bytes l)) none
+    ∙ ap (map (look_asked (place_shown c.args.place.now))) (append-nil (map string_bytes c.args.parents.made.items)))
+    refl refl
+
+pub returns-clause-goes : goal.returns-clause-goes
+returns-clause-goes g c = λ text p.
+    let first = popped _ _ _ _ c.pop_front.ensures.items c.in-Some.is in
+    let q = parents_asked (place_shown c.args.place.now) (string_bytes c.in-Some.path) in
+    goes_folder text (place_shown c.args.place.now) _ _ _ _ p q _
+    (subst (λ s. Adds (g.F.Folder.asked c.args.folder.now) (g.F.Folder.asked c.make_parents.new.self) (call (parents_asked (place_shown c.args.place.now) s) (done_of c.make_parents.result)))
+    c.as_str.ensures.value c.make_parents.ensures.adds)
+    (ap (map (λ o. parents_item (place_shown c.args.place.now) (string_bytes o))) first)
+    refl
+    (ap (map (look_asked (place_shown c.args.place.now))) (moved string_bytes _ _ _ _ _ first c.in_ok-push_back.ensures.items))
+    (sym (quiet q _ (λ x. refl))) refl

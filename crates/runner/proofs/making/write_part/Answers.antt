@@ -1,0 +1,33 @@
+use Rattle.std.proofs.Common.{◌≡◌, [], ◌∷◌, ◌-◌, ◌++◌, refl, sym, ap, ◌∙◌, subst, map, take, length, arith}
+use Rattle.std.specs.Prelude.{string_bytes}
+use Rattle.runner.specs.Values.{place_shown, command_shown}
+use Rattle.runner.specs.Calls.{text_asked, start_asked, look_asked, call, Adds, done_of}
+use Rattle.runner.specs.Made.{byte_item}
+use Rattle.runner.specs.Steps.{nodes_left}
+use Rattle.runner.proofs.Collect.{goes_alone, goes_folder, quiet}
+use Rattle.runner.proofs.Popped.{no_items, part_step}
+use Rattle.runner.proofs.making.write_part.Goals as goal
+
+pub returns-then-is_empty-clause-goes : goal.returns-then-is_empty-clause-goes
+returns-then-is_empty-clause-goes g c = λ p.
+    let text = g.T.Texts.text_of c.args.texts.now in
+    let names = map string_bytes c.args.writing.nodes.above.items in
+    let none : c.part-part.result.now ≡ [] = no_items _ (grind (arith, c.is_empty.ensures, c.if-is_empty.true)) in
+    goes_alone text (place_shown c.args.place.now) _ _ _ p
+    (ap (λ zs. map (byte_item c.args.place.now.run names) zs ++ nodes_left text (place_shown c.args.place.now) (take (length names - 1) names) c.args.writing.nodes)
+    (c.part-part.ensures.part.last (omega arith) none)
+    ∙ sym (c.left_above.ensures.left text (place_shown c.args.place.now)))
+    (ap (λ n. start_asked (place_shown c.args.place.now) (command_shown n.command) ∷ []) (sym c.left_above.ensures.next))
+    (ap (λ n. map (look_asked (place_shown c.args.place.now)) (map string_bytes n.outputs.items)) (sym c.left_above.ensures.next))
+    refl refl
+
+pub returns-clause-goes : goal.returns-clause-goes
+returns-clause-goes g c = λ p.
+    let text = g.T.Texts.text_of c.args.texts.now in
+    let names = map string_bytes c.args.writing.nodes.above.items in
+    let q = text_asked c.args.place.now.run (map string_bytes c.args.writing.nodes.above.items) c.part-part.result.now in
+    goes_folder (g.T.Texts.text_of c.args.texts.now) (place_shown c.args.place.now) _ _ _ _ p q _
+    (subst (λ ns. Adds (g.F.Folder.asked c.args.folder.now) (g.F.Folder.asked c.write.new.self) (call (text_asked c.args.place.now.run (map string_bytes ns) c.part-part.result.now) (done_of c.write.result)))
+    c.deref.ensures.value c.write.ensures.adds)
+    (part_step (byte_item c.args.place.now.run names) (text c.args.writing.text) c.part-part.result.now c.args.writing.from (nodes_left text (place_shown c.args.place.now) (take (length names - 1) names) c.args.writing.nodes) c.part-part.ensures.part.follows)
+    refl refl (sym (quiet q _ (λ x. refl))) refl

@@ -1,0 +1,12 @@
+use Rattle.std.proofs.Common.{refl, inl, inr}
+use Rattle.runner.specs.declared.stage.State.TheVariants.{Live, Over}
+use Rattle.runner.proofs.WentOn.{ended_on, went_on}
+use Rattle.runner.proofs.runs.Runner.ask.Goals as goal
+
+pub returns-in-Over-clause-asked : goal.returns-in-Over-clause-asked
+returns-in-Over-clause-asked g c =
+    inr (inl (c.in-Over.ending, ended_on _ _ _ _ _ c.in-Some.run' _ (Over c.in-Over.ending) _ _ _ _ _ c.in-Some.ensures.taken c.in-Some.ensures.key refl c.in-Over.is c.put_left.ensures c.end-left.ensures))
+
+pub returns-in-Live-clause-asked : goal.returns-in-Live-clause-asked
+returns-in-Live-clause-asked g c =
+    went_on _ _ _ _ _ _ _ c.in-Some.run' _ c.in-Live.stage _ _ _ _ c.in-Some.ensures.taken c.in-Some.ensures.key refl c.in-Live.is c.go_on.ensures.went

@@ -1,0 +1,18 @@
+use Rattle.std.proofs.Common.{refl, subst}
+use Rattle.runner.specs.declared.stage.State.TheVariants.{Live}
+use Rattle.runner.specs.declared.stage.Step.{Step}
+use Rattle.runner.specs.Values.{place_shown}
+use Rattle.runner.specs.Steps.{Goes}
+use Rattle.runner.proofs.runs.Runner.go_on.Goals as goal
+
+pub returns-in-Ok-Goes-clause-went : goal.returns-in-Ok-Goes-clause-went
+returns-in-Ok-Goes-clause-went g c = record {
+  state = Live c.in-Ok-Goes.next;
+  put = c.put_back.ensures;
+  becomes = (
+    c.in-Ok-Goes.next,
+    c.in-Ok-Goes._spent,
+    refl,
+    subst (λ (x : Step). Goes (g.T.Texts.text_of c.args.texts.now) (place_shown c.args.place) c.args.stage x (g.F.Folder.asked c.args.self.now.folder) (g.F.Folder.asked c.turn.new.folder) (g.P.Programs.asked c.args.self.now.programs) (g.P.Programs.asked c.turn.new.programs)) c.in-Ok-Goes.field-0-is c.in-Ok-Goes.ensures.goes,
+  );
+}

@@ -1,0 +1,143 @@
+-- What is asked of folders and of programs, and what they answer.
+use Rattle.std.specs.Prelude.{◌≡◌, ℕ, ℤ, Bool, List, [], ◌∷◌, ◌++◌, map, Option, Some, None, Result, Ok, Err, ⊤}
+use Rattle.std.specs.Option.{option_map}
+use Rattle.std.specs.Global.{Vec}
+use Rattle.runner.specs.declared.task.RunKey.{RunKey}
+use Rattle.runner.specs.declared.folder.Found.{Found}
+use Rattle.runner.specs.declared.folder.FileFacts.{FileFacts}
+use Rattle.runner.specs.declared.folder.Entry.{Entry}
+use Rattle.runner.specs.declared.programs.Stream.{Stream}
+use Rattle.runner.specs.Values.{KindValue, PlaceValue, CommandValue, EntryValue, entry_shown}
+
+-- ---- of folders
+
+pub data FolderQuestion : Type 0 where
+  -- to make the folder of a run
+  root_asked : RunKey → FolderQuestion
+  -- to make a node in it, which has these names from the root on
+  node_asked : RunKey → List (List ℕ) → KindValue → FolderQuestion
+  -- to add bytes to a file that was made
+  text_asked : RunKey → List (List ℕ) → List ℕ → FolderQuestion
+  -- to make the directory in which its program runs
+  directory_asked : PlaceValue → FolderQuestion
+  -- to make the directories above an output
+  parents_asked : PlaceValue → List ℕ → FolderQuestion
+  -- what stands at an output's path
+  look_asked : PlaceValue → List ℕ → FolderQuestion
+  -- what is told of a file, which has these names below an output's path
+  file_asked : PlaceValue → List ℕ → List (List ℕ) → FolderQuestion
+  -- what is in a directory, at most so much
+  list_asked : PlaceValue → List ℕ → List (List ℕ) → ℕ → FolderQuestion
+  -- the bytes of a file from a place on, at most so many
+  bytes_asked : PlaceValue → List ℕ → List (List ℕ) → ℕ → ℕ → FolderQuestion
+  -- to remove some of the folder of a run
+  removal_asked : RunKey → FolderQuestion
+
+pub data FolderAnswer : Type 0 where
+  done : FolderAnswer
+  found : Found → FolderAnswer
+  facts : Option FileFacts → FolderAnswer
+  entries : List EntryValue → FolderAnswer
+  file_bytes : List ℕ → FolderAnswer
+  -- whether nothing is left
+  gone : Bool → FolderAnswer
+
+-- the answer is None where the call failed
+pub record FolderCall : Type 0 where
+  pub question : FolderQuestion
+  pub answer : Option FolderAnswer
+
+abbrev pub call : FolderQuestion → Option FolderAnswer → List FolderCall
+call q a = record { question = q; answer = a } ∷ []
+
+abbrev pub done_of : {E : Type 0} → Result ⊤ E → Option FolderAnswer
+done_of (Ok x) = Some done
+done_of (Err e) = None
+
+abbrev pub found_of : {E : Type 0} → Result Found E → Option FolderAnswer
+found_of (Ok f) = Some (found f)
+found_of (Err e) = None
+
+abbrev pub facts_of : {E : Type 0} → Result (Option FileFacts) E → Option FolderAnswer
+facts_of (Ok f) = Some (facts f)
+facts_of (Err e) = None
+
+abbrev pub entries_of : {E : Type 0} → Result (Vec Entry) E → Option FolderAnswer
+entries_of (Ok es) = Some (entries (map entry_shown es.items))
+entries_of (Err e) = None
+
+abbrev pub folder_bytes_of : {E : Type 0} → Result (Vec ℕ) E → Option FolderAnswer
+folder_bytes_of (Ok bytes) = Some (file_bytes bytes.items)
+folder_bytes_of (Err e) = None
+
+abbrev pub gone_of : {E : Type 0} → Result Bool E → Option FolderAnswer
+gone_of (Ok is_gone) = Some (gone is_gone)
+gone_of (Err e) = None
+
+-- ---- of programs
+
+pub data ProgramQuestion : Type 0 where
+  start_asked : PlaceValue → CommandValue → ProgramQuestion
+  end_asked : RunKey → ProgramQuestion
+  kill_asked : RunKey → ProgramQuestion
+  -- how much it wrote to both streams
+  length_asked : RunKey → ProgramQuestion
+  -- what it wrote to a stream from a place on, at most so many bytes
+  read_asked : RunKey → Stream → ℕ → ℕ → ProgramQuestion
+  forget_asked : RunKey → ProgramQuestion
+
+pub data ProgramAnswer : Type 0 where
+  program_done : ProgramAnswer
+  running : ProgramAnswer
+  -- with a code
+  ended : ℤ → ProgramAnswer
+  -- whether it and all that it started are ended
+  killed : Bool → ProgramAnswer
+  written : ℕ → ProgramAnswer
+  bytes : List ℕ → ProgramAnswer
+
+pub record ProgramCall : Type 0 where
+  pub question : ProgramQuestion
+  pub answer : Option ProgramAnswer
+
+abbrev pub called : ProgramQuestion → Option ProgramAnswer → List ProgramCall
+called q a = record { question = q; answer = a } ∷ []
+
+abbrev pub started_of : {E : Type 0} → Result ⊤ E → Option ProgramAnswer
+started_of (Ok x) = Some program_done
+started_of (Err e) = None
+
+abbrev pub state_shown : Option ℤ → ProgramAnswer
+state_shown None = running
+state_shown (Some code) = ended code
+
+abbrev pub state_of : {E : Type 0} → Result (Option ℤ) E → Option ProgramAnswer
+state_of (Ok s) = Some (state_shown s)
+state_of (Err e) = None
+
+abbrev pub killed_of : {E : Type 0} → Result Bool E → Option ProgramAnswer
+killed_of (Ok is_killed) = Some (killed is_killed)
+killed_of (Err e) = None
+
+abbrev pub length_of : {E : Type 0} → Result ℕ E → Option ProgramAnswer
+length_of (Ok n) = Some (written n)
+length_of (Err e) = None
+
+abbrev pub bytes_of : {E : Type 0} → Result (Vec ℕ) E → Option ProgramAnswer
+bytes_of (Ok text) = Some (bytes text.items)
+bytes_of (Err e) = None
+
+-- ---- in order
+
+-- all that was asked, and then this, where it is known
+abbrev pub after : {C : Type 0} → Option (List C) → List C → Option (List C)
+after known more = option_map (λ h. h ++ more) known
+
+-- where it is known what was asked, this was asked next
+abbrev pub Adds : {C : Type 0} → Option (List C) → Option (List C) → List C → Type 0
+Adds before now more = now ≡ after before more
+
+-- what each gives, in order
+abbrev pub collect : {C A : Type 0} → (C → List A) → List C → List A
+collect f [] = []
+collect f (c ∷ cs) = f c ++ collect f cs

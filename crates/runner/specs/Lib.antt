@@ -1,0 +1,9 @@
+pub mod Values
+pub mod Texts
+pub mod Calls
+pub mod Faults
+pub mod Made
+pub mod Gathered
+pub mod Told
+pub mod Steps
+pub mod Runs

@@ -1,0 +1,145 @@
+-- The runs of a runner, and what its calls make of them.
+use Rattle.std.specs.Prelude.{◌≡◌, ◌⊎◌, ℕ, List, [], ◌∷◌, ◌++◌, take, drop, Option, Some, None, Result, Ok, Err}
+use Rattle.runner.specs.declared.task.RunKey.{RunKey}
+use Rattle.runner.specs.declared.task.Task.{Task}
+use Rattle.runner.specs.declared.folder.Place.{Place}
+use Rattle.runner.specs.declared.fault.RunFault.{RunFault}
+use Rattle.runner.specs.declared.outcome.Outcome.{Outcome}
+use Rattle.runner.specs.declared.outcome.Outcome.TheVariants as outcomes
+use Rattle.runner.specs.declared.stage.Making.{Making}
+use Rattle.runner.specs.declared.stage.Making.TheVariants as makings
+use Rattle.runner.specs.declared.stage.Stage.{Stage}
+use Rattle.runner.specs.declared.stage.Stage.TheVariants as stages
+use Rattle.runner.specs.declared.stage.Step.TheVariants as steps
+use Rattle.runner.specs.declared.stage.Ending.{Ending}
+use Rattle.runner.specs.declared.stage.Ending.TheVariants.{Killing, Removing}
+use Rattle.runner.specs.declared.stage.State.{State}
+use Rattle.runner.specs.declared.stage.State.TheVariants.{Live, Over}
+use Rattle.runner.specs.declared.stage.Run.{Run}
+use Rattle.runner.specs.Values.{place_shown}
+use Rattle.runner.specs.Calls.{FolderCall, FolderAnswer, removal_asked, call, ProgramCall, ProgramAnswer, program_done, kill_asked, forget_asked, called, Adds}
+use Rattle.runner.specs.Steps.{Goes}
+
+abbrev pub run_of : Place → State → Run
+run_of place state = record { place = place; state = state }
+
+-- the first run of a key stands there
+pub record IsAt (key : RunKey) (runs : List Run) (at : ℕ) : Type 0 where
+  pub run : Run
+  pub rest : List Run
+  pub there : drop at runs ≡ run ∷ rest
+  pub same_key : run.place.run ≡ key
+
+-- a run of a task of which nothing is done yet
+abbrev pub IsRootOf : Making → Task → Type 0
+IsRootOf (makings.Root n) t =
+    (n.above.items ≡ []) × (n.left ≡ t.nodes) × (n.next.command ≡ t.command) × (n.next.outputs ≡ t.outputs)
+IsRootOf m t = ⊥
+
+abbrev pub IsStageOf : Stage → Task → Type 0
+IsStageOf (stages.Making m) t = IsRootOf m t
+IsStageOf s t = ⊥
+
+abbrev pub IsStateOf : State → Task → Type 0
+IsStateOf (Live s) t = IsStageOf s t
+IsStateOf (Over e) t = ⊥
+
+abbrev pub IsStarted : RunKey → Task → Run → Type 0
+IsStarted key t run =
+    (run.place ≡ record { run = key; directory = t.working_directory }) × IsStateOf run.state t
+
+-- ---- of runs that are over
+
+abbrev pub ending_of : State → Ending
+ending_of (Live s) = Killing
+ending_of (Over e) = e
+
+-- what is let go of where a program is ended
+abbrev pub forgotten : RunKey → Option Ending → List ProgramCall
+forgotten key (Some Removing) = called (forget_asked key) (Some program_done)
+forgotten key (Some Killing) = []
+forgotten key None = []
+
+-- the program was to be ended, or the folder to be removed
+abbrev pub EndsBy : RunKey → Ending → Option Ending → Option (List FolderCall) → Option (List FolderCall) →
+    Option (List ProgramCall) → Option (List ProgramCall) → Type 0
+EndsBy key Killing left f_before f_now p_before p_now =
+    (a : Option ProgramAnswer) × (f_now ≡ f_before) × Adds p_before p_now (called (kill_asked key) a ++ forgotten key left)
+EndsBy key Removing left f_before f_now p_before p_now =
+    (a : Option FolderAnswer) × Adds f_before f_now (call (removal_asked key) a) × (p_now ≡ p_before)
+
+-- a run that is over, where something is left to do for it
+abbrev pub run_left : Place → Option Ending → List Run
+run_left place (Some e) = run_of place (Over e) ∷ []
+run_left place None = []
+
+-- one of these runs, which has this key, is over, and the next of what ends it was asked for
+pub record Ends (key : RunKey) (state : State) (old new : List Run)
+    (f_before f_now : Option (List FolderCall)) (p_before p_now : Option (List ProgramCall)) : Type 0 where
+  pub earlier : List Run
+  pub later : List Run
+  pub place : Place
+  pub left : Option Ending
+  pub there : old ≡ earlier ++ run_of place state ∷ later
+  pub then : new ≡ earlier ++ (run_left place left ++ later)
+  pub same_key : place.run ≡ key
+  pub by : EndsBy key (ending_of state) left f_before f_now p_before p_now
+
+-- nothing was asked, and the runs are as they were
+abbrev pub Stands : List Run → List Run → Option (List FolderCall) → Option (List FolderCall) →
+    Option (List ProgramCall) → Option (List ProgramCall) → Type 0
+Stands old new f_before f_now p_before p_now = (new ≡ old) × (f_now ≡ f_before) × (p_now ≡ p_before)
+
+abbrev pub IsKilled : RunKey → List Run → List Run → Option (List FolderCall) → Option (List FolderCall) →
+    Option (List ProgramCall) → Option (List ProgramCall) → Type 0
+IsKilled key old new f_before f_now p_before p_now =
+    Stands old new f_before f_now p_before p_now
+    ⊎ ((state : State) × Ends key state old new f_before f_now p_before p_now)
+
+-- ---- of runs that are not
+
+-- what becomes of a run that is not over: it goes on, or it is over with an outcome, or with a fault
+abbrev pub Becomes : (ℕ → List ℕ) → Place → Stage → Result (Option Outcome) RunFault → State →
+    Option (List FolderCall) → Option (List FolderCall) → Option (List ProgramCall) → Option (List ProgramCall) → Type 0
+Becomes text place stage (Ok None) state f_before f_now p_before p_now =
+    (next : Stage) × (cost : ℕ) × (state ≡ Live next)
+    × Goes text (place_shown place) stage (steps.Goes next cost) f_before f_now p_before p_now
+Becomes text place stage (Ok (Some outcomes.Failed)) state f_before f_now p_before p_now = ⊥
+Becomes text place stage (Ok (Some (outcomes.Exited e))) state f_before f_now p_before p_now =
+    (p_mid : Option (List ProgramCall)) × (state ≡ Over Removing)
+    × Goes text (place_shown place) stage (steps.Exits e) f_before f_now p_before p_mid
+    × Adds p_mid p_now (called (forget_asked place.run) (Some program_done))
+Becomes text place stage (Err fault) state f_before f_now p_before p_now = state ≡ Over Killing
+
+-- it is put in its place among the others
+pub record HasGone (text : ℕ → List ℕ) (place : Place) (stage : Stage) (result : Result (Option Outcome) RunFault)
+    (at : ℕ) (others new : List Run)
+    (f_before f_now : Option (List FolderCall)) (p_before p_now : Option (List ProgramCall)) : Type 0 where
+  pub state : State
+  pub put : new ≡ take at others ++ run_of place state ∷ drop at others
+  pub becomes : Becomes text place stage result state f_before f_now p_before p_now
+
+-- one of these runs, which has this key, was not over; the others stay
+pub record GoesOn (text : ℕ → List ℕ) (key : RunKey) (result : Result (Option Outcome) RunFault) (old new : List Run)
+    (f_before f_now : Option (List FolderCall)) (p_before p_now : Option (List ProgramCall)) : Type 0 where
+  pub earlier : List Run
+  pub later : List Run
+  pub place : Place
+  pub stage : Stage
+  pub state : State
+  pub there : old ≡ earlier ++ run_of place (Live stage) ∷ later
+  pub then : new ≡ earlier ++ run_of place state ∷ later
+  pub same_key : place.run ≡ key
+  pub becomes : Becomes text place stage result state f_before f_now p_before p_now
+
+-- A run that is over gives no outcome and no fault.
+abbrev pub IsAsked : (ℕ → List ℕ) → RunKey → Result (Option Outcome) RunFault → List Run → List Run →
+    Option (List FolderCall) → Option (List FolderCall) → Option (List ProgramCall) → Option (List ProgramCall) → Type 0
+IsAsked text key (Ok None) old new f_before f_now p_before p_now =
+    Stands old new f_before f_now p_before p_now
+    ⊎ (((e : Ending) × Ends key (Over e) old new f_before f_now p_before p_now)
+    ⊎ GoesOn text key (Ok None) old new f_before f_now p_before p_now)
+IsAsked text key (Ok (Some o)) old new f_before f_now p_before p_now =
+    GoesOn text key (Ok (Some o)) old new f_before f_now p_before p_now
+IsAsked text key (Err fault) old new f_before f_now p_before p_now =
+    GoesOn text key (Err fault) old new f_before f_now p_before p_now

@@ -1,0 +1,55 @@
+-- What is told of a program: its code, that it and all that it started are ended, and what it wrote.
+use Rattle.std.specs.Prelude.{ℕ, ◌+◌, ℤ, true, false, List, [], ◌∷◌, ◌++◌, Option, Some, None}
+use Rattle.runner.specs.declared.task.RunKey.{RunKey}
+use Rattle.runner.specs.declared.programs.Stream.{Stream}
+use Rattle.runner.specs.Values.{PlaceValue, CommandValue}
+use Rattle.runner.specs.Calls.{ProgramCall, ProgramQuestion, ProgramAnswer, start_asked, end_asked, kill_asked, length_asked, read_asked, forget_asked, program_done, running, ended, killed, written, bytes, collect}
+
+pub data ToldItem : Type 0 where
+  code_item : RunKey → ℤ → ToldItem
+  killed_item : RunKey → ToldItem
+  -- the byte of a stream at a place in it
+  stream_byte : RunKey → Stream → ℕ → ℕ → ToldItem
+
+abbrev pub stream_bytes : RunKey → Stream → ℕ → List ℕ → List ToldItem
+stream_bytes run stream from [] = []
+stream_bytes run stream from (b ∷ bs) = stream_byte run stream from b ∷ stream_bytes run stream (from + 1) bs
+
+abbrev pub end_told : RunKey → ProgramAnswer → List ToldItem
+end_told run (ended code) = code_item run code ∷ []
+end_told run a = []
+
+abbrev pub kill_told : RunKey → ProgramAnswer → List ToldItem
+kill_told run (killed true) = killed_item run ∷ []
+kill_told run a = []
+
+abbrev pub read_told : RunKey → Stream → ℕ → ProgramAnswer → List ToldItem
+read_told run stream from (bytes bs) = stream_bytes run stream from bs
+read_told run stream from a = []
+
+abbrev pub answer_told : ProgramQuestion → ProgramAnswer → List ToldItem
+answer_told (start_asked place command) a = []
+answer_told (end_asked run) a = end_told run a
+answer_told (kill_asked run) a = kill_told run a
+answer_told (length_asked run) a = []
+answer_told (read_asked run stream from most) a = read_told run stream from a
+answer_told (forget_asked run) a = []
+
+abbrev pub call_told : ProgramQuestion → Option ProgramAnswer → List ToldItem
+call_told q None = []
+call_told q (Some a) = answer_told q a
+
+abbrev pub items_told : List ProgramCall → List ToldItem
+items_told calls = collect (λ c. call_told c.question c.answer) calls
+
+-- the starts among what was asked
+abbrev pub start_of : ProgramQuestion → List ProgramQuestion
+start_of (start_asked place command) = start_asked place command ∷ []
+start_of (end_asked run) = []
+start_of (kill_asked run) = []
+start_of (length_asked run) = []
+start_of (read_asked run stream from most) = []
+start_of (forget_asked run) = []
+
+abbrev pub starts : List ProgramCall → List ProgramQuestion
+starts calls = collect (λ c. start_of c.question) calls

@@ -1,0 +1,140 @@
+//! Folders in which programs run.
+
+ghost use Rattle.std.specs.Prelude.{◌≡◌, ◌≤◌, ℕ, List, Option, None, IfOk, length};
+
+use crate::task::{NodeKind, RunKey};
+use std::io;
+
+/// A run, and the directory in its folder in which its program runs.
+#[derive(Drop, Debug)]
+pub struct Place {
+    pub run: RunKey,
+    /// From the root on, with `/` between names; empty for the root itself.
+    pub directory: String,
+}
+
+/// What is told of a file.
+#[derive(Clone, Copy, Debug, PartialEq, Eq)]
+pub struct FileFacts {
+    /// In bytes.
+    pub size: u64,
+    pub is_executable: bool,
+}
+
+/// What stands at a path.
+#[derive(Clone, Copy, Debug, PartialEq, Eq)]
+pub enum Found {
+    Nothing,
+    /// Neither a file nor a directory, as a symbolic link.
+    Other,
+    Directory,
+    File(FileFacts),
+}
+
+/// A file or a directory in a directory.
+#[derive(Drop, Debug)]
+pub struct Entry {
+    pub name: String,
+    pub is_directory: bool,
+}
+
+/// The folders of runs, one for each. No call does more than a bounded piece of work.
+///
+/// In the tree of a task a node has its names from the root on. What was left has the path of an
+/// output, from the working directory on, and its names below that.
+pub trait Folder {
+    ghost use Rattle.std.specs.Prelude.{map, string_bytes};
+    ghost use Rattle.runner.specs.Calls.{FolderCall, root_asked, node_asked, text_asked, directory_asked, parents_asked, look_asked, file_asked, list_asked, bytes_asked, removal_asked, Adds, done_of, found_of, facts_of, entries_of, folder_bytes_of, gone_of, call};
+    ghost use Rattle.runner.specs.Values.{kind_shown, place_shown};
+    ghost use Rattle.runner.specs.Faults.{Counts};
+
+    // All that was asked, in order, and what was answered, where it is known.
+    ghost asked: { Self → Option (List FolderCall) } = { λ _. None };
+
+    // How many calls failed, 2^64 - 1 at most.
+    ghost failures: { Self → ℕ };
+
+    /// Makes the folder of a run, which is its root.
+    fn make_root(&mut self, run: RunKey) -> io::Result<()>
+        ensures adds { Adds (asked self.old) (asked self.new)
+            (call (root_asked run) (done_of result)) }
+        ensures counts { Counts result (failures self.old) (failures self.new) };
+
+    /// Makes an empty file, a symbolic link or a directory, whose own directory is there.
+    fn make_node(&mut self, run: RunKey, names: &[String], kind: &NodeKind) -> io::Result<()>
+        ensures adds { Adds (asked self.old) (asked self.new)
+            (call (node_asked run (map string_bytes names.now) (kind_shown kind.now))
+            (done_of result)) }
+        ensures counts { Counts result (failures self.old) (failures self.new) };
+
+    /// Adds bytes to the end of a file that was made.
+    fn write(&mut self, run: RunKey, names: &[String], bytes: &[u8]) -> io::Result<()>
+        ensures adds { Adds (asked self.old) (asked self.new)
+            (call (text_asked run (map string_bytes names.now) bytes.now)
+            (done_of result)) }
+        ensures counts { Counts result (failures self.old) (failures self.new) };
+
+    /// Makes the directory in which the program runs, and those above it, where they are not there.
+    fn make_working_directory(&mut self, place: &Place) -> io::Result<()>
+        ensures adds { Adds (asked self.old) (asked self.new)
+            (call (directory_asked (place_shown place.now)) (done_of result)) }
+        ensures counts { Counts result (failures self.old) (failures self.new) };
+
+    /// Makes the directories above an output, where they are not there.
+    fn make_parents(&mut self, place: &Place, path: &str) -> io::Result<()>
+        ensures adds { Adds (asked self.old) (asked self.new)
+            (call (parents_asked (place_shown place.now) path.now) (done_of result)) }
+        ensures counts { Counts result (failures self.old) (failures self.new) };
+
+    /// What stands at an output's path.
+    fn look(&mut self, place: &Place, path: &str) -> io::Result<Found>
+        ensures adds { Adds (asked self.old) (asked self.new)
+            (call (look_asked (place_shown place.now) path.now) (found_of result)) }
+        ensures counts { Counts result (failures self.old) (failures self.new) };
+
+    /// What is told of a file in an output directory, where it still is one.
+    fn file(&mut self, place: &Place, path: &str, names: &[String]) -> io::Result<Option<FileFacts>>
+        ensures adds { Adds (asked self.old) (asked self.new)
+            (call (file_asked (place_shown place.now) path.now (map string_bytes names.now))
+            (facts_of result)) }
+        ensures counts { Counts result (failures self.old) (failures self.new) };
+
+    /// The files and directories in a directory, in the order of their names, at most so many.
+    fn list(
+        &mut self,
+        place: &Place,
+        path: &str,
+        names: &[String],
+        most: usize,
+    ) -> io::Result<Vec<Entry>>
+        ensures adds { Adds (asked self.old) (asked self.new)
+            (call (list_asked (place_shown place.now) path.now (map string_bytes names.now) most)
+            (entries_of result)) }
+        ensures counts { Counts result (failures self.old) (failures self.new) };
+
+    /// Bytes of a file from a place on, at most so many; none at its end alone. The file of no names
+    /// is that of the output itself.
+    fn read(
+        &mut self,
+        place: &Place,
+        path: &str,
+        names: &[String],
+        from: u64,
+        most: u32,
+    ) -> io::Result<Vec<u8>>
+        ensures adds { Adds (asked self.old) (asked self.new)
+            (call (bytes_asked (place_shown place.now) path.now (map string_bytes names.now)
+            from most) (folder_bytes_of result)) }
+        ensures within { IfOk result (λ bytes. length bytes.items ≤ most) }
+        ensures counts { Counts result (failures self.old) (failures self.new) };
+
+    /// Removes some of the folder of a run, where it is there. Whether nothing is left of it.
+    fn remove(&mut self, run: RunKey) -> io::Result<bool>
+        ensures adds { Adds (asked self.old) (asked self.new)
+            (call (removal_asked run) (gone_of result)) }
+        ensures counts { Counts result (failures self.old) (failures self.new) };
+
+    /// How many calls failed, 2^64 - 1 at most.
+    fn faults(&self) -> u64
+        ensures { result ≡ failures self.now };
+}

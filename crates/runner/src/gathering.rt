@@ -1,0 +1,346 @@
+//! Gathering what a run left at its outputs' paths, step by step.
+
+ghost use Rattle.std.specs.Prelude.{◌≡◌, ◌++◌, IfOk, IfErr};
+ghost use Rattle.runner.specs.Values.{PlaceValue, place_shown};
+ghost use Rattle.runner.specs.Steps.{FolderGoes, exited_told, file_items, tree_file_items, tree_items};
+ghost use Rattle.runner.specs.Gathered.{output_items};
+ghost use Rattle.runner.specs.Faults.{FolderCounts, IsOwnFault};
+ghost use Rattle.runner.specs.declared.stage.Stage.TheVariants as Stages;
+
+use crate::content::{Content, MOST_BYTES};
+use crate::fault::{RunFault, of_folder};
+use crate::folder::{Entry, FileFacts, Folder, Found, Place};
+use crate::making::{PIECE, cost_of};
+use crate::outcome::{Output, OutputKind};
+use crate::stage::{Gathering, OutputFile, Stage, Step, TreeFile};
+use crate::tree::{Inner, Tree, TreeNodes};
+use std::alloc::{AllocError, Global};
+use std::collections::VecDeque;
+
+/// How many nodes of an output directory are gathered. One with more is refused by whoever takes it,
+/// so that it is not gathered further.
+const MOST_NODES: usize = 10_001;
+
+/// What a directory costs of what is done in one call.
+const COST_OF_DIRECTORY: u32 = 32;
+
+/// Whether a file is too long for what may still be taken.
+fn is_too_large(facts: FileFacts, taken: u64) -> bool {
+    facts.size > MOST_BYTES.saturating_sub(taken)
+}
+
+/// The bytes that were taken, and these.
+fn taken_with(taken: u64, piece: &[u8]) -> Result<u64, RunFault>
+    ensures { IfErr result IsOwnFault }
+{
+    let sum = taken.saturating_add(piece.len() as u64);
+    if sum > MOST_BYTES {
+        return Err(RunFault::TooLarge);
+    }
+    Ok(sum)
+}
+
+/// Looks at the next output.
+pub(crate) fn next_output<F: Folder>(
+    alloc: Global,
+    folder: &mut F,
+    place: &Place,
+    gathering: Gathering,
+) -> Result<Step, RunFault>
+    ensures goes { IfOk result (λ step. FolderGoes (place_shown place.now)
+        (Stages.Outputs gathering) step (F.asked folder.old) (F.asked folder.new)) }
+    ensures counts { FolderCounts result (F.failures folder.old) (F.failures folder.new) }
+{
+    let mut gathering = gathering;
+    let Some(path) = gathering.left.pop_front() else {
+        return Ok(Step::Exits(gathering.exited));
+    };
+    match of_folder(folder.look(place, path.as_str()))? {
+        Found::File(facts) => {
+            if is_too_large(facts, gathering.taken) {
+                return Err(RunFault::TooLarge);
+            }
+            let file = OutputFile {
+                path,
+                is_executable: facts.is_executable,
+                content: Content::new(alloc),
+            };
+            Ok(Step::Goes(Stage::File(gathering, file), 1))
+        }
+        Found::Directory => Ok(Step::Goes(Stage::Listing(gathering, path), 1)),
+        Found::Nothing => Ok(Step::Goes(Stage::Outputs(gathering), 1)),
+        Found::Other => Ok(Step::Goes(Stage::Outputs(gathering), 1)),
+    }
+}
+
+/// Reads the next piece of an output that is a file.
+pub(crate) fn read_file<F: Folder>(
+    folder: &mut F,
+    place: &Place,
+    gathering: Gathering,
+    file: OutputFile,
+) -> Result<Step, RunFault>
+    ensures goes { IfOk result (λ step. FolderGoes (place_shown place.now)
+        (Stages.File gathering file) step (F.asked folder.old) (F.asked folder.new)) }
+    ensures counts { FolderCounts result (F.failures folder.old) (F.failures folder.new) }
+{
+    let mut gathering = gathering;
+    let mut file = file;
+    let from = file.content.length();
+    let piece = of_folder(folder.read(place, file.path.as_str(), &[], from, PIECE))?;
+    if piece.is_empty() {
+        let gathering = with_file(gathering, file)?;
+        return Ok(Step::Goes(Stage::Outputs(gathering), 1));
+    }
+    gathering.taken = taken_with(gathering.taken, &piece)?;
+    file.content.push(&piece)?;
+    Ok(Step::Goes(Stage::File(gathering, file), cost_of(piece.len())))
+}
+
+/// Adds an output that is a file.
+fn with_file(gathering: Gathering, file: OutputFile) -> Result<Gathering, AllocError>
+    ensures items { IfOk result (λ added. (place : PlaceValue) →
+        output_items place added.exited.outputs.items
+        ≡ output_items place gathering.exited.outputs.items ++ file_items place file) }
+    ensures told { IfOk result (λ added. (place : PlaceValue) →
+        exited_told place added.exited ≡ exited_told place gathering.exited) }
+    ensures left { IfOk result (λ added. added.left ≡ gathering.left) }
+{
+    let mut gathering = gathering;
+    let OutputFile {
+        path,
+        is_executable,
+        content,
+    } = file;
+    let content = content.whole();
+    let kind = OutputKind::File {
+        content,
+        is_executable,
+    };
+    gathering.exited.outputs.push(Output { path, kind })?;
+    Ok(gathering)
+}
+
+/// Sets the entries of a directory apart: its files, in their order, and its directories, the first
+/// on top.
+fn set_apart(
+    entries: Vec<Entry>,
+    level: u32,
+    files: &mut VecDeque<String>,
+    todo: &mut Vec<Inner>,
+) -> Result<(), AllocError> {
+    let mut rest = entries;
+    'entries: while let Some(Entry { name, is_directory }) = rest.pop() {
+        if is_directory {
+            todo.push(Inner { name, level })?;
+        } else {
+            files.push_front(name)?;
+        }
+    }
+    Ok(())
+}
+
+/// Lists an output directory.
+pub(crate) fn list_output<F: Folder>(
+    alloc: Global,
+    folder: &mut F,
+    place: &Place,
+    gathering: Gathering,
+    path: String,
+) -> Result<Step, RunFault>
+    ensures goes { IfOk result (λ step. FolderGoes (place_shown place.now)
+        (Stages.Listing gathering path) step (F.asked folder.old) (F.asked folder.new)) }
+    ensures counts { FolderCounts result (F.failures folder.old) (F.failures folder.new) }
+{
+    let entries = of_folder(folder.list(place, path.as_str(), &[], MOST_NODES))?;
+    let mut files = VecDeque::new(alloc);
+    let mut todo = Vec::new(alloc);
+    set_apart(entries, 1, &mut files, &mut todo)?;
+    let tree = Tree {
+        path,
+        nodes: TreeNodes::new(alloc),
+        files,
+        todo,
+    };
+    Ok(Step::Goes(Stage::Tree(gathering, tree), COST_OF_DIRECTORY))
+}
+
+/// Adds an output directory that was gathered.
+fn with_tree(gathering: Gathering, tree: Tree) -> Result<Gathering, AllocError>
+    ensures items { IfOk result (λ added. (place : PlaceValue) →
+        output_items place added.exited.outputs.items
+        ≡ output_items place gathering.exited.outputs.items ++ tree_items place tree) }
+    ensures told { IfOk result (λ added. (place : PlaceValue) →
+        exited_told place added.exited ≡ exited_told place gathering.exited) }
+    ensures left { IfOk result (λ added. added.left ≡ gathering.left) }
+{
+    let mut gathering = gathering;
+    let Tree {
+        path,
+        nodes,
+        files,
+        todo,
+    } = tree;
+    drop(files);
+    drop(todo);
+    let nodes = nodes.whole();
+    let kind = OutputKind::Tree { nodes };
+    gathering.exited.outputs.push(Output { path, kind })?;
+    Ok(gathering)
+}
+
+/// Looks at the next file of an output directory, or lists the next directory in it.
+pub(crate) fn next_in_tree<F: Folder>(
+    alloc: Global,
+    folder: &mut F,
+    place: &Place,
+    gathering: Gathering,
+    tree: Tree,
+) -> Result<Step, RunFault>
+    ensures goes { IfOk result (λ step. FolderGoes (place_shown place.now)
+        (Stages.Tree gathering tree) step (F.asked folder.old) (F.asked folder.new)) }
+    ensures counts { FolderCounts result (F.failures folder.old) (F.failures folder.new) }
+{
+    let mut tree = tree;
+    match next_of(&mut tree.files, &mut tree.todo, tree.nodes.count()) {
+        Next::File(name) => look_in_tree(alloc, folder, place, gathering, tree, name),
+        Next::Directory(inner) => list_in_tree(folder, place, gathering, tree, inner),
+        Next::Nothing => {
+            let gathering = with_tree(gathering, tree)?;
+            Ok(Step::Goes(Stage::Outputs(gathering), 1))
+        }
+    }
+}
+
+/// What is next in an output directory.
+#[derive(Drop)]
+enum Next {
+    File(String),
+    Directory(Inner),
+    Nothing,
+}
+
+/// What is next in an output directory of which so many nodes are gathered.
+fn next_of(files: &mut VecDeque<String>, todo: &mut Vec<Inner>, count: usize) -> Next {
+    if count >= MOST_NODES {
+        return Next::Nothing;
+    }
+    if let Some(name) = files.pop_front() {
+        return Next::File(name);
+    }
+    match todo.pop() {
+        Some(inner) => Next::Directory(inner),
+        None => Next::Nothing,
+    }
+}
+
+/// Looks at a file of an output directory.
+fn look_in_tree<F: Folder>(
+    alloc: Global,
+    folder: &mut F,
+    place: &Place,
+    gathering: Gathering,
+    tree: Tree,
+    name: String,
+) -> Result<Step, RunFault>
+    ensures goes { IfOk result (λ step. FolderGoes (place_shown place.now)
+        (Stages.Tree gathering tree) step (F.asked folder.old) (F.asked folder.new)) }
+    ensures counts { FolderCounts result (F.failures folder.old) (F.failures folder.new) }
+{
+    let names = tree.nodes.names(name.as_str())?;
+    let Some(facts) = of_folder(folder.file(place, tree.path.as_str(), &names))? else {
+        return Ok(Step::Goes(Stage::Tree(gathering, tree), 1));
+    };
+    if is_too_large(facts, gathering.taken) {
+        return Err(RunFault::TooLarge);
+    }
+    let file = TreeFile {
+        name,
+        is_executable: facts.is_executable,
+        content: Content::new(alloc),
+    };
+    Ok(Step::Goes(Stage::TreeFile(gathering, tree, file), 1))
+}
+
+/// Adds a directory of an output directory, and lists it.
+fn list_in_tree<F: Folder>(
+    folder: &mut F,
+    place: &Place,
+    gathering: Gathering,
+    tree: Tree,
+    inner: Inner,
+) -> Result<Step, RunFault>
+    ensures goes { IfOk result (λ step. FolderGoes (place_shown place.now)
+        (Stages.Tree gathering tree) step (F.asked folder.old) (F.asked folder.new)) }
+    ensures counts { FolderCounts result (F.failures folder.old) (F.failures folder.new) }
+{
+    let Tree {
+        path,
+        nodes,
+        mut files,
+        mut todo,
+    } = tree;
+    let Inner { name, level } = inner;
+    let nodes = nodes.with_directory(name, level)?;
+    let entries = of_folder(folder.list(place, path.as_str(), nodes.above(), MOST_NODES))?;
+    set_apart(entries, level.saturating_add(1), &mut files, &mut todo)?;
+    let tree = Tree {
+        path,
+        nodes,
+        files,
+        todo,
+    };
+    Ok(Step::Goes(Stage::Tree(gathering, tree), COST_OF_DIRECTORY))
+}
+
+/// Reads the next piece of a file of an output directory.
+pub(crate) fn read_in_tree<F: Folder>(
+    folder: &mut F,
+    place: &Place,
+    gathering: Gathering,
+    tree: Tree,
+    file: TreeFile,
+) -> Result<Step, RunFault>
+    ensures goes { IfOk result (λ step. FolderGoes (place_shown place.now)
+        (Stages.TreeFile gathering tree file) step (F.asked folder.old) (F.asked folder.new)) }
+    ensures counts { FolderCounts result (F.failures folder.old) (F.failures folder.new) }
+{
+    let mut gathering = gathering;
+    let mut file = file;
+    let names = tree.nodes.names(file.name.as_str())?;
+    let from = file.content.length();
+    let piece = of_folder(folder.read(place, tree.path.as_str(), &names, from, PIECE))?;
+    if piece.is_empty() {
+        let tree = with_file_read(tree, file)?;
+        return Ok(Step::Goes(Stage::Tree(gathering, tree), 1));
+    }
+    gathering.taken = taken_with(gathering.taken, &piece)?;
+    file.content.push(&piece)?;
+    Ok(Step::Goes(Stage::TreeFile(gathering, tree, file), cost_of(piece.len())))
+}
+
+/// Adds a file to an output directory.
+fn with_file_read(tree: Tree, file: TreeFile) -> Result<Tree, RunFault>
+    ensures items { IfOk result (λ added. (place : PlaceValue) →
+        tree_items place added ≡ tree_items place tree ++ tree_file_items place tree file) }
+    ensures fault { IfErr result IsOwnFault }
+{
+    let Tree {
+        path,
+        nodes,
+        files,
+        todo,
+    } = tree;
+    let TreeFile {
+        name,
+        is_executable,
+        content,
+    } = file;
+    let nodes = nodes.with_file(name, content.whole(), is_executable)?;
+    Ok(Tree {
+        path,
+        nodes,
+        files,
+        todo,
+    })
+}

@@ -1,0 +1,25 @@
+//! Runs programs in folders of their own, piece by piece, and gathers what they leave there.
+#![tactic(auto)]
+
+mod content;
+mod fault;
+mod folder;
+mod gathering;
+mod making;
+mod outcome;
+mod programs;
+mod running;
+mod runs;
+mod stage;
+mod task;
+mod texts;
+mod tree;
+mod turn;
+
+pub use fault::RunFault;
+pub use folder::{Entry, FileFacts, Folder, Found, Place};
+pub use outcome::{Exited, Outcome, Output, OutputKind, OutputNode, OutputNodeKind};
+pub use programs::{Programs, Stream};
+pub use runs::Runner;
+pub use task::{Command, NodeKind, RunKey, Task, TaskNode, Variable};
+pub use texts::Texts;

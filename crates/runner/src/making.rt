@@ -1,0 +1,218 @@
+//! Making the folder of a run, and starting its program there, step by step.
+
+ghost use Rattle.std.specs.Prelude.{◌≡◌, ◌++◌, ◌-◌, ◌∷◌, [], ℕ, List, Option, IfOk, length, map, take, string_bytes};
+ghost use Rattle.runner.specs.Values.{PlaceValue, place_shown, command_shown};
+ghost use Rattle.runner.specs.Calls.{ProgramCall, start_asked};
+ghost use Rattle.runner.specs.Made.{kind_made};
+ghost use Rattle.runner.specs.Steps.{Goes, FolderGoes, ProgramGoes, above_behind, making_left, making_outputs, making_starts, nodes_left};
+ghost use Rattle.runner.specs.Faults.{Counted, FolderCounts, ProgramsCounts};
+ghost use Rattle.runner.specs.declared.stage.Stage.TheVariants as Stages;
+ghost use Rattle.runner.specs.declared.stage.Making.TheVariants as Makings;
+
+use crate::fault::{RunFault, of_folder, of_programs};
+use crate::folder::{Folder, Place};
+use crate::programs::Programs;
+use crate::stage::{Making, Nodes, Parents, Prepared, Stage, Step, Writing};
+use crate::task::{NodeKind, TaskNode};
+use crate::texts::Texts;
+use std::collections::VecDeque;
+
+/// How many bytes of a file are written or read at most by a step.
+pub(crate) const PIECE: u32 = 65_536;
+
+/// What a node costs of what is done in one call.
+const COST_OF_NODE: u32 = 2;
+
+/// How many bytes cost 1.
+const BYTES_FOR_ONE: usize = 4_096;
+
+/// What bytes cost that were hashed or written.
+pub(crate) fn cost_of(count: usize) -> u32 {
+    u32::try_from(count / BYTES_FOR_ONE)
+        .unwrap_or(u32::MAX)
+        .saturating_add(1)
+}
+
+/// Makes the root.
+fn make_root<F: Folder>(folder: &mut F, place: &Place, nodes: Nodes) -> Result<Step, RunFault>
+    ensures goes { IfOk result (λ step. FolderGoes (place_shown place.now)
+        (Stages.Making (Makings.Root nodes)) step (F.asked folder.old) (F.asked folder.new)) }
+    ensures counts { FolderCounts result (F.failures folder.old) (F.failures folder.new) }
+{
+    of_folder(folder.make_root(place.run))?;
+    Ok(Step::Goes(Stage::Making(Making::Nodes(nodes)), COST_OF_NODE))
+}
+
+/// What follows a node that was made, whose names stand in `nodes.above`.
+fn after_node(nodes: Nodes, kind: NodeKind) -> Making
+    ensures left { (text : ℕ → List ℕ) → (place : PlaceValue) →
+        making_left text place result
+        ≡ kind_made text place.run (map string_bytes nodes.above.items) kind
+        ++ nodes_left text place (above_behind (map string_bytes nodes.above.items) kind) nodes }
+    ensures starts { (place : PlaceValue) → making_starts place result
+        ≡ start_asked place (command_shown nodes.next.command) ∷ [] }
+    ensures outputs { making_outputs result ≡ map string_bytes nodes.next.outputs.items }
+{
+    match kind {
+        NodeKind::File { text, .. } => Making::Writing(Writing {
+            text,
+            from: 0,
+            nodes,
+        }),
+        NodeKind::Symlink { .. } => Making::Nodes(left_above(nodes)),
+        NodeKind::Directory => Making::Nodes(nodes),
+    }
+}
+
+/// The names of the directory above in place of a node's own.
+fn left_above(nodes: Nodes) -> Nodes
+    ensures left { (text : ℕ → List ℕ) → (place : PlaceValue) →
+        nodes_left text place (map string_bytes result.above.items) result
+        ≡ nodes_left text place (take (length (map string_bytes nodes.above.items) - 1)
+        (map string_bytes nodes.above.items)) nodes }
+    ensures next { result.next ≡ nodes.next }
+{
+    let Nodes {
+        mut above,
+        left,
+        next,
+    } = nodes;
+    above.pop();
+    Nodes { above, left, next }
+}
+
+/// Makes the next node.
+fn make_node<F: Folder>(folder: &mut F, place: &Place, nodes: Nodes) -> Result<Step, RunFault>
+    ensures goes { IfOk result (λ step. FolderGoes (place_shown place.now)
+        (Stages.Making (Makings.Nodes nodes)) step (F.asked folder.old) (F.asked folder.new)) }
+    ensures counts { FolderCounts result (F.failures folder.old) (F.failures folder.new) }
+{
+    let Nodes {
+        mut above,
+        mut left,
+        next,
+    } = nodes;
+    let Some(node) = left.pop_front() else {
+        return Ok(Step::Goes(Stage::Making(Making::Directory(next)), 1));
+    };
+    let TaskNode { name, level, kind } = node;
+    above.truncate((level as usize).saturating_sub(1));
+    above.push(name)?;
+    of_folder(folder.make_node(place.run, &above, &kind))?;
+    let making = after_node(Nodes { above, left, next }, kind);
+    Ok(Step::Goes(Stage::Making(making), COST_OF_NODE))
+}
+
+/// Writes the next part of a file.
+fn write_part<F: Folder, T: Texts>(
+    folder: &mut F,
+    texts: &T,
+    place: &Place,
+    writing: Writing,
+) -> Result<Step, RunFault>
+    ensures goes { IfOk result (λ step. (p : Option (List ProgramCall)) →
+        Goes (T.text_of texts.now) (place_shown place.now)
+        (Stages.Making (Makings.Writing writing)) step (F.asked folder.old) (F.asked folder.new) p p) }
+    ensures counts { FolderCounts result (F.failures folder.old) (F.failures folder.new) }
+{
+    let Writing { text, from, nodes } = writing;
+    let part = texts.part(text, from, PIECE);
+    if part.is_empty() {
+        return Ok(Step::Goes(Stage::Making(Making::Nodes(left_above(nodes))), 1));
+    }
+    of_folder(folder.write(place.run, &nodes.above, part))?;
+    let count = part.len();
+    let from = from + count as u64;
+    let making = Making::Writing(Writing { text, from, nodes });
+    Ok(Step::Goes(Stage::Making(making), cost_of(count)))
+}
+
+/// Makes the working directory.
+fn make_directory<F: Folder>(
+    folder: &mut F,
+    place: &Place,
+    prepared: Prepared,
+) -> Result<Step, RunFault>
+    ensures goes { IfOk result (λ step. FolderGoes (place_shown place.now)
+        (Stages.Making (Makings.Directory prepared)) step
+        (F.asked folder.old) (F.asked folder.new)) }
+    ensures counts { FolderCounts result (F.failures folder.old) (F.failures folder.new) }
+{
+    of_folder(folder.make_working_directory(place))?;
+    let Prepared { command, outputs } = prepared;
+    let made = VecDeque::new(*outputs.allocator());
+    let left = outputs;
+    let parents = Parents {
+        command,
+        made,
+        left,
+    };
+    Ok(Step::Goes(Stage::Making(Making::Parents(parents)), COST_OF_NODE))
+}
+
+/// Makes the directories above the next output.
+fn make_parents<F: Folder>(
+    folder: &mut F,
+    place: &Place,
+    parents: Parents,
+) -> Result<Step, RunFault>
+    ensures goes { IfOk result (λ step. FolderGoes (place_shown place.now)
+        (Stages.Making (Makings.Parents parents)) step (F.asked folder.old) (F.asked folder.new)) }
+    ensures counts { FolderCounts result (F.failures folder.old) (F.failures folder.new) }
+{
+    let Parents {
+        command,
+        mut made,
+        mut left,
+    } = parents;
+    let Some(path) = left.pop_front() else {
+        let outputs = made;
+        let prepared = Prepared { command, outputs };
+        return Ok(Step::Goes(Stage::Making(Making::Starting(prepared)), 1));
+    };
+    of_folder(folder.make_parents(place, path.as_str()))?;
+    made.push_back(path)?;
+    let parents = Parents {
+        command,
+        made,
+        left,
+    };
+    Ok(Step::Goes(Stage::Making(Making::Parents(parents)), COST_OF_NODE))
+}
+
+/// Starts the program.
+fn start<P: Programs>(programs: &mut P, place: &Place, prepared: Prepared) -> Result<Step, RunFault>
+    ensures goes { IfOk result (λ step. ProgramGoes (place_shown place.now)
+        (Stages.Making (Makings.Starting prepared)) step
+        (P.asked programs.old) (P.asked programs.new)) }
+    ensures counts { ProgramsCounts result (P.failures programs.old) (P.failures programs.new) }
+{
+    of_programs(programs.start(place, &prepared.command))?;
+    let Prepared { command, outputs } = prepared;
+    drop(command);
+    Ok(Step::Goes(Stage::Running(outputs), u32::MAX))
+}
+
+/// The next step of a folder that is being made.
+pub(crate) fn make<F: Folder, P: Programs, T: Texts>(
+    folder: &mut F,
+    programs: &mut P,
+    texts: &T,
+    place: &Place,
+    making: Making,
+) -> Result<Step, RunFault>
+    ensures goes { IfOk result (λ step. Goes (T.text_of texts.now) (place_shown place.now)
+        (Stages.Making making) step (F.asked folder.old) (F.asked folder.new)
+        (P.asked programs.old) (P.asked programs.new)) }
+    ensures faults { Counted result (F.failures folder.old) (F.failures folder.new)
+        (P.failures programs.old) (P.failures programs.new) }
+{
+    match making {
+        Making::Root(nodes) => make_root(folder, place, nodes),
+        Making::Nodes(nodes) => make_node(folder, place, nodes),
+        Making::Writing(writing) => write_part(folder, texts, place, writing),
+        Making::Directory(prepared) => make_directory(folder, place, prepared),
+        Making::Parents(parents) => make_parents(folder, place, parents),
+        Making::Starting(prepared) => start(programs, place, prepared),
+    }
+}

@@ -1,0 +1,155 @@
+//! Asking a program, ending it, and reading what it wrote, step by step.
+
+ghost use Rattle.std.specs.Prelude.{◌≡◌, [], IfErr, IfOk};
+ghost use Rattle.runner.specs.Values.{PlaceValue, place_shown};
+ghost use Rattle.runner.specs.Steps.{ProgramGoes, exited_told, has_told};
+ghost use Rattle.runner.specs.Faults.{IsOwnFault, ProgramsCounts};
+ghost use Rattle.runner.specs.declared.stage.Stage.TheVariants as Stages;
+ghost use Rattle.runner.specs.declared.stage.Step.TheVariants.{Goes};
+
+use crate::content::{Content, MOST_BYTES};
+use crate::fault::{RunFault, of_programs};
+use crate::folder::Place;
+use crate::making::{PIECE, cost_of};
+use crate::outcome::Exited;
+use crate::programs::{Programs, Stream};
+use crate::stage::{Ended, Gathering, Stage, Step};
+use blob_pool::Draft;
+use std::alloc::Global;
+use std::collections::VecDeque;
+
+/// Asks whether the program has ended.
+pub(crate) fn ask<P: Programs>(
+    programs: &mut P,
+    place: &Place,
+    outputs: VecDeque<String>,
+) -> Result<Step, RunFault>
+    ensures goes { IfOk result (λ step. ProgramGoes (place_shown place.now)
+        (Stages.Running outputs) step (P.asked programs.old) (P.asked programs.new)) }
+    ensures counts { ProgramsCounts result (P.failures programs.old) (P.failures programs.new) }
+{
+    match of_programs(programs.ask(place.run))? {
+        None => Ok(Step::Goes(Stage::Running(outputs), u32::MAX)),
+        Some(code) => Ok(ended(code, outputs)),
+    }
+}
+
+fn ended(code: i32, outputs: VecDeque<String>) -> Step
+    ensures { result ≡ Goes (Stages.Stopping (record { code = code; outputs = outputs })) 1 }
+{
+    Step::Goes(Stage::Stopping(Ended { code, outputs }), 1)
+}
+
+/// Ends all that the program started.
+pub(crate) fn stop<P: Programs>(
+    programs: &mut P,
+    place: &Place,
+    ended: Ended,
+) -> Result<Step, RunFault>
+    ensures goes { IfOk result (λ step. ProgramGoes (place_shown place.now)
+        (Stages.Stopping ended) step (P.asked programs.old) (P.asked programs.new)) }
+    ensures counts { ProgramsCounts result (P.failures programs.old) (P.failures programs.new) }
+{
+    let is_killed = of_programs(programs.kill(place.run))?;
+    if is_killed {
+        Ok(Step::Goes(Stage::Measuring(ended), 1))
+    } else {
+        Ok(Step::Goes(Stage::Stopping(ended), u32::MAX))
+    }
+}
+
+/// Looks how much it wrote, before any of it is read.
+pub(crate) fn measure<P: Programs>(
+    alloc: Global,
+    programs: &mut P,
+    place: &Place,
+    ended: Ended,
+) -> Result<Step, RunFault>
+    ensures goes { IfOk result (λ step. ProgramGoes (place_shown place.now)
+        (Stages.Measuring ended) step (P.asked programs.old) (P.asked programs.new)) }
+    ensures counts { ProgramsCounts result (P.failures programs.old) (P.failures programs.new) }
+{
+    let length = of_programs(programs.length(place.run))?;
+    if length > MOST_BYTES {
+        return Err(RunFault::TooLarge);
+    }
+    Ok(Step::Goes(Stage::Output(ended, Content::new(alloc)), 1))
+}
+
+/// Reads the next piece of standard output.
+pub(crate) fn read_output<P: Programs>(
+    alloc: Global,
+    programs: &mut P,
+    place: &Place,
+    ended: Ended,
+    content: Content,
+) -> Result<Step, RunFault>
+    ensures goes { IfOk result (λ step. ProgramGoes (place_shown place.now)
+        (Stages.Output ended content) step (P.asked programs.old) (P.asked programs.new)) }
+    ensures counts { ProgramsCounts result (P.failures programs.old) (P.failures programs.new) }
+{
+    let mut content = content;
+    let from = content.length();
+    let piece = of_programs(programs.read(place.run, Stream::Output, from, PIECE))?;
+    if piece.is_empty() {
+        let stage = Stage::Error(ended, content.whole(), Content::new(alloc));
+        return Ok(Step::Goes(stage, 1));
+    }
+    content.push(&piece)?;
+    Ok(Step::Goes(Stage::Output(ended, content), cost_of(piece.len())))
+}
+
+/// Reads the next piece of standard error.
+pub(crate) fn read_error<P: Programs>(
+    alloc: Global,
+    programs: &mut P,
+    place: &Place,
+    ended: Ended,
+    stdout: Draft,
+    content: Content,
+) -> Result<Step, RunFault>
+    ensures goes { IfOk result (λ step. ProgramGoes (place_shown place.now)
+        (Stages.Error ended stdout content) step (P.asked programs.old) (P.asked programs.new)) }
+    ensures counts { ProgramsCounts result (P.failures programs.old) (P.failures programs.new) }
+{
+    let mut content = content;
+    let from = content.length();
+    let piece = of_programs(programs.read(place.run, Stream::Error, from, PIECE))?;
+    if piece.is_empty() {
+        let gathering = both_read(alloc, ended, stdout, content)?;
+        return Ok(Step::Goes(Stage::Outputs(gathering), 1));
+    }
+    content.push(&piece)?;
+    Ok(Step::Goes(Stage::Error(ended, stdout, content), cost_of(piece.len())))
+}
+
+/// Nothing gathered yet.
+fn both_read(
+    alloc: Global,
+    ended: Ended,
+    stdout: Draft,
+    stderr: Content,
+) -> Result<Gathering, RunFault>
+    ensures told { IfOk result (λ gathering. (place : PlaceValue) →
+        exited_told place gathering.exited ≡ has_told place (Stages.Error ended stdout stderr)) }
+    ensures outputs { IfOk result (λ gathering. gathering.exited.outputs.items ≡ []) }
+    ensures left { IfOk result (λ gathering. gathering.left ≡ ended.outputs) }
+    ensures fault { IfErr result IsOwnFault }
+{
+    let taken = stdout.length().saturating_add(stderr.length());
+    if taken > MOST_BYTES {
+        return Err(RunFault::TooLarge);
+    }
+    let Ended { code, outputs } = ended;
+    let exited = Exited {
+        code,
+        stdout,
+        stderr: stderr.whole(),
+        outputs: Vec::new(alloc),
+    };
+    Ok(Gathering {
+        exited,
+        left: outputs,
+        taken,
+    })
+}

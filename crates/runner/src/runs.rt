@@ -1,0 +1,292 @@
+//! Runs, from their start to their end.
+
+ghost use Rattle.std.specs.Prelude.{◌≡◌, ◌<◌, ◌≤◌, ◌++◌, ◌∷◌, [], List, IfOk, IfSome, IfNone, OnOk, OnErr, length, vec_len, vec_capacity, take, drop, insert};
+ghost use Rattle.runner.specs.Faults.{Counted, OnlyWhereFailed};
+ghost use Rattle.runner.specs.Runs.{EndsBy, HasGone, ending_of, IsAt, IsAsked, IsKilled, IsStarted, run_left};
+ghost use Rattle.runner.specs.declared.stage.Run.{Run};
+
+use crate::fault::RunFault;
+use crate::folder::{Folder, Place};
+use crate::outcome::Outcome;
+use crate::programs::Programs;
+use crate::stage::{Ending, Making, Nodes, Prepared, Run, Stage, State, Step};
+use crate::task::{RunKey, Task};
+use crate::texts::Texts;
+use crate::turn::turn;
+use std::alloc::{AllocError, Global};
+
+/// Where the run of a key stands.
+fn place_of(runs: &[Run], key: RunKey) -> Option<usize>
+    ensures { IfSome result (λ at. IsAt key runs.now at) }
+{
+    let mut at = 0;
+    let mut left = runs;
+    'runs: while let [first, rest @ ..] = left {
+        if first.place.run.instance == key.instance && first.place.run.job == key.job {
+            return Some(at);
+        }
+        at += 1;
+        left = rest;
+    }
+    None
+}
+
+/// Takes the run of a key out of its place.
+fn take_out(runs: &mut Vec<Run>, key: RunKey) -> Option<(usize, Run)>
+    ensures taken { IfSome result (λ found.
+        runs.old.items ≡ take found.0 runs.new.items ++ found.1 ∷ drop found.0 runs.new.items) }
+    ensures key { IfSome result (λ found. found.1.place.run ≡ key) }
+    ensures inside { IfSome result (λ found. found.0 ≤ vec_len runs.new) }
+    ensures room { IfSome result (λ found. vec_len runs.new < vec_capacity runs.new) }
+    ensures none { IfNone result (runs.new ≡ runs.old) }
+{
+    let at = place_of(runs, key)?;
+    let run = runs.remove(at);
+    Some((at, run))
+}
+
+/// Puts a run into its place again.
+fn put_back(runs: &mut Vec<Run>, at: usize, run: Run)
+    requires inside { at ≤ vec_len runs.old }
+    requires room { vec_len runs.old < vec_capacity runs.old }
+    ensures { runs.new.items ≡ take at runs.old.items ++ run ∷ drop at runs.old.items }
+{
+    runs.insert(at, run).unwrap();
+}
+
+/// A run of which nothing is done yet.
+fn started(alloc: Global, key: RunKey, task: Task) -> Run
+    ensures { IsStarted key task result }
+{
+    let Task {
+        nodes,
+        command,
+        working_directory,
+        outputs,
+    } = task;
+    let nodes = Nodes {
+        above: Vec::new(alloc),
+        left: nodes,
+        next: Prepared { command, outputs },
+    };
+    Run {
+        place: Place {
+            run: key,
+            directory: working_directory,
+        },
+        state: State::Live(Stage::Making(Making::Root(nodes))),
+    }
+}
+
+/// Runs, each in a folder of its own.
+#[derive(Drop)]
+pub struct Runner<F: Folder + Drop, P: Programs + Drop> {
+    folder: F,
+    programs: P,
+    runs: Vec<Run>,
+}
+
+impl<F: Folder + Drop, P: Programs + Drop> Runner<F, P> {
+    /// No runs, of these folders and programs.
+    pub fn new(alloc: Global, folder: F, programs: P) -> Runner<F, P>
+        ensures folder { result.folder ≡ folder }
+        ensures programs { result.programs ≡ programs }
+        ensures runs { result.runs.items ≡ [] }
+    {
+        Runner {
+            folder,
+            programs,
+            runs: Vec::new(alloc),
+        }
+    }
+
+    /// Adds the run of a job of an instance. Its folder is made, and its program started, by the
+    /// calls of `ask` that follow.
+    pub fn start(&mut self, instance: u32, job: u64, task: Task) -> Result<(), AllocError>
+        ensures runs { OnOk result ((run : Run) ×
+            IsStarted (record { instance = instance; job = job }) task run
+            × (self.new.runs.items ≡ self.old.runs.items ++ run ∷ [])) }
+        ensures refused { OnErr result (self.new.runs.items ≡ self.old.runs.items) }
+        ensures folder { self.new.folder ≡ self.old.folder }
+        ensures programs { self.new.programs ≡ self.old.programs }
+    {
+        let alloc = *self.runs.allocator();
+        let run = started(alloc, RunKey { instance, job }, task);
+        self.runs.push(run)?;
+        Ok(())
+    }
+
+    /// Does a bounded piece of work for a job's run: makes some of its folder, starts its program or
+    /// asks it, or gathers some of what it left. What came of the run, or `None` while it goes on.
+    /// After an outcome or a fault the run is over; the calls that follow end what is left of its
+    /// program, remove its folder, and forget the run.
+    pub fn ask<T: Texts>(
+        &mut self,
+        instance: u32,
+        job: u64,
+        texts: &T,
+    ) -> Result<Option<Outcome>, RunFault>
+        ensures asked { IsAsked (T.text_of texts.now) (record { instance = instance; job = job })
+            result self.old.runs.items self.new.runs.items
+            (F.asked self.old.folder) (F.asked self.new.folder)
+            (P.asked self.old.programs) (P.asked self.new.programs) }
+        ensures faults { OnlyWhereFailed result
+            (F.failures self.old.folder) (F.failures self.new.folder)
+            (P.failures self.old.programs) (P.failures self.new.programs) }
+    {
+        let key = RunKey { instance, job };
+        let Some((at, run)) = take_out(&mut self.runs, key) else {
+            return Ok(None);
+        };
+        let Run { place, state } = run;
+        match state {
+            State::Over(ending) => {
+                let left = end(&mut self.folder, &mut self.programs, key, ending);
+                put_left(&mut self.runs, at, place, left);
+                Ok(None)
+            }
+            State::Live(stage) => self.go_on(at, texts, place, stage),
+        }
+    }
+
+    /// Does a piece of work for a run that is not over, which was taken out of its place.
+    fn go_on<T: Texts>(
+        &mut self,
+        at: usize,
+        texts: &T,
+        place: Place,
+        stage: Stage,
+    ) -> Result<Option<Outcome>, RunFault>
+        requires inside { at ≤ vec_len self.old.runs }
+        requires room { vec_len self.old.runs < vec_capacity self.old.runs }
+        ensures went { HasGone (T.text_of texts.now) place stage result at
+            self.old.runs.items self.new.runs.items
+            (F.asked self.old.folder) (F.asked self.new.folder)
+            (P.asked self.old.programs) (P.asked self.new.programs) }
+        ensures faults { Counted result
+            (F.failures self.old.folder) (F.failures self.new.folder)
+            (P.failures self.old.programs) (P.failures self.new.programs) }
+    {
+        let alloc = *self.runs.allocator();
+        match turn(
+            alloc,
+            &mut self.folder,
+            &mut self.programs,
+            texts,
+            &place,
+            stage,
+        ) {
+            Ok(Step::Goes(next, _spent)) => {
+                let state = State::Live(next);
+                put_back(&mut self.runs, at, Run { place, state });
+                Ok(None)
+            }
+            Ok(Step::Exits(exited)) => {
+                self.programs.forget(place.run);
+                let state = State::Over(Ending::Removing);
+                put_back(&mut self.runs, at, Run { place, state });
+                Ok(Some(Outcome::Exited(exited)))
+            }
+            Err(fault) => {
+                let state = State::Over(Ending::Killing);
+                put_back(&mut self.runs, at, Run { place, state });
+                Err(fault)
+            }
+        }
+    }
+
+    /// A job's run is over, and gives no outcome. The first of what is to be done to end it is tried
+    /// at once, and the rest by the calls of `ask` that follow.
+    pub fn kill(&mut self, instance: u32, job: u64)
+        ensures killed { IsKilled (record { instance = instance; job = job })
+            self.old.runs.items self.new.runs.items
+            (F.asked self.old.folder) (F.asked self.new.folder)
+            (P.asked self.old.programs) (P.asked self.new.programs) }
+    {
+        let key = RunKey { instance, job };
+        let Some((at, run)) = take_out(&mut self.runs, key) else {
+            return;
+        };
+        let Run { place, state } = run;
+        let ending = ending_of(state);
+        let left = end(&mut self.folder, &mut self.programs, key, ending);
+        put_left(&mut self.runs, at, place, left);
+    }
+
+    /// How many runs there are, those included that are only to be ended.
+    pub fn count(&self) -> usize
+        ensures { result ≡ vec_len self.now.runs }
+    {
+        self.runs.len()
+    }
+
+    /// The run of this number, counted from 0.
+    pub fn run(&self, at: usize) -> Option<RunKey> {
+        let run = self.runs.get(at)?;
+        Some(run.place.run)
+    }
+
+    pub fn folder(&self) -> &F
+        ensures { result.now ≡ self.now.folder }
+    {
+        &self.folder
+    }
+
+    pub fn programs(&self) -> &P
+        ensures { result.now ≡ self.now.programs }
+    {
+        &self.programs
+    }
+}
+
+/// What is to be done for a run that is to be over.
+fn ending_of(state: State) -> Ending
+    ensures { result ≡ ending_of state }
+{
+    match state {
+        State::Live(stage) => {
+            drop(stage);
+            Ending::Killing
+        }
+        State::Over(ending) => ending,
+    }
+}
+
+/// Does the next piece of what is to be done for a run that is over. What is left then, if anything.
+/// A folder that cannot be removed is left.
+fn end<F: Folder, P: Programs>(
+    folder: &mut F,
+    programs: &mut P,
+    key: RunKey,
+    ending: Ending,
+) -> Option<Ending>
+    ensures { EndsBy key ending result (F.asked folder.old) (F.asked folder.new)
+        (P.asked programs.old) (P.asked programs.new) }
+{
+    match ending {
+        Ending::Killing => match programs.kill(key) {
+            Ok(true) => {
+                programs.forget(key);
+                Some(Ending::Removing)
+            }
+            Ok(false) | Err(_) => Some(Ending::Killing),
+        },
+        Ending::Removing => match folder.remove(key) {
+            Ok(false) => Some(Ending::Removing),
+            Ok(true) | Err(_) => None,
+        },
+    }
+}
+
+/// Puts a run that is over into its place again, where something is left to do for it.
+fn put_left(runs: &mut Vec<Run>, at: usize, place: Place, left: Option<Ending>)
+    requires inside { at ≤ vec_len runs.old }
+    requires room { vec_len runs.old < vec_capacity runs.old }
+    ensures { runs.new.items
+        ≡ take at runs.old.items ++ (run_left place left ++ drop at runs.old.items) }
+{
+    if let Some(ending) = left {
+        let state = State::Over(ending);
+        put_back(runs, at, Run { place, state });
+    }
+}

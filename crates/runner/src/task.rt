@@ -1,0 +1,57 @@
+//! What is to be run.
+
+use std::collections::VecDeque;
+
+/// A run: a job of an instance.
+#[derive(Clone, Copy, Debug, PartialEq, Eq)]
+pub struct RunKey {
+    /// The instance's number, counted from 0.
+    pub instance: u32,
+    pub job: u64,
+}
+
+/// What a node is.
+#[derive(Drop, Debug)]
+pub enum NodeKind {
+    /// A file, by the number of its text among those that are lent (`Texts`).
+    File { text: usize, is_executable: bool },
+    Symlink { target: String },
+    Directory,
+}
+
+/// A node of a task's tree.
+#[derive(Drop, Debug)]
+pub struct TaskNode {
+    /// Its name in the directory that it stands in.
+    pub name: String,
+    /// The number of directories from the root on in which it stands: 1 in the root itself.
+    pub level: u32,
+    pub kind: NodeKind,
+}
+
+/// A variable of the environment.
+#[derive(Drop, Debug)]
+pub struct Variable {
+    pub name: String,
+    pub value: String,
+}
+
+/// A program, and what it is given.
+#[derive(Drop, Debug)]
+pub struct Command {
+    /// The program is the first.
+    pub arguments: Vec<String>,
+    pub variables: Vec<Variable>,
+}
+
+/// A command, and the tree in which it is to be run.
+#[derive(Drop)]
+pub struct Task {
+    /// In walk order: a directory stands before what is in it.
+    pub nodes: VecDeque<TaskNode>,
+    pub command: Command,
+    /// From the root on, with `/` between names; empty for the root itself.
+    pub working_directory: String,
+    /// Paths from the working directory on, in the order asked for.
+    pub outputs: VecDeque<String>,
+}

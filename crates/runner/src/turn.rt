@@ -1,0 +1,83 @@
+//! What is done for a run in one call: steps, until they took some milliseconds.
+
+ghost use Rattle.std.specs.Prelude.{IfOk};
+ghost use Rattle.runner.specs.Values.{place_shown};
+ghost use Rattle.runner.specs.Steps.{Goes};
+ghost use Rattle.runner.specs.Faults.{Counted};
+
+use crate::fault::RunFault;
+use crate::folder::{Folder, Place};
+use crate::gathering::{list_output, next_in_tree, next_output, read_file, read_in_tree};
+use crate::making::make;
+use crate::programs::Programs;
+use crate::running::{ask, measure, read_error, read_output, stop};
+use crate::stage::{Stage, Step};
+use crate::texts::Texts;
+use std::alloc::Global;
+
+/// What steps may cost in one call: so much takes 256 small calls, or a megabyte that is hashed.
+const MOST_COST: u32 = 256;
+
+/// The next step of a run.
+fn step<F: Folder, P: Programs, T: Texts>(
+    alloc: Global,
+    folder: &mut F,
+    programs: &mut P,
+    texts: &T,
+    place: &Place,
+    stage: Stage,
+) -> Result<Step, RunFault>
+    ensures goes { IfOk result (λ step. Goes (T.text_of texts.now) (place_shown place.now) stage step
+        (F.asked folder.old) (F.asked folder.new) (P.asked programs.old) (P.asked programs.new)) }
+    ensures faults { Counted result (F.failures folder.old) (F.failures folder.new)
+        (P.failures programs.old) (P.failures programs.new) }
+{
+    match stage {
+        Stage::Making(making) => make(folder, programs, texts, place, making),
+        Stage::Running(outputs) => ask(programs, place, outputs),
+        Stage::Stopping(ended) => stop(programs, place, ended),
+        Stage::Measuring(ended) => measure(alloc, programs, place, ended),
+        Stage::Output(ended, content) => read_output(alloc, programs, place, ended, content),
+        Stage::Error(ended, stdout, content) => {
+            read_error(alloc, programs, place, ended, stdout, content)
+        }
+        Stage::Outputs(gathering) => next_output(alloc, folder, place, gathering),
+        Stage::File(gathering, file) => read_file(folder, place, gathering, file),
+        Stage::Listing(gathering, path) => list_output(alloc, folder, place, gathering, path),
+        Stage::Tree(gathering, tree) => next_in_tree(alloc, folder, place, gathering, tree),
+        Stage::TreeFile(gathering, tree, file) => {
+            read_in_tree(folder, place, gathering, tree, file)
+        }
+    }
+}
+
+/// What is done for a run in one call.
+pub(crate) fn turn<F: Folder, P: Programs, T: Texts>(
+    alloc: Global,
+    folder: &mut F,
+    programs: &mut P,
+    texts: &T,
+    place: &Place,
+    stage: Stage,
+) -> Result<Step, RunFault>
+    ensures goes { IfOk result (λ step. Goes (T.text_of texts.now) (place_shown place.now) stage step
+        (F.asked folder.old) (F.asked folder.new) (P.asked programs.old) (P.asked programs.new)) }
+    ensures faults { Counted result (F.failures folder.old) (F.failures folder.new)
+        (P.failures programs.old) (P.failures programs.new) }
+{
+    let mut reached = stage;
+    let mut spent = 0u32;
+    for _ in 0..MOST_COST {
+        match step(alloc, folder, programs, texts, place, reached)? {
+            Step::Exits(exited) => return Ok(Step::Exits(exited)),
+            Step::Goes(next, cost) => {
+                spent = spent.saturating_add(cost);
+                if spent >= MOST_COST {
+                    return Ok(Step::Goes(next, spent));
+                }
+                reached = next;
+            }
+        }
+    }
+    Ok(Step::Goes(reached, spent))
+}

@@ -8,7 +8,8 @@ use Rattle.message_fields.specs.Parts.{text_for}
 use Rattle.reapi_messages.specs.Digests.{DigestValue}
 use Rattle.tree_messages.specs.Directories.{DirectoryValue, tree_records}
 use Rattle.tree_messages.specs.Results.{OutputDirectoryValue, OutputFileValue, action_result_records}
-use Rattle.outcomes.specs.Asked.{AskedValue, are_asked}
+use Rattle.action_reading.specs.Commands.{AskedOutput}
+use Rattle.outcomes.specs.Asked.{are_asked}
 use Rattle.outcomes.specs.Completing.{CollectionValue, no_outputs, with_outputs}
 use Rattle.outcomes.specs.Outcomes.{ExitedValue, OutputNodeValue}
 use Rattle.outcomes.specs.Results.{CompletionValue, completion_of, file_blobs, file_results, is_output, result_with, stream_blobs, stream_digest, tree_blobs, tree_results}
@@ -54,7 +55,7 @@ no_walk like nodes denied = rw denied refl
 
 -- ---- runs
 
-pub completed : (like : Digest) (asked : List AskedValue) (x : ExitedValue) (c : CollectionValue) (blobs : List Blob) (result : List ℕ) (out err : Option DigestValue) → are_asked asked x.outputs ≡ true → list_all (is_output like) x.outputs ≡ true → c ≡ with_outputs like no_outputs x.outputs → out ≡ stream_digest like x.stdout → err ≡ stream_digest like x.stderr → result ≡ text_for action_result_records (result_with x.code c.files c.trees out err) → blobs ≡ c.file_blobs ++ c.tree_blobs ++ stream_blobs like x.stdout ++ stream_blobs like x.stderr → Some (record { blobs = blobs; result = result }) ≡ completion_of like asked x
+pub completed : (like : Digest) (asked : List AskedOutput) (x : ExitedValue) (c : CollectionValue) (blobs : List Blob) (result : List ℕ) (out err : Option DigestValue) → are_asked asked x.outputs ≡ true → list_all (is_output like) x.outputs ≡ true → c ≡ with_outputs like no_outputs x.outputs → out ≡ stream_digest like x.stdout → err ≡ stream_digest like x.stderr → result ≡ text_for action_result_records (result_with x.code c.files c.trees out err) → blobs ≡ c.file_blobs ++ c.tree_blobs ++ stream_blobs like x.stdout ++ stream_blobs like x.stderr → Some (record { blobs = blobs; result = result }) ≡ completion_of like asked x
 completed like asked x c blobs result out err known taken is out_is err_is written joined =
     let all = all_collected like x.outputs c is in
     let text : result ≡ text_for action_result_records (result_with x.code (flat_map (file_results like) x.outputs) (flat_map (tree_results like) x.outputs) (stream_digest like x.stdout) (stream_digest like x.stderr)) =
@@ -71,8 +72,8 @@ completed like asked x c blobs result out err known taken is out_is err_is writt
     ∙ ap (λ (t : List ℕ). Some (record { blobs = flat_map (file_blobs like) x.outputs ++ flat_map (tree_blobs like) x.outputs ++ stream_blobs like x.stdout ++ stream_blobs like x.stderr; result = t })) text
     ∙ rw (known, taken) refl
 
-pub not_asked : (like : Digest) (asked : List AskedValue) (x : ExitedValue) → are_asked asked x.outputs ≡ false → None ≡ completion_of like asked x
+pub not_asked : (like : Digest) (asked : List AskedOutput) (x : ExitedValue) → are_asked asked x.outputs ≡ false → None ≡ completion_of like asked x
 not_asked like asked x denied = rw denied refl
 
-pub not_taken : (like : Digest) (asked : List AskedValue) (x : ExitedValue) → are_asked asked x.outputs ≡ true → list_all (is_output like) x.outputs ≡ false → None ≡ completion_of like asked x
+pub not_taken : (like : Digest) (asked : List AskedOutput) (x : ExitedValue) → are_asked asked x.outputs ≡ true → list_all (is_output like) x.outputs ≡ false → None ≡ completion_of like asked x
 not_taken like asked x known denied = rw (known, denied) refl

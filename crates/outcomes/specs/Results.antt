@@ -8,7 +8,8 @@ use Rattle.instance_view.specs.Visible.{Blob, visible_text}
 use Rattle.reapi_messages.specs.Digests.{DigestValue}
 use Rattle.tree_messages.specs.Results.{ActionResultValue, OutputDirectoryValue, OutputFileValue, action_result_records}
 use Rattle.operations.specs.Statuses.{distinct}
-use Rattle.outcomes.specs.Asked.{AskedValue, are_asked}
+use Rattle.action_reading.specs.Commands.{AskedOutput}
+use Rattle.outcomes.specs.Asked.{are_asked}
 use Rattle.outcomes.specs.Naming.{blob_like, written_like}
 use Rattle.outcomes.specs.Outcomes.{ExitedValue, NodeKindValue, OutputNodeValue, OutputValue, as_directory, as_file, output_file, output_tree}
 use Rattle.outcomes.specs.Trees.{is_tree, tree_text}
@@ -20,7 +21,7 @@ is_output like (output_file path text is_executable) = true
 is_output like (output_tree path nodes) = is_tree like nodes
 
 -- what was given is what was asked for, and its trees are taken
-abbrev pub are_outputs : Digest → List AskedValue → List OutputValue → Bool
+abbrev pub are_outputs : Digest → List AskedOutput → List OutputValue → Bool
 are_outputs like asked outputs = are_asked asked outputs && list_all (is_output like) outputs
 
 -- ---- blobs, in the order in which they are admitted
@@ -101,7 +102,7 @@ pub record CompletionValue : Type 0 where
   pub result : List ℕ
 
 -- what a run comes to whose outputs are taken
-abbrev pub completion_of : Digest → List AskedValue → ExitedValue → Option CompletionValue
+abbrev pub completion_of : Digest → List AskedOutput → ExitedValue → Option CompletionValue
 completion_of like asked x =
     if are_outputs like asked x.outputs
     then Some (record { blobs = blobs_given like x; result = result_text like x }) else None

@@ -1,7 +1,6 @@
 -- What the values of the code stand for.
 use Rattle.std.specs.Prelude.{ℕ, List, map, string_bytes}
 use Rattle.instance_view.specs.Visible.{Blob}
-use Rattle.outcomes.specs.declared.asked.AskedOutput.{AskedOutput}
 use Rattle.outcomes.specs.declared.outcome.NodeKind.{NodeKind}
 use Rattle.outcomes.specs.declared.outcome.NodeKind.TheVariants as kinds
 use Rattle.outcomes.specs.declared.outcome.OutputNode.{OutputNode}
@@ -11,7 +10,6 @@ use Rattle.outcomes.specs.declared.outcome.Output.{Output}
 use Rattle.outcomes.specs.declared.outcome.Exited.{Exited}
 use Rattle.outcomes.specs.declared.outcome.Outcome.{Outcome}
 use Rattle.outcomes.specs.declared.outcome.Outcome.TheVariants as ends
-use Rattle.outcomes.specs.Asked.{AskedValue}
 use Rattle.outcomes.specs.Outcomes.{ExitedValue, NodeKindValue, OutcomeValue, OutputNodeValue, OutputValue, as_directory, as_file, exited, failed, output_file, output_tree}
 
 abbrev pub kind_shown : NodeKind → NodeKindValue
@@ -42,6 +40,3 @@ exited_shown x = record {
 abbrev pub outcome_shown : Outcome → OutcomeValue
 outcome_shown ends.Failed = failed
 outcome_shown (ends.Exited x) = exited (exited_shown x)
-
-abbrev pub asked_shown : AskedOutput → AskedValue
-asked_shown a = record { path = a.path.now; as_file = a.as_file; as_tree = a.as_tree }

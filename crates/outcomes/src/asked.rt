@@ -2,19 +2,11 @@
 
 ghost use Rattle.std.specs.Prelude.{◌≡◌, map};
 ghost use Rattle.outcomes.specs.Asked.{are_asked, is_asked};
-ghost use Rattle.outcomes.specs.Shown.{asked_shown, output_shown};
+ghost use Rattle.action_reading.specs.Shown.{asked_shown};
+ghost use Rattle.outcomes.specs.Shown.{output_shown};
 
 use crate::outcome::{Output, OutputKind};
-
-/// An output that an action asks for.
-#[derive(Clone, Copy)]
-pub struct AskedOutput<'a> {
-    pub path: &'a str,
-    /// Whether it may be a file.
-    pub as_file: bool,
-    /// Whether it may be a directory.
-    pub as_tree: bool,
-}
+use action_reading::AskedOutput;
 
 /// Whether an output is the one that is asked for.
 fn is_asked(asked: &AskedOutput<'_>, output: &Output) -> bool

@@ -1,6 +1,7 @@
 //! What the run of an action comes to.
 
 ghost use Rattle.std.specs.Prelude.{◌≡◌, ◌++◌, true, map, option_map, string_bytes, IfOk, OnOk};
+ghost use Rattle.action_reading.specs.Shown.{asked_shown};
 ghost use Rattle.reapi_messages.specs.Digests.{digest_shown};
 ghost use Rattle.tree_messages.specs.Results.{output_directory_shown, output_file_shown};
 ghost use Rattle.message_fields.specs.Parts.{text_for};
@@ -9,15 +10,16 @@ ghost use Rattle.operations.specs.Written.{written_shown};
 ghost use Rattle.outcomes.specs.Completing.{Collects, blob_shown, IsCollected, completion_shown, named_output_shown, named_tree_shown};
 ghost use Rattle.outcomes.specs.Naming.{blob_like};
 ghost use Rattle.outcomes.specs.Results.{completion_of, is_output, node_blob, node_blobs, result_with, stream_blobs, stream_digest};
-ghost use Rattle.outcomes.specs.Shown.{asked_shown, exited_shown, node_shown, nodes_shown, output_shown};
+ghost use Rattle.outcomes.specs.Shown.{exited_shown, node_shown, nodes_shown, output_shown};
 ghost use Rattle.outcomes.specs.Trees.{tree_text};
 ghost use Rattle.outcomes.specs.Outcomes.{output_file, output_tree};
 
-use crate::asked::{AskedOutput, are_asked};
+use crate::asked::are_asked;
 use crate::content::Content;
 use crate::naming::{digest_like, write_content, write_text};
 use crate::outcome::{Exited, NodeKind, Output, OutputKind, OutputNode};
 use crate::tree::tree_of;
+use action_reading::AskedOutput;
 use blob_pool::Draft;
 use digest::Digest;
 use message_fields::Message;

@@ -13,7 +13,6 @@ mod outcome;
 mod quota;
 mod tree;
 
-pub use asked::AskedOutput;
 pub use completion::{BlobText, Completion, OutputBlob, complete};
 pub use content::Content;
 pub use laws::{a_root_has_the_nodes_of_level_one, each_directory_is_a_child_once};

@@ -4,7 +4,8 @@ use Rattle.operations.specs.Written.{written_shown}
 use Rattle.outcomes.specs.declared.outcome.Output.{Output}
 use Rattle.outcomes.specs.Asked.{are_asked}
 use Rattle.outcomes.specs.Completing.{IsCollected, blob_shown, collection_shown}
-use Rattle.outcomes.specs.Shown.{asked_shown, exited_shown, output_shown}
+use Rattle.action_reading.specs.Shown.{asked_shown}
+use Rattle.outcomes.specs.Shown.{exited_shown, output_shown}
 use Rattle.outcomes.proofs.Completed.{completed}
 use Rattle.outcomes.proofs.completion.complete.Goals as goal
 

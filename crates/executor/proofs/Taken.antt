@@ -10,7 +10,7 @@ use Rattle.std.proofs.lemmas.List.{append-nil, drop-map, length-map, map-append,
 use Rattle.blob_pool.specs.Slots.{Slots, count_at}
 use Rattle.blob_pool.specs.Moves.{Holders, Moves, no_holders}
 use Rattle.blob_pool.proofs.Moves.{moves_more}
-use Rattle.job_queue.specs.Jobs.{Jobs, same_number, started, jobs_after_start, jobs_after_end, running_job}
+use Rattle.job_queue.specs.Jobs.{Jobs, same_number, started, jobs_after_start, jobs_after_end, jobs_without, running_job}
 use Rattle.job_queue.specs.Changes.{IsRunning}
 use Rattle.job_queue.specs.Order.{AreJobs, AreRising, IsNone, open_numbers}
 use Rattle.job_queue.specs.declared.queue.Running.{Running}
@@ -242,3 +242,23 @@ start_moves p deadline jobs = record {
   counts = λ k. let sum = sum-start (λ (j : Job). job_holders j k) deadline jobs in omega (arith, sum);
   texts = λ k less. refl;
 }
+
+-- ---- a job that is forgotten
+
+pub shown-forget : (p : Slots) (n : ℕ) (jobs : Jobs Job) → jobs_in p (jobs_without n jobs) ≡ jobs_without n (jobs_in p jobs)
+shown-forget p n jobs = ap (λ (rs : List (ℕ × Running JobValue)). queue_of jobs.next (map (waiting_in p) jobs.waiting) rs jobs.ended) (shown-removed p n jobs.running)
+
+pub forgotten_shown : (p q : Slots) (n : ℕ) (job : Job) (jobs : Jobs Job) → running_job n jobs ≡ Some job → ((k : ℕ) → jobs_holders jobs k ≤ count_at p k) → Moves p q (job_holders job) no_holders → jobs_in q (jobs_without n jobs) ≡ jobs_without n (jobs_in p jobs)
+forgotten_shown p q n job jobs is held m =
+    jobs_same p q (jobs_without n jobs) (job_holders job) no_holders (end_held p n [] job jobs is held) m ∙ shown-forget p n jobs
+
+none-removed : (n : ℕ) (rs : List (ℕ × Running Job)) → option_map (λ r. r.job) (lookup (same_number n) rs) ≡ None → remove_entry (same_number n) rs ≡ rs
+none-removed n [] none = refl
+none-removed n (r ∷ rs) none = go (same_number n r.0) refl none (λ later. none-removed n rs later) where
+  go : (b : Bool) → same_number n r.0 ≡ b → option_map (λ r. r.job) (lookup (same_number n) (r ∷ rs)) ≡ None → (option_map (λ r. r.job) (lookup (same_number n) rs) ≡ None → remove_entry (same_number n) rs ≡ rs) → remove_entry (same_number n) (r ∷ rs) ≡ r ∷ rs
+  go true here none later = absurd (let no : Some r.1.job ≡ None = (rw here at none) in cc)
+  go false here none later = rw here (ap (λ (es : List (ℕ × Running Job)). r ∷ es) (later (rw here at none)))
+
+-- where none runs under the number, nothing is forgotten
+pub none_forgotten : (n : ℕ) (jobs : Jobs Job) → running_job n jobs ≡ None → jobs_without n jobs ≡ jobs
+none_forgotten n jobs none = ap (λ (rs : List (ℕ × Running Job)). let js : Jobs Job = record jobs { running = rs } in js) (none-removed n jobs.running none)

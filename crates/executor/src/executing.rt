@@ -2,7 +2,7 @@
 
 ghost use Rattle.std.specs.Prelude.{◌≡◌, ◌≤◌, ◌<◌, ◌+◌, ◌^◌, ℕ, List, Some, None, option_map, IfOk, IfSome, OnOk, OnErr};
 ghost use Rattle.blob_pool.specs.Slots.{Slots, count_at};
-ghost use Rattle.blob_pool.specs.Moves.{Moves};
+ghost use Rattle.blob_pool.specs.Moves.{Moves, no_holders};
 ghost use Rattle.instance_view.specs.Visible.{Blob};
 ghost use Rattle.instance_view.specs.Shown.{ViewValue, holders};
 ghost use Rattle.instance_view.specs.Sight.{SightValue, sight_holders, sight_of};
@@ -189,6 +189,7 @@ fn answer_job(
         ≡ after_changes (by_job state action.now (prepared_shown prepared)).changes state) }
     ensures moves { Moves pool.old pool.new (jobs_holders queue.old) (jobs_holders queue.new) }
     ensures err { OnErr result ((view.new ≡ view.old) × (queue.new ≡ queue.old)) }
+    ensures still { OnErr result (Moves pool.old pool.new no_holders no_holders) }
     ensures holders { (k : ℕ) → holders view.new k ≡ holders view.old k }
     ensures limit { view.new.limit ≡ view.old.limit }
 {
@@ -233,6 +234,7 @@ fn answer_prepared(
         ≡ after_changes (by_looking state action.now None).changes state) }
     ensures moves { Moves pool.old pool.new (jobs_holders queue.old) (jobs_holders queue.new) }
     ensures err { OnErr result ((view.new ≡ view.old) × (queue.new ≡ queue.old)) }
+    ensures still { OnErr result (Moves pool.old pool.new no_holders no_holders) }
     ensures holders { (k : ℕ) → holders view.new k ≡ holders view.old k }
     ensures limit { view.new.limit ≡ view.old.limit }
 {
@@ -280,6 +282,7 @@ pub fn execute(
         (jobs_holders executions.new.queue) }
     ensures err { OnErr result ((results.new ≡ results.old) × (view.new ≡ view.old)
         × (executions.new.queue ≡ executions.old.queue)) }
+    ensures still { OnErr result (Moves pool.old pool.new no_holders no_holders) }
     ensures slots { executions.new.slots ≡ executions.old.slots }
     ensures holders { (k : ℕ) → holders view.new k ≡ holders view.old k }
     ensures limit { view.new.limit ≡ view.old.limit }

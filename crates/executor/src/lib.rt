@@ -27,5 +27,5 @@ pub use laws::{
 };
 pub use orders::{Order, Told, task_of};
 pub use steps::{Step, end_steps, start_steps, tick_steps};
-pub use taking::take_steps;
+pub use taking::{forget_job, take_steps};
 pub use waiting::wait;

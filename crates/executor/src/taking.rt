@@ -4,7 +4,7 @@ ghost use Rattle.std.specs.Prelude.{◌≡◌, ◌≤◌, ℕ};
 ghost use Rattle.blob_pool.specs.Slots.{count_at};
 ghost use Rattle.blob_pool.specs.Moves.{Moves};
 ghost use Rattle.job_queue.specs.Changes.{CanHappen, IsRunning, jobs_after};
-ghost use Rattle.job_queue.specs.Jobs.{jobs_after_end};
+ghost use Rattle.job_queue.specs.Jobs.{jobs_after_end, jobs_without};
 ghost use Rattle.executor.specs.InPool.{jobs_holders, jobs_in};
 ghost use Rattle.executor.specs.Steps.{change_of, jobs_after_steps};
 ghost use Rattle.executor.specs.Taking.{CanTake, step_shown, steps_shown};
@@ -26,6 +26,19 @@ fn end_job(pool: &mut Pool, queue: &mut Queue<Job>, number: u64, operation: Vec<
 {
     let job = queue.end(number, operation).unwrap();
     release_texts(pool, &job.task.texts);
+}
+
+/// Forgets the job that runs under a number, where one does, and releases what it kept. This takes
+/// no memory.
+pub fn forget_job(pool: &mut Pool, queue: &mut Queue<Job>, number: u64)
+    requires held { (k : ℕ) → jobs_holders queue.old k ≤ count_at pool.old k }
+    ensures forgotten { jobs_in pool.new queue.new
+        ≡ jobs_without number (jobs_in pool.old queue.old) }
+    ensures moves { Moves pool.old pool.new (jobs_holders queue.old) (jobs_holders queue.new) }
+{
+    if let Some(job) = queue.forget(number) {
+        release_texts(pool, &job.task.texts);
+    }
 }
 
 /// Takes a step.

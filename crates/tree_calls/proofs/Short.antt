@@ -205,7 +205,7 @@ front_short (suc n) room (b ∷ bs) = go (nat_le (length b.1) room) refl (front_
   go true is ih = let le = leb-true (length b.1) room is in omega (arith, ih, le)
   go false is ih = omega arith
 
-fronted_within : (t : Digest → Bool) (results : List Blob) → AreResultsWithin results → AreResultsWithin (with_match_first t results)
+pub fronted_within : (t : Digest → Bool) (results : List Blob) → AreResultsWithin results → AreResultsWithin (with_match_first t results)
 fronted_within t results within = record {
   few = rw (length-with_match_first t results) within.few;
   short = rw (blobs_length-with_match_first t results) within.short;
@@ -221,7 +221,7 @@ get_stays_within own visible results request within = go (action_asked own reque
   go (Err refusal) = within
   go (Ok action) = test action (is_some (blobs_for (texts_seen visible) action results))
 
-front_is_within : (bs : List Blob) → AreResultsWithin (front_within 10000 67108864 bs)
+pub front_is_within : (bs : List Blob) → AreResultsWithin (front_within 10000 67108864 bs)
 front_is_within bs = record { few = front_few 10000 67108864 bs; short = front_short 10000 67108864 bs }
 
 pub update_stays_within : (own : List ℕ) (results : List Blob) (request : List ℕ) → AreResultsWithin results → AreResultsWithin (after_update own results request)

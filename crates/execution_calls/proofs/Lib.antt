@@ -1,0 +1,4 @@
+mod Named
+mod Admitting
+mod Fates
+mod Ended

@@ -1,0 +1,4 @@
+pub mod Asking
+pub mod Ending
+pub mod Shown
+pub mod Fates

@@ -1,0 +1,10 @@
+pub mod Fields
+pub mod Written
+pub mod Forms
+pub mod Walks
+pub mod Executing
+pub mod Kept
+pub mod Stages
+pub mod Steps
+pub mod Results
+pub mod Quotas

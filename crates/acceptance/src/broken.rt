@@ -5,7 +5,7 @@
 //! give what it gives in the run of the script as it is, and, where bytes are just cut, so has the
 //! first.
 
-use crate::outcomes::{outcome, shown_at};
+use crate::runs::{outcome, shown_at};
 use crate::scripts::{configs, events, expanded};
 use program_status::{Output, Status};
 use server_core::Outputs;

@@ -1,6 +1,6 @@
 //! Floods of frames, of which the end of what is sent tells what became of them.
 
-use crate::outcomes::outcome_of;
+use crate::runs::outcome_of;
 use crate::scripts::expanded;
 use program_status::{Output, Status};
 use server_core::{InstanceOutput, SentBytes};

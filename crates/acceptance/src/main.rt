@@ -24,7 +24,7 @@ mod instances;
 mod limits;
 mod memory;
 mod numbers;
-mod outcomes;
+mod runs;
 mod scripts;
 mod sockets;
 mod stored;

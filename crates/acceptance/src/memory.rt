@@ -10,7 +10,7 @@ mod found;
 
 use crate::instances::server;
 use crate::memory::found::{Texts, found};
-use crate::outcomes::{outcome, outcome_of, shown, shown_at};
+use crate::runs::{outcome, outcome_of, shown, shown_at};
 use crate::scripts::{configs, events, expanded};
 use program_status::{Fault, Output, Status};
 use script::lines;

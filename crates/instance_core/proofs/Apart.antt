@@ -1,17 +1,18 @@
--- The map of calls without those of one connection.
-use Rattle.std.proofs.Common.{◌≡◌, ℕ, Bool, true, false, cond, [], ◌∷◌}
+-- The map of calls without some of them.
+use Rattle.std.proofs.Common.{◌≡◌, Bool, true, false, cond, [], ◌∷◌}
+use Rattle.std.specs.Prelude.{filter}
 use Rattle.std.specs.List.{IsDistinct}
 use Rattle.std.specs.Map.{keys_of}
-use Rattle.instance_core.specs.Calls.{Calls, same_call, KeepShort, AreInCourse}
-use Rattle.instance_core.specs.Apart.{is_apart, calls_apart}
+use Rattle.instance_core.specs.declared.event.CallId.{CallId}
+use Rattle.instance_core.specs.Calls.{Calls, CallValue, same_call, KeepShort, AreInCourse}
 
-apart_short : (connection : ℕ) (cs : Calls) → KeepShort cs → KeepShort (calls_apart connection cs)
-apart_short connection [] kept = tt
-apart_short connection (c ∷ cs) kept = go (is_apart connection c) (apart_short connection cs kept.1) where
-  go : (b : Bool) → KeepShort (calls_apart connection cs) → KeepShort (cond b (c ∷ calls_apart connection cs) (calls_apart connection cs))
+filtered_short : (test : CallId × CallValue → Bool) (cs : Calls) → KeepShort cs → KeepShort (filter test cs)
+filtered_short test [] kept = tt
+filtered_short test (c ∷ cs) kept = go (test c) (filtered_short test cs kept.1) where
+  go : (b : Bool) → KeepShort (filter test cs) → KeepShort (cond b (c ∷ filter test cs) (filter test cs))
   go true ih = (kept.0, ih)
   go false ih = ih
 
--- all of one connection were taken out
-pub taken_apart : (connection : ℕ) (old new : Calls) → new ≡ calls_apart connection old → IsDistinct same_call (keys_of new) → AreInCourse old → AreInCourse new
-taken_apart connection old new is once calls = record { once = once; messages = rw is (apart_short connection old calls.messages) }
+-- those were kept that pass a test
+pub kept_by : (test : CallId × CallValue → Bool) (old new : Calls) → new ≡ filter test old → IsDistinct same_call (keys_of new) → AreInCourse old → AreInCourse new
+kept_by test old new is once calls = record { once = once; messages = rw is (filtered_short test old calls.messages) }

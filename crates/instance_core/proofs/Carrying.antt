@@ -26,9 +26,15 @@ use Rattle.bytestream.specs.declared.reading.Source.{Source}
 use Rattle.bytestream.specs.declared.reading.ReadAsked.{ReadAsked}
 use Rattle.bytestream.specs.Reading.{SourceValue, read_asked, read_answer, after_asking, after_read}
 use Rattle.tree_calls.specs.Complete.{AreResultsWithin}
+use Rattle.job_queue.specs.Jobs.{Jobs}
+use Rattle.executor.specs.Job.{JobValue}
+use Rattle.executor.specs.InPool.{jobs_in, jobs_holders}
+use Rattle.executor.specs.declared.job.Executions.{Executions}
+use Rattle.executor.proofs.Calling.{jobs_same}
+use Rattle.blob_pool.proofs.Moves.{moves_more}
 use Rattle.bytestream.specs.Shown.{source_shown}
 use Rattle.instance_core.specs.declared.answer.Answer.{Answer}
-use Rattle.instance_core.specs.declared.answer.Answer.TheVariants.{Message, Messages, Range}
+use Rattle.instance_core.specs.declared.answer.Answer.TheVariants.{Message, Messages, Range, Watching}
 use Rattle.instance_core.specs.declared.contents.Settings.{Settings}
 use Rattle.instance_core.specs.declared.contents.Contents.{Contents}
 use Rattle.instance_core.specs.Calls.{Calls}
@@ -36,11 +42,11 @@ use Rattle.instance_core.specs.Changes.{Text, Keeps}
 use Rattle.instance_core.specs.Contents.{AreContentsWithin, AreContentsInPool}
 use Rattle.instance_core.specs.Methods.{answer_to, use_asked, request_changes}
 use Rattle.instance_core.specs.Replies.{one_message, range, answering}
-use Rattle.instance_core.specs.Shown.{contents_seen}
+use Rattle.instance_core.specs.Shown.{Ongoing, ongoing_in, contents_seen}
 use Rattle.instance_core.specs.State.{InstanceState, most_blobs}
 use Rattle.instance_core.specs.declared.event.Reply.{Reply}
 use Rattle.instance_core.specs.ReplyHolders.{result_holders}
-use Rattle.instance_core.specs.Carries.{answer_shown, shaped, answer_holders, EndsWithin, Carries}
+use Rattle.instance_core.specs.Carries.{answer_shown, shaped, answer_holders, EndsWithin, contents_holders, contents_beside, Carries, CarriesTexts, Leaves}
 use Rattle.instance_core.proofs.Parts.{bytes_said, leaves_texts, leaves_results, answers_shaped, uses_answered, on_answered, no_memory_leaves, if_no_memory}
 use Rattle.instance_core.proofs.Ranges.{none_made, read_uses, read_keeps, read_shown}
 use Rattle.instance_core.proofs.Events.{range_within_text}
@@ -71,17 +77,18 @@ kept_within settings p old q view kept limit there = record {
 
 -- a method that changes texts alone, and not the pool
 pub carries_texts : {X : Type 0} (method : Method) (settings : Settings) (parent : List Blob) (message : List ℕ) (p q : Slots) (old : Contents) (view : ViewValue) (r : Result X CallError) (shape : X → Answer) (cs : List Texts.TextChange)
-    → ((calls : Calls) → Answers (answer_shown q) (shaped shape r) (answer_to method (contents_seen settings parent p old calls) message))
-    → ((calls : Calls) → request_changes method (contents_seen settings parent p old calls) message ≡ map Text cs)
+    → ((o : Ongoing) → Answers (answer_shown q) (shaped shape r) (answer_to method (contents_seen settings parent p old o) message))
+    → ((o : Ongoing) → request_changes method (contents_seen settings parent p old o) message ≡ map Text cs)
     → IfAnswered r (visible_in q view ≡ Texts.visible_after_changes most_blobs settings.quota cs (visible_in p old.view))
     → IfNoMemory r (Texts.MadeInPart most_blobs settings.quota cs (visible_in p old.view) (visible_in q view))
     → Moves p q (holders old.view) (λ k. holders view k + answer_holders (shaped shape r) k) → AreContentsWithin settings q (record old { view = view })
-    → Carries method settings parent message p old (shaped shape r) q (record old { view = view })
+    → CarriesTexts method settings parent message p old (shaped shape r) q (record old { view = view })
 carries_texts method settings parent message p q old view r shape cs answer changes whole part moves within = record {
   answer = answer;
-  leaves = λ calls. rw (changes calls) (leaves_texts r shape cs (contents_seen settings parent p old calls) (visible_in q view) whole part);
+  leaves = λ o. rw (changes o) (leaves_texts r shape cs (contents_seen settings parent p old o) (visible_in q view) whole part);
   moves = moves;
   within = within;
+  executions = refl;
 }
 
 pub said_alike : (q : Slots) (x : Vec ℕ Global) → answer_shown q (Message x) ≡ one_message (bytes_said x)
@@ -92,15 +99,15 @@ said_holds x k = refl
 
 -- a method that answers by a message, and uses what it is asked for
 pub carries_uses : (method : Method) (settings : Settings) (parent : List Blob) (message : List ℕ) (p : Slots) (old : Contents) (view : ViewValue) (r : Result (Vec ℕ Global) CallError) (asked : Result (List Digest) Refusal) (reply : List Digest → List ℕ)
-    → ((calls : Calls) → answer_to method (contents_seen settings parent p old calls) message ≡ answering one_message (asked >>= λ digests. Ok (reply digests)))
-    → ((calls : Calls) → request_changes method (contents_seen settings parent p old calls) message ≡ map Text (Texts.uses asked))
+    → ((o : Ongoing) → answer_to method (contents_seen settings parent p old o) message ≡ answering one_message (asked >>= λ digests. Ok (reply digests)))
+    → ((o : Ongoing) → request_changes method (contents_seen settings parent p old o) message ≡ map Text (Texts.uses asked))
     → AreContentsInPool settings p old → Answers bytes_said r (asked >>= λ digests. Ok (reply digests))
     → OnOk r (visible_in p view ≡ Texts.visible_after_changes old.view.limit settings.quota (Texts.uses asked) (visible_in p old.view)) → OnErr r (view ≡ old.view)
     → ((k : ℕ) → holders view k ≡ holders old.view k) → view.limit ≡ old.view.limit → (IsViewInPool settings.quota p old.view → IsViewInPool settings.quota p view)
-    → Carries method settings parent message p old (shaped Message r) p (record old { view = view })
+    → CarriesTexts method settings parent message p old (shaped Message r) p (record old { view = view })
 carries_uses method settings parent message p old view r asked reply answer changes kept said used err same limit keeps =
     carries_texts method settings parent message p p old view r Message (Texts.uses asked)
-    (λ calls. rw (answer calls) (answers_shaped bytes_said Message one_message p r (asked >>= λ digests. Ok (reply digests)) (said_alike p) said))
+    (λ o. rw (answer o) (answers_shaped bytes_said Message one_message p r (asked >>= λ digests. Ok (reply digests)) (said_alike p) said))
     changes
     (uses_answered r asked reply old.view.limit most_blobs settings.quota p old.view view kept.limit said used err)
     (if_no_memory r (view ≡ old.view) (Texts.MadeInPart most_blobs settings.quota (Texts.uses asked) (visible_in p old.view) (visible_in p view)) (λ is. none_made most_blobs settings.quota (Texts.uses asked) (visible_in p old.view) (visible_in p view) (ap (visible_in p) is)) err)
@@ -113,12 +120,12 @@ pub carries_stores : (settings : Settings) (parent : List Blob) (message : List 
     → IfAnswered r (visible_in q view ≡ Texts.visible_after_changes most_blobs settings.quota (batch_update_changes (string_bytes settings.name) settings.quota message) (visible_in p old.view))
     → OnErr r (Texts.MadeInPart old.view.limit settings.quota (batch_update_changes (string_bytes settings.name) settings.quota message) (visible_in p old.view) (visible_in q view))
     → Moves p q (holders old.view) (holders view) → view.limit ≡ old.view.limit → IsViewInPool settings.quota q view
-    → Carries BatchUpdateBlobs settings parent message p old (shaped Message r) q (record old { view = view })
+    → CarriesTexts BatchUpdateBlobs settings parent message p old (shaped Message r) q (record old { view = view })
 carries_stores settings parent message p q old view r kept said stored part moves limit there =
     let changes = batch_update_changes (string_bytes settings.name) settings.quota message in
     carries_texts BatchUpdateBlobs settings parent message p q old view r Message changes
-    (λ calls. answers_shaped bytes_said Message one_message q r (batch_update_reply (string_bytes settings.name) settings.quota message) (said_alike q) said)
-    (λ calls. refl)
+    (λ o. answers_shaped bytes_said Message one_message q r (batch_update_reply (string_bytes settings.name) settings.quota message) (said_alike q) said)
+    (λ o. refl)
     stored
     (if_no_memory r (Texts.MadeInPart old.view.limit settings.quota changes (visible_in p old.view) (visible_in q view)) (Texts.MadeInPart most_blobs settings.quota changes (visible_in p old.view) (visible_in q view))
     (λ made. subst (λ (n : ℕ). Texts.MadeInPart n settings.quota changes (visible_in p old.view) (visible_in q view)) kept.limit made) part)
@@ -127,44 +134,57 @@ carries_stores settings parent message p q old view r kept said stored part move
 
 -- a method that answers by a message, and changes results and then texts
 pub carries_results : (method : Method) (settings : Settings) (parent : List Blob) (message : List ℕ) (p : Slots) (old : Contents) (view : ViewValue) (results : List Blob) (r : Result (Vec ℕ Global) CallError) (reply : Result (List ℕ) Refusal) (kept : List Blob) (cs : List Texts.TextChange)
-    → ((calls : Calls) → answer_to method (contents_seen settings parent p old calls) message ≡ answering one_message reply)
-    → ((calls : Calls) → request_changes method (contents_seen settings parent p old calls) message ≡ Keeps kept ∷ map Text cs)
+    → ((o : Ongoing) → answer_to method (contents_seen settings parent p old o) message ≡ answering one_message reply)
+    → ((o : Ongoing) → request_changes method (contents_seen settings parent p old o) message ≡ Keeps kept ∷ map Text cs)
     → AreContentsInPool settings p old → Answers bytes_said r reply
     → IfAnswered r (visible_in p view ≡ Texts.visible_after_changes most_blobs settings.quota cs (visible_in p old.view)) → IfAnswered r (results ≡ kept) → OnErr r ((results ≡ old.results) × (visible_in p view ≡ visible_in p old.view))
     → ((k : ℕ) → holders view k ≡ holders old.view k) → view.limit ≡ old.view.limit → IsViewInPool settings.quota p view → AreResultsWithin results
-    → Carries method settings parent message p old (shaped Message r) p (record old { view = view; results = results })
+    → CarriesTexts method settings parent message p old (shaped Message r) p (record old { view = view; results = results })
 carries_results method settings parent message p old view results r reply kept cs answer changes here said used left err same limit there few = record {
-  answer = λ calls. rw (answer calls) (answers_shaped bytes_said Message one_message p r reply (said_alike p) said);
-  leaves = λ calls. rw (changes calls) (leaves_results r Message kept cs (contents_seen settings parent p old calls) (visible_in p view) results used left err);
+  answer = λ o. rw (answer o) (answers_shaped bytes_said Message one_message p r reply (said_alike p) said);
+  leaves = λ o. rw (changes o) (leaves_results r Message kept cs (contents_seen settings parent p old o) (visible_in p view) results used left err);
   moves = still p old.view view (answer_holders (shaped Message r)) same (message_holds Message said_holds r);
   within = let within = kept_within settings p old p view here limit there in record { limit = within.limit; texts = within.texts; uploads = within.uploads; results = few };
+  executions = refl;
 }
 
 -- a method that answers by a message, and changes nothing
 pub carries_nothing : (method : Method) (settings : Settings) (parent : List Blob) (message : List ℕ) (p : Slots) (old : Contents) (r : Result (Vec ℕ Global) CallError) (reply : Result (List ℕ) Refusal)
-    → ((calls : Calls) → answer_to method (contents_seen settings parent p old calls) message ≡ answering one_message reply)
-    → ((calls : Calls) → request_changes method (contents_seen settings parent p old calls) message ≡ []) → AreContentsInPool settings p old → Answers bytes_said r reply
-    → Carries method settings parent message p old (shaped Message r) p old
+    → ((o : Ongoing) → answer_to method (contents_seen settings parent p old o) message ≡ answering one_message reply)
+    → ((o : Ongoing) → request_changes method (contents_seen settings parent p old o) message ≡ []) → AreContentsInPool settings p old → Answers bytes_said r reply
+    → CarriesTexts method settings parent message p old (shaped Message r) p old
 carries_nothing method settings parent message p old r reply answer changes kept said =
     carries_texts method settings parent message p p old old.view r Message []
-    (λ calls. rw (answer calls) (answers_shaped bytes_said Message one_message p r reply (said_alike p) said))
+    (λ o. rw (answer o) (answers_shaped bytes_said Message one_message p r reply (said_alike p) said))
     changes
     (on_answered r (visible_in p old.view ≡ visible_in p old.view) refl)
     (no_memory_leaves r (Texts.MadeInPart most_blobs settings.quota [] (visible_in p old.view) (visible_in p old.view)) (none_made most_blobs settings.quota [] (visible_in p old.view) (visible_in p old.view) refl))
     (still p old.view old.view (answer_holders (shaped Message r)) (λ k. refl) (message_holds Message said_holds r))
     (kept_within settings p old p old.view kept refl kept.kept)
 
--- a method that is not answered so is refused, and changes nothing
-pub carries_refusal : (method : Method) (settings : Settings) (parent : List Blob) (message : List ℕ) (p : Slots) (old : Contents) (refusal : Refusal)
-    → ((calls : Calls) → answer_to method (contents_seen settings parent p old calls) message ≡ Err refusal)
-    → ((calls : Calls) → request_changes method (contents_seen settings parent p old calls) message ≡ []) → AreContentsInPool settings p old
-    → Carries method settings parent message p old (Err (Refused refusal)) p old
-carries_refusal method settings parent message p old refusal answer changes kept = record {
-  answer = answer;
-  leaves = λ calls. rw (changes calls) (record { whole = refl; memory = tt });
-  moves = still p old.view old.view (answer_holders (Err (Refused refusal))) (λ k. refl) (λ k. refl);
-  within = kept_within settings p old p old.view kept refl kept.kept;
-}
+-- ---- a method that asks and changes no jobs
+
+ongoing_same : (p q : Slots) (old new : Contents) (calls : Calls) → jobs_in q new.executions.queue ≡ jobs_in p old.executions.queue → ongoing_in q new calls ≡ ongoing_in p old calls
+ongoing_same p q old new calls same = ap (λ (js : Jobs JobValue). let o : Ongoing = record { jobs = js; calls = calls } in o) same
+
+pub lifted : (method : Method) (settings : Settings) (parent : List Blob) (message : List ℕ) (p : Slots) (old : Contents) (r : Result Answer CallError) (q : Slots) (new : Contents) → ((k : ℕ) → contents_holders old k ≤ count_at p k)
+    → CarriesTexts method settings parent message p old r q new → Carries method settings parent message p old r q new
+lifted method settings parent message p old r q new held carried =
+    let jobs : jobs_in q new.executions.queue ≡ jobs_in p old.executions.queue =
+    ap (λ (e : Executions). jobs_in q e.queue) carried.executions
+    ∙ jobs_same p q old.executions.queue (holders old.view) (λ k. holders new.view k + answer_holders r k) held carried.moves in
+    record {
+      answer = λ calls. carried.answer (ongoing_in p old calls);
+      leaves = λ calls. subst (λ (o : Ongoing). Leaves r (request_changes method (contents_beside settings parent p old calls) message) (contents_beside settings parent p old calls) (contents_seen settings parent q new o)) (sym (ongoing_same p q old new calls jobs)) (carried.leaves (ongoing_in p old calls));
+      moves = moves_more p q (holders old.view) (λ k. holders new.view k + answer_holders r k) (jobs_holders old.executions.queue) (contents_holders old) (λ k. contents_holders new k + answer_holders r k)
+          (λ k. refl) (λ k. let same = ap (λ (e : Executions). jobs_holders e.queue k) carried.executions in omega (arith, same)) carried.moves;
+      within = carried.within;
+      slots = ap (λ (e : Executions). e.slots) carried.executions;
+    }
+
+-- who holds less is counted too
+pub own_held : (these those : Holders) (p : Slots) → ((k : ℕ) → these k + those k ≤ count_at p k) → (k : ℕ) → these k ≤ count_at p k
+own_held these those p both k = let a = both k in omega (arith, a)
 
 -- ---- what a request was answered, and its reply
 
@@ -175,14 +195,19 @@ pub answer_ends_within : (q : Slots) (method : Method) (s : InstanceState) (mess
 answer_ends_within q method s message (Ok (Range source)) h = range_within_text method s message (source_shown q source) h
 answer_ends_within q method s message (Ok (Message bytes)) h = tt
 answer_ends_within q method s message (Ok (Messages list)) h = tt
+answer_ends_within q method s message (Ok (Watching number operation)) h = tt
 answer_ends_within q method s message (Err e) h = tt
 
--- the reply holds what the answer held, or nothing: the instance shows what it showed
-pub shown_still : (p q z : Slots) (old : Holders) (new : ViewValue) (given those : Holders) → Moves p q old (λ k. holders new k + given k) → ((k : ℕ) → old k ≤ count_at p k) → Moves q z given those → visible_in z new ≡ visible_in q new
-shown_still p q z old new given those m held more = shown_apart q z new.entries given those more (λ k. let a = m.counts k in let b = held k in omega arith)
+-- the reply holds what the answer held, or nothing: the texts show what they showed, and so do the jobs
+pub texts_still : (p q z : Slots) (old : Holders) (new : Contents) (given those : Holders) → Moves p q old (λ k. contents_holders new k + given k) → ((k : ℕ) → old k ≤ count_at p k) → Moves q z given those → visible_in z new.view ≡ visible_in q new.view
+texts_still p q z old new given those m held more = shown_apart q z new.view.entries given those more (λ k. let a = m.counts k in let b = held k in omega arith)
 
-pub seen_at : (settings : Settings) (parent : List Blob) (q z : Slots) (c : Contents) (calls : Calls) → visible_in z c.view ≡ visible_in q c.view → contents_seen settings parent z c calls ≡ contents_seen settings parent q c calls
-seen_at settings parent q z c calls same = ap (λ (bs : List Blob). record (contents_seen settings parent q c calls) { visible = bs }) same
+pub shown_still : (settings : Settings) (parent : List Blob) (p q z : Slots) (old : Holders) (new : Contents) (given those : Holders) (calls : Calls) → Moves p q old (λ k. contents_holders new k + given k) → ((k : ℕ) → old k ≤ count_at p k) → Moves q z given those → contents_beside settings parent z new calls ≡ contents_beside settings parent q new calls
+shown_still settings parent p q z old new given those calls m held more =
+    let texts = texts_still p q z old new given those m held more in
+    let jobs : jobs_in z new.executions.queue ≡ jobs_in q new.executions.queue = jobs_same q z new.executions.queue given those (λ k. let a = m.counts k in let b = held k in omega arith) more in
+    ap (λ (bs : List Blob). record (contents_beside settings parent z new calls) { visible = bs }) texts
+    ∙ ap (λ (js : Jobs JobValue). record (contents_beside settings parent q new calls) { jobs = js }) jobs
 
 -- a refused reply holds nothing, whoever passes the refusal on
 pub held_by_none : (q z : Slots) (given : Holders) (e : AllocError) (r : Result (Vec Reply Global) AllocError) → IsErr r → Moves q z given (result_holders (Err e)) → Moves q z given (result_holders r)
@@ -242,7 +267,7 @@ pub carries_range : (settings : Settings) (parent : ViewValue) (message : List �
     → ((z : Slots) → IfAnswered r (visible_in z view ≡ after_read (string_bytes settings.name) message (visible_in z old.view))) → IfNoMemory r (view ≡ old.view)
     → ((k : ℕ) → IfOk r (λ source. holders_seen source.text k ≤ count_at p k)) → IfOk r (λ source. Moves p q no_holders (holders_seen source.text)) → OnErr r (q ≡ p)
     → ((k : ℕ) → holders view k ≡ holders old.view k) → view.limit ≡ old.view.limit
-    → Carries Read settings (visible_in p parent) message p old (shaped Range r) q (record old { view = view })
+    → CarriesTexts Read settings (visible_in p parent) message p old (shaped Range r) q (record old { view = view })
 carries_range settings parent message p q old view r kept answer used memory there holds err same limit =
     let own = string_bytes settings.name in
     let asked = read_asked own message in
@@ -250,8 +275,8 @@ carries_range settings parent message p q old view r kept answer used memory the
     let cs = use_asked asked in
     let within = read_within old.view.limit r asked settings.quota old.view view p kept.kept.within (used p) memory in
     carries_texts Read settings (visible_in p parent) message p q old view r Range cs
-    (λ calls. range_answers p q r (read_answer own (visible_in p old.view ++ visible_in p parent) message) there holds answer)
-    (λ calls. refl)
+    (λ o. range_answers p q r (read_answer own (visible_in p old.view ++ visible_in p parent) message) there holds answer)
+    (λ o. refl)
     (use_whole r asked settings.quota (visible_in p old.view) (visible_in p view) (visible_in q view) shown (used p))
     (use_front r settings.quota cs p q old.view view shown memory)
     (given_moves p q old.view view r holds err same)

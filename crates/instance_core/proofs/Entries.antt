@@ -1,5 +1,6 @@
 -- The map of calls, and the list of calls.
-use Rattle.std.proofs.Common.{◌≡◌, Bool, true, false, cond, List, [], ◌∷◌, refl, ap}
+use Rattle.std.proofs.Common.{◌≡◌, Bool, true, false, cond, List, [], ◌∷◌, Result, Ok, Err, refl, ap}
+use Rattle.std.specs.Prelude.{OnOk}
 use Rattle.std.specs.List.{IsDistinct}
 use Rattle.std.specs.Map.{keys_of}
 use Rattle.indexmap.specs.IndexMap.{insert_entry}
@@ -35,3 +36,12 @@ put_in id call old new is once short calls = record { once = once; messages = rw
 -- a call that was taken out of it
 pub taken_out : (id : CallId) (old new : Calls) → new ≡ without_call id old → IsDistinct same_call (keys_of new) → AreInCourse old → AreInCourse new
 taken_out id old new is once calls = record { once = once; messages = rw is (without_short id old calls.messages) }
+
+-- a call that took the place of another
+pub replaced : (id : CallId) (call : CallValue) (old new : Calls) → new ≡ with_call id call old → IsDistinct same_call (keys_of new)
+    → IsShortProgress call.progress → AreInCourse old → AreInCourse new
+replaced id call old new is once short calls = record { once = once; messages = rw is (with_short id call old short calls.messages) }
+
+pub ok_is : {T E : Type 0} (r : Result T E) (x : T) {P : Type 0} → r ≡ Ok x → OnOk r P → P
+ok_is (Ok y) x is p = p
+ok_is (Err e) x is p = absurd (cc)

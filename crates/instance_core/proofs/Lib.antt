@@ -13,13 +13,32 @@ pub mod Events
 mod Carrying
 mod Replying
 mod Beside
+mod Telling
+mod Ended
+mod Readying
+mod Taking
+mod Executed
 pub mod NamedTexts
 mod StatedSizes
+mod OperationSizes
+mod CallLimits
+mod JobLimits
+mod ChangeLimits
+mod ChangesHeld
+mod WholeJobs
+mod Outputs
+mod ExecuteLimits
+mod JobReplies
+pub mod OrderTexts
 pub mod WriteLimits
 mod WriteAdds
 pub mod EventLimits
+pub mod EndingJobs
 pub mod NamedReplies
 pub mod Losses
 pub use Rattle.instance_view.proofs.Held
 pub use Rattle.quota_evict.proofs.Limits
 pub use Rattle.quota_evict.proofs.Steps
+pub mod WatchKept
+pub mod WatchTold
+pub mod JobsHeld

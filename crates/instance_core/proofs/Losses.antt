@@ -7,17 +7,29 @@ use lib.Pointwise.{pointwise, bytes_decides}
 use Rattle.rpc.specs.declared.method.Method.{Method}
 use Rattle.rpc.specs.declared.method.Method.TheVariants as Called
 use Rattle.rpc.specs.declared.refusal.Refusal.{Refusal}
+use Rattle.rpc.specs.declared.refusal.Refusal.TheVariants.{ExecutionIsOff, QueueFull}
 use Rattle.digest.specs.declared.Digest.{Digest}
 use Rattle.digest.specs.Naming.{Names, same_digest, digest_of, is_digest_of}
 use Rattle.digest.proofs.Same.{same_names}
-use Rattle.instance_view.specs.Visible.{visible_text, with_match_first}
+use Rattle.instance_view.specs.Visible.{Blob, visible_text, with_match_first}
 use Rattle.cas_service.specs.Changes as Texts
 use Rattle.uploads.specs.declared.error.UploadError.{UploadError}
 use Rattle.uploads.specs.declared.error.UploadError.TheVariants.{Offset, Size, Hash, TooMany, OverQuota, NoMemory}
 use Rattle.uploads.specs.declared.steps.TheConstants.{MOST_UPLOADS}
 use Rattle.uploads.specs.Uploads.{KeyValue, UploadList, upload_at, text_so_far, uploads_length}
 use Rattle.uploads.specs.Writing.{PieceValue, is_place, if_ok, piece_answer, finish_answer}
-use Rattle.action_cache.specs.Answering.{blobs_for}
+use Rattle.action_cache.specs.Answering.{blobs_for, blobs_used, results_after}
+use Rattle.job_queue.specs.Jobs.{running_job}
+use Rattle.job_queue.specs.declared.queue.TheConstants.{LAST_NUMBER, MOST_WAITING}
+use Rattle.operations.specs.Operations.{completed_text, finds, queued_text}
+use Rattle.executor.specs.Job.{JobValue}
+use Rattle.executor.specs.Preparing.{FaultValue, PreparedValue, prepared, met, job_of}
+use Rattle.executor.specs.Execute as Executor
+use Rattle.executor.specs.Execute.{ExecuteChange, ExecuteDone, queued, by_fault, by_job, by_looking, by_preparing, execute, look_in, looked_up, refused as refused_with}
+use Rattle.executor.specs.Steps.{StepValue, start_steps, tick_steps}
+use Rattle.outcomes.specs.Outcomes.{OutcomeValue}
+use Rattle.execution_calls.specs.Asking.{ExecuteAskedValue, execute_asked}
+use Rattle.execution_calls.specs.Ending.{admissions, results_with}
 use Rattle.tree_calls.specs.Asking.{ResultSentValue, action_asked, result_sent}
 use Rattle.tree_calls.specs.GetTree.{texts_seen, get_tree_changes}
 use Rattle.tree_calls.specs.Results.{get_action_result_changes, after_asking, after_get, after_sending, after_update}
@@ -28,15 +40,17 @@ use Rattle.bytestream.specs.Reading.{read_asked}
 use Rattle.bytestream.specs.Writing as Writing
 use Rattle.bytestream.specs.Writing.{OpenWriteValue, PartValue, WrittenValue, WriteState, FirstAsked, first_asked, next_asked, part_outcome, after_last_part, after_end, after_taking, after_part}
 use Rattle.instance_core.specs.declared.event.CallId.{CallId}
-use Rattle.instance_core.specs.Calls.{Calls, ProgressValue, waits, has, writes, CallValue, CallEventValue, head, message, fault, end, cancel, tick, call_at, with_call, without_call}
+use Rattle.instance_core.specs.Calls.{Calls, ProgressValue, waits, has, writes, watches, CallValue, CallEventValue, head, message, fault, end, cancel, tick, start_jobs, end_late_jobs, end_job, call_at, with_call, without_call}
 use Rattle.instance_core.specs.State.{InstanceState, most_blobs, seen}
-use Rattle.instance_core.specs.Changes.{InstanceChange, Text, Goes, Ends, Wrote, Keeps, Expires, state_after_change, state_after_changes, MadeInPart}
-use Rattle.instance_core.specs.Methods.{is_served, use_asked, request_changes}
+use Rattle.instance_core.specs.Changes.{InstanceChange, Text, Goes, Ends, Wrote, Keeps, Expires, Does, Pushes, Settles, state_after_change, state_after_changes, MadeInPart}
+use Rattle.instance_core.specs.Methods.{use_asked, answer_to, request_changes, execution_state, execution_change, execution_changes}
 use Rattle.instance_core.specs.Named.{StoresNamedText}
 use Rattle.instance_core.specs.Writes.{write_state, with_piece, part_changes, first_part_changes, changes_asked, first_changes, next_changes, first_outcome, next_outcome}
-use Rattle.instance_core.specs.Answer.{answer, state_after, head_answer, first_write_answer, next_write_answer, first_message_answer, answer_by_progress, message_answer, fault_answer, end_answer_by_progress, request_end_answer}
-use Rattle.instance_core.specs.Losses.{ChangesByRule, CallsChange, BlobUsed, TextAdmitted, ResultUsed, ResultStored, PieceTaken, UploadFinished, UploadMisnamed, UploadTooLong, UploadsExpired, LeadsThrough, LosesByRules}
+use Rattle.instance_core.specs.Replies.{AnswerValue, one_message, messages, range, watching}
+use Rattle.instance_core.specs.Answer.{answer, call_change, state_after, ending_at, ending_changes, ending_steps, head_answer, first_write_answer, next_write_answer, first_message_answer, answer_by_progress, message_answer, fault_by_progress, fault_answer, end_answer_by_progress, request_end_answer}
+use Rattle.instance_core.specs.Losses.{ChangesByRule, CallsChange, BlobUsed, TextAdmitted, ResultUsed, ResultStored, PieceTaken, UploadFinished, UploadMisnamed, UploadTooLong, UploadsExpired, ExecutionDone, JobWaits, JobsSettle, LeadsThrough, LosesByRules}
 use Rattle.instance_core.proofs.NamedTexts.{find_named, update_named, batch_named, tree_named, get_named, read_named}
+use Rattle.instance_core.proofs.Outputs.{ending_stores}
 
 -- ---- chains
 
@@ -86,11 +100,12 @@ text_change : (s : InstanceState) (c : Texts.TextChange) → StoresNamedText c �
 text_change s (Texts.Use d) named = BlobUsed d refl
 text_change s (Texts.Store d text) named = TextAdmitted d text named refl
 
-texts_lose : (s r : InstanceState) (id : CallId) (cs : List Texts.TextChange) → LosesByRules s r → AllByRecursion StoresNamedText cs → FrontsLose s r (map Text cs ++ Ends id ∷ [])
-texts_lose s r id [] h named = ends_lose s r id h
-texts_lose s r id (c ∷ cs) h named =
+-- texts, and then more
+texts_lose : (s r : InstanceState) (cs : List Texts.TextChange) (rest : List InstanceChange) → LosesByRules s r → AllByRecursion StoresNamedText cs → ((q : InstanceState) → LosesByRules s q → FrontsLose s q rest) → FrontsLose s r (map Text cs ++ rest)
+texts_lose s r [] rest h named more = more r h
+texts_lose s r (c ∷ cs) rest h named more =
     let next = state_after_change (Text c) r in
-    (h, texts_lose s next id cs (then_change s r next h (text_change r c named.0)) named.1)
+    (h, texts_lose s next cs rest (then_change s r next h (text_change r c named.0)) named.1 more)
 
 got : (s : InstanceState) (asked : Result Digest Refusal) → ChangesByRule s (state_after_change (Keeps (after_asking (seen s) s.results asked)) s)
 got s (Ok action) = go (is_some (blobs_for (texts_seen (seen s)) action s.results)) where
@@ -103,19 +118,128 @@ put : (s : InstanceState) (sent : Result ResultSentValue Refusal) → ChangesByR
 put s (Ok sent) = ResultStored sent.action sent.text refl
 put s (Err refusal) = CallsChange s.calls refl
 
-request_loses : (s : InstanceState) (id : CallId) (method : Method) (request : List ℕ) → FrontsLose s s (request_changes method s request ++ Ends id ∷ [])
-request_loses s id Called.FindMissingBlobs request = texts_lose s s id (find_missing_changes s.name request) (here s) (find_named s request)
-request_loses s id Called.BatchUpdateBlobs request = texts_lose s s id (batch_update_changes s.name s.quota request) (here s) (update_named s request)
-request_loses s id Called.BatchReadBlobs request = texts_lose s s id (batch_read_changes s.name request) (here s) (batch_named s request)
-request_loses s id Called.GetTree request = texts_lose s s id (get_tree_changes s.name (seen s) request) (here s) (tree_named s request)
-request_loses s id Called.GetActionResult request =
+-- a call ends, or watches a job
+call_loses : (s : InstanceState) (id : CallId) (method : Method) (o : Result AnswerValue Refusal) (r : InstanceState) → LosesByRules s r → FrontsLose s r (call_change id method o ∷ [])
+call_loses s id method (Ok (watching n operation)) r h = goes_lose s r id (record { method = method; progress = watches n }) h
+call_loses s id method (Ok (one_message bytes)) r h = ends_lose s r id h
+call_loses s id method (Ok (messages list)) r h = ends_lose s r id h
+call_loses s id method (Ok (range source)) r h = ends_lose s r id h
+call_loses s id method (Err refusal) r h = ends_lose s r id h
+
+abbrev LaterLose : InstanceState → List InstanceChange → Type 0
+LaterLose s rest = (r : InstanceState) → LosesByRules s r → FrontsLose s r rest
+
+-- the results stay
+abbrev NoResults : List ExecuteChange → Type 0
+NoResults [] = Unit {0}
+NoResults (Executor.Uses d ∷ changes) = NoResults changes
+NoResults (Executor.Keeps results ∷ changes) = ⊥
+NoResults (Executor.Does operation ∷ changes) = NoResults changes
+NoResults (Executor.Pushes job ∷ changes) = NoResults changes
+
+execution_loses : (s r : InstanceState) (changes : List ExecuteChange) (rest : List InstanceChange) → LosesByRules s r → NoResults changes → LaterLose s rest → FrontsLose s r (map execution_change changes ++ rest)
+execution_loses s r [] rest h few more = more r h
+execution_loses s r (Executor.Uses d ∷ changes) rest h few more =
+    let next = state_after_change (Text (Texts.Use d)) r in
+    (h, execution_loses s next changes rest (then_change s r next h (BlobUsed d refl)) few more)
+execution_loses s r (Executor.Keeps results ∷ changes) rest h few more = absurd few
+execution_loses s r (Executor.Does operation ∷ changes) rest h few more =
+    let next = state_after_change (Does operation) r in
+    (h, execution_loses s next changes rest (then_change s r next h (ExecutionDone operation refl)) few more)
+execution_loses s r (Executor.Pushes job ∷ changes) rest h few more =
+    let next = state_after_change (Pushes job) r in
+    (h, execution_loses s next changes rest (then_change s r next h (JobWaits job refl)) few more)
+
+uses_only : (ds : List Digest) (last : ExecuteChange) → NoResults (last ∷ []) → NoResults (map Executor.Uses ds ++ last ∷ [])
+uses_only [] last h = h
+uses_only (d ∷ ds) last h = uses_only ds last h
+
+-- the result that is used is the first change of all
+result_used : (s : InstanceState) (d : Digest) → ChangesByRule s (state_after_change (Keeps (results_after (look_in (execution_state s)) d s.results)) s)
+result_used s d = go (is_some (blobs_for (look_in (execution_state s)) d s.results)) where
+  go : (b : Bool) → ChangesByRule s (record s { results = cond b (with_match_first (same_digest d) s.results) s.results })
+  go true = ResultUsed d refl
+  go false = CallsChange s.calls refl
+
+abbrev DoneLoses : InstanceState → ExecuteDone → List InstanceChange → Type 0
+DoneLoses s x rest = FrontsLose s s (map execution_change x.changes ++ rest)
+
+job_loses : (s : InstanceState) (d : Digest) (p : PreparedValue) (rest : List InstanceChange) → LaterLose s rest → DoneLoses s (by_job (execution_state s) d p) rest
+job_loses s d p rest more = go (nat_le MOST_WAITING (length s.jobs.waiting)) where
+  go : (b : Bool) → DoneLoses s (cond b (refused_with QueueFull) (record { answer = Ok (queued s.jobs.next (queued_text s.jobs.next d)); changes = map Executor.Uses (met d p) ++ Executor.Pushes (job_of (look_in (execution_state s)) d p) ∷ [] })) rest
+  go true = more s (here s)
+  go false =
+      execution_loses s s (map Executor.Uses (met d p) ++ Executor.Pushes (job_of (look_in (execution_state s)) d p) ∷ []) rest (here s)
+      (uses_only (met d p) (Executor.Pushes (job_of (look_in (execution_state s)) d p)) tt) more
+
+looking_loses : (s : InstanceState) (d : Digest) (o : Option (List ℕ)) (rest : List InstanceChange) → LaterLose s rest → DoneLoses s (by_looking (execution_state s) d o) rest
+looking_loses s d (Some text) rest more =
+    let next = state_after_change (Keeps (results_after (look_in (execution_state s)) d s.results)) s in
+    let used = blobs_used (look_in (execution_state s)) d s.results in
+    let last : ExecuteChange = Executor.Does (completed_text s.jobs.next d (finds text)) in
+    (here s, execution_loses s next (map Executor.Uses used ++ last ∷ []) rest (then_change s s next (here s) (result_used s d)) (uses_only used last tt) more)
+looking_loses s d None rest more = go (prepared (look_in (execution_state s)) d) where
+  go : (r : Result PreparedValue FaultValue) → DoneLoses s (by_preparing (execution_state s) d r) rest
+  go (Ok p) = job_loses s d p rest more
+  go (Err f) = execution_loses s s (by_fault (execution_state s) d f).changes rest (here s) tt more
+
+done_loses : (s : InstanceState) (skip : Bool) (d : Digest) (rest : List InstanceChange) → LaterLose s rest → DoneLoses s (execute s.slots (execution_state s) skip d) rest
+done_loses s skip d rest more = off (nat_eq s.slots 0) (nat_lt LAST_NUMBER s.jobs.next) where
+  off : (a b : Bool) → DoneLoses s (cond a (refused_with ExecutionIsOff) (cond b (refused_with QueueFull) (by_looking (execution_state s) d (looked_up skip (look_in (execution_state s)) d s.results)))) rest
+  off true b = more s (here s)
+  off false true = more s (here s)
+  off false false = looking_loses s d (looked_up skip (look_in (execution_state s)) d s.results) rest more
+
+executed_loses : (s : InstanceState) (asked : Result ExecuteAskedValue Refusal) (rest : List InstanceChange) → LaterLose s rest → FrontsLose s s (execution_changes s asked ++ rest)
+executed_loses s (Err refusal) rest more = more s (here s)
+executed_loses s (Ok asked) rest more = done_loses s asked.skips_lookup asked.action rest more
+
+changes_lose : (s : InstanceState) (method : Method) (request : List ℕ) (rest : List InstanceChange) → LaterLose s rest → FrontsLose s s (request_changes method s request ++ rest)
+changes_lose s Called.FindMissingBlobs request rest more = texts_lose s s (find_missing_changes s.name request) rest (here s) (find_named s request) more
+changes_lose s Called.BatchUpdateBlobs request rest more = texts_lose s s (batch_update_changes s.name s.quota request) rest (here s) (update_named s request) more
+changes_lose s Called.BatchReadBlobs request rest more = texts_lose s s (batch_read_changes s.name request) rest (here s) (batch_named s request) more
+changes_lose s Called.GetTree request rest more = texts_lose s s (get_tree_changes s.name (seen s) request) rest (here s) (tree_named s request) more
+changes_lose s Called.GetActionResult request rest more =
     let next = state_after_change (Keeps (after_get s.name (seen s) s.results request)) s in
-    (here s, texts_lose s next id (get_action_result_changes s.name (seen s) s.results request) (then_change s s next (here s) (got s (action_asked s.name request))) (get_named s request))
-request_loses s id Called.UpdateActionResult request =
+    (here s, texts_lose s next (get_action_result_changes s.name (seen s) s.results request) rest (then_change s s next (here s) (got s (action_asked s.name request))) (get_named s request) more)
+changes_lose s Called.UpdateActionResult request rest more =
     let next = state_after_change (Keeps (after_update s.name s.results request)) s in
-    (here s, ends_lose s next id (then_change s s next (here s) (put s (result_sent s.name request))))
-request_loses s id Called.Read request = texts_lose s s id (use_asked (read_asked s.name request)) (here s) (read_named s request)
-request_loses s id method request = ends_lose s s id (here s)
+    (here s, more next (then_change s s next (here s) (put s (result_sent s.name request))))
+changes_lose s Called.Read request rest more = texts_lose s s (use_asked (read_asked s.name request)) rest (here s) (read_named s request) more
+changes_lose s Called.Execute request rest more = executed_loses s (execute_asked s.name request) rest more
+changes_lose s method request rest more = more s (here s)
+
+request_loses : (s : InstanceState) (id : CallId) (method : Method) (request : List ℕ) → FrontsLose s s (request_changes method s request ++ call_change id method (answer_to method s request) ∷ [])
+request_loses s id method request = changes_lose s method request (call_change id method (answer_to method s request) ∷ []) (call_loses s id method (answer_to method s request))
+
+-- ---- what happens to jobs
+
+settles_lose : (s r : InstanceState) (steps : List StepValue) → LosesByRules s r → FrontsLose s r (Settles steps ∷ [])
+settles_lose s r steps h = (h, then_change s r (state_after_change (Settles steps) r) h (JobsSettle steps refl))
+
+-- a result that is stored, in a state with the results of the first
+stores_result : (r : InstanceState) (action : Digest) (stored : Option (List ℕ)) → ChangesByRule r (state_after_change (Keeps (results_with action stored r.results)) r)
+stores_result r action None = CallsChange r.calls refl
+stores_result r action (Some text) = ResultStored action text refl
+
+abbrev result_kept : Digest → Option (List ℕ) → InstanceState → InstanceChange
+result_kept action stored s = Keeps (results_with action stored s.results)
+
+-- admissions leave the results as they are
+admitted_lose : (s r : InstanceState) (cs : List Texts.TextChange) (action : Digest) (stored : Option (List ℕ)) (steps : List StepValue) → r.results ≡ s.results → LosesByRules s r → AllByRecursion StoresNamedText cs
+    → FrontsLose s r ((map Text cs ++ result_kept action stored s ∷ []) ++ Settles steps ∷ [])
+admitted_lose s r [] action stored steps same h named =
+    let next = state_after_change (result_kept action stored s) r in
+    let change : ChangesByRule r next = subst (λ (rs : List Blob). ChangesByRule r (state_after_change (Keeps (results_with action stored rs)) r)) same (stores_result r action stored) in
+    (h, settles_lose s next steps (then_change s r next h change))
+admitted_lose s r (c ∷ cs) action stored steps same h named =
+    let next = state_after_change (Text c) r in
+    (h, admitted_lose s next cs action stored steps same (then_change s r next h (text_change r c named.0)) named.1)
+
+end_job_loses : (s : InstanceState) (n : ℕ) (outcome : OutcomeValue) (o : Option JobValue) → FrontsLose s s (ending_changes s outcome o ++ Settles (ending_steps s n outcome o) ∷ [])
+end_job_loses s n outcome None = settles_lose s s [] (here s)
+end_job_loses s n outcome (Some job) =
+    admitted_lose s s (admissions (ending_at s outcome job).blobs) job.action (ending_at s outcome job).stored (ending_steps s n outcome (Some job)) refl (here s) (ending_stores s.quota s.visible job outcome)
 
 -- ---- a piece of an upload, and its end
 
@@ -241,10 +365,7 @@ next_lose s id write bytes (Err refusal) = next_changes_lose s write bytes (Ends
 
 head_loses : (s : InstanceState) (id : CallId) (method : Method) (o : Option CallValue) → FrontsLose s s (head_answer id method o).changes
 head_loses s id method (Some call) = here s
-head_loses s id method None = go (is_served method) refl where
-  go : (b : Bool) → is_served method ≡ b → FrontsLose s s (head_answer id method None).changes
-  go true is = rw is (goes_lose s s id (record { method = method; progress = waits }) (here s))
-  go false is = rw is (here s)
+head_loses s id method None = goes_lose s s id (record { method = method; progress = waits }) (here s)
 
 first_message_loses : (s : InstanceState) (id : CallId) (method : Method) (bytes : List ℕ) → FrontsLose s s (first_message_answer s id method bytes).changes
 first_message_loses s id Called.Write bytes = first_lose s id Called.Write bytes (first_outcome s bytes)
@@ -254,19 +375,27 @@ message_by_progress : (s : InstanceState) (id : CallId) (method : Method) (bytes
 message_by_progress s id method bytes waits = first_message_loses s id method bytes
 message_by_progress s id method bytes (has first) = ends_lose s s id (here s)
 message_by_progress s id method bytes (writes write) = next_lose s id write bytes (next_outcome s write bytes)
+message_by_progress s id method bytes (watches n) = here s
 
 on_message : (s : InstanceState) (id : CallId) (bytes : List ℕ) (o : Option CallValue) → FrontsLose s s (message_answer s id bytes o).changes
 on_message s id bytes None = here s
 on_message s id bytes (Some call) = message_by_progress s id call.method bytes call.progress
 
+fault_by : (s : InstanceState) (id : CallId) (refusal : Refusal) (p : ProgressValue) → FrontsLose s s (fault_by_progress id refusal p).changes
+fault_by s id refusal (watches n) = here s
+fault_by s id refusal waits = ends_lose s s id (here s)
+fault_by s id refusal (has first) = ends_lose s s id (here s)
+fault_by s id refusal (writes write) = ends_lose s s id (here s)
+
 on_fault : (s : InstanceState) (id : CallId) (refusal : Refusal) (o : Option CallValue) → FrontsLose s s (fault_answer id refusal o).changes
 on_fault s id refusal None = here s
-on_fault s id refusal (Some call) = ends_lose s s id (here s)
+on_fault s id refusal (Some call) = fault_by s id refusal call.progress
 
 end_by_progress : (s : InstanceState) (id : CallId) (method : Method) (p : ProgressValue) → FrontsLose s s (end_answer_by_progress s id method p).changes
 end_by_progress s id method waits = ends_lose s s id (here s)
 end_by_progress s id method (has request) = request_loses s id method request
 end_by_progress s id method (writes write) = ends_lose s s id (here s)
+end_by_progress s id method (watches n) = here s
 
 on_end : (s : InstanceState) (id : CallId) (o : Option CallValue) → FrontsLose s s (request_end_answer s id o).changes
 on_end s id None = here s
@@ -279,6 +408,9 @@ answer_loses s (fault id refusal) = on_fault s id refusal (call_at id s.calls)
 answer_loses s (end id) = on_end s id (call_at id s.calls)
 answer_loses s (cancel id) = ends_lose s s id (here s)
 answer_loses s tick = (here s, then_change s s (state_after_change Expires s) (here s) (UploadsExpired refl))
+answer_loses s start_jobs = settles_lose s s (start_steps s.slots s.moment s.jobs) (here s)
+answer_loses s end_late_jobs = settles_lose s s (tick_steps s.slots s.moment s.jobs) (here s)
+answer_loses s (end_job n outcome) = end_job_loses s n outcome (running_job n s.jobs)
 
 pub front_loses_by_rules : (s t : InstanceState) (event : CallEventValue) → MadeInPart (answer s event).changes s t → LosesByRules s t
 front_loses_by_rules s t event h =

@@ -34,10 +34,18 @@ use Rattle.tree_calls.proofs.Named.{pages_named, result_complete}
 use Rattle.tree_calls.specs.Listing.{tree_list}
 use Rattle.instance_core.specs.Replies.{ReplyItemValue, says, gives, ends, ReplyValue, one_message, messages, range, answering, items_of}
 use Rattle.instance_core.specs.Changes.{InstanceChange}
-use Rattle.instance_core.specs.Methods.{is_served, answer_to}
+use Rattle.instance_core.specs.Methods.{answer_to, executed, execute_answered, wait_answered}
+use Rattle.executor.specs.Execute.{ExecuteAnswer, done, queued}
+use Rattle.executor.specs.Orders.{ToldValue, told}
+use Rattle.executor.specs.Steps.{StepValue}
+use Rattle.executor.specs.Waiting as Waiting
+use Rattle.executor.specs.Waiting.{WaitAnswer, has_told, wait}
+use Rattle.execution_calls.specs.Asking.{ExecuteAskedValue, execute_asked, name_asked}
+use Rattle.instance_core.specs.Watching.{watchers, told_items, told_reply, replies_told, replies_to_watchers}
+use Rattle.instance_core.proofs.NamedTexts.{all_append}
 use Rattle.instance_core.specs.Writes.{first_changes, next_changes, first_outcome, next_outcome}
-use Rattle.instance_core.specs.Answer.{head_answer, first_write_answer, next_write_answer, first_message_answer, answer_by_progress, message_answer, fault_answer, end_answer_by_progress, request_end_answer}
-use Rattle.instance_core.specs.Calls.{ProgressValue, waits, has, writes, CallValue, CallEventValue, head, message, fault, end, cancel, tick, call_at}
+use Rattle.instance_core.specs.Answer.{head_answer, first_write_answer, next_write_answer, first_message_answer, answer_by_progress, message_answer, fault_by_progress, fault_answer, end_answer_by_progress, request_end_answer, steps_at}
+use Rattle.instance_core.specs.Calls.{Calls, ProgressValue, waits, has, writes, watches, CallValue, CallEventValue, head, message, fault, end, cancel, tick, start_jobs, end_late_jobs, end_job, call_at}
 use Rattle.instance_core.proofs.Sees.{all_named}
 use Rattle.instance_core.specs.State.{seen, InstanceState, IsInstanceWithin}
 use Rattle.instance_core.specs.NamedReplies.{Request, whole_request, request_at, bytes_from, IsNamedRange, AreNamed, IsNamedBatch, IsNamedTreePage, IsNamedItem, ServesNamed}
@@ -172,6 +180,41 @@ tree_named s request w = go (get_tree_replies s.name (seen s) request) refl wher
       (tt, pages_said s request named.asked named.listed named.is_asked named.is_listed pages named.pages)
   go (Err refusal) is = (tt, tt)
 
+-- ---- executions
+
+said_named : (s : InstanceState) (method : Method) (request bytes : List ℕ) → (method ≡ BatchReadBlobs → ⊥) → (method ≡ GetTree → ⊥) → (method ≡ GetActionResult → ⊥) → IsNamedItem s (Some (record { method = method; message = request })) (says bytes)
+said_named s method request bytes unbatched untreed unkept = record { batch = λ same. absurd (unbatched same); tree = λ same. absurd (untreed same); result = λ same. absurd (unkept same) }
+
+execute_named : (s : InstanceState) (request : List ℕ) → AreNamedItems s (Some (record { method = Execute; message = request })) (items_of (answer_to Execute s request))
+execute_named s request = go (execute_asked s.name request) where
+  said : (bytes : List ℕ) → IsNamedItem s (Some (record { method = Execute; message = request })) (says bytes)
+  said bytes = said_named s Execute request bytes (λ same. cc) (λ same. cc) (λ same. cc)
+
+  answered : (r : Result ExecuteAnswer Refusal) → AreNamedItems s (Some (record { method = Execute; message = request })) (items_of (answering execute_answered r))
+  answered (Ok (done operation)) = (tt, (said operation, (tt, tt)))
+  answered (Ok (queued n operation)) = (tt, (said operation, tt))
+  answered (Err refusal) = (tt, tt)
+
+  go : (r : Result ExecuteAskedValue Refusal) → AreNamedItems s (Some (record { method = Execute; message = request })) (items_of (r >>= λ asked. answering execute_answered (executed s asked).answer))
+  go (Ok asked) = answered (executed s asked).answer
+  go (Err refusal) = (tt, tt)
+
+wait_named : (s : InstanceState) (request : List ℕ) → AreNamedItems s (Some (record { method = WaitExecution; message = request })) (items_of (answer_to WaitExecution s request))
+wait_named s request = go (name_asked request) where
+  said : (bytes : List ℕ) → IsNamedItem s (Some (record { method = WaitExecution; message = request })) (says bytes)
+  said bytes = said_named s WaitExecution request bytes (λ same. cc) (λ same. cc) (λ same. cc)
+
+  answered : (r : Result WaitAnswer Refusal) → AreNamedItems s (Some (record { method = WaitExecution; message = request })) (items_of (answering wait_answered r))
+  answered (Ok (has_told operation)) = (tt, (said operation, (tt, tt)))
+  answered (Ok (Waiting.watches n operation)) = (tt, (said operation, tt))
+  answered (Err refusal) = (tt, tt)
+
+  go : (r : Result (List ℕ) Refusal) → AreNamedItems s (Some (record { method = WaitExecution; message = request })) (items_of (r >>= λ name. answering wait_answered (wait name s.jobs)))
+  go (Ok name) = answered (wait name s.jobs)
+  go (Err refusal) = (tt, tt)
+
+-- ---- each method
+
 method_named : (s : InstanceState) (method : Method) (request : List ℕ) → IsInstanceWithin s → AreNamedItems s (Some (record { method = method; message = request })) (items_of (answer_to method s request))
 method_named s BatchReadBlobs request w = batch_named s request w
 method_named s Read request w = read_named s request w
@@ -180,8 +223,8 @@ method_named s BatchUpdateBlobs request w = other_named s BatchUpdateBlobs reque
 method_named s GetTree request w = tree_named s request w
 method_named s GetActionResult request w = result_named s request
 method_named s UpdateActionResult request w = other_named s UpdateActionResult request (update_action_result_reply s.name request) (λ same. cc) (λ same. cc) (λ same. cc)
-method_named s Execute request w = (tt, tt)
-method_named s WaitExecution request w = (tt, tt)
+method_named s Execute request w = execute_named s request
+method_named s WaitExecution request w = wait_named s request
 method_named s GetCapabilities request w = other_named s GetCapabilities request (get_capabilities_reply s.name s.slots request) (λ same. cc) (λ same. cc) (λ same. cc)
 method_named s Write request w = (tt, tt)
 method_named s QueryWriteStatus request w = other_named s QueryWriteStatus request (query_reply s.name s.visible s.uploads request) (λ same. cc) (λ same. cc) (λ same. cc)
@@ -206,6 +249,7 @@ with_named : (s : InstanceState) (id : CallId) (method : Method) (bytes : List �
 with_named s id method bytes waits = with_first_named s id method bytes
 with_named s id method bytes (has first) = ((tt, tt), tt)
 with_named s id method bytes (writes write) = next_named s id (next_changes s write bytes) (next_outcome s write bytes)
+with_named s id method bytes (watches n) = tt
 
 message_named : (s : InstanceState) (id : CallId) (bytes : List ℕ) (o : Option CallValue) → AreNamedReplies s None (message_answer s id bytes o).replies
 message_named s id bytes None = tt
@@ -213,23 +257,44 @@ message_named s id bytes (Some call) = with_named s id call.method bytes call.pr
 
 head_named : (s : InstanceState) (id : CallId) (method : Method) (o : Option CallValue) → AreNamedReplies s None (head_answer id method o).replies
 head_named s id method (Some call) = tt
-head_named s id method None = go (is_served method) refl where
-  go : (b : Bool) → is_served method ≡ b → AreNamedReplies s None (head_answer id method None).replies
-  go true is = rw is tt
-  go false is = rw is ((tt, tt), tt)
+head_named s id method None = tt
+
+fault_by : (s : InstanceState) (id : CallId) (refusal : Refusal) (p : ProgressValue) → AreNamedReplies s None (fault_by_progress id refusal p).replies
+fault_by s id refusal (watches n) = tt
+fault_by s id refusal waits = ((tt, tt), tt)
+fault_by s id refusal (has first) = ((tt, tt), tt)
+fault_by s id refusal (writes write) = ((tt, tt), tt)
 
 fault_named : (s : InstanceState) (id : CallId) (refusal : Refusal) (o : Option CallValue) → AreNamedReplies s None (fault_answer id refusal o).replies
 fault_named s id refusal None = tt
-fault_named s id refusal (Some call) = ((tt, tt), tt)
+fault_named s id refusal (Some call) = fault_by s id refusal call.progress
 
 request_named : (s : InstanceState) (id : CallId) (method : Method) (p : ProgressValue) → IsInstanceWithin s → AreNamedReplies s (whole_request method p) (end_answer_by_progress s id method p).replies
 request_named s id method waits w = ((tt, tt), tt)
 request_named s id method (has request) w = (method_named s method request w, tt)
 request_named s id method (writes write) w = ((tt, (tt, (tt, tt))), tt)
+request_named s id method (watches n) w = tt
 
 end_named : (s : InstanceState) (id : CallId) (o : Option CallValue) → IsInstanceWithin s → call_at id s.calls ≡ o → AreNamedReplies s (request_at s (end id)) (request_end_answer s id o).replies
 end_named s id None w is = tt
 end_named s id (Some call) w is = rw is (request_named s id call.method call.progress w)
+
+-- ---- what those are told who watch
+
+told_items_named : (s : InstanceState) (t : ToldValue) → AreNamedItems s None (told_items t)
+told_items_named s t = go t.is_last where
+  go : (b : Bool) → AreNamedItems s None (cond b (says t.operation ∷ ends ∷ []) (says t.operation ∷ []))
+  go true = (tt, (tt, tt))
+  go false = (tt, tt)
+
+each_told_named : (s : InstanceState) (t : ToldValue) (ids : List CallId) → AreNamedReplies s None (map (told_reply t) ids)
+each_told_named s t [] = tt
+each_told_named s t (id ∷ ids) = (told_items_named s t, each_told_named s t ids)
+
+told_named : (s : InstanceState) (calls : Calls) (steps : List StepValue) → AreNamedReplies s None (replies_to_watchers calls steps)
+told_named s calls [] = tt
+told_named s calls (step ∷ steps) =
+    all_append (λ (r : ReplyValue). AreNamedItems s None r.items) (replies_told calls (told step)) (replies_to_watchers calls steps) (each_told_named s (told step) (watchers (told step).number calls)) (told_named s calls steps)
 
 pub serves_named : (s : InstanceState) (event : CallEventValue) → IsInstanceWithin s → ServesNamed (record { state = s; event = event })
 serves_named s (end id) w = end_named s id (call_at id s.calls) w refl
@@ -238,3 +303,6 @@ serves_named s (message id bytes) w = message_named s id bytes (call_at id s.cal
 serves_named s (fault id refusal) w = fault_named s id refusal (call_at id s.calls)
 serves_named s (cancel id) w = tt
 serves_named s tick w = tt
+serves_named s start_jobs w = told_named s s.calls (steps_at s start_jobs)
+serves_named s end_late_jobs w = told_named s s.calls (steps_at s end_late_jobs)
+serves_named s (end_job n outcome) w = told_named s s.calls (steps_at s (end_job n outcome))

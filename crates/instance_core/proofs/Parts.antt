@@ -22,15 +22,16 @@ use Rattle.instance_core.specs.declared.event.CallId.{CallId}
 use Rattle.instance_core.specs.declared.event.Reply.{Reply}
 use Rattle.uploads.specs.Uploads.{UploadList}
 use Rattle.tree_calls.specs.Complete.{AreResultsWithin}
-use Rattle.instance_core.specs.Calls.{CallValue, ProgressValue, has, Calls, without_call, IsShortProgress}
+use Rattle.instance_core.specs.Calls.{CallValue, ProgressValue, has, Calls, IsShortProgress}
 use Rattle.instance_core.specs.State.{InstanceState, most_blobs}
-use Rattle.instance_core.specs.Methods.{request_changes}
-use Rattle.instance_core.specs.Changes.{InstanceChange, Text, Ends, Keeps, state_after_change, state_after_changes, MadeInPart}
-use Rattle.instance_core.specs.Answer.{request_end_answer}
+use Rattle.instance_core.specs.Methods.{answer_to, request_changes}
+use Rattle.instance_core.specs.Changes.{InstanceChange, Text, Keeps, state_after_change, state_after_changes, MadeInPart}
+use Rattle.instance_core.specs.Answer.{call_change, request_end_answer}
 use Rattle.instance_core.specs.Shown.{Makes, with_calls}
 use Rattle.instance_core.specs.declared.answer.Answer.{Answer}
+use Rattle.instance_core.specs.declared.answer.Answer.TheVariants.{Message, Messages, Range, Watching}
 use Rattle.instance_core.specs.Replies.{AnswerValue, answering}
-use Rattle.instance_core.specs.Carries.{answer_shown, shaped, Leaves}
+use Rattle.instance_core.specs.Carries.{answer_shown, number_watched, settled, shaped, Leaves}
 
 -- a call whose reply and changes come from what it asks for: refused, it changes nothing
 pub uses_answered : (r : Result (Vec ℕ Global) CallError) (asked : Result (List Digest) Refusal) (reply : List Digest → List ℕ) (limit most quota : ℕ) (p : Slots) (old new : ViewValue)
@@ -56,12 +57,12 @@ stores_answered (Err NoMemory) sent reply limit most quota p q old new same is s
 abbrev pub with_texts : List Blob → InstanceState → InstanceState
 with_texts visible s = record s { visible = visible }
 
-made_texts : (cs : List Texts.TextChange) (s : InstanceState) → state_after_changes (map Text cs) s ≡ with_texts (Texts.visible_after_changes most_blobs s.quota cs s.visible) s
+pub made_texts : (cs : List Texts.TextChange) (s : InstanceState) → state_after_changes (map Text cs) s ≡ with_texts (Texts.visible_after_changes most_blobs s.quota cs s.visible) s
 made_texts [] s = refl
 made_texts (c ∷ cs) s = made_texts cs (with_texts (Texts.visible_after_change most_blobs s.quota c s.visible) s)
 
 -- a front of the changes of the texts
-texts_in_part : (cs : List Texts.TextChange) (s : InstanceState) (new : List Blob) → Texts.MadeInPart most_blobs s.quota cs s.visible new → MadeInPart (map Text cs) s (with_texts new s)
+pub texts_in_part : (cs : List Texts.TextChange) (s : InstanceState) (new : List Blob) → Texts.MadeInPart most_blobs s.quota cs s.visible new → MadeInPart (map Text cs) s (with_texts new s)
 texts_in_part cs s new part = record {
   made = map Text part.made;
   left = map Text part.left;
@@ -92,22 +93,35 @@ changed_more [] b s = refl
 changed_more (c ∷ a) b s = changed_more a b (state_after_change c s)
 
 -- a call that is answered at its end
-pub ended_whole : (s mid : InstanceState) (calls : Calls) (id : CallId) (method : Method) (request : List ℕ) (there : Option CallValue)
-    → Some (record { method = method; progress = has request }) ≡ there → mid ≡ state_after_changes (request_changes method s request) s → mid.calls ≡ s.calls → calls ≡ without_call id s.calls
+-- a call that is answered so ends, or watches a job from then on
+settled_change : (q : Slots) (outcome : Result Answer CallError) (answer : Result AnswerValue Refusal) (id : CallId) (method : Method) (m : InstanceState) → Answers (answer_shown q) outcome answer → IfNoMemory outcome ⊥
+    → state_after_change (call_change id method answer) m ≡ with_calls (settled id method (number_watched outcome) m.calls) m
+settled_change q (Ok (Message bytes)) answer id method m h none = rw h refl
+settled_change q (Ok (Messages list)) answer id method m h none = rw h refl
+settled_change q (Ok (Range source)) answer id method m h none = rw h refl
+settled_change q (Ok (Watching n operation)) answer id method m h none = rw h refl
+settled_change q (Err (Refused refusal)) answer id method m h none = rw h refl
+settled_change q (Err NoMemory) answer id method m h none = absurd none
+
+pub ended_whole : (q : Slots) (outcome : Result Answer CallError) (s mid : InstanceState) (calls : Calls) (id : CallId) (method : Method) (request : List ℕ) (there : Option CallValue)
+    → Some (record { method = method; progress = has request }) ≡ there → Answers (answer_shown q) outcome (answer_to method s request) → IfNoMemory outcome ⊥
+    → mid ≡ state_after_changes (request_changes method s request) s → mid.calls ≡ s.calls → calls ≡ settled id method (number_watched outcome) s.calls
     → with_calls calls mid ≡ state_after_changes (request_end_answer s id there).changes s
-ended_whole s mid calls id method request there is all kept gone =
+ended_whole q outcome s mid calls id method request there is means none all kept gone =
     let changes = request_changes method s request in
-    let now : calls ≡ without_call id mid.calls = gone ∙ ap (without_call id) (sym kept) in
-    let ended : with_calls (without_call id mid.calls) mid ≡ state_after_changes (Ends id ∷ []) (state_after_changes changes s) = ap (state_after_change (Ends id)) all in
-    rw (← is) (ap (λ (cs : Calls). with_calls cs mid) now ∙ ended ∙ sym (changed_more changes (Ends id ∷ []) s))
+    let change = call_change id method (answer_to method s request) in
+    let now : calls ≡ settled id method (number_watched outcome) mid.calls = gone ∙ ap (settled id method (number_watched outcome)) (sym kept) in
+    let ended : with_calls (settled id method (number_watched outcome) mid.calls) mid ≡ state_after_changes (change ∷ []) (state_after_changes changes s) =
+    sym (settled_change q outcome (answer_to method s request) id method mid means none) ∙ ap (state_after_change change) all in
+    rw (← is) (ap (λ (cs : Calls). with_calls cs mid) now ∙ ended ∙ sym (changed_more changes (change ∷ []) s))
 
 pub ended_in_part : (s mid : InstanceState) (id : CallId) (method : Method) (request : List ℕ) (there : Option CallValue)
     → Some (record { method = method; progress = has request }) ≡ there → MadeInPart (request_changes method s request) s mid
     → MadeInPart (request_end_answer s id there).changes s mid
 ended_in_part s mid id method request there is part = rw (← is) (record {
   made = part.made;
-  left = part.left ++ Ends id ∷ [];
-  front = ap (λ (cs : List InstanceChange). cs ++ Ends id ∷ []) part.front ∙ append_assoc part.made part.left (Ends id ∷ []);
+  left = part.left ++ call_change id method (answer_to method s request) ∷ [];
+  front = ap (λ (cs : List InstanceChange). cs ++ call_change id method (answer_to method s request) ∷ []) part.front ∙ append_assoc part.made part.left (call_change id method (answer_to method s request) ∷ []);
   so_far = part.so_far;
 })
 

@@ -15,9 +15,9 @@ use Rattle.rpc.specs.declared.method.Method.{Method}
 use Rattle.rpc.specs.declared.method.Method.TheVariants.{Write}
 use Rattle.instance_core.specs.declared.event.CallId.{CallId}
 use Rattle.instance_core.specs.declared.event.Reply.{Reply}
-use Rattle.instance_core.specs.Calls.{CallValue, ProgressValue, waits, has, writes}
+use Rattle.instance_core.specs.Calls.{CallValue, ProgressValue, waits, has, writes, watches}
 use Rattle.instance_core.specs.State.{InstanceState, IsInstanceWithin, seen, seeing}
-use Rattle.instance_core.specs.Changes.{InstanceChange, Text, Goes, Ends, Wrote, Keeps, Expires, state_after_change, state_after_changes, MadeInPart}
+use Rattle.instance_core.specs.Changes.{InstanceChange, Text, Goes, Ends, Wrote, Keeps, Expires, Does, Pushes, Settles, state_after_change, state_after_changes, MadeInPart}
 use Rattle.instance_core.specs.Answer.{first_message_answer, answer_by_progress, message_answer}
 
 all_both : (as' bs : List Blob) → AllByRecursion (λ (b : Blob). Names b.0 b.1) as' → AllByRecursion (λ (b : Blob). Names b.0 b.1) bs → AllByRecursion (λ (b : Blob). Names b.0 b.1) (as' ++ bs)
@@ -37,6 +37,9 @@ change_seeing parent (Ends id) s = refl
 change_seeing parent (Wrote w) s = refl
 change_seeing parent (Keeps results) s = refl
 change_seeing parent Expires s = refl
+change_seeing parent (Does operation) s = refl
+change_seeing parent (Pushes job) s = refl
+change_seeing parent (Settles steps) s = refl
 
 pub after_seeing : (parent : List Blob) (cs : List InstanceChange) (s : InstanceState) → state_after_changes cs (seeing parent s) ≡ seeing parent (state_after_changes cs s)
 after_seeing parent [] s = refl
@@ -69,6 +72,7 @@ message_seeing parent s id bytes (Some call) = go call.progress where
   go waits = first_seeing parent s id call.method bytes
   go (has first) = refl
   go (writes write) = refl
+  go (watches n) = refl
 
 -- ---- what a parent has is not touched
 

@@ -7,21 +7,33 @@
 -- `first_outcome` and `next_outcome` are what the messages of a Write are answered (Writes.antt). A
 -- change is `Text`, a use or an admission of a text, `Wrote`, the texts and uploads that a message
 -- of a Write leaves, `Keeps`, the results that a call leaves, `Goes`, a call begins or goes on,
--- `Ends`, a call ends, or `Expires`, old uploads are forgotten (Changes.antt).
-use Rattle.std.specs.Prelude.{ℕ, List, [], ◌∷◌, ◌++◌, Option, Some, None, Result, Ok, Err, if◌then◌else◌}
+-- `Ends`, a call ends, `Expires`, old uploads are forgotten, `Does` and `Pushes`, an execution is
+-- done or waits under a new number, or `Settles`, jobs end and start (Changes.antt). `ending`
+-- (execution_calls, Ending.antt) is what becomes of a job whose run gave an outcome, and
+-- `start_steps`, `tick_steps` and `end_steps` (executor, Steps.antt) which jobs end and start.
+use Rattle.std.specs.Prelude.{ℕ, List, [], ◌∷◌, ◌++◌, map, Option, Some, None, Result, Ok, Err, if◌then◌else◌}
+use Rattle.digest.specs.declared.Digest.{Digest}
+use Rattle.instance_view.specs.Visible.{Blob}
 use Rattle.rpc.specs.declared.method.Method.{Method}
 use Rattle.rpc.specs.declared.method.Method.TheVariants as Called
 use Rattle.rpc.specs.declared.refusal.Refusal.{Refusal}
-use Rattle.rpc.specs.declared.refusal.Refusal.TheVariants.{UnknownMethod, NoMessage, MoreThanOneMessage}
+use Rattle.rpc.specs.declared.refusal.Refusal.TheVariants.{NoMessage, MoreThanOneMessage}
+use Rattle.job_queue.specs.Jobs.{running_job}
+use Rattle.executor.specs.Job.{JobValue}
+use Rattle.executor.specs.Orders.{OrderValue, orders_of}
+use Rattle.executor.specs.Steps.{StepValue, start_steps, tick_steps, end_steps}
+use Rattle.outcomes.specs.Outcomes.{OutcomeValue}
+use Rattle.execution_calls.specs.Ending.{EndingValue, admissions, ending, results_with}
 use Rattle.bytestream.specs.Writing as Writing
 use Rattle.bytestream.specs.Writing.{OpenWriteValue, WrittenValue, unfinished_reply}
 use Rattle.instance_core.specs.declared.event.CallId.{CallId}
-use Rattle.instance_core.specs.Calls.{ProgressValue, waits, has, writes, CallValue, CallEventValue, head, message, fault, end, cancel, tick, call_at}
-use Rattle.instance_core.specs.Replies.{AnswerValue, one_message, ReplyItemValue, ReplyValue, items_of}
+use Rattle.instance_core.specs.Calls.{ProgressValue, waits, has, writes, watches, CallValue, CallEventValue, head, message, fault, end, cancel, tick, start_jobs, end_late_jobs, end_job, call_at}
+use Rattle.instance_core.specs.Replies.{AnswerValue, one_message, watching, ReplyItemValue, ReplyValue, items_of}
 use Rattle.instance_core.specs.State.{InstanceState}
-use Rattle.instance_core.specs.Methods.{is_served, answer_to, request_changes}
+use Rattle.instance_core.specs.Methods.{answer_to, request_changes}
 use Rattle.instance_core.specs.Writes.{first_changes, next_changes, first_outcome, next_outcome}
-use Rattle.instance_core.specs.Changes.{InstanceChange, Goes, Ends, Expires, state_after_changes}
+use Rattle.instance_core.specs.Changes.{InstanceChange, Text, Keeps, Goes, Ends, Expires, Settles, state_after_changes}
+use Rattle.instance_core.specs.Watching.{replies_to_watchers}
 
 pub record Answer : Type 0 where
   pub replies : List ReplyValue
@@ -46,13 +58,11 @@ continuation_answer id call = record { replies = []; changes = Goes id call ∷ 
 abbrev pub final_answer : CallId → Result AnswerValue Refusal → Answer
 final_answer id outcome = record { replies = reply_with id outcome; changes = Ends id ∷ [] }
 
--- a call of a method that is not served is answered at once; a call that is in course does not
--- begin again
+-- a call begins; one that is in course does not begin again
 abbrev pub head_answer : CallId → Method → Option CallValue → Answer
 head_answer id method (Some call) = no_answer
 head_answer id method None =
-    if is_served method then continuation_answer id (record { method = method; progress = waits })
-    else record { replies = reply_with id (Err UnknownMethod); changes = [] }
+    continuation_answer id (record { method = method; progress = waits })
 
 -- ---- a Write
 
@@ -91,22 +101,37 @@ answer_by_progress s id method bytes waits = first_message_answer s id method by
 answer_by_progress s id method bytes (has first) = final_answer id (Err MoreThanOneMessage)
 answer_by_progress s id method bytes (writes write) =
     next_write_answer id (next_changes s write bytes) (next_outcome s write bytes)
+answer_by_progress s id method bytes (watches n) = no_answer
 
 abbrev pub message_answer : InstanceState → CallId → List ℕ → Option CallValue → Answer
 message_answer s id bytes None = no_answer
 message_answer s id bytes (Some call) = answer_by_progress s id call.method bytes call.progress
 
+-- a call that watches a job was answered, and goes on
+abbrev pub fault_by_progress : CallId → Refusal → ProgressValue → Answer
+fault_by_progress id refusal waits = final_answer id (Err refusal)
+fault_by_progress id refusal (has first) = final_answer id (Err refusal)
+fault_by_progress id refusal (writes write) = final_answer id (Err refusal)
+fault_by_progress id refusal (watches n) = no_answer
+
 abbrev pub fault_answer : CallId → Refusal → Option CallValue → Answer
 fault_answer id refusal None = no_answer
-fault_answer id refusal (Some call) = final_answer id (Err refusal)
+fault_answer id refusal (Some call) = fault_by_progress id refusal call.progress
 
 -- ---- ends of requests
+
+-- a call that is answered ends, or watches a job from then on
+abbrev pub call_change : CallId → Method → Result AnswerValue Refusal → InstanceChange
+call_change id method (Ok (watching n operation)) =
+    Goes id (record { method = method; progress = watches n })
+call_change id method outcome = Ends id
 
 -- the method's own answer and changes
 abbrev pub method_answer : InstanceState → CallId → Method → List ℕ → Answer
 method_answer s id method request = record {
   replies = reply_with id (answer_to method s request);
-  changes = request_changes method s request ++ Ends id ∷ [];
+  changes =
+      request_changes method s request ++ call_change id method (answer_to method s request) ∷ [];
 }
 
 -- a Write that is not complete is answered with what is there of its upload
@@ -115,10 +140,54 @@ end_answer_by_progress s id method waits = final_answer id (Err NoMessage)
 end_answer_by_progress s id method (has request) = method_answer s id method request
 end_answer_by_progress s id method (writes write) =
     final_answer id (Ok (one_message (unfinished_reply write.key s.uploads)))
+end_answer_by_progress s id method (watches n) = no_answer
 
 abbrev pub request_end_answer : InstanceState → CallId → Option CallValue → Answer
 request_end_answer s id None = no_answer
 request_end_answer s id (Some call) = end_answer_by_progress s id call.method call.progress
+
+-- ---- jobs
+
+-- what becomes of a job whose run gave this outcome
+abbrev pub ending_at : InstanceState → OutcomeValue → JobValue → EndingValue
+ending_at s outcome job = ending s.quota s.visible job outcome
+
+-- blobs are admitted, and the result of an action is stored
+abbrev pub changes_kept : InstanceState → Digest → List Blob → Option (List ℕ) →
+    List InstanceChange
+changes_kept s action blobs stored =
+    map Text (admissions blobs) ++ Keeps (results_with action stored s.results) ∷ []
+
+-- those of a job that ends so
+abbrev pub ending_changes : InstanceState → OutcomeValue → Option JobValue → List InstanceChange
+ending_changes s outcome None = []
+ending_changes s outcome (Some job) =
+    changes_kept s job.action (ending_at s outcome job).blobs (ending_at s outcome job).stored
+
+abbrev pub ending_steps : InstanceState → ℕ → OutcomeValue → Option JobValue → List StepValue
+ending_steps s n outcome None = []
+ending_steps s n outcome (Some job) =
+    end_steps s.slots s.moment n (ending_at s outcome job).end_is s.jobs
+
+-- what happens to jobs at an event
+abbrev pub steps_at : InstanceState → CallEventValue → List StepValue
+steps_at s start_jobs = start_steps s.slots s.moment s.jobs
+steps_at s end_late_jobs = tick_steps s.slots s.moment s.jobs
+steps_at s (end_job n outcome) = ending_steps s n outcome (running_job n s.jobs)
+steps_at s event = []
+
+-- these changes, and then all that happens to jobs as one; those who watch them are told
+abbrev pub turn_answer : InstanceState → List InstanceChange → List StepValue → Answer
+turn_answer s changes steps = record {
+  replies = replies_to_watchers s.calls steps;
+  changes = changes ++ Settles steps ∷ [];
+}
+
+-- what is ordered of whoever runs jobs
+abbrev pub orders_at : InstanceState → CallEventValue → List OrderValue
+orders_at s event = orders_of (steps_at s event) s.jobs
+
+-- ---- all events
 
 -- no call that is in course goes without its end
 abbrev pub answer : InstanceState → CallEventValue → Answer
@@ -128,6 +197,10 @@ answer s (fault id refusal) = fault_answer id refusal (call_at id s.calls)
 answer s (end id) = request_end_answer s id (call_at id s.calls)
 answer s (cancel id) = record { replies = []; changes = Ends id ∷ [] }
 answer s tick = record { replies = []; changes = Expires ∷ [] }
+answer s start_jobs = turn_answer s [] (steps_at s start_jobs)
+answer s end_late_jobs = turn_answer s [] (steps_at s end_late_jobs)
+answer s (end_job n outcome) =
+    turn_answer s (ending_changes s outcome (running_job n s.jobs)) (steps_at s (end_job n outcome))
 
 -- the instance after an event
 abbrev pub state_after : InstanceState → CallEventValue → InstanceState

@@ -1,11 +1,13 @@
--- The calls in course of an instance.
-use Rattle.std.specs.Prelude.{ℕ, ◌<◌, Bool, ◌==◌, ◌&&◌, if◌then◌else◌, List, [], ◌∷◌, Option}
+-- The calls in course of an instance, and what happens to them and to its jobs.
+use Rattle.std.specs.Prelude.{ℕ, ◌<◌, Bool, ◌==◌, ◌&&◌, if◌then◌else◌, List, [], ◌∷◌, Option, FitsSigned}
+use Rattle.std.specs.Int.{w32}
 use Rattle.std.specs.List.{AllByRecursion, IsDistinct}
 use Rattle.std.specs.Map.{lookup, remove_entry, keys_of}
 use Rattle.rpc.specs.declared.method.Method.{Method}
 use Rattle.rpc.specs.declared.refusal.Refusal.{Refusal}
 use Rattle.bytestream.specs.Size.{size_limit}
 use Rattle.bytestream.specs.Writing.{OpenWriteValue}
+use Rattle.outcomes.specs.Outcomes.{OutcomeValue, failed, exited}
 pub use Rattle.tree_calls.specs.Asking.{IsShortRequest}
 use Rattle.instance_core.specs.declared.event.CallId.{CallId}
 
@@ -17,6 +19,9 @@ pub data ProgressValue : Type 0 where
   has : List ℕ → ProgressValue
   -- messages of a Write, of which the first named an upload
   writes : OpenWriteValue → ProgressValue
+  -- all of it, and it was answered with the present Operation of the job of a number: those that
+  -- follow are sent as they come, to the last
+  watches : ℕ → ProgressValue
 
 -- a call in course
 pub record CallValue : Type 0 where
@@ -42,7 +47,9 @@ abbrev pub without_call : CallId → Calls → Calls
 without_call id calls = remove_entry (same_call id) calls
 
 -- what happens to a call: it begins, a whole message of its request comes, its data are no
--- messages, its request ends, or it is given up; and time passes
+-- messages, its request ends, or it is given up; and time passes. What happens to jobs: those for
+-- which there is a slot start; those that are past their deadline end; and the run of one gives an
+-- outcome. In both of the latter cases others start in their place
 pub data CallEventValue : Type 0 where
   head : CallId → Method → CallEventValue
   message : CallId → List ℕ → CallEventValue
@@ -50,9 +57,19 @@ pub data CallEventValue : Type 0 where
   end : CallId → CallEventValue
   cancel : CallId → CallEventValue
   tick : CallEventValue
+  start_jobs : CallEventValue
+  end_late_jobs : CallEventValue
+  end_job : ℕ → OutcomeValue → CallEventValue
 
+-- the status with which a run ended is one of 32 bits (remote_execution.proto, exit_code)
+abbrev pub IsNarrowOutcome : OutcomeValue → Type 0
+IsNarrowOutcome failed = Unit {0}
+IsNarrowOutcome (exited x) = FitsSigned w32 x.code
+
+-- a message of a request is short, and messages can say what a run gave
 abbrev pub IsShortEvent : CallEventValue → Type 0
 IsShortEvent (message id bytes) = IsShortRequest bytes
+IsShortEvent (end_job n outcome) = IsNarrowOutcome outcome
 IsShortEvent _ = Unit {0}
 
 -- no message that is kept is longer, and the size of an upload that is written can be told
@@ -61,6 +78,7 @@ abbrev pub IsShortProgress : ProgressValue → Type 0
 IsShortProgress waits = Unit {0}
 IsShortProgress (has bytes) = IsShortRequest bytes
 IsShortProgress (writes write) = write.key.digest.size < size_limit
+IsShortProgress (watches n) = Unit {0}
 
 abbrev pub KeepShort : Calls → Type 0
 KeepShort calls = AllByRecursion (λ (c : CallId × CallValue). IsShortProgress c.1.progress) calls

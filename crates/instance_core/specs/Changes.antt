@@ -1,11 +1,15 @@
 -- What an event does to an instance: a list of changes, one after another.
-use Rattle.std.specs.Prelude.{◌≡◌, List, [], ◌∷◌, ◌++◌}
+use Rattle.std.specs.Prelude.{◌≡◌, ℕ, List, [], ◌∷◌, ◌++◌}
 use Rattle.cas_service.specs.Changes as Texts
 use Rattle.instance_core.specs.declared.event.CallId.{CallId}
 use Rattle.instance_view.specs.Visible.{Blob}
 use Rattle.uploads.specs.Uploads.{uploads_at}
 use Rattle.bytestream.specs.Writing.{WriteState}
+use Rattle.job_queue.specs.Jobs.{jobs_after_done, jobs_after_push}
+use Rattle.executor.specs.Job.{JobValue}
+use Rattle.executor.specs.Steps.{StepValue, jobs_after_steps}
 use Rattle.instance_core.specs.Calls.{CallValue, with_call, without_call}
+use Rattle.instance_core.specs.Watching.{calls_after_steps}
 use Rattle.instance_core.specs.State.{InstanceState, most_blobs}
 
 pub data InstanceChange : Type 0 where
@@ -21,6 +25,12 @@ pub data InstanceChange : Type 0 where
   Keeps : List Blob → InstanceChange
   -- uploads that were not written to for long are forgotten
   Expires : InstanceChange
+  -- a number is used up for an execution that is done, with this Operation
+  Does : List ℕ → InstanceChange
+  -- a job waits under a new number
+  Pushes : JobValue → InstanceChange
+  -- jobs end and start, all at once; those who watch one that ends are calls no more
+  Settles : List StepValue → InstanceChange
 
 abbrev pub state_after_change : InstanceChange → InstanceState → InstanceState
 state_after_change (Text c) s =
@@ -30,6 +40,12 @@ state_after_change (Ends id) s = record s { calls = without_call id s.calls }
 state_after_change (Wrote w) s = record s { visible = w.visible; uploads = w.uploads }
 state_after_change (Keeps results) s = record s { results = results }
 state_after_change Expires s = record s { uploads = uploads_at s.moment s.uploads }
+state_after_change (Does operation) s = record s { jobs = jobs_after_done operation s.jobs }
+state_after_change (Pushes job) s = record s { jobs = jobs_after_push job s.jobs }
+state_after_change (Settles steps) s = record s {
+  jobs = jobs_after_steps steps s.jobs;
+  calls = calls_after_steps steps s.calls;
+}
 
 abbrev pub state_after_changes : List InstanceChange → InstanceState → InstanceState
 state_after_changes [] s = s

@@ -1,4 +1,6 @@
 pub mod Calls
+pub mod Jobs
+pub mod Watching
 pub mod Apart
 pub mod State
 pub mod Contents
@@ -12,6 +14,7 @@ pub mod Answer
 pub mod Shown
 pub mod Carries
 pub mod ReplyHolders
+pub mod Turns
 pub mod Named
 pub mod NamedReplies
 pub mod Losses

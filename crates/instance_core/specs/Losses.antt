@@ -1,7 +1,8 @@
--- How what an instance keeps may change: its blobs, its results and its unfinished uploads. To be
--- read from the last definition up: `LosesByRules` is a chain of changes, and `ChangesByRule` has a
--- case for each rule. A blob is lost to an admission alone, and a result to a store alone; an
--- upload is lost at its end, to a piece that would bring it past its size, or by its age.
+-- How what an instance keeps may change: its blobs, its results, its unfinished uploads and its
+-- jobs. To be read from the last definition up: `LosesByRules` is a chain of changes, and
+-- `ChangesByRule` has a case for each rule. A blob is lost to an admission alone, and a result to a
+-- store alone; an upload is lost at its end, to a piece that would bring it past its size, or by
+-- its age; and a job that waits starts, and one that runs ends, and neither is lost otherwise.
 use Rattle.std.specs.Prelude.{◌≡◌, ℕ, ◌+◌, ◌<◌, List, [], ◌∷◌, ◌++◌, length}
 use Rattle.digest.specs.declared.Digest.{Digest}
 use Rattle.digest.specs.Naming.{Names, same_digest}
@@ -10,7 +11,11 @@ use Rattle.quota_evict.specs.Admission.{visible_after_admission}
 use Rattle.uploads.specs.Uploads.{KeyValue, UploadList, with_upload, without_upload, text_so_far, uploads_at}
 use Rattle.action_cache.specs.Results.{results_after_store}
 use Rattle.instance_core.specs.Calls.{Calls}
+use Rattle.job_queue.specs.Jobs.{jobs_after_done, jobs_after_push}
+use Rattle.executor.specs.Job.{JobValue}
+use Rattle.executor.specs.Steps.{StepValue, jobs_after_steps}
 use Rattle.instance_core.specs.State.{InstanceState, most_blobs}
+use Rattle.instance_core.specs.Watching.{calls_after_steps}
 
 -- the texts after an admission, which drops the least recently used that find no room
 abbrev pub texts_with : Digest → List ℕ → InstanceState → List Blob
@@ -56,6 +61,17 @@ pub data ChangesByRule (s t : InstanceState) : Type 0 where
       t ≡ record s { uploads = without_upload key s.uploads } → ChangesByRule s t
   -- uploads that were not written to for long are forgotten
   UploadsExpired : t ≡ record s { uploads = uploads_at s.moment s.uploads } → ChangesByRule s t
+  -- an execution is done at once, and takes a number
+  ExecutionDone : (operation : List ℕ) →
+      t ≡ record s { jobs = jobs_after_done operation s.jobs } → ChangesByRule s t
+  -- a job waits under a new number
+  JobWaits : (job : JobValue) → t ≡ record s { jobs = jobs_after_push job s.jobs } →
+      ChangesByRule s t
+  -- jobs end and start, step by step
+  JobsSettle : (steps : List StepValue) → t ≡ record s {
+    jobs = jobs_after_steps steps s.jobs;
+    calls = calls_after_steps steps s.calls;
+  } → ChangesByRule s t
 
 -- one change after another leads from s through these states to t
 abbrev pub LeadsThrough : InstanceState → List InstanceState → InstanceState → Type 0

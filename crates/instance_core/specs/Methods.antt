@@ -1,6 +1,7 @@
 -- What each method but Write answers to the one message of its request, and what it does to the
 -- instance: `answer_to` and `request_changes` have a case for each.
 use Rattle.std.specs.Prelude.{ℕ, Bool, true, false, List, [], ◌∷◌, map, Result, Ok, Err}
+use Rattle.reapi_messages.specs.Results.{◌>>=◌}
 use Rattle.rpc.specs.declared.method.Method.{Method}
 use Rattle.rpc.specs.declared.method.Method.TheVariants.{FindMissingBlobs, BatchUpdateBlobs, BatchReadBlobs, GetTree, GetActionResult, UpdateActionResult, Execute, WaitExecution, GetCapabilities, Read, QueryWriteStatus}
 use Rattle.rpc.specs.declared.refusal.Refusal.{Refusal}
@@ -13,19 +14,49 @@ use Rattle.bytestream.specs.declared.reading.ReadAsked.{ReadAsked}
 use Rattle.bytestream.specs.Reading.{read_asked, read_answer}
 use Rattle.bytestream.specs.Querying.{query_reply}
 use Rattle.tree_calls.specs.GetTree.{get_tree_replies, get_tree_changes}
+use Rattle.executor.specs.Execute as Executor
+use Rattle.executor.specs.Execute.{ExecutionState, ExecuteAnswer, ExecuteChange, ExecuteDone, done, queued, execute}
+use Rattle.executor.specs.Waiting as Waiting
+use Rattle.executor.specs.Waiting.{WaitAnswer, has_told, wait}
+use Rattle.execution_calls.specs.Asking.{ExecuteAskedValue, execute_asked, name_asked}
 use Rattle.tree_calls.specs.Results.{get_action_result_reply, get_action_result_changes, after_get, update_action_result_reply, after_update}
-use Rattle.instance_core.specs.Changes.{InstanceChange, Text, Keeps}
-use Rattle.instance_core.specs.Replies.{AnswerValue, one_message, messages, range, answering}
+use Rattle.instance_core.specs.Changes.{InstanceChange, Text, Keeps, Does, Pushes}
+use Rattle.instance_core.specs.Replies.{AnswerValue, one_message, messages, range, watching, answering}
 use Rattle.instance_core.specs.State.{InstanceState, seen}
 use Rattle.instance_core.specs.Capabilities.{get_capabilities_reply}
 
--- whether a call of the method begins, or is refused at once
-abbrev pub is_served : Method → Bool
-is_served Execute = false
-is_served WaitExecution = false
-is_served _ = true
+-- ---- executions
 
--- what a method answers, or its refusal; no request of the others is kept to its end
+abbrev pub execution_state : InstanceState → ExecutionState
+execution_state s =
+    record { visible = s.visible; parent = s.parent; results = s.results; jobs = s.jobs }
+
+abbrev pub executed : InstanceState → ExecuteAskedValue → ExecuteDone
+executed s asked = execute s.slots (execution_state s) asked.skips_lookup asked.action
+
+abbrev pub execute_answered : ExecuteAnswer → AnswerValue
+execute_answered (done operation) = one_message operation
+execute_answered (queued n operation) = watching n operation
+
+abbrev pub wait_answered : WaitAnswer → AnswerValue
+wait_answered (has_told operation) = one_message operation
+wait_answered (Waiting.watches n operation) = watching n operation
+
+abbrev pub execution_change : ExecuteChange → InstanceChange
+execution_change (Executor.Uses d) = Text (Texts.Use d)
+execution_change (Executor.Keeps results) = Keeps results
+execution_change (Executor.Does operation) = Does operation
+execution_change (Executor.Pushes job) = Pushes job
+
+-- a call whose request is not taken changes nothing
+abbrev pub execution_changes : InstanceState → Result ExecuteAskedValue Refusal →
+    List InstanceChange
+execution_changes s (Ok asked) = map execution_change (executed s asked).changes
+execution_changes s (Err refusal) = []
+
+-- ---- all methods
+
+-- what a method answers, or its refusal; no request of a Write is kept to its end
 abbrev pub answer_to : Method → InstanceState → List ℕ → Result AnswerValue Refusal
 answer_to FindMissingBlobs s message =
     answering one_message (find_missing_reply s.name (seen s) message)
@@ -43,6 +74,10 @@ answer_to GetCapabilities s message =
 answer_to Read s message = answering range (read_answer s.name (seen s) message)
 answer_to QueryWriteStatus s message =
     answering one_message (query_reply s.name s.visible s.uploads message)
+answer_to Execute s message =
+    execute_asked s.name message >>= λ asked. answering execute_answered (executed s asked).answer
+answer_to WaitExecution s message =
+    name_asked message >>= λ name. answering wait_answered (wait name s.jobs)
 answer_to _ s message = Err UnknownMethod
 
 -- a Read uses the blob that it asks for
@@ -62,4 +97,5 @@ request_changes GetActionResult s message =
     ∷ map Text (get_action_result_changes s.name (seen s) s.results message)
 request_changes UpdateActionResult s message = Keeps (after_update s.name s.results message) ∷ []
 request_changes Read s message = map Text (use_asked (read_asked s.name message))
+request_changes Execute s message = execution_changes s (execute_asked s.name message)
 request_changes _ s message = []

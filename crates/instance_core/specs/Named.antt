@@ -4,7 +4,7 @@ use Rattle.std.specs.List.{AllByRecursion}
 use Rattle.digest.specs.Naming.{Names}
 use Rattle.instance_view.specs.Visible.{Blob}
 use Rattle.cas_service.specs.Changes as Texts
-use Rattle.instance_core.specs.Changes.{InstanceChange, Text, Goes, Ends, Wrote, Keeps, Expires}
+use Rattle.instance_core.specs.Changes.{InstanceChange, Text, Goes, Ends, Wrote, Keeps, Expires, Does, Pushes, Settles}
 
 -- bytes are stored only under the digest that names them
 abbrev pub StoresNamedText : Texts.TextChange → Type 0
@@ -23,3 +23,6 @@ StoresNamed visible (Keeps results) = Unit {0}
 StoresNamed visible (Goes id call) = Unit {0}
 StoresNamed visible (Ends id) = Unit {0}
 StoresNamed visible Expires = Unit {0}
+StoresNamed visible (Does operation) = Unit {0}
+StoresNamed visible (Pushes job) = Unit {0}
+StoresNamed visible (Settles steps) = Unit {0}

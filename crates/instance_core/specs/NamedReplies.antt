@@ -20,7 +20,7 @@ use Rattle.tree_calls.specs.Asking.{TreeAskedValue, tree_asked}
 use Rattle.tree_calls.specs.GetTree.{texts_seen}
 use Rattle.tree_calls.specs.Listing.{tree_list}
 use Rattle.rpc.specs.declared.method.Method.TheVariants.{BatchReadBlobs, GetTree, GetActionResult, Read}
-use Rattle.instance_core.specs.Calls.{ProgressValue, waits, has, writes, CallEventValue, end, call_at}
+use Rattle.instance_core.specs.Calls.{ProgressValue, waits, has, writes, watches, CallEventValue, end, call_at}
 use Rattle.instance_core.specs.Replies.{ReplyItemValue, begins, says, gives, ends, refuses, ReplyValue}
 use Rattle.instance_core.specs.Answer.{answer}
 use Rattle.instance_core.specs.State.{InstanceState, seen}
@@ -45,6 +45,7 @@ abbrev pub whole_request : Method → ProgressValue → Option Request
 whole_request method waits = None
 whole_request method (has message) = Some (record { method = method; message = message })
 whole_request method (writes write) = None
+whole_request method (watches n) = None
 
 -- the request of a call that this event ends
 abbrev pub request_at : InstanceState → CallEventValue → Option Request

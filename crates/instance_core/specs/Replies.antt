@@ -37,11 +37,13 @@ IsShortReplyItem _ = Unit {0}
 abbrev pub IsShortReply : ReplyValue → Type 0
 IsShortReply reply = AllByRecursion IsShortReplyItem reply.items
 
--- what a method answers: a message, messages in order, or a range of a blob
+-- what a method answers: a message, messages in order, a range of a blob, or the present Operation
+-- of the job of a number, which others follow
 pub data AnswerValue : Type 0 where
   one_message : List ℕ → AnswerValue
   messages : List (List ℕ) → AnswerValue
   range : SourceValue → AnswerValue
+  watching : ℕ → List ℕ → AnswerValue
 
 -- an answer of this shape, or a refusal
 abbrev pub answering : {X : Type 0} → (X → AnswerValue) → Result X Refusal →
@@ -54,8 +56,16 @@ abbrev pub answer_items : AnswerValue → List ReplyItemValue
 answer_items (one_message bytes) = says bytes ∷ []
 answer_items (messages list) = map says list
 answer_items (range source) = if nat_lt source.from source.until then gives source ∷ [] else []
+answer_items (watching n operation) = says operation ∷ []
 
--- a whole reply, or a refusal
+-- the reply is whole then, unless others follow
+abbrev pub answer_end : AnswerValue → List ReplyItemValue
+answer_end (one_message bytes) = ends ∷ []
+answer_end (messages list) = ends ∷ []
+answer_end (range source) = ends ∷ []
+answer_end (watching n operation) = []
+
+-- a reply as far as it is known, or a refusal
 abbrev pub items_of : Result AnswerValue Refusal → List ReplyItemValue
-items_of (Ok answer) = begins ∷ answer_items answer ++ ends ∷ []
+items_of (Ok answer) = begins ∷ answer_items answer ++ answer_end answer
 items_of (Err refusal) = refuses refusal ∷ []

@@ -1,7 +1,7 @@
 -- Calls, events and replies as plain values, through the pool that has the texts of ranges. For the
--- code alone: `outcome_shown`, `with_calls`, `ChangesCalls`, `slots_of`, `contents_state`,
--- `contents_seen` and `Makes`.
-use Rattle.std.specs.Prelude.{◌≡◌, ℕ, List, map, string_bytes, Result, Ok, Err, IfOk, OnOk, OnErr}
+-- code alone: `outcome_shown`, `with_calls`, `ChangesCalls`, `slots_of`, `Ongoing`, `ongoing_in`,
+-- `contents_state`, `contents_seen` and `Makes`.
+use Rattle.std.specs.Prelude.{◌≡◌, ℕ, List, [], map, string_bytes, Result, Ok, Err, IfOk, OnOk, OnErr}
 use Rattle.std.specs.List.{AllByRecursion}
 use Rattle.std.specs.declared.alloc.AllocError.{AllocError}
 use Rattle.std.specs.declared.alloc.Global.{Global}
@@ -16,12 +16,16 @@ use Rattle.instance_core.specs.declared.event.ReplyItem.{ReplyItem}
 use Rattle.instance_core.specs.declared.event.ReplyItem.TheVariants as Item
 use Rattle.instance_core.specs.declared.calls.Progress.{Progress}
 use Rattle.instance_core.specs.declared.calls.Progress.TheVariants as Part
-use Rattle.instance_core.specs.Calls.{Calls, ProgressValue, waits, has, writes, CallEventValue, head, message, fault, end, cancel, tick}
+use Rattle.job_queue.specs.Jobs.{Jobs}
+use Rattle.executor.specs.Job.{JobValue}
+use Rattle.executor.specs.InPool.{jobs_in}
+use Rattle.instance_view.specs.Shown.{visible_in}
+use Rattle.instance_core.specs.Calls.{Calls, ProgressValue, waits, has, writes, watches, CallEventValue, head, message, fault, end, cancel, tick}
 use Rattle.instance_core.specs.Replies.{AnswerValue, one_message, ReplyItemValue, begins, says, gives, ends, refuses, ReplyValue, IsShortReply}
 use Rattle.instance_core.specs.Answer.{Answer}
 use Rattle.instance_core.specs.Changes.{InstanceChange, state_after_changes, MadeInPart}
 use Rattle.instance_core.specs.State.{InstanceState, seeing}
-use Rattle.instance_core.specs.Slots.{InstanceSlots, state_in}
+use Rattle.instance_core.specs.Slots.{InstanceSlots}
 use Rattle.instance_core.specs.declared.contents.Settings.{Settings}
 use Rattle.instance_core.specs.declared.contents.Contents.{Contents}
 use Rattle.blob_pool.specs.Slots.{Slots, text_at}
@@ -40,6 +44,7 @@ abbrev pub progress_shown : Progress → ProgressValue
 progress_shown Part.Waits = waits
 progress_shown (Part.Has bytes) = has bytes.items
 progress_shown (Part.Writes write) = writes (open_write_shown write)
+progress_shown (Part.Watches number) = watches number
 
 -- the range that is found in a pool
 abbrev pub range_shown : Slots → GivenRange → SourceValue
@@ -96,17 +101,38 @@ slots_of settings contents calls = record {
   view = contents.view;
   uploads = contents.uploads;
   results = contents.results;
+  jobs = contents.executions.queue;
   calls = calls;
 }
 
+-- what goes on in an instance: its jobs, and its calls in course
+pub record Ongoing : Type 0 where
+  pub jobs : Jobs JobValue
+  pub calls : Calls
+
+-- with the texts that its jobs find in a pool
+abbrev pub ongoing_in : Slots → Contents → Calls → Ongoing
+ongoing_in p contents calls =
+    record { jobs = jobs_in p contents.executions.queue; calls = calls }
+
 -- the state of an instance that is configured so, with contents whose texts stand in a pool
-abbrev pub contents_state : Settings → Slots → Contents → Calls → InstanceState
-contents_state settings p contents calls = state_in p (slots_of settings contents calls)
+abbrev pub contents_state : Settings → Slots → Contents → Ongoing → InstanceState
+contents_state settings p contents o = record {
+  name = string_bytes settings.name;
+  quota = settings.quota;
+  slots = settings.slots;
+  moment = settings.moment;
+  visible = visible_in p contents.view;
+  parent = [];
+  uploads = contents.uploads;
+  results = contents.results;
+  jobs = o.jobs;
+  calls = o.calls;
+}
 
 -- .. which reads these texts of its parent, too
-abbrev pub contents_seen : Settings → List Blob → Slots → Contents → Calls → InstanceState
-contents_seen settings parent p contents calls =
-    seeing parent (contents_state settings p contents calls)
+abbrev pub contents_seen : Settings → List Blob → Slots → Contents → Ongoing → InstanceState
+contents_seen settings parent p contents o = seeing parent (contents_state settings p contents o)
 
 -- the changes are made, and for want of memory a front of them
 pub record Makes (result : CallResult) (changes : List InstanceChange)

@@ -1,11 +1,15 @@
 -- What an instance keeps of its own: of each text its digest, and the slot where a pool that it
--- shares with other instances has the text; of each result its bytes.
-use Rattle.std.specs.Prelude.{◌≡◌, ◌≤◌, ◌+◌, ℕ, List, []}
+-- shares with other instances has the text; of each result its bytes; of each job what it needs,
+-- and the slots of the texts that it keeps.
+use Rattle.std.specs.Prelude.{◌≡◌, ◌≤◌, ◌<◌, ◌+◌, ◌^◌, ℕ, List, []}
 use Rattle.blob_pool.specs.Slots.{Slots, count_at}
-use Rattle.blob_pool.specs.Moves.{Holders, AreHeld}
+use Rattle.blob_pool.specs.Moves.{Holders}
 use Rattle.instance_view.specs.Visible.{Blob}
 use Rattle.instance_view.specs.Shown.{ViewValue, visible_in, holders}
 use Rattle.uploads.specs.Uploads.{UploadList}
+use Rattle.job_queue.specs.Jobs.{Jobs}
+use Rattle.executor.specs.InPool.{jobs_in, jobs_holders}
+use Rattle.executor.specs.declared.job.Job.{Job}
 use Rattle.instance_core.specs.Calls.{Calls}
 use Rattle.instance_core.specs.State.{InstanceState, IsInstanceWithin, seeing}
 use Rattle.std.specs.List.{AllByRecursion}
@@ -19,6 +23,7 @@ pub record InstanceSlots : Type 0 where
   pub view : ViewValue
   pub uploads : UploadList
   pub results : List Blob
+  pub jobs : Jobs Job
   pub calls : Calls
 
 -- the instance, with the texts that its entries find in a pool
@@ -32,6 +37,7 @@ state_in p i = record {
   parent = [];
   uploads = i.uploads;
   results = i.results;
+  jobs = jobs_in p i.jobs;
   calls = i.calls;
 }
 
@@ -39,21 +45,28 @@ state_in p i = record {
 abbrev pub state_beside : Slots → ViewValue → InstanceSlots → InstanceState
 state_beside p parent i = seeing (visible_in p parent) (state_in p i)
 
+-- how often the instance holds each slot of the pool: its blobs do, and its jobs that wait or run
+abbrev pub holders_of_instance : InstanceSlots → Holders
+holders_of_instance i k = holders i.view k + jobs_holders i.jobs k
+
 -- the pool counts what its parent holds beside what it holds, and its parent's texts are what their
 -- digests say
 pub record IsBeside (p : Slots) (parent : ViewValue) (i : InstanceSlots) : Type 0 where
-  pub counted : (k : ℕ) → holders i.view k + holders parent k ≤ count_at p k
+  pub counted : (k : ℕ) → holders_of_instance i k + holders parent k ≤ count_at p k
   pub named : AllByRecursion (λ (b : Blob). Names b.0 b.1) (visible_in p parent)
 
 -- what it was configured with stays: its name, its quota and how many actions it runs at once
 abbrev pub KeepsConfig : InstanceSlots → InstanceSlots → Type 0
 KeepsConfig old new = (new.name ≡ old.name) × (new.quota ≡ old.quota) × (new.slots ≡ old.slots)
 
--- how often the instance holds each slot of the pool
-abbrev pub holders_of_instance : InstanceSlots → Holders
-holders_of_instance i = holders i.view
-
 -- the pool counts the instance among its holders, and the instance keeps its limits
 pub record IsInstanceInPool (p : Slots) (i : InstanceSlots) : Type 0 where
-  pub held : AreHeld p (holders_of_instance i)
+  pub counted : (k : ℕ) → holders_of_instance i k ≤ count_at p k
+  -- but for it there are fewer than 2^125 and some holders of any slot
+  pub others : (k : ℕ) → count_at p k < holders_of_instance i k + 2 ^ 125 + 2 ^ 124
   pub within : IsInstanceWithin (state_in p i)
+
+-- .. some pool does
+pub record IsKeptSomewhere (i : InstanceSlots) : Type 0 where
+  pub pool : Slots
+  pub kept : IsInstanceInPool pool i

@@ -1,7 +1,7 @@
 -- An instance: its name, its quota in bytes, how many actions it may run at once, the moment of
 -- what happens to it in milliseconds, its texts (the most recently used first), its unfinished
--- uploads, its results of actions (the most recently used first) and its calls in course.
-use Rattle.std.specs.Prelude.{ℕ, ◌≤◌, List, [], ◌++◌}
+-- uploads, its results of actions (the most recently used first), its jobs and its calls in course.
+use Rattle.std.specs.Prelude.{ℕ, ◌≤◌, List, [], ◌++◌, length}
 use Rattle.std.specs.List.{AllByRecursion, IsDistinct}
 use Rattle.digest.specs.Naming.{Names}
 use Rattle.std.specs.Map.{keys_of}
@@ -9,6 +9,11 @@ use Rattle.instance_view.specs.Visible.{Blob}
 use Rattle.quota_evict.specs.Within.{AreBlobsWithin, most_stored_bytes}
 use Rattle.uploads.specs.Uploads.{UploadList, AreUploadsWithin}
 use Rattle.tree_calls.specs.Complete.{AreResultsWithin}
+use Rattle.job_queue.specs.Jobs.{Jobs, no_jobs}
+use Rattle.job_queue.specs.Order.{AreJobs}
+use Rattle.job_queue.specs.declared.queue.TheConstants.{MOST_RUNNING}
+use Rattle.executor.specs.Job.{JobValue}
+use Rattle.instance_core.specs.Jobs.{AreWhole, AreToldShortly}
 use Rattle.instance_core.specs.Calls.{Calls, same_call, KeepShort}
 pub use Rattle.quota_evict.specs.Within.{most_blobs}
 
@@ -22,9 +27,10 @@ pub record InstanceState : Type 0 where
   pub parent : List Blob
   pub uploads : UploadList
   pub results : List Blob
+  pub jobs : Jobs JobValue
   pub calls : Calls
 
--- at first there are no texts, no uploads, no results and no calls
+-- at first there are no texts, no uploads, no results, no jobs and no calls
 abbrev pub new_instance : List ℕ → ℕ → ℕ → InstanceState
 new_instance name quota slots = record {
   name = name;
@@ -35,6 +41,7 @@ new_instance name quota slots = record {
   parent = [];
   uploads = [];
   results = [];
+  jobs = no_jobs;
   calls = [];
 }
 
@@ -55,6 +62,14 @@ pub record IsInstanceWithin (s : InstanceState) : Type 0 where
   pub texts : AreBlobsWithin most_blobs s.quota s.visible
   pub uploads : AreUploadsWithin s.quota s.uploads
   pub results : AreResultsWithin s.results
+  -- no more jobs run than there are slots, of which there are no more than jobs may run
+  pub slots : s.slots ≤ MOST_RUNNING
+  pub jobs : AreJobs s.jobs
+  pub running : length s.jobs.running ≤ s.slots
+  -- each that waits or runs has what it needs, and of each that has ended the last Operation is
+  -- kept
+  pub whole : AreWhole s.jobs
+  pub told : AreToldShortly s.jobs
   -- no call stands twice
   pub calls : IsDistinct same_call (keys_of s.calls)
   pub messages : KeepShort s.calls

@@ -16,6 +16,8 @@ pub enum Answer {
     Messages(Vec<Vec<u8>>),
     /// A range of a blob, whose text is held.
     Range(Source),
+    /// The present Operation of the job of a number, which others follow.
+    Watching(u64, Vec<u8>),
 }
 
 /// An answer of one message, where there is one.

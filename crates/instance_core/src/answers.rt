@@ -1,23 +1,28 @@
 //! What an instance answers to each event of a call.
 
-ghost use Rattle.std.specs.Prelude.{◌≤◌, ◌≡◌, ◌+◌, ℕ, OnErr};
+ghost use Rattle.std.specs.Prelude.{◌<◌, ◌≤◌, ◌≡◌, ◌+◌, ◌^◌, ℕ, Some, OnErr};
 ghost use Rattle.blob_pool.specs.Slots.{Slots, count_at};
 ghost use Rattle.blob_pool.specs.Moves.{Moves};
 ghost use Rattle.instance_view.specs.Shown.{holders, visible_in};
-ghost use Rattle.instance_core.specs.Calls.{call_at, IsShortRequest, AreInCourse};
+ghost use Rattle.instance_core.specs.Calls.{CallValue, call_at, IsShortRequest, AreInCourse};
 ghost use Rattle.instance_core.specs.Contents.{AreContentsInPool, AreContentsWithin};
 ghost use Rattle.instance_core.specs.Answer.{head_answer, message_answer, fault_answer, request_end_answer};
-ghost use Rattle.instance_core.specs.Shown.{Gives, ChangesCalls, Makes, contents_state, contents_seen};
+ghost use Rattle.job_queue.specs.Jobs.{Jobs};
+ghost use Rattle.executor.specs.Job.{JobValue};
+ghost use Rattle.instance_core.specs.Carries.{contents_beside, contents_holders, number_watched, settled};
+ghost use Rattle.instance_core.specs.Shown.{Gives, ChangesCalls, Makes, contents_state};
 ghost use Rattle.instance_core.specs.ReplyHolders.{result_holders};
 
+use crate::answer::Answer;
 use crate::calls::{Call, Calls, Progress, let_go};
 use crate::contents::{Contents, Settings};
 use crate::event::{CallId, Reply};
-use crate::methods::{carry_out, is_served};
+use crate::methods::carry_out;
 use crate::replies::{reply_to_request, reply_with};
 use crate::writing::{finish, on_first_part, settle_next};
 use blob_pool::Pool;
 use bytestream::{ended_unfinished, write_next};
+use cas_service::CallError;
 use instance_view::View;
 use rpc::{Method, Refusal};
 use std::alloc::{AllocError, Global};
@@ -40,9 +45,6 @@ pub fn on_head(
     if calls.find(id).is_some() {
         return Ok(Vec::new(alloc));
     }
-    if !is_served(method) {
-        return reply_with(alloc, id, Err(Refusal::UnknownMethod));
-    }
     calls.put(id, Call::new(method, Progress::Waits))?;
     Ok(Vec::new(alloc))
 }
@@ -60,15 +62,18 @@ pub fn on_message(
 ) -> Result<Vec<Reply>, AllocError>
     requires request { IsShortRequest message.items }
     requires kept { AreContentsInPool settings.now pool.old contents.old }
-    ensures replies { let old = contents_state settings.now pool.old contents.old calls.old
-        in
-        let answer = message_answer old id message.items (call_at id calls.old) in
-        (p : Slots) → Gives p result answer.replies }
+    ensures replies { (jobs : Jobs JobValue) (p : Slots) →
+        let old = contents_state settings.now pool.old contents.old
+        (record { jobs = jobs; calls = calls.old }) in
+        Gives p result (message_answer old id message.items (call_at id calls.old)).replies }
     ensures given { (k : ℕ) → result_holders result k ≡ 0 }
-    ensures changed { let old = contents_state settings.now pool.old contents.old calls.old
-        in
-        let new = contents_state settings.now pool.new contents.new calls.new in
+    ensures changed { (jobs : Jobs JobValue) →
+        let old = contents_state settings.now pool.old contents.old
+        (record { jobs = jobs; calls = calls.old }) in
+        let new = contents_state settings.now pool.new contents.new
+        (record { jobs = jobs; calls = calls.new }) in
         Makes result (message_answer old id message.items (call_at id calls.old)).changes old new }
+    ensures executions { contents.new.executions ≡ contents.old.executions }
     ensures moves { Moves pool.old pool.new (holders contents.old.view)
         (holders contents.new.view) }
     ensures within { AreContentsWithin settings.now pool.new contents.new }
@@ -96,6 +101,7 @@ pub fn on_message(
             }
         }
         Progress::Has(_) => finish(alloc, calls, id, Err(Refusal::MoreThanOneMessage)),
+        Progress::Watches(_) => Ok(Vec::new(alloc)),
         Progress::Writes(write) => {
             let outcome = write_next(
                 alloc,
@@ -128,10 +134,37 @@ pub fn on_fault(
     ensures err { OnErr result (calls.new ≡ calls.old) }
     ensures calls { AreInCourse calls.new }
 {
-    if calls.find(id).is_none() {
+    let Some(call) = calls.find(id) else {
         return Ok(Vec::new(alloc));
+    };
+    match call.progress() {
+        Progress::Watches(_) => Ok(Vec::new(alloc)),
+        Progress::Waits | Progress::Has(_) | Progress::Writes(_) => {
+            finish(alloc, calls, id, Err(refusal))
+        }
     }
-    finish(alloc, calls, id, Err(refusal))
+}
+
+/// The number of the job that a call watches from now on which was answered so, if it does.
+fn watched_in(outcome: &Result<Answer, CallError>) -> Option<u64>
+    ensures { result ≡ number_watched outcome.now }
+{
+    match outcome {
+        Ok(Answer::Watching(number, _)) => Some(*number),
+        _ => None,
+    }
+}
+
+/// A call was answered: it watches the job of a number from now on, or ends.
+fn settle(calls: &mut Calls, id: CallId, watched: Option<u64>)
+    ensures settled { (call : CallValue) → call_at id calls.old ≡ Some call
+        → calls.new ≡ settled id call.method watched calls.old }
+    ensures calls { AreInCourse calls.new }
+{
+    match watched {
+        Some(number) => calls.watch(id, number),
+        None => calls.end(id),
+    }
 }
 
 /// A request is at its end.
@@ -145,18 +178,21 @@ pub fn on_end(
     id: CallId,
 ) -> Result<Vec<Reply>, AllocError>
     requires kept { AreContentsInPool settings.now pool.old contents.old }
-    requires beside { (k : ℕ) → holders contents.old.view k + holders parent.now k
+    requires beside { (k : ℕ) → contents_holders contents.old k + holders parent.now k
         ≤ count_at pool.old k }
+    requires room { (k : ℕ) → count_at pool.old k + 2 ^ 64 < 2 ^ 127 }
+    requires slots { contents.old.executions.slots ≡ settings.now.slots }
     ensures replies { let seen = visible_in pool.old parent.now in
-        let old = contents_seen settings.now seen pool.old contents.old calls.old in
+        let old = contents_beside settings.now seen pool.old contents.old calls.old in
         Gives pool.new result (request_end_answer old id (call_at id calls.old)).replies }
     ensures changed { let seen = visible_in pool.old parent.now in
-        let old = contents_seen settings.now seen pool.old contents.old calls.old in
-        let new = contents_seen settings.now seen pool.new contents.new calls.new in
+        let old = contents_beside settings.now seen pool.old contents.old calls.old in
+        let new = contents_beside settings.now seen pool.new contents.new calls.new in
         Makes result (request_end_answer old id (call_at id calls.old)).changes old new }
-    ensures moves { Moves pool.old pool.new (holders contents.old.view)
-        (λ k. holders contents.new.view k + result_holders result k) }
+    ensures moves { Moves pool.old pool.new (contents_holders contents.old)
+        (λ k. contents_holders contents.new k + result_holders result k) }
     ensures within { AreContentsWithin settings.now pool.new contents.new }
+    ensures slots { contents.new.executions.slots ≡ contents.old.executions.slots }
     ensures calls { AreInCourse calls.new }
 {
     let Some(call) = calls.find(id) else {
@@ -167,13 +203,15 @@ pub fn on_end(
         Progress::Has(message) => {
             let method = call.method();
             let outcome = carry_out(alloc, settings, contents, parent, pool, method, message);
+            let watched = watched_in(&outcome);
             let replies = reply_to_request(alloc, pool, id, outcome)?;
-            calls.end(id);
+            settle(calls, id, watched);
             Ok(replies)
         }
         Progress::Writes(write) => {
             let reply = ended_unfinished(alloc, &contents.uploads, &write.key)?;
             finish(alloc, calls, id, Ok(reply))
         }
+        Progress::Watches(_) => Ok(Vec::new(alloc)),
     }
 }

@@ -1,13 +1,19 @@
 //! The calls in course.
 
-ghost use Rattle.std.specs.Prelude.{◌≡◌, ◌==◌, not, [], OnOk, OnErr};
+ghost use Rattle.std.specs.Prelude.{◌≡◌, ◌<◌, ◌^◌, ◌==◌, not, [], Some, IsSome, filter, length, option_map, slice_get, OnOk, OnErr};
+ghost use Rattle.std.specs.List.{IsDistinct};
+ghost use Rattle.std.specs.Map.{keys_of};
 ghost use Rattle.std.specs.Option.{option_copied};
-ghost use Rattle.instance_core.specs.Calls.{call_at, with_call, without_call, IsShortProgress, AreInCourse};
+ghost use Rattle.instance_core.specs.Calls.{CallValue, call_at, same_call, with_call, without_call, watches, IsShortProgress, AreInCourse};
+ghost use Rattle.instance_core.specs.Watching.{calls_after_steps, calls_told, is_watcher, is_watching};
+ghost use Rattle.executor.specs.Ordered.{told_shown};
+ghost use Rattle.executor.specs.Taking.{steps_shown};
 ghost use Rattle.instance_core.specs.Apart.{calls_apart};
 ghost use Rattle.instance_core.specs.Shown.{progress_shown};
 
 use crate::event::CallId;
 use bytestream::OpenWrite;
+use executor::{Step, Told};
 use indexmap::IndexMap;
 use rpc::Method;
 use std::alloc::{AllocError, Global};
@@ -26,6 +32,9 @@ pub enum Progress {
     Has(Vec<u8>),
     /// Messages of a `Write`, of which the first named an upload.
     Writes(OpenWrite),
+    /// All of it, and it was answered with the present Operation of the job of a number: those that
+    /// follow are sent as they come, to the last.
+    Watches(u64),
 }
 
 /// A call in course.
@@ -66,6 +75,16 @@ impl Call {
         &self.progress
     }
 
+    /// Whether it watches the job of a number.
+    pub fn watches(&self, number: u64) -> bool
+        ensures { result ≡ is_watching number self.now.progress }
+    {
+        match self.progress {
+            Progress::Watches(watched) => watched == number,
+            Progress::Waits | Progress::Has(_) | Progress::Writes(_) => false,
+        }
+    }
+
     /// Lets go of the call, and of its message.
     fn let_go(self) {
         if let Progress::Has(message) = self.progress {
@@ -80,6 +99,18 @@ pub fn let_go(mut message: Vec<u8>) {
     if message.capacity() >= OWN_BLOCK {
         message.clear();
         message.shrink_to(1);
+    }
+}
+
+/// Puts a call in the place of the one of that name, which is there.
+fn replace(by_id: &mut IndexMap<CallId, Call>, id: CallId, call: Call)
+    requires there { IsSome (call_at id by_id.old.entries) }
+    ensures entries { by_id.new.entries ≡ with_call id call by_id.old.entries }
+    ensures once { IsDistinct same_call (keys_of by_id.new.entries) }
+{
+    let put: Result<_, _> = by_id.insert(id, call);
+    if let Some(old) = put.unwrap() {
+        old.let_go();
     }
 }
 
@@ -137,6 +168,74 @@ impl Calls {
         if let Some(call) = self.by_id.shift_remove(&id) {
             call.let_go();
         }
+    }
+
+    /// The call of that name, which is in course, watches the job of a number from now on.
+    pub fn watch(&mut self, id: CallId, number: u64)
+        ensures watches { (call : CallValue) → call_at id self.old ≡ Some call
+            → self.new ≡ with_call id (record { method = call.method; progress = watches number })
+            self.old }
+        ensures calls { AreInCourse self.new }
+    {
+        let Some(call) = self.by_id.get(&id) else {
+            return;
+        };
+        let watching = Call::new(call.method(), Progress::Watches(number));
+        replace(&mut self.by_id, id, watching);
+    }
+
+    /// The call at a place, where one is, in the order in which they began.
+    pub fn at(&self, place: usize) -> Option<(&CallId, &Call)>
+        ensures there { option_map (λ e. (e.0.now, e.1.now)) result ≡ slice_get self.now place }
+        ensures few { length self.now < 2 ^ 63 }
+    {
+        self.by_id.as_slice().get_index(place)
+    }
+
+    /// Takes out all calls that watch the job of a number. The others keep their order.
+    pub fn end_watchers(&mut self, number: u64)
+        ensures ended { self.new ≡ filter (λ c. not (is_watcher number c)) self.old }
+        ensures calls { AreInCourse self.new }
+    {
+        self.by_id.retain(
+            |_id: &CallId, call: &mut Call| -> bool
+                ensures { (result ≡ not (is_watching number call.old.progress))
+                    × (call.new ≡ call.old) }
+            { !call.watches(number) },
+        );
+    }
+
+    /// Takes out all calls that watch a job, where they are told the last of it. The others keep
+    /// their order.
+    fn end_if_last(&mut self, told: &Told<'_>)
+        requires calls { AreInCourse self.old }
+        ensures ended { self.new ≡ calls_told (told_shown told.now) self.old }
+        ensures calls { AreInCourse self.new }
+    {
+        if told.is_last {
+            self.end_watchers(told.number);
+        }
+    }
+
+    /// Takes out all calls that are told the last of what they watch. The others keep their order.
+    pub fn end_told(&mut self, steps: &[Step])
+        requires calls { AreInCourse self.old }
+        ensures ended { self.new ≡ calls_after_steps (steps_shown steps.now) self.old }
+        ensures calls { AreInCourse self.new }
+    {
+        let mut left = steps;
+        while let [first, rest @ ..] = left {
+            self.end_if_last(&first.told());
+            left = rest;
+        }
+    }
+
+    /// Takes out all calls.
+    pub fn clear(&mut self)
+        ensures ended { self.new ≡ [] }
+        ensures calls { AreInCourse self.new }
+    {
+        self.by_id.clear();
     }
 
     /// Takes out all calls on the connection. The others keep their order.

@@ -1,6 +1,7 @@
 //! What an instance is configured as, and what it keeps.
 
 use action_cache::Results;
+use executor::Executions;
 use instance_view::View;
 use uploads::Uploads;
 
@@ -14,10 +15,11 @@ pub struct Settings {
     pub moment: u64,
 }
 
-/// The texts of an instance, its unfinished uploads, and its results of actions.
+/// The texts of an instance, its unfinished uploads, its results of actions, and its executions.
 #[derive(Drop)]
 pub struct Contents {
     pub view: View,
     pub uploads: Uploads,
     pub results: Results,
+    pub executions: Executions,
 }

@@ -1,26 +1,40 @@
 //! One instance: its settings, what it keeps, and the calls in course.
 
-ghost use Rattle.std.specs.Prelude.{◌≡◌, ◌≤◌, ◌+◌, ◌^◌, ℕ, List, [], OnOk, OnErr, IfOk};
-ghost use Rattle.blob_pool.specs.Slots.{Slots};
+ghost use Rattle.std.specs.Prelude.{◌≡◌, ◌≤◌, ◌+◌, ◌^◌, ℕ, List, [], is_some, map, option_map, OnOk, OnErr, IfOk};
+ghost use Rattle.std.specs.List.{AllByRecursion};
+ghost use Rattle.blob_pool.specs.Slots.{Slots, count_at};
 ghost use Rattle.blob_pool.specs.Moves.{Moves};
-ghost use Rattle.instance_core.specs.Calls.{IsShortEvent, cancel, tick};
-ghost use Rattle.instance_core.specs.Apart.{calls_apart};
+ghost use Rattle.instance_core.specs.Calls.{IsShortEvent, cancel, tick, start_jobs, end_late_jobs, end_job};
+ghost use Rattle.instance_core.specs.Apart.{calls_apart, replies_on, AreRepliesTo};
 ghost use Rattle.instance_core.specs.State.{InstanceState, IsInstanceWithin, new_instance, at_moment, seeing};
 ghost use Rattle.instance_view.specs.Visible.{Blob};
-ghost use Rattle.instance_core.specs.Slots.{KeepsConfig, state_in, state_beside, holders_of_instance, IsInstanceInPool, IsBeside};
-ghost use Rattle.instance_core.specs.Changes.{MadeInPart};
-ghost use Rattle.instance_core.specs.Answer.{answer, state_after};
-ghost use Rattle.instance_core.specs.Shown.{Gives, GivesShort, event_shown};
-ghost use Rattle.instance_core.specs.ReplyHolders.{result_holders};
+ghost use Rattle.instance_core.specs.Slots.{KeepsConfig, state_in, state_beside, holders_of_instance, IsInstanceInPool, IsBeside, IsKeptSomewhere};
+ghost use Rattle.instance_core.specs.Changes.{MadeInPart, Settles, state_after_change, state_after_changes};
+ghost use Rattle.instance_core.specs.Answer.{answer, ending_changes, state_after};
+ghost use Rattle.instance_core.specs.Replies.{IsShortReply};
+ghost use Rattle.instance_core.specs.Shown.{Gives, GivesShort, event_shown, reply_shown};
+ghost use Rattle.instance_core.specs.ReplyHolders.{replies_holders, result_holders};
+ghost use Rattle.outcomes.specs.Shown.{outcome_shown};
+ghost use Rattle.job_queue.specs.Jobs.{jobs_without, running_job};
+ghost use Rattle.job_queue.specs.declared.queue.TheConstants.{MOST_RUNNING};
+ghost use Rattle.executor.specs.InPool.{task_in};
+ghost use Rattle.executor.specs.Orders.{task_of};
+ghost use Rattle.executor.specs.Taking.{CanTake, steps_shown};
+ghost use Rattle.instance_core.specs.Turns.{IsReady};
 ghost use Rattle.quota_evict.specs.Within.{most_stored_bytes};
 
 use crate::answers::{on_end, on_fault, on_head, on_message};
 use crate::calls::Calls;
 use crate::contents::{Contents, Settings};
+use crate::ending::on_outcome;
 use crate::event::{CallEvent, CallId, Reply};
+use crate::turns::{Turn, make_ready};
 use action_cache::Results;
 use blob_pool::Pool;
+use executor::{Executions, Step, Task, forget_job, start_steps, take_steps, task_of, tick_steps};
 use instance_view::View;
+use job_queue::Queue;
+use outcomes::Outcome;
 use quota_evict::MOST_BLOBS;
 use std::alloc::{AllocError, Global};
 use std::marker::Model;
@@ -60,14 +74,16 @@ impl Model for Instance {
     ghost view = { λ i. slots_of i.settings i.contents i.calls };
 
     ghost invariant = { λ i. (i.settings.quota ≤ most_stored_bytes)
-        × (i.contents.view.limit ≡ most_blobs) × AreInCourse i.calls };
+        × (i.contents.view.limit ≡ most_blobs) × AreInCourse i.calls
+        × (i.contents.executions.slots ≡ i.settings.slots) };
 }
 
 impl Instance {
-    /// An instance of at most 2^40 bytes that has no texts, no uploads, no results and no calls
-    /// yet.
+    /// An instance of at most 2^40 bytes that has no texts, no uploads, no results, no jobs and no
+    /// calls yet.
     pub fn new(alloc: Global, name: &str, quota: u64, slots: u32) -> Result<Instance, AllocError>
-        requires { quota ≤ most_stored_bytes }
+        requires quota { quota ≤ most_stored_bytes }
+        requires slots { slots ≤ MOST_RUNNING }
         ensures opened { (p : Slots) →
             IfOk result (λ instance. state_in p instance ≡ new_instance name.now quota slots) }
         ensures within { (p : Slots) →
@@ -77,6 +93,10 @@ impl Instance {
         let name = String::from_str(alloc, name)?;
         let view = View::new(alloc, MOST_BLOBS)?;
         let results = Results::new(alloc)?;
+        let executions = Executions {
+            slots: slots as usize,
+            queue: Queue::new(alloc)?,
+        };
         Ok(Instance {
             settings: Settings {
                 name,
@@ -88,6 +108,7 @@ impl Instance {
                 view,
                 uploads: Uploads::new(alloc),
                 results,
+                executions,
             },
             calls: Calls::new(alloc),
         })
@@ -218,5 +239,135 @@ impl Instance {
         ensures config { KeepsConfig self.old self.new }
     {
         self.calls.end_all(connection);
+    }
+
+    /// All connections are gone: each call in course ends without a reply. This takes no memory,
+    /// and is the same over every pool.
+    pub fn forget_all(&mut self)
+        ensures changed { (p : Slots) →
+            state_in p self.new ≡ record (state_in p self.old) { calls = [] } }
+        ensures holders { (k : ℕ) → holders_of_instance self.new k
+            ≡ holders_of_instance self.old k }
+        ensures kept { (p : Slots) → IsInstanceInPool p self.old → IsInstanceInPool p self.new }
+        ensures config { KeepsConfig self.old self.new }
+    {
+        self.calls.clear();
+    }
+
+    /// Whether a job runs under a number.
+    pub fn is_running(&self, job: u64) -> bool
+        ensures { (p : Slots) → result ≡ is_some (running_job job (state_in p self.now).jobs) }
+    {
+        self.contents.executions.queue.running_job(job).is_some()
+    }
+
+    /// The task of the job that runs under a number, where one does. Its texts lie in the pool.
+    pub fn task(&self, job: u64) -> Option<&Task>
+        ensures { (p : Slots) → option_map (λ task. task_in p task.now) result
+            ≡ task_of job (state_in p self.now).jobs }
+    {
+        task_of(&self.contents.executions.queue, job)
+    }
+
+    /// Makes ready that the jobs start for which there is a slot. The replies are those to calls on
+    /// one connection. Nothing is changed.
+    pub fn ready_starts(&self, alloc: Global, connection: u32) -> Result<Turn, AllocError>
+        requires kept { IsKeptSomewhere self.now }
+        ensures ready { (p : Slots) → let s = state_in p self.now in
+            IfOk result (IsReady p s start_jobs
+            (replies_on connection (answer s start_jobs).replies)) }
+        ensures given { (k : ℕ) → IfOk result (λ turn. replies_holders turn.replies.items k ≡ 0) }
+        ensures own { IfOk result (λ turn. AreRepliesTo connection turn.replies.items) }
+        ensures short { (p : Slots) → IfOk result
+            (λ turn. AllByRecursion IsShortReply (map (reply_shown p) turn.replies.items)) }
+    {
+        let executions = &self.contents.executions;
+        let steps = start_steps(alloc, executions, self.settings.moment)?;
+        make_ready(alloc, &self.calls, steps, Some(connection))
+    }
+
+    /// Makes ready that the jobs end which are past their deadline, and that others start in their
+    /// place. Nothing is changed.
+    pub fn ready_late_ends(&self, alloc: Global) -> Result<Turn, AllocError>
+        requires kept { IsKeptSomewhere self.now }
+        ensures ready { (p : Slots) → let s = state_in p self.now in
+            IfOk result (IsReady p s end_late_jobs (answer s end_late_jobs).replies) }
+        ensures given { (k : ℕ) → IfOk result (λ turn. replies_holders turn.replies.items k ≡ 0) }
+        ensures short { (p : Slots) → IfOk result
+            (λ turn. AllByRecursion IsShortReply (map (reply_shown p) turn.replies.items)) }
+    {
+        let executions = &self.contents.executions;
+        let steps = tick_steps(alloc, executions, self.settings.moment)?;
+        make_ready(alloc, &self.calls, steps, None)
+    }
+
+    /// Admits what the run of a job left, stores its result, and makes ready that it ends, and that
+    /// others start in its place. Where memory is refused the first of these changes may have been
+    /// made.
+    pub fn ready_end(
+        &mut self,
+        alloc: Global,
+        pool: &mut Pool,
+        job: u64,
+        outcome: Outcome,
+    ) -> Result<Turn, AllocError>
+        requires kept { IsInstanceInPool pool.old self.old }
+        ensures ready { (p : Slots) → let s = state_in pool.old self.old in
+            let event = end_job job (outcome_shown outcome) in
+            IfOk result (IsReady p s event (answer s event).replies) }
+        ensures changed { let s = state_in pool.old self.old in
+            let changes = ending_changes s (outcome_shown outcome) (running_job job s.jobs) in
+            OnOk result (state_in pool.new self.new ≡ state_after_changes changes s) }
+        ensures memory { let s = state_in pool.old self.old in
+            let changes = ending_changes s (outcome_shown outcome) (running_job job s.jobs) in
+            OnErr result (MadeInPart changes s (state_in pool.new self.new)) }
+        ensures after { let s = state_in pool.old self.old in
+            IfOk result
+            (λ turn. IsInstanceWithin (state_after s (end_job job (outcome_shown outcome)))) }
+        ensures moves { Moves pool.old pool.new (holders_of_instance self.old)
+            (holders_of_instance self.new) }
+        ensures within { IsInstanceWithin (state_in pool.new self.new) }
+        ensures config { KeepsConfig self.old self.new }
+        ensures given { (k : ℕ) → IfOk result (λ turn. replies_holders turn.replies.items k ≡ 0) }
+        ensures short { (p : Slots) → IfOk result
+            (λ turn. AllByRecursion IsShortReply (map (reply_shown p) turn.replies.items)) }
+    {
+        on_outcome(
+            alloc,
+            &self.settings,
+            &mut self.contents,
+            pool,
+            &self.calls,
+            job,
+            outcome,
+        )
+    }
+
+    /// Takes the steps that were made ready. This takes no memory.
+    pub fn take_turn(&mut self, pool: &mut Pool, steps: Vec<Step>)
+        requires can { CanTake (steps_shown steps.items) (state_in pool.old self.old).jobs }
+        requires counted { (k : ℕ) → holders_of_instance self.old k ≤ count_at pool.old k }
+        ensures changed { state_in pool.new self.new
+            ≡ state_after_change (Settles (steps_shown steps.items)) (state_in pool.old self.old) }
+        ensures moves { Moves pool.old pool.new (holders_of_instance self.old)
+            (holders_of_instance self.new) }
+        ensures config { KeepsConfig self.old self.new }
+    {
+        self.calls.end_told(&steps);
+        take_steps(pool, &mut self.contents.executions.queue, steps);
+    }
+
+    /// The job that runs under a number is forgotten, where one does, and what it kept is released.
+    /// This takes no memory.
+    pub fn forget_job(&mut self, pool: &mut Pool, job: u64)
+        requires kept { IsInstanceInPool pool.old self.old }
+        ensures changed { state_in pool.new self.new ≡ (let old = state_in pool.old self.old in
+            record old { jobs = jobs_without job old.jobs }) }
+        ensures moves { Moves pool.old pool.new (holders_of_instance self.old)
+            (holders_of_instance self.new) }
+        ensures kept { IsInstanceInPool pool.new self.new }
+        ensures config { KeepsConfig self.old self.new }
+    {
+        forget_job(pool, &mut self.contents.executions.queue, job);
     }
 }

@@ -1,13 +1,19 @@
 //! What follows from the definitions alone.
 
+ghost use Rattle.std.specs.Prelude.{◌≡◌, ℕ};
 ghost use Rattle.std.specs.List.{AllByRecursion};
-ghost use Rattle.instance_core.specs.Answer.{answer};
-ghost use Rattle.instance_core.specs.Calls.{CallEventValue};
+ghost use Rattle.job_queue.specs.Changes.{IsRunning};
+ghost use Rattle.outcomes.specs.Outcomes.{OutcomeValue};
+ghost use Rattle.instance_core.specs.Answer.{answer, orders_at, state_after};
+ghost use Rattle.instance_core.specs.Apart.{IsCallOn, replies_on};
+ghost use Rattle.instance_core.specs.Calls.{CallEventValue, start_jobs, end_late_jobs, end_job};
 ghost use Rattle.instance_core.specs.Changes.{MadeInPart};
+ghost use Rattle.instance_core.specs.Jobs.{IsWholeOrder};
 ghost use Rattle.instance_core.specs.Losses.{LosesByRules};
 ghost use Rattle.instance_core.specs.Named.{StoresNamed};
 ghost use Rattle.instance_core.specs.NamedReplies.{ServesNamed};
 ghost use Rattle.instance_core.specs.State.{InstanceState, IsInstanceWithin};
+ghost use Rattle.instance_core.specs.Watching.{WatchAtRest, WatchDuring};
 
 /// A call stores bytes only under the digest that names them, whatever its request says: a batch,
 /// and a Write too, message by message.
@@ -26,9 +32,34 @@ pub fn calls_serve_named_blobs()
         → ServesNamed (record { state = s; event = event }) }
 {}
 
+/// What is ordered to be run has what it needs: each file of its plan is empty, or has its text
+/// there, and each text is what its digest says.
+pub fn orders_have_their_texts()
+    ensures { (s : InstanceState) (event : CallEventValue) → IsInstanceWithin s
+        → AllByRecursion IsWholeOrder (orders_at s event) }
+{}
+
+/// Behind every event the jobs that wait have to wait, or nobody watches them. So of the jobs that
+/// start at the end of received bytes only calls on the connection are told on which these came.
+pub fn starts_are_told_on_one_connection()
+    ensures kept { (c : ℕ) (s t : InstanceState) (event : CallEventValue) → IsCallOn c event
+        → IsInstanceWithin s → MadeInPart (answer s event).changes s t
+        → WatchDuring c s → WatchDuring c t }
+    ensures told { (c : ℕ) (s : InstanceState) → IsInstanceWithin s → WatchDuring c s
+        → replies_on c (answer s start_jobs).replies ≡ (answer s start_jobs).replies }
+    ensures starts { (c : ℕ) (s : InstanceState) → IsInstanceWithin s → WatchDuring c s
+        → WatchAtRest (state_after s start_jobs) }
+    ensures late { (s : InstanceState) → IsInstanceWithin s → WatchAtRest s
+        → WatchAtRest (state_after s end_late_jobs) }
+    ensures ended { (s : InstanceState) (n : ℕ) (outcome : OutcomeValue) → IsInstanceWithin s
+        → IsRunning n s.jobs → WatchAtRest s
+        → WatchAtRest (state_after s (end_job n outcome)) }
+{}
+
 /// Where any front of an event's changes was made, and so where all were, what was kept is lost
 /// only by rule: a blob to an admission, a result to a store, an upload at its end, to a piece that
-/// would bring it past its size, or by its age.
+/// would bring it past its size, or by its age. No job that waits or runs is lost: it starts, or it
+/// ends.
 pub fn calls_lose_by_rules()
     ensures { (s t : InstanceState) (event : CallEventValue)
         → MadeInPart (answer s event).changes s t → LosesByRules s t }

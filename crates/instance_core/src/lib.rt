@@ -9,7 +9,9 @@ mod answers;
 mod calls;
 mod capabilities;
 mod contents;
+mod ending;
 mod event;
+mod executions;
 mod instance;
 mod laws;
 mod limits;
@@ -18,11 +20,17 @@ mod reading;
 mod replies;
 mod results;
 mod trees;
+mod turns;
 mod writing;
 
 pub use event::{CallEvent, CallId, GivenRange, Reply, ReplyItem};
+pub use executor::{Order, Step, Task};
 pub use instance::Instance;
-pub use laws::{calls_lose_by_rules, calls_serve_named_blobs, calls_store_named_texts};
+pub use laws::{
+    calls_lose_by_rules, calls_serve_named_blobs, calls_store_named_texts, orders_have_their_texts,
+    starts_are_told_on_one_connection,
+};
 pub use limits::{
     limits_of_batches_and_trees, limits_of_results, limits_of_texts, limits_of_uploads,
 };
+pub use turns::Turn;

@@ -1,18 +1,18 @@
 //! What each method but `Write` answers to the one message of its request.
 
-ghost use Rattle.std.specs.Prelude.{◌≡◌, ◌+◌, ◌≤◌, ℕ};
+ghost use Rattle.std.specs.Prelude.{◌≡◌, ◌+◌, ◌<◌, ◌≤◌, ◌^◌, ℕ};
 ghost use Rattle.blob_pool.specs.Slots.{Slots, count_at};
 ghost use Rattle.rpc.specs.declared.method.Method.TheVariants.{FindMissingBlobs, BatchUpdateBlobs, BatchReadBlobs, GetCapabilities, QueryWriteStatus};
 ghost use Rattle.instance_view.specs.Visible.{Blob};
 ghost use Rattle.instance_view.specs.Shown.{visible_in, holders};
 ghost use Rattle.std.specs.Prelude.{List};
 ghost use Rattle.instance_core.specs.Contents.{AreContentsInPool};
-ghost use Rattle.instance_core.specs.Methods.{is_served};
-ghost use Rattle.instance_core.specs.Carries.{Carries};
+ghost use Rattle.instance_core.specs.Carries.{Carries, CarriesTexts, contents_holders};
 
 use crate::answer::{Answer, one_message};
 use crate::capabilities::get_capabilities;
 use crate::contents::{Contents, Settings};
+use crate::executions::{start_execution, watch_execution};
 use crate::reading::read_range;
 use crate::results::{get_result, update_result};
 use crate::trees::get_pages;
@@ -23,13 +23,6 @@ use instance_view::View;
 use rpc::{Method, Refusal};
 use std::alloc::Global;
 
-/// Whether a call of the method begins, or is refused at once.
-pub fn is_served(method: Method) -> bool
-    ensures { result ≡ is_served method }
-{
-    !matches!(method, Method::Execute | Method::WaitExecution)
-}
-
 /// Answers a `FindMissingBlobs`. What is there is used.
 fn find_blobs(
     alloc: Global,
@@ -39,7 +32,7 @@ fn find_blobs(
     message: &[u8],
 ) -> Result<Answer, CallError>
     ensures carried { (p : Slots) → AreContentsInPool settings.now p contents.old →
-        Carries FindMissingBlobs settings.now (visible_in p parent.now) message.now
+        CarriesTexts FindMissingBlobs settings.now (visible_in p parent.now) message.now
         p contents.old result p contents.new }
 {
     let outcome = find_missing(alloc, &settings.name, &mut contents.view, parent, message);
@@ -55,7 +48,7 @@ fn update_blobs(
     message: &[u8],
 ) -> Result<Answer, CallError>
     requires kept { AreContentsInPool settings.now pool.old contents.old }
-    ensures carried { (parent : List Blob) → Carries BatchUpdateBlobs settings.now parent
+    ensures carried { (parent : List Blob) → CarriesTexts BatchUpdateBlobs settings.now parent
         message.now pool.old contents.old result pool.new contents.new }
 {
     let outcome = batch_update(
@@ -81,7 +74,7 @@ fn read_blobs(
     requires kept { AreContentsInPool settings.now pool.now contents.old }
     requires beside { (k : ℕ) → holders contents.old.view k + holders parent.now k
         ≤ count_at pool.now k }
-    ensures carried { Carries BatchReadBlobs settings.now (visible_in pool.now parent.now)
+    ensures carried { CarriesTexts BatchReadBlobs settings.now (visible_in pool.now parent.now)
         message.now pool.now contents.old result pool.now contents.new }
 {
     let outcome = batch_read(
@@ -103,7 +96,7 @@ fn tell_capabilities(
     message: &[u8],
 ) -> Result<Answer, CallError>
     ensures carried { (parent : List Blob) (p : Slots) →
-        AreContentsInPool settings.now p contents.now → Carries GetCapabilities settings.now
+        AreContentsInPool settings.now p contents.now → CarriesTexts GetCapabilities settings.now
         parent message.now p contents.now result p contents.now }
 {
     let outcome = get_capabilities(alloc, &settings.name, settings.slots, message);
@@ -118,7 +111,7 @@ fn tell_status(
     message: &[u8],
 ) -> Result<Answer, CallError>
     ensures carried { (parent : List Blob) (p : Slots) →
-        AreContentsInPool settings.now p contents.now → Carries QueryWriteStatus settings.now
+        AreContentsInPool settings.now p contents.now → CarriesTexts QueryWriteStatus settings.now
         parent message.now p contents.now result p contents.now }
 {
     let outcome = query(
@@ -143,8 +136,10 @@ pub fn carry_out(
     message: &[u8],
 ) -> Result<Answer, CallError>
     requires kept { AreContentsInPool settings.now pool.old contents.old }
-    requires beside { (k : ℕ) → holders contents.old.view k + holders parent.now k
+    requires beside { (k : ℕ) → contents_holders contents.old k + holders parent.now k
         ≤ count_at pool.old k }
+    requires room { (k : ℕ) → count_at pool.old k + 2 ^ 64 < 2 ^ 127 }
+    requires slots { contents.old.executions.slots ≡ settings.now.slots }
     ensures carried { Carries method settings.now (visible_in pool.old parent.now) message.now
         pool.old contents.old result pool.new contents.new }
 {
@@ -158,9 +153,9 @@ pub fn carry_out(
         Method::GetCapabilities => tell_capabilities(alloc, settings, contents, message),
         Method::Read => read_range(alloc, settings, contents, parent, pool, message),
         Method::QueryWriteStatus => tell_status(alloc, settings, contents, message),
-        // No request of these is kept to its end.
-        Method::Write | Method::Execute | Method::WaitExecution => {
-            Err(CallError::Refused(Refusal::UnknownMethod))
-        }
+        Method::Execute => start_execution(alloc, settings, contents, parent, pool, message),
+        Method::WaitExecution => watch_execution(alloc, contents, message),
+        // No request of a `Write` is kept to its end.
+        Method::Write => Err(CallError::Refused(Refusal::UnknownMethod)),
     }
 }

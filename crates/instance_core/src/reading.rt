@@ -5,7 +5,7 @@ ghost use Rattle.blob_pool.specs.Slots.{count_at};
 ghost use Rattle.rpc.specs.declared.method.Method.TheVariants.{Read};
 ghost use Rattle.instance_view.specs.Shown.{visible_in, holders};
 ghost use Rattle.instance_core.specs.Contents.{AreContentsInPool};
-ghost use Rattle.instance_core.specs.Carries.{Carries};
+ghost use Rattle.instance_core.specs.Carries.{CarriesTexts};
 
 use crate::answer::{Answer, range};
 use crate::contents::{Contents, Settings};
@@ -27,7 +27,7 @@ pub fn read_range(
     requires kept { AreContentsInPool settings.now pool.old contents.old }
     requires beside { (k : ℕ) → holders contents.old.view k + holders parent.now k
         ≤ count_at pool.old k }
-    ensures carried { Carries Read settings.now (visible_in pool.old parent.now) message.now
+    ensures carried { CarriesTexts Read settings.now (visible_in pool.old parent.now) message.now
         pool.old contents.old result pool.new contents.new }
 {
     let outcome = read(

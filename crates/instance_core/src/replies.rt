@@ -9,7 +9,7 @@ ghost use Rattle.bytestream.specs.Shown.{source_shown};
 ghost use Rattle.cas_service.specs.declared.error.CallError.TheVariants.{Refused, NoMemory};
 ghost use Rattle.cas_service.specs.Answers.{Answers, IfNoMemory};
 ghost use Rattle.instance_core.specs.Replies as Value;
-ghost use Rattle.instance_core.specs.Replies.{AnswerValue, begins, gives, ends, items_of};
+ghost use Rattle.instance_core.specs.Replies.{AnswerValue, begins, says, gives, ends, items_of};
 ghost use Rattle.instance_core.specs.Answer.{reply_of_items, reply_with};
 ghost use Rattle.instance_core.specs.Shown.{Gives, item_shown, outcome_shown, range_shown};
 ghost use Rattle.instance_core.specs.ReplyHolders.{items_holders, result_holders};
@@ -106,6 +106,18 @@ fn empty_reply(alloc: Global, call: CallId) -> Result<Vec<Reply>, AllocError>
     reply_of(alloc, call, items)
 }
 
+/// A reply that begins with an Operation, which others follow.
+fn first_reply(alloc: Global, call: CallId, operation: Vec<u8>) -> Result<Vec<Reply>, AllocError>
+    ensures replies { (p : Slots) →
+        Gives p result (reply_of_items call (begins ∷ says operation.items ∷ [])) }
+    ensures given { (k : ℕ) → result_holders result k ≡ 0 }
+{
+    let mut items = Vec::new(alloc);
+    items.push(ReplyItem::Begins)?;
+    items.push(ReplyItem::Says(operation))?;
+    reply_of(alloc, call, items)
+}
+
 /// A whole reply of one range.
 fn range_reply(alloc: Global, call: CallId, range: GivenRange) -> Result<Vec<Reply>, AllocError>
     ensures replies { (p : Slots) →
@@ -189,6 +201,7 @@ pub fn reply_to_request(
         Ok(Answer::Message(message)) => reply_with(alloc, call, Ok(message)),
         Ok(Answer::Messages(messages)) => messages_reply(alloc, call, messages),
         Ok(Answer::Range(source)) => give(alloc, pool, call, &source),
+        Ok(Answer::Watching(_, operation)) => first_reply(alloc, call, operation),
         Err(error) => {
             let refusal = refusal_in(error)?;
             reply_with(alloc, call, Err(refusal))

@@ -6,7 +6,7 @@ ghost use Rattle.rpc.specs.declared.method.Method.TheVariants.{GetActionResult, 
 ghost use Rattle.instance_view.specs.Shown.{visible_in, holders};
 ghost use Rattle.instance_view.specs.Visible.{Blob};
 ghost use Rattle.instance_core.specs.Contents.{AreContentsInPool};
-ghost use Rattle.instance_core.specs.Carries.{Carries};
+ghost use Rattle.instance_core.specs.Carries.{CarriesTexts};
 
 use crate::answer::{Answer, one_message};
 use crate::contents::{Contents, Settings};
@@ -28,7 +28,7 @@ pub fn get_result(
     requires kept { AreContentsInPool settings.now pool.now contents.old }
     requires beside { (k : ℕ) → holders contents.old.view k + holders parent.now k
         ≤ count_at pool.now k }
-    ensures carried { Carries GetActionResult settings.now (visible_in pool.now parent.now)
+    ensures carried { CarriesTexts GetActionResult settings.now (visible_in pool.now parent.now)
         message.now pool.now contents.old result pool.now contents.new }
 {
     let outcome = get_action_result(
@@ -51,7 +51,7 @@ pub fn update_result(
     message: &[u8],
 ) -> Result<Answer, CallError>
     ensures carried { (parent : List Blob) (p : Slots) →
-        AreContentsInPool settings.now p contents.old → Carries UpdateActionResult settings.now
+        AreContentsInPool settings.now p contents.old → CarriesTexts UpdateActionResult settings.now
         parent message.now p contents.old result p contents.new }
 {
     let outcome = update_action_result(alloc, &settings.name, &mut contents.results, message);

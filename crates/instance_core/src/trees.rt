@@ -5,7 +5,7 @@ ghost use Rattle.blob_pool.specs.Slots.{count_at};
 ghost use Rattle.rpc.specs.declared.method.Method.TheVariants.{GetTree};
 ghost use Rattle.instance_view.specs.Shown.{visible_in, holders};
 ghost use Rattle.instance_core.specs.Contents.{AreContentsInPool};
-ghost use Rattle.instance_core.specs.Carries.{Carries};
+ghost use Rattle.instance_core.specs.Carries.{CarriesTexts};
 
 use crate::answer::{Answer, messages};
 use crate::contents::{Contents, Settings};
@@ -27,7 +27,7 @@ pub fn get_pages(
     requires kept { AreContentsInPool settings.now pool.now contents.old }
     requires beside { (k : ℕ) → holders contents.old.view k + holders parent.now k
         ≤ count_at pool.now k }
-    ensures carried { Carries GetTree settings.now (visible_in pool.now parent.now)
+    ensures carried { CarriesTexts GetTree settings.now (visible_in pool.now parent.now)
         message.now pool.now contents.old result pool.now contents.new }
 {
     let outcome = get_tree(

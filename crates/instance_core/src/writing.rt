@@ -13,6 +13,8 @@ ghost use Rattle.bytestream.specs.Shown.{open_write_shown, written_shown, IfGoes
 ghost use Rattle.instance_core.specs.Calls.{without_call, AreInCourse};
 ghost use Rattle.instance_core.specs.Contents.{AreContentsInPool, AreContentsWithin};
 ghost use Rattle.instance_core.specs.Answer.{final_answer, first_write_answer, next_write_answer, first_message_answer};
+ghost use Rattle.job_queue.specs.Jobs.{Jobs};
+ghost use Rattle.executor.specs.Job.{JobValue};
 ghost use Rattle.instance_core.specs.Shown.{Gives, ChangesCalls, Makes, contents_state, outcome_shown};
 ghost use Rattle.instance_core.specs.ReplyHolders.{result_holders};
 
@@ -122,14 +124,18 @@ pub fn on_first_part(
 ) -> Result<Vec<Reply>, AllocError>
     requires kept { AreContentsInPool settings.now pool.old contents.old }
     requires calls { AreInCourse calls.old }
-    ensures replies { let old = contents_state settings.now pool.old contents.old calls.old
-        in
-        (p : Slots) → Gives p result (first_message_answer old id Write message.now).replies }
+    ensures replies { (jobs : Jobs JobValue) (p : Slots) →
+        let old = contents_state settings.now pool.old contents.old
+        (record { jobs = jobs; calls = calls.old }) in
+        Gives p result (first_message_answer old id Write message.now).replies }
     ensures given { (k : ℕ) → result_holders result k ≡ 0 }
-    ensures changed { let old = contents_state settings.now pool.old contents.old calls.old
-        in
-        let new = contents_state settings.now pool.new contents.new calls.new in
+    ensures changed { (jobs : Jobs JobValue) →
+        let old = contents_state settings.now pool.old contents.old
+        (record { jobs = jobs; calls = calls.old }) in
+        let new = contents_state settings.now pool.new contents.new
+        (record { jobs = jobs; calls = calls.new }) in
         Makes result (first_message_answer old id Write message.now).changes old new }
+    ensures executions { contents.new.executions ≡ contents.old.executions }
     ensures moves { Moves pool.old pool.new (holders contents.old.view)
         (holders contents.new.view) }
     ensures within { AreContentsWithin settings.now pool.new contents.new }

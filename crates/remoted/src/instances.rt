@@ -61,9 +61,16 @@ fn port_of(digits: &str) -> Option<u16> {
     }
 }
 
+/// The most actions that an instance may be asked to run at a time.
+const MOST_SLOTS: u32 = 64;
+
 /// The slots that digits write.
 fn slots_of(digits: &str) -> Option<u32> {
-    u32::try_from(decimal(digits.as_bytes())?).ok()
+    let slots = u32::try_from(decimal(digits.as_bytes())?).ok()?;
+    if slots > MOST_SLOTS {
+        return None;
+    }
+    Some(slots)
 }
 
 /// The port, the quota and the slots.
@@ -84,9 +91,17 @@ fn instance_of(
         return Err(InstancesFault::Bad(place, WordFault::Parts));
     };
     match numbers_of(port, quota, slots) {
-        Ok((port, quota, slots)) => {
+        // Nothing runs actions here yet, so no instance offers to.
+        Ok((port, quota, _slots)) => {
             let name = String::from_str(alloc, name)?;
-            Ok((port, InstanceConfig { name, quota, slots }))
+            Ok((
+                port,
+                InstanceConfig {
+                    name,
+                    quota,
+                    slots: 0,
+                },
+            ))
         }
         Err(fault) => Err(InstancesFault::Bad(place, fault)),
     }

@@ -7,13 +7,26 @@ use Rattle.server_core.specs.Outputs.{InstanceOutputValue}
 use Rattle.server_core.specs.LoneOutput.{lone_output, strays}
 use Rattle.server_events.specs.Configs.{ConfigValue}
 use Rattle.server_events.specs.Events.{EventValue, own_events}
-use Rattle.script.specs.ResultLines.{sent_line, refusal_line, stray_line}
+use Rattle.executor.specs.Orders.{OrderValue, start, kill}
+use Rattle.script.specs.ResultLines.{sent_line, start_line, kill_line, refusal_line, stray_line}
 use Rattle.script.specs.ReplayScript.{ReplayScriptValue, replay_script_of}
 
 -- what an instance put on its connections, in order of opening
 abbrev pub sent_lines : ℕ → List (ℕ × List ℕ) → List ℕ
 sent_lines instance [] = []
 sent_lines instance (sent ∷ rest) = sent_line instance sent.0 sent.1 ++ sent_lines instance rest
+
+-- what an instance ordered of whoever runs jobs, in order: a task is not printed
+abbrev pub order_line_of : ℕ → ℕ → OrderValue → List ℕ
+order_line_of instance place (start job task) = start_line instance place job
+order_line_of instance place (kill job) = kill_line instance place job
+
+abbrev pub order_line : ℕ → (ℕ × OrderValue) → List ℕ
+order_line instance ordered = order_line_of instance ordered.0 ordered.1
+
+abbrev pub order_lines : ℕ → List (ℕ × OrderValue) → List ℕ
+order_lines instance [] = []
+order_lines instance (ordered ∷ rest) = order_line instance ordered ++ order_lines instance rest
 
 -- the events that an instance refused, in order
 abbrev pub refusal_lines : ℕ → List (ℕ × EventRefusal) → List ℕ
@@ -24,7 +37,8 @@ refusal_lines instance (refused ∷ rest) =
 -- what came of an instance's events
 abbrev pub output_lines : ℕ → InstanceOutputValue → List ℕ
 output_lines instance output =
-    sent_lines instance output.sent ++ refusal_lines instance output.refusals
+    sent_lines instance output.sent ++ order_lines instance output.orders
+    ++ refusal_lines instance output.refusals
 
 -- the events of no instance, in order
 abbrev pub stray_lines : List ℕ → List ℕ

@@ -1,11 +1,11 @@
 //! The lines of a run.
 ghost use Rattle.std.specs.Prelude.{◌≡◌, ◌≤◌, ◌<◌, ◌^◌, ◌++◌, length, vec_len, map, OnOk, IfOk};
-ghost use Rattle.server_core.specs.Shown.{sent_shown, refused_shown, instance_output_shown};
-ghost use Rattle.replay.specs.Printed.{sent_lines, refusal_lines, output_lines, stray_lines};
+ghost use Rattle.server_core.specs.Shown.{sent_shown, ordered_shown, refused_shown, instance_output_shown};
+ghost use Rattle.replay.specs.Printed.{sent_lines, order_lines, order_line, refusal_lines, output_lines, stray_lines};
 ghost use Rattle.replay.specs.Outputs.{outputs_lines};
 
-use script::replay_lines::{write_refusal, write_sent, write_stray};
-use server_core::{InstanceOutput, Outputs, RefusedEvent, SentBytes};
+use script::replay_lines::{write_kill, write_refusal, write_sent, write_start, write_stray};
+use server_core::{InstanceOutput, OrderedAt, Outputs, RefusedEvent, RunOrder, SentBytes};
 use std::alloc::{AllocError, Global};
 
 fn write_all_sent(text: &mut Vec<u8>, instance: u32, sent: &[SentBytes]) -> Result<(), AllocError>
@@ -15,6 +15,32 @@ fn write_all_sent(text: &mut Vec<u8>, instance: u32, sent: &[SentBytes]) -> Resu
     let mut left = sent;
     'sent: while let [first, rest @ ..] = left {
         write_sent(text, instance, first.connection, &first.bytes)?;
+        left = rest;
+    }
+    Ok(())
+}
+
+fn write_order(text: &mut Vec<u8>, instance: u32, ordered: &OrderedAt) -> Result<(), AllocError>
+    ensures { OnOk result (text.new.items ≡ text.old.items
+        ++ order_line instance (ordered_shown ordered.now)) }
+{
+    match &ordered.order {
+        RunOrder::Start { job, .. } => write_start(text, instance, ordered.place, *job),
+        RunOrder::Kill { job } => write_kill(text, instance, ordered.place, *job),
+    }
+}
+
+fn write_all_orders(
+    text: &mut Vec<u8>,
+    instance: u32,
+    orders: &[OrderedAt],
+) -> Result<(), AllocError>
+    ensures { OnOk result (text.new.items ≡ text.old.items
+        ++ order_lines instance (map ordered_shown orders.now)) }
+{
+    let mut left = orders;
+    'orders: while let [first, rest @ ..] = left {
+        write_order(text, instance, first)?;
         left = rest;
     }
     Ok(())
@@ -45,6 +71,7 @@ fn write_output(
         ++ output_lines instance (instance_output_shown output.now)) }
 {
     write_all_sent(text, instance, &output.sent)?;
+    write_all_orders(text, instance, &output.orders)?;
     write_all_refused(text, instance, &output.refusals)
 }
 

@@ -78,8 +78,8 @@ fn perform<I: Read, O: Write>(alloc: Global, input: &mut I, output: &mut O) -> R
 }
 
 /// Reads a script of events, runs it on a server of its own, and writes what each instance sent on
-/// its connections and refused, and which events were no instance's. A fault is told in one line on
-/// `errors`. Where a line is bad, nothing is carried out.
+/// its connections, ordered of whoever runs jobs, and refused, and which events were no instance's.
+/// A fault is told in one line on `errors`. Where a line is bad, nothing is carried out.
 pub fn replay<I: Read, O: Write, E: Write>(
     alloc: Global,
     input: &mut I,

@@ -57,7 +57,7 @@ items_owed s t (item ∷ items) p h =
     items_owed s t items (with_item p s item) h ∙ ap (λ is. is ++ cond (s == t) items []) (more_owed p.history p.owed s t item h)
     ∙ cond_more (s == t) (items_owed_on t p.owed) items item
 
-gives_items : (s : ℕ) (items : List Item) (p : Past) → IsAnswerableStream p.history s → Gives (with_items s items) p ((s, items) ∷ [])
+pub gives_items : (s : ℕ) (items : List Item) (p : Past) → IsAnswerableStream p.history s → Gives (with_items s items) p ((s, items) ∷ [])
 gives_items s items p h t = items_owed s t items p h ∙ ap (λ is. items_owed_on t p.owed ++ is) (sym (append-nil (cond (s == t) items [])))
 
 -- ---- what all connections are owed
@@ -122,7 +122,7 @@ abbrev Replies : ℕ → CallEvent → LoneInstance → List GivenItems → Type
 Replies c e l gs = (p : Past) → open_at c l.connections ≡ Some p → IsAnswerable p.history e → Owes gs l
     → HasReplied c (connection_place c l.connections) p.history (gs ++ map (items_of_reply (connection_place c l.connections)) (answer l.state (call_event_on c e)).replies) (after_call_event (call_event_on c e) l)
 
-with_state : (l : LoneInstance) (event : CallEventValue) (gs : List GivenItems) → Owes gs l → Owes gs (record l { state = state_after l.state event })
+pub with_state : (l : LoneInstance) (event : CallEventValue) (gs : List GivenItems) → Owes gs l → Owes gs (record l { state = state_after l.state event })
 with_state l event gs h = record { owed = h.owed; below = h.below }
 
 event_owes : (c : ℕ) (e : CallEvent) (l : LoneInstance) (gs : List GivenItems) → Replies c e l gs

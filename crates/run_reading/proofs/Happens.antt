@@ -27,11 +27,12 @@ use Rattle.conn_core.specs.Past.{Past, new_past, owed_with_items, with_frame, wi
 use Rattle.instance_core.specs.State.{InstanceState, seeing}
 use Rattle.instance_core.specs.Visible.{Blob}
 use Rattle.served_instance.proofs.Losses.{changes_parent}
-use Rattle.instance_core.specs.Calls.{tick as time_passes}
+use Rattle.instance_core.specs.Calls.{CallEventValue, IsShortEvent, tick as time_passes, start_jobs, end_late_jobs, end_job}
 use Rattle.instance_core.specs.Replies.{ReplyValue}
 use Rattle.instance_core.specs.Answer.{answer, state_after}
 use Rattle.server_events.specs.Events.{EventValue, WhatValue, opened, received, took, closed, tick, ended}
 use Rattle.served_instance.specs.declared.refusal.EventRefusal.{EventRefusal}
+use Rattle.served_instance.specs.Narrow.{IsNarrowWhat, IsNarrow}
 use Rattle.served_instance.specs.Connections.{LoneConnection, is_open_at, open_at, at_open, with_closed, at_all_open}
 use Rattle.served_instance.specs.Calls.{call_event_on, owed_items, with_items}
 use Rattle.served_instance.specs.Lone.{LoneInstance, after_replies, after_call_event, after_call_events, due_at, without_due, after_frame_on, is_over, after_frames_on, after_fault_on, after_end_on, unread_frames, after_reading_on, after_bytes_on, after_opening, after_closing, effect_of, lone_at_rest, after_pump, lone_at_moment, after_event, new_lone}
@@ -44,12 +45,13 @@ use Rattle.client_reading.proofs.Choices.{choose, all_append, all_by}
 use Rattle.client_reading.proofs.Pasts.{frames_received}
 use Rattle.served_instance.proofs.Brought.{IsShortCall, short_on, frame_short}
 use Rattle.run_reading.proofs.Connections.{HasPast, ArePasts}
-use Rattle.run_reading.specs.Happenings.{Happening, MomentCame, TimePassed, connection_place, call_happenings, due_happenings, answer_happenings, request_happenings, frame_happenings, happenings_of_frames, fault_happenings, end_happenings, reading_happenings, happenings_of_bytes, close_happenings, happenings_by, happenings_unless, step_happenings, happenings, RequestAnswered, CallEventCame}
+use Rattle.run_reading.specs.Happenings.{Happening, MomentCame, TimePassed, connection_place, call_happenings, due_happenings, answer_happenings, request_happenings, frame_happenings, happenings_of_frames, fault_happenings, end_happenings, reading_happenings, happenings_of_bytes, close_happenings, happenings_by, happenings_unless, step_happenings, happenings, RequestAnswered, CallEventCame, JobsTurned, place_of_call, turn_happenings}
 use Rattle.run_reading.specs.Replies.{GivenItems, given_items_at, state_after_happening, given_items_from}
-use Rattle.run_reading.proofs.Lifts.{frame_made, fault_made, acted_made, pumped_made, bytes_made, all_drop}
+use Rattle.run_reading.proofs.Lifts.{frame_made, fault_made, happened_made, acted_made, pumped_made, bytes_made, all_drop}
 use Rattle.run_reading.proofs.Owes.{OwedFrom, Gift, give, gifts_on, Gives, AreBelow, all_owed, closed_owed, opened_owed, below_more, all_length, closed_length, open_step, none_open, open_has}
 use Rattle.run_reading.proofs.Named.{IsShortHappening}
-use Rattle.run_reading.proofs.Calls.{more_owed, items_due, Owes, owes_step, owes_quiet, due_is, calls_state, due_owes, IsCancel, cancels_owe}
+use Rattle.run_reading.proofs.Calls.{more_owed, items_due, Owes, owes_step, owes_quiet, happened_state, with_state, due_is, calls_state, due_owes, IsCancel, cancels_owe}
+use Rattle.run_reading.proofs.Turns.{turn_given, turn_owes}
 
 -- ---- no event of a call is left over
 
@@ -94,11 +96,11 @@ pub record Holds (gs : List GivenItems) (l : LoneInstance) : Type 0 where
   pub due : AreNoneDue l.connections
 
 -- what happened leads from one to the other
-pub record Moves (l : LoneInstance) (hs : List Happening) (m : LoneInstance) : Type 0 where
+pub record Moves (N : Type 0) (l : LoneInstance) (hs : List Happening) (m : LoneInstance) : Type 0 where
   pub state : m.state ≡ fold state_after_happening l.state hs
   pub holds : (gs : List GivenItems) → Holds gs l → Holds (gs ++ given_items_from l.state hs) m
-  -- no message that comes is too long
-  pub short : (gs : List GivenItems) → Holds gs l → AllByRecursion IsShortHappening hs
+  -- no message that comes is too long, where the outcomes of jobs are such
+  pub short : N → (gs : List GivenItems) → Holds gs l → AllByRecursion IsShortHappening hs
 
 -- the same connections are owed the same
 holds_at : (gs : List GivenItems) (l m : LoneInstance) → m.connections ≡ l.connections → Holds gs l → Holds gs m
@@ -114,7 +116,7 @@ given_append s (h ∷ hs) ks =
     ap (λ (gs : List GivenItems). given_items_at s h ++ gs) (given_append (state_after_happening s h) hs ks)
     ∙ sym (append_assoc (given_items_at s h) (given_items_from (state_after_happening s h) hs) (given_items_from (fold state_after_happening (state_after_happening s h) hs) ks))
 
-then_moves : (l m n : LoneInstance) (hs ks : List Happening) → Moves l hs m → Moves m ks n → Moves l (hs ++ ks) n
+then_moves : {N : Type 0} (l m n : LoneInstance) (hs ks : List Happening) → Moves N l hs m → Moves N m ks n → Moves N l (hs ++ ks) n
 then_moves l m n hs ks first later = record {
   state = later.state ∙ ap (λ (s : InstanceState). fold state_after_happening s ks) first.state ∙ sym (fold-append state_after_happening l.state hs ks);
   holds = λ gs h.
@@ -123,12 +125,12 @@ then_moves l m n hs ks first later = record {
       ∙ append_assoc gs (given_items_from l.state hs) (given_items_from (fold state_after_happening l.state hs) ks)
       ∙ ap (λ (xs : List GivenItems). gs ++ xs) (sym (given_append l.state hs ks)) in
       subst (λ (xs : List GivenItems). Holds xs n) given (later.holds (gs ++ given_items_from l.state hs) (first.holds gs h));
-  short = λ gs h. all_append IsShortHappening hs ks (first.short gs h) (later.short (gs ++ given_items_from l.state hs) (first.holds gs h));
+  short = λ narrow gs h. all_append IsShortHappening hs ks (first.short narrow gs h) (later.short narrow (gs ++ given_items_from l.state hs) (first.holds gs h));
 }
 
 -- a step in which nothing is answered
-quietly : (l m : LoneInstance) → m.state ≡ l.state → ((gs : List GivenItems) → Holds gs l → Holds gs m) → Moves l [] m
-quietly l m same keeps = record { state = same; holds = λ gs h. subst (λ (xs : List GivenItems). Holds xs m) (sym (append-nil gs)) (keeps gs h); short = λ gs h. tt }
+quietly : {N : Type 0} (l m : LoneInstance) → m.state ≡ l.state → ((gs : List GivenItems) → Holds gs l → Holds gs m) → Moves N l [] m
+quietly l m same keeps = record { state = same; holds = λ gs h. subst (λ (xs : List GivenItems). Holds xs m) (sym (append-nil gs)) (keeps gs h); short = λ n gs h. tt }
 
 -- ---- no message is too long
 
@@ -217,7 +219,7 @@ frame_is_short c f l p is none =
     let calls : AllByRecursion IsShortCall (due_at c m) = subst (AllByRecursion IsShortCall) (sym (due_is c m (with_frame p f) (open_step c step l.connections p is))) due in
     all_append IsShortHappening (request_happenings c f l) (due_happenings c m) requests (calls_short (connection_place c m.connections) c (due_at c m) calls)
 
-frame_moves : (c : ℕ) (f : RawFrame) (l : LoneInstance) (p : Past) → open_at c l.connections ≡ Some p → has_failed p.history ≡ false → IsReceivable f → Moves l (frame_happenings c f l) (after_frame_on c f l)
+frame_moves : {N : Type 0} (c : ℕ) (f : RawFrame) (l : LoneInstance) (p : Past) → open_at c l.connections ≡ Some p → has_failed p.history ≡ false → IsReceivable f → Moves N l (frame_happenings c f l) (after_frame_on c f l)
 frame_moves c f l p is fine framed = record {
   state = frame_state c f l p is;
   holds = λ gs h. record {
@@ -225,7 +227,7 @@ frame_moves c f l p is fine framed = record {
     pasts = frame_made c f l framed h.pasts;
     due = calls_due c (due_at c (record l { connections = at_open c (λ r. with_frame r f) l.connections })) (record l { connections = at_open c without_due (at_open c (λ r. with_frame r f) l.connections) }) (taken_due c (λ r. with_frame r f) l.connections h.due);
   };
-  short = λ gs h. frame_is_short c f l p is (open_has (λ (q : Past). q.due ≡ []) c l.connections p is h.due);
+  short = λ narrow gs h. frame_is_short c f l p is (open_has (λ (q : Past). q.due ≡ []) c l.connections p is h.due);
 }
 
 -- a connection that is not over is open, and has met no error
@@ -240,7 +242,7 @@ goes_on c l h = found (open_at c l.connections) refl h where
   found None is h = cc
   found (Some p) is h = record { past = p; is = is; fine = h }
 
-frames_move : (c : ℕ) (fs : List RawFrame) (l : LoneInstance) → AllByRecursion IsReceivable fs → Moves l (happenings_of_frames c fs l) (after_frames_on c fs l)
+frames_move : {N : Type 0} (c : ℕ) (fs : List RawFrame) (l : LoneInstance) → AllByRecursion IsReceivable fs → Moves N l (happenings_of_frames c fs l) (after_frames_on c fs l)
 frames_move c [] l all = quietly l l refl (λ gs h. h)
 frames_move c (f ∷ fs) l all = elim (cases_Bool (is_over c l)) [
   | inl over ↦ rw over (quietly l l refl (λ gs h. h))
@@ -270,7 +272,7 @@ fault_due c e code l h = found (open_at c l.connections) refl where
   found None is = subst (λ (o : Option Past). AllByRecursion IsCancel (option_map_or (λ (q : Past). q.due) o [])) (sym (none_open c step l.connections is)) tt
   found (Some p) is = subst (λ (o : Option Past). AllByRecursion IsCancel (option_map_or (λ (q : Past). q.due) o [])) (sym (open_step c step l.connections p is)) (fault_cancels p e code (open_has (λ (q : Past). q.due ≡ []) c l.connections p is h))
 
-fault_moves : (c : ℕ) (e : FrameError) (l : LoneInstance) (o : Option ErrorCode) → reading_fault e ≡ o → Moves l (fault_happenings c e l o) (after_fault_on c e l o)
+fault_moves : {N : Type 0} (c : ℕ) (e : FrameError) (l : LoneInstance) (o : Option ErrorCode) → reading_fault e ≡ o → Moves N l (fault_happenings c e l o) (after_fault_on c e l o)
 fault_moves c e l None is = quietly l l refl (λ gs h. h)
 fault_moves c e l (Some code) is =
     let step : Past → Past = λ p. with_fault p e code in
@@ -283,17 +285,17 @@ fault_moves c e l (Some code) is =
         pasts = fault_made c e l (Some code) is h.pasts;
         due = calls_due c (due_at c m) due (taken_due c step l.connections h.due);
       };
-      short = λ gs h. cancels_are_short (connection_place c m.connections) c (due_at c m) (fault_due c e code l h.due);
+      short = λ narrow gs h. cancels_are_short (connection_place c m.connections) c (due_at c m) (fault_due c e code l h.due);
     }
 
-end_moves : (c : ℕ) (r : Result (List ℕ) FrameError) (l : LoneInstance) → Moves l (end_happenings c r l) (after_end_on c r l)
+end_moves : {N : Type 0} (c : ℕ) (r : Result (List ℕ) FrameError) (l : LoneInstance) → Moves N l (end_happenings c r l) (after_end_on c r l)
 end_moves c (Ok rest) l = quietly l l refl (λ gs h. h)
 end_moves c (Err e) l = elim (cases_Bool (is_over c l)) [
   | inl over ↦ rw over (quietly l l refl (λ gs h. h))
   | inr fine ↦ rw fine (fault_moves c e l (reading_fault e) refl)
 ]
 
-all_move : (c : ℕ) (l : LoneInstance) (o : Option Past) → Moves l (reading_happenings c l o) (after_reading_on c l o)
+all_move : {N : Type 0} (c : ℕ) (l : LoneInstance) (o : Option Past) → Moves N l (reading_happenings c l o) (after_reading_on c l o)
 all_move c l None = quietly l l refl (λ gs h. h)
 all_move c l (Some p) =
     let m : LoneInstance = after_frames_on c (unread_frames p) l in
@@ -301,16 +303,17 @@ all_move c l (Some p) =
     let framed : AllByRecursion IsReceivable (unread_frames p) = all_drop (length (received_raw_frames p.history)) (split CLIENT_PREFACE.now p.text).items (frames_received CLIENT_PREFACE.now p.text) in
     then_moves l m (after_end_on c end m) (happenings_of_frames c (unread_frames p) l) (end_happenings c end m) (frames_move c (unread_frames p) l framed) (end_moves c end m)
 
-came_moves : (c : ℕ) (bytes : List ℕ) (l : LoneInstance) → Moves l (happenings_of_bytes c bytes l) (after_bytes_on c bytes l)
+came_moves : {N : Type 0} (c : ℕ) (bytes : List ℕ) (l : LoneInstance) → Moves N l (happenings_of_bytes c bytes l) (after_bytes_on c bytes l)
 came_moves c bytes l =
     let step : Past → Past = with_bytes bytes in
     let m : LoneInstance = record l { connections = at_open c step l.connections } in
-    let fed : Moves l [] m = quietly l m refl (λ gs h. record { owes = owes_quiet c step gs l (λ p. refl) h.owes; pasts = bytes_made c bytes l h.pasts; due = quiet_due c step l.connections (λ p. refl) h.due }) in
-    then_moves l m (after_bytes_on c bytes l) [] (happenings_of_bytes c bytes l) fed (all_move c m (open_at c m.connections))
+    then_moves l m (after_bytes_on c bytes l) [] (happenings_of_bytes c bytes l)
+    (quietly l m refl (λ gs h. record { owes = owes_quiet c step gs l (λ p. refl) h.owes; pasts = bytes_made c bytes l h.pasts; due = quiet_due c step l.connections (λ p. refl) h.due }))
+    (all_move c m (open_at c m.connections))
 
 -- ---- the other events
 
-opened_moves : (c : ℕ) (l : LoneInstance) → Moves l [] (after_opening c l)
+opened_moves : {N : Type 0} (c : ℕ) (l : LoneInstance) → Moves N l [] (after_opening c l)
 opened_moves c l =
     let k : LoneConnection = record { number = c; past = new_past; is_open = true } in
     quietly l (after_opening c l) refl (λ gs h. record {
@@ -322,7 +325,7 @@ opened_moves c l =
       due = all_append HasNoneDue l.connections (k ∷ []) h.due (refl, tt);
     })
 
-took_moves : (c n : ℕ) (l : LoneInstance) → Moves l [] (effect_of (took c n) l)
+took_moves : {N : Type 0} (c n : ℕ) (l : LoneInstance) → Moves N l [] (effect_of (took c n) l)
 took_moves c n l = quietly l (effect_of (took c n) l) refl (λ gs h. record {
   owes = owes_quiet c (λ p. with_taken p n) gs l (λ p. refl) h.owes;
   pasts = acted_made (took c n) l h.pasts;
@@ -335,7 +338,7 @@ close_cancels c l = found (open_at c l.connections) where
   found None = tt
   found (Some p) = cancels_all p.history
 
-closed_moves : (c : ℕ) (l : LoneInstance) → Moves l (close_happenings c l) (after_closing c l)
+closed_moves : {N : Type 0} (c : ℕ) (l : LoneInstance) → Moves N l (close_happenings c l) (after_closing c l)
 closed_moves c l =
     let m : LoneInstance = record l { connections = with_closed c l.connections } in
     let es : List CallEvent = option_map_or (λ (p : Past). cancels p.history) (open_at c l.connections) [] in
@@ -348,34 +351,55 @@ closed_moves c l =
             pasts = acted_made (closed c) l h.pasts;
             due = calls_due c es m (closed_due c l.connections h.due);
           };
-      short = λ gs h. cancels_are_short (connection_place c l.connections) c es (close_cancels c l);
+      short = λ narrow gs h. cancels_are_short (connection_place c l.connections) c es (close_cancels c l);
     }
 
 -- what answers nothing gives nothing
-unanswered : (l m : LoneInstance) (h : Happening) → m.state ≡ state_after_happening l.state h → given_items_at l.state h ≡ [] → IsShortHappening h → m.connections ≡ l.connections → Moves l (h ∷ []) m
+unanswered : {N : Type 0} (l m : LoneInstance) (h : Happening) → m.state ≡ state_after_happening l.state h → given_items_at l.state h ≡ [] → IsShortHappening h → m.connections ≡ l.connections → Moves N l (h ∷ []) m
 unanswered l m h state none short same = record {
   state = state;
   holds = λ gs holds.
       let given : gs ++ given_items_from l.state (h ∷ []) ≡ gs = ap (λ (xs : List GivenItems). gs ++ (xs ++ [])) none ∙ append-nil gs in
       subst (λ (xs : List GivenItems). Holds xs m) (sym given) (holds_at gs l m same holds);
-  short = λ gs holds. (short, tt);
+  short = λ narrow gs holds. (short, tt);
 }
 
-tick_moves : (l : LoneInstance) → Moves l (TimePassed ∷ []) (after_call_event time_passes l)
-tick_moves l = unanswered l (after_call_event time_passes l) TimePassed refl refl tt refl
-
-came_moves_at : (moment : ℕ) (l : LoneInstance) → Moves l (MomentCame moment ∷ []) (lone_at_moment moment [] l)
+came_moves_at : {N : Type 0} (moment : ℕ) (l : LoneInstance) → Moves N l (MomentCame moment ∷ []) (lone_at_moment moment [] l)
 came_moves_at moment l = unanswered l (lone_at_moment moment [] l) (MomentCame moment) refl refl tt refl
 
-what_moves : (w : WhatValue) (l : LoneInstance) → Moves l (happenings_by w l) (effect_of w l)
+-- ---- jobs
+
+turn_moves : {N : Type 0} (event : CallEventValue) (l : LoneInstance) → (N → IsShortEvent event) → Moves N l (turn_happenings event l) (after_call_event event l)
+turn_moves event l short =
+    let rs : List ReplyValue = (answer l.state event).replies in
+    let m : LoneInstance = record l { state = state_after l.state event } in
+    record {
+      state = happened_state event l;
+      holds = λ gs h.
+          let given : turn_given (place_of_call l.connections) rs ≡ given_items_from l.state (turn_happenings event l) = sym (append-nil (turn_given (place_of_call l.connections) rs)) in
+          record {
+            owes = subst (λ (xs : List GivenItems). Owes (gs ++ xs) (after_call_event event l)) given (turn_owes rs m gs (with_state l event gs h.owes));
+            pasts = happened_made event l h.pasts;
+            due = replied_due rs m h.due;
+          };
+      short = λ narrow gs h. (short narrow, tt);
+    }
+
+-- ---- all events
+
+what_moves : (w : WhatValue) (l : LoneInstance) → Moves (IsNarrowWhat w) l (happenings_by w l) (effect_of w l)
 what_moves (opened c) l = opened_moves c l
-what_moves (received c bytes) l = came_moves c bytes l
+what_moves (received c bytes) l =
+    let m : LoneInstance = after_bytes_on c bytes l in
+    then_moves l m (after_call_event start_jobs m) (happenings_of_bytes c bytes l) (turn_happenings start_jobs m) (came_moves c bytes l) (turn_moves start_jobs m (λ narrow. tt))
 what_moves (took c n) l = took_moves c n l
 what_moves (closed c) l = closed_moves c l
-what_moves tick l = tick_moves l
-what_moves (ended job outcome) l = quietly l l refl (λ gs h. h)
+what_moves tick l =
+    let m : LoneInstance = after_call_event time_passes l in
+    then_moves l m (after_call_event end_late_jobs m) (TimePassed ∷ []) (turn_happenings end_late_jobs m) (unanswered l m TimePassed refl refl tt refl) (turn_moves end_late_jobs m (λ narrow. tt))
+what_moves (ended job outcome) l = turn_moves (end_job job outcome) l (λ narrow. narrow)
 
-pumped_moves : (l : LoneInstance) → Moves l [] (after_pump l)
+pumped_moves : {N : Type 0} (l : LoneInstance) → Moves N l [] (after_pump l)
 pumped_moves l = quietly l (after_pump l) refl (λ gs h. record {
   owes = record { owed = all_owed 0 with_pumped gs l.connections (λ p. refl) h.owes.owed; below = subst (λ (n : ℕ). AreBelow n gs) (sym (all_length with_pumped l.connections)) h.owes.below };
   pasts = pumped_made l h.pasts;
@@ -388,39 +412,48 @@ happening_reads_none s (MomentCame moment) none = refl
 happening_reads_none s TimePassed none = changes_parent (answer s time_passes).changes s ∙ none
 happening_reads_none s (RequestAnswered place stream item) none = none
 happening_reads_none s (CallEventCame place event) none = changes_parent (answer s event).changes s ∙ none
+happening_reads_none s (JobsTurned places event) none = changes_parent (answer s event).changes s ∙ none
 
 happenings_read_none : (hs : List Happening) (s : InstanceState) → s.parent ≡ [] → (fold state_after_happening s hs).parent ≡ []
 happenings_read_none [] s none = none
 happenings_read_none (h ∷ hs) s none = happenings_read_none hs (state_after_happening s h) (happening_reads_none s h none)
 
 -- behind the event the instance is at rest
-rest_moves : (l : LoneInstance) → l.state.parent ≡ [] → Moves l [] (lone_at_rest l)
+rest_moves : {N : Type 0} (l : LoneInstance) → l.state.parent ≡ [] → Moves N l [] (lone_at_rest l)
 rest_moves l none = quietly l (lone_at_rest l) (ap (λ (bs : List Blob). seeing bs l.state) (sym none)) (λ gs h. holds_at gs l (lone_at_rest l) refl h)
 
-accepted_moves : (e : EventValue) (l : LoneInstance) → Moves l (MomentCame e.moment ∷ happenings_by e.what (lone_at_moment e.moment [] l)) (after_event [] e l)
+accepted_moves : (e : EventValue) (l : LoneInstance) → Moves (IsNarrow e) l (MomentCame e.moment ∷ happenings_by e.what (lone_at_moment e.moment [] l)) (after_event [] e l)
 accepted_moves e l =
     let at : LoneInstance = lone_at_moment e.moment [] l in
     let after : LoneInstance = effect_of e.what at in
     let rest : LoneInstance = lone_at_rest after in
     let hs : List Happening = happenings_by e.what at in
-    let moved : Moves at hs after = what_moves e.what at in
+    let moved : Moves (IsNarrow e) at hs after = what_moves e.what at in
     let none : after.state.parent ≡ [] = ap (λ (s : InstanceState). s.parent) moved.state ∙ happenings_read_none hs at.state refl in
-    let ended : Moves after [] (after_event [] e l) = then_moves after rest (after_event [] e l) [] [] (rest_moves after none) (pumped_moves rest) in
-    let all : Moves l (MomentCame e.moment ∷ (hs ++ [])) (after_event [] e l) = then_moves l at (after_event [] e l) (MomentCame e.moment ∷ []) (hs ++ []) (came_moves_at e.moment l) (then_moves at after (after_event [] e l) hs [] moved ended) in
-    subst (λ (ks : List Happening). Moves l (MomentCame e.moment ∷ ks) (after_event [] e l)) (append-nil hs) all
+    let ended : Moves (IsNarrow e) after [] (after_event [] e l) = then_moves after rest (after_event [] e l) [] [] (rest_moves after none) (pumped_moves rest) in
+    let all : Moves (IsNarrow e) l (MomentCame e.moment ∷ (hs ++ [])) (after_event [] e l) = then_moves l at (after_event [] e l) (MomentCame e.moment ∷ []) (hs ++ []) (came_moves_at e.moment l) (then_moves at after (after_event [] e l) hs [] moved ended) in
+    subst (λ (ks : List Happening). Moves (IsNarrow e) l (MomentCame e.moment ∷ ks) (after_event [] e l)) (append-nil hs) all
 
-unless_moves : (e : EventValue) (l : LoneInstance) (o : Option EventRefusal) → Moves l (happenings_unless e l o) (after_event_unless [] e l o)
+unless_moves : (e : EventValue) (l : LoneInstance) (o : Option EventRefusal) → Moves (IsNarrow e) l (happenings_unless e l o) (after_event_unless [] e l o)
 unless_moves e l None = accepted_moves e l
 unless_moves e l (Some refusal) = quietly l l refl (λ gs h. h)
 
-pub step_moves : (e : EventValue) (l : LoneInstance) → Moves l (step_happenings e l) (lone_step [] e l)
+pub step_moves : (e : EventValue) (l : LoneInstance) → Moves (IsNarrow e) l (step_happenings e l) (lone_step [] e l)
 step_moves e l = unless_moves e l (refusal_of e l)
 
 -- ---- a run
 
-pub run_moves : (r : Run) (es : List EventValue) → Moves r.lone (happenings r.lone es) (fold run_step r es).lone
+where_narrow : {M N : Type 0} (l m : LoneInstance) (hs : List Happening) → (M → N) → Moves N l hs m → Moves M l hs m
+where_narrow l m hs narrow h = record { state = h.state; holds = h.holds; short = λ n. h.short (narrow n) }
+
+pub run_moves : (r : Run) (es : List EventValue) → Moves (AllByRecursion IsNarrow es) r.lone (happenings r.lone es) (fold run_step r es).lone
 run_moves r [] = quietly r.lone r.lone refl (λ gs h. h)
-run_moves r (e ∷ es) = then_moves r.lone (lone_step [] e r.lone) (fold run_step (run_step r e) es).lone (step_happenings e r.lone) (happenings (lone_step [] e r.lone) es) (step_moves e r.lone) (run_moves (run_step r e) es)
+run_moves r (e ∷ es) =
+    let next : LoneInstance = lone_step [] e r.lone in
+    let last : LoneInstance = (fold run_step (run_step r e) es).lone in
+    then_moves r.lone next last (step_happenings e r.lone) (happenings next es)
+    (where_narrow r.lone next (step_happenings e r.lone) (λ narrow. narrow.0) (step_moves e r.lone))
+    (where_narrow next last (happenings next es) (λ narrow. narrow.1) (run_moves (run_step r e) es))
 
 pub first_holds : (name : List ℕ) (quota slots : ℕ) → Holds [] (new_lone name quota slots)
 first_holds name quota slots = record { owes = record { owed = tt; below = tt }; pasts = tt; due = tt }

@@ -10,13 +10,13 @@ use Rattle.conn_core.proofs.Numbers.{same_number}
 use Rattle.instance_core.specs.Replies.{ReplyItemValue, begins, says, gives, ends, refuses, ReplyValue, IsShortReplyItem, IsShortReply}
 use Rattle.instance_core.specs.Answer.{answer}
 use Rattle.instance_core.specs.State.{InstanceState, IsInstanceWithin}
-use Rattle.instance_core.proofs.Events.{replies_short}
+use Rattle.instance_core.proofs.Events.{answers_short}
 use Rattle.served_instance.specs.Calls.{item_of, owed_items}
 use Rattle.client_reading.specs.Responses.{WholeMessage, IsPartWithin, messages_cut, read_messages, IsItemWithin, IsTakable}
 use Rattle.client_reading.proofs.Choices.{choose, all_append}
 use Rattle.run_reading.specs.Happenings.{Happening}
-use Rattle.run_reading.specs.Replies.{GivenItems, items_of_reply, given_items_from, items_given, items_on, longest_message}
-use Rattle.run_reading.proofs.Named.{IsShortItem, IsShortHappening, all_given}
+use Rattle.run_reading.specs.Replies.{GivenItems, given_items_from, items_given, items_on, longest_message}
+use Rattle.run_reading.proofs.Named.{IsShortItem, IsShortHappening, HasItems, all_given}
 
 at_most : (n m : ℕ) → n < 2 ^ 32 → 2 ^ 32 ≡ suc m → n ≤ m
 at_most n m small is = omega (arith, is, small)
@@ -77,12 +77,12 @@ reply_items_within : (items : List ReplyItemValue) → AllByRecursion IsShortRep
 reply_items_within [] h = tt
 reply_items_within (item ∷ items) h = (reply_item_within item h.0, reply_items_within items h.1)
 
-replies_within : (place : ℕ) (rs : List ReplyValue) → AllByRecursion IsShortReply rs → AreWithin (map (items_of_reply place) rs)
-replies_within place [] h = tt
-replies_within place (r ∷ rs) h = (reply_items_within r.items h.0, replies_within place rs h.1)
+replies_within : (rs : List ReplyValue) → AllByRecursion IsShortReply rs → AllByRecursion (HasItems (IsItemWithin longest_message)) rs
+replies_within [] h = tt
+replies_within (r ∷ rs) h = (reply_items_within r.items h.0, replies_within rs h.1)
 
 pub given_within : (s : InstanceState) (hs : List Happening) → AllByRecursion IsShortHappening hs → IsInstanceWithin s → AreWithin (given_items_from s hs)
-given_within s hs short w = all_given (IsItemWithin longest_message) item_within (λ place t event v. replies_within place (answer t event).replies (replies_short t event v)) s hs short w
+given_within s hs short w = all_given (IsItemWithin longest_message) item_within (λ t event e v. replies_within (answer t event).replies (answers_short t event e v)) s hs short w
 
 pub items_within : (place s : ℕ) (gs : List GivenItems) → AreWithin gs → AllByRecursion (IsItemWithin longest_message) (items_on place s gs)
 items_within place s [] h = tt

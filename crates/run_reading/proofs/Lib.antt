@@ -3,6 +3,7 @@ pub mod Lifts
 pub mod Owes
 pub mod Answers
 pub mod Calls
+pub mod Turns
 pub mod Named
 pub mod Lengths
 pub mod Happens

@@ -14,7 +14,7 @@ use Rattle.conn_core.specs.declared.event.CallEvent.{CallEvent}
 use Rattle.conn_core.specs.Received.{received_raw_frames}
 use Rattle.conn_core.specs.Calls.{cancels}
 use Rattle.conn_core.specs.Past.{Past, new_past, with_frame, with_fault, with_item, with_taken, with_pumped, with_bytes}
-use Rattle.instance_core.specs.Calls.{CallEventValue}
+use Rattle.instance_core.specs.Calls.{CallEventValue, tick as time_passes, start_jobs, end_late_jobs, end_job}
 use Rattle.instance_core.specs.Replies.{ReplyValue}
 use Rattle.instance_core.specs.Answer.{answer, state_after}
 use Rattle.server_events.specs.Events.{EventValue, WhatValue, opened, received, took, closed, tick, ended}
@@ -60,7 +60,7 @@ replied_made (r ∷ rs) l h =
     replied_made rs (record l { connections = at_open r.call.connection (with_items r.call.stream (owed_items r.items)) l.connections })
     (at_open_made r.call.connection (with_items r.call.stream (owed_items r.items)) l.connections (items_made r.call.stream (owed_items r.items)) h)
 
-happened_made : (event : CallEventValue) (l : LoneInstance) → ArePasts l → ArePasts (after_call_event event l)
+pub happened_made : (event : CallEventValue) (l : LoneInstance) → ArePasts l → ArePasts (after_call_event event l)
 happened_made event l h = replied_made (answer l.state event).replies (record l { state = state_after l.state event }) h
 
 all_happened_made : (c : ℕ) (es : List CallEvent) (l : LoneInstance) → ArePasts l → ArePasts (after_call_events c es l)
@@ -107,11 +107,11 @@ came_made c bytes l h =
 
 pub acted_made : (w : WhatValue) (l : LoneInstance) → ArePasts l → ArePasts (effect_of w l)
 acted_made (opened c) l h = all_append (λ (k : LoneConnection). IsPast k.past) l.connections (record { number = c; past = new_past; is_open = true } ∷ []) h (first_past, tt)
-acted_made (received c bytes) l h = came_made c bytes l h
+acted_made (received c bytes) l h = happened_made start_jobs (after_bytes_on c bytes l) (came_made c bytes l h)
 acted_made (took c n) l h = at_open_made c (λ p. with_taken p n) l.connections (λ p k. next_past p (BytesTaken n) tt k) h
 acted_made (closed c) l h = all_happened_made c (option_map_or (λ (p : Past). cancels p.history) (open_at c l.connections) []) (record l { connections = with_closed c l.connections }) (closed_made c l.connections h)
-acted_made tick l h = h
-acted_made (ended job outcome) l h = h
+acted_made tick l h = happened_made end_late_jobs (after_call_event time_passes l) h
+acted_made (ended job outcome) l h = happened_made (end_job job outcome) l h
 
 pub pumped_made : (l : LoneInstance) → ArePasts l → ArePasts (after_pump l)
 pumped_made l h = all_open_made with_pumped l.connections (λ p k. next_past p FramesPut tt k) h

@@ -23,6 +23,7 @@ use Rattle.conn_core.specs.Past.{Past, new_past, with_item, with_frame, with_fau
 use Rattle.conn_core.specs.Received.{received_raw_frames, raw_in, outcome, fault_frames}
 use Rattle.conn_core.proofs.Answered.{raw_after}
 use Rattle.conn_core.proofs.Events.{raw_out, raw_took}
+use Rattle.instance_core.specs.Calls.{CallEventValue, tick as time_passes, start_jobs, end_late_jobs, end_job}
 use Rattle.instance_core.specs.Replies.{ReplyValue}
 use Rattle.instance_core.specs.Answer.{answer, state_after}
 use Rattle.server_events.specs.Events.{EventValue, WhatValue, opened, received, took, closed, tick, ended}
@@ -83,9 +84,12 @@ replied_read : (rs : List ReplyValue) (l : LoneInstance) → AllRead l.connectio
 replied_read [] l h = h
 replied_read (r ∷ rs) l h = replied_read rs (record l { connections = at_open r.call.connection (with_items r.call.stream (owed_items r.items)) l.connections }) (quiet_read r.call.connection (with_items r.call.stream (owed_items r.items)) l.connections (items_text r.call.stream r) h)
 
+happened_read : (event : CallEventValue) (l : LoneInstance) → AllRead l.connections → AllRead (after_call_event event l).connections
+happened_read event l h = replied_read (answer l.state event).replies (record l { state = state_after l.state event }) h
+
 calls_read : (c : ℕ) (es : List CallEvent) (l : LoneInstance) → AllRead l.connections → AllRead (after_call_events c es l).connections
 calls_read c [] l h = h
-calls_read c (e ∷ es) l h = calls_read c es (after_call_event (call_event_on c e) l) (replied_read (answer l.state (call_event_on c e)).replies (record l { state = state_after l.state (call_event_on c e) }) h)
+calls_read c (e ∷ es) l h = calls_read c es (after_call_event (call_event_on c e) l) (happened_read (call_event_on c e) l h)
 
 due_read : (c : ℕ) (l : LoneInstance) → AllRead l.connections → AllRead (after_due_on c l).connections
 due_read c l h = calls_read c (due_at c l) (record l { connections = at_open c without_due l.connections }) (quiet_read c without_due l.connections (λ p. refl) h)
@@ -215,11 +219,11 @@ first_read = ((split CLIENT_PREFACE.now []).items, refl)
 
 acted_reads : (w : WhatValue) (l : LoneInstance) → AllRead l.connections → AllRead (effect_of w l).connections
 acted_reads (opened c) l h = all_append (λ (k : LoneConnection). ReadsText k.past) l.connections (record { number = c; past = new_past; is_open = true } ∷ []) h (first_read, tt)
-acted_reads (received c bytes) l h = came_reads c bytes l h
+acted_reads (received c bytes) l h = happened_read start_jobs (after_bytes_on c bytes l) (came_reads c bytes l h)
 acted_reads (took c n) l h = step_read c (λ p. with_taken p n) l.connections (λ p is reads. same_frames p.history (with_taken p n).history p.text (raw_took p.history n) reads) h
 acted_reads (closed c) l h = calls_read c (option_map_or (λ (p : Past). cancels p.history) (open_at c l.connections) []) (record l { connections = with_closed c l.connections }) (closed_read c l.connections h)
-acted_reads tick l h = h
-acted_reads (ended job outcome) l h = h
+acted_reads tick l h = happened_read end_late_jobs (after_call_event time_passes l) h
+acted_reads (ended job outcome) l h = happened_read (end_job job outcome) l h
 
 pumped_raw : (d : List Entry) (os : List OwedItem) → received_raw_frames (history_after_pump d os) ≡ received_raw_frames d
 pumped_raw d os = pump_keeps (λ (e : List Entry). received_raw_frames e ≡ received_raw_frames d) os (λ e fs next same. raw_out e fs ∙ same) d refl

@@ -1,11 +1,13 @@
 -- What happens in a run that matters to answers: moments come, time passes, requests come that are
 -- no calls, and events of calls, in order. Each definition here goes beside one of Lone.antt of
 -- served_instance, whose steps it follows, and lists what happens in it.
-use Rattle.std.specs.Prelude.{ℕ, suc, if◌then◌else◌, List, [], ◌∷◌, ◌++◌, map, Option, Some, None, Result, Ok, Err}
+use Rattle.std.specs.Prelude.{ℕ, Bool, false, not, ◌&&◌, ◌==◌, suc, if◌then◌else◌, List, [], ◌∷◌, ◌++◌, map, Option, Some, None, Result, Ok, Err}
+use Rattle.std.specs.List.{list_any}
 use Rattle.std.specs.Option.{option_map_or}
 use Rattle.conn_core.specs.ReaderConstants.{CLIENT_PREFACE}
 use Rattle.conn_core.specs.ErrorCode.{ErrorCode}
 use Rattle.conn_core.specs.FrameError.{FrameError}
+use Rattle.conn_core.specs.History.{has_failed, live_streams}
 use Rattle.conn_core.specs.RawFrame.{RawFrame}
 use Rattle.conn_core.specs.Reading.{split}
 use Rattle.conn_core.specs.Rules.{reading_fault}
@@ -14,12 +16,13 @@ use Rattle.conn_core.specs.declared.event.CallEvent.{CallEvent}
 use Rattle.conn_core.specs.Calls.{cancels, items_at_once}
 use Rattle.conn_core.specs.Received.{outcome}
 use Rattle.conn_core.specs.Past.{Past, with_frame, with_fault, with_bytes}
-use Rattle.instance_core.specs.Calls.{CallEventValue}
+use Rattle.instance_core.specs.declared.event.CallId.{CallId}
+use Rattle.instance_core.specs.Calls.{CallEventValue, start_jobs, end_late_jobs, end_job}
 use Rattle.server_events.specs.Events.{EventValue, WhatValue, opened, received, took, closed, tick, ended}
 use Rattle.served_instance.specs.declared.refusal.EventRefusal.{EventRefusal}
 use Rattle.served_instance.specs.Connections.{LoneConnection, is_open_at, open_at, at_open}
 use Rattle.served_instance.specs.Calls.{call_event_on}
-use Rattle.served_instance.specs.Lone.{LoneInstance, due_at, is_over, after_frame_on, after_frames_on, unread_frames, lone_at_moment}
+use Rattle.served_instance.specs.Lone.{LoneInstance, due_at, is_over, after_frame_on, after_frames_on, after_bytes_on, unread_frames, lone_at_moment}
 use Rattle.served_instance.specs.Refusals.{refusal_of, lone_step}
 
 pub data Happening : Type 0 where
@@ -32,11 +35,31 @@ pub data Happening : Type 0 where
   RequestAnswered : ℕ → ℕ → Item → Happening
   -- something happens to a call on the connection at this place
   CallEventCame : ℕ → CallEventValue → Happening
+  -- jobs end and start; a call whose stream is open has the place of its connection
+  JobsTurned : (CallId → Option ℕ) → CallEventValue → Happening
 
 -- the place of the open connection of this number, in order of opening
 abbrev pub connection_place : ℕ → List LoneConnection → ℕ
 connection_place c [] = 0
 connection_place c (k ∷ ks) = if is_open_at c k then 0 else suc (connection_place c ks)
+
+-- ---- jobs
+
+-- the stream is open or half-closed, and no error of the connection was met
+abbrev pub is_stream_open : ℕ → Past → Bool
+is_stream_open s p =
+    not (has_failed p.history) && list_any (λ t. t == s) (live_streams p.history)
+
+abbrev pub is_open_call : List LoneConnection → CallId → Bool
+is_open_call ks id = option_map_or (is_stream_open id.stream) (open_at id.connection ks) false
+
+-- the place of the connection of a call whose stream is open
+abbrev pub place_of_call : List LoneConnection → CallId → Option ℕ
+place_of_call ks id =
+    if is_open_call ks id then Some (connection_place id.connection ks) else None
+
+abbrev pub turn_happenings : CallEventValue → LoneInstance → List Happening
+turn_happenings event l = JobsTurned (place_of_call l.connections) event ∷ []
 
 -- ---- calls
 
@@ -99,11 +122,12 @@ close_happenings c l =
 
 abbrev pub happenings_by : WhatValue → LoneInstance → List Happening
 happenings_by (opened c) l = []
-happenings_by (received c bytes) l = happenings_of_bytes c bytes l
+happenings_by (received c bytes) l =
+    happenings_of_bytes c bytes l ++ turn_happenings start_jobs (after_bytes_on c bytes l)
 happenings_by (took c n) l = []
 happenings_by (closed c) l = close_happenings c l
-happenings_by tick l = TimePassed ∷ []
-happenings_by (ended job outcome) l = []
+happenings_by tick l = TimePassed ∷ turn_happenings end_late_jobs l
+happenings_by (ended job outcome) l = turn_happenings (end_job job outcome) l
 
 -- a refused event changes nothing
 abbrev pub happenings_unless : EventValue → LoneInstance → Option EventRefusal → List Happening

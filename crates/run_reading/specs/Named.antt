@@ -11,7 +11,7 @@ use Rattle.instance_core.specs.NamedReplies.{AnsweredEvent}
 use Rattle.server_events.specs.Configs.{ConfigValue}
 use Rattle.server_events.specs.Events.{EventValue}
 use Rattle.run_reading.specs.Replies.{GivenItems, new_instance_of, run_happenings}
-use Rattle.run_reading.specs.Happenings.{Happening, MomentCame, TimePassed, RequestAnswered, CallEventCame}
+use Rattle.run_reading.specs.Happenings.{Happening, MomentCame, TimePassed, RequestAnswered, CallEventCame, JobsTurned}
 
 -- ---- the answers of a run
 
@@ -21,6 +21,8 @@ answered_events s (MomentCame moment ∷ hs) = answered_events (state_at_event m
 answered_events s (TimePassed ∷ hs) = answered_events (state_after s tick) hs
 answered_events s (RequestAnswered place stream item ∷ hs) = answered_events s hs
 answered_events s (CallEventCame place event ∷ hs) =
+    record { state = s; event = event } ∷ answered_events (state_after s event) hs
+answered_events s (JobsTurned places event ∷ hs) =
     record { state = s; event = event } ∷ answered_events (state_after s event) hs
 
 -- of all answers that the instance gives in a run

@@ -2,7 +2,7 @@
 -- call the answer to it, and at an event of a call what the instance replies (`answer` of
 -- instance_core). Its state is a run of such answers, of the moments at which they are given and of
 -- the passing of time, and of nothing else.
-use Rattle.std.specs.Prelude.{◌≡◌, ℕ, ◌-◌, ◌==◌, ◌&&◌, suc, if◌then◌else◌, List, [], ◌∷◌, ◌++◌, map, fold}
+use Rattle.std.specs.Prelude.{◌≡◌, ℕ, ◌-◌, ◌==◌, ◌&&◌, suc, if◌then◌else◌, List, [], ◌∷◌, ◌++◌, map, fold, Option, Some, None}
 use Rattle.std.specs.List.{flat_map}
 use Rattle.conn_core.specs.ReaderConstants.{CLIENT_PREFACE}
 use Rattle.conn_core.specs.RawFrame.{RawFrame}
@@ -24,7 +24,7 @@ use Rattle.server_core.specs.Runs.{run_of}
 use Rattle.client_reading.specs.Changes.{IsPast}
 use Rattle.client_reading.specs.Responses.{stream_parts, response_of, IsBeginning}
 use Rattle.client_reading.specs.Reads.{IsReadByClient}
-use Rattle.run_reading.specs.Happenings.{Happening, MomentCame, TimePassed, RequestAnswered, CallEventCame, happenings}
+use Rattle.run_reading.specs.Happenings.{Happening, MomentCame, TimePassed, RequestAnswered, CallEventCame, JobsTurned, happenings}
 
 -- items that a stream of the connection at this place is given
 pub record GivenItems : Type 0 where
@@ -36,18 +36,26 @@ abbrev pub items_of_reply : ℕ → ReplyValue → GivenItems
 items_of_reply place reply =
     record { place = place; stream = reply.call.stream; items = owed_items reply.items }
 
+-- a call that watches a job may be on any connection; on a stream that is closed it gets nothing
+abbrev pub items_at_place : Option ℕ → ReplyValue → List GivenItems
+items_at_place None reply = []
+items_at_place (Some place) reply = items_of_reply place reply ∷ []
+
 abbrev pub given_items_at : InstanceState → Happening → List GivenItems
 given_items_at s (MomentCame moment) = []
 given_items_at s TimePassed = []
 given_items_at s (RequestAnswered place stream item) =
     record { place = place; stream = stream; items = item ∷ [] } ∷ []
 given_items_at s (CallEventCame place event) = map (items_of_reply place) (answer s event).replies
+given_items_at s (JobsTurned places event) =
+    flat_map (λ reply. items_at_place (places reply.call) reply) (answer s event).replies
 
 abbrev pub state_after_happening : InstanceState → Happening → InstanceState
 state_after_happening s (MomentCame moment) = state_at_event moment [] s
 state_after_happening s TimePassed = state_after s tick
 state_after_happening s (RequestAnswered place stream item) = s
 state_after_happening s (CallEventCame place event) = state_after s event
+state_after_happening s (JobsTurned places event) = state_after s event
 
 -- each reply is that of the state that the earlier events of calls have made
 abbrev pub given_items_from : InstanceState → List Happening → List GivenItems

@@ -4,8 +4,10 @@ ghost use Rattle.std.specs.Prelude.{◌≡◌, ◌≤◌, List, map};
 ghost use Rattle.std.specs.List.{AllByRecursion};
 ghost use Rattle.server_events.specs.Configs.{ConfigValue};
 ghost use Rattle.server_events.specs.Events.{EventValue};
-ghost use Rattle.server_events.specs.Instance.{quota_limit};
+ghost use Rattle.server_events.specs.Instance.{quota_limit, slots_limit};
+ghost use Rattle.instance_core.specs.Jobs.{IsWholeOrder};
 ghost use Rattle.served_instance.specs.Lone.{sent_bytes_on};
+ghost use Rattle.served_instance.specs.Narrow.{IsNarrow};
 ghost use Rattle.server_core.specs.Runs.{run_of};
 ghost use Rattle.server_core.specs.LoneOutput.{lone_output};
 ghost use Rattle.run_reading.specs.Replies.{run_connections, run_given_items, run_state, AreConnectionsRead};
@@ -14,17 +16,19 @@ ghost use Rattle.run_reading.specs.Named.{run_answered_events, GivesNamed};
 
 /// On each connection of a run the client reads what the streams were given: frames as they were
 /// meant, HEADERS and DATA on live streams and within the windows, control frames that were caused,
-/// and on each stream a beginning of the answers to its request, of which none is dropped.
+/// and on each stream a beginning of the answers to its request, of which none is dropped while the
+/// stream is open.
 pub fn replies_are_read()
     ensures sent { (config : ConfigValue) (events : List EventValue)
         → (lone_output config events).sent ≡ map sent_bytes_on (run_connections config events) }
     ensures read { (config : ConfigValue) (events : List EventValue) → config.quota ≤ quota_limit
+        → config.slots ≤ slots_limit → AllByRecursion IsNarrow events
         → AreConnectionsRead 0 (run_given_items config events) (run_connections config events) }
 {}
 
 /// The replies of a run are those that the instance gives to the events of its calls, one after
-/// another, from the state in which it was opened, each at its moment: nothing else makes its
-/// state, but that time passes.
+/// another, and to what happens to its jobs, from the state in which it was opened, each at its
+/// moment: nothing else makes its state, but that time passes.
 pub fn replies_are_the_instances()
     ensures { (config : ConfigValue) (events : List EventValue)
         → (run_of config events).lone.state ≡ run_state config events }
@@ -40,7 +44,14 @@ pub fn replies_are_the_instances()
 /// action, and each blob that it names is there (remote_execution.proto).
 pub fn blobs_served_are_named()
     ensures answers { (config : ConfigValue) (events : List EventValue) → config.quota ≤ quota_limit
+        → config.slots ≤ slots_limit → AllByRecursion IsNarrow events
         → AllByRecursion ServesNamed (run_answered_events config events) }
     ensures streams { (config : ConfigValue) (events : List EventValue) → config.quota ≤ quota_limit
+        → config.slots ≤ slots_limit → AllByRecursion IsNarrow events
         → AllByRecursion GivesNamed (run_given_items config events) }
+    // What is ordered to be run has what it needs: each file of its plan is empty or has its text
+    // there, and each text is what its digest says.
+    ensures orders { (config : ConfigValue) (events : List EventValue) → config.quota ≤ quota_limit
+        → config.slots ≤ slots_limit → AllByRecursion IsNarrow events
+        → AllByRecursion (λ o. IsWholeOrder o.1) (lone_output config events).orders }
 {}

@@ -6,11 +6,12 @@ use Rattle.std.specs.Str.{bytes_eq}
 use Rattle.script.specs.Hexadecimal.{bytes_of_hex, hex_word}
 use Rattle.decimals.specs.Number.{decimal_of}
 use Rattle.script.proofs.HexadecimalLemmas.{IsBytes-bytes_of_hex, bytes_of_hex-hex_word, hex_word-bytes_of_hex}
-use Rattle.server_events.specs.Events.{WhatValue, opened, received, took, closed, tick, ended, failed, exited}
+use Rattle.outcomes.specs.Outcomes.{exited, failed}
+use Rattle.server_events.specs.Events.{WhatValue, opened, received, took, closed, tick, ended}
 use Rattle.script.specs.Arguments.{exit_code_of, number_of, only_number_of}
-use Rattle.script.specs.ReplayEvents.{exit_of, fail_of, outputs_of, received_of, tick_of, took_of, what_of}
+use Rattle.script.specs.ReplayEvents.{content_of, exit, exit_of, fail_of, outputs_of, received_of, tick_of, took_of, what_of}
 use Rattle.script.specs.ReplayLines.{IsNumber, Tells}
-use Rattle.script.proofs.FileForms.{AreFiles-from_Some, Some-from_AreFiles}
+use Rattle.script.proofs.FileForms.{AreFiles-from_Some, IsContent-from_Some, Some-from_AreFiles, Some-from_IsContent}
 use Rattle.script.proofs.NumberForms.{IsExitCode-from_Some, IsNumber-decimal_below, Some-from_IsExitCode, decimal_below-IsNumber}
 use Rattle.script.proofs.Somes.{mapped, chained}
 
@@ -70,20 +71,23 @@ exit_form kind (a ∷ b ∷ c ∷ []) what k h = cc
 exit_form kind (job ∷ code ∷ stdout ∷ stderr ∷ files) what k h =
     let number = chained _ (decimal_of job) what h in
     let status = chained _ (exit_code_of code) what number.2 in
-    let out = chained _ (bytes_of_hex stdout) what status.2 in
-    let error = chained _ (bytes_of_hex stderr) what out.2 in
-    let left = mapped (λ outputs. ended number.0 (exited status.0 out.0 error.0 outputs)) (outputs_of files) what error.2 in
+    let out = chained _ (content_of stdout) what status.2 in
+    let error = chained _ (content_of stderr) what out.2 in
+    let left = mapped (λ outputs. ended number.0 (exit status.0 out.0 error.0 outputs)) (outputs_of files) what error.2 in
+    let out_text = IsContent-from_Some stdout out.0 out.1 in
+    let error_text = IsContent-from_Some stderr error.0 error.1 in
     rw (← left.2) (
       k,
       record {
         number = job;
         status = code;
         files = files;
-        form = ap (λ o. job ∷ code ∷ o ∷ stderr ∷ files) (hex_word-bytes_of_hex stdout out.0 out.1) ∙ ap (λ e. job ∷ code ∷ hex_word out.0 ∷ e ∷ files) (hex_word-bytes_of_hex stderr error.0 error.1);
+        form = ap (λ o. job ∷ code ∷ o ∷ stderr ∷ files) out_text.0
+            ∙ ap (λ e. job ∷ code ∷ hex_word out.0 ∷ e ∷ files) error_text.0;
         job_number = number.1;
         exit_code = IsExitCode-from_Some code status.0 status.1;
-        out_bytes = IsBytes-bytes_of_hex stdout out.0 out.1;
-        error_bytes = IsBytes-bytes_of_hex stderr error.0 error.1;
+        out_text = out_text.1;
+        error_text = error_text.1;
         outputs_files = AreFiles-from_Some files left.0 left.1;
       },
     )
@@ -127,6 +131,10 @@ Some-from_Tells kind arguments (closed connection) h =
     rw (h.0, h.1.1) (ap (option_map closed) (decimal_below-IsNumber (2 ^ 32) h.1.0 connection h.1.2))
 Some-from_Tells kind arguments tick h = rw (h.0, h.1) refl
 Some-from_Tells kind arguments (ended job failed) h = rw (h.0, h.1.1) (ap (option_map (λ n. ended n failed)) h.1.2)
-Some-from_Tells kind arguments (ended job (exited code stdout stderr outputs)) h =
+Some-from_Tells kind arguments (ended job (exited run)) h =
     let e = h.1 in
-    rw (h.0, e.form) (rw (e.job_number, Some-from_IsExitCode e.status code e.exit_code, bytes_of_hex-hex_word stdout e.out_bytes, bytes_of_hex-hex_word stderr e.error_bytes, Some-from_AreFiles e.files outputs e.outputs_files) refl)
+    let code = Some-from_IsExitCode e.status run.code e.exit_code in
+    let out = Some-from_IsContent run.stdout e.out_text in
+    let error = Some-from_IsContent run.stderr e.error_text in
+    let outputs = Some-from_AreFiles e.files run.outputs e.outputs_files in
+    rw (h.0, e.form) (rw (e.job_number, code, out, error, outputs) refl)

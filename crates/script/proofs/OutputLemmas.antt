@@ -18,7 +18,7 @@ use Rattle.std.proofs.lemmas.Str.{encode_ascii}
 use Rattle.std.proofs.lemmas.Str.Pattern.{NoCharPasses-char}
 use Rattle.std.proofs.lemmas.Grind.{get_or_default_zero}
 use Rattle.script.proofs.SplitLemmas.{Lacks, other_byte, same_byte}
-use Rattle.server_events.specs.Events.{OutputValue}
+use Rattle.outcomes.specs.Outcomes.{OutputValue}
 use Rattle.script.specs.ReplayEvents.{at_last, output_of, outputs_of}
 
 ascii_byte : (byte : ℕ) → is_ascii byte ≡ true → byte < 128

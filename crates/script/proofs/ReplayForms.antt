@@ -10,7 +10,8 @@ use Rattle.decimals.specs.Number.{decimal_of}
 use Rattle.script.specs.Parts.{words_of}
 use Rattle.script.proofs.SplitLemmas.{Lacks-parts_of, parts_of-join}
 use Rattle.server_events.specs.Configs.{ConfigValue, instance_limit, own_fault}
-use Rattle.server_events.specs.Events.{WhatValue, opened, received, took, closed, tick, ended, failed, exited}
+use Rattle.outcomes.specs.Outcomes.{exited, failed}
+use Rattle.server_events.specs.Events.{WhatValue, opened, received, took, closed, tick, ended}
 use Rattle.server_events.proofs.OwnLemmas.{None-from_good, own_fault-None}
 use Rattle.script.specs.Arguments.{number_of}
 use Rattle.script.specs.ReplayEvents.{event_at, event_of, what_of}
@@ -121,7 +122,7 @@ other_kind kind arguments (took connection count) h = rw (h.0) refl
 other_kind kind arguments (closed connection) h = rw (h.0) refl
 other_kind kind arguments tick h = rw (h.0) refl
 other_kind kind arguments (ended job failed) h = rw (h.0) refl
-other_kind kind arguments (ended job (exited code stdout stderr outputs)) h = rw (h.0) refl
+other_kind kind arguments (ended job (exited run)) h = rw (h.0) refl
 
 Some-from_event : (before after : ReplayScriptValue) (words : List (List ℕ)) → IsEventLine before words after → after_replay_words before words ≡ Some after
 Some-from_event before after words h =

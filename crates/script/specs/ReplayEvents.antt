@@ -1,12 +1,13 @@
 -- The lines of events, after their first word.
-use Rattle.std.specs.Prelude.{ℕ, ◌==◌, false, if◌then◌else◌, List, [], ◌∷◌, codes, Option, Some, None, option_map, option_and_then}
+use Rattle.std.specs.Prelude.{ℕ, ◌^◌, ◌==◌, nat_le, ℤ, false, if◌then◌else◌, List, [], ◌∷◌, codes, length, Option, Some, None, option_map, option_and_then}
 use Rattle.std.specs.Char.{is_ascii}
 use Rattle.std.specs.List.{list_all}
 use Rattle.std.specs.Option.{option_or}
 use Rattle.std.specs.Str.{bytes_eq}
 use Rattle.script.specs.Hexadecimal.{bytes_of_hex}
 use Rattle.decimals.specs.Number.{decimal_of}
-use Rattle.server_events.specs.Events.{OutputValue, failed, exited, WhatValue, opened, received, took, closed, tick, ended, EventValue}
+use Rattle.outcomes.specs.Outcomes.{OutcomeValue, OutputValue, exited, failed, output_file}
+use Rattle.server_events.specs.Events.{WhatValue, opened, received, took, closed, tick, ended, EventValue}
 use Rattle.script.specs.Arguments.{number_of, exit_code_of, only_number_of}
 
 -- ---- what happens
@@ -34,9 +35,20 @@ abbrev pub fail_of : List (List ℕ) → Option WhatValue
 fail_of (job ∷ []) = option_map (λ number. ended number failed) (decimal_of job)
 fail_of _ = None
 
+-- the most bytes of a text that a program left
+abbrev pub content_limit : ℕ
+content_limit = 2 ^ 48
+
+abbrev pub content_if_short : List ℕ → Option (List ℕ)
+content_if_short text = if nat_le (length text) content_limit then Some text else None
+
+-- HEX: the text of a file or of a stream
+abbrev pub content_of : List ℕ → Option (List ℕ)
+content_of word = option_and_then content_if_short (bytes_of_hex word)
+
 -- a file that may not be executed
 abbrev pub plain_file : List ℕ → List ℕ → OutputValue
-plain_file path content = record { path = path; content = content; is_executable = false }
+plain_file path content = output_file path content false
 
 -- what stands before and after the last such byte
 abbrev pub at_last : ℕ → List ℕ → Option (List ℕ × List ℕ)
@@ -52,7 +64,7 @@ path_and_content_of word = if list_all is_ascii word then at_last 61 word else N
 -- PATH=HEX
 abbrev pub output_of : List ℕ → Option OutputValue
 output_of word =
-    option_and_then (λ split. option_map (plain_file split.0) (bytes_of_hex split.1))
+    option_and_then (λ split. option_map (plain_file split.0) (content_of split.1))
     (path_and_content_of word)
 
 abbrev pub outputs_of : List (List ℕ) → Option (List OutputValue)
@@ -61,14 +73,18 @@ outputs_of (word ∷ words) =
     option_and_then (λ output. option_map (λ outputs. output ∷ outputs) (outputs_of words))
     (output_of word)
 
+abbrev pub exit : ℤ → List ℕ → List ℕ → List OutputValue → OutcomeValue
+exit code stdout stderr outputs =
+    exited (record { code = code; stdout = stdout; stderr = stderr; outputs = outputs })
+
 -- JOB CODE HEX HEX PATH=HEX ..: the job's program exited with a code, standard output, standard
 -- error and files
 abbrev pub exit_of : List (List ℕ) → Option WhatValue
 exit_of (job ∷ code ∷ stdout ∷ stderr ∷ files) =
     option_and_then (λ number. option_and_then (λ status. option_and_then (λ out.
     option_and_then (λ err.
-    option_map (λ outputs. ended number (exited status out err outputs)) (outputs_of files))
-    (bytes_of_hex stderr)) (bytes_of_hex stdout)) (exit_code_of code)) (decimal_of job)
+    option_map (λ outputs. ended number (exit status out err outputs)) (outputs_of files))
+    (content_of stderr)) (content_of stdout)) (exit_code_of code)) (decimal_of job)
 exit_of _ = None
 
 abbrev pub what_of : List ℕ → List (List ℕ) → Option WhatValue

@@ -1,5 +1,5 @@
 -- Which lines are good, and which is the first bad one, in words of their own.
-use Rattle.std.specs.Prelude.{◌≡◌, ◌≢◌, ℕ, ℤ, pos, neg_ℤ, ◌+◌, ◌<◌, ◌⊎◌, false, List, [], ◌∷◌, ◌++◌, length, codes, Some}
+use Rattle.std.specs.Prelude.{◌≡◌, ◌≢◌, ℕ, ℤ, pos, neg_ℤ, ◌+◌, ◌<◌, ◌≤◌, ◌⊎◌, List, [], ◌∷◌, ◌++◌, length, codes, Some}
 use Rattle.std.specs.Char.{is_ascii}
 use Rattle.std.specs.List.{All, AllPass}
 use Rattle.script.specs.Hexadecimal.{IsBytes, hex_word}
@@ -7,9 +7,10 @@ use Rattle.decimals.specs.Number.{decimal_of}
 use Rattle.script.specs.Arguments.{number_limit, exit_code_limit}
 use Rattle.script.specs.Parts.{spaced_line}
 use Rattle.server_events.specs.Configs.{instance_limit}
-use Rattle.server_events.specs.Events.{OutputValue, WhatValue, opened, received, took, closed, tick, ended, failed, exited}
+use Rattle.outcomes.specs.Outcomes.{ExitedValue, OutputValue, exited, failed}
+use Rattle.server_events.specs.Events.{WhatValue, opened, received, took, closed, tick, ended}
 use Rattle.server_events.specs.Faults.{IsConfig}
-use Rattle.script.specs.ReplayEvents.{event_at}
+use Rattle.script.specs.ReplayEvents.{content_limit, event_at, plain_file}
 use Rattle.script.specs.ReplayScript.{ReplayScriptValue, config, with_config, with_event}
 
 -- ---- the words of a line
@@ -31,13 +32,20 @@ IsExitCode word code =
     ⊎ ((digits : List ℕ) × (number : ℕ) × (word ≡ 45 ∷ digits)
     × IsNumber (exit_code_limit + 1) digits number × (code ≡ neg_ℤ (pos number)))
 
+-- a text that a program left
+pub record IsContent (text : List ℕ) : Type 0 where
+  pub bytes : IsBytes text
+  pub short : length text ≤ content_limit
+
 -- a word of ASCII, PATH=HEX, is a file that may not be executed; its path may have `=` (byte 61) in
 -- it
 pub record IsFile (word : List ℕ) (output : OutputValue) : Type 0 where
-  pub form : word ≡ output.path ++ 61 ∷ hex_word output.content
+  pub path : List ℕ
+  pub content : List ℕ
+  pub form : word ≡ path ++ 61 ∷ hex_word content
   pub ascii : AllPass is_ascii word
-  pub bytes : IsBytes output.content
-  pub plain : output.is_executable ≡ false
+  pub text : IsContent content
+  pub file : output ≡ plain_file path content
 
 abbrev pub AreFiles : List (List ℕ) → List OutputValue → Type 0
 AreFiles [] [] = Unit {0}
@@ -47,17 +55,16 @@ AreFiles _ _ = ⊥
 -- ---- what happens
 
 -- the words of an exit: the job, the code, standard output and error, and files
-pub record IsExit (arguments : List (List ℕ)) (job : ℕ) (code : ℤ) (stdout stderr : List ℕ)
-    (outputs : List OutputValue) : Type 0 where
+pub record IsExit (arguments : List (List ℕ)) (job : ℕ) (run : ExitedValue) : Type 0 where
   pub number : List ℕ
   pub status : List ℕ
   pub files : List (List ℕ)
-  pub form : arguments ≡ number ∷ status ∷ hex_word stdout ∷ hex_word stderr ∷ files
+  pub form : arguments ≡ number ∷ status ∷ hex_word run.stdout ∷ hex_word run.stderr ∷ files
   pub job_number : decimal_of number ≡ Some job
-  pub exit_code : IsExitCode status code
-  pub out_bytes : IsBytes stdout
-  pub error_bytes : IsBytes stderr
-  pub outputs_files : AreFiles files outputs
+  pub exit_code : IsExitCode status run.code
+  pub out_text : IsContent run.stdout
+  pub error_text : IsContent run.stderr
+  pub outputs_files : AreFiles files run.outputs
 
 -- the first word of a line, and those after its moment and its instance, by what happens
 abbrev pub Tells : List ℕ → List (List ℕ) → WhatValue → Type 0
@@ -79,8 +86,8 @@ Tells kind arguments tick = (kind ≡ codes "tick") × (arguments ≡ [])
 Tells kind arguments (ended job failed) =
     (kind ≡ codes "fail")
     × ((word : List ℕ) × (arguments ≡ word ∷ []) × (decimal_of word ≡ Some job))
-Tells kind arguments (ended job (exited code stdout stderr outputs)) =
-    (kind ≡ codes "exit") × IsExit arguments job code stdout stderr outputs
+Tells kind arguments (ended job (exited run)) =
+    (kind ≡ codes "exit") × IsExit arguments job run
 
 -- ---- good lines
 

@@ -12,9 +12,9 @@
 //!   output, standard error, and files that may not be executed;
 //! - `fail M I JOB`: the program of a job could not be run to its end.
 //!
-//! HEX is lower-case hexadecimal, or `-` for no bytes; all else is a decimal number, and only CODE
-//! may have a minus before it. The last `=` of `PATH=HEX` ends the path. An empty line says
-//! nothing. No line has to name an instance that is configured.
+//! HEX is lower-case hexadecimal, or `-` for no bytes; that of an exit has 2^48 bytes at most. All
+//! else is a decimal number, and only CODE may have a minus before it. The last `=` of `PATH=HEX`
+//! ends the path. An empty line says nothing. No line has to name an instance that is configured.
 
 mod event;
 pub mod laws;

@@ -1,6 +1,6 @@
 //! The lines that tell what a server did with a script of events: for each instance the bytes that
-//! it sent on each connection and the events that it refused; and the events that were no
-//! instance's. Lines of orders are written by nothing yet, since no call starts a job.
+//! it sent on each connection, what it ordered, and the events that it refused; and the events that
+//! were no instance's.
 ghost use Rattle.std.specs.Prelude.{◌≡◌, ◌++◌, OnOk, OnErr};
 ghost use Rattle.script.specs.ResultLines.{sent_line, start_line, kill_line, refusal_line, stray_line};
 

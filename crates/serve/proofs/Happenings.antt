@@ -2,9 +2,9 @@
 use Rattle.std.proofs.Common.{◌≡◌, ℕ, ◌≤◌, List, [], ◌∷◌, ◌++◌, refl, ap, ◌∙◌, sym, subst, arith, inl, inr}
 use Rattle.std.specs.Prelude.{Bool, true, false, cond, fold}
 use Rattle.std.proofs.lemmas.List.Sums.{fold_push}
-use Rattle.instance_core.specs.Calls.{CallEventValue}
+use Rattle.instance_core.specs.Calls.{CallEventValue, tick as time_passes}
 use Rattle.instance_core.specs.State.{InstanceState}
-use Rattle.instance_core.specs.Changes.{InstanceChange, Text, Goes, Ends, Wrote, Keeps, Expires, state_after_change, state_after_changes}
+use Rattle.instance_core.specs.Changes.{InstanceChange, Text, Goes, Ends, Wrote, Keeps, Expires, Does, Pushes, Settles, MadeInPart, state_after_change, state_after_changes}
 use Rattle.instance_core.specs.Answer.{answer, state_after}
 use Rattle.server_events.specs.Events.{EventValue, WhatValue, opened, received, took, closed, tick, ended}
 use Rattle.served_instance.specs.Lone.{LoneInstance, lone_at_moment}
@@ -40,11 +40,17 @@ changed_moment (Ends id ∷ changes) s = changed_moment changes (state_after_cha
 changed_moment (Wrote w ∷ changes) s = changed_moment changes (state_after_change (Wrote w) s)
 changed_moment (Keeps results ∷ changes) s = changed_moment changes (state_after_change (Keeps results) s)
 changed_moment (Expires ∷ changes) s = changed_moment changes (state_after_change Expires s)
+changed_moment (Does operation ∷ changes) s = changed_moment changes (state_after_change (Does operation) s)
+changed_moment (Pushes job ∷ changes) s = changed_moment changes (state_after_change (Pushes job) s)
+changed_moment (Settles steps ∷ changes) s = changed_moment changes (state_after_change (Settles steps) s)
+
+made_moment : (changes : List InstanceChange) (s t : InstanceState) → MadeInPart changes s t → t.moment ≡ s.moment
+made_moment changes s t made = ap (λ (x : InstanceState). x.moment) made.so_far ∙ changed_moment made.made s
 
 cut_moment : (events : List CallEventValue) (s t : InstanceState) → IsCutShort events s t → t.moment ≡ s.moment
 cut_moment [] s t h = ap (λ (x : InstanceState). x.moment) h
 cut_moment (event ∷ events) s t h = elim h [
-  | inl made ↦ ap (λ (x : InstanceState). x.moment) made.so_far ∙ changed_moment made.made s
+  | inl made ↦ made_moment (answer s event).changes s t made
   | inr rest ↦ cut_moment events (state_after s event) t rest ∙ changed_moment (answer s event).changes s
 ]
 
@@ -53,8 +59,10 @@ cut_effect_moment (opened c) l m h = ap (λ (x : LoneInstance). x.state.moment) 
 cut_effect_moment (received c bytes) l m h = ap (λ (x : LoneInstance). x.state.moment) h.gone ∙ cut_moment _ l.state h.left h.cut
 cut_effect_moment (took c n) l m h = absurd h
 cut_effect_moment (closed c) l m h = absurd h
-cut_effect_moment tick l m h = absurd h
-cut_effect_moment (ended job outcome) l m h = absurd h
+cut_effect_moment tick l m h =
+    ap (λ (x : LoneInstance). x.state.moment) h ∙ changed_moment (answer l.state time_passes).changes l.state
+cut_effect_moment (ended job outcome) l m h =
+    ap (λ (x : LoneInstance). x.state.moment) h.gone ∙ made_moment _ l.state h.left h.made
 
 -- after an event an instance is not later than the event and than it was
 pub may_within : (e : EventValue) (l k : LoneInstance) (m : ℕ) → MayStep e l k → e.moment ≤ m → l.state.moment ≤ m → k.state.moment ≤ m

@@ -29,11 +29,11 @@ event_at m j p = record { moment = m; instance = j; what = what_of p }
 
 -- ---- an event that is told
 
-abbrev IsOther : Result (Unit {0}) EventRefusal → Type 0
+abbrev IsOther : {A : Type 0} → Result A EventRefusal → Type 0
 IsOther (Err NoMemory) = ⊥
 IsOther outcome = Unit {0}
 
-memory_or : (outcome : Result (Unit {0}) EventRefusal) → (outcome ≡ Err NoMemory) ⊎ (outcome ≢ Err NoMemory)
+memory_or : {A : Type 0} (outcome : Result A EventRefusal) → (outcome ≡ Err NoMemory) ⊎ (outcome ≢ Err NoMemory)
 memory_or (Ok x) = inr (λ is. absurd (subst IsOther is tt))
 memory_or (Err NoMemory) = inl refl
 memory_or (Err NoSuchInstance) = inr (λ is. absurd (subst IsOther is tt))
@@ -45,18 +45,18 @@ memory_or (Err TimeWentBack) = inr (λ is. absurd (subst IsOther is tt))
 memory_or (Err TookTooMuch) = inr (λ is. absurd (subst IsOther is tt))
 
 -- what the server says of an event that it took, all or a part of it
-abbrev Own : Result (Unit {0}) EventRefusal → EventValue → List ServedState → List ServedState → Type 0
+abbrev Own : {A : Type 0} → Result A EventRefusal → EventValue → List ServedState → List ServedState → Type 0
 Own outcome e vs ws = outcome ≢ Err NoMemory → (l : LoneInstance) → StandsAt e.instance vs l → StandsAt e.instance ws (lone_step [] e l)
 
-abbrev InPart : Result (Unit {0}) EventRefusal → EventValue → List ServedState → List ServedState → Type 0
+abbrev InPart : {A : Type 0} → Result A EventRefusal → EventValue → List ServedState → List ServedState → Type 0
 InPart outcome e vs ws = outcome ≡ Err NoMemory → (l : LoneInstance) → StandsAt e.instance vs l → StandsShortAt e l ws
 
-pub taken : (outcome : Result (Unit {0}) EventRefusal) (e : EventValue) (vs ws : List ServedState) → Own outcome e vs ws → InPart outcome e vs ws → ((l : LoneInstance) → StandsAt e.instance vs l → IsRefusalOutcome outcome (refusal_of e l)) → ((j : ℕ) → j ≢ e.instance → instance_at j ws ≡ instance_at j vs) → TakesEvent e vs ws
-taken outcome e vs ws own short gave others = record {
+pub taken : {A : Type 0} (outcome : Result A EventRefusal) (e : EventValue) (vs ws : List ServedState) → Own outcome e vs ws → InPart outcome e vs ws → ((l : LoneInstance) → StandsAt e.instance vs l → IsRefusalOutcome outcome (refusal_of e l)) → ((j : ℕ) → j ≢ e.instance → instance_at j ws ≡ instance_at j vs) → TakesEvent e vs ws
+taken {A} outcome e vs ws own short gave others = record {
   own = λ l s. elim (memory_or outcome) [
     | inl memory ↦
         let t = short memory l s in
-        let accepted : refusal_of e l ≡ None = subst (λ (o : Result (Unit {0}) EventRefusal). IsRefusalOutcome o (refusal_of e l)) memory (gave l s) in
+        let accepted : refusal_of e l ≡ None = subst (λ (o : Result A EventRefusal). IsRefusalOutcome o (refusal_of e l)) memory (gave l s) in
         record { now = t.left; may = inr (accepted, t.short); stands = t.stands }
     | inr ne ↦ record { now = lone_step [] e l; may = inl refl; stands = own ne l s }
   ];

@@ -25,7 +25,8 @@ pub(crate) enum Tried {
 }
 
 /// Tells the server what happens to an instance. Where memory is refused for bytes that came, their
-/// connection is gone.
+/// connection is gone, and where it is refused as time goes on, all are. Nothing runs jobs yet:
+/// what is ordered of whoever does is dropped.
 pub(crate) fn tell(
     server: &mut Server,
     moment: u64,
@@ -41,7 +42,8 @@ pub(crate) fn tell(
         instance,
         what,
     };
-    server.step(event)
+    server.step(event)?;
+    Ok(())
 }
 
 /// A piece that was read, with room behind it for as many bytes again: where it ends within a

@@ -237,9 +237,10 @@ impl Serving {
 /// written. A connection on which nothing moved for 20 milliseconds is tried once a millisecond,
 /// until something moves on it again. A connection is closed where its client is gone or its socket
 /// failed, where an error of it was met and the client was sent all that waited, and where memory
-/// was refused for what it sent. Where an instance has as many as it may have and another client
-/// comes, that client's is closed, and so is one of the others: the longest silent of those with no
-/// call in course from which no byte came for 60 seconds, or for 10 where the preface is not whole.
+/// was refused for what it sent, or as the time was told. Where an instance has as many as it may
+/// have and another client comes, that client's is closed, and so is one of the others: the longest
+/// silent of those with no call in course from which no byte came for 60 seconds, or for 10 where
+/// the preface is not whole.
 ///
 /// `served`: a connection is accepted under a number that no open one of its instance has, and what
 /// is written to one is each time what its instance alone, by its own events, has waiting on it

@@ -20,7 +20,7 @@ use Rattle.conn_core.specs.History.{highest_stream}
 use Rattle.conn_core.specs.Calls.{cancels}
 use Rattle.conn_core.specs.Past.{Past, new_past, with_frame, with_fault, with_item, with_taken, with_pumped, with_bytes}
 use Rattle.conn_core.proofs.Pumps.{pumped_is}
-use Rattle.instance_core.specs.Calls.{CallEventValue}
+use Rattle.instance_core.specs.Calls.{CallEventValue, tick as time_passes, start_jobs, end_late_jobs, end_job}
 use Rattle.instance_core.specs.Answer.{answer, state_after}
 use Rattle.instance_core.specs.Replies.{ReplyValue}
 use Rattle.server_events.specs.Events.{EventValue, WhatValue, opened, received, took, closed, tick, ended}
@@ -209,11 +209,15 @@ connections_after _ ks = ks
 
 acted_more : (what : WhatValue) (l : LoneInstance) → AreGrown (connections_after what l.connections) (effect_of what l).connections
 acted_more (opened c) l = all_same (after_opening c l).connections
-acted_more (received c bytes) l = bytes_more c bytes l
+acted_more (received c bytes) l =
+    let m = after_bytes_on c bytes l in
+    more_trans l m (after_call_event start_jobs m) (bytes_more c bytes l) (happened_more start_jobs m)
 acted_more (took c n) l = all_same (at_open c (λ p. with_taken p n) l.connections)
 acted_more (closed c) l = all_happened_more c (option_map_or (λ p. cancels p.history) (open_at c l.connections) []) (record l { connections = with_closed c l.connections })
-acted_more tick l = more_same l
-acted_more (ended job outcome) l = more_same l
+acted_more tick l =
+    let m = after_call_event time_passes l in
+    more_trans l m (after_call_event end_late_jobs m) (happened_more time_passes l) (happened_more end_late_jobs m)
+acted_more (ended job outcome) l = happened_more (end_job job outcome) l
 
 pub accepted_more : (parent : List Blob) (e : EventValue) (l : LoneInstance) → AreGrown (connections_after e.what l.connections) (after_event parent e l).connections
 accepted_more parent e l =

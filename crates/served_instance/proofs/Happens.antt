@@ -19,8 +19,6 @@ use Rattle.instance_core.proofs.Sees.{parent_same}
 use Rattle.served_instance.proofs.Besides.{both_same}
 use Rattle.instance_core.specs.Slots.{state_beside, InstanceSlots, state_in, holders_of_instance}
 use Rattle.instance_core.specs.State.{InstanceState, IsInstanceWithin}
-use Rattle.instance_core.specs.Visible.{Blob}
-use Rattle.instance_core.proofs.Held.{shown_same}
 use Rattle.served_instance.specs.declared.open_connection.OpenConnection.{OpenConnection}
 use Rattle.served_instance.specs.Connections.{LoneConnection, open_ones}
 use Rattle.served_instance.specs.OwedReplies.{item_by, reply_by, CanBeOwed, ReplyCanBeOwed, ItemsEndWithin, RepliesEndWithin, AllTakeRanges}
@@ -33,7 +31,7 @@ use Rattle.served_instance.specs.Acts.{ActsIn, StandsBy, slots_of}
 use Rattle.served_instance.proofs.Commutes.{given, replied_is}
 use Rattle.served_instance.proofs.Frames.{happened_is}
 use Rattle.served_instance.proofs.Gives.{AreGiven}
-use Rattle.served_instance.proofs.Kept.{slots_at}
+use Rattle.served_instance.proofs.Kept.{own_same, slots_at}
 use Rattle.served_instance.proofs.Ranges.{served_agreed, fit_agreed_each}
 
 -- ---- what a reply says
@@ -109,14 +107,10 @@ answered_moves given IsGood p q r i j vs ws a = record {
       ∙ a.moves.texts k (omega (arith, few));
 }
 
-abbrev with_visible : InstanceSlots → List Blob → InstanceState
-with_visible i bs = record { name = i.name; quota = i.quota; slots = i.slots; moment = i.moment; visible = bs; parent = []; uploads = i.uploads; results = i.results; calls = i.calls }
-
 pub answered_state : (given : Holders) (IsGood : SourceTexts → Type 0) (p q r : Slots) (i j : InstanceSlots) (vs ws : List ServedConnection) → IsAnswered given IsGood p q r i j vs ws → state_in r j ≡ state_in q j
 answered_state given IsGood p q r i j vs ws a =
-    ap (with_visible j) (shown_same q r j.view.entries (λ k some.
-    let held = given_counted given p q i j vs a.kept a.moves k in
-    a.takes.moves.texts k (omega (arith, some, held, a.takes.sources k))))
+    own_same q r j a.takes.gone no_holders
+    (λ k. let held = given_counted given p q i j vs a.kept a.moves k in omega (arith, held, a.takes.fewer k)) a.takes.moves
 
 pub answered_beside : (given : Holders) (IsGood : SourceTexts → Type 0) (parent : ViewValue) (p q r : Slots) (i j : InstanceSlots) (vs ws : List ServedConnection) → IsAnswered given IsGood p q r i j vs ws → IsServedBeside p parent (slots_at i vs) → state_beside r parent j ≡ state_beside q parent j
 answered_beside given IsGood parent p q r i j vs ws a beside =
@@ -151,7 +145,7 @@ answers_given p q r i j os ns rs ys is kept moves takes within short = record {
 
 -- ---- what it stands for
 
-replied_at : (rs : List ReplyValue) (l : LoneInstance) → (after_replies rs l).connections ≡ given rs l.connections
+pub replied_at : (rs : List ReplyValue) (l : LoneInstance) → (after_replies rs l).connections ≡ given rs l.connections
 replied_at rs l = ap (λ (k : LoneInstance). k.connections) (replied_is rs l)
 
 pub happens : {T E : Type 0} (result : Result T E) (parent : ViewValue) (p q r : Slots) (i j : InstanceSlots) (os ns : List OpenConnection) (what : CallEventValue) (rs : List Reply) → IsAnswered (replies_holders rs) (RepliesEndWithin rs) p q r i j (map connection_shown os) (map connection_shown ns) → IsServedBeside p parent (slots_of i os) →

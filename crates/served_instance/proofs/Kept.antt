@@ -1,14 +1,15 @@
 -- What the pool counts of an instance with its connections.
-use Rattle.std.proofs.Common.{◌≡◌, ◌*◌, ◌<◌, ◌≤◌, ◌^◌, ℕ, List, [], length, sym, ap, subst, arith}
+use Rattle.std.proofs.Common.{◌≡◌, ◌*◌, ◌+◌, ◌<◌, ◌≤◌, ◌^◌, ℕ, List, [], length, refl, sym, subst, arith}
 use Rattle.std.proofs.lemmas.List.{length-map}
-use Rattle.blob_pool.specs.Slots.{Slots, text_at}
-use Rattle.blob_pool.specs.Moves.{Moves}
+use Rattle.blob_pool.specs.Slots.{Slots, text_at, count_at}
+use Rattle.blob_pool.specs.Moves.{Moves, Holders, no_holders}
 use Rattle.blob_pool.proofs.Moves.{moves_none}
 use Rattle.grpc_sending.specs.StoredSending.{AgreeOn}
 use Rattle.instance_core.specs.Slots.{InstanceSlots, state_in, holders_of_instance, IsInstanceInPool}
-use Rattle.instance_core.specs.State.{InstanceState, IsInstanceWithin}
-use Rattle.instance_core.specs.Visible.{Blob}
-use Rattle.instance_core.proofs.Held.{shown_same}
+use Rattle.instance_core.specs.State.{IsInstanceWithin}
+use Rattle.instance_core.specs.InstanceViewShown.{visible_in}
+use Rattle.executor.specs.InPool.{jobs_in}
+use Rattle.executor.proofs.Calling.{jobs_same, view_same}
 use Rattle.served_instance.specs.StandsFor.{ServedConnection}
 use Rattle.served_instance.specs.Slots.{ServedSlots, holders_of, IsServedInPool}
 use Rattle.served_instance.specs.Ranges.{AllKeepRanges, Releases, sources_at, range_holders, served_with}
@@ -28,34 +29,30 @@ pub instance_kept : (p : Slots) (v w : ServedSlots) → w ≡ v → IsServedInPo
 instance_kept p v w same kept =
     let k : IsServedInPool p w = subst (λ (x : ServedSlots). IsServedInPool p x) (sym same) kept in
     record {
-      held = record {
-        counted = λ n. omega (arith, k.counted n);
-        others = λ n. omega (arith, k.others n, few_ranges p w n k);
-      };
+      counted = λ n. omega (arith, k.counted n);
+      others = λ n. omega (arith, k.others n, few_ranges p w n k);
       within = k.within.instance;
     }
+
+-- it finds its own texts where those of others come and go
+pub own_same : (p q : Slots) (i : InstanceSlots) (h g : Holders) → ((k : ℕ) → h k + holders_of_instance i k ≤ count_at p k) → Moves p q h g → state_in q i ≡ state_in p i
+own_same p q i h g held m =
+    let texts : visible_in q i.view ≡ visible_in p i.view = view_same p q i.view h g (λ k. omega (arith, held k)) m in
+    let jobs : jobs_in q i.jobs ≡ jobs_in p i.jobs = jobs_same p q i.jobs h g (λ k. omega (arith, held k)) m in
+    rw (texts, jobs) refl
 
 -- ---- sources of ranges are released
 
 pub release_finds : (p q : Slots) (i : InstanceSlots) (vs ws : List ServedConnection) → IsServedInPool p (slots_at i vs) → Releases p vs q ws → AgreeOn (sources_at ws) (text_at p) (text_at q)
 release_finds p q i vs ws kept r k some = sym (r.moves.texts k (omega (arith, some, r.sources k, kept.counted k)))
 
--- an instance finds each of its own texts there still
-pub own_texts : (p q : Slots) (i : InstanceSlots) (vs ws : List ServedConnection) → IsServedInPool p (slots_at i vs) → Releases p vs q ws → (k : ℕ) → 0 < holders_of_instance i k → text_at q k ≡ text_at p k
-own_texts p q i vs ws kept r k some = r.moves.texts k (omega (arith, some, r.sources k, kept.counted k))
-
-abbrev with_visible : InstanceSlots → List Blob → InstanceState
-with_visible i bs = record { name = i.name; quota = i.quota; slots = i.slots; moment = i.moment; visible = bs; parent = []; uploads = i.uploads; results = i.results; calls = i.calls }
-
 pub same_state : (p q : Slots) (i : InstanceSlots) (vs ws : List ServedConnection) → IsServedInPool p (slots_at i vs) → Releases p vs q ws → state_in q i ≡ state_in p i
-same_state p q i vs ws kept r = ap (with_visible i) (shown_same p q i.view.entries (λ k some. own_texts p q i vs ws kept r k some))
+same_state p q i vs ws kept r = own_same p q i _ no_holders (λ k. omega (arith, r.sources k, kept.counted k)) r.moves
 
 pub instance_after : (p q : Slots) (i : InstanceSlots) (vs ws : List ServedConnection) → IsServedInPool p (slots_at i vs) → Releases p vs q ws → IsInstanceInPool q i
 instance_after p q i vs ws kept r = record {
-  held = record {
-    counted = λ k. omega (arith, r.moves.counts k, r.sources k, kept.counted k);
-    others = λ k. omega (arith, r.moves.counts k, r.sources k, kept.others k, few_ranges p (slots_at i vs) k kept);
-  };
+  counted = λ k. omega (arith, r.moves.counts k, r.sources k, kept.counted k);
+  others = λ k. omega (arith, r.moves.counts k, r.sources k, kept.others k, few_ranges p (slots_at i vs) k kept);
   within = subst IsInstanceWithin (sym (same_state p q i vs ws kept r)) kept.within.instance;
 }
 

@@ -15,6 +15,9 @@ mod Besides
 mod Writes
 mod Taking
 mod Happens
+mod Settling
+mod Turning
+mod Acting
 pub mod Stands
 pub mod Releasing
 pub mod Pumped
@@ -25,7 +28,8 @@ pub mod LimitsKept
 mod Cut
 mod Answered
 mod CutEvents
-mod Broken
+mod BrokenOff
 pub mod Losses
+pub mod Watches
 pub use Rattle.grpc_sending.proofs.Agreeing
 pub use Rattle.grpc_sending.proofs.Histories

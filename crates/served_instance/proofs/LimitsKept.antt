@@ -13,7 +13,7 @@ use Rattle.conn_core.specs.Rules.{reading_fault}
 use Rattle.conn_core.specs.declared.event.CallEvent.{CallEvent}
 use Rattle.conn_core.specs.Calls.{cancels}
 use Rattle.conn_core.specs.Past.{Past, new_past, with_frame, with_fault, with_taken, with_pumped, with_bytes}
-use Rattle.instance_core.specs.Calls.{CallEventValue, tick as time_passes, IsShortEvent}
+use Rattle.instance_core.specs.Calls.{CallEventValue, tick as time_passes, start_jobs, end_late_jobs, end_job, IsShortEvent}
 use Rattle.instance_core.specs.Visible.{Blob}
 use Rattle.instance_core.specs.Naming.{Names}
 use Rattle.instance_core.specs.State.{seeing, InstanceState, IsInstanceWithin, at_moment}
@@ -24,6 +24,7 @@ use Rattle.served_instance.specs.declared.refusal.EventRefusal.{EventRefusal}
 use Rattle.served_instance.specs.Connections.{LoneConnection, is_open_at, open_at, at_open, with_closed, at_all_open}
 use Rattle.served_instance.specs.Calls.{call_event_on, owed_items, with_items}
 use Rattle.served_instance.specs.Lone.{LoneInstance, after_replies, after_call_event, after_call_events, due_at, without_due, after_due_on, after_frame_on, is_over, after_frames_on, after_fault_on, after_end_on, unread_frames, after_reading_on, after_bytes_on, after_opening, after_closing, effect_of, lone_at_moment, after_event}
+use Rattle.served_instance.specs.Narrow.{IsNarrowWhat}
 use Rattle.served_instance.specs.Refusals.{after_event_unless}
 use Rattle.served_instance.proofs.Commutes.{items_keep_due}
 use Rattle.instance_core.proofs.NamedTexts.{all_append}
@@ -32,7 +33,7 @@ use Rattle.served_instance.proofs.Brought.{IsShortCall, short_on, cancels_short,
 
 -- ---- connections
 
-abbrev AreDueShort : List LoneConnection → Type 0
+abbrev pub AreDueShort : List LoneConnection → Type 0
 AreDueShort ks = AllByRecursion (λ (k : LoneConnection). DueShort k.past) ks
 
 at_open_short : (c : ℕ) (step : Past → Past) → ((p : Past) → DueShort p → DueShort (step p)) → (ks : List LoneConnection) → AreDueShort ks → AreDueShort (at_open c step ks)
@@ -74,7 +75,7 @@ pub record KeepsLimits (l : LoneInstance) : Type 0 where
   pub within : IsInstanceWithin l.state
   pub short : AreDueShort l.connections
 
-abbrev Keeps : LoneInstance → LoneInstance → Type 0
+abbrev pub Keeps : LoneInstance → LoneInstance → Type 0
 Keeps l m = KeepsLimits l → KeepsLimits m
 
 items_short : (s : ℕ) (reply : ReplyValue) (p : Past) → DueShort p → DueShort (with_items s (owed_items reply.items) p)
@@ -88,7 +89,7 @@ replied_keeps (reply ∷ replies) l h =
       short = at_open_short reply.call.connection (with_items reply.call.stream (owed_items reply.items)) (items_short reply.call.stream reply) l.connections h.short;
     })
 
-happened_keeps : (event : CallEventValue) (l : LoneInstance) → IsShortEvent event → Keeps l (after_call_event event l)
+pub happened_keeps : (event : CallEventValue) (l : LoneInstance) → IsShortEvent event → Keeps l (after_call_event event l)
 happened_keeps event l short h =
     replied_keeps (answer l.state event).replies (record l { state = state_after l.state event }) (record { within = after_keeps l.state event short h.within; short = h.short })
 
@@ -129,7 +130,7 @@ read_keeps : (c : ℕ) (l : LoneInstance) (p : Option Past) → Keeps l (after_r
 read_keeps c l None h = h
 read_keeps c l (Some p) h = end_keeps c (split CLIENT_PREFACE.now p.text).end (after_frames_on c (unread_frames p) l) (frames_keep c (unread_frames p) l h)
 
-bytes_keep : (c : ℕ) (bytes : List ℕ) (l : LoneInstance) → Keeps l (after_bytes_on c bytes l)
+pub bytes_keep : (c : ℕ) (bytes : List ℕ) (l : LoneInstance) → Keeps l (after_bytes_on c bytes l)
 bytes_keep c bytes l h =
     let m : LoneInstance = record l { connections = at_open c (with_bytes bytes) l.connections } in
     read_keeps c m (open_at c m.connections) (with_step c (with_bytes bytes) l (λ p short. short) h)
@@ -145,31 +146,31 @@ opened_keeps c l h = record {
   short = all_append (λ (k : LoneConnection). DueShort k.past) l.connections (record { number = c; past = new_past; is_open = true } ∷ []) h.short (tt, tt);
 }
 
-acted_keeps : (what : WhatValue) (l : LoneInstance) → Keeps l (effect_of what l)
-acted_keeps (opened c) l h = opened_keeps c l h
-acted_keeps (received c bytes) l h = bytes_keep c bytes l h
-acted_keeps (took c n) l h = with_step c (λ p. with_taken p n) l (λ p short. short) h
-acted_keeps (closed c) l h = closed_keeps c l h
-acted_keeps tick l h = happened_keeps time_passes l tt h
-acted_keeps (ended job outcome) l h = h
+acted_keeps : (what : WhatValue) (l : LoneInstance) → IsNarrowWhat what → Keeps l (effect_of what l)
+acted_keeps (opened c) l narrow h = opened_keeps c l h
+acted_keeps (received c bytes) l narrow h = happened_keeps start_jobs (after_bytes_on c bytes l) tt (bytes_keep c bytes l h)
+acted_keeps (took c n) l narrow h = with_step c (λ p. with_taken p n) l (λ p short. short) h
+acted_keeps (closed c) l narrow h = closed_keeps c l h
+acted_keeps tick l narrow h = happened_keeps end_late_jobs (after_call_event time_passes l) tt (happened_keeps time_passes l tt h)
+acted_keeps (ended job outcome) l narrow h = happened_keeps (end_job job outcome) l narrow h
 
 pub moment_within : (moment : ℕ) (s : InstanceState) → IsInstanceWithin s → IsInstanceWithin (at_moment moment s)
-moment_within moment s w = record { quota = w.quota; texts = w.texts; uploads = w.uploads; results = w.results; calls = w.calls; messages = w.messages; parent = w.parent }
+moment_within moment s w = record { quota = w.quota; texts = w.texts; uploads = w.uploads; results = w.results; slots = w.slots; jobs = w.jobs; running = w.running; whole = w.whole; told = w.told; calls = w.calls; messages = w.messages; parent = w.parent }
 
 abbrev pub AreNamed : List Blob → Type 0
 AreNamed bs = AllByRecursion (λ (b : Blob). Names b.0 b.1) bs
 
 pub seeing_within : (parent : List Blob) (s : InstanceState) → AreNamed parent → IsInstanceWithin s → IsInstanceWithin (seeing parent s)
-seeing_within parent s named w = record { quota = w.quota; texts = w.texts; uploads = w.uploads; results = w.results; calls = w.calls; messages = w.messages; parent = named }
+seeing_within parent s named w = record { quota = w.quota; texts = w.texts; uploads = w.uploads; results = w.results; slots = w.slots; jobs = w.jobs; running = w.running; whole = w.whole; told = w.told; calls = w.calls; messages = w.messages; parent = named }
 
-accepted_keeps : (parent : List Blob) (e : EventValue) (l : LoneInstance) → AreNamed parent → Keeps l (after_event parent e l)
-accepted_keeps parent e l named h =
-    let m = acted_keeps e.what (lone_at_moment e.moment parent l) (record { within = seeing_within parent (at_moment e.moment l.state) named (moment_within e.moment l.state h.within); short = h.short }) in
+accepted_keeps : (parent : List Blob) (e : EventValue) (l : LoneInstance) → AreNamed parent → IsNarrowWhat e.what → Keeps l (after_event parent e l)
+accepted_keeps parent e l named narrow h =
+    let m = acted_keeps e.what (lone_at_moment e.moment parent l) narrow (record { within = seeing_within parent (at_moment e.moment l.state) named (moment_within e.moment l.state h.within); short = h.short }) in
     record {
       within = seeing_within [] (effect_of e.what (lone_at_moment e.moment parent l)).state tt m.within;
       short = all_open_short with_pumped (λ p short. short) (effect_of e.what (lone_at_moment e.moment parent l)).connections m.short;
     }
 
-pub stepped_keeps : (parent : List Blob) (e : EventValue) (l : LoneInstance) (o : Option EventRefusal) → AreNamed parent → Keeps l (after_event_unless parent e l o)
-stepped_keeps parent e l None named h = accepted_keeps parent e l named h
-stepped_keeps parent e l (Some refusal) named h = h
+pub stepped_keeps : (parent : List Blob) (e : EventValue) (l : LoneInstance) (o : Option EventRefusal) → AreNamed parent → IsNarrowWhat e.what → Keeps l (after_event_unless parent e l o)
+stepped_keeps parent e l None named narrow h = accepted_keeps parent e l named narrow h
+stepped_keeps parent e l (Some refusal) named narrow h = h

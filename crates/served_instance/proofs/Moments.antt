@@ -14,10 +14,10 @@ use Rattle.grpc_sending.specs.Bytes.{pending_bytes, untaken_count}
 use Rattle.conn_core.specs.declared.event.CallEvent.{CallEvent}
 use Rattle.conn_core.specs.Calls.{cancels}
 use Rattle.conn_core.specs.Past.{Past, with_frame, with_fault, with_bytes}
-use Rattle.instance_core.specs.Calls.{CallEventValue, tick as time_passes}
+use Rattle.instance_core.specs.Calls.{CallEventValue, tick as time_passes, start_jobs, end_late_jobs, end_job}
 use Rattle.instance_core.specs.State.{InstanceState}
 use Rattle.instance_core.specs.Replies.{ReplyValue}
-use Rattle.instance_core.specs.Changes.{InstanceChange, Text, Goes, Ends, Wrote, Keeps, Expires, state_after_change, state_after_changes}
+use Rattle.instance_core.specs.Changes.{InstanceChange, Text, Goes, Ends, Wrote, Keeps, Expires, Does, Pushes, Settles, state_after_change, state_after_changes}
 use Rattle.instance_core.specs.Answer.{answer, state_after}
 use Rattle.server_events.specs.Events.{EventValue, WhatValue, opened, received, took, closed, tick, ended}
 use Rattle.served_instance.specs.declared.refusal.EventRefusal.{EventRefusal}
@@ -25,7 +25,7 @@ use Rattle.served_instance.specs.declared.refusal.EventRefusal.TheVariants.{Time
 use Rattle.served_instance.specs.Connections.{open_at, at_open, with_closed}
 use Rattle.served_instance.specs.Calls.{call_event_on, owed_items, with_items}
 use Rattle.instance_core.specs.Visible.{Blob}
-use Rattle.served_instance.specs.Lone.{LoneInstance, after_replies, after_call_event, after_call_events, due_at, without_due, after_due_on, after_frame_on, is_over, after_frames_on, after_fault_on, after_end_on, unread_frames, after_reading_on, lone_at_moment, effect_of}
+use Rattle.served_instance.specs.Lone.{LoneInstance, after_replies, after_call_event, after_call_events, due_at, without_due, after_due_on, after_frame_on, is_over, after_frames_on, after_fault_on, after_end_on, unread_frames, after_reading_on, after_bytes_on, lone_at_moment, effect_of}
 use Rattle.served_instance.specs.Refusals.{refusal_of, refusal_of_what, after_event_unless, lone_step}
 
 -- no change is one of the moment
@@ -37,6 +37,9 @@ changed_moment (Ends id ∷ changes) s = changed_moment changes (state_after_cha
 changed_moment (Wrote w ∷ changes) s = changed_moment changes (state_after_change (Wrote w) s)
 changed_moment (Keeps results ∷ changes) s = changed_moment changes (state_after_change (Keeps results) s)
 changed_moment (Expires ∷ changes) s = changed_moment changes (state_after_change Expires s)
+changed_moment (Does operation ∷ changes) s = changed_moment changes (state_after_change (Does operation) s)
+changed_moment (Pushes job ∷ changes) s = changed_moment changes (state_after_change (Pushes job) s)
+changed_moment (Settles steps ∷ changes) s = changed_moment changes (state_after_change (Settles steps) s)
 
 replied_moment : (replies : List ReplyValue) (l : LoneInstance) → (after_replies replies l).state.moment ≡ l.state.moment
 replied_moment [] l = refl
@@ -82,11 +85,11 @@ acted_moment : (what : WhatValue) (l : LoneInstance) → (effect_of what l).stat
 acted_moment (opened c) l = refl
 acted_moment (received c bytes) l =
     let m : LoneInstance = record l { connections = at_open c (with_bytes bytes) l.connections } in
-    read_moment c m (open_at c m.connections)
+    happened_moment start_jobs (after_bytes_on c bytes l) ∙ read_moment c m (open_at c m.connections)
 acted_moment (took c n) l = refl
 acted_moment (closed c) l = all_happened_moment c (option_map_or (λ p. cancels p.history) (open_at c l.connections) []) (record l { connections = with_closed c l.connections })
-acted_moment tick l = happened_moment time_passes l
-acted_moment (ended job outcome) l = refl
+acted_moment tick l = happened_moment end_late_jobs (after_call_event time_passes l) ∙ happened_moment time_passes l
+acted_moment (ended job outcome) l = happened_moment (end_job job outcome) l
 
 stepped_within : (parent : List Blob) (e : EventValue) (l : LoneInstance) (m : ℕ) (refusal : Option EventRefusal) → e.moment ≤ m → l.state.moment ≤ m → (after_event_unless parent e l refusal).state.moment ≤ m
 stepped_within parent e l m None le late = subst (λ (n : ℕ). n ≤ m) (sym (acted_moment e.what (lone_at_moment e.moment parent l))) le

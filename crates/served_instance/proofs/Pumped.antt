@@ -33,7 +33,7 @@ is_pumped : (p q : Slots) (i : InstanceSlots) (os ns : List OpenConnection) → 
 is_pumped p q i os ns kept pumped = record {
   stands = λ l st.
       let before = stands_by p i os l kept.fit st in
-      stands_for p q i ns (after_pump l) (release_finds p q i (map connection_shown os) (map connection_shown ns) kept pumped.releases) (record {
+      stands_for p q i ns (after_pump l) st.watched (release_finds p q i (map connection_shown os) (map connection_shown ns) kept pumped.releases) (record {
         state = same_state p q i (map connection_shown os) (map connection_shown ns) kept pumped.releases ∙ before.state;
         connections = pumped.stands l.connections before.connections;
       });

@@ -1,6 +1,6 @@
 -- What is refused by what is kept is refused by all that happened.
 use Rattle.std.proofs.Common.{◌≡◌, refl, sym, ap, ◌∙◌, subst}
-use Rattle.std.specs.Prelude.{ℕ, nat_le, nat_lt, ◌==◌, ◌&&◌, if◌then◌else◌, Bool, true, false, not, List, length, Option, Some, None, Err}
+use Rattle.std.specs.Prelude.{ℕ, nat_le, nat_lt, ◌==◌, ◌&&◌, if◌then◌else◌, Bool, true, false, not, List, [], length, Option, Some, None, Err}
 use Rattle.std.specs.Option.{is_some, option_map, option_map_or}
 use Rattle.conn_core.specs.History.{has_failed}
 use Rattle.grpc_sending.specs.Bytes.{pending_bytes, untaken_count}
@@ -10,22 +10,28 @@ use Rattle.conn_core.specs.CallsInCourse.{has_calls}
 use Rattle.conn_core.proofs.CallsInCourse.{same_calls}
 use Rattle.conn_core.specs.Past.{Past}
 use Rattle.conn_core.specs.StandsFor.{ConnectionValue}
+use Rattle.job_queue.specs.Jobs.{Jobs, running_job}
+use Rattle.executor.specs.Job.{JobValue}
+use Rattle.executor.specs.declared.job.Job.{Job}
+use Rattle.executor.specs.InPool.{jobs_in, job_in}
+use Rattle.executor.proofs.Taken.{shown-running}
 use Rattle.server_events.specs.Events.{EventValue, WhatValue, opened, received, took, closed, tick, ended}
 use Rattle.served_instance.specs.declared.refusal.EventRefusal.{EventRefusal}
 use Rattle.served_instance.specs.declared.refusal.EventRefusal.TheVariants.{NoSuchInstance, TimeWentBack, ConnectionExists, TooManyConnections, NoSuchConnection, NoSuchJob, TookTooMuch, NoMemory}
 use Rattle.served_instance.specs.Connections.{open_ones, open_at}
 use Rattle.instance_core.specs.Visible.{Blob}
 use Rattle.instance_core.specs.State.{seeing, InstanceState, at_moment}
-use Rattle.served_instance.specs.Lone.{LoneInstance, lone_at_moment, after_event}
+use Rattle.served_instance.specs.Lone.{LoneInstance, lone_at_moment, after_event, orders_of_what}
+use Rattle.executor.specs.Orders.{OrderValue}
 use Rattle.served_instance.specs.declared.instance.TheConstants.{CONNECTION_LIMIT}
-use Rattle.served_instance.specs.Refusals.{refusal_of, refusal_of_what, after_event_unless, lone_step, IsRefusalOutcome}
+use Rattle.served_instance.specs.Refusals.{refusal_of, refusal_of_what, after_event_unless, lone_step, orders_unless, lone_orders, IsRefusalOutcome}
 use Rattle.served_instance.specs.StandsFor.{ServedConnection, ServedState, IsServedInstance, AreSettled, connection_at}
 use Rattle.served_instance.specs.declared.open_connection.OpenConnection.{OpenConnection}
 use Rattle.served_instance.specs.Slots.{ServedSlots, served_state_in}
 use Rattle.served_instance.specs.Acts.{StandsBy}
 use Rattle.served_instance.specs.Ranges.{RangesEndWithin}
 use Rattle.served_instance.proofs.Ranges.{plain_served}
-use Rattle.served_instance.specs.Present.{refusal_by, refusal_by_what, unless_more}
+use Rattle.served_instance.specs.Present.{refusal_by, refusal_by_what, unless_more, unless_running}
 use Rattle.served_instance.proofs.Serves.{SameAt, same_at, same_length}
 
 same_presence : (texts : SourceTexts) (a : Option ConnectionValue) (b : Option Past) → SameAt texts a b → is_some a ≡ is_some b
@@ -73,22 +79,36 @@ same_ended texts (Some v) None s = absurd s
 abbrev to_open : Bool → ℕ → Option EventRefusal
 to_open there n = if there then Some ConnectionExists else if nat_le CONNECTION_LIMIT n then Some TooManyConnections else None
 
-same_by_what : (texts : SourceTexts) (w : WhatValue) (vs : List ServedConnection) (l : LoneInstance) → ((c : ℕ) → SameAt texts (connection_at c vs) (open_at c l.connections)) → length vs ≡ length (open_ones l.connections) → refusal_by_what w vs ≡ refusal_of_what w l
-same_by_what texts (opened c) vs l s n =
-    ap (λ (b : Bool). to_open b (length vs)) (same_presence texts _ _ (s c)) ∙ ap (λ (m : ℕ). to_open (is_some (open_at c l.connections)) m) n
-same_by_what texts (received c bytes) vs l s n = same_unless texts _ _ (Some NoSuchConnection) (s c)
-same_by_what texts (took c count) vs l s n = same_take texts count _ _ (Some NoSuchConnection) (s c)
-same_by_what texts (closed c) vs l s n = same_unless texts _ _ (Some NoSuchConnection) (s c)
-same_by_what texts tick vs l s n = refl
-same_by_what texts (ended job outcome) vs l s n = refl
+-- a job that is kept runs where the job runs that it stands for
+there_as : {A B : Type 0} (f : A → B) (o : Option A) → is_some o ≡ is_some (option_map f o)
+there_as f None = refl
+there_as f (Some x) = refl
+
+abbrev pub unless_there : Bool → Option EventRefusal
+unless_there there = if there then None else Some NoSuchJob
+
+same_running : (p : Slots) (n : ℕ) (jobs : Jobs Job) (s : InstanceState) → jobs_in p jobs ≡ s.jobs → unless_running n jobs ≡ unless_there (is_some (running_job n s.jobs))
+same_running p n jobs s e =
+    ap unless_there (there_as (job_in p) (running_job n jobs) ∙ ap is_some (sym (shown-running p n jobs)) ∙ ap (λ (js : Jobs JobValue). is_some (running_job n js)) e)
+
+same_by_what : (p : Slots) (w : WhatValue) (jobs : Jobs Job) (vs : List ServedConnection) (l : LoneInstance) → jobs_in p jobs ≡ l.state.jobs → ((c : ℕ) → SameAt (text_at p) (connection_at c vs) (open_at c l.connections)) → length vs ≡ length (open_ones l.connections) → refusal_by_what w jobs vs ≡ refusal_of_what w l
+same_by_what p (opened c) jobs vs l e s n =
+    ap (λ (b : Bool). to_open b (length vs)) (same_presence (text_at p) _ _ (s c)) ∙ ap (λ (m : ℕ). to_open (is_some (open_at c l.connections)) m) n
+same_by_what p (received c bytes) jobs vs l e s n = same_unless (text_at p) _ _ (Some NoSuchConnection) (s c)
+same_by_what p (took c count) jobs vs l e s n = same_take (text_at p) count _ _ (Some NoSuchConnection) (s c)
+same_by_what p (closed c) jobs vs l e s n = same_unless (text_at p) _ _ (Some NoSuchConnection) (s c)
+same_by_what p tick jobs vs l e s n = refl
+same_by_what p (ended job outcome) jobs vs l e s n = same_running p job jobs l.state e
 
 pub same_refusal : (p : Slots) (e : EventValue) (v : ServedSlots) (l : LoneInstance) → RangesEndWithin (text_at p) v.connections → IsServedInstance (served_state_in p v) l → refusal_by e v ≡ refusal_of e l
 same_refusal p e v l fit s =
     let texts = text_at p in
     let vs = v.connections in
     let stand = plain_served texts vs (open_ones l.connections) fit s.connections in
-    ap (λ (x : InstanceState). if nat_lt e.moment x.moment then Some TimeWentBack else refusal_by_what e.what vs) s.state
-    ∙ ap (λ (r : Option EventRefusal). if nat_lt e.moment l.state.moment then Some TimeWentBack else r) (same_by_what texts e.what vs l (λ c. same_at texts c vs l.connections stand) (same_length texts vs (open_ones l.connections) stand))
+    let jobs : jobs_in p v.instance.jobs ≡ l.state.jobs = ap (λ (x : InstanceState). x.jobs) s.state in
+    ap (λ (x : InstanceState). if nat_lt e.moment x.moment then Some TimeWentBack else refusal_by_what e.what v.instance.jobs vs) s.state
+    ∙ ap (λ (r : Option EventRefusal). if nat_lt e.moment l.state.moment then Some TimeWentBack else r)
+    (same_by_what p e.what v.instance.jobs vs l jobs (λ c. same_at texts c vs l.connections stand) (same_length texts vs (open_ones l.connections) stand))
 
 -- ---- what comes of an event
 
@@ -106,16 +126,19 @@ reason_at : (v : Option ConnectionValue) (f : ConnectionValue → Option EventRe
 reason_at None f h = tt
 reason_at (Some x) f h = h x
 
-reason_by_what : (w : WhatValue) (vs : List ServedConnection) → IsReason (refusal_by_what w vs)
-reason_by_what (opened c) vs = reason_if (is_some (connection_at c vs)) ConnectionExists _ tt (reason_if (nat_le CONNECTION_LIMIT (length vs)) TooManyConnections None tt tt)
-reason_by_what (received c bytes) vs = reason_at (connection_at c vs) (λ x. None) (λ x. tt)
-reason_by_what (took c n) vs = reason_at (connection_at c vs) (unless_more n) (λ x. reason_if (nat_lt (length x.sending.pending) n) TookTooMuch None tt tt)
-reason_by_what (closed c) vs = reason_at (connection_at c vs) (λ x. None) (λ x. tt)
-reason_by_what tick vs = tt
-reason_by_what (ended job outcome) vs = tt
+reason_by_what : (w : WhatValue) (jobs : Jobs Job) (vs : List ServedConnection) → IsReason (refusal_by_what w jobs vs)
+reason_by_what (opened c) jobs vs = reason_if (is_some (connection_at c vs)) ConnectionExists _ tt (reason_if (nat_le CONNECTION_LIMIT (length vs)) TooManyConnections None tt tt)
+reason_by_what (received c bytes) jobs vs = reason_at (connection_at c vs) (λ x. None) (λ x. tt)
+reason_by_what (took c n) jobs vs = reason_at (connection_at c vs) (unless_more n) (λ x. reason_if (nat_lt (length x.sending.pending) n) TookTooMuch None tt tt)
+reason_by_what (closed c) jobs vs = reason_at (connection_at c vs) (λ x. None) (λ x. tt)
+reason_by_what tick jobs vs = tt
+reason_by_what (ended job outcome) jobs vs = go (is_some (running_job job jobs)) where
+  go : (b : Bool) → IsReason (if b then None else Some NoSuchJob)
+  go true = tt
+  go false = tt
 
 is_reason : (e : EventValue) (v : ServedSlots) → IsReason (refusal_by e v)
-is_reason e v = reason_if (nat_lt e.moment v.instance.moment) TimeWentBack (refusal_by_what e.what v.connections) tt (reason_by_what e.what v.connections)
+is_reason e v = reason_if (nat_lt e.moment v.instance.moment) TimeWentBack (refusal_by_what e.what v.instance.jobs v.connections) tt (reason_by_what e.what v.instance.jobs v.connections)
 
 outcome_of : (A : Type 0) (r : EventRefusal) (reason : Option EventRefusal) → IsReason (Some r) → reason ≡ Some r → IsRefusalOutcome {A = A} (Err r) reason
 outcome_of A NoSuchInstance reason h e = e
@@ -151,6 +174,11 @@ settled_accepted parent p e v l h fit s a =
     let P : Option EventRefusal → Type 0 = λ o. AreSettled (after_event_unless parent e l o) in
     subst P (sym (no_reason p e v l h fit s)) a
 
+pub orders_accepted : (parent : List Blob) (p : Slots) (e : EventValue) (v : ServedSlots) (l : LoneInstance) (orders : List OrderValue) → None ≡ refusal_by e v → RangesEndWithin (text_at p) v.connections → IsServedInstance (served_state_in p v) l → orders ≡ orders_of_what e.what (lone_at_moment e.moment parent l) → orders ≡ lone_orders parent e l
+orders_accepted parent p e v l orders h fit s is =
+    let P : Option EventRefusal → Type 0 = λ o. orders ≡ orders_unless parent e l o in
+    subst P (sym (no_reason p e v l h fit s)) is
+
 -- an event comes
 pub came_stands : (parent : List Blob) (texts : SourceTexts) (m : ℕ) (s t : InstanceState) (os : List OpenConnection) (l : LoneInstance) → t ≡ at_moment m s → StandsBy texts s os l → StandsBy texts (seeing parent t) os (lone_at_moment m parent l)
 came_stands parent texts m s t os l e st = record { state = ap (seeing parent) (e ∙ ap (at_moment m) st.state); connections = st.connections }
@@ -169,5 +197,20 @@ what_by : (b : Bool) (r : Option EventRefusal) → (if b then Some TimeWentBack 
 what_by true r h = cc
 what_by false r h = h
 
-pub accepted_what : (e : EventValue) (v : ServedSlots) → refusal_by e v ≡ None → refusal_by_what e.what v.connections ≡ None
-accepted_what e v h = what_by (nat_lt e.moment v.instance.moment) (refusal_by_what e.what v.connections) h
+pub accepted_what : (e : EventValue) (v : ServedSlots) → refusal_by e v ≡ None → refusal_by_what e.what v.instance.jobs v.connections ≡ None
+accepted_what e v h = what_by (nat_lt e.moment v.instance.moment) (refusal_by_what e.what v.instance.jobs v.connections) h
+
+-- whatever the pool is
+pub runs_or_not : (n : ℕ) (jobs : Jobs Job) (there : Bool) → ((p : Slots) → there ≡ is_some (running_job n (jobs_in p jobs))) → unless_running n jobs ≡ unless_there there
+runs_or_not n jobs there e =
+    ap unless_there (there_as (job_in []) (running_job n jobs) ∙ ap is_some (sym (shown-running [] n jobs)) ∙ sym (e []))
+
+pub same_what : (w : WhatValue) (jobs others : Jobs Job) (vs : List ServedConnection) → ((p : Slots) → jobs_in p others ≡ jobs_in p jobs) → refusal_by_what w others vs ≡ refusal_by_what w jobs vs
+same_what (opened c) jobs others vs same = refl
+same_what (received c bytes) jobs others vs same = refl
+same_what (took c n) jobs others vs same = refl
+same_what (closed c) jobs others vs same = refl
+same_what tick jobs others vs same = refl
+same_what (ended job outcome) jobs others vs same =
+    let there : Bool = is_some (running_job job jobs) in
+    runs_or_not job others there (λ p. there_as (job_in p) (running_job job jobs) ∙ ap is_some (sym (shown-running p job jobs)) ∙ sym (ap (λ (js : Jobs JobValue). is_some (running_job job js)) (same p)))

@@ -179,6 +179,39 @@ releases_closed c p q os xs i o w at here left keeps none m =
     subst (λ (ys : List OpenConnection). Releases p (map connection_shown os) q (map connection_shown ys)) (sym same)
     (releases_removed c p q os i o w.spent (is_place c os i at) all m)
 
+-- the last of all was closed and taken out
+pub last_few : (xs : List OpenConnection) (o : OpenConnection) (k : ℕ) → count_of k (sources_of o.connection.sending) ≤ range_holders (map connection_shown (xs ++ o ∷ [])) k
+last_few [] o k = omega (arith, count_append k (sources_of o.connection.sending) [])
+last_few (x ∷ xs) o k =
+    let ih = last_few xs o k in
+    omega (arith, ih, count_append k (sources_of x.connection.sending) (sources_at (map connection_shown (xs ++ o ∷ []))))
+
+last_removed : (p q : Slots) (xs : List OpenConnection) (o : OpenConnection) (spent : List ℕ) → ((k : ℕ) → count_of k spent ≡ count_of k (sources_of o.connection.sending)) → Moves p q (λ k. count_of k spent) no_holders →
+    Releases p (map connection_shown (xs ++ o ∷ [])) q (map connection_shown xs)
+last_removed p q [] o spent all m = record {
+  gone = spent;
+  sources = λ k. omega (arith, all k, count_append k (sources_of o.connection.sending) []);
+  few = λ f. tt;
+  fit = λ texts f. tt;
+  moves = m;
+}
+last_removed p q (x ∷ xs) o spent all m = releases_behind p q (connection_shown x) (map connection_shown (xs ++ o ∷ [])) (map connection_shown xs) (last_removed p q xs o spent all m)
+
+-- what it tells is counted
+pub last_counted : (p q : Slots) (os ns xs : List OpenConnection) (o : OpenConnection) (w : StoredSending) (k : ℕ) → Releases p (map connection_shown os) q (map connection_shown ns) → ns ≡ xs ++ o ∷ [] → KeepsSources o.connection.sending w → w.queues ≡ [] →
+    range_holders (map connection_shown os) k ≤ count_at p k → count_of k w.spent ≤ count_at q k
+last_counted p q os ns xs o w k r is keeps none counted =
+    let held : range_holders (map connection_shown ns) k ≡ range_holders (map connection_shown (xs ++ o ∷ [])) k = ap (λ (ys : List OpenConnection). range_holders (map connection_shown ys) k) is in
+    omega (arith, held, all_spent o.connection.sending w k keeps none, last_few xs o k, r.sources k, r.moves.counts k, counted)
+
+pub releases_last : (p q r : Slots) (os ns xs : List OpenConnection) (o : OpenConnection) (w : StoredSending) → Releases p (map connection_shown os) q (map connection_shown ns) → ns ≡ xs ++ o ∷ [] → KeepsSources o.connection.sending w → w.queues ≡ [] →
+    Moves q r (λ k. count_of k w.spent) no_holders → Releases p (map connection_shown os) r (map connection_shown xs)
+releases_last p q r os ns xs o w before is keeps none m =
+    let now : Releases q (map connection_shown ns) r (map connection_shown xs) =
+    subst (λ (ys : List OpenConnection). Releases q (map connection_shown ys) r (map connection_shown xs)) (sym is)
+    (last_removed q r xs o w.spent (λ k. all_spent o.connection.sending w k keeps none) m) in
+    releases_trans p q r (map connection_shown os) (map connection_shown ns) (map connection_shown xs) before now
+
 -- ---- what the connections stand for
 
 pub set_stands : (texts : SourceTexts) (os : List OpenConnection) (ls : List LoneConnection) (i : ℕ) (d : OpenConnection) (w : ConnectionValue) → i < length os → Becomes (get_or os i d).connection (λ p. p) w → AreServed texts (map connection_shown os) ls → AreServed texts (map connection_shown (set os i (record { number = (get_or os i d).number; connection = w }))) ls

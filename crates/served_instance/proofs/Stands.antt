@@ -5,6 +5,7 @@ use Rattle.instance_core.specs.State.{at_moment}
 use Rattle.instance_core.specs.Slots.{InstanceSlots, state_in, state_beside}
 use Rattle.instance_core.specs.InstanceViewShown.{ViewValue, visible_in}
 use Rattle.instance_core.specs.State.{seeing}
+use Rattle.instance_core.specs.Watching.{WatchAtRest}
 use Rattle.served_instance.specs.declared.open_connection.OpenConnection.{OpenConnection}
 use Rattle.served_instance.specs.Connections.{open_ones}
 use Rattle.served_instance.specs.Lone.{LoneInstance, lone_at_moment, lone_at_rest}
@@ -32,11 +33,12 @@ came_by parent p i j os v moment l seen changed fit s =
     came_stands (visible_in p parent) (text_at p) moment (state_in p i) (state_in p j) os l changed (stands_by p i os l (subst (λ (x : ServedSlots). RangesEndWithin (text_at p) x.connections) (sym seen) fit) (subst S (sym seen) s))
 
 -- in another pool that has the texts of the ranges
-pub stands_for : (p q : Slots) (j : InstanceSlots) (ns : List OpenConnection) (l : LoneInstance) → FindAlike p q ns → StandsBy (text_at p) (state_in q j) ns l → IsServedInstance (served_state_in q (slots_of j ns)) l
-stands_for p q j ns l find st = record {
+pub stands_for : (p q : Slots) (j : InstanceSlots) (ns : List OpenConnection) (l : LoneInstance) → WatchAtRest l.state → FindAlike p q ns → StandsBy (text_at p) (state_in q j) ns l → IsServedInstance (served_state_in q (slots_of j ns)) l
+stands_for p q j ns l watched find st = record {
   state = st.state;
   connections = seen_served (text_at q) (map connection_shown ns) (open_ones l.connections)
       (served_agreed (text_at p) (text_at q) (map connection_shown ns) (open_ones l.connections) find st.connections);
+  watched = watched;
 }
 
 -- what was done with the texts of the one pool stands in the other, where sources were released

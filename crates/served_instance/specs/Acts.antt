@@ -10,11 +10,17 @@ use Rattle.grpc_sending.specs.StoredSending.{SourceTexts, AgreeOn, new_stored_se
 use Rattle.instance_core.specs.State.{InstanceState}
 use Rattle.served_instance.specs.declared.open_connection.OpenConnection.{OpenConnection}
 use Rattle.served_instance.specs.Connections.{open_at, open_ones}
-use Rattle.served_instance.specs.Lone.{LoneInstance, after_reading_on}
+use Rattle.served_instance.specs.Lone.{LoneInstance, after_reading_on, orders_of_what}
 use Rattle.served_instance.specs.StandsFor.{AreServed, connection_at}
 use Rattle.served_instance.specs.Ranges.{AllKeepRanges, sources_at}
 use Rattle.served_instance.specs.Slots.{ServedSlots}
-use Rattle.instance_core.specs.Slots.{InstanceSlots, state_beside}
+use Rattle.std.specs.declared.alloc.Global.{Global}
+use Rattle.std.specs.declared.vec.Vec.{Vec}
+use Rattle.executor.specs.declared.orders.Order.{Order}
+use Rattle.instance_core.specs.Slots.{InstanceSlots, state_beside, state_in}
+use Rattle.instance_core.specs.Turns.{orders_meant}
+use Rattle.instance_core.specs.Watching.{WatchAtRest}
+use Rattle.server_events.specs.Events.{WhatValue}
 use Rattle.instance_core.specs.InstanceViewShown.{ViewValue}
 use Rattle.blob_pool.specs.Slots.{Slots, text_at}
 use Rattle.served_instance.specs.Shown.{connection_shown}
@@ -101,6 +107,20 @@ ActsIn parent p i os q j ns step =
 
 abbrev pub without_sending : ConnectionValue → ConnectionValue
 without_sending v = record v { sending = new_stored_sending }
+
+-- .. behind an event, before which nobody watched a job that waits though it could run
+abbrev pub ActsAtRest : ViewValue → Slots → InstanceSlots → List OpenConnection → Slots →
+    InstanceSlots → List OpenConnection → (LoneInstance → LoneInstance) → Type 0
+ActsAtRest parent p i os q j ns step =
+    (l : LoneInstance) → WatchAtRest l.state → StandsBy (text_at p) (state_beside p parent i) os l →
+    StandsBy (text_at q) (state_beside q parent j) ns (step l)
+
+-- the orders are those of an event of this kind
+abbrev pub HasOrdersOf : ViewValue → Slots → InstanceSlots → List OpenConnection → Slots →
+    InstanceSlots → WhatValue → Vec Order Global → Type 0
+HasOrdersOf parent p i os q j what orders =
+    (l : LoneInstance) → StandsBy (text_at p) (state_beside p parent i) os l →
+    orders_meant (state_in q j).jobs orders.items ≡ orders_of_what what l
 
 -- an instance with its connections, as the code keeps it
 abbrev pub slots_of : InstanceSlots → List OpenConnection → ServedSlots

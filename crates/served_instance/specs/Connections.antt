@@ -41,6 +41,13 @@ with_closed c [] = []
 with_closed c (k ∷ ks) =
     if is_open_at c k then record k { is_open = false } ∷ ks else k ∷ with_closed c ks
 
+-- all are closed
+abbrev pub closed_one : LoneConnection → LoneConnection
+closed_one k = record k { is_open = false }
+
+abbrev pub all_closed : List LoneConnection → List LoneConnection
+all_closed ks = map closed_one ks
+
 -- a step of each open connection
 abbrev pub step_if_open : (Past → Past) → LoneConnection → LoneConnection
 step_if_open step k = if k.is_open then record k { past = step k.past } else k

@@ -1,9 +1,12 @@
--- What the steps of received bytes leave where memory is refused. For the code alone, but for
--- `receiver_of`, which `receiver` and the record of a run name.
+-- What events leave where memory is refused. For the code alone, but for `broken_by`, which the code
+-- and the record of a run name.
 use Rattle.std.specs.Prelude.{◌≡◌, ◌==◌, if◌then◌else◌, ℕ, List, [], ◌∷◌, Option, Some, None}
 use Rattle.grpc_sending.specs.StoredSending.{SourceTexts}
 use Rattle.instance_core.specs.Apart.{calls_apart}
-use Rattle.instance_core.specs.Calls.{CallEventValue}
+use Rattle.job_queue.specs.Jobs.{running_job}
+use Rattle.instance_core.specs.Answer.{ending_changes, state_after}
+use Rattle.instance_core.specs.Calls.{CallEventValue, tick as time_passes}
+use Rattle.instance_core.specs.Changes.{MadeInPart}
 use Rattle.instance_core.specs.State.{InstanceState}
 use Rattle.blob_pool.specs.Slots.{Slots, text_at}
 use Rattle.instance_core.specs.InstanceViewShown.{ViewValue}
@@ -13,7 +16,9 @@ use Rattle.served_instance.specs.declared.open_connection.OpenConnection.{OpenCo
 use Rattle.served_instance.specs.Lone.{LoneInstance}
 use Rattle.served_instance.specs.Acts.{StandsBy, FindAlike}
 use Rattle.served_instance.specs.Events.{bytes_events}
-use Rattle.served_instance.specs.Short.{IsCutShort}
+use Rattle.served_instance.specs.Short.{IsCutShort, without_job}
+use Rattle.served_instance.specs.declared.broken.Broken.{Broken}
+use Rattle.served_instance.specs.declared.broken.Broken.TheVariants.{Nothing, One, All, AllAndJob}
 
 -- the other connections
 abbrev pub others_of : ℕ → List OpenConnection → List OpenConnection
@@ -57,24 +62,40 @@ CutLeads parent p i os q j ns before after =
 
 -- ---- by the kind of the event
 
-abbrev pub events_brought : WhatValue → LoneInstance → List CallEventValue
-events_brought (received c bytes) l = bytes_events c bytes l
-events_brought what l = []
+-- what was done of an event, before anything is broken off
+abbrev pub CutsAct : WhatValue → ViewValue → Slots → InstanceSlots → List OpenConnection → Slots →
+    InstanceSlots → Type 0
+CutsAct (received c bytes) parent p i os q j = CutsShort parent p i os q j (bytes_events c bytes)
+CutsAct tick parent p i os q j =
+    state_beside q parent j ≡ state_after (state_beside p parent i) time_passes
+CutsAct (ended job outcome) parent p i os q j =
+    let s = state_beside p parent i in
+    MadeInPart (ending_changes s outcome (running_job job s.jobs)) s (state_beside q parent j)
+CutsAct what parent p i os q j = state_beside q parent j ≡ state_beside p parent i
 
--- the connection whose bytes an event brings
-abbrev pub receiver_of : WhatValue → Option ℕ
-receiver_of (received c bytes) = Some c
-receiver_of what = None
+-- what want of memory breaks off: the connection whose bytes came, or all, and with an outcome its
+-- job
+abbrev pub broken_by : WhatValue → Broken
+broken_by (opened c) = Nothing
+broken_by (received c bytes) = One c
+broken_by (took c n) = Nothing
+broken_by (closed c) = Nothing
+broken_by tick = All
+broken_by (ended job outcome) = AllAndJob job
 
-abbrev pub others_by : Option ℕ → List OpenConnection → List OpenConnection
-others_by None os = os
-others_by (Some c) os = others_of c os
+abbrev pub others_by : Broken → List OpenConnection → List OpenConnection
+others_by Nothing os = os
+others_by (One c) os = others_of c os
+others_by All os = []
+others_by (AllAndJob n) os = []
 
 -- those that an event leaves that was refused for want of memory
 abbrev pub others_than : WhatValue → List OpenConnection → List OpenConnection
-others_than what os = others_by (receiver_of what) os
+others_than what os = others_by (broken_by what) os
 
--- without the calls on the connection
-abbrev pub state_without : Option ℕ → InstanceState → InstanceState
-state_without None s = s
-state_without (Some c) s = record s { calls = calls_apart c s.calls }
+-- without the calls on the connections, and without the job
+abbrev pub state_without : Broken → InstanceState → InstanceState
+state_without Nothing s = s
+state_without (One c) s = record s { calls = calls_apart c s.calls }
+state_without All s = record s { calls = [] }
+state_without (AllAndJob n) s = without_job n (record s { calls = [] })

@@ -12,6 +12,8 @@ pub mod Present
 pub mod Acts
 pub mod Events
 pub mod Short
+pub mod Narrow
+pub mod Losses
 pub mod Cuts
 pub use Rattle.conn_core.specs.Writing
 pub use Rattle.conn_core.specs.History

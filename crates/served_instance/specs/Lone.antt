@@ -1,7 +1,8 @@
 -- One instance by itself: what each event makes of it and of its connections. Nothing else is read.
 -- To be read from the last definitions up: `after_event` is what an event does that is not refused
 -- (Refusals.antt says which are), `effect_of` has a case for each kind of event, and
--- `all_sent_bytes` is what was put. A connection's `Past` (conn_core, Past.antt) is all bytes that
+-- `all_sent_bytes` is what was put. `orders_of_what` is what an event orders of whoever runs jobs,
+-- by the same cases. A connection's `Past` (conn_core, Past.antt) is all bytes that
 -- were received on it; its history, that is all frames received and put and all takings of bytes,
 -- in order; the items of responses that its streams were ever owed; and the events of calls that
 -- are due. `with_frame`, `with_fault`, `with_taken` and `with_pumped` say what one step adds to it.
@@ -19,11 +20,12 @@ use Rattle.conn_core.specs.declared.event.CallEvent.{CallEvent}
 use Rattle.conn_core.specs.Received.{received_raw_frames}
 use Rattle.conn_core.specs.Calls.{cancels}
 use Rattle.conn_core.specs.Past.{Past, new_past, with_frame, with_fault, with_taken, with_pumped, with_bytes}
-use Rattle.instance_core.specs.Calls.{CallEventValue, tick as time_passes}
+use Rattle.executor.specs.Orders.{OrderValue}
+use Rattle.instance_core.specs.Calls.{CallEventValue, tick as time_passes, start_jobs, end_late_jobs, end_job}
 use Rattle.instance_core.specs.State.{InstanceState, new_instance, at_moment, seeing}
 use Rattle.instance_core.specs.Visible.{Blob}
 use Rattle.instance_core.specs.Replies.{ReplyValue}
-use Rattle.instance_core.specs.Answer.{answer, state_after}
+use Rattle.instance_core.specs.Answer.{answer, orders_at, state_after}
 use Rattle.server_events.specs.Events.{EventValue, WhatValue, opened, received, took, closed, tick, ended}
 use Rattle.served_instance.specs.Connections.{LoneConnection, open_at, at_open, with_closed, at_all_open}
 use Rattle.served_instance.specs.Calls.{call_event_on, owed_items, with_items}
@@ -115,7 +117,7 @@ after_bytes_on c bytes l =
     let m : LoneInstance = record l { connections = at_open c (with_bytes bytes) l.connections } in
     after_reading_on c m (open_at c m.connections)
 
--- ---- the other events
+-- ---- all events: received bytes are read first, and then the jobs start for which there is a slot
 
 -- a connection opens with the server's SETTINGS
 abbrev pub after_opening : ℕ → LoneInstance → LoneInstance
@@ -131,11 +133,20 @@ after_closing c l =
 
 abbrev pub effect_of : WhatValue → LoneInstance → LoneInstance
 effect_of (opened c) l = after_opening c l
-effect_of (received c bytes) l = after_bytes_on c bytes l
+effect_of (received c bytes) l = after_call_event start_jobs (after_bytes_on c bytes l)
 effect_of (took c n) l = record l { connections = at_open c (λ p. with_taken p n) l.connections }
 effect_of (closed c) l = after_closing c l
-effect_of tick l = after_call_event time_passes l
-effect_of (ended job outcome) l = l
+effect_of tick l = after_call_event end_late_jobs (after_call_event time_passes l)
+effect_of (ended job outcome) l = after_call_event (end_job job outcome) l
+
+-- what is ordered of whoever runs jobs: at the end of what an event does
+abbrev pub orders_of_what : WhatValue → LoneInstance → List OrderValue
+orders_of_what (opened c) l = []
+orders_of_what (received c bytes) l = orders_at (after_bytes_on c bytes l).state start_jobs
+orders_of_what (took c n) l = []
+orders_of_what (closed c) l = []
+orders_of_what tick l = orders_at (after_call_event time_passes l).state end_late_jobs
+orders_of_what (ended job outcome) l = orders_at l.state (end_job job outcome)
 
 -- all that can be put is put, on each open connection
 abbrev pub after_pump : LoneInstance → LoneInstance

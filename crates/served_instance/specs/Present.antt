@@ -2,6 +2,8 @@
 use Rattle.std.specs.Prelude.{ℕ, ◌≤◌, ◌==◌, Bool, nat_le, nat_lt, if◌then◌else◌, List, length, Option, Some, None}
 use Rattle.std.specs.Option.{is_some, option_map_or}
 use Rattle.conn_core.specs.StandsFor.{ConnectionValue}
+use Rattle.job_queue.specs.Jobs.{Jobs, running_job}
+use Rattle.executor.specs.declared.job.Job.{Job}
 use Rattle.server_events.specs.Events.{EventValue, WhatValue, opened, received, took, closed, tick, ended}
 use Rattle.served_instance.specs.declared.open_connection.OpenConnection.{OpenConnection}
 use Rattle.served_instance.specs.declared.refusal.EventRefusal.{EventRefusal}
@@ -28,18 +30,21 @@ unless_more n v = if nat_lt (length v.sending.pending) n then Some TookTooMuch e
 abbrev pub refusal_to_take : ℕ → ℕ → List ServedConnection → Option EventRefusal
 refusal_to_take c n vs = option_map_or (unless_more n) (connection_at c vs) (Some NoSuchConnection)
 
-abbrev pub refusal_by_what : WhatValue → List ServedConnection → Option EventRefusal
-refusal_by_what (opened c) vs = refusal_to_open c vs
-refusal_by_what (received c bytes) vs = unless_present c vs
-refusal_by_what (took c n) vs = refusal_to_take c n vs
-refusal_by_what (closed c) vs = unless_present c vs
-refusal_by_what tick vs = None
-refusal_by_what (ended job outcome) vs = Some NoSuchJob
+abbrev pub unless_running : ℕ → Jobs Job → Option EventRefusal
+unless_running n jobs = if is_some (running_job n jobs) then None else Some NoSuchJob
+
+abbrev pub refusal_by_what : WhatValue → Jobs Job → List ServedConnection → Option EventRefusal
+refusal_by_what (opened c) jobs vs = refusal_to_open c vs
+refusal_by_what (received c bytes) jobs vs = unless_present c vs
+refusal_by_what (took c n) jobs vs = refusal_to_take c n vs
+refusal_by_what (closed c) jobs vs = unless_present c vs
+refusal_by_what tick jobs vs = None
+refusal_by_what (ended job outcome) jobs vs = unless_running job jobs
 
 abbrev pub refusal_by : EventValue → ServedSlots → Option EventRefusal
 refusal_by e v =
     if nat_lt e.moment v.instance.moment then Some TimeWentBack
-    else refusal_by_what e.what v.connections
+    else refusal_by_what e.what v.instance.jobs v.connections
 
 -- no more than waits
 abbrev pub CanTake : ℕ → Option ConnectionValue → Type 0

@@ -5,6 +5,7 @@ use Rattle.grpc_sending.specs.Settled.{IsSettled}
 use Rattle.grpc_sending.specs.StoredSending.{SourceTexts}
 use Rattle.conn_core.specs.StandsFor.{ConnectionValue, IsConnection}
 use Rattle.instance_core.specs.State.{InstanceState, IsInstanceWithin}
+use Rattle.instance_core.specs.Watching.{WatchAtRest}
 use Rattle.served_instance.specs.Connections.{LoneConnection, open_ones}
 use Rattle.served_instance.specs.Lone.{LoneInstance}
 use Rattle.served_instance.specs.declared.instance.TheConstants.{CONNECTION_LIMIT}
@@ -37,6 +38,8 @@ no_texts n = []
 pub record IsServedInstance (v : ServedState) (l : LoneInstance) : Type 0 where
   pub state : v.state ≡ l.state
   pub connections : AreServed no_texts v.connections (open_ones l.connections)
+  -- nobody watches a job that waits though it could run
+  pub watched : WatchAtRest l.state
 
 -- the limits that a served instance keeps
 pub record IsServedWithin (v : ServedState) : Type 0 where

@@ -1,6 +1,6 @@
 //! What happens to the calls on an instance's connections.
 
-ghost use Rattle.std.specs.Prelude.{◌≡◌, ◌<◌, ◌≤◌, ℕ, List, false, IsTrue, IfOk, OnOk, OnErr, length, map};
+ghost use Rattle.std.specs.Prelude.{◌≡◌, ◌<◌, ◌≤◌, ℕ, List, [], false, IsTrue, IfOk, OnOk, OnErr, length, map};
 ghost use Rattle.instance_core.specs.Calls.{IsShortEvent};
 ghost use Rattle.instance_core.specs.Apart.{calls_apart};
 ghost use Rattle.instance_core.specs.Shown.{event_shown};
@@ -207,6 +207,32 @@ pub(crate) fn break_off(
 {
     remove(pool, connections, number);
     instance.forget(number);
+}
+
+/// All connections go after memory was refused: whatever they stand for, the sources of their ranges
+/// are released, and all calls are forgotten. This takes no memory.
+pub(crate) fn break_off_all(
+    pool: &mut Pool,
+    instance: &mut Instance,
+    connections: &mut Vec<OpenConnection>,
+)
+    requires { (k : ℕ) → range_holders (map connection_shown connections.old.items) k
+        ≤ count_at pool.old k }
+    ensures left { connections.new.items ≡ [] }
+    ensures forgotten { (p : Slots) → state_in p instance.new
+        ≡ record (state_in p instance.old) { calls = [] } }
+    ensures releases { Releases pool.old (map connection_shown connections.old.items)
+        pool.new (map connection_shown connections.new.items) }
+    ensures holders { (k : ℕ) → holders_of_instance instance.new k
+        ≡ holders_of_instance instance.old k }
+    ensures kept { (p : Slots) → IsInstanceInPool p instance.old → IsInstanceInPool p instance.new }
+{
+    'connections: while let Some(last) = connections.pop() {
+        let mut broken = last.connection;
+        broken.close();
+        release_spent(pool, &mut broken);
+    }
+    instance.forget_all();
 }
 
 /// The connection goes, and the sources of its ranges are released.

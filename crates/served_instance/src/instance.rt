@@ -8,14 +8,19 @@ ghost use Rattle.conn_core.specs.CallsInCourse.{has_calls};
 ghost use Rattle.conn_core.specs.Past.{Past, with_pumped};
 ghost use Rattle.served_instance.specs.Connections.{LoneConnection, AreApart, open_at, open_ones, at_all_open};
 ghost use Rattle.served_instance.specs.Lone.{LoneInstance, new_lone, effect_of, after_opening, after_pump};
-ghost use Rattle.served_instance.specs.Refusals.{NeedsNoMemory, refusal_of, lone_step, IsRefusalOutcome};
+ghost use Rattle.served_instance.specs.Refusals.{NeedsNoMemory, refusal_of, lone_step, lone_orders, IsRefusalOutcome};
 ghost use Rattle.served_instance.specs.StandsFor.{IsServedInstance, IsServedWithin, AreServed, AreSettled};
-ghost use Rattle.served_instance.specs.Present.{refusal_by, refusal_by_what, refusal_to_open, unless_present, refusal_to_take};
+ghost use Rattle.served_instance.specs.Present.{refusal_by, refusal_by_what, refusal_to_open, unless_present, unless_running, refusal_to_take};
 ghost use Rattle.served_instance.specs.Short.{IsServedShort};
-ghost use Rattle.served_instance.specs.Cuts.{CutsShort, others_by, others_than, receiver_of, state_without, events_brought};
+ghost use Rattle.served_instance.specs.Cuts.{CutsAct, others_by, others_than, state_without};
 ghost use Rattle.served_instance.specs.Shown.{connection_shown};
-ghost use Rattle.served_instance.specs.Acts.{Acts, ActsIn, HoldAlike, FindAlike, slots_of};
-ghost use Rattle.served_instance.specs.Ranges.{RangesEndWithin, Releases, range_holders, spent_sources};
+ghost use Rattle.served_instance.specs.Acts.{Acts, ActsAtRest, HasOrdersOf, HoldAlike, FindAlike, slots_of};
+ghost use Rattle.grpc_sending.specs.StoredSending.{SourceTexts};
+ghost use Rattle.job_queue.specs.declared.queue.TheConstants.{MOST_RUNNING};
+ghost use Rattle.executor.specs.InPool.{task_in};
+ghost use Rattle.executor.specs.Orders.{task_of};
+ghost use Rattle.instance_core.specs.Turns.{orders_meant};
+ghost use Rattle.served_instance.specs.Ranges.{HaveFewSources, RangesEndWithin, Releases, range_holders, spent_sources};
 ghost use Rattle.instance_core.specs.State.{InstanceState};
 ghost use Rattle.instance_core.specs.Slots.{state_in, holders_of_instance, IsInstanceInPool};
 ghost use Rattle.instance_core.specs.InstanceViewShown.{visible_in};
@@ -24,14 +29,16 @@ ghost use Rattle.blob_pool.specs.Slots.{Slots, text_at, count_at};
 ghost use Rattle.blob_pool.specs.Moves.{Moves, no_holders};
 ghost use Rattle.instance_core.specs.Within.{most_stored_bytes};
 
-use crate::calls::{break_off, close, receive};
+use crate::broken::Broken;
+use crate::calls::{break_off, break_off_all, close};
+use crate::jobs::{end_run, pass_time, receive_and_start};
 use crate::open_connection::{OpenConnection, connection_at, connection_near, take};
 use crate::pool_parts::PoolParts;
 use crate::refusal::EventRefusal;
 use crate::release::release_all;
 use blob_pool::Pool;
 use conn_core::Connection;
-use instance_core::Instance;
+use instance_core::{Instance, Order, Task};
 use instance_view::View;
 use server_events::{Event, InstanceConfig, What};
 use std::alloc::{AllocError, Global};
@@ -77,6 +84,7 @@ impl ServedInstance {
     /// An instance that nothing has happened to.
     pub fn new(alloc: Global, config: &InstanceConfig) -> Result<ServedInstance, AllocError>
         requires quota { config.now.quota ≤ most_stored_bytes }
+        requires slots { config.now.slots ≤ MOST_RUNNING }
         ensures stands { (p : Slots) → IfOk result
             (λ served. IsServedInstance (served_state_in p served)
             (new_lone (string_bytes config.now.name) config.now.quota config.now.slots)) }
@@ -97,12 +105,26 @@ impl ServedInstance {
         self.instance.view()
     }
 
+    /// The task of the job that runs under a number, where one does. Its texts lie in the pool.
+    pub fn task(&self, job: u64) -> Option<&Task>
+        ensures { (p : Slots) → option_map (λ task. task_in p task.now) result
+            ≡ task_of job (state_in p self.now.instance).jobs }
+    {
+        self.instance.task(job)
+    }
+
     /// Takes an event, with the pool that has the instance's texts: it is refused for the first
     /// reason that stands, and then nothing is changed; or it is carried out to its end, and all
-    /// that can be put on open connections is put. Where memory is refused a part of it was done,
-    /// as `Short` says, and the event's connection is gone; the instance goes on from there. The
-    /// texts of `parent` are read too, and stay.
-    pub fn step(&mut self, parent: &View, pool: &mut Pool, event: Event) -> Result<(), EventRefusal>
+    /// that can be put on open connections is put. It gives the orders to whoever runs jobs. Where
+    /// memory is refused a part of it was done, as `Short` says, and the event's connection is
+    /// gone, or all are; the instance goes on from there. The texts of `parent` are read too, and
+    /// stay.
+    pub fn step(
+        &mut self,
+        parent: &View,
+        pool: &mut Pool,
+        event: Event,
+    ) -> Result<Vec<Order>, EventRefusal>
         requires kept { IsServedInPool pool.old self.old }
         requires beside { IsServedBeside pool.old parent.now self.old }
         ensures outcome { (l : LoneInstance) →
@@ -124,6 +146,11 @@ impl ServedInstance {
         ensures settled { OnOk result ((l : LoneInstance) →
             IsServedInstance (served_state_in pool.old self.old) l
             → AreSettled (lone_step (visible_in pool.old parent.now) (event_value event) l)) }
+        // The orders are those of the event.
+        ensures orders { IfOk result (λ orders. (l : LoneInstance) →
+            IsServedInstance (served_state_in pool.old self.old) l
+            → orders_meant (state_in pool.new self.new.instance).jobs orders.items
+            ≡ lone_orders (visible_in pool.old parent.now) (event_value event) l) }
         // No source is held of a range that is over.
         ensures released { OnOk result (spent_sources self.new.connections ≡ []) }
         ensures moves { Moves pool.old pool.new (holders_of self.old) (holders_of self.new) }
@@ -134,7 +161,7 @@ impl ServedInstance {
         }
         self.instance.set_moment(event.moment);
         let alloc = *self.connections.allocator();
-        let broken = receiver(&event.what);
+        let broken = Broken::by(&event.what);
         match act(
             alloc,
             parent,
@@ -144,12 +171,12 @@ impl ServedInstance {
             event.what,
         ) {
             Err(_) => {
-                break_off_if(pool, &mut self.instance, &mut self.connections, broken);
+                break_off_by(pool, &mut self.instance, &mut self.connections, broken);
                 Err(EventRefusal::NoMemory)
             }
-            Ok(()) => {
+            Ok(orders) => {
                 self.pump(pool);
-                Ok(())
+                Ok(orders)
             }
         }
     }
@@ -216,7 +243,7 @@ impl ServedInstance {
             What::Bytes(number, _) | What::Closed(number) => unless_open(connections, *number),
             What::Took(number, count) => refusal_to_take(connections, *number, *count),
             What::Tick => None,
-            What::Outcome(..) => Some(EventRefusal::NoSuchJob),
+            What::Outcome(job, _) => unless_running(&self.instance, *job),
         }
     }
 
@@ -233,37 +260,31 @@ impl ServedInstance {
     }
 }
 
-/// The connection whose bytes the event brings.
-pub fn receiver(what: &What) -> Option<u32>
-    ensures { result ≡ receiver_of (what_value what.now) }
-{
-    match what {
-        What::Bytes(number, _) => Some(*number),
-        What::Open(_) | What::Took(..) | What::Closed(_) | What::Tick | What::Outcome(..) => None,
-    }
-}
-
-/// Lets go of the connection on which memory was refused, if there is one. This takes no memory.
-fn break_off_if(
+/// Lets go of what want of memory breaks off. This takes no memory.
+fn break_off_by(
     pool: &mut Pool,
     instance: &mut Instance,
     connections: &mut Vec<OpenConnection>,
-    broken: Option<u32>,
+    broken: Broken,
 )
-    requires { (k : ℕ) → range_holders (map connection_shown connections.old.items) k
-        ≤ count_at pool.old k }
+    requires { IsServedInPool pool.old (slots_of instance.old connections.old.items) }
     ensures left { connections.new.items ≡ others_by broken connections.old.items }
-    ensures forgotten { (p : Slots) → state_in p instance.new
-        ≡ state_without broken (state_in p instance.old) }
-    ensures fewer { length connections.new.items ≤ length connections.old.items }
-    ensures releases { Releases pool.old (map connection_shown connections.old.items)
-        pool.new (map connection_shown connections.new.items) }
-    ensures holders { (k : ℕ) → holders_of_instance instance.new k
-        ≡ holders_of_instance instance.old k }
-    ensures kept { (p : Slots) → IsInstanceInPool p instance.old → IsInstanceInPool p instance.new }
+    ensures forgotten { state_in pool.new instance.new
+        ≡ state_without broken (state_in pool.old instance.old) }
+    ensures finds { FindAlike pool.old pool.new connections.new.items }
+    ensures moves { Moves pool.old pool.new
+        (holders_of (slots_of instance.old connections.old.items))
+        (holders_of (slots_of instance.new connections.new.items)) }
+    ensures kept { IsServedInPool pool.new (slots_of instance.new connections.new.items) }
 {
-    if let Some(number) = broken {
-        break_off(pool, instance, connections, number);
+    match broken {
+        Broken::Nothing => {}
+        Broken::One(number) => break_off(pool, instance, connections, number),
+        Broken::All => break_off_all(pool, instance, connections),
+        Broken::AllAndJob(job) => {
+            break_off_all(pool, instance, connections);
+            instance.forget_job(pool, job);
+        }
     }
 }
 
@@ -275,18 +296,20 @@ fn act(
     instance: &mut Instance,
     connections: &mut Vec<OpenConnection>,
     what: What,
-) -> Result<(), AllocError>
-    requires accepted { refusal_by_what (what_value what)
+) -> Result<Vec<Order>, AllocError>
+    requires accepted { refusal_by_what (what_value what) instance.old.jobs
         (map connection_shown connections.old.items)
         ≡ None }
     requires kept { IsServedInPool pool.old (slots_of instance.old connections.old.items) }
     requires beside { IsServedBeside pool.old parent.now
         (slots_of instance.old connections.old.items) }
-    ensures acted { OnOk result (ActsIn parent.now pool.old instance.old connections.old.items
+    ensures acted { OnOk result (ActsAtRest parent.now pool.old instance.old connections.old.items
         pool.new instance.new connections.new.items (effect_of (what_value what))) }
+    ensures orders { IfOk result (HasOrdersOf parent.now pool.old instance.old
+        connections.old.items pool.new instance.new (what_value what)) }
     ensures memory_free { OnErr result (NeedsNoMemory (what_value what) → ⊥) }
-    ensures memory { OnErr result (CutsShort parent.now pool.old instance.old connections.old.items
-        pool.new instance.new (events_brought (what_value what))) }
+    ensures memory { OnErr result (CutsAct (what_value what) parent.now pool.old instance.old
+        connections.old.items pool.new instance.new) }
     ensures others { OnErr result (others_than (what_value what) connections.new.items
         ≡ others_than (what_value what) connections.old.items) }
     ensures finds { OnErr result (FindAlike pool.old pool.new
@@ -297,23 +320,23 @@ fn act(
     ensures kept { IsServedInPool pool.new (slots_of instance.new connections.new.items) }
 {
     match what {
-        What::Open(number) => open(alloc, connections, number),
+        What::Open(number) => {
+            open(alloc, connections, number)?;
+            Ok(Vec::new(alloc))
+        }
         What::Bytes(number, bytes) => {
-            receive(alloc, parent, pool, instance, connections, number, bytes)
-        },
+            receive_and_start(alloc, parent, pool, instance, connections, number, bytes)
+        }
         What::Took(number, count) => {
             take(connections, number, count as usize);
-            Ok(())
+            Ok(Vec::new(alloc))
         }
         What::Closed(number) => {
             close(pool, instance, connections, number);
-            Ok(())
+            Ok(Vec::new(alloc))
         }
-        What::Tick => {
-            instance.tick();
-            Ok(())
-        }
-        What::Outcome(..) => Ok(()),
+        What::Tick => pass_time(alloc, pool, instance, connections),
+        What::Outcome(job, outcome) => { end_run(alloc, pool, instance, connections, job, outcome) }
     }
 }
 
@@ -396,5 +419,16 @@ fn refusal_to_take(connections: &[OpenConnection], number: u32, count: u32) -> O
         None => Some(EventRefusal::NoSuchConnection),
         Some(kept) if (count as usize) > kept.pending().len() => Some(EventRefusal::TookTooMuch),
         Some(_) => None,
+    }
+}
+
+/// A job has to run under the number.
+fn unless_running(instance: &Instance, job: u64) -> Option<EventRefusal>
+    ensures { result ≡ unless_running job instance.now.jobs }
+{
+    if instance.is_running(job) {
+        None
+    } else {
+        Some(EventRefusal::NoSuchJob)
     }
 }

@@ -1,16 +1,23 @@
 //! What follows from the definitions alone.
 
+ghost use Rattle.std.specs.Prelude.{◌≡◌, ℕ, List};
+ghost use Rattle.outcomes.specs.Outcomes.{OutcomeValue};
 ghost use Rattle.instance_core.specs.Losses.{LosesByRules};
-ghost use Rattle.std.specs.Prelude.{List};
 ghost use Rattle.instance_core.specs.State.{at_moment, seeing};
 ghost use Rattle.instance_core.specs.Visible.{Blob};
-ghost use Rattle.server_events.specs.Events.{EventValue};
+ghost use Rattle.server_events.specs.Events.{EventValue, ended};
 ghost use Rattle.served_instance.specs.Lone.{LoneInstance};
+ghost use Rattle.served_instance.specs.Losses.{IsNoOutcome, LosesWithJob};
 ghost use Rattle.served_instance.specs.Short.{Short};
 
-/// An event that was refused for want of memory loses blobs, results and uploads only by the rules
-/// by which each event loses them, at its moment.
+/// An event that was refused for want of memory loses what an instance keeps only by the rules by
+/// which each event loses it, at its moment. Where the outcome of a job was refused, that job is
+/// lost too, and no other.
 pub fn want_of_memory_loses_by_rules()
-    ensures { (parent : List Blob) (e : EventValue) (l m : LoneInstance) → Short parent e l m
+    ensures rules { (parent : List Blob) (e : EventValue) (l m : LoneInstance)
+        → IsNoOutcome e.what → Short parent e l m
         → LosesByRules (seeing parent (at_moment e.moment l.state)) (seeing parent m.state) }
+    ensures outcome { (parent : List Blob) (e : EventValue) (l m : LoneInstance) (job : ℕ)
+        (outcome : OutcomeValue) → e.what ≡ ended job outcome → Short parent e l m
+        → LosesWithJob job (seeing parent (at_moment e.moment l.state)) (seeing parent m.state) }
 {}

@@ -2,8 +2,10 @@
 //! for its clients.
 #![tactic(auto)]
 
+mod broken;
 mod calls;
 mod instance;
+mod jobs;
 mod laws;
 mod limits;
 mod open_connection;
@@ -12,7 +14,9 @@ mod refusal;
 mod release;
 mod replies;
 
-pub use instance::{CONNECTION_LIMIT, ServedInstance, receiver};
+pub use broken::Broken;
+pub use instance::{CONNECTION_LIMIT, ServedInstance};
+pub use instance_core::{Order, Step, Task};
 pub use laws::want_of_memory_loses_by_rules;
 pub use limits::limit_of_connections;
 pub use refusal::EventRefusal;

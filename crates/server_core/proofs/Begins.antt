@@ -9,6 +9,8 @@ use Rattle.std.proofs.lemmas.Bool.{cases_lt}
 use Rattle.std.proofs.lemmas.List.{get_or-map, map_more, length-map}
 use Rattle.std.proofs.lemmas.Grind.{common_steps}
 use Rattle.server_events.specs.declared.configs.InstanceConfig.{InstanceConfig}
+use Rattle.job_queue.specs.declared.queue.TheConstants.{MOST_RUNNING}
+use Rattle.server_events.specs.Instance.{slots_limit}
 use Rattle.server_events.specs.Configs.{ConfigValue, instance_limit}
 use Rattle.server_events.specs.Faults.{IsConfig}
 use Rattle.server_events.specs.Shown.{config_value}
@@ -33,6 +35,13 @@ pub quota_in : (xs : List InstanceConfig) (k : ℕ) (x : InstanceConfig) → k <
 quota_in xs k x lt at all =
     let c : IsConfig (get_or (map config_value xs) k (config_value x)) = all k (config_value x) (rw length-map lt) in
     subst (λ (v : ConfigValue). v.quota ≤ 2 ^ 40) (get_or-map config_value xs k x (config_value x) lt ∙ ap config_value (sym at)) c.quota
+
+-- and how many actions it may run at once
+pub slots_in : (xs : List InstanceConfig) (k : ℕ) (x : InstanceConfig) → k < length xs → x ≡ get_or xs k x → All IsConfig (map config_value xs) → x.slots ≤ MOST_RUNNING
+slots_in xs k x lt at all =
+    let c : IsConfig (get_or (map config_value xs) k (config_value x)) = all k (config_value x) (rw length-map lt) in
+    let slots = subst (λ (v : ConfigValue). v.slots ≤ slots_limit) (get_or-map config_value xs k x (config_value x) lt ∙ ap config_value (sym at)) c.slots in
+    omega (arith, slots)
 
 abbrev pub Starts : List ConfigValue → List ServedState → Type 0
 Starts configs vs = (i : ℕ) (config : ConfigValue) → config_at i configs ≡ Some config → StandsAt i vs (new_lone config.name config.quota config.slots)
@@ -131,11 +140,3 @@ server_begun p xs empty few none within = record {
   where
     no_count : (k : ℕ) → count_at [] k ≡ 0
     no_count k = refl
-
--- the configurations that a server may have
-pub quota_of : (xs : List InstanceConfig) (configs : List ConfigValue) (i : ℕ) (config : ConfigValue) → configs ≡ map config_value xs → All IsConfig (map config_value xs) → config_at i configs ≡ Some config → config.quota ≤ 2 ^ 40
-quota_of xs configs i config is all at =
-    let there : config_at i (map config_value xs) ≡ Some config = ap (config_at i) (sym is) ∙ at in
-    let lt = slice_get_within (map config_value xs) i config there in
-    let c : IsConfig (get_or (map config_value xs) i config) = all i config lt in
-    subst (λ (v : ConfigValue). v.quota ≤ 2 ^ 40) (get_or_from_slice_get (map config_value xs) i config config there) c.quota

@@ -3,16 +3,21 @@ use Rattle.std.proofs.Common.{◌≡◌, ◌≢◌, ℕ, ◌+◌, List, [], ◌�
 use Rattle.std.specs.Prelude.{Result, Err, Bool, true, false, cond, not, filter, ◌==◌, ◌&&◌, Option, Some, None, fold, nat_lt}
 use Rattle.std.specs.List.{slice_get, AllByRecursion}
 use Rattle.std.proofs.Math.ListN.{set}
-use Rattle.std.proofs.lemmas.Bool.{cases_eq, eq-eqb, ne_eqb}
+use Rattle.std.proofs.lemmas.Bool.{cases_eq, eq-eqb, ne_eqb, true≢false}
 use Rattle.std.proofs.lemmas.List.{length_push, map_push}
 use Rattle.std.proofs.lemmas.List.Elements.{filter-append}
 use Rattle.std.proofs.lemmas.Option.{slice_get_within, get_or_from_slice_get}
+use Rattle.std.specs.declared.alloc.Global.{Global}
+use Rattle.std.specs.declared.vec.Vec.{Vec}
+use Rattle.executor.specs.declared.orders.Order.{Order}
 use Rattle.server_events.specs.Configs.{ConfigValue}
 use Rattle.server_events.specs.Events.{EventValue, WhatValue, opened, received, took, closed, tick, ended, own_events}
 use Rattle.served_instance.specs.declared.refusal.EventRefusal.{EventRefusal}
 use Rattle.served_instance.specs.declared.refusal.EventRefusal.TheVariants.{NoMemory}
-use Rattle.served_instance.specs.Connections.{LoneConnection, AreApart, open_ones, with_closed}
-use Rattle.served_instance.specs.Cuts.{receiver_of}
+use Rattle.served_instance.specs.Connections.{LoneConnection, AreApart, open_at, open_ones, with_closed, all_closed}
+use Rattle.served_instance.specs.declared.broken.Broken.{Broken}
+use Rattle.served_instance.specs.declared.broken.Broken.TheVariants as Off
+use Rattle.served_instance.specs.Cuts.{broken_by}
 use Rattle.served_instance.specs.Lone.{LoneInstance, lone_at_moment, sent_bytes_on, all_sent_bytes}
 use Rattle.served_instance.specs.Refusals.{refusal_of, lone_step, IsRefusalOutcome}
 use Rattle.served_instance.specs.Slots.{ServedSlots, served_state_in, HasConnections}
@@ -35,7 +40,7 @@ use Rattle.server_core.proofs.Changes.{known_from, known_closed, known_same}
 use Rattle.server_core.proofs.Fronts.{apart_after, all_within, fronts_closed, fronts_taken}
 use Rattle.server_core.proofs.Lists.{get-set_same, get-set_other, length-none}
 use Rattle.server_core.proofs.Runs.{strays_more}
-use Rattle.server_core.proofs.Steps.{Own, Others, Notes}
+use Rattle.server_core.proofs.Steps.{Own, Others, Notes, OrdersGiven, orders_noted}
 use Rattle.server_core.proofs.Others.{connections_of}
 use Rattle.std.proofs.lemmas.Option.{none-some, same_Some}
 
@@ -156,9 +161,9 @@ gone_on e vs ws records d new others own i r h = record {
 }
 
 -- an event that was not refused for want of memory, which its record notes
-pub noted_on : {A : Type 0} (outcome : Result A EventRefusal) (e : EventValue) (vs ws : List ServedState) (records : List RecordValue) (p : Slots) (served : ServedSlots) (d new : RecordValue) → Own e vs ws → Others e vs ws → ((l : LoneInstance) → StandsAt e.instance vs l → IsRefusalOutcome outcome (refusal_of e l)) → instance_at e.instance ws ≡ Some (served_state_in p served) → RangesEndWithin (text_at p) served.connections → Notes e outcome served (get_or records e.instance d) new →
+pub noted_on : (outcome : Result (Vec Order Global) EventRefusal) (e : EventValue) (vs ws : List ServedState) (records : List RecordValue) (p : Slots) (served : ServedSlots) (d new : RecordValue) → Own e vs ws → Others e vs ws → ((l : LoneInstance) → StandsAt e.instance vs l → IsRefusalOutcome outcome (refusal_of e l)) → instance_at e.instance ws ≡ Some (served_state_in p served) → RangesEndWithin (text_at p) served.connections → OrdersGiven outcome e vs ws → Notes e outcome p served (get_or records e.instance d) new →
     (i : ℕ) (r : Run) → HasRun i vs records r → HasGoneOn e r i ws (set records e.instance new)
-noted_on outcome e vs ws records p served d new own others gave here fit notes =
+noted_on outcome e vs ws records p served d new own others gave here fit ordered notes =
     gone_on e vs ws records d new others (λ r s old.
     let t = own r.lone s in
     let is : t.0 ≡ served_state_in p served = same_Some t.0 (served_state_in p served) (sym t.1 ∙ here) in
@@ -167,12 +172,12 @@ noted_on outcome e vs ws records p served d new own others gave here fit notes =
       run = run_step r e;
       step = refl;
       stands = t;
-      noted = notes r old (gave r.lone s) (connections_of p served (lone_step [] e r.lone) fit (subst (λ (v : ServedState). IsServedInstance v (lone_step [] e r.lone)) is t.2));
+      noted = notes r old (gave r.lone s) (connections_of p served (lone_step [] e r.lone) fit (subst (λ (v : ServedState). IsServedInstance v (lone_step [] e r.lone)) is t.2)) (orders_noted outcome e vs ws p served r.lone here ordered s);
     })
 
 -- the run after an event that was done in part
 abbrev short_run : Run → LoneInstance → Run
-short_run r m = record { lone = m; count = r.count + 1; refusals = r.refusals ++ (r.count + 1, NoMemory) ∷ [] }
+short_run r m = record { lone = m; count = r.count + 1; orders = r.orders; refusals = r.refusals ++ (r.count + 1, NoMemory) ∷ [] }
 
 -- an event that was refused for want of memory, which its record notes so
 pub short_on : (e : EventValue) (vs ws : List ServedState) (records : List RecordValue) (d new : RecordValue) → ((l : LoneInstance) → StandsAt e.instance vs l → StandsShortAt e l ws) → Others e vs ws → ((l : LoneInstance) → StandsAt e.instance vs l → refusal_of e l ≡ None) →
@@ -180,7 +185,7 @@ pub short_on : (e : EventValue) (vs ws : List ServedState) (records : List Recor
 short_on e vs ws records d new short others gave notes =
     gone_on e vs ws records d new others (λ r s old.
     let t = short r.lone s in
-    let step : IsShortStep r e (short_run r t.left) = record { accepted = gave r.lone s; lone = t.short; count = refl; refusals = refl } in
+    let step : IsShortStep r e (short_run r t.left) = record { accepted = gave r.lone s; lone = t.short; count = refl; orders = refl; refusals = refl } in
     record {
       marked = true;
       run = short_run r t.left;
@@ -191,17 +196,19 @@ short_on e vs ws records d new short others gave notes =
 
 -- ---- the record of an event that was done in part
 
-abbrev connections_left : Option ℕ → List LoneConnection → List LoneConnection
-connections_left None ks = ks
-connections_left (Some c) ks = with_closed c ks
+abbrev connections_left : Broken → List LoneConnection → List LoneConnection
+connections_left Off.Nothing ks = ks
+connections_left (Off.One c) ks = with_closed c ks
+connections_left Off.All ks = all_closed ks
+connections_left (Off.AllAndJob n) ks = all_closed ks
 
-left_by : (what : WhatValue) (l m : LoneInstance) → IsCutEffect what l m → m.connections ≡ connections_left (receiver_of what) l.connections
+left_by : (what : WhatValue) (l m : LoneInstance) → IsCutEffect what l m → m.connections ≡ connections_left (broken_by what) l.connections
 left_by (opened c) l m h = ap (λ (k : LoneInstance). k.connections) h
 left_by (received c bytes) l m h = ap (λ (k : LoneInstance). k.connections) h.gone
 left_by (took c n) l m h = absurd h
 left_by (closed c) l m h = absurd h
-left_by tick l m h = absurd h
-left_by (ended job outcome) l m h = absurd h
+left_by tick l m h = ap (λ (k : LoneInstance). k.connections) h
+left_by (ended job outcome) l m h = ap (λ (k : LoneInstance). k.connections) h.gone
 
 sent_by : (b : Bool) (k : LoneConnection) (ks xs : List LoneConnection) → map sent_bytes_on xs ≡ map sent_bytes_on ks → map sent_bytes_on (cond b (record k { is_open = false } ∷ ks) (k ∷ xs)) ≡ map sent_bytes_on (k ∷ ks)
 sent_by true k ks xs h = refl
@@ -211,15 +218,40 @@ sent_closed : (c : ℕ) (ks : List LoneConnection) → map sent_bytes_on (with_c
 sent_closed c [] = refl
 sent_closed c (k ∷ ks) = sent_by (k.is_open && (k.number == c)) k ks (with_closed c ks) (sent_closed c ks)
 
-record AreLeft (o : Option ℕ) (live : List OpenRecord) (ks : List LoneConnection) : Type 0 where
+-- where all are closed
+sent_all_closed : (ks : List LoneConnection) → map sent_bytes_on (all_closed ks) ≡ map sent_bytes_on ks
+sent_all_closed [] = refl
+sent_all_closed (k ∷ ks) = ap (λ (ss : List (ℕ × List ℕ)). sent_bytes_on k ∷ ss) (sent_all_closed ks)
+
+none_live : (place : ℕ) (ks : List LoneConnection) → open_from place (all_closed ks) ≡ []
+none_live place [] = refl
+none_live place (k ∷ ks) = none_live (place + 1) ks
+
+none_open : (ks : List LoneConnection) → open_ones (all_closed ks) ≡ []
+none_open [] = refl
+none_open (k ∷ ks) = none_open ks
+
+closed_apart : (ks : List LoneConnection) → AreApart (all_closed ks)
+closed_apart [] = tt
+closed_apart (k ∷ ks) = (λ is. absurd (true≢false (sym is)), closed_apart ks)
+
+record AreLeft (o : Broken) (live : List OpenRecord) (ks : List LoneConnection) : Type 0 where
   pub sent : map sent_bytes_on (connections_left o ks) ≡ map sent_bytes_on ks
   pub live_is : open_records_left o live ≡ open_from 0 (connections_left o ks)
   pub taken : AllByRecursion IsTakenFrom (open_ones (connections_left o ks))
   pub apart : AreApart (connections_left o ks)
 
-are_left : (o : Option ℕ) (live : List OpenRecord) (ks : List LoneConnection) → live ≡ open_from 0 ks → AllByRecursion IsTakenFrom (open_ones ks) → AreApart ks → AreLeft o live ks
-are_left None live ks is taken apart = record { sent = refl; live_is = is; taken = taken; apart = apart }
-are_left (Some c) live ks is taken apart = record {
+all_left : (live : List OpenRecord) (ks : List LoneConnection) → AreLeft Off.All live ks
+all_left live ks = record {
+  sent = sent_all_closed ks;
+  live_is = sym (none_live 0 ks);
+  taken = subst (AllByRecursion IsTakenFrom) (sym (none_open ks)) tt;
+  apart = closed_apart ks;
+}
+
+are_left : (o : Broken) (live : List OpenRecord) (ks : List LoneConnection) → live ≡ open_from 0 ks → AllByRecursion IsTakenFrom (open_ones ks) → AreApart ks → AreLeft o live ks
+are_left Off.Nothing live ks is taken apart = record { sent = refl; live_is = is; taken = taken; apart = apart }
+are_left (Off.One c) live ks is taken apart = record {
   sent = sent_closed c ks;
   live_is = ap (filter (λ (o : OpenRecord). not (o.number == c))) is
       ∙ sym (known_closed c 0 ks apart)
@@ -228,15 +260,20 @@ are_left (Some c) live ks is taken apart = record {
   taken = fronts_taken (map sent_bytes_on ks) (with_closed c ks) (fronts_closed c ks (all_within ks taken));
   apart = apart_after (closed c) ks tt apart;
 }
+are_left Off.All live ks is taken apart = all_left live ks
+are_left (Off.AllAndJob n) live ks is taken apart =
+    let a = all_left live ks in
+    record { sent = a.sent; live_is = a.live_is; taken = a.taken; apart = a.apart }
 
-pub short_noted : (v : RecordValue) (r q : Run) (e : EventValue) (o : Option ℕ) → o ≡ receiver_of e.what → IsRecord v r → IsShortStep r e q →
-    IsRecord (record { count = v.count + 1; refusals = v.refusals ++ (v.count + 1, NoMemory) ∷ []; sent = v.sent; live = open_records_left o v.live }) q
+pub short_noted : (v : RecordValue) (r q : Run) (e : EventValue) (o : Broken) → o ≡ broken_by e.what → IsRecord v r → IsShortStep r e q →
+    IsRecord (record { count = v.count + 1; orders = v.orders; refusals = v.refusals ++ (v.count + 1, NoMemory) ∷ []; sent = v.sent; live = open_records_left o v.live }) q
 short_noted v r q e o is st step =
     let ks = r.lone.connections in
-    let left : q.lone.connections ≡ connections_left o ks = left_by e.what (lone_at_moment e.moment [] r.lone) q.lone step.lone ∙ ap (λ (x : Option ℕ). connections_left x ks) (sym is) in
+    let left : q.lone.connections ≡ connections_left o ks = left_by e.what (lone_at_moment e.moment [] r.lone) q.lone step.lone ∙ ap (λ (x : Broken). connections_left x ks) (sym is) in
     let a = are_left o v.live ks st.live st.taken st.apart in
     record {
       count = ap (λ n. n + 1) st.count ∙ sym step.count;
+      orders = st.orders ∙ sym step.orders;
       refusals = ap (λ (xs : List (ℕ × EventRefusal)). xs ++ (v.count + 1, NoMemory) ∷ []) st.refusals
           ∙ ap (λ (n : ℕ). r.refusals ++ (n + 1, NoMemory) ∷ []) st.count
           ∙ sym step.refusals;

@@ -1,6 +1,6 @@
 -- What is noted of an event keeps standing for the run.
-use Rattle.std.proofs.Common.{◌≡◌, ℕ, suc, ◌+◌, List, [], ◌∷◌, ◌++◌, length, refl, ap, ◌∙◌, sym, subst}
-use Rattle.std.specs.Prelude.{Bool, true, false, cond, map, Option, Some, None, nat_lt}
+use Rattle.std.proofs.Common.{◌≡◌, ◌≢◌, ℕ, suc, ◌+◌, List, [], ◌∷◌, ◌++◌, length, refl, ap, ◌∙◌, sym, subst}
+use Rattle.std.specs.Prelude.{Bool, true, false, cond, map, Option, Some, None, Err, nat_lt}
 use Rattle.std.specs.Option.{option_map_or, is_some}
 use Rattle.std.proofs.lemmas.Bool.{true≢false, ltb-false}
 use Rattle.served_instance.specs.Bytes.{untaken_count}
@@ -8,11 +8,12 @@ use Rattle.served_instance.proofs.Histories.{append-nil}
 use Rattle.served_instance.specs.Past.{Past}
 use Rattle.server_events.specs.Events.{EventValue, WhatValue, opened, received, took, closed, tick, ended}
 use Rattle.served_instance.specs.declared.refusal.EventRefusal.{EventRefusal}
-use Rattle.served_instance.specs.declared.refusal.EventRefusal.TheVariants.{NoSuchConnection, ConnectionExists, TimeWentBack, TookTooMuch}
+use Rattle.served_instance.specs.declared.refusal.EventRefusal.TheVariants.{NoSuchInstance, NoSuchConnection, ConnectionExists, TooManyConnections, NoSuchJob, TimeWentBack, TookTooMuch, NoMemory}
 use Rattle.served_instance.specs.Connections.{LoneConnection, AreApart, open_at}
 use Rattle.served_instance.specs.Lone.{LoneInstance, sent_bytes_on, after_event}
-use Rattle.served_instance.specs.Refusals.{refusal_of, refusal_of_what, after_event_unless, lone_step}
-use Rattle.server_core.specs.Runs.{Run, refusals_at, run_step}
+use Rattle.served_instance.specs.Refusals.{refusal_of, refusal_of_what, after_event_unless, lone_step, orders_unless, lone_orders, IsRefusalOutcome}
+use Rattle.executor.specs.Orders.{OrderValue}
+use Rattle.server_core.specs.Runs.{Run, orders_at, refusals_at, run_step}
 use Rattle.server_core.specs.declared.record.OpenRecord.{OpenRecord}
 use Rattle.server_core.specs.Records.{RecordValue, IsRecord}
 use Rattle.server_core.specs.Notes.{open_records_after, sent_bytes_after, sent_bytes_with_all, record_after_noting}
@@ -65,8 +66,8 @@ noted_apart v r e st none =
     let grown : AreGrown k1 m.connections = subst (λ (n : LoneInstance). AreGrown k1 n.connections) (sym step) (accepted_more [] e r.lone) in
     apart_grown k1 m.connections grown (apart_after e.what ks (may e r.lone none) st.apart)
 
-pub noted : (v : RecordValue) (r : Run) (e : EventValue) (ss : List (ℕ × List ℕ)) (os : List OpenRecord) → IsRecord v r → refusal_of e r.lone ≡ None → ss ≡ sent_bytes_with_all (lone_step [] e r.lone) (open_records_after e.what (length v.sent) v.live) (sent_bytes_after e.what v.sent) → os ≡ map (record_after_noting (lone_step [] e r.lone)) (open_records_after e.what (length v.sent) v.live) → IsRecord (record { count = v.count + 1; refusals = v.refusals; sent = ss; live = os }) (run_step r e)
-noted v r e ss os st none ss_is os_is =
+pub noted : (v : RecordValue) (r : Run) (e : EventValue) (given : List OrderValue) (ordered : List (ℕ × OrderValue)) (ss : List (ℕ × List ℕ)) (os : List OpenRecord) → IsRecord v r → refusal_of e r.lone ≡ None → given ≡ lone_orders [] e r.lone → ordered ≡ v.orders ++ orders_at (v.count + 1) given → ss ≡ sent_bytes_with_all (lone_step [] e r.lone) (open_records_after e.what (length v.sent) v.live) (sent_bytes_after e.what v.sent) → os ≡ map (record_after_noting (lone_step [] e r.lone)) (open_records_after e.what (length v.sent) v.live) → IsRecord (record { count = v.count + 1; orders = ordered; refusals = v.refusals; sent = ss; live = os }) (run_step r e)
+noted v r e given ordered ss os st none gave ordered_is ss_is os_is =
     let ks = r.lone.connections in
     let m : LoneInstance = lone_step [] e r.lone in
     let s1 = sent_bytes_after e.what (map sent_bytes_on ks) in
@@ -82,9 +83,51 @@ noted v r e ss os st none ss_is os_is =
     ap (λ (n : ℕ). open_records_after e.what n v.live) size ∙ ap (open_records_after e.what (length ks)) st.live ∙ known_after e.what ks st.apart ∙ known_grown 0 s1 k1 m.connections grown in
     record {
       count = ap (λ n. n + 1) st.count;
+      orders = ordered_is
+          ∙ ap (λ (xs : List (ℕ × OrderValue)). xs ++ orders_at (v.count + 1) given) st.orders
+          ∙ ap (λ (n : ℕ). r.orders ++ orders_at (n + 1) given) st.count
+          ∙ ap (λ (os : List OrderValue). r.orders ++ orders_at (r.count + 1) os) gave;
       refusals = st.refusals ∙ sym (append-nil r.refusals) ∙ ap (λ (o : Option EventRefusal). r.refusals ++ refusals_at (r.count + 1) o) (sym none);
       sent = ss_is ∙ ap (λ (qs : List OpenRecord). sent_bytes_with_all m qs (sent_bytes_after e.what v.sent)) known ∙ ap (sent_bytes_with_all m (known_from 0 s1 m.connections)) sent ∙ all_gathered m 0 [] s1 m.connections refl fronts apart (λ c p h. h);
       live = os_is ∙ ap (map (record_after_noting m)) known ∙ all_counted m 0 s1 m.connections fronts apart (λ c p h. h);
       taken = fronts_taken s1 m.connections fronts;
       apart = apart;
     }
+
+-- ---- an event that is refused
+
+-- the step of a run, by the reason to refuse the event
+abbrev step_by : Run → EventValue → Option EventRefusal → Run
+step_by r e o = record {
+  lone = after_event_unless [] e r.lone o;
+  count = r.count + 1;
+  orders = r.orders ++ orders_at (r.count + 1) (orders_unless [] e r.lone o);
+  refusals = r.refusals ++ refusals_at (r.count + 1) o;
+}
+
+refused_for : (A : Type 0) (refusal : EventRefusal) (reason : Option EventRefusal) → refusal ≢ NoMemory → IsRefusalOutcome {A = A} (Err refusal) reason → reason ≡ Some refusal
+refused_for A NoMemory reason ne h = absurd (ne refl)
+refused_for A NoSuchInstance reason ne h = h
+refused_for A NoSuchConnection reason ne h = h
+refused_for A ConnectionExists reason ne h = h
+refused_for A TooManyConnections reason ne h = h
+refused_for A NoSuchJob reason ne h = h
+refused_for A TimeWentBack reason ne h = h
+refused_for A TookTooMuch reason ne h = h
+
+-- nothing is put and nothing is ordered
+pub refused_noted : (A : Type 0) (v : RecordValue) (r : Run) (e : EventValue) (refusal : EventRefusal) (told : List (ℕ × EventRefusal)) → IsRecord v r → refusal ≢ NoMemory → IsRefusalOutcome {A = A} (Err refusal) (refusal_of e r.lone) → told ≡ v.refusals ++ (v.count + 1, refusal) ∷ [] → IsRecord (record { count = v.count + 1; orders = v.orders; refusals = told; sent = v.sent; live = v.live }) (run_step r e)
+refused_noted A v r e refusal told st ne gave told_is =
+    let w : RecordValue = record { count = v.count + 1; orders = v.orders; refusals = told; sent = v.sent; live = v.live } in
+    let stepped : IsRecord w (step_by r e (Some refusal)) = record {
+      count = ap (λ n. n + 1) st.count;
+      orders = st.orders ∙ sym (append-nil r.orders);
+      refusals = told_is
+          ∙ ap (λ (xs : List (ℕ × EventRefusal)). xs ++ (v.count + 1, refusal) ∷ []) st.refusals
+          ∙ ap (λ (n : ℕ). r.refusals ++ (n + 1, refusal) ∷ []) st.count;
+      sent = st.sent;
+      live = st.live;
+      taken = st.taken;
+      apart = st.apart;
+    } in
+    subst (λ (o : Option EventRefusal). IsRecord w (step_by r e o)) (sym (refused_for A refusal (refusal_of e r.lone) ne gave)) stepped

@@ -9,10 +9,26 @@ use Rattle.std.proofs.lemmas.Bool.Decides.{nat_tests}
 use Rattle.std.proofs.Math.Nat.{mul-le-mul_right}
 use Rattle.std.proofs.lemmas.List.{length-set, length-map}
 use Rattle.std.proofs.lemmas.Option.{slice_get-map, slice_get_within, same_Some}
+use Rattle.std.specs.declared.alloc.Global.{Global}
+use Rattle.std.specs.declared.vec.Vec.{Vec}
 use Rattle.blob_pool.specs.Slots.{Slots, text_at}
 use Rattle.blob_pool.specs.Moves.{Moves}
 use Rattle.served_instance.specs.Sources.{count_of}
 use Rattle.served_instance.specs.StoredSending.{SourceTexts, AgreeOn, sources_of}
+use Rattle.job_queue.specs.Jobs.{Jobs}
+use Rattle.job_queue.specs.Order.{AreJobs}
+use Rattle.job_queue.specs.Sums.{waiting_sum, running_sum}
+use Rattle.job_queue.specs.declared.queue.Running.{Running}
+use Rattle.job_queue.specs.declared.queue.TheConstants.{MOST_RUNNING, MOST_WAITING}
+use Rattle.executor.specs.declared.job.Job.{Job}
+use Rattle.executor.specs.declared.orders.Order.{Order}
+use Rattle.executor.specs.InPool.{job_holders, jobs_holders, jobs_in, running_in, waiting_in}
+use Rattle.executor.specs.Job.{JobValue}
+use Rattle.executor.specs.Keeping.{kept_entries, kept_entry}
+use Rattle.executor.specs.Orders.{OrderValue}
+use Rattle.executor.proofs.Calling.{jobs_same}
+use Rattle.instance_core.specs.Slots.{state_in}
+use Rattle.instance_core.specs.Turns.{orders_meant}
 use Rattle.instance_core.specs.Visible.{Blob}
 use Rattle.instance_core.specs.Naming.{Names}
 use Rattle.instance_view.specs.Shown.{ViewValue, ViewEntry, blobs_in, visible_in, holders, entry_holders}
@@ -30,7 +46,7 @@ use Rattle.served_instance.proofs.Agreeing.{count_append}
 use Rattle.served_instance.proofs.Ranges.{fit_agreed_each, plain_served, same_served}
 use Rattle.served_instance.specs.Slots.{ServedSlots, served_state_in, holders_of, IsServedInPool, IsServedBeside, HasConnections}
 use Rattle.server_core.specs.Shared.{all_in, all_holders, IsServer, HasRanges}
-use Rattle.server_core.specs.StandsFor.{StandsAt, instance_at}
+use Rattle.server_core.specs.StandsFor.{OrdersStand, StandsAt, instance_at}
 use Rattle.server_core.proofs.Lists.{get-set_same, get-set_other}
 
 -- ---- numbers of holders
@@ -104,9 +120,41 @@ ranges_few m (v ∷ vs) few k =
     let more : (1 + length vs) * m ≡ m + length vs * m = grind arith in
     omega (arith, ih, first, both, more)
 
--- by its entries, and by the ranges of its connections
+-- a job has fewer texts than its Vec has room for
+job_few : (job : Job) (k : ℕ) → job_holders job k ≤ 2 ^ 63
+job_few job k =
+    let texts = job.task.texts in
+    let most = holders-few (kept_entries texts.items) k in
+    omega (arith, most, length-map texts.items kept_entry, texts.ok.0, texts.ok.1, texts.small)
+
+waiting_few : (ws : List (ℕ × Job)) (k : ℕ) → waiting_sum (λ job. job_holders job k) ws ≤ length ws * 2 ^ 63
+waiting_few [] k = omega arith
+waiting_few (w ∷ ws) k =
+    let ih = waiting_few ws k in
+    let first = job_few w.1 k in
+    let more : (1 + length ws) * 2 ^ 63 ≡ 2 ^ 63 + length ws * 2 ^ 63 = grind arith in
+    omega (arith, ih, first, more)
+
+running_few : (rs : List (ℕ × Running Job)) (k : ℕ) → running_sum (λ job. job_holders job k) rs ≤ length rs * 2 ^ 63
+running_few [] k = omega arith
+running_few (r ∷ rs) k =
+    let ih = running_few rs k in
+    let first = job_few r.1.job k in
+    let more : (1 + length rs) * 2 ^ 63 ≡ 2 ^ 63 + length rs * 2 ^ 63 = grind arith in
+    omega (arith, ih, first, more)
+
+-- an instance has no more jobs than may wait and run
+jobs_few : (p : Slots) (jobs : Jobs Job) (k : ℕ) → AreJobs (jobs_in p jobs) → jobs_holders jobs k ≤ MOST_WAITING * 2 ^ 63 + MOST_RUNNING * 2 ^ 63
+jobs_few p jobs k are =
+    let waiting : length jobs.waiting ≤ MOST_WAITING = omega (arith, are.few_waiting, length-map jobs.waiting (waiting_in p)) in
+    let running : length jobs.running ≤ MOST_RUNNING = omega (arith, are.few_running, length-map jobs.running (running_in p)) in
+    let more = mul-le-mul_right (2 ^ 63) waiting in
+    let others = mul-le-mul_right (2 ^ 63) running in
+    omega (arith, waiting_few jobs.waiting k, running_few jobs.running k, more, others)
+
+-- by its entries, by its jobs, and by the ranges of its connections
 abbrev most_held : ℕ
-most_held = most_blobs + CONNECTION_LIMIT * 2 ^ 64
+most_held = most_blobs + MOST_WAITING * 2 ^ 63 + MOST_RUNNING * 2 ^ 63 + CONNECTION_LIMIT * 2 ^ 64
 
 -- an instance has no more entries than it may have texts
 holds_few : (p : Slots) (a : ServedSlots) → IsServedWithin (served_state_in p a) → HasRanges p a → (k : ℕ) → holders_of a k ≤ most_held
@@ -117,7 +165,8 @@ holds_few p a w r k =
     let ranges = ranges_few (2 ^ 64) a.connections r.few k in
     let many : length a.connections ≤ CONNECTION_LIMIT = omega (arith, w.connections, length-map a.connections (served_with (text_at p))) in
     let all = mul-le-mul_right (2 ^ 64) many in
-    omega (arith, long, entries, most, ranges, all)
+    let jobs = jobs_few p a.instance.jobs k w.instance.jobs in
+    omega (arith, long, entries, most, ranges, all, jobs)
 
 ranges_at : (p : Slots) (xs : List ServedSlots) (i : ℕ) (a : ServedSlots) → AllByRecursion (HasRanges p) xs → slice_get xs i ≡ Some a → HasRanges p a
 ranges_at p [] i a w at = cc
@@ -146,6 +195,9 @@ kept_at p xs i a at s =
 abbrev with_visible : ServedState → List Blob → ServedState
 with_visible v bs = record v { state = record v.state { visible = bs } }
 
+abbrev with_jobs : ServedState → Jobs JobValue → ServedState
+with_jobs v jobs = record v { state = record v.state { jobs = jobs } }
+
 abbrev with_connections : ServedState → List ServedConnection → List (List ℕ) → ServedState
 with_connections v cs ts = record { state = v.state; connections = cs; ranges = ts }
 
@@ -166,9 +218,11 @@ other_same p q xs i j a b x ne at there s m =
     let same : (k : ℕ) → 0 < holders_of x k → text_at q k ≡ text_at p k = apart p q xs i j a b x ne at there s m in
     let find : AgreeOn (sources_at x.connections) (text_at q) (text_at p) = λ k some. same k (omega (arith, some)) in
     let entries = shown_same p q x.instance.view.entries (λ k some. same k (omega (arith, some))) in
+    let jobs = jobs_same p q x.instance.jobs (holders_of a) (holders_of b) (λ k. omega (arith, s.exact k, pair_le xs i j a x k ne at there)) m in
     ap (λ (cs : List ServedConnection). with_connections (served_state_in q x) cs (map (text_at q) (sources_at x.connections))) (same_served (text_at q) (text_at p) x.connections find)
     ∙ ap (with_connections (served_state_in q x) (map (served_with (text_at p)) x.connections)) (same_texts (text_at q) (text_at p) (sources_at x.connections) find)
-    ∙ ap (with_visible (served_state_in p x)) entries
+    ∙ ap (λ (bs : List Blob). with_visible (with_jobs (served_state_in p x) (jobs_in q x.instance.jobs)) bs) entries
+    ∙ ap (with_jobs (served_state_in p x)) jobs
 
 other_ranges : (p q : Slots) (xs : List ServedSlots) (i j : ℕ) (a b x : ServedSlots) → i ≢ j → slice_get xs i ≡ Some a → slice_get xs j ≡ Some x → IsServer p xs → Moves p q (holders_of a) (holders_of b) → HasRanges q x
 other_ranges p q xs i j a b x ne at there s m =
@@ -235,6 +289,12 @@ stands_here p xs i a l at s =
 
 pub stands_after : (q : Slots) (xs : List ServedSlots) (i : ℕ) (a b : ServedSlots) (l : LoneInstance) → slice_get xs i ≡ Some a → IsServedInstance (served_state_in q b) l → StandsAt i (all_in q (set xs i b)) l
 stands_after q xs i a b l at st = (served_state_in q b, here q (set xs i b) i b (get-set_same xs i b (slice_get_within xs i a at)), st)
+
+-- its orders, with what its jobs have
+pub orders_after : (q : Slots) (xs : List ServedSlots) (i : ℕ) (a b : ServedSlots) (orders : Vec Order Global) (meant : List OrderValue) → slice_get xs i ≡ Some a → orders_meant (state_in q b.instance).jobs orders.items ≡ meant → OrdersStand i (all_in q (set xs i b)) orders meant
+orders_after q xs i a b orders meant at given v there =
+    let is : v ≡ served_state_in q b = same_Some v (served_state_in q b) (sym there ∙ here q (set xs i b) i b (get-set_same xs i b (slice_get_within xs i a at))) in
+    subst (λ (w : ServedState). orders_meant w.state.jobs orders.items ≡ meant) (sym is) given
 
 -- an instance that is not there stands for nothing
 pub nobody_there : (p : Slots) (xs : List ServedSlots) (i : ℕ) (l : LoneInstance) → length xs ≤ i → StandsAt i (all_in p xs) l → ⊥

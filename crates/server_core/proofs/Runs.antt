@@ -1,6 +1,12 @@
 -- One more event of a run, and the run's end.
-use Rattle.std.proofs.Common.{◌≡◌, ℕ, ◌+◌, List, [], ◌∷◌, ◌++◌, length, ap, ◌∙◌, sym, subst, arith, append-nil, append_assoc}
-use Rattle.std.specs.Prelude.{Bool, true, false, cond, ◌==◌, if◌then◌else◌, fold}
+use Rattle.std.proofs.Common.{◌≡◌, ℕ, zero, suc, ◌+◌, List, [], ◌∷◌, ◌++◌, length, ap, ◌∙◌, sym, subst, arith, append-nil, append_assoc}
+use Rattle.std.specs.Prelude.{Bool, true, false, cond, ◌==◌, if◌then◌else◌, fold, Some}
+use Rattle.std.specs.List.{AllByRecursion}
+use Rattle.std.proofs.lemmas.Option.{none-some, same_Some}
+use Rattle.instance_core.specs.State.{IsInstanceWithin}
+use Rattle.served_instance.specs.Lone.{LoneInstance}
+use Rattle.served_instance.specs.StandsFor.{ServedState, IsServedWithin}
+use Rattle.server_core.specs.StandsFor.{StandsAt, instance_at}
 use Rattle.std.proofs.lemmas.List.{length_push}
 use Rattle.std.proofs.lemmas.List.Elements.{filter-append}
 use Rattle.std.proofs.lemmas.List.Sums.{fold_push}
@@ -49,3 +55,14 @@ taken_more configs events e v w h count many runs strayed = record {
       ∙ ap (λ n. strays configs events ++ stray_at w.count n e) h.many
       ∙ sym (strays_more configs events e w.count (count ∙ ap (λ n. n + 1) h.count));
 }
+
+-- ---- limits
+
+served_at : (vs : List ServedState) (i : ℕ) (v : ServedState) → AllByRecursion IsServedWithin vs → instance_at i vs ≡ Some v → IsServedWithin v
+served_at [] i v all at = absurd (none-some v at)
+served_at (x ∷ vs) zero v all at = subst IsServedWithin (same_Some x v at) all.0
+served_at (x ∷ vs) (suc i) v all at = served_at vs i v all.1 at
+
+-- what stands for an instance that keeps its limits keeps them, too
+pub state_within : (vs : List ServedState) (i : ℕ) (l : LoneInstance) → AllByRecursion IsServedWithin vs → StandsAt i vs l → IsInstanceWithin l.state
+state_within vs i l all s = subst IsInstanceWithin s.2.state (served_at vs i s.0 all s.1).instance

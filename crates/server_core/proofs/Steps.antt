@@ -1,14 +1,19 @@
 -- One event: its instance and the others.
 use Rattle.std.proofs.Common.{◌≡◌, ◌≢◌, ℕ, List, [], ◌∷◌, length, get_or, refl, ◌∙◌, sym, subst, arith, inl, inr}
-use Rattle.std.specs.Prelude.{Bool, true, false, cond, nat_lt, ◌==◌, if◌then◌else◌, Some, None, Result}
+use Rattle.std.specs.Prelude.{Bool, true, false, cond, nat_lt, ◌==◌, if◌then◌else◌, Some, None, Result, Ok, Err, IfOk}
+use Rattle.std.specs.declared.alloc.Global.{Global}
+use Rattle.std.specs.declared.vec.Vec.{Vec}
 use Rattle.std.specs.List.{slice_get}
 use Rattle.std.proofs.Math.ListN.{set}
 use Rattle.std.proofs.lemmas.Bool.{cases_eq, eq-eqb, ne_eqb, lt-ltb, le-ltb, cond-true, cond-false}
 use Rattle.std.proofs.lemmas.Option.{slice_get_within, get_or_from_slice_get, none-some, same_Some}
+use Rattle.executor.specs.declared.orders.Order.{Order}
+use Rattle.instance_core.specs.Slots.{state_in}
+use Rattle.instance_core.specs.Turns.{orders_meant}
 use Rattle.server_events.specs.Events.{EventValue}
 use Rattle.served_instance.specs.declared.refusal.EventRefusal.{EventRefusal}
 use Rattle.served_instance.specs.Lone.{LoneInstance}
-use Rattle.served_instance.specs.Refusals.{refusal_of, lone_step, IsRefusalOutcome}
+use Rattle.served_instance.specs.Refusals.{refusal_of, lone_step, lone_orders, IsRefusalOutcome}
 use Rattle.served_instance.specs.StandsFor.{ServedState, IsServedInstance}
 use Rattle.served_instance.specs.Slots.{ServedSlots, served_state_in, HasConnections}
 use Rattle.blob_pool.specs.Slots.{Slots, text_at}
@@ -17,7 +22,7 @@ use Rattle.server_core.specs.Runs.{Run, run_step}
 use Rattle.server_core.specs.Records.{RecordValue, IsRecord}
 use Rattle.server_core.specs.LoneOutput.{stray_at}
 use Rattle.server_core.specs.RunTo.{IsNotedAt, HasRun}
-use Rattle.server_core.specs.StandsFor.{StandsAt, instance_at}
+use Rattle.server_core.specs.StandsFor.{OrdersStand, StandsAt, instance_at}
 use Rattle.server_core.proofs.Lists.{get-set_same, get-set_other, length-none}
 use Rattle.server_core.proofs.Others.{connections_of}
 
@@ -48,12 +53,26 @@ stray_runs e vs ws records own others none i r h =
       | inr ne ↦ other_run e vs ws records records i r others refl ne h
     ]
 
-abbrev pub Notes : {A : Type 0} → EventValue → Result A EventRefusal → ServedSlots → RecordValue → RecordValue → Type 0
-Notes e outcome served old new = (r : Run) → IsRecord old r → IsRefusalOutcome outcome (refusal_of e r.lone) → HasConnections served (lone_step [] e r.lone) → IsRecord new (run_step r e)
+-- the orders that an event gave are those of its instance
+abbrev pub OrdersGiven : Result (Vec Order Global) EventRefusal → EventValue → List ServedState → List ServedState → Type 0
+OrdersGiven outcome e vs ws =
+    IfOk outcome (λ orders. (l : LoneInstance) → StandsAt e.instance vs l → OrdersStand e.instance ws orders (lone_orders [] e l))
+
+-- with what its jobs have in a pool
+abbrev pub OrdersAre : Result (Vec Order Global) EventRefusal → EventValue → Slots → ServedSlots → LoneInstance → Type 0
+OrdersAre outcome e p served l = IfOk outcome (λ orders. orders_meant (state_in p served.instance).jobs orders.items ≡ lone_orders [] e l)
+
+pub orders_noted : (outcome : Result (Vec Order Global) EventRefusal) (e : EventValue) (vs ws : List ServedState) (p : Slots) (served : ServedSlots) (l : LoneInstance) → instance_at e.instance ws ≡ Some (served_state_in p served) → OrdersGiven outcome e vs ws → StandsAt e.instance vs l → OrdersAre outcome e p served l
+orders_noted (Ok orders) e vs ws p served l here given s = given l s (served_state_in p served) here
+orders_noted (Err refusal) e vs ws p served l here given s = tt
+
+abbrev pub Notes : EventValue → Result (Vec Order Global) EventRefusal → Slots → ServedSlots → RecordValue → RecordValue → Type 0
+Notes e outcome p served old new =
+    (r : Run) → IsRecord old r → IsRefusalOutcome outcome (refusal_of e r.lone) → HasConnections served (lone_step [] e r.lone) → OrdersAre outcome e p served r.lone → IsRecord new (run_step r e)
 
 -- an event of an instance, that its record notes
-pub noted_runs : {A : Type 0} (outcome : Result A EventRefusal) (e : EventValue) (vs ws : List ServedState) (records : List RecordValue) (p : Slots) (served : ServedSlots) (d new : RecordValue) → Own e vs ws → Others e vs ws → ((l : LoneInstance) → StandsAt e.instance vs l → IsRefusalOutcome outcome (refusal_of e l)) → instance_at e.instance ws ≡ Some (served_state_in p served) → RangesEndWithin (text_at p) served.connections → Notes e outcome served (get_or records e.instance d) new → (i : ℕ) (r : Run) → HasRun i vs records r → HasRun i ws (set records e.instance new) (if e.instance == i then run_step r e else r)
-noted_runs outcome e vs ws records p served d new own others gave here fit notes i r h =
+pub noted_runs : (outcome : Result (Vec Order Global) EventRefusal) (e : EventValue) (vs ws : List ServedState) (records : List RecordValue) (p : Slots) (served : ServedSlots) (d new : RecordValue) → Own e vs ws → Others e vs ws → ((l : LoneInstance) → StandsAt e.instance vs l → IsRefusalOutcome outcome (refusal_of e l)) → instance_at e.instance ws ≡ Some (served_state_in p served) → RangesEndWithin (text_at p) served.connections → OrdersGiven outcome e vs ws → Notes e outcome p served (get_or records e.instance d) new → (i : ℕ) (r : Run) → HasRun i vs records r → HasRun i ws (set records e.instance new) (if e.instance == i then run_step r e else r)
+noted_runs outcome e vs ws records p served d new own others gave here fit ordered notes i r h =
     elim (cases_eq i e.instance) [
       | inl same ↦
           let n : ℕ = e.instance in
@@ -62,7 +81,7 @@ noted_runs outcome e vs ws records p served d new own others gave here fit notes
           let t = own r.lone s in
           let is : t.0 ≡ served_state_in p served = same_Some t.0 (served_state_in p served) (sym t.1 ∙ here) in
           let old : k.0 ≡ get_or records n d = sym (get_or_from_slice_get records n k.0 d k.1) in
-          let new_record : IsRecord new (run_step r e) = notes r (subst (λ (v : RecordValue). IsRecord v r) old k.2) (gave r.lone s) (connections_of p served (lone_step [] e r.lone) fit (subst (λ (v : ServedState). IsServedInstance v (lone_step [] e r.lone)) is t.2)) in
+          let new_record : IsRecord new (run_step r e) = notes r (subst (λ (v : RecordValue). IsRecord v r) old k.2) (gave r.lone s) (connections_of p served (lone_step [] e r.lone) fit (subst (λ (v : ServedState). IsServedInstance v (lone_step [] e r.lone)) is t.2)) (orders_noted outcome e vs ws p served r.lone here ordered s) in
           let b : (e.instance == i) ≡ true = eq-eqb e.instance i (sym same) in
           let it : HasRun n ws (set records n new) (run_step r e) = record {
             stands = t;

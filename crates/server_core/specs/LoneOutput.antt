@@ -3,8 +3,8 @@
 -- `run_of` (Runs.antt) begins with an instance that nothing has happened to, and takes these events
 -- one after another by `lone_step` (served_instance, Refusals.antt): a refused event changes
 -- nothing, any other does what Lone.antt of served_instance says. `output_of_run` is what the run
--- gives: the bytes that were put on each connection, in order of opening, and which events were
--- refused, and why.
+-- gives: the bytes that were put on each connection, in order of opening, what was ordered of
+-- whoever runs jobs (`lone_orders`, Refusals.antt), and which events were refused, and why.
 use Rattle.std.specs.Prelude.{ℕ, ◌+◌, nat_lt, if◌then◌else◌, List, [], ◌∷◌, ◌++◌, length, Option}
 use Rattle.std.specs.List.{slice_get}
 use Rattle.server_events.specs.Configs.{ConfigValue}

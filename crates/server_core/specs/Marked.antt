@@ -21,11 +21,13 @@ MarkedEvent = EventValue × Bool
 abbrev pub event_of : MarkedEvent → EventValue
 event_of e = e.0
 
--- there was no other reason to refuse the event; it was done in part, and it is recorded
+-- there was no other reason to refuse the event; it was done in part, nothing was ordered, and it is
+-- recorded
 pub record IsShortStep (r : Run) (e : EventValue) (q : Run) : Type 0 where
   pub accepted : refusal_of e r.lone ≡ None
   pub lone : Short [] e r.lone q.lone
   pub count : q.count ≡ r.count + 1
+  pub orders : q.orders ≡ r.orders
   pub refusals : q.refusals ≡ r.refusals ++ (r.count + 1, NoMemory) ∷ []
 
 -- a step of a run: a marked event is done in part, any other as it is done alone

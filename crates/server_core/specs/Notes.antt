@@ -6,6 +6,9 @@ use Rattle.served_instance.specs.Bytes.{pending_bytes}
 use Rattle.server_events.specs.Events.{WhatValue, opened, took, closed}
 use Rattle.served_instance.specs.Connections.{open_at}
 use Rattle.served_instance.specs.Lone.{LoneInstance}
+use Rattle.served_instance.specs.declared.broken.Broken.{Broken}
+use Rattle.served_instance.specs.declared.broken.Broken.TheVariants as Broken
+use Rattle.served_instance.specs.declared.broken.Broken.TheVariants.{One, All, AllAndJob}
 use Rattle.server_core.specs.declared.record.ConnectionChange.{ConnectionChange}
 use Rattle.server_core.specs.declared.record.ConnectionChange.TheVariants.{Opened, Took, Closed, Nothing}
 use Rattle.server_core.specs.declared.record.OpenRecord.{OpenRecord}
@@ -30,10 +33,12 @@ open_records_changed (Took c n) count os = map (record_after_taking c n) os
 open_records_changed (Closed c) count os = filter (λ o. not (o.number == c)) os
 open_records_changed Nothing count os = os
 
--- where the connection of this number is gone
-abbrev pub open_records_left : Option ℕ → List OpenRecord → List OpenRecord
-open_records_left None os = os
-open_records_left (Some c) os = filter (λ o. not (o.number == c)) os
+-- where this was broken off
+abbrev pub open_records_left : Broken → List OpenRecord → List OpenRecord
+open_records_left Broken.Nothing os = os
+open_records_left (One c) os = filter (λ o. not (o.number == c)) os
+open_records_left All os = []
+open_records_left (AllAndJob n) os = []
 
 abbrev pub open_records_after : WhatValue → ℕ → List OpenRecord → List OpenRecord
 open_records_after what = open_records_changed (connection_change what)

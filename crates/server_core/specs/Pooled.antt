@@ -10,8 +10,8 @@ abbrev pub times_in : List ℕ → List (List ℕ) → ℕ
 times_in t [] = 0
 times_in t (x ∷ xs) = (if bytes_eq x t then 1 else 0) + times_in t xs
 
--- how often the instances hold a text, all together: for blobs, and for ranges that are still to be
--- put
+-- how often the instances hold a text, all together: for blobs, for jobs that wait or run, and for
+-- ranges that are still to be put
 abbrev pub times_held : List ℕ → ServerState → ℕ
 times_held t s = times_in t (texts_held s)
 

@@ -2,6 +2,7 @@
 use Rattle.std.specs.Prelude.{◌≡◌, ◌≤◌, ◌+◌, ℕ, if◌then◌else◌, List, [], ◌∷◌, length}
 use Rattle.std.specs.List.{AllByRecursion}
 use Rattle.served_instance.specs.Bytes.{bytes_put, count_taken, untaken_count}
+use Rattle.executor.specs.Orders.{OrderValue}
 use Rattle.served_instance.specs.declared.refusal.EventRefusal.{EventRefusal}
 use Rattle.served_instance.specs.Connections.{LoneConnection, AreApart, open_ones}
 use Rattle.served_instance.specs.Lone.{all_sent_bytes}
@@ -10,6 +11,7 @@ use Rattle.server_core.specs.Runs.{Run}
 
 pub record RecordValue : Type 0 where
   pub count : ℕ
+  pub orders : List (ℕ × OrderValue)
   pub refusals : List (ℕ × EventRefusal)
   pub sent : List (ℕ × List ℕ)
   pub live : List OpenRecord
@@ -30,6 +32,7 @@ IsTakenFrom k = count_taken k.past.history ≤ length (bytes_put k.past.history)
 
 pub record IsRecord (v : RecordValue) (r : Run) : Type 0 where
   pub count : v.count ≡ r.count
+  pub orders : v.orders ≡ r.orders
   pub refusals : v.refusals ≡ r.refusals
   pub sent : v.sent ≡ all_sent_bytes r.lone
   pub live : v.live ≡ open_from 0 r.lone.connections

@@ -1,7 +1,9 @@
 -- A run of a server so far.
 use Rattle.std.specs.Prelude.{◌≡◌, ◌<◌, ◌+◌, ℕ, List, All, Some, length}
+use Rattle.std.specs.List.{AllByRecursion}
 use Rattle.server_events.specs.Configs.{ConfigValue}
 use Rattle.server_events.specs.Events.{EventValue, own_events}
+use Rattle.served_instance.specs.StandsFor.{IsServedWithin}
 use Rattle.server_core.specs.Runs.{run_of}
 use Rattle.server_core.specs.Marked.{MarkedRun}
 use Rattle.server_core.specs.Records.{RecordValue}
@@ -44,7 +46,9 @@ pub record HasPassed (configs : List ConfigValue) (events : List EventValue)
       → HasCome config (own_events i events) i v
   pub strays : v.strays ≡ strays configs events
 
--- each of the server's instances has a record, which counts no more events than there were
+-- each of the server's instances keeps its limits and has a record, which counts no more events than
+-- there were
 pub record IsRunning (v : RunValue) : Type 0 where
+  pub within : AllByRecursion IsServedWithin v.server.instances
   pub each : length v.records ≡ length v.server.instances
   pub room : All (λ r. r.count < v.count + 1) v.records

@@ -1,5 +1,10 @@
 -- What a server keeps of each instance stands for that instance alone.
 use Rattle.std.specs.Prelude.{◌≡◌, ℕ, List, Option, Some}
+use Rattle.std.specs.declared.alloc.Global.{Global}
+use Rattle.std.specs.declared.vec.Vec.{Vec}
+use Rattle.executor.specs.declared.orders.Order.{Order}
+use Rattle.executor.specs.Orders.{OrderValue}
+use Rattle.instance_core.specs.Turns.{orders_meant}
 use Rattle.std.specs.List.{slice_get}
 use Rattle.served_instance.specs.Lone.{LoneInstance}
 use Rattle.served_instance.specs.StandsFor.{ServedState, IsServedInstance}
@@ -14,3 +19,8 @@ instance_at i vs = slice_get vs i
 -- the instance of this number is there and stands for this
 abbrev pub StandsAt : ℕ → List ServedState → LoneInstance → Type 0
 StandsAt i vs l = (v : ServedState) × (instance_at i vs ≡ Some v) × IsServedInstance v l
+
+-- these orders of the instance of this number are those orders, with what its jobs have
+abbrev pub OrdersStand : ℕ → List ServedState → Vec Order Global → List OrderValue → Type 0
+OrdersStand i vs orders meant =
+    (v : ServedState) → instance_at i vs ≡ Some v → orders_meant v.state.jobs orders.items ≡ meant

@@ -1,5 +1,8 @@
 -- The texts that the instances of a server hold, each counted once.
 use Rattle.std.specs.Prelude.{◌≡◌, ◌⊎◌, ℕ, ◌+◌, List, [], ◌∷◌, ◌++◌, length}
+use Rattle.std.specs.List.{flat_map}
+use Rattle.job_queue.specs.Jobs.{Jobs}
+use Rattle.executor.specs.Job.{JobValue}
 use Rattle.instance_core.specs.Visible.{Blob}
 use Rattle.served_instance.specs.StandsFor.{ServedState}
 use Rattle.server_core.specs.StandsFor.{ServerState}
@@ -8,9 +11,16 @@ abbrev pub texts_of : List Blob → List (List ℕ)
 texts_of [] = []
 texts_of (b ∷ bs) = b.1 ∷ texts_of bs
 
--- those of an instance: of its blobs, and of ranges that are still to be put on its connections
+-- the texts that jobs keep which wait or run, each job's once
+abbrev pub texts_of_jobs : Jobs JobValue → List (List ℕ)
+texts_of_jobs jobs =
+    flat_map (λ (w : ℕ × JobValue). texts_of w.1.task.texts) jobs.waiting
+    ++ flat_map (λ r. texts_of r.1.job.task.texts) jobs.running
+
+-- those of an instance: of its blobs, of its jobs, and of ranges that are still to be put on its
+-- connections
 abbrev pub own_texts : ServedState → List (List ℕ)
-own_texts v = texts_of v.state.visible ++ v.ranges
+own_texts v = texts_of v.state.visible ++ texts_of_jobs v.state.jobs ++ v.ranges
 
 -- each text of each instance, with repeats
 abbrev pub texts_of_all : List ServedState → List (List ℕ)

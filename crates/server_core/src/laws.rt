@@ -5,15 +5,16 @@ ghost use Rattle.std.specs.List.{AllByRecursion};
 ghost use Rattle.instance_core.specs.State.{IsInstanceWithin};
 ghost use Rattle.server_events.specs.Configs.{ConfigValue};
 ghost use Rattle.server_events.specs.Events.{EventValue, own_events};
-ghost use Rattle.server_events.specs.Instance.{quota_limit};
+ghost use Rattle.server_events.specs.Instance.{quota_limit, slots_limit};
+ghost use Rattle.served_instance.specs.Narrow.{IsNarrow};
 ghost use Rattle.server_core.specs.LoneOutput.{lone_output};
 ghost use Rattle.server_core.specs.Runs.{run_of};
 ghost use Rattle.server_core.specs.Outputs.{InstanceOutputValue};
 ghost use Rattle.server_core.specs.Marked.{IsRunOutput, IsNotForMemory};
 
 /// No instance learns anything of another: two runs, of two servers, that agree on an instance's
-/// configuration and on its own events give it equal bytes on each connection and equal refusals,
-/// whatever else happens, and whatever number it has there.
+/// configuration and on its own events give it equal bytes on each connection, equal orders and equal
+/// refusals, whatever else happens, and whatever number it has there.
 pub fn equal_events_give_equal_outputs()
     ensures { (this that : ConfigValue) (i j : ℕ) (these those : List EventValue) → this ≡ that
         → own_events i these ≡ own_events j those
@@ -22,10 +23,12 @@ pub fn equal_events_give_equal_outputs()
 
 /// An instance by itself keeps its limits through every run. So its texts never have more bytes
 /// together than its quota, nor have its unfinished uploads, of which there are 64 at most; it has
-/// at most 10,000 results of actions, of 67,108,864 bytes together; and each text is what its
-/// digest says: the hash is the text's SHA-256, and the size its length.
+/// at most 10,000 results of actions, of 67,108,864 bytes together; no more jobs run than it has
+/// slots, and at most 1,000 wait; and each text is what its digest says: the hash is the text's
+/// SHA-256, and the size its length. Exit codes of runs are numbers of 32 bits.
 pub fn a_run_keeps_its_limits()
     ensures { (config : ConfigValue) (events : List EventValue) → config.quota ≤ quota_limit
+        → config.slots ≤ slots_limit → AllByRecursion IsNarrow events
         → IsInstanceWithin (run_of config events).lone.state }
 {}
 

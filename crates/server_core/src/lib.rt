@@ -3,6 +3,7 @@
 #![tactic(auto)]
 
 mod laws;
+mod orders;
 mod outputs;
 mod record;
 mod server;
@@ -11,6 +12,7 @@ mod whole_run;
 pub use laws::{
     a_run_keeps_its_limits, equal_events_give_equal_outputs, without_refusals_of_memory_it_is_alone,
 };
+pub use orders::{OrderedAt, RunOrder, RunTask, TaskText};
 pub use outputs::{InstanceOutput, RefusedEvent, SentBytes};
 pub use record::{ConnectionChange, InstanceRecord};
 pub use server::Server;

@@ -1,5 +1,6 @@
 //! What the run of an instance gives.
 
+use crate::orders::OrderedAt;
 use served_instance::EventRefusal;
 
 /// All bytes that were put on one connection.
@@ -23,6 +24,8 @@ pub struct RefusedEvent {
 pub struct InstanceOutput {
     /// For each connection that was opened, in order.
     pub sent: Vec<SentBytes>,
+    /// In order.
+    pub orders: Vec<OrderedAt>,
     /// In order.
     pub refusals: Vec<RefusedEvent>,
 }

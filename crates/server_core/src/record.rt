@@ -1,22 +1,26 @@
 //! What is noted of the run of one instance.
 
-ghost use Rattle.std.specs.Prelude.{◌≡◌, ◌≢◌, ◌<◌, ◌+◌, ◌-◌, ◌^◌, ◌==◌, [], not, map, filter, length, drop, Result, Err, IfOk, OnOk, OnErr};
+ghost use Rattle.std.specs.Prelude.{◌≡◌, ◌≢◌, ◌<◌, ◌+◌, ◌-◌, ◌^◌, ◌==◌, ◌++◌, [], not, map, filter, length, drop, Result, Err, IfOk, OnOk, OnErr};
 ghost use Rattle.server_events.specs.Configs.{ConfigValue};
 ghost use Rattle.server_events.specs.Events.{EventValue};
 ghost use Rattle.server_events.specs.Shown.{what_value};
 ghost use Rattle.served_instance.specs.Connections.{AreApart};
 ghost use Rattle.served_instance.specs.Lone.{LoneInstance};
-ghost use Rattle.served_instance.specs.Refusals.{refusal_of, lone_step, IsRefusalOutcome};
+ghost use Rattle.served_instance.specs.Refusals.{refusal_of, lone_step, lone_orders, IsRefusalOutcome};
 ghost use Rattle.served_instance.specs.Slots.{HasConnections};
-ghost use Rattle.server_core.specs.Runs.{Run, new_run, run_step, output_of_run};
-ghost use Rattle.server_core.specs.Shown.{sent_shown, instance_output_shown};
-ghost use Rattle.served_instance.specs.Cuts.{receiver_of};
+ghost use Rattle.server_core.specs.Runs.{Run, new_run, orders_at, run_step, output_of_run};
+ghost use Rattle.server_core.specs.Shown.{sent_shown, ordered_shown, instance_output_shown};
+ghost use Rattle.instance_core.specs.Slots.{state_in};
+ghost use Rattle.instance_core.specs.Turns.{orders_meant};
+ghost use Rattle.served_instance.specs.Cuts.{broken_by};
 ghost use Rattle.server_core.specs.Marked.{IsShortStep};
 ghost use Rattle.server_core.specs.Notes.{open_records_left, connection_change, record_after_taking, open_records_changed, sent_bytes_changed, with_more_at, sent_bytes_with, sent_bytes_with_all, record_after_noting};
 ghost use Rattle.server_core.specs.Records.{IsRecord};
 
+use crate::orders::{OrderedAt, copy_order};
 use crate::outputs::{InstanceOutput, RefusedEvent, SentBytes};
-use served_instance::{EventRefusal, ServedInstance};
+use blob_pool::Pool;
+use served_instance::{Broken, EventRefusal, Order, ServedInstance};
 use server_events::What;
 use std::alloc::{AllocError, Global};
 use std::marker::Model;
@@ -60,6 +64,7 @@ pub(crate) struct OpenRecord {
 pub struct InstanceRecord {
     /// How many events there were.
     count: u64,
+    orders: Vec<OrderedAt>,
     refusals: Vec<RefusedEvent>,
     /// Of all connections, in order of opening.
     sent: Vec<SentBytes>,
@@ -69,13 +74,14 @@ pub struct InstanceRecord {
 
 impl Model for InstanceRecord {
     ghost use Rattle.std.specs.Prelude.{map};
-    ghost use Rattle.server_core.specs.Shown.{sent_shown, refused_shown};
+    ghost use Rattle.server_core.specs.Shown.{sent_shown, ordered_shown, refused_shown};
     ghost use Rattle.server_core.specs.Records.{RecordValue};
 
     ghost Value = { RecordValue };
 
     ghost view = { λ r. record {
       count = r.count;
+      orders = map ordered_shown r.orders.items;
       refusals = map refused_shown r.refusals.items;
       sent = map sent_shown
           r.sent.items;
@@ -90,6 +96,7 @@ impl InstanceRecord {
     {
         InstanceRecord {
             count: 0,
+            orders: Vec::new(alloc),
             refusals: Vec::new(alloc),
             sent: Vec::new(alloc),
             live: Vec::new(alloc),
@@ -97,14 +104,15 @@ impl InstanceRecord {
     }
 
     /// Notes an event that the instance took or refused, by what it changes of the connections, and
-    /// the bytes that it put. The instance is as the event left it. Where memory is refused the
-    /// event is counted, no refusal is noted, and of the bytes some may be: the record stands for
-    /// no run any more, and is to be dropped.
+    /// the bytes and the orders that it gave. The instance and the pool are as the event left them.
+    /// Where memory is refused the event is counted, no refusal is noted, and of the bytes and the
+    /// orders some may be: the record stands for no run any more, and is to be dropped.
     pub fn note(
         &mut self,
         instance: &ServedInstance,
+        pool: &Pool,
         change: ConnectionChange,
-        outcome: Result<(), EventRefusal>,
+        outcome: Result<Vec<Order>, EventRefusal>,
     ) -> Result<(), AllocError>
         requires memory { outcome ≢ Err EventRefusal.NoMemory }
         requires room { self.old.count < 2 ^ 64 - 1 }
@@ -112,6 +120,9 @@ impl InstanceRecord {
             → change ≡ connection_change event.what
             → IsRefusalOutcome outcome (refusal_of event r.lone)
             → HasConnections instance.now (lone_step [] event r.lone)
+            → IfOk outcome (λ orders.
+            orders_meant (state_in pool.now instance.now.instance).jobs orders.items
+            ≡ lone_orders [] event r.lone)
             → IsRecord self.new (run_step r event)) }
         ensures count { self.new.count ≡ self.old.count + 1 }
         ensures err { OnErr result (self.new.refusals ≡ self.old.refusals) }
@@ -123,29 +134,29 @@ impl InstanceRecord {
                 self.refusals.push(RefusedEvent { place, refusal })?;
                 Ok(())
             }
-            Ok(()) => {
+            Ok(orders) => {
                 follow(&mut self.sent, &mut self.live, change)?;
                 gather(&mut self.sent, &self.live, instance)?;
                 count_untaken(&mut self.live, instance);
-                Ok(())
+                add_orders(&mut self.orders, instance, pool, self.count, &orders)
             }
         }
     }
 
-    /// Notes an event for which memory was refused. Where it brought bytes to a connection, that is
-    /// gone. Where memory is refused for the record, the event is counted and not noted: the record
+    /// Notes an event for which memory was refused: what of the instance was broken off is gone.
+    /// Where memory is refused for the record, the event is counted and not noted: the record
     /// is to be dropped.
-    pub fn note_short(&mut self, broken: Option<u32>) -> Result<(), AllocError>
+    pub fn note_short(&mut self, broken: Broken) -> Result<(), AllocError>
         requires room { self.old.count < 2 ^ 64 - 1 }
         ensures stands { OnOk result ((r q : Run) (event : EventValue) → IsRecord self.old r
-            → broken ≡ receiver_of event.what → IsShortStep r event q → IsRecord self.new q) }
+            → broken ≡ broken_by event.what → IsShortStep r event q → IsRecord self.new q) }
         ensures count { self.new.count ≡ self.old.count + 1 }
     {
         self.count += 1;
         let place = self.count;
         let refusal = EventRefusal::NoMemory;
         self.refusals.push(RefusedEvent { place, refusal })?;
-        close_if(&mut self.live, broken);
+        close_by(&mut self.live, broken);
         Ok(())
     }
 
@@ -155,6 +166,7 @@ impl InstanceRecord {
     {
         InstanceOutput {
             sent: self.sent,
+            orders: self.orders,
             refusals: self.refusals,
         }
     }
@@ -224,13 +236,38 @@ fn close(live: &mut Vec<OpenRecord>, number: u32)
     live.retain(|connection| connection.number != number);
 }
 
-/// The connection of this number, if there is one, is open no more.
-fn close_if(live: &mut Vec<OpenRecord>, broken: Option<u32>)
+/// What was broken off is open no more.
+fn close_by(live: &mut Vec<OpenRecord>, broken: Broken)
     ensures { live.new.items ≡ open_records_left broken live.old.items }
 {
-    if let Some(number) = broken {
-        close(live, number);
+    match broken {
+        Broken::Nothing => {}
+        Broken::One(number) => close(live, number),
+        Broken::All | Broken::AllAndJob(_) => live.clear(),
     }
+}
+
+/// Adds the orders of the event of this place.
+fn add_orders(
+    ordered: &mut Vec<OrderedAt>,
+    instance: &ServedInstance,
+    pool: &Pool,
+    place: u64,
+    orders: &[Order],
+) -> Result<(), AllocError>
+    ensures { OnOk result (map ordered_shown ordered.new.items
+        ≡ map ordered_shown ordered.old.items ++ orders_at place
+        (orders_meant (state_in pool.now instance.now.instance).jobs orders.now)) }
+{
+    let alloc = *ordered.allocator();
+    let mut left = orders;
+    while let [first, rest @ ..] = left {
+        if let Some(order) = copy_order(alloc, instance, pool, *first)? {
+            ordered.push(OrderedAt { place, order })?;
+        }
+        left = rest;
+    }
+    Ok(())
 }
 
 /// Appends what was put on each open connection since the last event.

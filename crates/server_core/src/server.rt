@@ -10,12 +10,15 @@ ghost use Rattle.served_instance.specs.CallsInCourse.{has_calls};
 ghost use Rattle.served_instance.specs.Past.{Past};
 ghost use Rattle.served_instance.specs.Connections.{open_at};
 ghost use Rattle.served_instance.specs.Lone.{LoneInstance, new_lone};
-ghost use Rattle.served_instance.specs.Refusals.{NeedsNoMemory, refusal_of, lone_step, IsRefusalOutcome};
+ghost use Rattle.executor.specs.InPool.{task_in};
+ghost use Rattle.executor.specs.Orders.{task_of};
+ghost use Rattle.served_instance.specs.StandsFor.{ServedState};
+ghost use Rattle.served_instance.specs.Refusals.{NeedsNoMemory, refusal_of, lone_step, lone_orders, IsRefusalOutcome};
 ghost use Rattle.served_instance.specs.StandsFor.{IsServedWithin, AreSettled};
 ghost use Rattle.served_instance.specs.Slots.{served_state_in};
 ghost use Rattle.server_core.specs.LoneOutput.{config_at};
 ghost use Rattle.server_core.specs.Shared.{all_in, IsServer};
-ghost use Rattle.server_core.specs.StandsFor.{StandsAt, instance_at};
+ghost use Rattle.server_core.specs.StandsFor.{OrdersStand, StandsAt, instance_at};
 ghost use Rattle.server_core.specs.Marked.{StandsShortAt};
 ghost use Rattle.server_core.specs.Stored.{AreStored, texts_held, texts_of_all};
 ghost use Rattle.server_core.specs.Pooled.{IsPoolOf};
@@ -24,7 +27,7 @@ ghost use Rattle.served_instance.specs.Ranges.{RangesEndWithin};
 
 use blob_pool::Pool;
 use instance_view::View;
-use served_instance::{EventRefusal, ServedInstance};
+use served_instance::{EventRefusal, Order, ServedInstance, Task};
 use server_events::laws::the_fault_is_the_first;
 use server_events::{Configs, Event};
 use std::alloc::{AllocError, Global};
@@ -78,9 +81,10 @@ impl Server {
     }
 
     /// Takes an event. It is refused for the first reason that stands, and then nothing is changed;
-    /// or its instance does what it would do alone; or memory is refused, and its instance did a
-    /// part of it (`Short`) and goes on from there. No other instance changes.
-    pub fn step(&mut self, event: Event) -> Result<(), EventRefusal>
+    /// or its instance does what it would do alone, and gives the orders to whoever runs jobs; or
+    /// memory is refused, and its instance did a part of it (`Short`) and goes on from there. No
+    /// other instance changes.
+    pub fn step(&mut self, event: Event) -> Result<Vec<Order>, EventRefusal>
         // The event's instance does what it would do alone, which is nothing where it refuses.
         ensures own { result ≢ Err EventRefusal.NoMemory → (l : LoneInstance)
             → StandsAt event.instance self.old.instances l
@@ -92,6 +96,11 @@ impl Server {
         ensures settled { OnOk result ((l : LoneInstance) →
             StandsAt event.instance self.old.instances l
             → AreSettled (lone_step [] (event_value event) l)) }
+        // The orders are those that it would give alone.
+        ensures orders { IfOk result (λ orders. (l : LoneInstance)
+            → StandsAt event.instance self.old.instances l
+            → OrdersStand event.instance self.new.instances orders
+            (lone_orders [] (event_value event) l)) }
         // No other instance changes, whatever came of the event.
         ensures others { (j : ℕ) → j ≢ event.instance
             → instance_at j self.new.instances ≡ instance_at j self.old.instances }
@@ -142,8 +151,8 @@ impl Server {
     }
 
     /// How many different texts the instances hold, and how many bytes these have together. An
-    /// instance holds the texts of its blobs, and each text of which a range is still to be put.
-    /// One that is held several times counts once.
+    /// instance holds the texts of its blobs, those that its jobs keep which wait or run, and each
+    /// text of which a range is still to be put. One that is held several times counts once.
     pub fn stored(&self) -> (u64, u128)
         ensures { AreStored (texts_held self.now) result.0 result.1 }
     {
@@ -151,12 +160,33 @@ impl Server {
     }
 
     /// The pool of texts. After every event, also a refused one, it has each text that an instance
-    /// holds in one slot, which counts how often the instances hold it, for blobs and for ranges,
-    /// and nothing else.
+    /// holds in one slot, which counts how often the instances hold it, for blobs, for jobs and for
+    /// ranges, and nothing else.
     pub fn pool(&self) -> &Pool
         ensures { IsPoolOf result.now self.now }
     {
         pool_of(&self.pool, &self.instances)
+    }
+
+    /// The task of the job that runs under a number at an instance, where one does. Its texts lie in
+    /// the pool.
+    pub fn task(&self, instance: u32, job: u64) -> Option<&Task>
+        ensures { (p : Slots) × ((v : ServedState) → instance_at instance self.now.instances
+            ≡ Some v → option_map (λ task. task_in p task.now) result
+            ≡ task_of job v.state.jobs) }
+    {
+        self.instance(instance)?.task(job)
+    }
+
+    /// The instance of this number, and the pool that has its texts.
+    pub(crate) fn instance_and_pool(&self, number: u32) -> Option<(&ServedInstance, &Pool)>
+        ensures found { option_map (λ found. served_state_in found.1.now found.0.now) result
+            ≡ instance_at number self.now.instances }
+        ensures fit { IfSome result
+            (λ found. RangesEndWithin (text_at found.1.now) found.0.now.connections) }
+    {
+        let served = self.instances.get(number as usize)?;
+        Some((served, &self.pool))
     }
 
     /// The instance of this number. What it keeps of its own is the instance, with the texts that a
@@ -198,7 +228,7 @@ fn step_one(
     nobody: &View,
     instances: &mut [ServedInstance],
     event: Event,
-) -> Result<(), EventRefusal>
+) -> Result<Vec<Order>, EventRefusal>
     requires server { IsServer pool.old instances.old }
     requires nobody { nobody.now.entries ≡ [] }
     ensures own { result ≢ Err EventRefusal.NoMemory → (l : LoneInstance)
@@ -210,6 +240,10 @@ fn step_one(
         → StandsShortAt (event_value event) l (all_in pool.new instances.new) }
     ensures settled { OnOk result ((l : LoneInstance) → StandsAt event.instance
         (all_in pool.old instances.old) l → AreSettled (lone_step [] (event_value event) l)) }
+    ensures orders { IfOk result (λ orders. (l : LoneInstance)
+        → StandsAt event.instance (all_in pool.old instances.old) l
+        → OrdersStand event.instance (all_in pool.new instances.new) orders
+        (lone_orders [] (event_value event) l)) }
     ensures others { (j : ℕ) → j ≢ event.instance
         → instance_at j (all_in pool.new instances.new)
         ≡ instance_at j (all_in pool.old instances.old) }

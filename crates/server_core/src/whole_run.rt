@@ -1,10 +1,12 @@
 //! A whole run, event by event and at once.
 
 ghost use Rattle.std.specs.Prelude.{◌≡◌, ◌+◌, ◌-◌, ◌^◌, ◌<◌, ◌==◌, ◌++◌, ℕ, List, [], ◌∷◌, All, Some, length, map, IfOk, OnOk, if◌then◌else◌};
+ghost use Rattle.std.specs.List.{AllByRecursion};
 ghost use Rattle.server_events.specs.Configs.{ConfigValue};
 ghost use Rattle.server_events.specs.Events.{EventValue, own_events};
 ghost use Rattle.server_events.specs.Shown.{event_value};
 ghost use Rattle.instance_core.specs.State.{IsInstanceWithin};
+ghost use Rattle.served_instance.specs.StandsFor.{IsServedWithin};
 ghost use Rattle.server_core.specs.Runs.{Run, new_run, run_of, run_step, output_of_run};
 ghost use Rattle.server_core.specs.LoneOutput.{config_at, lone_output, strays, stray_at};
 ghost use Rattle.server_core.specs.Shown.{output_at};
@@ -12,12 +14,10 @@ ghost use Rattle.server_core.specs.Marked.{GivesRunOutput};
 ghost use Rattle.server_core.specs.RunTo.{IsNotedAt, HasRun, HasGoneOn};
 ghost use Rattle.server_core.specs.RunSoFar.{HasTaken, HasPassed};
 
-use crate::laws::a_run_keeps_its_limits;
 use crate::outputs::InstanceOutput;
 use crate::record::{ConnectionChange, InstanceRecord};
 use crate::server::Server;
-use served_instance::{EventRefusal, receiver};
-use server_events::laws::the_fault_is_the_first;
+use served_instance::{Broken, EventRefusal};
 use server_events::{Configs, Event};
 use std::alloc::{AllocError, Global};
 use std::marker::Model;
@@ -109,9 +109,9 @@ impl ServerRun {
         })
     }
 
-    /// What the run gave. Each instance gives the very bytes on its connections, and the refusals,
-    /// that it would give alone; where some of its events were refused for want of memory, those of
-    /// a run in which just these were done in part.
+    /// What the run gave. Each instance gives the very bytes on its connections, the orders and the
+    /// refusals that it would give alone; where some of its events were refused for want of memory,
+    /// those of a run in which just these were done in part.
     pub fn outputs(self, alloc: Global) -> Result<Outputs, AllocError>
         ensures alone { IfOk result (λ outputs. (configs : List ConfigValue)
             (events : List EventValue) → HasTaken configs events self
@@ -123,6 +123,11 @@ impl ServerRun {
             → (i : ℕ) (config : ConfigValue) → config_at i configs ≡ Some config
             → GivesRunOutput config (own_events i events)
             (output_at i outputs.instances.items)) }
+        // Each instance keeps its limits.
+        ensures within { OnOk result ((configs : List ConfigValue)
+            (events : List EventValue) → HasTaken configs events self
+            → (i : ℕ) (config : ConfigValue) → config_at i configs ≡ Some config
+            → IsInstanceWithin (run_of config (own_events i events)).lone.state) }
         ensures count { IfOk result (λ outputs. (configs : List ConfigValue)
             (events : List EventValue) → HasTaken configs events self
             → length outputs.instances.items ≡ length configs) }
@@ -143,22 +148,23 @@ impl ServerRun {
     }
 }
 
-/// Runs a server through events. Each instance gives the very bytes on its connections, and the
-/// refusals, that it would give alone: they are determined by its configuration and its own events.
+/// Runs a server through events. Each instance gives the very bytes on its connections, the orders
+/// and the refusals that it would give alone: they are determined by its configuration and its own
+/// events.
 pub fn run(alloc: Global, configs: &Configs, events: Vec<Event>) -> Result<Outputs, AllocError>
     ensures alone { IfOk result (λ outputs. (i : ℕ) (config : ConfigValue)
         → config_at i configs.now ≡ Some config
         → output_at i outputs.instances.items
         ≡ Some (lone_output config (own_events i (map event_value events.items)))) }
     // Each instance keeps its limits: each of its texts is what its digest says.
-    ensures within { (i : ℕ) (config : ConfigValue) → config_at i configs.now ≡ Some config
+    ensures within { OnOk result ((i : ℕ) (config : ConfigValue)
+        → config_at i configs.now ≡ Some config
         → IsInstanceWithin (run_of config
-        (own_events i (map event_value events.items))).lone.state }
+        (own_events i (map event_value events.items))).lone.state) }
     ensures count { IfOk result (λ outputs. length outputs.instances.items ≡ length configs.now) }
     ensures strays { IfOk result (λ outputs. outputs.strays.items
         ≡ strays configs.now (map event_value events.items)) }
 {
-    limits_are_kept(configs);
     let mut run = ServerRun::new(alloc, configs)?;
     for event in events {
         run = run.step(event)?;
@@ -185,16 +191,6 @@ pub fn run_on(alloc: Global, configs: &Configs, events: Vec<Event>) -> Result<Ou
     run.outputs(alloc)
 }
 
-/// Instances with these configurations keep their limits.
-fn limits_are_kept(configs: &Configs)
-    ensures { (i : ℕ) (config : ConfigValue) (events : List EventValue)
-        → config_at i configs.now ≡ Some config →
-        IsInstanceWithin (run_of config events).lone.state }
-{
-    the_fault_is_the_first(configs.instances());
-    a_run_keeps_its_limits();
-}
-
 /// Gives the server the event of this place, and notes what came of it in the record of its
 /// instance, or among the strays.
 fn step_and_note(
@@ -208,6 +204,7 @@ fn step_and_note(
     requires room { All (λ r. r.count < place) records.old }
     ensures count { OnOk result (length server.new.instances ≡ length server.old.instances) }
     ensures room { OnOk result (All (λ r. r.count < place + 1) records.new) }
+    ensures within { AllByRecursion IsServedWithin server.new.instances }
     ensures runs { OnOk result ((i : ℕ) (r : Run) → HasRun i server.old.instances records.old r
         → HasRun i server.new.instances records.new
         (if event.instance == i then run_step r (event_value event) else r)) }
@@ -221,12 +218,12 @@ fn step_and_note(
     if matches!(outcome, Err(EventRefusal::NoMemory)) {
         return Err(AllocError);
     }
-    match server.instance(instance) {
+    match server.instance_and_pool(instance) {
         None => {
             strays.push(place)?;
             Ok(())
         }
-        Some(served) => records[instance as usize].note(served, change, outcome),
+        Some((served, pool)) => records[instance as usize].note(served, pool, change, outcome),
     }
 }
 
@@ -243,6 +240,7 @@ fn step_on_and_note(
     requires room { All (λ r. r.count < place) records.old }
     ensures count { OnOk result (length server.new.instances ≡ length server.old.instances) }
     ensures room { OnOk result (All (λ r. r.count < place + 1) records.new) }
+    ensures within { AllByRecursion IsServedWithin server.new.instances }
     ensures runs { OnOk result ((i : ℕ) (r : Run) → HasRun i server.old.instances records.old r
         → HasGoneOn (event_value event) r i server.new.instances records.new) }
     ensures strays { OnOk result (strays.new.items
@@ -251,18 +249,18 @@ fn step_on_and_note(
 {
     let instance = event.instance;
     let change = ConnectionChange::made_by(&event.what);
-    let broken = receiver(&event.what);
+    let broken = Broken::by(&event.what);
     let outcome = server.step(event);
-    match server.instance(instance) {
+    match server.instance_and_pool(instance) {
         None => {
             strays.push(place)?;
             Ok(())
         }
-        Some(served) => {
+        Some((served, pool)) => {
             if matches!(outcome, Err(EventRefusal::NoMemory)) {
                 return records[instance as usize].note_short(broken);
             }
-            records[instance as usize].note(served, change, outcome)
+            records[instance as usize].note(served, pool, change, outcome)
         }
     }
 }

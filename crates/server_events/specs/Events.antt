@@ -1,19 +1,9 @@
 -- What happens to a server, and what of it happens to one instance.
-use Rattle.std.specs.Prelude.{ℕ, ℤ, ◌==◌, Bool, List, filter}
+use Rattle.std.specs.Prelude.{ℕ, ◌==◌, List, filter}
+use Rattle.outcomes.specs.Outcomes.{OutcomeValue}
 
--- a file that a program left: its path, its content, and whether it may be executed
-pub record OutputValue : Type 0 where
-  pub path : List ℕ
-  pub content : List ℕ
-  pub is_executable : Bool
-
--- how a program ended: not at all, or with a code, standard output, standard error and outputs
-pub data OutcomeValue : Type 0 where
-  failed : OutcomeValue
-  exited : ℤ → List ℕ → List ℕ → List OutputValue → OutcomeValue
-
--- a connection was opened, got bytes, had some taken or was closed; time went on; or a job's
--- program ended
+-- a connection was opened, got bytes, had some taken or was closed; time went on; or a job's run
+-- ended
 pub data WhatValue : Type 0 where
   opened : ℕ → WhatValue
   received : ℕ → List ℕ → WhatValue

@@ -1,5 +1,7 @@
 //! What happens to a server.
 
+use outcomes::Outcome;
+
 /// What happens to one instance, and when.
 #[derive(Drop)]
 pub struct Event {
@@ -23,33 +25,6 @@ pub enum What {
     Closed(u32),
     /// Time went on.
     Tick,
-    /// The program of the job of this number ended.
+    /// The run of the job of this number gave this.
     Outcome(u64, Outcome),
-}
-
-/// How a program ended.
-#[derive(Drop)]
-pub enum Outcome {
-    /// It could not be run to its end.
-    Failed,
-    /// It ended by itself.
-    Exited {
-        /// The exit code.
-        code: i32,
-        /// What it wrote to standard output.
-        stdout: Vec<u8>,
-        /// What it wrote to standard error.
-        stderr: Vec<u8>,
-        /// What it left of the outputs that were asked for, in order.
-        outputs: Vec<OutputFile>,
-    },
-}
-
-/// A file that a program left.
-#[derive(Drop)]
-pub struct OutputFile {
-    /// From the working directory on.
-    pub path: String,
-    pub content: Vec<u8>,
-    pub is_executable: bool,
 }

@@ -146,7 +146,9 @@ impl Client {
             instance: self.instance,
             what,
         };
-        output.expect(self.server.step(event));
+        if self.server.step(event).is_err() {
+            output.fail(Fault::OutOfMemory);
+        }
     }
 
     fn send(&mut self, head: (u8, u8), stream: u32, payload: &[u8], output: &mut Output) {

@@ -1,15 +1,27 @@
-//! What the stored scripts of `acceptance` cannot show yet: the outcome of a job.
+//! Lines of a job's outcome, read as events.
 
+use digest::Digest;
 use script::replay::*;
-use server_events::{Event, Outcome, OutputFile, What};
+use server_events::{Content, Event, Outcome, Output, OutputKind, What};
 use std::alloc::Global;
 use std::test::*;
 
-fn is_file(file: &OutputFile, path: &str, content: &[u8]) -> bool {
-    file.path.as_str() == path && file.content.as_slice() == content && !file.is_executable
+fn is_text(content: &Content, text: &[u8]) -> bool {
+    let digest = Digest::of(text);
+    content.digest_like(&digest) == digest
 }
 
-fn are_files(files: &[OutputFile]) -> bool {
+fn is_file(output: &Output, path: &str, text: &[u8]) -> bool {
+    match &output.kind {
+        OutputKind::File {
+            content,
+            is_executable,
+        } => output.path.as_str() == path && is_text(content, text) && !*is_executable,
+        OutputKind::Tree { .. } => false,
+    }
+}
+
+fn are_files(files: &[Output]) -> bool {
     match files {
         [first, second, third] => {
             is_file(first, "a/b", b"a")
@@ -22,20 +34,12 @@ fn are_files(files: &[OutputFile]) -> bool {
 
 fn is_exit(event: &Event) -> bool {
     match &event.what {
-        What::Outcome(
-            job,
-            Outcome::Exited {
-                code,
-                stdout,
-                stderr,
-                outputs,
-            },
-        ) => {
+        What::Outcome(job, Outcome::Exited(exited)) => {
             *job == u64::MAX
-                && *code == i32::MIN
-                && stdout.is_empty()
-                && stderr.as_slice() == b"ou".as_slice()
-                && are_files(outputs)
+                && exited.code == i32::MIN
+                && exited.stdout.is_empty()
+                && is_text(&exited.stderr, b"ou")
+                && are_files(&exited.outputs)
         }
         _ => false,
     }

@@ -32,14 +32,22 @@ fn taking(count: u32) -> Event {
     }
 }
 
+/// Whether the server refuses an event for this reason.
+fn refuses(server: &mut Server, event: Event, reason: EventRefusal) -> bool {
+    match server.step(event) {
+        Ok(_) => false,
+        Err(refusal) => refusal == reason,
+    }
+}
+
 /// Connection 7 of instance 1 is opened. Then an event is a stray, and one is refused.
 fn is_begun(server: &mut Server) -> bool {
     server.pending(1, 7).is_none()
-        && server.step(opening(1)) == Ok(())
+        && server.step(opening(1)).is_ok()
         && server.pending(1, 7) == Some(GREETING)
         && server.ended(1, 7) == Some(false)
-        && server.step(opening(2)) == Err(EventRefusal::NoSuchInstance)
-        && server.step(taking(16)) == Err(EventRefusal::TookTooMuch)
+        && refuses(server, opening(2), EventRefusal::NoSuchInstance)
+        && refuses(server, taking(16), EventRefusal::TookTooMuch)
         && server.pending(1, 7) == Some(GREETING)
 }
 
@@ -54,7 +62,7 @@ fn wrong(alloc: Global) -> Result<Event, AllocError> {
 /// The connection gets what no client sends first.
 fn is_ended(alloc: Global, server: &mut Server) -> bool {
     match wrong(alloc) {
-        Ok(wrong) => server.step(wrong) == Ok(()) && server.ended(1, 7) == Some(true),
+        Ok(wrong) => server.step(wrong).is_ok() && server.ended(1, 7) == Some(true),
         Err(_) => false,
     }
 }

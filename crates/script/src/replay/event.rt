@@ -5,10 +5,11 @@ ghost use Rattle.server_events.specs.Shown.{event_value, what_value};
 
 use crate::arguments::{exit_code, number, one, only_number, two};
 use crate::fault::LineFault;
-use crate::replay::output::read_outputs;
+use crate::replay::output::{read_content, read_outputs};
 use crate::{Parts, hex_bytes};
 use decimals::decimal;
-use server_events::{Event, Outcome, What};
+use outcomes::{Exited, Outcome};
+use server_events::{Event, What};
 use std::alloc::Global;
 
 /// The event of a line of this kind: its moment, its instance, and what happens.
@@ -84,17 +85,13 @@ fn read_exit(alloc: Global, mut words: Parts) -> Result<What, LineFault>
     let stdout = words.next().ok_or(LineFault::Bad)?;
     let stderr = words.next().ok_or(LineFault::Bad)?;
     let job = decimal(job).ok_or(LineFault::Bad)?;
-    let code = exit_code(code).ok_or(LineFault::Bad)?;
-    let stdout = hex_bytes(alloc, stdout)?.ok_or(LineFault::Bad)?;
-    let stderr = hex_bytes(alloc, stderr)?.ok_or(LineFault::Bad)?;
-    let outputs = read_outputs(alloc, words)?;
-    let outcome = Outcome::Exited {
-        code,
-        stdout,
-        stderr,
-        outputs,
+    let exited = Exited {
+        code: exit_code(code).ok_or(LineFault::Bad)?,
+        stdout: read_content(alloc, stdout)?,
+        stderr: read_content(alloc, stderr)?,
+        outputs: read_outputs(alloc, words)?,
     };
-    Ok(What::Outcome(job, outcome))
+    Ok(What::Outcome(job, Outcome::Exited(exited)))
 }
 
 // JOB

@@ -1,20 +1,24 @@
 //! The files that a program left.
-ghost use Rattle.std.specs.Prelude.{◌≡◌, map, Some, None, Ok, Err, IfOk, option_map};
+ghost use Rattle.std.specs.Prelude.{◌≡◌, map, Some, None, Ok, Err, IfOk, option_map, string_bytes};
 ghost use Rattle.std.specs.Char.{is_ascii};
 ghost use Rattle.std.specs.List.{list_all};
-ghost use Rattle.script.specs.ReplayEvents.{output_of, outputs_of, path_and_content_of};
-ghost use Rattle.server_events.specs.Shown.{output_value};
+ghost use Rattle.outcomes.specs.Shown.{output_shown};
+ghost use Rattle.script.specs.ReplayEvents.{content_of, output_of, outputs_of, path_and_content_of, plain_file};
 
 use crate::fault::LineFault;
 use crate::{Parts, hex_bytes};
-use server_events::OutputFile;
+use blob_pool::Draft;
+use outcomes::{Content, Output, OutputKind};
 use std::alloc::Global;
 use std::str;
 
+/// The most bytes of a text that a program left.
+const CONTENT_LIMIT: usize = 1 << 48;
+
 /// The files of words PATH=HEX.
-pub(crate) fn read_outputs(alloc: Global, words: Parts) -> Result<Vec<OutputFile>, LineFault>
+pub(crate) fn read_outputs(alloc: Global, words: Parts) -> Result<Vec<Output>, LineFault>
     ensures read { IfOk result (λ outputs. outputs_of words.entry
-        ≡ Some (map output_value outputs.items)) }
+        ≡ Some (map output_shown outputs.items)) }
     ensures bad { result ≡ Err LineFault.Bad → outputs_of words.entry ≡ None }
 {
     let mut outputs = Vec::new(alloc);
@@ -26,17 +30,39 @@ pub(crate) fn read_outputs(alloc: Global, words: Parts) -> Result<Vec<OutputFile
 }
 
 // The file of a word PATH=HEX.
-fn read_output(alloc: Global, word: &[u8]) -> Result<OutputFile, LineFault>
-    ensures read { IfOk result (λ output. output_of word.now ≡ Some (output_value output)) }
+fn read_output(alloc: Global, word: &[u8]) -> Result<Output, LineFault>
+    ensures read { IfOk result (λ output. output_of word.now ≡ Some (output_shown output)) }
     ensures bad { result ≡ Err LineFault.Bad → output_of word.now ≡ None }
 {
     let (path, content) = path_and_content(word).ok_or(LineFault::Bad)?;
-    let content = hex_bytes(alloc, content.as_bytes())?.ok_or(LineFault::Bad)?;
-    Ok(OutputFile {
-        path: String::from_str(alloc, path)?,
+    let content = read_content(alloc, content.as_bytes())?;
+    let path = String::from_str(alloc, path)?;
+    Ok(plain_file(path, content))
+}
+
+// A file that may not be executed.
+fn plain_file(path: String, content: Content) -> Output
+    ensures { output_shown result ≡ plain_file (string_bytes path) content }
+{
+    let kind = OutputKind::File {
         content,
         is_executable: false,
-    })
+    };
+    Output { path, kind }
+}
+
+/// The text that a word HEX writes.
+pub(crate) fn read_content(alloc: Global, word: &[u8]) -> Result<Content, LineFault>
+    ensures read { IfOk result (λ content. content_of word.now ≡ Some content) }
+    ensures bad { result ≡ Err LineFault.Bad → content_of word.now ≡ None }
+{
+    let bytes = hex_bytes(alloc, word)?.ok_or(LineFault::Bad)?;
+    if bytes.len() > CONTENT_LIMIT {
+        return Err(LineFault::Bad);
+    }
+    let mut draft = Draft::new(alloc);
+    draft.push(&bytes)?;
+    Ok(Content::new(draft))
 }
 
 // What stands before and after the last `=` of a word of ASCII.

@@ -1,17 +1,17 @@
-use Rattle.std.proofs.Common.{◌≡◌, ap, refl, sym, subst, ◌∙◌, Err, Ok}
+use Rattle.std.proofs.Common.{◌≡◌, ℕ, Option, ap, refl, sym, subst, ◌∙◌, Err, Ok}
+use Rattle.rpc.specs.declared.method.Method.{Method}
 use Rattle.rpc.specs.declared.refusal.Refusal.TheVariants.{NoMessage}
 use Rattle.bytestream.specs.Shown.{open_write_shown}
 use Rattle.bytestream.specs.Writing.{unfinished_reply}
 use Rattle.instance_view.specs.Shown.{visible_in, holders}
 use Rattle.instance_core.specs.Calls.{waits, has, writes, call_at}
 use Rattle.instance_core.specs.Answer.{final_answer, request_end_answer}
-use Rattle.instance_core.specs.Shown.{contents_seen}
 use Rattle.instance_core.specs.Changes.{MadeInPart}
 use Rattle.instance_core.specs.Replies.{one_message}
 use Rattle.instance_core.specs.Methods.{answer_to, request_changes}
 use Rattle.instance_core.specs.ReplyHolders.{result_holders}
-use Rattle.instance_core.specs.Carries.{answer_holders}
-use Rattle.instance_core.proofs.Carrying.{answer_held, answer_ends_within, shown_still, moved_on, within_still, seen_at, held_by_none}
+use Rattle.instance_core.specs.Carries.{answer_holders, contents_beside, contents_holders, settled}
+use Rattle.instance_core.proofs.Carrying.{answer_held, answer_ends_within, shown_still, texts_still, moved_on, own_held, within_still, held_by_none}
 use Rattle.instance_core.proofs.Parts.{call_found, ended_whole, ended_in_part, made_whole, made_in_part, calls_made, all_left, front_left}
 use Rattle.instance_core.proofs.answers.on_end.Goals as goal
 
@@ -23,7 +23,7 @@ returns-in-Waits-clause-replies c =
 
 pub returns-in-Waits-clause-changed : goal.returns-in-Waits-clause-changed
 returns-in-Waits-clause-changed c =
-    let s = contents_seen c.args.settings.now (visible_in c.args.pool.now c.args.parent.now) c.args.pool.now c.args.contents.now c.args.calls.now in
+    let s = contents_beside c.args.settings.now (visible_in c.args.pool.now c.args.parent.now) c.args.pool.now c.args.contents.now c.args.calls.now in
     let waiting : waits ≡ c.in-Some.call.now.progress = rw c.in-Waits.is at c.progress.ensures in
     let there = call_found c.in-Some.call.now c.in-Some.call.now.method waits (call_at c.args.id c.args.calls.now) c.in-Some.ensures.found refl waiting in
     rw (← there) (calls_made c.finish.result (final_answer c.args.id (Err NoMessage)).changes s c.finish.new.calls c.finish.ensures.changed c.finish.ensures.err)
@@ -38,7 +38,8 @@ reply_to_request-requires-clause-held c =
     let new = c.carry_out-outcome.new.contents in
     let outcome = c.carry_out-outcome.result in
     let carried = c.carry_out-outcome.ensures.carried in
-    answer_held p q (holders old.view) (holders new.view) (answer_holders outcome) carried.moves c.requires.kept.kept.held.counted
+    let held = own_held (contents_holders old) (holders c.args.parent.now) p c.requires.beside in
+    answer_held p q (contents_holders old) (contents_holders new) (answer_holders outcome) carried.moves held
 
 pub reply_to_request-requires-clause-within : goal.reply_to_request-requires-clause-within
 reply_to_request-requires-clause-within c =
@@ -50,7 +51,8 @@ reply_to_request-requires-clause-within c =
     let new = c.carry_out-outcome.new.contents in
     let outcome = c.carry_out-outcome.result in
     let carried = c.carry_out-outcome.ensures.carried in
-    answer_ends_within q c.method-method.result (contents_seen settings (visible_in p c.args.parent.now) p old calls) c.deref.result.now outcome (carried.answer calls)
+    let held = own_held (contents_holders old) (holders c.args.parent.now) p c.requires.beside in
+    answer_ends_within q c.method-method.result (contents_beside settings (visible_in p c.args.parent.now) p old calls) c.deref.result.now outcome (carried.answer calls)
 
 pub returns-in_ok-replies-in-Has-clause-replies : goal.returns-in_ok-replies-in-Has-clause-replies
 returns-in_ok-replies-in-Has-clause-replies c =
@@ -63,13 +65,14 @@ returns-in_ok-replies-in-Has-clause-replies c =
     let new = c.carry_out-outcome.new.contents in
     let outcome = c.carry_out-outcome.result in
     let carried = c.carry_out-outcome.ensures.carried in
+    let held = own_held (contents_holders old) (holders c.args.parent.now) p c.requires.beside in
     let parent = visible_in p c.args.parent.now in
     let request = c.deref.result.now in
     let method = c.method-method.result in
     let come : has c.in-Has.message.items ≡ c.in-Some.call.now.progress = rw c.in-Has.is at c.progress.ensures in
     let there = call_found c.in-Some.call.now method (has request) (call_at c.args.id calls) c.in-Some.ensures.found c.method-method.ensures (ap has c.deref.ensures.value ∙ come) in
-    let s = contents_seen settings parent p old calls in
-    let mid = contents_seen settings parent z new calls in
+    let s = contents_beside settings parent p old calls in
+    let mid = contents_beside settings parent z new calls in
     rw (← there) (c.in_ok-replies-in-Has.ensures.replies (answer_to method s request) (carried.answer calls))
 
 pub returns-in_ok-replies-in-Has-clause-changed : goal.returns-in_ok-replies-in-Has-clause-changed
@@ -83,18 +86,21 @@ returns-in_ok-replies-in-Has-clause-changed c =
     let new = c.carry_out-outcome.new.contents in
     let outcome = c.carry_out-outcome.result in
     let carried = c.carry_out-outcome.ensures.carried in
+    let held = own_held (contents_holders old) (holders c.args.parent.now) p c.requires.beside in
     let parent = visible_in p c.args.parent.now in
     let request = c.deref.result.now in
     let method = c.method-method.result in
     let come : has c.in-Has.message.items ≡ c.in-Some.call.now.progress = rw c.in-Has.is at c.progress.ensures in
     let there = call_found c.in-Some.call.now method (has request) (call_at c.args.id calls) c.in-Some.ensures.found c.method-method.ensures (ap has c.deref.ensures.value ∙ come) in
-    let s = contents_seen settings parent p old calls in
-    let mid = contents_seen settings parent z new calls in
-    let still = shown_still p q z (holders old.view) new.view (answer_holders outcome) (result_holders c.reply_to_request.result) carried.moves c.requires.kept.kept.held.counted c.reply_to_request.ensures.moves in
-    let same = seen_at settings parent q z new calls still in
-    let all = all_left outcome (Ok c.in_ok-replies-in-Has.replies) c.in_ok-replies-in-Has.replies (request_changes method s request) s (contents_seen settings parent q new calls) refl c.in_ok-replies-in-Has.ensures.memory (carried.leaves calls) in
+    let s = contents_beside settings parent p old calls in
+    let mid = contents_beside settings parent z new calls in
+    let same = shown_still settings parent p q z (contents_holders old) new (answer_holders outcome) (result_holders c.reply_to_request.result) calls carried.moves held c.reply_to_request.ensures.moves in
+    let now = c.settle.ensures.settled c.in-Some.call.now (sym c.in-Some.ensures.found)
+    ∙ ap (λ (m : Method). settled c.args.id m c.watched_in-watched.result calls) (sym c.method-method.ensures)
+    ∙ ap (λ (n : Option ℕ). settled c.args.id method n calls) c.watched_in-watched.ensures in
+    let all = all_left outcome (Ok c.in_ok-replies-in-Has.replies) c.in_ok-replies-in-Has.replies (request_changes method s request) s (contents_beside settings parent q new calls) refl c.in_ok-replies-in-Has.ensures.memory (carried.leaves calls) in
     made_whole c.in_ok-replies-in-Has.replies _ s _
-    (ended_whole s mid c.end.new.self c.args.id method request (call_at c.args.id calls) there (same ∙ all) refl c.end.ensures.ended)
+    (ended_whole q outcome s mid c.settle.new.calls c.args.id method request (call_at c.args.id calls) there (carried.answer calls) c.in_ok-replies-in-Has.ensures.memory (same ∙ all) refl now)
 
 pub returns-in_ok-replies-in-Has-clause-moves : goal.returns-in_ok-replies-in-Has-clause-moves
 returns-in_ok-replies-in-Has-clause-moves c =
@@ -107,7 +113,8 @@ returns-in_ok-replies-in-Has-clause-moves c =
     let new = c.carry_out-outcome.new.contents in
     let outcome = c.carry_out-outcome.result in
     let carried = c.carry_out-outcome.ensures.carried in
-    moved_on p q z (holders old.view) (holders new.view) (answer_holders outcome) _ carried.moves c.requires.kept.kept.held.counted c.in_ok-replies-in-Has.ensures.moves
+    let held = own_held (contents_holders old) (holders c.args.parent.now) p c.requires.beside in
+    moved_on p q z (contents_holders old) (contents_holders new) (answer_holders outcome) _ carried.moves held c.in_ok-replies-in-Has.ensures.moves
 
 pub returns-in_ok-replies-in-Has-clause-within : goal.returns-in_ok-replies-in-Has-clause-within
 returns-in_ok-replies-in-Has-clause-within c =
@@ -120,7 +127,8 @@ returns-in_ok-replies-in-Has-clause-within c =
     let new = c.carry_out-outcome.new.contents in
     let outcome = c.carry_out-outcome.result in
     let carried = c.carry_out-outcome.ensures.carried in
-    within_still settings q z new (shown_still p q z (holders old.view) new.view (answer_holders outcome) (result_holders c.reply_to_request.result) carried.moves c.requires.kept.kept.held.counted c.reply_to_request.ensures.moves) carried.within
+    let held = own_held (contents_holders old) (holders c.args.parent.now) p c.requires.beside in
+    within_still settings q z new (texts_still p q z (contents_holders old) new (answer_holders outcome) (result_holders c.reply_to_request.result) carried.moves held c.reply_to_request.ensures.moves) carried.within
 
 pub returns-in_err-replies-in-Has-clause-changed : goal.returns-in_err-replies-in-Has-clause-changed
 returns-in_err-replies-in-Has-clause-changed c =
@@ -133,19 +141,19 @@ returns-in_err-replies-in-Has-clause-changed c =
     let new = c.carry_out-outcome.new.contents in
     let outcome = c.carry_out-outcome.result in
     let carried = c.carry_out-outcome.ensures.carried in
+    let held = own_held (contents_holders old) (holders c.args.parent.now) p c.requires.beside in
     let parent = visible_in p c.args.parent.now in
     let request = c.deref.result.now in
     let method = c.method-method.result in
     let come : has c.in-Has.message.items ≡ c.in-Some.call.now.progress = rw c.in-Has.is at c.progress.ensures in
     let there = call_found c.in-Some.call.now method (has request) (call_at c.args.id calls) c.in-Some.ensures.found c.method-method.ensures (ap has c.deref.ensures.value ∙ come) in
-    let s = contents_seen settings parent p old calls in
-    let mid = contents_seen settings parent z new calls in
-    let still = shown_still p q z (holders old.view) new.view (answer_holders outcome) (result_holders c.reply_to_request.result) carried.moves c.requires.kept.kept.held.counted c.reply_to_request.ensures.moves in
-    let same = seen_at settings parent q z new calls still in
+    let s = contents_beside settings parent p old calls in
+    let mid = contents_beside settings parent z new calls in
+    let same = shown_still settings parent p q z (contents_holders old) new (answer_holders outcome) (result_holders c.reply_to_request.result) calls carried.moves held c.reply_to_request.ensures.moves in
     made_in_part c.from_residual.result _ s _ c.from_residual.ensures.0
     (subst (MadeInPart (request_end_answer s c.args.id (call_at c.args.id calls)).changes s) (sym same)
-    (ended_in_part s (contents_seen settings parent q new calls) c.args.id method request (call_at c.args.id calls) there
-    (front_left outcome (request_changes method s request) s (contents_seen settings parent q new calls) (carried.leaves calls))))
+    (ended_in_part s (contents_beside settings parent q new calls) c.args.id method request (call_at c.args.id calls) there
+    (front_left outcome (request_changes method s request) s (contents_beside settings parent q new calls) (carried.leaves calls))))
 
 pub returns-in_err-replies-in-Has-clause-moves : goal.returns-in_err-replies-in-Has-clause-moves
 returns-in_err-replies-in-Has-clause-moves c =
@@ -158,7 +166,8 @@ returns-in_err-replies-in-Has-clause-moves c =
     let new = c.carry_out-outcome.new.contents in
     let outcome = c.carry_out-outcome.result in
     let carried = c.carry_out-outcome.ensures.carried in
-    moved_on p q z (holders old.view) (holders new.view) (answer_holders outcome) _ carried.moves c.requires.kept.kept.held.counted (held_by_none q z (answer_holders outcome) _ c.from_residual.result c.from_residual.ensures.0 c.in_err-replies-in-Has.ensures.moves)
+    let held = own_held (contents_holders old) (holders c.args.parent.now) p c.requires.beside in
+    moved_on p q z (contents_holders old) (contents_holders new) (answer_holders outcome) _ carried.moves held (held_by_none q z (answer_holders outcome) _ c.from_residual.result c.from_residual.ensures.0 c.in_err-replies-in-Has.ensures.moves)
 
 pub returns-in_err-replies-in-Has-clause-within : goal.returns-in_err-replies-in-Has-clause-within
 returns-in_err-replies-in-Has-clause-within c =
@@ -171,7 +180,8 @@ returns-in_err-replies-in-Has-clause-within c =
     let new = c.carry_out-outcome.new.contents in
     let outcome = c.carry_out-outcome.result in
     let carried = c.carry_out-outcome.ensures.carried in
-    within_still settings q z new (shown_still p q z (holders old.view) new.view (answer_holders outcome) (result_holders c.reply_to_request.result) carried.moves c.requires.kept.kept.held.counted c.reply_to_request.ensures.moves) carried.within
+    let held = own_held (contents_holders old) (holders c.args.parent.now) p c.requires.beside in
+    within_still settings q z new (texts_still p q z (contents_holders old) new (answer_holders outcome) (result_holders c.reply_to_request.result) carried.moves held c.reply_to_request.ensures.moves) carried.within
 
 pub returns-in_ok-reply-in-Writes-clause-replies : goal.returns-in_ok-reply-in-Writes-clause-replies
 returns-in_ok-reply-in-Writes-clause-replies c =
@@ -182,7 +192,7 @@ returns-in_ok-reply-in-Writes-clause-replies c =
 
 pub returns-in_ok-reply-in-Writes-clause-changed : goal.returns-in_ok-reply-in-Writes-clause-changed
 returns-in_ok-reply-in-Writes-clause-changed c =
-    let s = contents_seen c.args.settings.now (visible_in c.args.pool.now c.args.parent.now) c.args.pool.now c.args.contents.now c.args.calls.now in
+    let s = contents_beside c.args.settings.now (visible_in c.args.pool.now c.args.parent.now) c.args.pool.now c.args.contents.now c.args.calls.now in
     let write = open_write_shown c.in-Writes.write in
     let come : writes write ≡ c.in-Some.call.now.progress = rw c.in-Writes.is at c.progress.ensures in
     let there = call_found c.in-Some.call.now c.in-Some.call.now.method (writes write) (call_at c.args.id c.args.calls.now) c.in-Some.ensures.found refl come in

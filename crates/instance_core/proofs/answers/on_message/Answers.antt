@@ -17,15 +17,15 @@ write_next-outcome-requires-clause-named c =
     progress_short c.in-Some.call.now (writes write) (call_at c.args.id c.args.calls.now) c.in-Some.ensures.found come (found_short c.args.id c.args.calls.now c.in-Some.ensures.calls.messages)
 
 pub returns-in-Has-clause-changed : goal.returns-in-Has-clause-changed
-returns-in-Has-clause-changed c =
-    let s = contents_state c.args.settings.now c.args.pool.now c.args.contents.now c.args.calls.now in
+returns-in-Has-clause-changed c = λ jobs.
+    let s = contents_state c.args.settings.now c.args.pool.now c.args.contents.now (record { jobs = jobs; calls = c.args.calls.now }) in
     let come : has c.in-Has.field-0.items ≡ c.in-Some.call.now.progress = rw c.in-Has.is at c.progress.ensures in
     let there = call_found c.in-Some.call.now c.in-Some.call.now.method (has c.in-Has.field-0.items) (call_at c.args.id c.args.calls.now) c.in-Some.ensures.found refl come in
     rw (← there) (calls_made c.finish.result (final_answer c.args.id (Err MoreThanOneMessage)).changes s c.finish.new.calls c.finish.ensures.changed c.finish.ensures.err)
 
 pub returns-in-Writes-clause-replies : goal.returns-in-Writes-clause-replies
-returns-in-Writes-clause-replies c = λ p.
-    let s = contents_state c.args.settings.now c.args.pool.now c.args.contents.now c.args.calls.now in
+returns-in-Writes-clause-replies c = λ jobs p.
+    let s = contents_state c.args.settings.now c.args.pool.now c.args.contents.now (record { jobs = jobs; calls = c.args.calls.now }) in
     let write = open_write_shown c.in-Writes.write in
     let come : writes write ≡ c.in-Some.call.now.progress = rw c.in-Writes.is at c.progress.ensures in
     let there = call_found c.in-Some.call.now c.in-Some.call.now.method (writes write) (call_at c.args.id c.args.calls.now) c.in-Some.ensures.found refl come in
@@ -34,8 +34,8 @@ returns-in-Writes-clause-replies c = λ p.
     (c.settle_next.ensures.replies (next_outcome s write message) c.write_next-outcome.ensures.answer p)
 
 pub returns-in-Writes-clause-changed : goal.returns-in-Writes-clause-changed
-returns-in-Writes-clause-changed c =
-    let s = contents_state c.args.settings.now c.args.pool.now c.args.contents.now c.args.calls.now in
+returns-in-Writes-clause-changed c = λ jobs.
+    let s = contents_state c.args.settings.now c.args.pool.now c.args.contents.now (record { jobs = jobs; calls = c.args.calls.now }) in
     let write = open_write_shown c.in-Writes.write in
     let come : writes write ≡ c.in-Some.call.now.progress = rw c.in-Writes.is at c.progress.ensures in
     let there = call_found c.in-Some.call.now c.in-Some.call.now.method (writes write) (call_at c.args.id c.args.calls.now) c.in-Some.ensures.found refl come in

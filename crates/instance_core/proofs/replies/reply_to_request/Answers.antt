@@ -4,7 +4,7 @@ use Rattle.blob_pool.specs.Moves.{Moves}
 use Rattle.cas_service.specs.Answers.{Answers}
 use Rattle.cas_service.specs.declared.error.CallError.{CallError}
 use Rattle.instance_core.specs.declared.answer.Answer.{Answer}
-use Rattle.instance_core.specs.declared.answer.Answer.TheVariants.{Message, Messages, Range}
+use Rattle.instance_core.specs.declared.answer.Answer.TheVariants.{Message, Messages, Range, Watching}
 use Rattle.instance_core.specs.ReplyHolders.{result_holders}
 use Rattle.instance_core.specs.Carries.{answer_shown, answer_holders, EndsWithin}
 use Rattle.instance_core.proofs.Replying.{of_answer, to_answer, refused_so, none_moves}
@@ -47,3 +47,13 @@ returns-in-Ok-Range-clause-moves c = to_answer (λ (o : Result Answer CallError)
 pub returns-in_ok-refusal-in-Err-clause-replies : goal.returns-in_ok-refusal-in-Err-clause-replies
 returns-in_ok-refusal-in-Err-clause-replies c = λ answer means.
     rw (refused_so c.args.pool.now c.args.outcome c.in-Err.error c.in_ok-refusal-in-Err.refusal answer c.in-Err.is c.in_ok-refusal-in-Err.ensures.refused means) (c.reply_with-in-Err.ensures.replies c.args.pool.now)
+
+pub returns-in-Ok-Watching-clause-replies : goal.returns-in-Ok-Watching-clause-replies
+returns-in-Ok-Watching-clause-replies c = λ answer means.
+    let answered = of_answer (λ (o : Result Answer CallError). Answers (answer_shown c.args.pool.now) o answer) c.args.outcome c.in-Ok-Watching.field-0 (Watching c.in-Ok-Watching.field-0-0 c.in-Ok-Watching.operation) c.in-Ok-Watching.is c.in-Ok-Watching.field-0-is means in
+    rw answered (c.first_reply.ensures.replies c.args.pool.now)
+
+pub returns-in-Ok-Watching-clause-moves : goal.returns-in-Ok-Watching-clause-moves
+returns-in-Ok-Watching-clause-moves c =
+    none_moves c.args.pool.now (answer_holders c.args.outcome) (result_holders c.first_reply.result)
+    (λ k. to_answer (λ (o : Result Answer CallError). answer_holders o k ≡ 0) c.args.outcome c.in-Ok-Watching.field-0 (Watching c.in-Ok-Watching.field-0-0 c.in-Ok-Watching.operation) c.in-Ok-Watching.is c.in-Ok-Watching.field-0-is refl) c.first_reply.ensures.given

@@ -6,14 +6,14 @@ use Rattle.instance_core.proofs.Writes.{first_replies, first_done}
 use Rattle.instance_core.proofs.writing.on_first_part.Goals as goal
 
 pub returns-clause-replies : goal.returns-clause-replies
-returns-clause-replies c = λ p.
-    let s = contents_state c.args.settings.now c.args.pool.now c.args.contents.now c.args.calls.now in
+returns-clause-replies c = λ jobs p.
+    let s = contents_state c.args.settings.now c.args.pool.now c.args.contents.now (record { jobs = jobs; calls = c.args.calls.now }) in
     let answer = rw c.deref.ensures at c.write_first-written.ensures.answer in
     rw (first_replies c.args.id Write (first_changes s c.args.message.now) (first_outcome s c.args.message.now)) (c.settle_first.ensures.replies (first_outcome s c.args.message.now) answer p)
 
 pub returns-clause-changed : goal.returns-clause-changed
-returns-clause-changed c =
-    let s = contents_state c.args.settings.now c.args.pool.now c.args.contents.now c.args.calls.now in
+returns-clause-changed c = λ jobs.
+    let s = contents_state c.args.settings.now c.args.pool.now c.args.contents.now (record { jobs = jobs; calls = c.args.calls.now }) in
     let answer = rw c.deref.ensures at c.write_first-written.ensures.answer in
     let visible = rw c.deref.ensures at c.write_first-written.ensures.visible in
     let uploads = rw c.deref.ensures at c.write_first-written.ensures.uploads in

@@ -21,7 +21,7 @@ use Rattle.instance_core.specs.Apart.{IsCallOn}
 use Rattle.served_instance.proofs.Cut.{finds_here, finds_trans}
 use Rattle.served_instance.proofs.CutEvents.{cut_leads_here, due_answered, due_refused}
 use Rattle.served_instance.proofs.Answered.{event_on}
-use Rattle.served_instance.proofs.Broken.{on_err}
+use Rattle.served_instance.proofs.BrokenOff.{on_err}
 use Rattle.served_instance.proofs.calls.give_due.Goals as goal
 
 pub events-init : goal.events-init

@@ -15,7 +15,7 @@ use Rattle.served_instance.proofs.Happens.{replies_owed, answers_given, answered
 use Rattle.served_instance.specs.Cuts.{others_of}
 use Rattle.served_instance.proofs.Cut.{others_agree, finds_trans}
 use Rattle.instance_core.proofs.Answered.{replies_to}
-use Rattle.served_instance.proofs.Broken.{given_short}
+use Rattle.served_instance.proofs.BrokenOff.{given_short}
 use Rattle.served_instance.proofs.calls.happen.Goals as goal
 
 pub call_event-requires-clause-kept : goal.call_event-requires-clause-kept

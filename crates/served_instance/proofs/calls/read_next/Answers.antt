@@ -12,7 +12,7 @@ use Rattle.served_instance.specs.Events.{rest_events}
 use Rattle.served_instance.specs.Cuts.{others_of}
 use Rattle.served_instance.proofs.Cut.{finds_here, finds_after}
 use Rattle.served_instance.proofs.CutEvents.{nothing_cut, read_refused, read_cut_leads, done_cut_leads}
-use Rattle.served_instance.proofs.Broken.{on_err}
+use Rattle.served_instance.proofs.BrokenOff.{on_err}
 use Rattle.served_instance.proofs.calls.read_next.Goals as goal
 
 pub give_due-requires : goal.give_due-requires

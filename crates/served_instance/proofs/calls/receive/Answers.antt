@@ -16,7 +16,7 @@ use Rattle.served_instance.specs.Events.{bytes_come, bytes_events, rest_events}
 use Rattle.served_instance.specs.Cuts.{others_of}
 use Rattle.served_instance.proofs.Cut.{finds_here, finds_trans}
 use Rattle.served_instance.proofs.CutEvents.{nothing_cut, cut_leads_trans, cut_leads_short}
-use Rattle.served_instance.proofs.Broken.{on_err}
+use Rattle.served_instance.proofs.BrokenOff.{on_err}
 use Rattle.served_instance.proofs.calls.receive.Goals as goal
 
 pub frames-init : goal.frames-init

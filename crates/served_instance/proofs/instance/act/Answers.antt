@@ -1,125 +1,122 @@
-use Rattle.std.proofs.Common.{◌≡◌, sym, ap, ◌∙◌, subst, refl, arith, length, List}
+use Rattle.std.proofs.Common.{◌≡◌, ◌<◌, sym, ap, ◌∙◌, subst, refl, arith, length, List}
 use Rattle.std.specs.Prelude.{map, None, Ok, Result}
 use Rattle.std.proofs.lemmas.Grind.{common_steps}
 use Rattle.std.proofs.lemmas.List.{length-map}
 use Rattle.std.specs.declared.alloc.AllocError.{AllocError}
 use Rattle.conn_core.specs.Past.{with_taken}
+use Rattle.outcomes.specs.Shown.{outcome_shown}
 use Rattle.server_events.specs.declared.event.What.{What}
+use Rattle.server_events.specs.Events.{WhatValue, opened, received, took, closed, tick, ended}
 use Rattle.server_events.specs.Shown.{what_value}
 use Rattle.served_instance.specs.declared.open_connection.OpenConnection.{OpenConnection}
-use Rattle.instance_core.specs.Calls.{tick as time_passes}
 use Rattle.instance_core.specs.Slots.{state_beside}
 use Rattle.instance_core.specs.InstanceViewShown.{visible_in}
 use Rattle.blob_pool.specs.Slots.{text_at}
-use Rattle.served_instance.specs.Connections.{at_open}
-use Rattle.served_instance.specs.Lone.{LoneInstance, effect_of, after_call_event, after_opening, after_closing, after_bytes_on}
+use Rattle.served_instance.specs.Acts.{ActsIn, present_at, slots_of}
+use Rattle.served_instance.specs.Cuts.{CutsAct, others_than}
+use Rattle.served_instance.specs.Lone.{after_closing}
 use Rattle.served_instance.specs.Present.{CanTake, refusal_by_what}
 use Rattle.served_instance.specs.Shown.{connection_shown}
-use Rattle.served_instance.specs.Acts.{present_at, slots_of}
-use Rattle.served_instance.proofs.Closes.{acts_between, at_state, written_back, can_take, tick_acts}
-use Rattle.served_instance.proofs.Kept.{alike_keeps, few_connections, instance_after, instance_kept, moment_keeps, release_keeps}
 use Rattle.served_instance.specs.Slots.{IsServedBeside}
-use Rattle.served_instance.proofs.Stands.{released_acts}
-use Rattle.served_instance.proofs.Writes.{alike_writes, moves_written, seen_kept}
-use Rattle.served_instance.proofs.Leads.{step_acts}
-use Rattle.server_events.specs.Events.{WhatValue, opened, received}
-use Rattle.served_instance.specs.Acts.{FindAlike}
-use Rattle.served_instance.specs.Cuts.{others_than, others_of, events_brought, CutsShort, KeepsOthers, OthersFindAlike}
-use Rattle.served_instance.specs.Events.{bytes_events}
+use Rattle.served_instance.proofs.Acting.{rest_between, orders_between, orders_none}
+use Rattle.served_instance.proofs.BrokenOff.{on_err, err_map, cuts_seen, others_seen, finds_seen}
+use Rattle.served_instance.proofs.Closes.{written_back, can_take}
 use Rattle.served_instance.proofs.Cut.{finds_here}
-use Rattle.served_instance.proofs.CutEvents.{nothing_cut}
-use Rattle.served_instance.proofs.Broken.{on_err, err_map, cuts_seen, others_seen, finds_seen}
+use Rattle.served_instance.proofs.Kept.{alike_keeps, few_connections, instance_after, release_keeps}
+use Rattle.served_instance.proofs.Leads.{step_acts}
+use Rattle.served_instance.proofs.Stands.{released_acts}
+use Rattle.served_instance.proofs.Turning.{if_map, ok_map}
+use Rattle.served_instance.proofs.Writes.{alike_writes, moves_written, seen_kept}
 use Rattle.served_instance.proofs.instance.act.Goals as goal
 
-pub take-requires : goal.take-requires
-take-requires c =
-    let os = c.args.connections.now.items in
-    let n = c.in-Took.number in
-    let P : What → Type 0 = λ w. refusal_by_what (what_value w) (map connection_shown os) ≡ None in
-    let Q : List OpenConnection → Type 0 = λ xs. CanTake c.in-Took.count (present_at n xs) in
-    subst Q (sym c.deref_mut-in-Took.ensures.value) (can_take c.in-Took.count (present_at n os) (subst P c.in-Took.is c.requires.accepted))
+-- ---- a connection opens
 
-pub returns-in-Open-clause-acted : goal.returns-in-Open-clause-acted
-returns-in-Open-clause-acted c =
-    let os = c.args.connections.now.items in
-    let ns = c.open.new.connections.items in
-    let t = text_at c.args.pool.now in
-    let s = state_beside c.args.pool.now c.args.parent.now c.args.instance.now in
-    acts_between c.open.result t t s s os os ns ns (after_opening c.in-Open.number) (effect_of (what_value c.args.what)) refl refl
-    (ap (λ (w : What). effect_of (what_value w)) c.in-Open.is) (at_state c.open.result t s os ns (after_opening c.in-Open.number) c.open.ensures.opened)
-
-pub receive-requires : goal.receive-requires
-receive-requires c =
-    record {
-      kept = seen_kept c.args.pool.now c.args.instance.now c.args.connections.now.items c.deref_mut.result.now c.deref_mut.ensures.value c.requires.kept;
-      beside = subst (λ (ys : List OpenConnection). IsServedBeside c.args.pool.now c.args.parent.now (slots_of c.args.instance.now ys)) (sym c.deref_mut.ensures.value) c.requires.beside;
-    }
-
-pub returns-in-Bytes-clause-acted : goal.returns-in-Bytes-clause-acted
-returns-in-Bytes-clause-acted c =
+pub returns-in_ok-open-in-Open-clause-acted : goal.returns-in_ok-open-in-Open-clause-acted
+returns-in_ok-open-in-Open-clause-acted c =
+    let parent = c.args.parent.now in
     let p = c.args.pool.now in
-    let q = c.receive.new.pool in
-    let all = c.args.connections.now in
-    let ns = c.receive.new.connections in
-    acts_between c.receive.result (text_at p) (text_at q) (state_beside p c.args.parent.now c.args.instance.now) (state_beside q c.args.parent.now c.receive.new.instance) all.items c.deref_mut.result.now ns _ (after_bytes_on c.in-Bytes.number c.in-Bytes.bytes.items) (effect_of (what_value c.args.what))
-    c.deref_mut.ensures.value (written_back all.len ns all.items (c.receive.auto.connections ∙ ap length c.deref_mut.ensures.value) (grind (arith, common_steps)))
-    (ap (λ (w : What). effect_of (what_value w)) c.in-Bytes.is) c.receive.ensures.came
-
-pub returns-in-Bytes-clause-moves : goal.returns-in-Bytes-clause-moves
-returns-in-Bytes-clause-moves c =
-    let all = c.args.connections.now in
-    let ns = c.receive.new.connections in
-    moves_written c.args.pool.now c.receive.new.pool c.args.instance.now c.receive.new.instance all.items c.deref_mut.result.now ns _
-    c.deref_mut.ensures.value (written_back all.len ns all.items (c.receive.auto.connections ∙ ap length c.deref_mut.ensures.value) (grind (arith, common_steps))) c.receive.ensures.moves
-
-pub returns-in-Took-clause-acted : goal.returns-in-Took-clause-acted
-returns-in-Took-clause-acted c =
-    let all = c.args.connections.now in
-    let ns = c.take.new.connections in
-    let t = text_at c.args.pool.now in
-    let s = state_beside c.args.pool.now c.args.parent.now c.args.instance.now in
-    let step : LoneInstance → LoneInstance = λ l. record l { connections = at_open c.in-Took.number (λ p. with_taken p c.in-Took.count) l.connections } in
-    let done : Result (Unit {0}) AllocError = Ok tt in
-    acts_between done t t s s all.items c.deref_mut-in-Took.result.now ns _ step (effect_of (what_value c.args.what))
-    c.deref_mut-in-Took.ensures.value (written_back all.len ns all.items (c.take.auto.connections ∙ ap length c.deref_mut-in-Took.ensures.value) (grind (arith, common_steps)))
-    (ap (λ (w : What). effect_of (what_value w)) c.in-Took.is) (step_acts c.in-Took.number s c.deref_mut-in-Took.result.now ns (λ p. with_taken p c.in-Took.count) c.take.ensures.taken t)
-
-pub returns-in-Closed-clause-acted : goal.returns-in-Closed-clause-acted
-returns-in-Closed-clause-acted c =
-    let p = c.args.pool.now in
-    let q = c.close.new.pool in
     let i = c.args.instance.now in
-    let j = c.close.new.instance in
-    let os = c.args.connections.now.items in
-    let ns = c.close.new.connections.items in
+    let all = c.args.connections.now in
+    let os = all.items in
+    let ns = c.open.new.connections.items in
     let done : Result (Unit {0}) AllocError = Ok tt in
-    acts_between done (text_at p) (text_at q) (state_beside p c.args.parent.now i) (state_beside q c.args.parent.now j) os os ns ns (after_closing c.in-Closed.number) (effect_of (what_value c.args.what)) refl refl
-    (ap (λ (w : What). effect_of (what_value w)) c.in-Closed.is)
-    (released_acts c.args.parent.now p q i j os ns (after_closing c.in-Closed.number) c.requires.kept c.requires.beside c.close.ensures.releases (c.close.ensures.closed q (visible_in q c.args.parent.now)))
+    rest_between done parent p p i i os os ns ns (what_value c.args.what) (opened c.in-Open.number) refl refl (ap what_value c.in-Open.is)
+    (λ l rest st. c.in_ok-open-in-Open.ensures.opened (state_beside p parent i) (text_at p) l st)
 
-pub returns-in-Tick-clause-acted : goal.returns-in-Tick-clause-acted
-returns-in-Tick-clause-acted c =
-    let os = c.args.connections.now.items in
-    let t = text_at c.args.pool.now in
-    let before = state_beside c.args.pool.now c.args.parent.now c.args.instance.now in
-    let after = state_beside c.args.pool.now c.args.parent.now c.tick.new.self in
-    let done : Result (Unit {0}) AllocError = Ok tt in
-    acts_between done t t before after os os os os (after_call_event time_passes) (effect_of (what_value c.args.what)) refl refl
-    (ap (λ (w : What). effect_of (what_value w)) c.in-Tick.is) (tick_acts before after os (c.tick.ensures.changed c.args.pool.now (visible_in c.args.pool.now c.args.parent.now)) t)
+pub returns-in_ok-open-in-Open-clause-orders : goal.returns-in_ok-open-in-Open-clause-orders
+returns-in_ok-open-in-Open-clause-orders c =
+    let parent = c.args.parent.now in
+    let p = c.args.pool.now in
+    let i = c.args.instance.now in
+    let all = c.args.connections.now in
+    let os = all.items in
+    orders_none parent p p i i os (what_value c.args.what) (opened c.in-Open.number) c.new.result (ap what_value c.in-Open.is) c.new.ensures.items (λ l. refl)
 
-pub returns-in-Open-clause-kept : goal.returns-in-Open-clause-kept
-returns-in-Open-clause-kept c =
+pub returns-in_ok-open-in-Open-clause-kept : goal.returns-in_ok-open-in-Open-clause-kept
+returns-in_ok-open-in-Open-clause-kept c =
     let os = c.args.connections.now.items in
     let ns = c.open.new.connections.items in
     alike_keeps c.args.pool.now c.args.instance.now (map connection_shown os) (map connection_shown ns) c.requires.kept c.open.ensures.holds
     (omega (arith, c.open.ensures.few, length-map ns connection_shown))
 
-pub returns-in-Bytes-clause-kept : goal.returns-in-Bytes-clause-kept
-returns-in-Bytes-clause-kept c =
+pub returns-in_err-open-in-Open-clause-kept : goal.returns-in_err-open-in-Open-clause-kept
+returns-in_err-open-in-Open-clause-kept c =
+    let os = c.args.connections.now.items in
+    let ns = c.open.new.connections.items in
+    alike_keeps c.args.pool.now c.args.instance.now (map connection_shown os) (map connection_shown ns) c.requires.kept c.open.ensures.holds
+    (omega (arith, c.open.ensures.few, length-map ns connection_shown))
+
+pub returns-in_err-open-in-Open-clause-memory : goal.returns-in_err-open-in-Open-clause-memory
+returns-in_err-open-in-Open-clause-memory c =
+    let parent = c.args.parent.now in
+    let p = c.args.pool.now in
+    let i = c.args.instance.now in
     let all = c.args.connections.now in
-    let ns = c.receive.new.connections in
-    seen_kept c.receive.new.pool c.receive.new.instance ns _
-    (written_back all.len ns all.items (c.receive.auto.connections ∙ ap length c.deref_mut.ensures.value) (grind (arith, common_steps))) c.receive.ensures.kept
+    let os = all.items in
+    let w = what_value c.args.what in
+    let v : WhatValue = opened c.in-Open.number in
+    let still : CutsAct v parent p i os p i = refl in
+    on_err c.from_residual.result (cuts_seen w v parent p p i i os os (ap what_value c.in-Open.is) refl still)
+
+pub returns-in_err-open-in-Open-clause-others : goal.returns-in_err-open-in-Open-clause-others
+returns-in_err-open-in-Open-clause-others c = on_err c.from_residual.result (ap (others_than (what_value c.args.what)) c.in_err-open-in-Open.ensures.err)
+
+pub returns-in_err-open-in-Open-clause-finds : goal.returns-in_err-open-in-Open-clause-finds
+returns-in_err-open-in-Open-clause-finds c =
+    on_err c.from_residual.result (finds_here c.args.pool.now (others_than (what_value c.args.what) c.args.connections.now.items))
+
+-- ---- bytes are taken, or a connection is closed
+
+pub take-requires : goal.take-requires
+take-requires c =
+    let os = c.args.connections.now.items in
+    let n = c.in-Took.number in
+    let P : What → Type 0 = λ w. refusal_by_what (what_value w) c.args.instance.now.jobs (map connection_shown os) ≡ None in
+    let Q : List OpenConnection → Type 0 = λ xs. CanTake c.in-Took.count (present_at n xs) in
+    subst Q (sym c.deref_mut-in-Took.ensures.value) (can_take c.in-Took.count (present_at n os) (subst P c.in-Took.is c.requires.accepted))
+
+pub returns-in-Took-clause-acted : goal.returns-in-Took-clause-acted
+returns-in-Took-clause-acted c =
+    let parent = c.args.parent.now in
+    let p = c.args.pool.now in
+    let i = c.args.instance.now in
+    let all = c.args.connections.now in
+    let os = all.items in
+    let xs = c.deref_mut-in-Took.result.now in
+    let ns = c.take.new.connections in
+    let done : Result (Unit {0}) AllocError = Ok tt in
+    let back = written_back all.len ns os (c.take.auto.connections ∙ ap length c.deref_mut-in-Took.ensures.value) (grind (arith, common_steps)) in
+    rest_between done parent p p i i os xs ns _ (what_value c.args.what) (took c.in-Took.number c.in-Took.count) c.deref_mut-in-Took.ensures.value back (ap what_value c.in-Took.is)
+    (λ l rest st. step_acts c.in-Took.number (state_beside p parent i) xs ns (λ y. with_taken y c.in-Took.count) c.take.ensures.taken (text_at p) l st)
+
+pub returns-in-Took-clause-orders : goal.returns-in-Took-clause-orders
+returns-in-Took-clause-orders c =
+    let parent = c.args.parent.now in
+    let p = c.args.pool.now in
+    let i = c.args.instance.now in
+    let all = c.args.connections.now in
+    let os = all.items in
+    orders_none parent p p i i os (what_value c.args.what) (took c.in-Took.number c.in-Took.count) c.new-in-Took.result (ap what_value c.in-Took.is) c.new-in-Took.ensures.items (λ l. refl)
 
 pub returns-in-Took-clause-kept : goal.returns-in-Took-clause-kept
 returns-in-Took-clause-kept c =
@@ -128,6 +125,29 @@ returns-in-Took-clause-kept c =
     alike_writes c.args.pool.now c.args.instance.now all.items c.deref_mut-in-Took.result.now ns _
     c.deref_mut-in-Took.ensures.value (written_back all.len ns all.items (c.take.auto.connections ∙ ap length c.deref_mut-in-Took.ensures.value) (grind (arith, common_steps)))
     c.take.auto.connections c.requires.kept c.take.ensures.holds
+
+pub returns-in-Closed-clause-acted : goal.returns-in-Closed-clause-acted
+returns-in-Closed-clause-acted c =
+    let parent = c.args.parent.now in
+    let p = c.args.pool.now in
+    let i = c.args.instance.now in
+    let all = c.args.connections.now in
+    let os = all.items in
+    let q = c.close.new.pool in
+    let j = c.close.new.instance in
+    let ns = c.close.new.connections.items in
+    let done : Result (Unit {0}) AllocError = Ok tt in
+    let acts : ActsIn parent p i os q j ns (after_closing c.in-Closed.number) = released_acts parent p q i j os ns (after_closing c.in-Closed.number) c.requires.kept c.requires.beside c.close.ensures.releases (c.close.ensures.closed q (visible_in q parent)) in
+    rest_between done parent p q i j os os ns ns (what_value c.args.what) (closed c.in-Closed.number) refl refl (ap what_value c.in-Closed.is) (λ l rest st. acts l st)
+
+pub returns-in-Closed-clause-orders : goal.returns-in-Closed-clause-orders
+returns-in-Closed-clause-orders c =
+    let parent = c.args.parent.now in
+    let p = c.args.pool.now in
+    let i = c.args.instance.now in
+    let all = c.args.connections.now in
+    let os = all.items in
+    orders_none parent p c.close.new.pool i c.close.new.instance os (what_value c.args.what) (closed c.in-Closed.number) c.new-in-Closed.result (ap what_value c.in-Closed.is) c.new-in-Closed.ensures.items (λ l. refl)
 
 pub returns-in-Closed-clause-kept : goal.returns-in-Closed-clause-kept
 returns-in-Closed-clause-kept c =
@@ -140,49 +160,359 @@ returns-in-Closed-clause-kept c =
     (c.close.ensures.kept q (instance_after p q i (map connection_shown os) (map connection_shown ns) c.requires.kept c.close.ensures.releases))
     (omega (arith, c.close.ensures.fewer, few_connections p (slots_of i os) c.requires.kept, length-map os connection_shown, length-map ns connection_shown))
 
-pub returns-in-Tick-clause-kept : goal.returns-in-Tick-clause-kept
-returns-in-Tick-clause-kept c =
+-- ---- events with jobs
+
+pub receive_and_start-requires : goal.receive_and_start-requires
+receive_and_start-requires c =
+    record {
+      kept = seen_kept c.args.pool.now c.args.instance.now c.args.connections.now.items c.deref_mut.result.now c.deref_mut.ensures.value c.requires.kept;
+      beside = subst (λ (ys : List OpenConnection). IsServedBeside c.args.pool.now c.args.parent.now (slots_of c.args.instance.now ys)) (sym c.deref_mut.ensures.value) c.requires.beside;
+    }
+
+pub returns-in-Bytes-clause-acted : goal.returns-in-Bytes-clause-acted
+returns-in-Bytes-clause-acted c =
+    let parent = c.args.parent.now in
     let p = c.args.pool.now in
-    let os = c.args.connections.now.items in
-    let here = slots_of c.args.instance.now os in
-    moment_keeps p c.args.instance.now c.tick.new.self (map connection_shown os) c.requires.kept c.tick.ensures.holders
-    (c.tick.ensures.kept p (instance_kept p here here refl c.requires.kept))
+    let i = c.args.instance.now in
+    let all = c.args.connections.now in
+    let os = all.items in
+    let q = c.receive_and_start.new.pool in
+    let j = c.receive_and_start.new.instance in
+    let xs = c.deref_mut.result.now in
+    let ns = c.receive_and_start.new.connections in
+    let v : WhatValue = received c.in-Bytes.number c.in-Bytes.bytes.items in
+    let w = what_value c.args.what in
+    let is : w ≡ v = ap what_value c.in-Bytes.is in
+    let back = written_back all.len ns os (c.receive_and_start.auto.connections ∙ ap length c.deref_mut.ensures.value) (grind (arith, common_steps)) in
+    rest_between c.receive_and_start.result parent p q i j os xs ns _ w v c.deref_mut.ensures.value back is c.receive_and_start.ensures.acted
 
-pub returns-in-Open-clause-memory : goal.returns-in-Open-clause-memory
-returns-in-Open-clause-memory c =
+pub returns-in-Bytes-clause-orders : goal.returns-in-Bytes-clause-orders
+returns-in-Bytes-clause-orders c =
+    let parent = c.args.parent.now in
     let p = c.args.pool.now in
-    let os = c.args.connections.now.items in
-    on_err c.open.result (nothing_cut (text_at p) (state_beside p c.args.parent.now c.args.instance.now) os (events_brought (what_value c.args.what)))
+    let i = c.args.instance.now in
+    let all = c.args.connections.now in
+    let os = all.items in
+    let q = c.receive_and_start.new.pool in
+    let j = c.receive_and_start.new.instance in
+    let xs = c.deref_mut.result.now in
+    let v : WhatValue = received c.in-Bytes.number c.in-Bytes.bytes.items in
+    let w = what_value c.args.what in
+    let is : w ≡ v = ap what_value c.in-Bytes.is in
+    orders_between c.receive_and_start.result parent p q i j os xs w v c.deref_mut.ensures.value is c.receive_and_start.ensures.orders
 
-pub returns-in-Open-clause-others : goal.returns-in-Open-clause-others
-returns-in-Open-clause-others c = err_map c.open.result (λ same. ap (others_than (what_value c.args.what)) same) c.open.ensures.err
+pub returns-in-Bytes-clause-moves : goal.returns-in-Bytes-clause-moves
+returns-in-Bytes-clause-moves c =
+    let p = c.args.pool.now in
+    let i = c.args.instance.now in
+    let all = c.args.connections.now in
+    let os = all.items in
+    let q = c.receive_and_start.new.pool in
+    let j = c.receive_and_start.new.instance in
+    let xs = c.deref_mut.result.now in
+    let ns = c.receive_and_start.new.connections in
+    let v : WhatValue = received c.in-Bytes.number c.in-Bytes.bytes.items in
+    let w = what_value c.args.what in
+    let is : w ≡ v = ap what_value c.in-Bytes.is in
+    let back = written_back all.len ns os (c.receive_and_start.auto.connections ∙ ap length c.deref_mut.ensures.value) (grind (arith, common_steps)) in
+    moves_written p q i j os xs ns _ c.deref_mut.ensures.value back c.receive_and_start.ensures.moves
 
-pub returns-in-Open-clause-finds : goal.returns-in-Open-clause-finds
-returns-in-Open-clause-finds c = on_err c.open.result (finds_here c.args.pool.now (others_than (what_value c.args.what) c.args.connections.now.items))
+pub returns-in-Bytes-clause-kept : goal.returns-in-Bytes-clause-kept
+returns-in-Bytes-clause-kept c =
+    let p = c.args.pool.now in
+    let i = c.args.instance.now in
+    let all = c.args.connections.now in
+    let os = all.items in
+    let q = c.receive_and_start.new.pool in
+    let j = c.receive_and_start.new.instance in
+    let xs = c.deref_mut.result.now in
+    let ns = c.receive_and_start.new.connections in
+    let v : WhatValue = received c.in-Bytes.number c.in-Bytes.bytes.items in
+    let w = what_value c.args.what in
+    let is : w ≡ v = ap what_value c.in-Bytes.is in
+    let back = written_back all.len ns os (c.receive_and_start.auto.connections ∙ ap length c.deref_mut.ensures.value) (grind (arith, common_steps)) in
+    seen_kept q j ns _ back c.receive_and_start.ensures.kept
 
 pub returns-in-Bytes-clause-memory : goal.returns-in-Bytes-clause-memory
 returns-in-Bytes-clause-memory c =
+    let parent = c.args.parent.now in
     let p = c.args.pool.now in
-    let q = c.receive.new.pool in
-    let n = c.in-Bytes.number in
+    let i = c.args.instance.now in
+    let all = c.args.connections.now in
+    let os = all.items in
+    let q = c.receive_and_start.new.pool in
+    let j = c.receive_and_start.new.instance in
     let xs = c.deref_mut.result.now in
-    let v : WhatValue = received n c.in-Bytes.bytes.items in
-    let H : Type 0 = CutsShort c.args.parent.now p c.args.instance.now xs q c.receive.new.instance (events_brought v) in
-    err_map {A = H} c.receive.result
-    (λ h. cuts_seen (what_value c.args.what) v (text_at p) (state_beside p c.args.parent.now c.args.instance.now) (state_beside q c.args.parent.now c.receive.new.instance) c.args.connections.now.items xs (ap what_value c.in-Bytes.is) c.deref_mut.ensures.value h)
-    c.receive.ensures.memory
+    let v : WhatValue = received c.in-Bytes.number c.in-Bytes.bytes.items in
+    let w = what_value c.args.what in
+    let is : w ≡ v = ap what_value c.in-Bytes.is in
+    err_map c.receive_and_start.result (λ h. cuts_seen w v parent p q i j os xs is c.deref_mut.ensures.value h) c.receive_and_start.ensures.memory
 
 pub returns-in-Bytes-clause-others : goal.returns-in-Bytes-clause-others
 returns-in-Bytes-clause-others c =
+    let parent = c.args.parent.now in
+    let p = c.args.pool.now in
+    let i = c.args.instance.now in
     let all = c.args.connections.now in
-    let ns = c.receive.new.connections in
+    let os = all.items in
+    let q = c.receive_and_start.new.pool in
+    let j = c.receive_and_start.new.instance in
+    let xs = c.deref_mut.result.now in
+    let ns = c.receive_and_start.new.connections in
     let v : WhatValue = received c.in-Bytes.number c.in-Bytes.bytes.items in
-    on_err c.receive.result
-    (others_seen (what_value c.args.what) v all.items c.deref_mut.result.now ns _ (ap what_value c.in-Bytes.is) c.deref_mut.ensures.value
-    (written_back all.len ns all.items (c.receive.auto.connections ∙ ap length c.deref_mut.ensures.value) (grind (arith, common_steps))) c.receive.ensures.others)
+    let w = what_value c.args.what in
+    let is : w ≡ v = ap what_value c.in-Bytes.is in
+    let back = written_back all.len ns os (c.receive_and_start.auto.connections ∙ ap length c.deref_mut.ensures.value) (grind (arith, common_steps)) in
+    err_map c.receive_and_start.result (λ h. others_seen w v os xs ns _ is c.deref_mut.ensures.value back h) c.receive_and_start.ensures.others
 
 pub returns-in-Bytes-clause-finds : goal.returns-in-Bytes-clause-finds
 returns-in-Bytes-clause-finds c =
+    let parent = c.args.parent.now in
+    let p = c.args.pool.now in
+    let i = c.args.instance.now in
+    let all = c.args.connections.now in
+    let os = all.items in
+    let q = c.receive_and_start.new.pool in
+    let j = c.receive_and_start.new.instance in
+    let xs = c.deref_mut.result.now in
+    let ns = c.receive_and_start.new.connections in
     let v : WhatValue = received c.in-Bytes.number c.in-Bytes.bytes.items in
-    on_err c.receive.result
-    (finds_seen (what_value c.args.what) v c.args.pool.now c.receive.new.pool c.args.connections.now.items c.deref_mut.result.now (ap what_value c.in-Bytes.is) c.deref_mut.ensures.value c.receive.ensures.finds)
+    let w = what_value c.args.what in
+    let is : w ≡ v = ap what_value c.in-Bytes.is in
+    err_map c.receive_and_start.result (λ h. finds_seen w v p q os xs is c.deref_mut.ensures.value h) c.receive_and_start.ensures.finds
+
+pub pass_time-requires : goal.pass_time-requires
+pass_time-requires c =
+    record { kept = seen_kept c.args.pool.now c.args.instance.now c.args.connections.now.items c.deref_mut-in-Tick.result.now c.deref_mut-in-Tick.ensures.value c.requires.kept }
+
+pub returns-in-Tick-clause-acted : goal.returns-in-Tick-clause-acted
+returns-in-Tick-clause-acted c =
+    let parent = c.args.parent.now in
+    let p = c.args.pool.now in
+    let i = c.args.instance.now in
+    let all = c.args.connections.now in
+    let os = all.items in
+    let q = c.pass_time.new.pool in
+    let j = c.pass_time.new.instance in
+    let xs = c.deref_mut-in-Tick.result.now in
+    let ns = c.pass_time.new.connections in
+    let v : WhatValue = tick in
+    let w = what_value c.args.what in
+    let is : w ≡ v = ap what_value c.in-Tick.is in
+    let back = written_back all.len ns os (c.pass_time.auto.connections ∙ ap length c.deref_mut-in-Tick.ensures.value) (grind (arith, common_steps)) in
+    let beside = subst (λ (ys : List OpenConnection). IsServedBeside p parent (slots_of i ys)) (sym c.deref_mut-in-Tick.ensures.value) c.requires.beside in
+    rest_between c.pass_time.result parent p q i j os xs ns _ w v c.deref_mut-in-Tick.ensures.value back is (ok_map c.pass_time.result (λ h. h parent beside) c.pass_time.ensures.acted)
+
+pub returns-in-Tick-clause-orders : goal.returns-in-Tick-clause-orders
+returns-in-Tick-clause-orders c =
+    let parent = c.args.parent.now in
+    let p = c.args.pool.now in
+    let i = c.args.instance.now in
+    let all = c.args.connections.now in
+    let os = all.items in
+    let q = c.pass_time.new.pool in
+    let j = c.pass_time.new.instance in
+    let xs = c.deref_mut-in-Tick.result.now in
+    let v : WhatValue = tick in
+    let w = what_value c.args.what in
+    let is : w ≡ v = ap what_value c.in-Tick.is in
+    orders_between c.pass_time.result parent p q i j os xs w v c.deref_mut-in-Tick.ensures.value is (if_map c.pass_time.result _ _ (λ o h. h parent) c.pass_time.ensures.orders)
+
+pub returns-in-Tick-clause-moves : goal.returns-in-Tick-clause-moves
+returns-in-Tick-clause-moves c =
+    let p = c.args.pool.now in
+    let i = c.args.instance.now in
+    let all = c.args.connections.now in
+    let os = all.items in
+    let q = c.pass_time.new.pool in
+    let j = c.pass_time.new.instance in
+    let xs = c.deref_mut-in-Tick.result.now in
+    let ns = c.pass_time.new.connections in
+    let v : WhatValue = tick in
+    let w = what_value c.args.what in
+    let is : w ≡ v = ap what_value c.in-Tick.is in
+    let back = written_back all.len ns os (c.pass_time.auto.connections ∙ ap length c.deref_mut-in-Tick.ensures.value) (grind (arith, common_steps)) in
+    moves_written p q i j os xs ns _ c.deref_mut-in-Tick.ensures.value back c.pass_time.ensures.moves
+
+pub returns-in-Tick-clause-kept : goal.returns-in-Tick-clause-kept
+returns-in-Tick-clause-kept c =
+    let p = c.args.pool.now in
+    let i = c.args.instance.now in
+    let all = c.args.connections.now in
+    let os = all.items in
+    let q = c.pass_time.new.pool in
+    let j = c.pass_time.new.instance in
+    let xs = c.deref_mut-in-Tick.result.now in
+    let ns = c.pass_time.new.connections in
+    let v : WhatValue = tick in
+    let w = what_value c.args.what in
+    let is : w ≡ v = ap what_value c.in-Tick.is in
+    let back = written_back all.len ns os (c.pass_time.auto.connections ∙ ap length c.deref_mut-in-Tick.ensures.value) (grind (arith, common_steps)) in
+    seen_kept q j ns _ back c.pass_time.ensures.kept
+
+pub returns-in-Tick-clause-memory : goal.returns-in-Tick-clause-memory
+returns-in-Tick-clause-memory c =
+    let parent = c.args.parent.now in
+    let p = c.args.pool.now in
+    let i = c.args.instance.now in
+    let all = c.args.connections.now in
+    let os = all.items in
+    let q = c.pass_time.new.pool in
+    let j = c.pass_time.new.instance in
+    let xs = c.deref_mut-in-Tick.result.now in
+    let v : WhatValue = tick in
+    let w = what_value c.args.what in
+    let is : w ≡ v = ap what_value c.in-Tick.is in
+    let beside = subst (λ (ys : List OpenConnection). IsServedBeside p parent (slots_of i ys)) (sym c.deref_mut-in-Tick.ensures.value) c.requires.beside in
+    err_map c.pass_time.result (λ h. cuts_seen w v parent p q i j os xs is c.deref_mut-in-Tick.ensures.value (h parent beside)) c.pass_time.ensures.memory
+
+pub returns-in-Tick-clause-others : goal.returns-in-Tick-clause-others
+returns-in-Tick-clause-others c =
+    let parent = c.args.parent.now in
+    let p = c.args.pool.now in
+    let i = c.args.instance.now in
+    let all = c.args.connections.now in
+    let os = all.items in
+    let q = c.pass_time.new.pool in
+    let j = c.pass_time.new.instance in
+    let xs = c.deref_mut-in-Tick.result.now in
+    let ns = c.pass_time.new.connections in
+    let v : WhatValue = tick in
+    let w = what_value c.args.what in
+    let is : w ≡ v = ap what_value c.in-Tick.is in
+    let back = written_back all.len ns os (c.pass_time.auto.connections ∙ ap length c.deref_mut-in-Tick.ensures.value) (grind (arith, common_steps)) in
+    on_err c.pass_time.result (others_seen w v os xs ns _ is c.deref_mut-in-Tick.ensures.value back refl)
+
+pub returns-in-Tick-clause-finds : goal.returns-in-Tick-clause-finds
+returns-in-Tick-clause-finds c =
+    let parent = c.args.parent.now in
+    let p = c.args.pool.now in
+    let i = c.args.instance.now in
+    let all = c.args.connections.now in
+    let os = all.items in
+    let q = c.pass_time.new.pool in
+    let j = c.pass_time.new.instance in
+    let xs = c.deref_mut-in-Tick.result.now in
+    let ns = c.pass_time.new.connections in
+    let v : WhatValue = tick in
+    let w = what_value c.args.what in
+    let is : w ≡ v = ap what_value c.in-Tick.is in
+    on_err c.pass_time.result (finds_seen w v p q os xs is c.deref_mut-in-Tick.ensures.value (λ k some. absurd (omega (arith, some))))
+
+pub end_run-requires : goal.end_run-requires
+end_run-requires c =
+    record { kept = seen_kept c.args.pool.now c.args.instance.now c.args.connections.now.items c.deref_mut-in-Outcome.result.now c.deref_mut-in-Outcome.ensures.value c.requires.kept }
+
+pub returns-in-Outcome-clause-acted : goal.returns-in-Outcome-clause-acted
+returns-in-Outcome-clause-acted c =
+    let parent = c.args.parent.now in
+    let p = c.args.pool.now in
+    let i = c.args.instance.now in
+    let all = c.args.connections.now in
+    let os = all.items in
+    let q = c.end_run.new.pool in
+    let j = c.end_run.new.instance in
+    let xs = c.deref_mut-in-Outcome.result.now in
+    let ns = c.end_run.new.connections in
+    let v : WhatValue = ended c.in-Outcome.job (outcome_shown c.in-Outcome.outcome) in
+    let w = what_value c.args.what in
+    let is : w ≡ v = ap what_value c.in-Outcome.is in
+    let back = written_back all.len ns os (c.end_run.auto.connections ∙ ap length c.deref_mut-in-Outcome.ensures.value) (grind (arith, common_steps)) in
+    let beside = subst (λ (ys : List OpenConnection). IsServedBeside p parent (slots_of i ys)) (sym c.deref_mut-in-Outcome.ensures.value) c.requires.beside in
+    rest_between c.end_run.result parent p q i j os xs ns _ w v c.deref_mut-in-Outcome.ensures.value back is (ok_map c.end_run.result (λ h. h parent beside) c.end_run.ensures.acted)
+
+pub returns-in-Outcome-clause-orders : goal.returns-in-Outcome-clause-orders
+returns-in-Outcome-clause-orders c =
+    let parent = c.args.parent.now in
+    let p = c.args.pool.now in
+    let i = c.args.instance.now in
+    let all = c.args.connections.now in
+    let os = all.items in
+    let q = c.end_run.new.pool in
+    let j = c.end_run.new.instance in
+    let xs = c.deref_mut-in-Outcome.result.now in
+    let v : WhatValue = ended c.in-Outcome.job (outcome_shown c.in-Outcome.outcome) in
+    let w = what_value c.args.what in
+    let is : w ≡ v = ap what_value c.in-Outcome.is in
+    orders_between c.end_run.result parent p q i j os xs w v c.deref_mut-in-Outcome.ensures.value is (if_map c.end_run.result _ _ (λ o h. h parent) c.end_run.ensures.orders)
+
+pub returns-in-Outcome-clause-moves : goal.returns-in-Outcome-clause-moves
+returns-in-Outcome-clause-moves c =
+    let p = c.args.pool.now in
+    let i = c.args.instance.now in
+    let all = c.args.connections.now in
+    let os = all.items in
+    let q = c.end_run.new.pool in
+    let j = c.end_run.new.instance in
+    let xs = c.deref_mut-in-Outcome.result.now in
+    let ns = c.end_run.new.connections in
+    let v : WhatValue = ended c.in-Outcome.job (outcome_shown c.in-Outcome.outcome) in
+    let w = what_value c.args.what in
+    let is : w ≡ v = ap what_value c.in-Outcome.is in
+    let back = written_back all.len ns os (c.end_run.auto.connections ∙ ap length c.deref_mut-in-Outcome.ensures.value) (grind (arith, common_steps)) in
+    moves_written p q i j os xs ns _ c.deref_mut-in-Outcome.ensures.value back c.end_run.ensures.moves
+
+pub returns-in-Outcome-clause-kept : goal.returns-in-Outcome-clause-kept
+returns-in-Outcome-clause-kept c =
+    let p = c.args.pool.now in
+    let i = c.args.instance.now in
+    let all = c.args.connections.now in
+    let os = all.items in
+    let q = c.end_run.new.pool in
+    let j = c.end_run.new.instance in
+    let xs = c.deref_mut-in-Outcome.result.now in
+    let ns = c.end_run.new.connections in
+    let v : WhatValue = ended c.in-Outcome.job (outcome_shown c.in-Outcome.outcome) in
+    let w = what_value c.args.what in
+    let is : w ≡ v = ap what_value c.in-Outcome.is in
+    let back = written_back all.len ns os (c.end_run.auto.connections ∙ ap length c.deref_mut-in-Outcome.ensures.value) (grind (arith, common_steps)) in
+    seen_kept q j ns _ back c.end_run.ensures.kept
+
+pub returns-in-Outcome-clause-memory : goal.returns-in-Outcome-clause-memory
+returns-in-Outcome-clause-memory c =
+    let parent = c.args.parent.now in
+    let p = c.args.pool.now in
+    let i = c.args.instance.now in
+    let all = c.args.connections.now in
+    let os = all.items in
+    let q = c.end_run.new.pool in
+    let j = c.end_run.new.instance in
+    let xs = c.deref_mut-in-Outcome.result.now in
+    let v : WhatValue = ended c.in-Outcome.job (outcome_shown c.in-Outcome.outcome) in
+    let w = what_value c.args.what in
+    let is : w ≡ v = ap what_value c.in-Outcome.is in
+    let beside = subst (λ (ys : List OpenConnection). IsServedBeside p parent (slots_of i ys)) (sym c.deref_mut-in-Outcome.ensures.value) c.requires.beside in
+    err_map c.end_run.result (λ h. cuts_seen w v parent p q i j os xs is c.deref_mut-in-Outcome.ensures.value (h parent beside)) c.end_run.ensures.memory
+
+pub returns-in-Outcome-clause-others : goal.returns-in-Outcome-clause-others
+returns-in-Outcome-clause-others c =
+    let parent = c.args.parent.now in
+    let p = c.args.pool.now in
+    let i = c.args.instance.now in
+    let all = c.args.connections.now in
+    let os = all.items in
+    let q = c.end_run.new.pool in
+    let j = c.end_run.new.instance in
+    let xs = c.deref_mut-in-Outcome.result.now in
+    let ns = c.end_run.new.connections in
+    let v : WhatValue = ended c.in-Outcome.job (outcome_shown c.in-Outcome.outcome) in
+    let w = what_value c.args.what in
+    let is : w ≡ v = ap what_value c.in-Outcome.is in
+    let back = written_back all.len ns os (c.end_run.auto.connections ∙ ap length c.deref_mut-in-Outcome.ensures.value) (grind (arith, common_steps)) in
+    on_err c.end_run.result (others_seen w v os xs ns _ is c.deref_mut-in-Outcome.ensures.value back refl)
+
+pub returns-in-Outcome-clause-finds : goal.returns-in-Outcome-clause-finds
+returns-in-Outcome-clause-finds c =
+    let parent = c.args.parent.now in
+    let p = c.args.pool.now in
+    let i = c.args.instance.now in
+    let all = c.args.connections.now in
+    let os = all.items in
+    let q = c.end_run.new.pool in
+    let j = c.end_run.new.instance in
+    let xs = c.deref_mut-in-Outcome.result.now in
+    let ns = c.end_run.new.connections in
+    let v : WhatValue = ended c.in-Outcome.job (outcome_shown c.in-Outcome.outcome) in
+    let w = what_value c.args.what in
+    let is : w ≡ v = ap what_value c.in-Outcome.is in
+    on_err c.end_run.result (finds_seen w v p q os xs is c.deref_mut-in-Outcome.ensures.value (λ k some. absurd (omega (arith, some))))

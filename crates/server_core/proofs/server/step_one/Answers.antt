@@ -2,18 +2,23 @@ use Rattle.std.proofs.Common.{◌≡◌, ◌<◌, List, [], Some, length, get_or
 use Rattle.std.specs.List.{slice_get}
 use Rattle.std.proofs.lemmas.Grind.{common_steps}
 use Rattle.std.proofs.lemmas.Option.{slice_get-get_or}
-use Rattle.std.proofs.lemmas.Result.{on_ok_weaker}
+use Rattle.std.specs.declared.alloc.Global.{Global}
+use Rattle.std.specs.declared.vec.Vec.{Vec}
+use Rattle.std.proofs.lemmas.Result.{on_ok_weaker, IfOk-weaker}
+use Rattle.executor.specs.declared.orders.Order.{Order}
+use Rattle.instance_core.specs.Slots.{state_in}
+use Rattle.instance_core.specs.Turns.{orders_meant}
 use Rattle.server_events.specs.Shown.{event_value}
 use Rattle.instance_view.specs.Visible.{Blob}
 use Rattle.instance_view.specs.Shown.{blobs_in, visible_in}
 use Rattle.served_instance.specs.Lone.{LoneInstance}
-use Rattle.served_instance.specs.Refusals.{lone_step}
+use Rattle.served_instance.specs.Refusals.{lone_step, lone_orders}
 use Rattle.served_instance.specs.Short.{Short}
 use Rattle.served_instance.specs.Slots.{ServedSlots, served_state_in}
 use Rattle.served_instance.specs.StandsFor.{IsServedInstance, AreSettled}
 use Rattle.server_core.specs.Shared.{all_in}
 use Rattle.server_core.specs.StandsFor.{StandsAt}
-use Rattle.server_core.proofs.Others.{kept_at, others_after, server_after, stands_here, stands_after, refused_after, beside_nobody}
+use Rattle.server_core.proofs.Others.{kept_at, orders_after, others_after, server_after, stands_here, stands_after, refused_after, beside_nobody}
 use Rattle.server_core.proofs.server.step_one.Goals as goal
 use Rattle.server_core.proofs.server.step_one.Goals.{After-step}
 
@@ -76,3 +81,10 @@ returns-clause-short c = λ memory l s.
       short = subst (λ (bs : List Blob). Short bs (event_value c.args.event) l t.left) (read_nobody c) t.short;
       stands = stands_after c.step.new.pool c.args.instances.now c.args.event.instance (found c) c.step.new.self t.left (there c) t.stands;
     }
+
+pub returns-clause-orders : goal.returns-clause-orders
+returns-clause-orders c =
+    IfOk-weaker c.step.result _ _ (λ (orders : Vec Order Global) given l s.
+    orders_after c.step.new.pool c.args.instances.now c.args.event.instance (found c) c.step.new.self orders (lone_orders [] (event_value c.args.event) l) (there c)
+    (subst (λ (bs : List Blob). orders_meant (state_in c.step.new.pool c.step.new.self.instance).jobs orders.items ≡ lone_orders bs (event_value c.args.event) l) (read_nobody c) (given l (stood c l s))))
+    c.step.ensures.orders

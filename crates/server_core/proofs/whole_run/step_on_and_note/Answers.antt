@@ -1,5 +1,8 @@
 use Rattle.std.proofs.Common.{ap, ◌∙◌, ◌≡◌, ◌≢◌, ◌++◌, ◌∷◌, [], ◌+◌, sym, subst, arith, append-nil}
 use Rattle.std.specs.Prelude.{Err, Result}
+use Rattle.std.specs.declared.alloc.Global.{Global}
+use Rattle.std.specs.declared.vec.Vec.{Vec}
+use Rattle.executor.specs.declared.orders.Order.{Order}
 use Rattle.served_instance.specs.Refusals.{refusal_of, IsRefusalOutcome}
 use Rattle.std.proofs.lemmas.Grind.{common_steps}
 use Rattle.std.proofs.lemmas.Result.{on_ok_weaker}
@@ -13,12 +16,12 @@ use Rattle.server_core.proofs.whole_run.step_on_and_note.Goals as goal
 pub returns-in_ok-push-in-None-clause-runs : goal.returns-in_ok-push-in-None-clause-runs
 returns-in_ok-push-in-None-clause-runs c =
     let did = c.step-outcome.ensures in
-    stray_on (event_value c.args.event) _ _ _ did.count did.others (sym c.in-None.ensures.1)
+    stray_on (event_value c.args.event) _ _ _ did.count did.others (sym c.in-None.ensures.found)
 
 pub returns-in_ok-push-in-None-clause-strays : goal.returns-in_ok-push-in-None-clause-strays
 returns-in_ok-push-in-None-clause-strays c =
     let did = c.step-outcome.ensures in
-    let told = stray_told c.step-outcome.new.self.instances (event_value c.args.event) c.args.place _ (sym c.in-None.ensures.1) did.count in
+    let told = stray_told c.step-outcome.new.self.instances (event_value c.args.event) c.args.place _ (sym c.in-None.ensures.found) did.count in
     c.in_ok-push-in-None.ensures.items ∙ ap (λ ps. c.args.strays.now.items ++ ps) (sym told)
 
 pub returns-then-matches-clause-runs : goal.returns-then-matches-clause-runs
@@ -28,14 +31,14 @@ returns-then-matches-clause-runs c =
     let memory : c.step-outcome.result ≡ Err NoMemory = grind (arith, common_steps) in
     on_ok_weaker c.note_short.result
     (λ notes. short_on e _ _ _ _ _ (did.short memory) did.others
-    (λ l s. subst (λ (o : Result (Unit {0}) EventRefusal). IsRefusalOutcome o (refusal_of e l)) memory (did.outcome l s))
-    (λ r q old step. notes r q e old c.receiver-broken.ensures step))
+    (λ l s. subst (λ (o : Result (Vec Order Global) EventRefusal). IsRefusalOutcome o (refusal_of e l)) memory (did.outcome l s))
+    (λ r q old step. notes r q e old c.by-broken.ensures step))
     c.note_short.ensures.stands
 
 pub returns-then-matches-clause-strays : goal.returns-then-matches-clause-strays
 returns-then-matches-clause-strays c =
     let did = c.step-outcome.ensures in
-    let told = none_told c.step-outcome.new.self.instances _ (event_value c.args.event) c.args.place _ (sym c.in-Some.ensures.1) did.count in
+    let told = none_told c.step-outcome.new.self.instances _ (event_value c.args.event) c.args.place _ (sym c.in-Some.ensures.found) did.count in
     let same = sym (ap (λ ps. c.args.strays.now.items ++ ps) told ∙ append-nil c.args.strays.now.items) in
     on_ok_weaker c.note_short.result (λ _. same) c.note_short.ensures.stands
 
@@ -43,11 +46,11 @@ pub returns-else-matches-clause-runs : goal.returns-else-matches-clause-runs
 returns-else-matches-clause-runs c =
     let did = c.step-outcome.ensures in
     let ne : c.step-outcome.result ≢ Err NoMemory = grind (arith, common_steps) in
-    on_ok_weaker c.note.result (λ notes. noted_on c.step-outcome.result (event_value c.args.event) _ _ _ _ c.in-Some.served.now _ _ (did.own ne) did.others did.outcome (sym c.in-Some.ensures.1) c.in-Some.ensures.2 (λ r st. notes r (event_value c.args.event) st c.made_by-change.ensures)) c.note.ensures.stands
+    on_ok_weaker c.note.result (λ notes. noted_on c.step-outcome.result (event_value c.args.event) _ _ _ c.in-Some.pool.now c.in-Some.served.now _ _ (did.own ne) did.others did.outcome (sym c.in-Some.ensures.found) c.in-Some.ensures.fit did.orders (λ r st. notes r (event_value c.args.event) st c.made_by-change.ensures)) c.note.ensures.stands
 
 pub returns-else-matches-clause-strays : goal.returns-else-matches-clause-strays
 returns-else-matches-clause-strays c =
     let did = c.step-outcome.ensures in
-    let told = none_told c.step-outcome.new.self.instances _ (event_value c.args.event) c.args.place _ (sym c.in-Some.ensures.1) did.count in
+    let told = none_told c.step-outcome.new.self.instances _ (event_value c.args.event) c.args.place _ (sym c.in-Some.ensures.found) did.count in
     let same = sym (ap (λ ps. c.args.strays.now.items ++ ps) told ∙ append-nil c.args.strays.now.items) in
     on_ok_weaker c.note.result (λ _. same) c.note.ensures.stands

@@ -1,7 +1,7 @@
 use Rattle.std.proofs.Common.{rules, ap, ◌∙◌}
 use Rattle.indexmap.proofs.CallerLemmas.{filter-RetainsPairs}
 use Rattle.instance_core.specs.Apart.{is_apart, calls_apart}
-use Rattle.instance_core.proofs.Apart.{taken_apart}
+use Rattle.instance_core.proofs.Apart.{kept_by}
 use Rattle.instance_core.proofs.calls.Calls.end_all.Goals as goal
 
 pub returns-clause-ended : goal.returns-clause-ended
@@ -11,10 +11,10 @@ returns-clause-ended c =
 
 pub returns-clause-calls : goal.returns-clause-calls
 returns-clause-calls c =
-    taken_apart c.args.connection c.self.inside.by_id.entries _
+    kept_by (is_apart c.args.connection) c.self.inside.by_id.entries _
     (filter-RetainsPairs _ (is_apart c.args.connection) _ (λ k v b w g call. search rules) _ _ c.retain.ensures.filtered) c.retain.ensures.unique c.self.invariant
 
 pub invariant_of-self : goal.invariant_of-self
 invariant_of-self c =
-    taken_apart c.args.connection c.self.inside.by_id.entries _
+    kept_by (is_apart c.args.connection) c.self.inside.by_id.entries _
     (filter-RetainsPairs _ (is_apart c.args.connection) _ (λ k v b w g call. search rules) _ _ c.retain.ensures.filtered) c.retain.ensures.unique c.self.invariant

@@ -1,15 +1,21 @@
 use Rattle.std.proofs.Common.{arith}
 use Rattle.quota_evict.proofs.Limits.{nothing_within}
 use Rattle.instance_core.specs.State.{most_blobs}
+use Rattle.instance_core.proofs.Readying.{none_in_order, none_whole}
 use Rattle.instance_core.proofs.instance.Instance.new.Goals as goal
 
 pub returns-clause-within : goal.returns-clause-within
 returns-clause-within c = λ p. record {
-  quota = c.requires;
+  quota = c.requires.quota;
   texts = rw c.in_ok-view.ensures (nothing_within most_blobs c.args.quota);
-  uploads = rw c.new-3.ensures (record { bytes = omega arith; count = omega arith });
+  uploads = rw c.new-4.ensures (record { bytes = omega arith; count = omega arith });
   results = rw c.in_ok-results.ensures (record { few = omega arith; short = omega arith });
-  calls = c.new-4.ensures.calls.once;
-  messages = c.new-4.ensures.calls.messages;
+  slots = c.requires.slots;
+  jobs = rw c.in_ok-new.ensures none_in_order;
+  running = rw c.in_ok-new.ensures (omega arith);
+  whole = rw c.in_ok-new.ensures none_whole;
+  told = rw c.in_ok-new.ensures tt;
+  calls = c.new-5.ensures.calls.once;
+  messages = c.new-5.ensures.calls.messages;
   parent = tt;
 }

@@ -5,7 +5,7 @@ use Rattle.server_events.specs.Shown.{config_value}
 use Rattle.served_instance.specs.Slots.{served_state_in}
 use Rattle.std.proofs.lemmas.List.{length_push, length-map, take_all}
 use Rattle.server_core.specs.Shared.{all_in}
-use Rattle.server_core.proofs.Begins.{quota_in, starts_more, all_pushed, within_pushed, nobody_pushed, server_begun}
+use Rattle.server_core.proofs.Begins.{quota_in, slots_in, starts_more, all_pushed, within_pushed, nobody_pushed, server_begun}
 use Rattle.instance_view.specs.Shown.{ViewValue}
 use Rattle.server_core.proofs.server.Server.new.Goals as goal
 
@@ -13,7 +13,10 @@ pub new-requires-in-loop-config : goal.new-requires-in-loop-config
 new-requires-in-loop-config c =
     let good = ap config_fault c.instances-configs.ensures.instances ∙ c.instances-configs.ensures.good in
     let each = (c.the_fault_is_the_first.ensures.none.0 good).good.each in
-    record { quota = quota_in _ _ _ c.loop-config-test.true c.config-item.is each }
+    record {
+      quota = quota_in _ _ _ c.loop-config-test.true c.config-item.is each;
+      slots = slots_in _ _ _ c.loop-config-test.true c.config-item.is each;
+    }
 
 pub loop-config-preserved : goal.loop-config-preserved
 loop-config-preserved c =

@@ -1,12 +1,16 @@
 use Rattle.std.proofs.Common.{[], ap, ◌∙◌, ◌≡◌, sym, length, subst, List, arith, ℕ}
+use Rattle.std.specs.declared.alloc.Global.{Global}
+use Rattle.std.specs.declared.vec.Vec.{Vec}
 use Rattle.std.proofs.lemmas.Grind.{common_steps}
+use Rattle.std.proofs.lemmas.Result.{IfOk-weaker}
+use Rattle.executor.specs.declared.orders.Order.{Order}
 use Rattle.server_events.specs.Shown.{event_value}
 use Rattle.served_instance.specs.StandsFor.{ServedState}
 use Rattle.served_instance.specs.Slots.{ServedSlots}
 use Rattle.server_core.specs.Shared.{all_in}
-use Rattle.served_instance.specs.Refusals.{lone_step}
+use Rattle.served_instance.specs.Refusals.{lone_step, lone_orders}
 use Rattle.server_core.specs.Marked.{StandsShortAt}
-use Rattle.server_core.specs.StandsFor.{StandsAt}
+use Rattle.server_core.specs.StandsFor.{OrdersStand, StandsAt}
 use Rattle.server_core.proofs.Lists.{written}
 use Rattle.server_core.proofs.server.Server.step.Goals as goal
 
@@ -29,3 +33,15 @@ returns-clause-short c = λ memory l s.
     let old = ap (all_in p) c.deref_mut.ensures.value ∙ ap (λ v. v.instances) c.self.view_is in
     let before = subst (λ (vs : List ServedState). StandsAt n vs l) (sym old) s in
     subst (λ (xs : List ServedSlots). StandsShortAt (event_value c.args.event) l (all_in q xs)) (sym (written _ _ _ long)) (c.step_one.ensures.short memory l before)
+
+pub returns-clause-orders : goal.returns-clause-orders
+returns-clause-orders c =
+    let n : ℕ = c.args.event.instance in
+    let p = c.self.inside.pool in
+    let q = c.step_one.new.pool in
+    let long : c.self.inside.instances.len ≡ length c.step_one.new.instances = grind (arith, common_steps) in
+    let old = ap (all_in p) c.deref_mut.ensures.value ∙ ap (λ v. v.instances) c.self.view_is in
+    IfOk-weaker c.step_one.result _ _ (λ (orders : Vec Order Global) given l s.
+    let before = subst (λ (vs : List ServedState). StandsAt n vs l) (sym old) s in
+    subst (λ (xs : List ServedSlots). OrdersStand n (all_in q xs) orders (lone_orders [] (event_value c.args.event) l)) (sym (written _ _ _ long)) (given l before))
+    c.step_one.ensures.orders

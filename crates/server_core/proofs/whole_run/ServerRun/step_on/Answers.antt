@@ -32,4 +32,4 @@ invariant_of-result c =
     let long : old.records.len ≡ length new.records = grind (arith, common_steps) in
     let each : length new.records ≡ length new.server.instances = c.step_on_and_note.auto.records ∙ ap length c.deref_mut.ensures.value ∙ c.self.invariant.each ∙ sym did.count in
     subst (λ (rs : List RecordValue). IsRunning (record { server = new.server; records = rs; strays = new.strays.items; count = old.count + 1 }))
-    (sym (written _ _ _ long)) (record { each = each; room = did.room })
+    (sym (written _ _ _ long)) (record { within = did.within; each = each; room = did.room })

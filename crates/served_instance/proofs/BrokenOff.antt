@@ -1,12 +1,14 @@
--- An event was refused for want of memory, and its connection is gone: what is left is what the definitions say.
+-- An event was refused for want of memory, and what that breaks off is gone: what is left is what the definitions say.
 use Rattle.std.proofs.Common.{◌≡◌, ◌≤◌, refl, sym, ap, ◌∙◌, subst, arith, length}
 use Rattle.std.specs.Prelude.{ℕ, List, [], ◌∷◌, ◌++◌, map, Option, Some, None, Result, Ok, Err, OnErr}
 use Rattle.grpc_sending.proofs.Histories.{append-nil}
 use Rattle.grpc_sending.specs.StoredSending.{SourceTexts}
 use Rattle.blob_pool.specs.Slots.{Slots, text_at}
-use Rattle.instance_core.specs.Answer.{answer, state_after}
-use Rattle.instance_core.specs.Calls.{CallEventValue}
-use Rattle.instance_core.specs.Apart.{calls_apart}
+use Rattle.job_queue.specs.Jobs.{running_job}
+use Rattle.instance_core.specs.Answer.{answer, ending_changes, state_after}
+use Rattle.instance_core.specs.Calls.{CallEventValue, tick as time_passes}
+use Rattle.instance_core.specs.Changes.{MadeInPart}
+use Rattle.instance_core.specs.Watching.{WatchAtRest}
 use Rattle.instance_core.specs.State.{InstanceState, seeing}
 use Rattle.instance_core.specs.InstanceViewShown.{ViewValue}
 use Rattle.blob_pool.specs.Slots.{count_at}
@@ -15,18 +17,18 @@ use Rattle.instance_core.specs.Slots.{InstanceSlots, state_in, state_beside, hol
 use Rattle.server_events.specs.Events.{WhatValue, opened, received, took, closed, tick, ended}
 use Rattle.served_instance.specs.declared.open_connection.OpenConnection.{OpenConnection}
 use Rattle.served_instance.specs.Acts.{StandsBy, FindAlike, slots_of}
-use Rattle.served_instance.specs.Connections.{LoneConnection, open_ones, with_closed}
-use Rattle.served_instance.specs.Cuts.{others_of, KeepsOthers, OthersFindAlike, CutsShort, CutsShortBy, events_brought, receiver_of, others_by, others_than, state_without}
+use Rattle.served_instance.specs.Connections.{LoneConnection, all_closed, open_ones}
+use Rattle.served_instance.specs.Cuts.{CutsAct, broken_by, others_by, others_than, state_without}
 use Rattle.served_instance.specs.Lone.{LoneInstance, lone_at_rest}
 use Rattle.served_instance.specs.Ranges.{Releases, range_holders}
 use Rattle.served_instance.specs.Refusals.{NeedsNoMemory}
-use Rattle.served_instance.specs.Short.{IsMadeInPart, IsCutShort, after_break, IsCutEffect}
+use Rattle.served_instance.specs.Short.{IsMadeInPart, after_break, after_break_all, without_job, IsCutEffect}
 use Rattle.served_instance.specs.Shown.{connection_shown}
 use Rattle.served_instance.specs.Slots.{IsServedInPool, holders_of, served_state_in}
 use Rattle.std.proofs.lemmas.List.{length-map}
 use Rattle.served_instance.specs.StandsFor.{AreServed, IsServedInstance}
-use Rattle.served_instance.proofs.Cut.{others_served, finds_here}
-use Rattle.served_instance.proofs.Kept.{same_state, release_finds, instance_after, release_keeps, few_connections}
+use Rattle.served_instance.proofs.Cut.{others_served}
+use Rattle.served_instance.proofs.Kept.{same_state, instance_after, release_keeps, few_connections}
 use Rattle.served_instance.proofs.Ranges.{served_agreed}
 use Rattle.served_instance.proofs.Stands.{stands_for}
 
@@ -46,10 +48,10 @@ err_map (Err x) f a = f a
 
 -- ---- through a slice of all connections
 
-pub cuts_seen : (w v : WhatValue) (texts : SourceTexts) (s t : InstanceState) (os xs : List OpenConnection) → w ≡ v → xs ≡ os → CutsShortBy texts s xs t (events_brought v) → CutsShortBy texts s os t (events_brought w)
-cuts_seen w v texts s t os xs e seen h =
-    subst (λ (ys : List OpenConnection). CutsShortBy texts s ys t (events_brought w)) seen
-    (subst (λ (y : WhatValue). CutsShortBy texts s xs t (events_brought y)) (sym e) h)
+pub cuts_seen : (w v : WhatValue) (parent : ViewValue) (p q : Slots) (i j : InstanceSlots) (os xs : List OpenConnection) → w ≡ v → xs ≡ os → CutsAct v parent p i xs q j → CutsAct w parent p i os q j
+cuts_seen w v parent p q i j os xs e seen h =
+    subst (λ (ys : List OpenConnection). CutsAct w parent p i ys q j) seen
+    (subst (λ (y : WhatValue). CutsAct y parent p i xs q j) (sym e) h)
 
 pub others_seen : (w v : WhatValue) (os xs ns zs : List OpenConnection) → w ≡ v → xs ≡ os → zs ≡ ns → others_than v ns ≡ others_than v xs → others_than w zs ≡ others_than w os
 others_seen w v os xs ns zs e seen back h =
@@ -66,19 +68,14 @@ finds_seen w v p q os xs e seen h =
 abbrev pub IsLeft : WhatValue → Slots → InstanceSlots → List OpenConnection → LoneInstance → Type 0
 IsLeft w r k xs m = (n : LoneInstance) × IsCutEffect w m n × IsServedInstance (served_state_in r (slots_of k xs)) n
 
--- before the event, where it was refused, and when its connection was gone
+-- before the event, where it was refused, and when what it breaks off was gone
 pub record IsBroken (parent : ViewValue) (w : WhatValue) (p q r : Slots) (i j k : InstanceSlots) (os ns xs : List OpenConnection) : Type 0 where
-  pub kept : IsServedInPool q (slots_of j ns)
-  pub releases : Releases q (map connection_shown ns) r (map connection_shown xs)
-  pub cuts : CutsShort parent p i os q j (events_brought w)
+  pub cuts : CutsAct w parent p i os q j
   pub others : others_than w ns ≡ others_than w os
   pub finds : FindAlike p q (others_than w os)
-  pub left : xs ≡ others_by (receiver_of w) ns
-  pub forgotten : state_in r k ≡ state_without (receiver_of w) (state_in r j)
-
-same_at : (parent : ViewValue) (w : WhatValue) (p q r : Slots) (i j k : InstanceSlots) (os ns xs : List OpenConnection) → IsBroken parent w p q r i j k os ns xs → state_in r k ≡ state_without (receiver_of w) (state_in q j)
-same_at parent w p q r i j k os ns xs b =
-    b.forgotten ∙ ap (state_without (receiver_of w)) (same_state q r j (map connection_shown ns) (map connection_shown xs) b.kept b.releases)
+  pub left : xs ≡ others_by (broken_by w) ns
+  pub still : FindAlike q r xs
+  pub forgotten : state_in r k ≡ state_without (broken_by w) (state_in q j)
 
 -- the connections that are left stand for these
 others_stand : (parent : ViewValue) (w : WhatValue) (p q r : Slots) (i j k : InstanceSlots) (os ns xs : List OpenConnection) (ls : List LoneConnection) → IsBroken parent w p q r i j k os ns xs → AreServed (text_at p) (map connection_shown (others_than w os)) ls → AreServed (text_at q) (map connection_shown xs) ls
@@ -86,28 +83,50 @@ others_stand parent w p q r i j k os ns xs ls b s =
     let now = served_agreed (text_at p) (text_at q) (map connection_shown (others_than w os)) ls b.finds s in
     subst (λ (ys : List OpenConnection). AreServed (text_at q) (map connection_shown ys) ls) (sym (b.left ∙ b.others)) now
 
-left_stands : (parent : ViewValue) (w : WhatValue) (p q r : Slots) (i j k : InstanceSlots) (os ns xs : List OpenConnection) (n : LoneInstance) → IsBroken parent w p q r i j k os ns xs → state_in r k ≡ n.state → AreServed (text_at q) (map connection_shown xs) (open_ones n.connections) → IsServedInstance (served_state_in r (slots_of k xs)) n
-left_stands parent w p q r i j k os ns xs n b e s =
-    stands_for q r k xs n (release_finds q r j (map connection_shown ns) (map connection_shown xs) b.kept b.releases) (record { state = e; connections = s })
+left_stands : (parent : ViewValue) (w : WhatValue) (p q r : Slots) (i j k : InstanceSlots) (os ns xs : List OpenConnection) (n : LoneInstance) → IsBroken parent w p q r i j k os ns xs → WatchAtRest n.state → state_in r k ≡ n.state → AreServed (text_at q) (map connection_shown xs) (open_ones n.connections) →
+    IsServedInstance (served_state_in r (slots_of k xs)) n
+left_stands parent w p q r i j k os ns xs n b watched e s = stands_for q r k xs n watched b.still (record { state = e; connections = s })
 
-pub is_left : (parent : ViewValue) (w : WhatValue) (p q r : Slots) (i j k : InstanceSlots) (os ns xs : List OpenConnection) (m : LoneInstance) → (NeedsNoMemory w → ⊥) → IsBroken parent w p q r i j k os ns xs → StandsBy (text_at p) (state_beside p parent i) os m → IsLeft w r k xs m
-is_left parent (opened c) p q r i j k os ns xs m need b st =
+none_open : (ks : List LoneConnection) → open_ones (all_closed ks) ≡ []
+none_open [] = refl
+none_open (k ∷ ks) = none_open ks
+
+none_stand : (texts : SourceTexts) (xs : List OpenConnection) (ks : List LoneConnection) → xs ≡ [] → AreServed texts (map connection_shown xs) (open_ones (all_closed ks))
+none_stand texts xs ks gone =
+    let P : List OpenConnection → List LoneConnection → Type 0 = λ ys ls. AreServed texts (map connection_shown ys) ls in
+    subst (λ (ys : List OpenConnection). P ys (open_ones (all_closed ks))) (sym gone) (subst (P []) (sym (none_open ks)) tt)
+
+abbrev without_calls : InstanceState → InstanceState
+without_calls s = record s { calls = [] }
+
+pub is_left : (parent : ViewValue) (w : WhatValue) (p q r : Slots) (i j k : InstanceSlots) (os ns xs : List OpenConnection) (m : LoneInstance) → (NeedsNoMemory w → ⊥) → ((n : LoneInstance) → IsCutEffect w m n → WatchAtRest n.state) → IsBroken parent w p q r i j k os ns xs →
+    StandsBy (text_at p) (state_beside p parent i) os m → IsLeft w r k xs m
+is_left parent (opened c) p q r i j k os ns xs m need watch b st =
     let w = opened c in
     let n = lone_at_rest m in
-    let same : state_in r k ≡ n.state = same_at parent w p q r i j k os ns xs b ∙ ap (seeing []) (b.cuts m st) in
-    (n, refl, left_stands parent w p q r i j k os ns xs n b same (others_stand parent w p q r i j k os ns xs (open_ones m.connections) b st.connections))
-is_left parent (received c bytes) p q r i j k os ns xs m need b st =
+    let same : state_in r k ≡ n.state = b.forgotten ∙ ap (seeing []) (b.cuts ∙ st.state) in
+    (n, refl, left_stands parent w p q r i j k os ns xs n b (watch n refl) same (others_stand parent w p q r i j k os ns xs (open_ones m.connections) b st.connections))
+is_left parent (received c bytes) p q r i j k os ns xs m need watch b st =
     let w = received c bytes in
     let n = after_break c (state_beside q parent j) m in
-    let gone = others_served (text_at p) c os m.connections st.connections in (
-      n,
-      record { left = state_beside q parent j; cut = b.cuts m st; gone = refl },
-      left_stands parent w p q r i j k os ns xs n b (same_at parent w p q r i j k os ns xs b) (others_stand parent w p q r i j k os ns xs (open_ones n.connections) b gone),
-    )
-is_left parent (took c n) p q r i j k os ns xs m need b st = absurd (need tt)
-is_left parent (closed c) p q r i j k os ns xs m need b st = absurd (need tt)
-is_left parent tick p q r i j k os ns xs m need b st = absurd (need tt)
-is_left parent (ended job outcome) p q r i j k os ns xs m need b st = absurd (need tt)
+    let gone = others_served (text_at p) c os m.connections st.connections in
+    let cut : IsCutEffect w m n = record { left = state_beside q parent j; cut = b.cuts m st; gone = refl } in
+    (n, cut, left_stands parent w p q r i j k os ns xs n b (watch n cut) b.forgotten (others_stand parent w p q r i j k os ns xs (open_ones n.connections) b gone))
+is_left parent (took c n) p q r i j k os ns xs m need watch b st = absurd (need tt)
+is_left parent (closed c) p q r i j k os ns xs m need watch b st = absurd (need tt)
+is_left parent tick p q r i j k os ns xs m need watch b st =
+    let n = after_break_all (state_after m.state time_passes) m in
+    let same : state_in r k ≡ n.state =
+    b.forgotten ∙ ap (λ (s : InstanceState). seeing [] (without_calls s)) (b.cuts ∙ ap (λ (s : InstanceState). state_after s time_passes) st.state) in
+    (n, refl, left_stands parent tick p q r i j k os ns xs n b (watch n refl) same (none_stand (text_at q) xs m.connections b.left))
+is_left parent (ended job outcome) p q r i j k os ns xs m need watch b st =
+    let w = ended job outcome in
+    let left = state_beside q parent j in
+    let n = after_break_all (without_job job left) m in
+    let made : MadeInPart (ending_changes m.state outcome (running_job job m.state.jobs)) m.state left =
+    subst (λ (s : InstanceState). MadeInPart (ending_changes s outcome (running_job job s.jobs)) s left) st.state b.cuts in
+    let cut : IsCutEffect w m n = record { left = left; made = made; gone = refl } in
+    (n, cut, left_stands parent w p q r i j k os ns xs n b (watch n cut) b.forgotten (none_stand (text_at q) xs m.connections b.left))
 
 -- ---- what the pool counts
 
@@ -125,3 +144,7 @@ left_kept q r j k ns xs kept rel same keeps fewer =
     release_keeps q r j k (map connection_shown ns) (map connection_shown xs) kept rel same
     (keeps r (instance_after q r j (map connection_shown ns) (map connection_shown xs) kept rel))
     (omega (arith, fewer, few_connections q (slots_of j ns) kept, length-map ns connection_shown, length-map xs connection_shown))
+
+-- what it stands for then, where this became of its calls
+pub left_state : (q r : Slots) (j k : InstanceSlots) (ns xs : List OpenConnection) (left : InstanceState → InstanceState) → IsServedInPool q (slots_of j ns) → Releases q (map connection_shown ns) r (map connection_shown xs) → ((p : Slots) → state_in p k ≡ left (state_in p j)) → state_in r k ≡ left (state_in q j)
+left_state q r j k ns xs left kept rel forgotten = forgotten r ∙ ap left (same_state q r j (map connection_shown ns) (map connection_shown xs) kept rel)

@@ -2,8 +2,8 @@
 
 use crate::scripts::{configs, events};
 use program_status::{Fault, Output};
-use script::replay_lines::{write_refusal, write_sent};
-use server_core::{InstanceOutput, Outputs, run};
+use script::replay_lines::{write_kill, write_refusal, write_sent, write_start};
+use server_core::{InstanceOutput, OrderedAt, Outputs, RunOrder, run};
 use server_events::{Configs, Event};
 
 /// What a run of these events gives; where memory is refused, that is remembered.
@@ -24,11 +24,23 @@ pub fn outcome_of(script: &[u8], only: Option<u32>, output: &mut Output) -> Opti
     outcome(&configs, events, output)
 }
 
+/// Appends the line that tells what the instance of this number ordered.
+fn show_order(instance: u32, ordered: &OrderedAt, text: &mut Vec<u8>, output: &mut Output) {
+    let place = ordered.place;
+    match &ordered.order {
+        RunOrder::Start { job, .. } => output.expect(write_start(text, instance, place, *job)),
+        RunOrder::Kill { job } => output.expect(write_kill(text, instance, place, *job)),
+    }
+}
+
 /// The lines that tell what the instance of this number gave, as `replay` writes them.
 pub fn shown(instance: u32, given: &InstanceOutput, output: &mut Output) -> Vec<u8> {
     let mut text = Vec::new(output.alloc);
     for sent in &given.sent {
         output.expect(write_sent(&mut text, instance, sent.connection, &sent.bytes));
+    }
+    for ordered in &given.orders {
+        show_order(instance, ordered, &mut text, output);
     }
     for refused in &given.refusals {
         let code = refused.refusal.code();

@@ -1,0 +1,159 @@
+-- Calls that watch jobs are told, one after another, and steps are gone through.
+use Rattle.std.proofs.Common.{◌≡◌, ℕ, zero, suc, ◌+◌, ◌-◌, ◌<◌, ◌≤◌, Bool, true, false, List, [], ◌∷◌, ◌++◌, length, drop, take, get_or, map, Option, Some, None, refl, sym, ap, ◌∙◌, append_assoc, append-nil, arith}
+use Rattle.std.specs.Prelude.{filter, nat_le, slice_get, ◌==◌}
+use Rattle.std.specs.List.{filter_map}
+use Rattle.std.proofs.lemmas.Bool.Decides.{nat_tests}
+use Rattle.std.proofs.lemmas.List.{map-append, take_all}
+use Rattle.std.proofs.lemmas.List.Concat.{flat_map-cons}
+use Rattle.std.proofs.lemmas.List.Elements.{filter-append, filter_map-append}
+use Rattle.std.proofs.Math.Seq.{drop-cons}
+use Rattle.std.proofs.lemmas.Option.{get_or_from_slice_get, slice_get-get_or, slice_get_within}
+use Rattle.job_queue.specs.Jobs.{Jobs}
+use Rattle.executor.specs.Job.{JobValue}
+use Rattle.executor.specs.Orders.{ToldValue, OrderValue, order_of, told}
+use Rattle.executor.specs.Ordered.{order_meant}
+use Rattle.executor.specs.Steps.{StepValue}
+use Rattle.executor.specs.Taking.{step_shown, steps_shown}
+use Rattle.executor.specs.declared.orders.Order.{Order}
+use Rattle.executor.specs.declared.steps.Step.{Step}
+use Rattle.instance_core.specs.declared.event.CallId.{CallId}
+use Rattle.instance_core.specs.declared.event.Reply.{Reply}
+use Rattle.instance_core.specs.ReplyHolders.{items_holders, replies_holders}
+use Rattle.instance_core.specs.Apart.{hears, replies_to}
+use Rattle.instance_core.specs.Calls.{Calls, CallValue}
+use Rattle.instance_core.specs.Replies.{ReplyValue}
+use Rattle.instance_core.specs.Turns.{orders_meant}
+use Rattle.instance_core.specs.Watching.{is_watcher, is_watching, watchers, told_reply, replies_told, replies_to_watchers}
+
+-- ---- a list from a place on
+
+some_at : {X : Type 0} (xs : List X) (i : ℕ) → i < length xs → None ≡ slice_get xs i → ⊥
+some_at [] i within none = omega arith
+some_at (x ∷ xs) i within none = let there : slice_get (x ∷ xs) i ≡ Some (get_or (x ∷ xs) i x) = slice_get-get_or (x ∷ xs) i x within in let no : None ≡ Some (get_or (x ∷ xs) i x) = none ∙ there in cc
+
+drop_all : {X : Type 0} (xs : List X) (i : ℕ) → length xs ≤ i → drop i xs ≡ []
+drop_all [] zero h = refl
+drop_all [] (suc i) h = refl
+drop_all (x ∷ xs) zero h = absurd (omega arith)
+drop_all (x ∷ xs) (suc i) h = drop_all xs i (omega arith)
+
+pub none_left : {X : Type 0} (xs : List X) (i : ℕ) → None ≡ slice_get xs i → drop i xs ≡ []
+none_left xs i none = go (nat_le (length xs) i) refl where
+  go : (b : Bool) → nat_le (length xs) i ≡ b → drop i xs ≡ []
+  go true past = drop_all xs i (grind (arith, nat_tests, past))
+  go false within = absurd (let inside : i < length xs = grind (arith, nat_tests, within) in some_at xs i inside none)
+
+next_at : {X : Type 0} (xs : List X) (i : ℕ) (x : X) → Some x ≡ slice_get xs i → drop i xs ≡ x ∷ drop (i + 1) xs
+next_at {X} xs i x is =
+    let first : get_or xs i x ≡ x = get_or_from_slice_get xs i x x (sym is) in
+    let after : suc i ≡ i + 1 = omega arith in
+    drop-cons xs i x (slice_get_within xs i x (sym is)) ∙ ap (λ (y : X). y ∷ drop (suc i) xs) first ∙ ap (λ (n : ℕ). x ∷ drop n xs) after
+
+-- the first of a slice, and those behind it
+pub front_and_rest : {X : Type 0} (xs : List X) (x : X) → 1 ≤ length xs → x ≡ get_or xs 0 x → xs ≡ x ∷ take (length xs - 1) (drop 1 xs)
+front_and_rest [] x within is = absurd (omega arith)
+front_and_rest {X} (y ∷ xs) x within is =
+    let first : x ≡ y = is in
+    let rest : take (length (y ∷ xs) - 1) xs ≡ xs = take_all (length (y ∷ xs) - 1) xs (omega arith) in
+    ap (λ (z : X). z ∷ xs) (sym first) ∙ ap (λ (zs : List X). x ∷ zs) (sym rest)
+
+-- ---- who is told
+
+pub to-append : (only : Option ℕ) (as' bs : List ReplyValue) → replies_to only (as' ++ bs) ≡ replies_to only as' ++ replies_to only bs
+to-append None as' bs = refl
+to-append (Some c) as' bs = filter-append (λ (r : ReplyValue). r.call.connection == c) as' bs
+
+told-append : (t : ToldValue) (cs ds : Calls) → replies_told (cs ++ ds) t ≡ replies_told cs t ++ replies_told ds t
+told-append t cs ds =
+    ap (λ (es : Calls). map (told_reply t) (map (λ (c : CallId × CallValue). c.0) es)) (filter-append (is_watcher t.number) cs ds)
+    ∙ ap (map (told_reply t)) (map-append (λ (c : CallId × CallValue). c.0) (filter (is_watcher t.number) cs) (filter (is_watcher t.number) ds))
+    ∙ map-append (told_reply t) (watchers t.number cs) (watchers t.number ds)
+
+none_on : (only : Option ℕ) → replies_to only [] ≡ []
+none_on None = refl
+none_on (Some c) = refl
+
+pub none_told : (only : Option ℕ) (t : ToldValue) (id : CallId) (call : CallValue) (old : List ReplyValue) → is_watching t.number call.progress ≡ false → old ≡ old ++ replies_to only (replies_told ((id, call) ∷ []) t)
+none_told only t id call old is_no =
+    let nobody : replies_told ((id, call) ∷ []) t ≡ [] = rw is_no refl in
+    sym (append-nil old) ∙ ap (λ (rs : List ReplyValue). old ++ rs) (sym (ap (replies_to only) nobody ∙ none_on only))
+
+deaf : (only : Option ℕ) (t : ToldValue) (id : CallId) → hears only id ≡ false → replies_to only (told_reply t id ∷ []) ≡ []
+deaf None t id is_no = absurd (let it : true ≡ false = is_no in cc)
+deaf (Some c) t id is_no = rw is_no refl
+
+pub not_heard : (only : Option ℕ) (t : ToldValue) (id : CallId) (call : CallValue) (old : List ReplyValue) → is_watching t.number call.progress ≡ true → hears only id ≡ false → old ≡ old ++ replies_to only (replies_told ((id, call) ∷ []) t)
+not_heard only t id call old is_so is_no =
+    let one : replies_told ((id, call) ∷ []) t ≡ told_reply t id ∷ [] = rw is_so refl in
+    sym (append-nil old) ∙ ap (λ (rs : List ReplyValue). old ++ rs) (sym (ap (replies_to only) one ∙ deaf only t id is_no))
+
+heard : (only : Option ℕ) (t : ToldValue) (id : CallId) → hears only id ≡ true → replies_to only (told_reply t id ∷ []) ≡ told_reply t id ∷ []
+heard None t id is_so = refl
+heard (Some c) t id is_so = rw is_so refl
+
+pub is_heard : (only : Option ℕ) (t : ToldValue) (id : CallId) (call : CallValue) (old new : List ReplyValue) → is_watching t.number call.progress ≡ true → hears only id ≡ true → new ≡ old ++ told_reply t id ∷ [] → new ≡ old ++ replies_to only (replies_told ((id, call) ∷ []) t)
+is_heard only t id call old new watches hears-it pushed =
+    let one : replies_told ((id, call) ∷ []) t ≡ told_reply t id ∷ [] = rw watches refl in
+    pushed ∙ ap (λ (rs : List ReplyValue). old ++ rs) (sym (ap (replies_to only) one ∙ heard only t id hears-it))
+
+-- the call at a place, and then those behind it
+pub told_next : (only : Option ℕ) (t : ToldValue) (calls : Calls) (place : ℕ) (c : CallId × CallValue) (old new all : List ReplyValue) → Some c ≡ slice_get calls place → new ≡ old ++ replies_to only (replies_told (c ∷ []) t) → old ++ replies_to only (replies_told (drop place calls) t) ≡ all → new ++ replies_to only (replies_told (drop (place + 1) calls) t) ≡ all
+told_next only t calls place c old new all is pushed h =
+    let later : Calls = drop (place + 1) calls in
+    let split : replies_to only (replies_told (drop place calls) t) ≡ replies_to only (replies_told (c ∷ []) t) ++ replies_to only (replies_told later t) =
+    ap (λ (cs : Calls). replies_to only (replies_told cs t)) (next_at calls place c is)
+    ∙ ap (replies_to only) (told-append t (c ∷ []) later) ∙ to-append only (replies_told (c ∷ []) t) (replies_told later t) in
+    ap (λ (rs : List ReplyValue). rs ++ replies_to only (replies_told later t)) pushed
+    ∙ append_assoc old (replies_to only (replies_told (c ∷ []) t)) (replies_to only (replies_told later t))
+    ∙ ap (λ (rs : List ReplyValue). old ++ rs) (sym split) ∙ h
+
+pub told_all : (only : Option ℕ) (t : ToldValue) (calls : Calls) (place : ℕ) (old all : List ReplyValue) → None ≡ slice_get calls place → old ++ replies_to only (replies_told (drop place calls) t) ≡ all → old ≡ all
+told_all only t calls place old all none h =
+    let past : replies_to only (replies_told (drop place calls) t) ≡ [] = ap (λ (cs : Calls). replies_to only (replies_told cs t)) (none_left calls place none) ∙ none_on only in
+    sym (append-nil old) ∙ ap (λ (rs : List ReplyValue). old ++ rs) (sym past) ∙ h
+
+-- ---- steps, one after another
+
+pub steps_front : (steps : List Step) (x : Step) → 1 ≤ length steps → x ≡ get_or steps 0 x → steps_shown steps ≡ step_shown x ∷ steps_shown (take (length steps - 1) (drop 1 steps))
+steps_front steps x within is = ap steps_shown (front_and_rest steps x within is)
+
+pub watchers_next : (only : Option ℕ) (calls : Calls) (s : StepValue) (all-left left : List StepValue) (old new all : List ReplyValue) → all-left ≡ s ∷ left → new ≡ old ++ replies_to only (replies_told calls (told s)) → old ++ replies_to only (replies_to_watchers calls all-left) ≡ all → new ++ replies_to only (replies_to_watchers calls left) ≡ all
+watchers_next only calls s all-left left old new all is pushed h =
+    let f : StepValue → List ReplyValue = λ (x : StepValue). replies_told calls (told x) in
+    let split : replies_to only (replies_to_watchers calls all-left) ≡ replies_to only (replies_told calls (told s)) ++ replies_to only (replies_to_watchers calls left) =
+    ap (λ (ss : List StepValue). replies_to only (replies_to_watchers calls ss)) is
+    ∙ ap (replies_to only) (flat_map-cons f s left) ∙ to-append only (replies_told calls (told s)) (replies_to_watchers calls left) in
+    ap (λ (rs : List ReplyValue). rs ++ replies_to only (replies_to_watchers calls left)) pushed
+    ∙ append_assoc old (replies_to only (replies_told calls (told s))) (replies_to only (replies_to_watchers calls left))
+    ∙ ap (λ (rs : List ReplyValue). old ++ rs) (sym split) ∙ h
+
+pub orders_next : (after : Jobs JobValue) (s : StepValue) (all-left left : List StepValue) (old new all : List OrderValue) → all-left ≡ s ∷ left → new ≡ old ++ filter_map (order_of after) (s ∷ []) → old ++ filter_map (order_of after) all-left ≡ all → new ++ filter_map (order_of after) left ≡ all
+orders_next after s all-left left old new all is pushed h =
+    let f : StepValue → Option OrderValue = order_of after in
+    let split : filter_map f all-left ≡ filter_map f (s ∷ []) ++ filter_map f left = ap (filter_map f) is ∙ filter_map-append f (s ∷ []) left in
+    ap (λ (os : List OrderValue). os ++ filter_map f left) pushed
+    ∙ append_assoc old (filter_map f (s ∷ [])) (filter_map f left)
+    ∙ ap (λ (os : List OrderValue). old ++ os) (sym split) ∙ h
+
+-- no step is left
+pub no_steps : (steps : List Step) → length steps ≡ 0 → steps_shown steps ≡ []
+no_steps [] h = refl
+no_steps (s ∷ steps) h = absurd (omega (arith, h))
+
+-- the order of a step that has one, and of one that has none
+pub order_added : (after : Jobs JobValue) (s : StepValue) (order : Order) (old new : List Order) → order_meant after (Some order) ≡ order_of after s → new ≡ old ++ order ∷ [] → orders_meant after new ≡ orders_meant after old ++ filter_map (order_of after) (s ∷ [])
+order_added after s order old new is pushed =
+    let f : Order → Option OrderValue = λ (o : Order). order_meant after (Some o) in
+    ap (orders_meant after) pushed ∙ filter_map-append f old (order ∷ []) ∙ ap (λ (os : List OrderValue). orders_meant after old ++ os) (go (f order) refl)
+  where
+    go : (o : Option OrderValue) → order_meant after (Some order) ≡ o → filter_map (λ (x : Order). order_meant after (Some x)) (order ∷ []) ≡ filter_map (order_of after) (s ∷ [])
+    go None none = let none' : order_of after s ≡ None = sym is ∙ none in rw (none, none') refl
+    go (Some v) some = let some' : order_of after s ≡ Some v = sym is ∙ some in rw (some, some') refl
+
+pub order_none : (after : Jobs JobValue) (s : StepValue) (old : List Order) → None ≡ order_of after s → orders_meant after old ≡ orders_meant after old ++ filter_map (order_of after) (s ∷ [])
+order_none after s old is = let none : filter_map (order_of after) (s ∷ []) ≡ [] = rw (← is) refl in sym (append-nil (orders_meant after old)) ∙ ap (λ (os : List OrderValue). orders_meant after old ++ os) (sym none)
+
+-- a reply that gives no range holds nothing
+pub pushed_holds : (old : List Reply) (r : Reply) (k : ℕ) → items_holders r.items.items k ≡ 0 → replies_holders (old ++ r ∷ []) k ≡ replies_holders old k
+pushed_holds [] r k none = omega (arith, none)
+pushed_holds (o ∷ old) r k none = let later = pushed_holds old r k none in omega (arith, later)

@@ -1,0 +1,149 @@
+//! What a run ordered of whoever runs jobs, with all that it names.
+
+ghost use Rattle.std.specs.Prelude.{◌≡◌, Some, map, option_map, IfOk};
+ghost use Rattle.blob_pool.specs.Slots.{Slots};
+ghost use Rattle.instance_view.specs.Shown.{blobs_in};
+ghost use Rattle.tree_plan.specs.Shown.{kind_shown, node_shown, nodes_shown};
+ghost use Rattle.executor.specs.InPool.{task_in};
+ghost use Rattle.executor.specs.Keeping.{kept_entries};
+ghost use Rattle.executor.specs.Ordered.{order_meant};
+ghost use Rattle.instance_core.specs.Slots.{state_in};
+ghost use Rattle.server_core.specs.Shown.{order_shown, task_shown, text_shown};
+
+use blob_pool::Pool;
+use digest::Digest;
+use executor::KeptText;
+use served_instance::{Order, ServedInstance, Task};
+use std::alloc::{AllocError, Global};
+use tree_plan::{NodeKind, PlanNode};
+
+/// A text of a task, under its digest.
+#[derive(Drop)]
+pub struct TaskText {
+    pub digest: Digest,
+    pub text: Vec<u8>,
+}
+
+/// What is to be run.
+#[derive(Drop)]
+pub struct RunTask {
+    /// The text of the command.
+    pub command: Vec<u8>,
+    /// What stands in the input root, in the order of a walk.
+    pub nodes: Vec<PlanNode>,
+    /// Each distinct text that is needed and that is not empty, once.
+    pub texts: Vec<TaskText>,
+}
+
+/// What was ordered.
+#[derive(Drop)]
+pub enum RunOrder {
+    /// The job of a number is to be run.
+    Start { job: u64, task: RunTask },
+    /// The run of the job of a number is to be ended.
+    Kill { job: u64 },
+}
+
+/// What was ordered at an event.
+#[derive(Drop)]
+pub struct OrderedAt {
+    /// The event's place among the instance's own, counted from 1.
+    pub place: u64,
+    pub order: RunOrder,
+}
+
+fn copy_kind(alloc: Global, kind: &NodeKind) -> Result<NodeKind, AllocError>
+    ensures { IfOk result (λ copied. kind_shown copied ≡ kind_shown kind.now) }
+{
+    match kind {
+        NodeKind::File {
+            digest,
+            is_executable,
+        } => Ok(NodeKind::File {
+            digest: *digest,
+            is_executable: *is_executable,
+        }),
+        NodeKind::Directory { digest } => Ok(NodeKind::Directory { digest: *digest }),
+        NodeKind::Symlink { target } => {
+            let target = String::from_str(alloc, target)?;
+            Ok(NodeKind::Symlink { target })
+        }
+    }
+}
+
+fn copy_node(alloc: Global, node: &PlanNode) -> Result<PlanNode, AllocError>
+    ensures { IfOk result (λ copied. node_shown copied ≡ node_shown node.now) }
+{
+    let name = String::from_str(alloc, &node.name)?;
+    let kind = copy_kind(alloc, &node.kind)?;
+    Ok(PlanNode {
+        name,
+        level: node.level,
+        kind,
+    })
+}
+
+fn copy_nodes(alloc: Global, nodes: &[PlanNode]) -> Result<Vec<PlanNode>, AllocError>
+    ensures { IfOk result (λ copied. nodes_shown copied.items ≡ nodes_shown nodes.now) }
+{
+    let mut copied = Vec::new(alloc);
+    let mut left = nodes;
+    while let [first, rest @ ..] = left {
+        copied.push(copy_node(alloc, first)?)?;
+        left = rest;
+    }
+    Ok(copied)
+}
+
+fn copy_texts(alloc: Global, pool: &Pool, kept: &[KeptText]) -> Result<Vec<TaskText>, AllocError>
+    ensures { IfOk result
+        (λ copied. map text_shown copied.items ≡ blobs_in pool.now (kept_entries kept.now)) }
+{
+    let mut copied = Vec::new(alloc);
+    let mut left = kept;
+    while let [first, rest @ ..] = left {
+        let mut text = Vec::new(alloc);
+        pool.copy_into(first.text, &mut text)?;
+        copied.push(TaskText {
+            digest: first.digest,
+            text,
+        })?;
+        left = rest;
+    }
+    Ok(copied)
+}
+
+fn copy_task(alloc: Global, pool: &Pool, task: &Task) -> Result<RunTask, AllocError>
+    ensures { IfOk result (λ copied. task_shown copied ≡ task_in pool.now task.now) }
+{
+    let command = Vec::from_slice(alloc, &task.command)?;
+    let nodes = copy_nodes(alloc, &task.plan.nodes)?;
+    let texts = copy_texts(alloc, pool, &task.texts)?;
+    Ok(RunTask {
+        command,
+        nodes,
+        texts,
+    })
+}
+
+/// An order with all that it names, as long as the job runs that it starts.
+pub(crate) fn copy_order(
+    alloc: Global,
+    instance: &ServedInstance,
+    pool: &Pool,
+    order: Order,
+) -> Result<Option<RunOrder>, AllocError>
+    ensures { IfOk result (λ found. option_map order_shown found
+        ≡ order_meant (state_in pool.now instance.now.instance).jobs (Some order)) }
+{
+    match order {
+        Order::Kill { job } => Ok(Some(RunOrder::Kill { job })),
+        Order::Start { job } => match instance.task(job) {
+            None => Ok(None),
+            Some(task) => {
+                let task = copy_task(alloc, pool, task)?;
+                Ok(Some(RunOrder::Start { job, task }))
+            }
+        },
+    }
+}

@@ -10,19 +10,21 @@
 
 mod alone;
 mod fake;
+mod no_runs;
 mod peers;
 mod silent;
 
 use crate::instances::configs;
 use crate::sockets::alone::{Outcome, judge};
 use crate::sockets::fake::{Client, Fake, Habits};
+use crate::sockets::no_runs::serve_alone;
 use crate::sockets::peers::serve_peers;
 use crate::sockets::silent::serve_silent;
 use decimals::decimal;
 use hex::FromHexError;
 use program_status::{Fault, Output, Status};
 use script::lines;
-use serve::{Sockets, serve};
+use serve::Sockets;
 use server_events::Configs;
 
 /// How many turns a case takes.
@@ -78,7 +80,7 @@ fn clients<'a>(
 fn case(configs: &Configs, texts: &[Vec<u8>], count: usize, habits: Habits, output: &mut Output) {
     let clients = clients(texts, count, habits.is_steady, output);
     let mut fake = Fake::new(output.alloc, clients, habits);
-    output.expect(serve(output.alloc, configs, &mut fake, TURNS));
+    serve_alone(configs, &mut fake, TURNS, output);
     if fake.is_out_of_memory {
         output.fail(Fault::OutOfMemory);
     }

@@ -91,17 +91,9 @@ fn instance_of(
         return Err(InstancesFault::Bad(place, WordFault::Parts));
     };
     match numbers_of(port, quota, slots) {
-        // Nothing runs actions here yet, so no instance offers to.
-        Ok((port, quota, _slots)) => {
+        Ok((port, quota, slots)) => {
             let name = String::from_str(alloc, name)?;
-            Ok((
-                port,
-                InstanceConfig {
-                    name,
-                    quota,
-                    slots: 0,
-                },
-            ))
+            Ok((port, InstanceConfig { name, quota, slots }))
         }
         Err(fault) => Err(InstancesFault::Bad(place, fault)),
     }

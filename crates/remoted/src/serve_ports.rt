@@ -1,10 +1,13 @@
 //! `remoted serve`.
 
 use crate::instances::{Instances, InstancesFault, instances_of};
+use host_runs::{HostFolder, HostPrograms, clear_work};
 use host_sockets::HostSockets;
+use job_runs::JobRunner;
 use serve::serve;
-use std::fs;
 use std::io::{self, ErrorKind, Write};
+use std::time::Duration;
+use std::{fs, thread};
 
 /// What is served, and for how long.
 #[derive(Drop)]
@@ -21,6 +24,9 @@ const DONE: u8 = 0;
 const FAILED: u8 = 1;
 
 const BAD_WORDS: u8 = 2;
+
+/// How often it is tried, once a millisecond, to end what runs, before the program ends.
+const MOST_ENDINGS: u32 = 5_000;
 
 fn is_memory(error: &io::Error) -> bool {
     error.kind() == ErrorKind::OutOfMemory
@@ -83,6 +89,34 @@ fn make_folder<E: Write>(rt: &HostRuntime, work: &str, errors: &mut E) -> io::Re
     }
 }
 
+/// Runs in this folder, of the jobs of these instances. What a former program left there is removed;
+/// what cannot be removed is in the way of the job of its name alone.
+fn job_runner<'a>(
+    rt: &'a HostRuntime,
+    work: &str,
+    instances: &Instances,
+) -> io::Result<JobRunner<HostFolder<'a>, HostPrograms<'a>>> {
+    let _cleared: io::Result<()> = clear_work(rt, work);
+    let mut slots: usize = 0;
+    for config in instances.configs.instances() {
+        slots = slots.saturating_add(config.slots as usize);
+    }
+    let alloc = rt.alloc();
+    let folder = HostFolder::new(rt, String::from_str(alloc, work)?);
+    let programs = HostPrograms::new(rt, String::from_str(alloc, work)?);
+    Ok(JobRunner::new(alloc, folder, programs, slots)?)
+}
+
+/// Ends what runs, and removes its folders.
+fn end_runs(rt: &HostRuntime, runs: &mut JobRunner<HostFolder<'_>, HostPrograms<'_>>) {
+    for _ in 0..MOST_ENDINGS {
+        if runs.end_all() == 0 {
+            return;
+        }
+        thread::sleep(rt, Duration::from_millis(1));
+    }
+}
+
 /// Serves these instances.
 fn serve_instances<O: Write, E: Write>(
     rt: &HostRuntime,
@@ -98,8 +132,19 @@ fn serve_instances<O: Write, E: Write>(
     if !listen(&mut sockets, &instances.ports, errors)? {
         return Ok(FAILED);
     }
+    let mut runs = job_runner(rt, served.work, instances)?;
     announce(instances, output)?;
-    serve(rt.alloc(), &instances.configs, &mut sockets, served.turns)?;
+    let (alloc, configs) = (rt.alloc(), &instances.configs);
+    let ended = serve(
+        alloc,
+        configs,
+        &mut sockets,
+        &mut runs,
+        errors,
+        served.turns,
+    );
+    end_runs(rt, &mut runs);
+    ended?;
     Ok(DONE)
 }
 

@@ -1,5 +1,5 @@
 -- The runs of a runner, and what its calls make of them.
-use Rattle.std.specs.Prelude.{◌≡◌, ◌⊎◌, ℕ, List, [], ◌∷◌, ◌++◌, take, drop, Option, Some, None, Result, Ok, Err}
+use Rattle.std.specs.Prelude.{◌≡◌, ◌==◌, ◌&&◌, ◌⊎◌, ℕ, Bool, List, [], ◌∷◌, ◌++◌, take, drop, Option, Some, None, Result, Ok, Err}
 use Rattle.runner.specs.declared.task.RunKey.{RunKey}
 use Rattle.runner.specs.declared.task.Task.{Task}
 use Rattle.runner.specs.declared.folder.Place.{Place}
@@ -22,6 +22,9 @@ use Rattle.runner.specs.Steps.{Goes}
 
 abbrev pub run_of : Place → State → Run
 run_of place state = record { place = place; state = state }
+
+abbrev pub is_run_of : RunKey → Run → Bool
+is_run_of key run = run.place.run.instance == key.instance && run.place.run.job == key.job
 
 -- the first run of a key stands there
 pub record IsAt (key : RunKey) (runs : List Run) (at : ℕ) : Type 0 where

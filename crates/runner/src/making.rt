@@ -96,7 +96,7 @@ fn make_node<F: Folder>(folder: &mut F, place: &Place, nodes: Nodes) -> Result<S
         return Ok(Step::Goes(Stage::Making(Making::Directory(next)), 1));
     };
     let TaskNode { name, level, kind } = node;
-    above.truncate((level as usize).saturating_sub(1));
+    above.truncate(level.saturating_sub(1));
     above.push(name)?;
     of_folder(folder.make_node(place.run, &above, &kind))?;
     let making = after_node(Nodes { above, left, next }, kind);

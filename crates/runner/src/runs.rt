@@ -1,8 +1,9 @@
 //! Runs, from their start to their end.
 
 ghost use Rattle.std.specs.Prelude.{◌≡◌, ◌<◌, ◌≤◌, ◌++◌, ◌∷◌, [], List, IfOk, IfSome, IfNone, OnOk, OnErr, length, vec_len, vec_capacity, take, drop, insert};
+ghost use Rattle.std.specs.List.{list_any};
 ghost use Rattle.runner.specs.Faults.{Counted, OnlyWhereFailed};
-ghost use Rattle.runner.specs.Runs.{EndsBy, HasGone, ending_of, IsAt, IsAsked, IsKilled, IsStarted, run_left};
+ghost use Rattle.runner.specs.Runs.{EndsBy, HasGone, ending_of, IsAt, IsAsked, IsKilled, IsStarted, is_run_of, run_left};
 ghost use Rattle.runner.specs.declared.stage.Run.{Run};
 
 use crate::fault::RunFault;
@@ -14,6 +15,22 @@ use crate::task::{RunKey, Task};
 use crate::texts::Texts;
 use crate::turn::turn;
 use std::alloc::{AllocError, Global};
+
+fn is_run_of(key: RunKey, run: &Run) -> bool
+    ensures { result ≡ is_run_of key run.now }
+{
+    run.place.run.instance == key.instance && run.place.run.job == key.job
+}
+
+/// Whether a run can go on at once: it waits for no program, neither to end nor to be killed.
+fn can_go_on(state: &State) -> bool {
+    match state {
+        State::Live(Stage::Running(_) | Stage::Stopping(_)) => false,
+        State::Live(_) => true,
+        State::Over(Ending::Killing) => false,
+        State::Over(Ending::Removing) => true,
+    }
+}
 
 /// Where the run of a key stands.
 fn place_of(runs: &[Run], key: RunKey) -> Option<usize>
@@ -224,6 +241,20 @@ impl<F: Folder + Drop, P: Programs + Drop> Runner<F, P> {
     pub fn run(&self, at: usize) -> Option<RunKey> {
         let run = self.runs.get(at)?;
         Some(run.place.run)
+    }
+
+    /// Whether there is a run of a job, if only to be ended.
+    pub fn has(&self, instance: u32, job: u64) -> bool
+        ensures { result ≡ list_any (is_run_of (record { instance = instance; job = job }))
+            self.now.runs.items }
+    {
+        let key = RunKey { instance, job };
+        self.runs.iter().any(|run| is_run_of(key, run))
+    }
+
+    /// Whether a run can go on at once, without waiting for a program.
+    pub fn is_busy(&self) -> bool {
+        self.runs.iter().any(|run| can_go_on(&run.state))
     }
 
     pub fn folder(&self) -> &F

@@ -25,7 +25,7 @@ pub struct TaskNode {
     /// Its name in the directory that it stands in.
     pub name: String,
     /// The number of directories from the root on in which it stands: 1 in the root itself.
-    pub level: u32,
+    pub level: usize,
     pub kind: NodeKind,
 }
 

@@ -1,8 +1,8 @@
 -- The search for the connection that was silent longest.
-use Rattle.std.proofs.Common.{◌≡◌, ℕ, ◌+◌, ◌-◌, ◌<◌, ◌≤◌, List, refl, ap, ◌∙◌, sym, subst, arith, inl, inr}
+use Rattle.std.proofs.Common.{◌≡◌, ℕ, ◌+◌, ◌-◌, ◌<◌, ◌≤◌, List, refl, ◌∙◌, sym, subst, arith, inl, inr}
 use Rattle.std.specs.Prelude.{Bool, true, false, cond, nat_lt, Option, Some, None, IfSome, IsSomeAnd, slice_get}
 use Rattle.std.proofs.lemmas.Bool.{cases_eq}
-use Rattle.std.proofs.lemmas.Option.{same_Some, slice_get_within}
+use Rattle.std.proofs.lemmas.Option.{same_Some}
 use Rattle.served_instance.specs.Lone.{LoneInstance}
 use Rattle.serve.specs.declared.open_socket.OpenSocket.{OpenSocket}
 use Rattle.serve.specs.Silence.{silence_limit, MayMakeRoom, IsSilentLongerThan, IsLongestSilent}

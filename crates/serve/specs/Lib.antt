@@ -1,3 +1,5 @@
 pub mod SocketEvents
+pub mod RunEvents
+pub mod Happenings
 pub mod Served
 pub mod Silence

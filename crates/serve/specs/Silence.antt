@@ -1,6 +1,6 @@
 -- Which open connection makes room for another, where an instance has as many as it may have. To be
 -- read from `IsLongestSilent` up.
-use Rattle.std.specs.Prelude.{◌≡◌, ◌-◌, ◌<◌, ◌≤◌, ℕ, Bool, false, nat_lt, if◌then◌else◌, List, Option, Some, None, IsSomeAnd, slice_get}
+use Rattle.std.specs.Prelude.{◌≡◌, ◌-◌, ◌<◌, ◌≤◌, ℕ, false, nat_lt, if◌then◌else◌, List, Option, Some, None, IsSomeAnd, slice_get}
 use Rattle.std.specs.Option.{option_map}
 use Rattle.served_instance.specs.CallsInCourse.{has_calls}
 use Rattle.served_instance.specs.Connections.{open_at}

@@ -1,7 +1,7 @@
--- What happens at the sockets of a server, and which events of it each instance is given.
-use Rattle.std.specs.Prelude.{◌≡◌, ℕ, ◌==◌, if◌then◌else◌, List, [], ◌∷◌, ◌++◌, length, take, fold, Option, Result, Ok, Err, ⊤}
+-- What happens at the sockets of a server, and which event of its instance it is.
+use Rattle.std.specs.Prelude.{◌≡◌, ℕ, List, [], ◌∷◌, ◌++◌, length, take, fold, Option, Result, Ok, Err, ⊤}
 use Rattle.std.specs.Option.{option_map}
-use Rattle.server_events.specs.Events.{EventValue, WhatValue, opened, received, took, closed, tick}
+use Rattle.server_events.specs.Events.{WhatValue, opened, received, took, closed}
 use Rattle.serve.specs.declared.sockets.Socket.{Socket}
 
 -- at a port a connection was accepted under a number; these bytes were read from it; these were
@@ -39,13 +39,15 @@ shutdown_events at = port at.instance (shut at.connection) ∷ []
 abbrev pub Adds : Option (List SocketEvent) → Option (List SocketEvent) → List SocketEvent → Type 0
 Adds before after more = after ≡ option_map (λ h. h ++ more) before
 
--- ---- an instance's own events
+-- ---- what it is to the instance of the port
 
 abbrev pub what_of : PortEvent → WhatValue
 what_of (accepted c) = opened c
 what_of (read c bytes) = received c bytes
 what_of (written c bytes) = took c (length bytes)
 what_of (shut c) = closed c
+
+-- ---- the clock
 
 abbrev pub moment_after : ℕ → SocketEvent → ℕ
 moment_after m (clock n) = n
@@ -54,10 +56,3 @@ moment_after m (port j p) = m
 -- what the clock showed last
 abbrev pub moment_of : List SocketEvent → ℕ
 moment_of h = fold moment_after 0 h
-
--- the events of instance i: time goes on for each instance; what happens at a port is an event of
--- its instance alone
-abbrev pub events_for : ℕ → ℕ → SocketEvent → List EventValue
-events_for i m (clock n) = record { moment = n; instance = i; what = tick } ∷ []
-events_for i m (port j p) =
-    if j == i then record { moment = m; instance = j; what = what_of p } ∷ [] else []

@@ -1,14 +1,14 @@
 //! What is moved between one connection's socket and the server.
 
 ghost use Rattle.std.specs.Prelude.{◌≡◌, ◌≤◌, length, take, IfOk};
-ghost use Rattle.server_events.specs.Shown.{what_value};
-ghost use Rattle.serve.specs.Served.{TakesEvent, KeepsServing};
+ghost use Rattle.serve.specs.Served.{KeepsServing};
 
+use crate::carrying::tell;
 use crate::open_socket::OpenSocket;
+use crate::runs::Runs;
 use crate::sockets::{Socket, Sockets, is_not_ready};
-use served_instance::EventRefusal;
 use server_core::Server;
-use server_events::{Event, What};
+use server_events::What;
 use std::alloc::{AllocError, Global};
 use std::mem::replace;
 
@@ -22,28 +22,6 @@ pub(crate) enum Tried {
     NotReady,
     /// The client is gone, or the socket failed.
     Over,
-}
-
-/// Tells the server what happens to an instance. Where memory is refused for bytes that came, their
-/// connection is gone, and where it is refused as time goes on, all are. Nothing runs jobs yet:
-/// what is ordered of whoever does is dropped.
-pub(crate) fn tell(
-    server: &mut Server,
-    moment: u64,
-    instance: u32,
-    what: What,
-) -> Result<(), EventRefusal>
-    ensures takes { TakesEvent
-        (record { moment = moment; instance = instance; what = what_value what })
-        server.old.instances server.new.instances }
-{
-    let event = Event {
-        moment,
-        instance,
-        what,
-    };
-    server.step(event)?;
-    Ok(())
 }
 
 /// A piece that was read, with room behind it for as many bytes again: where it ends within a
@@ -86,17 +64,18 @@ fn has_room(alloc: Global, room: &mut Vec<u8>) -> bool {
 
 /// Tells the server the bytes that came, as many as there is room for. The room is made before
 /// anything is read: where memory is refused for it, the bytes wait at the socket.
-fn receive<S: Sockets>(
+fn receive<S: Sockets, R: Runs>(
     alloc: Global,
     server: &mut Server,
     sockets: &mut S,
+    runs: &mut R,
     moment: u64,
     open: &mut OpenSocket,
     room: &mut Vec<u8>,
 ) -> Tried
     ensures serving { KeepsServing
-        (S.happened sockets.old) server.old.instances moment
-        (S.happened sockets.new) server.new.instances moment }
+        (S.happened sockets.old) (R.happened runs.old) server.old.instances moment
+        (S.happened sockets.new) (R.happened runs.new) server.new.instances moment }
 {
     if !has_room(alloc, room) {
         return Tried::NotReady;
@@ -106,7 +85,7 @@ fn receive<S: Sockets>(
         Ok(count) => {
             let bytes = piece_of(alloc, room, count);
             let came = What::Bytes(socket.connection, bytes);
-            let _ = tell(server, moment, socket.instance, came);
+            let _ = tell(server, runs, moment, socket.instance, came);
             open.hear(moment, count);
             if count == 0 {
                 Tried::Over
@@ -121,10 +100,16 @@ fn receive<S: Sockets>(
 
 /// Sends the bytes that wait for the client, as far as the socket takes them, and tells the server
 /// so.
-fn send<S: Sockets>(server: &mut Server, sockets: &mut S, moment: u64, socket: Socket) -> Tried
+fn send<S: Sockets, R: Runs>(
+    server: &mut Server,
+    sockets: &mut S,
+    runs: &mut R,
+    moment: u64,
+    socket: Socket,
+) -> Tried
     ensures serving { KeepsServing
-        (S.happened sockets.old) server.old.instances moment
-        (S.happened sockets.new) server.new.instances moment }
+        (S.happened sockets.old) (R.happened runs.old) server.old.instances moment
+        (S.happened sockets.new) (R.happened runs.new) server.new.instances moment }
 {
     let bytes = match server.pending(socket.instance, socket.connection) {
         Some(bytes) if !bytes.is_empty() => bytes,
@@ -133,7 +118,7 @@ fn send<S: Sockets>(server: &mut Server, sockets: &mut S, moment: u64, socket: S
     match sockets.write(socket, bytes) {
         Ok(count) => {
             let took = What::Took(socket.connection, count as u32);
-            let _ = tell(server, moment, socket.instance, took);
+            let _ = tell(server, runs, moment, socket.instance, took);
             if count == 0 {
                 Tried::NotReady
             } else {
@@ -159,36 +144,43 @@ fn is_finished(server: &Server, socket: Socket) -> bool {
 }
 
 /// Closes a connection, and tells the server so.
-pub(crate) fn close<S: Sockets>(server: &mut Server, sockets: &mut S, moment: u64, socket: Socket)
+pub(crate) fn close<S: Sockets, R: Runs>(
+    server: &mut Server,
+    sockets: &mut S,
+    runs: &mut R,
+    moment: u64,
+    socket: Socket,
+)
     ensures serving { KeepsServing
-        (S.happened sockets.old) server.old.instances moment
-        (S.happened sockets.new) server.new.instances moment }
+        (S.happened sockets.old) (R.happened runs.old) server.old.instances moment
+        (S.happened sockets.new) (R.happened runs.new) server.new.instances moment }
 {
     sockets.close(socket);
     let gone = What::Closed(socket.connection);
-    let _ = tell(server, moment, socket.instance, gone);
+    let _ = tell(server, runs, moment, socket.instance, gone);
 }
 
 /// Receives and sends, and closes the connection where its client is gone, where the server let go
 /// of it, or where an error of it was met and the client was sent all that waited for it: then the
 /// connection is over.
-pub(crate) fn exchange<S: Sockets>(
+pub(crate) fn exchange<S: Sockets, R: Runs>(
     alloc: Global,
     server: &mut Server,
     sockets: &mut S,
+    runs: &mut R,
     moment: u64,
     open: &mut OpenSocket,
     room: &mut Vec<u8>,
 ) -> Tried
     ensures serving { KeepsServing
-        (S.happened sockets.old) server.old.instances moment
-        (S.happened sockets.new) server.new.instances moment }
+        (S.happened sockets.old) (R.happened runs.old) server.old.instances moment
+        (S.happened sockets.new) (R.happened runs.new) server.new.instances moment }
 {
-    let received = receive(alloc, server, sockets, moment, open, room);
+    let received = receive(alloc, server, sockets, runs, moment, open, room);
     let socket = open.socket;
-    let sent = send(server, sockets, moment, socket);
+    let sent = send(server, sockets, runs, moment, socket);
     if received == Tried::Over || sent == Tried::Over || is_finished(server, socket) {
-        close(server, sockets, moment, socket);
+        close(server, sockets, runs, moment, socket);
         return Tried::Over;
     }
     if received == Tried::Moved {

@@ -3,13 +3,17 @@
 ghost use Rattle.std.specs.Prelude.{◌≡◌, ℕ, [], length, Some, IfSome, IfOk, IfErr};
 ghost use Rattle.serve.specs.Served.{IsServing, KeepsServing, KeepsServingAtMost, WasServed};
 
-use crate::exchange::{READ_LIMIT, Tried, close, exchange, tell};
+use crate::asking::ask_all;
+use crate::carrying::tell;
+use crate::exchange::{READ_LIMIT, Tried, close, exchange};
 use crate::open_socket::{OpenSocket, longest_silent};
+use crate::runs::Runs;
 use crate::sockets::{Socket, Sockets};
 use served_instance::EventRefusal;
 use server_core::Server;
 use server_events::{Configs, What};
 use std::alloc::{AllocError, Global};
+use std::io::Write;
 
 /// Whether an open socket has this number, of whichever instance. The server may have let go of its
 /// connection.
@@ -56,7 +60,7 @@ impl Serving {
     /// A server of instances with these configurations, and no connections.
     fn new(alloc: Global, configs: &Configs) -> Result<Serving, AllocError>
         ensures serving { IfOk result (λ s. IsServing configs.now
-            (Some []) s.server.instances s.moment) }
+            (Some []) (Some []) s.server.instances s.moment) }
         ensures instances { IfOk result (λ s. s.instances ≡ length configs.now) }
     {
         Ok(Serving {
@@ -70,60 +74,76 @@ impl Serving {
         })
     }
 
-    /// Tells the time and tries each port, but only once a millisecond, and tries each connection
-    /// that is due. It says whether anything moved.
-    fn turn<S: Sockets>(&mut self, sockets: &mut S) -> bool
+    /// Tells the time and tries each port, but only once a millisecond, tries each connection that
+    /// is due, and goes on with runs. It says whether anything moved, or can go on at once.
+    fn turn<S: Sockets, R: Runs, E: Write>(
+        &mut self,
+        configs: &Configs,
+        sockets: &mut S,
+        runs: &mut R,
+        errors: &mut E,
+    ) -> bool
         ensures serving { KeepsServingAtMost self.old.instances
-            (S.happened sockets.old) self.old.server.instances self.old.moment
-            (S.happened sockets.new) self.new.server.instances self.new.moment }
+            (S.happened sockets.old) (R.happened runs.old)
+            self.old.server.instances self.old.moment
+            (S.happened sockets.new) (R.happened runs.new)
+            self.new.server.instances self.new.moment }
         ensures instances { self.new.instances ≡ self.old.instances }
     {
-        self.keep_time(sockets);
+        self.keep_time(sockets, runs);
         let mut moved = false;
         if self.tried != Some(self.moment) {
             self.tried = Some(self.moment);
-            moved = self.open_all(sockets);
+            moved = self.open_all(sockets, runs);
         }
-        let exchanged = self.exchange_all(sockets);
-        moved || exchanged
+        let exchanged = self.exchange_all(sockets, runs);
+        let server = &mut self.server;
+        let is_busy = ask_all(server, configs, sockets, runs, errors, self.moment);
+        moved || exchanged || is_busy
     }
 
     /// Reads the clock where it went on. While it shows the same nothing is to be told, of which
     /// many turns of a busy server are spared.
-    fn keep_time<S: Sockets>(&mut self, sockets: &mut S)
+    fn keep_time<S: Sockets, R: Runs>(&mut self, sockets: &mut S, runs: &mut R)
         ensures serving { KeepsServingAtMost self.old.instances
-            (S.happened sockets.old) self.old.server.instances self.old.moment
-            (S.happened sockets.new) self.new.server.instances self.new.moment }
+            (S.happened sockets.old) (R.happened runs.old)
+            self.old.server.instances self.old.moment
+            (S.happened sockets.new) (R.happened runs.new)
+            self.new.server.instances self.new.moment }
         ensures instances { self.new.instances ≡ self.old.instances }
     {
         if sockets.is_later(self.moment) {
-            self.tick(sockets);
+            self.tick(sockets, runs);
         }
     }
 
     /// Time goes on for each instance.
-    fn tick<S: Sockets>(&mut self, sockets: &mut S)
+    fn tick<S: Sockets, R: Runs>(&mut self, sockets: &mut S, runs: &mut R)
         ensures serving { KeepsServingAtMost self.old.instances
-            (S.happened sockets.old) self.old.server.instances self.old.moment
-            (S.happened sockets.new) self.new.server.instances self.new.moment }
+            (S.happened sockets.old) (R.happened runs.old)
+            self.old.server.instances self.old.moment
+            (S.happened sockets.new) (R.happened runs.new)
+            self.new.server.instances self.new.moment }
         ensures instances { self.new.instances ≡ self.old.instances }
     {
         self.moment = sockets.now();
         for instance in 0..self.instances {
-            let _ = tell(&mut self.server, self.moment, instance, What::Tick);
+            let _ = tell(&mut self.server, runs, self.moment, instance, What::Tick);
         }
     }
 
     /// Opens the next connection that waits, for each instance, and says whether there was any.
-    fn open_all<S: Sockets>(&mut self, sockets: &mut S) -> bool
+    fn open_all<S: Sockets, R: Runs>(&mut self, sockets: &mut S, runs: &mut R) -> bool
         ensures serving { KeepsServing
-            (S.happened sockets.old) self.old.server.instances self.old.moment
-            (S.happened sockets.new) self.new.server.instances self.new.moment }
+            (S.happened sockets.old) (R.happened runs.old)
+            self.old.server.instances self.old.moment
+            (S.happened sockets.new) (R.happened runs.new)
+            self.new.server.instances self.new.moment }
         ensures instances { self.new.instances ≡ self.old.instances }
     {
         let mut opened = false;
         for instance in 0..self.instances {
-            if self.open(sockets, instance) {
+            if self.open(sockets, runs, instance) {
                 opened = true;
             }
         }
@@ -133,10 +153,12 @@ impl Serving {
     /// Opens the next connection that waits at an instance's port, or closes it at once where the
     /// instance has as many as it may have or memory is refused. In the first case a silent one
     /// makes room for the next. It says whether there was any.
-    fn open<S: Sockets>(&mut self, sockets: &mut S, instance: u32) -> bool
+    fn open<S: Sockets, R: Runs>(&mut self, sockets: &mut S, runs: &mut R, instance: u32) -> bool
         ensures serving { KeepsServing
-            (S.happened sockets.old) self.old.server.instances self.old.moment
-            (S.happened sockets.new) self.new.server.instances self.new.moment }
+            (S.happened sockets.old) (R.happened runs.old)
+            self.old.server.instances self.old.moment
+            (S.happened sockets.new) (R.happened runs.new)
+            self.new.server.instances self.new.moment }
         ensures instances { self.new.instances ≡ self.old.instances }
     {
         let connection = self.next;
@@ -158,15 +180,15 @@ impl Serving {
         };
         self.next = number_after(&self.connections, connection);
         let what = What::Open(connection);
-        match tell(&mut self.server, self.moment, instance, what) {
+        match tell(&mut self.server, runs, self.moment, instance, what) {
             Ok(()) => {
                 let opened = OpenSocket::new(socket, self.moment);
                 let _room_was_reserved = self.connections.push(opened);
             }
             Err(refusal) => {
-                close(&mut self.server, sockets, self.moment, socket);
+                close(&mut self.server, sockets, runs, self.moment, socket);
                 if refusal == EventRefusal::TooManyConnections {
-                    self.make_room(sockets, instance);
+                    self.make_room(sockets, runs, instance);
                 }
             }
         }
@@ -175,10 +197,12 @@ impl Serving {
 
     /// Closes the connection of an instance that has been silent longest, if one may make room, for
     /// the next that waits.
-    fn make_room<S: Sockets>(&mut self, sockets: &mut S, instance: u32)
+    fn make_room<S: Sockets, R: Runs>(&mut self, sockets: &mut S, runs: &mut R, instance: u32)
         ensures serving { KeepsServing
-            (S.happened sockets.old) self.old.server.instances self.old.moment
-            (S.happened sockets.new) self.new.server.instances self.new.moment }
+            (S.happened sockets.old) (R.happened runs.old)
+            self.old.server.instances self.old.moment
+            (S.happened sockets.new) (R.happened runs.new)
+            self.new.server.instances self.new.moment }
         ensures instances { self.new.instances ≡ self.old.instances }
     {
         let found = longest_silent(&self.server, &self.connections, instance, self.moment);
@@ -186,15 +210,17 @@ impl Serving {
             return;
         };
         let silent = self.connections.remove(place);
-        close(&mut self.server, sockets, self.moment, silent.socket);
+        close(&mut self.server, sockets, runs, self.moment, silent.socket);
     }
 
     /// Receives and sends on each connection that is due, and lets go of those that are over. It
     /// says whether anything moved.
-    fn exchange_all<S: Sockets>(&mut self, sockets: &mut S) -> bool
+    fn exchange_all<S: Sockets, R: Runs>(&mut self, sockets: &mut S, runs: &mut R) -> bool
         ensures serving { KeepsServing
-            (S.happened sockets.old) self.old.server.instances self.old.moment
-            (S.happened sockets.new) self.new.server.instances self.new.moment }
+            (S.happened sockets.old) (R.happened runs.old)
+            self.old.server.instances self.old.moment
+            (S.happened sockets.new) (R.happened runs.new)
+            self.new.server.instances self.new.moment }
         ensures instances { self.new.instances ≡ self.old.instances }
     {
         let alloc = *self.connections.allocator();
@@ -207,7 +233,7 @@ impl Serving {
             }
             let mut open = self.connections[at];
             let (server, room) = (&mut self.server, &mut self.room);
-            match exchange(alloc, server, sockets, self.moment, &mut open, room) {
+            match exchange(alloc, server, sockets, runs, self.moment, &mut open, room) {
                 Tried::Over => {
                     self.connections.remove(at);
                     moved = true;
@@ -230,7 +256,7 @@ impl Serving {
 }
 
 /// Serves instances with these configurations for so many turns, over sockets at which nothing has
-/// happened yet.
+/// happened yet, and over runs of which there are none.
 ///
 /// Once a millisecond the time is told to each instance, and at each port one connection is
 /// accepted. In each turn at most 16,384 bytes of each connection are read, and what waits on it is
@@ -242,25 +268,34 @@ impl Serving {
 /// silent of those with no call in course from which no byte came for 60 seconds, or for 10 where
 /// the preface is not whole.
 ///
+/// What an instance orders is carried out at once. In each turn the runs go on, one after another,
+/// until the clock goes on. A fault of a run is the outcome of a job that failed, and is written to
+/// `errors`.
+///
 /// `served`: a connection is accepted under a number that no open one of its instance has, and what
 /// is written to one is each time what its instance alone, by its own events, has waiting on it
-/// then; of these events some may have been carried out in part, for want of memory. No fault of a
-/// socket and no such refusal ends the turns: an error is want of memory before the first.
-pub fn serve<S: Sockets>(
+/// then; and what is begun and ended at the runs is what that instance alone orders, each order once
+/// and in order. Its own events are those of its port, the time, and what the runs of its own jobs
+/// gave; of these some may have been carried out in part, for want of memory. No fault of a socket or
+/// a run and no such refusal ends the turns: an error is want of memory before the first.
+pub fn serve<S: Sockets, R: Runs, E: Write>(
     alloc: Global,
     configs: &Configs,
     sockets: &mut S,
+    runs: &mut R,
+    errors: &mut E,
     turns: u64,
 ) -> Result<(), AllocError>
     requires fresh { IfSome (S.happened sockets.old) (λ h. h ≡ []) }
-    ensures served { WasServed configs.now (S.happened sockets.new) }
+    requires unrun { IfSome (R.happened runs.old) (λ h. h ≡ []) }
+    ensures served { WasServed configs.now (S.happened sockets.new) (R.happened runs.new) }
     // Where memory is refused later than at the beginning, the turns go on.
     ensures unbegun { IfErr result (λ error. S.happened sockets.new ≡ S.happened sockets.old) }
 {
     let mut serving = Serving::new(alloc, configs)?;
     let mut idle_turns: u64 = 0;
     for _ in 0..turns {
-        if serving.turn(sockets) {
+        if serving.turn(configs, sockets, runs, errors) {
             idle_turns = 0;
         } else {
             sockets.rest(idle_turns);

@@ -8,6 +8,7 @@ pub mod Records
 pub mod RunTo
 pub mod RunSoFar
 pub mod StandsFor
+pub mod Lent
 pub mod Shared
 pub mod Stored
 pub mod Pooled

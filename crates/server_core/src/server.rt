@@ -10,12 +10,12 @@ ghost use Rattle.served_instance.specs.CallsInCourse.{has_calls};
 ghost use Rattle.served_instance.specs.Past.{Past};
 ghost use Rattle.served_instance.specs.Connections.{open_at};
 ghost use Rattle.served_instance.specs.Lone.{LoneInstance, new_lone};
-ghost use Rattle.executor.specs.InPool.{task_in};
 ghost use Rattle.executor.specs.Orders.{task_of};
 ghost use Rattle.served_instance.specs.StandsFor.{ServedState};
 ghost use Rattle.served_instance.specs.Refusals.{NeedsNoMemory, refusal_of, lone_step, lone_orders, IsRefusalOutcome};
 ghost use Rattle.served_instance.specs.StandsFor.{IsServedWithin, AreSettled};
 ghost use Rattle.served_instance.specs.Slots.{served_state_in};
+ghost use Rattle.server_core.specs.Lent.{lent_shown};
 ghost use Rattle.server_core.specs.LoneOutput.{config_at};
 ghost use Rattle.server_core.specs.Shared.{all_in, IsServer};
 ghost use Rattle.server_core.specs.StandsFor.{OrdersStand, StandsAt, instance_at};
@@ -32,6 +32,13 @@ use server_events::laws::the_fault_is_the_first;
 use server_events::{Configs, Event};
 use std::alloc::{AllocError, Global};
 use std::marker::Model;
+
+/// The task of a job that runs, and the pool in which its texts lie.
+#[derive(Clone, Copy)]
+pub struct LentTask<'a> {
+    pub task: &'a Task,
+    pub pool: &'a Pool,
+}
 
 /// A server with its instances, by their numbers, over one pool of texts: a text that several
 /// instances have stands there once.
@@ -168,14 +175,16 @@ impl Server {
         pool_of(&self.pool, &self.instances)
     }
 
-    /// The task of the job that runs under a number at an instance, where one does. Its texts lie in
-    /// the pool.
-    pub fn task(&self, instance: u32, job: u64) -> Option<&Task>
-        ensures { (p : Slots) × ((v : ServedState) → instance_at instance self.now.instances
-            ≡ Some v → option_map (λ task. task_in p task.now) result
-            ≡ task_of job v.state.jobs) }
+    /// The task of the job that runs under a number at an instance, where one does, with the pool in
+    /// which its texts lie.
+    pub fn lend(&self, instance: u32, job: u64) -> Option<LentTask<'_>>
+        ensures task { (v : ServedState) → instance_at instance self.now.instances ≡ Some v
+            → option_map lent_shown result ≡ task_of job v.state.jobs }
+        ensures none { instance_at instance self.now.instances ≡ None → result ≡ None }
     {
-        self.instance(instance)?.task(job)
+        let (served, pool) = self.instance_and_pool(instance)?;
+        let task = served.task(job)?;
+        Some(LentTask { task, pool })
     }
 
     /// The instance of this number, and the pool that has its texts.

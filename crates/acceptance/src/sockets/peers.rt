@@ -1,10 +1,11 @@
 //! Real sockets, whose clients are served in the turns of the server.
 
 use crate::sockets::alone::sent_on;
+use crate::sockets::no_runs::serve_alone;
 use host_sockets::HostSockets;
 use mio::net::TcpStream;
 use program_status::{Fault, Output};
-use serve::{Socket, Sockets, serve};
+use serve::{Socket, Sockets};
 use server_core::{Outputs, run};
 use server_events::{Configs, Event, What};
 use std::io::{self, Read, Write};
@@ -189,7 +190,7 @@ fn serve_over<'a>(
     }
     let peers = peers(rt, &sockets, texts, output);
     let mut both = WithPeers { sockets, peers };
-    output.expect(serve(output.alloc, configs, &mut both, TURNS));
+    serve_alone(configs, &mut both, TURNS, output);
     differing(configs, &both.peers, output)
 }
 

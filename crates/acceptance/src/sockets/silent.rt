@@ -2,8 +2,8 @@
 
 use crate::sockets::alone::{Outcome, judge};
 use crate::sockets::fake::{Client, Fake, Habits};
+use crate::sockets::no_runs::serve_alone;
 use program_status::{Fault, Output};
-use serve::serve;
 use server_events::{Configs, Event, What};
 
 /// How many connections an instance may have open.
@@ -74,7 +74,7 @@ pub fn serve_silent(configs: &Configs, texts: &[Vec<u8>], turns: u64, output: &m
         pace: Some(PACE),
     };
     let mut fake = Fake::new(output.alloc, clients(texts, turns, output), habits);
-    output.expect(serve(output.alloc, configs, &mut fake, turns));
+    serve_alone(configs, &mut fake, turns, output);
     if fake.is_out_of_memory {
         output.fail(Fault::OutOfMemory);
     }

@@ -3,5 +3,5 @@ use Rattle.serve.proofs.exchange.close.Goals as goal
 
 pub returns : goal.returns
 returns g c = record {
-  serving = λ configs at. shut_told configs _ _ _ _ _ _ _ c.close.ensures.adds c.tell.ensures.takes at;
+  serving = λ configs at. shut_told configs _ _ _ _ _ _ _ _ _ c.close.ensures.adds c.tell.ensures.takes at;
 }

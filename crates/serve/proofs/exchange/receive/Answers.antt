@@ -6,12 +6,12 @@ pub returns-then-count-eq0 : goal.returns-then-count-eq0
 returns-then-count-eq0 g c =
     let back = written_back c.has_room.new.room.len c.read.new.room c.has_room.new.room.items (c.read.auto.room ∙ ap length c.deref_mut.ensures.value) (sym c.deref_mut.ensures.len ∙ ap length c.deref_mut.ensures.value) in
     record {
-      serving = λ configs at. read_told configs _ _ _ _ _ _ _ _ _ c.in-Ok.ensures.adds (c.piece_of-bytes.ensures ∙ ap (take c.in-Ok.count) back) c.tell.ensures.takes at;
+      serving = λ configs at. read_told configs _ _ _ _ _ _ _ _ _ _ _ c.in-Ok.ensures.adds (c.piece_of-bytes.ensures ∙ ap (take c.in-Ok.count) back) c.tell.ensures.takes at;
     }
 
 pub returns-else-count-eq0 : goal.returns-else-count-eq0
 returns-else-count-eq0 g c =
     let back = written_back c.has_room.new.room.len c.read.new.room c.has_room.new.room.items (c.read.auto.room ∙ ap length c.deref_mut.ensures.value) (sym c.deref_mut.ensures.len ∙ ap length c.deref_mut.ensures.value) in
     record {
-      serving = λ configs at. read_told configs _ _ _ _ _ _ _ _ _ c.in-Ok.ensures.adds (c.piece_of-bytes.ensures ∙ ap (take c.in-Ok.count) back) c.tell.ensures.takes at;
+      serving = λ configs at. read_told configs _ _ _ _ _ _ _ _ _ _ _ c.in-Ok.ensures.adds (c.piece_of-bytes.ensures ∙ ap (take c.in-Ok.count) back) c.tell.ensures.takes at;
     }

@@ -1,10 +1,20 @@
-use Rattle.std.proofs.Common.{arith}
-use Rattle.serve.proofs.Ticks.{one_ticked, all_ticked}
+use Rattle.std.proofs.Common.{arith, refl}
+use Rattle.serve.proofs.Ticks.{none_ticked, one_ticked, all_ticked, still_unknown}
 use Rattle.serve.proofs.serving.Serving.tick.Goals as goal
+
+pub loop-instance-init : goal.loop-instance-init
+loop-instance-init g c = record {
+  ticking = λ configs at. none_ticked configs _ _ _ _ _ at;
+  unknown = λ is. is;
+  adds = c.now-self.ensures.adds;
+  rises = c.now-self.ensures.rises;
+  instances = refl;
+}
 
 pub loop-instance-preserved : goal.loop-instance-preserved
 loop-instance-preserved g c = record {
-  ticking = λ configs at. one_ticked configs _ _ _ _ _ c.loop-instance.invariant.rises c.tell.ensures.takes (c.loop-instance.invariant.ticking configs at);
+  ticking = λ configs at. one_ticked configs _ _ _ _ _ _ _ _ c.loop-instance.invariant.rises c.tell.ensures.takes (c.loop-instance.invariant.ticking configs at);
+  unknown = still_unknown _ _ _ _ _ _ c.tell.ensures.takes c.loop-instance.invariant.unknown;
   adds = c.loop-instance.invariant.adds;
   rises = c.loop-instance.invariant.rises;
   instances = c.loop-instance.invariant.instances;
@@ -12,4 +22,4 @@ loop-instance-preserved g c = record {
 
 pub returns-clause-serving : goal.returns-clause-serving
 returns-clause-serving g c = λ configs le at.
-    all_ticked configs _ _ _ c.loop-instance.instance _ c.loop-instance.invariant.adds (omega (arith, le, c.loop-instance-test.false)) (c.loop-instance.invariant.ticking configs at)
+    all_ticked configs _ _ _ _ _ c.loop-instance.instance _ c.loop-instance.invariant.adds c.loop-instance.invariant.unknown (omega (arith, le, c.loop-instance-test.false)) (c.loop-instance.invariant.ticking configs at)

@@ -2,12 +2,13 @@ use Rattle.std.proofs.Common.{◌≡◌, List, ◌∷◌, []}
 use Rattle.server_events.specs.Configs.{ConfigValue}
 use Rattle.serve.specs.SocketEvents.{clock, Adds}
 use Rattle.serve.specs.Served.{IsServing}
-use Rattle.serve.proofs.Ticks.{IsTicking, Rises}
+use Rattle.serve.proofs.Ticks.{IsTicking, Rises, StaysUnknown}
 use Rattle.serve.proofs.serving.Serving.tick.Given as goal
 
 abbrev pub invariant-loop-instance : goal.invariant-loop-instance
 invariant-loop-instance g l = record {
-  ticking : (configs : List ConfigValue) → IsServing configs (g.S.Sockets.happened l.fn.sockets) l.fn.self.server.instances l.fn.self.moment → IsTicking configs (g.S.Sockets.happened l.fn.sockets) l.self.moment l.instance l.self.server.instances;
+  ticking : (configs : List ConfigValue) → IsServing configs (g.S.Sockets.happened l.fn.sockets) (g.R.Runs.happened l.fn.runs) l.fn.self.server.instances l.fn.self.moment → IsTicking configs (g.S.Sockets.happened l.fn.sockets) (g.R.Runs.happened l.fn.runs) l.self.moment l.instance l.self.server.instances (g.R.Runs.happened l.runs);
+  unknown : StaysUnknown (g.R.Runs.happened l.fn.runs) (g.R.Runs.happened l.runs);
   adds : Adds (g.S.Sockets.happened l.fn.sockets) (g.S.Sockets.happened l.sockets) (clock l.self.moment ∷ []);
   rises : Rises (g.S.Sockets.happened l.fn.sockets) l.self.moment;
   instances : l.self.instances ≡ l.fn.self.instances;

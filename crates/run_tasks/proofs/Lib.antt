@@ -1,0 +1,2 @@
+mod Numbering
+mod Parts

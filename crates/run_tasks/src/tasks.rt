@@ -1,0 +1,35 @@
+//! Tasks of jobs as tasks of runs.
+
+ghost use Rattle.std.specs.Prelude.{IfOk};
+ghost use Rattle.blob_pool.specs.Slots.{Slots};
+ghost use Rattle.executor.specs.InPool.{task_in};
+ghost use Rattle.run_tasks.specs.Tasks.{IsTaskOf};
+
+use crate::commands::{command_for, output_paths, program_of};
+use crate::nodes::nodes_of;
+use executor::Task as JobTask;
+use runner::Task;
+use std::alloc::{AllocError, Global};
+
+/// What is run for a task of a job: the command that its text spells, with the variables and the
+/// outputs in the order of the command, in the tree of its plan. A file is made of the text whose
+/// number it has among the task's texts (`LentTexts`); where none of them has its digest, that number
+/// is of none, and the file is empty. Where the task's text spells no command that is taken, nothing
+/// is asked for.
+///
+/// Err: a request for memory was refused.
+pub fn run_task(alloc: Global, task: &JobTask) -> Result<Task, AllocError>
+    ensures { (p : Slots) → IfOk result (λ run. IsTaskOf (task_in p task.now) run) }
+{
+    let nodes = nodes_of(alloc, &task.texts, &task.plan.nodes)?;
+    let message = command_for(alloc, &task.command)?;
+    let command = program_of(alloc, &message)?;
+    let working_directory = String::from_str(alloc, message.working_directory)?;
+    let outputs = output_paths(alloc, &message)?;
+    Ok(Task {
+        nodes,
+        command,
+        working_directory,
+        outputs,
+    })
+}

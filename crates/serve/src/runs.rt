@@ -1,0 +1,44 @@
+//! Runs of jobs, none of which is waited for.
+
+ghost use Rattle.std.specs.Prelude.{List, Option, None, ◌∷◌, []};
+
+use outcomes::Outcome;
+use runner::{RunFault, RunKey};
+use server_core::LentTask;
+
+/// The runs of the jobs of a server's instances. No call waits for a program.
+pub trait Runs {
+    ghost use Rattle.executor.specs.Orders.{start, kill};
+    ghost use Rattle.server_core.specs.Lent.{lent_shown};
+    ghost use Rattle.serve.specs.RunEvents.{RunEvent, ordered, outcome_events, AddsRuns};
+
+    // All that happened at the runs, in order, where it is known.
+    ghost happened: { Self → Option (List RunEvent) } = { λ _. None };
+
+    /// Begins the run of a job. Where it cannot be begun, `ask` answers the fault.
+    fn start(&mut self, run: RunKey, task: LentTask<'_>)
+        ensures adds { AddsRuns (happened self.old) (happened self.new)
+            (ordered run.instance (start run.job (lent_shown task.entry)) ∷ []) };
+
+    /// Ends the run of a job, which gives no outcome then.
+    fn kill(&mut self, run: RunKey)
+        ensures adds { AddsRuns (happened self.old) (happened self.new)
+            (ordered run.instance (kill run.job) ∷ []) };
+
+    /// How many runs there are, those included that are only to be ended.
+    fn count(&self) -> usize;
+
+    /// The run whose turn it is to be asked: each in a circle, those included that are only to be
+    /// ended.
+    fn next(&mut self) -> Option<RunKey>
+        ensures adds { AddsRuns (happened self.old) (happened self.new) [] };
+
+    /// Goes on with a run by a bounded piece of work. What came of it, or `None` while it goes on.
+    /// Its task is lent as long as its job runs. With an outcome or a fault the run is over.
+    fn ask(&mut self, run: RunKey, task: Option<LentTask<'_>>) -> Result<Option<Outcome>, RunFault>
+        ensures adds { AddsRuns (happened self.old) (happened self.new)
+            (outcome_events run result) };
+
+    /// Whether a run can go on at once, without waiting for a program.
+    fn is_busy(&self) -> bool;
+}

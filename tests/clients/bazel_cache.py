@@ -11,29 +11,13 @@ with status 1 where one is not as said. Debian: bazel-bootstrap (4.2.3).
 """
 
 import argparse
-import hashlib
 import os
-import re
 import shutil
 import subprocess
 import tempfile
 
+from bazel import DIRECTORY_RULE, Bazel, Counts, contents, make_files
 from server import Server
-
-# A rule with a directory as its output: a file of its own, one in a folder below, and one that all such rules share.
-DIRECTORY_RULE = """
-def _impl(ctx):
-    out = ctx.actions.declare_directory(ctx.label.name)
-    ctx.actions.run_shell(
-        outputs = [out],
-        inputs = ctx.files.srcs,
-        command = "mkdir -p $1/below/deep && cat $2 > $1/below/deep/copy && echo $3 > $1/name && echo same > $1/below/same",
-        arguments = [out.path, ctx.files.srcs[0].path, ctx.label.name],
-    )
-    return [DefaultInfo(files = depset([out]))]
-
-directory = rule(implementation = _impl, attrs = {"srcs": attr.label_list(allow_files = True)})
-"""
 
 
 def build_file(actions):
@@ -54,55 +38,26 @@ def build_file(actions):
 
 
 def make_workspace(folder, actions):
-    os.makedirs(folder)
-    for name, text in [
-        ("WORKSPACE", ""),
-        ("BUILD", build_file(actions)),
-        ("directory.bzl", DIRECTORY_RULE),
-        ("source.txt", "the source\n"),
-    ]:
-        with open(os.path.join(folder, name), "w") as file:
-            file.write(text)
-
-
-class Counts:
-    """How many actions ran, and how many of them came from the cache, as Bazel says."""
-
-    def __init__(self, told):
-        line = re.search(r"INFO: (\d+) process(?:es)?: (.*)\.", told)
-        if line is None:
-            raise SystemExit(f"Bazel tells no counts:\n{told}")
-        kinds = {kind: int(count) for count, kind in re.findall(r"(\d+) ([a-z][a-z -]*)", line[2])}
-        self.internal = kinds.pop("internal", 0)
-        self.hits = kinds.pop("remote cache hit", 0)
-        self.run = sum(kinds.values())
-        self.warnings = re.findall(r"WARNING: .*", told)
+    make_files(
+        folder,
+        {
+            "WORKSPACE": "",
+            "BUILD": build_file(actions),
+            "directory.bzl": DIRECTORY_RULE,
+            "source.txt": "the source\n",
+        },
+    )
 
 
 def build(folder, copy, port, instance, jobs):
     """Builds a copy of the workspace with an output base of its own; Bazel's counts, and the folder of outputs."""
-    workspace = os.path.join(folder, f"workspace-{copy}")
-    start = ["bazel", f"--output_user_root={folder}/root", f"--output_base={folder}/base-{copy}"]
-    start += ["--nohome_rc", "--noworkspace_rc", "--max_idle_secs=60", "--local_startup_timeout_secs=600"]
     flags = [f"--remote_cache=grpc://127.0.0.1:{port}", f"--remote_instance_name={instance}", f"--jobs={jobs}"]
-    flags += ["--color=no", "--curses=no", "--spawn_strategy=local", "--remote_timeout=60"]
-    done = subprocess.run([*start, "build", *flags, "//:all"], cwd=workspace, capture_output=True, text=True)
-    if done.returncode != 0:
-        raise SystemExit(f"Bazel failed:\n{done.stdout}{done.stderr}")
-    subprocess.run([*start, "shutdown"], cwd=workspace, capture_output=True)
-    return Counts(done.stderr), os.path.realpath(os.path.join(workspace, "bazel-bin"))
-
-
-def contents(folder):
-    """The hash of each file below a folder."""
-    found = {}
-    for path, _, names in os.walk(folder):
-        for name in names:
-            if name.endswith(".params"):
-                continue
-            with open(os.path.join(path, name), "rb") as file:
-                found[os.path.relpath(os.path.join(path, name), folder)] = hashlib.sha256(file.read()).hexdigest()
-    return found
+    flags += ["--spawn_strategy=local", "--remote_timeout=60"]
+    with Bazel(folder, os.path.join(folder, f"workspace-{copy}"), f"base-{copy}") as bazel:
+        status, told = bazel.run("build", *flags, "//:all")
+        if status != 0:
+            raise SystemExit(f"Bazel failed:\n{told}")
+        return Counts(told), bazel.outputs()
 
 
 def expect(condition, what, counts):

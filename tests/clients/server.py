@@ -17,20 +17,30 @@ def free_ports(count):
 
 
 class Server:
-    """A server with these instances: a name and a quota each. More may stand in its environment."""
+    """A server with these instances: a name, a quota and maybe slots each. More may stand in its environment.
 
-    def __init__(self, program, instances, turns=None, environment=None):
-        self.ports = free_ports(len(instances))
-        self.work = tempfile.TemporaryDirectory()
-        words = [f"{name}:{port}:{quota}:0" for (name, quota), port in zip(instances, self.ports)]
-        more = [] if turns is None else ["--turns", str(turns)]
+    It works in a folder of its own, or in `folder`, which is then left. What it says on standard error is kept where
+    it is `heard`. Further words are those of `Popen`.
+    """
+
+    def __init__(self, program, instances, turns=None, environment=None, folder=None, heard=False, **more):
+        self.program, self.ports = program, free_ports(len(instances))
+        self.work = None if folder else tempfile.TemporaryDirectory()
+        self.folder = folder or self.work.name
+        self.errors = tempfile.TemporaryFile() if heard else None
+        of = lambda name, quota, slots=0: (name, quota, slots)
+        instances = [of(*each) for each in instances]
+        words = [f"{name}:{port}:{quota}:{slots}" for (name, quota, slots), port in zip(instances, self.ports)]
+        turns = [] if turns is None else ["--turns", str(turns)]
         self.process = subprocess.Popen(
-            [program, "serve", "--work", self.work.name, *more, *words],
+            [program, "serve", "--work", self.folder, *turns, *words],
             stdout=subprocess.PIPE,
+            stderr=self.errors,
             text=True,
             env={**os.environ, **(environment or {})},
+            **more,
         )
-        for (name, _), port in zip(instances, self.ports):
+        for (name, _, _), port in zip(instances, self.ports):
             line = self.process.stdout.readline()
             if line != f"listening {name} {port}\n":
                 raise SystemExit(f"no line for {name}: {line!r}")
@@ -42,10 +52,23 @@ class Server:
         self.process.terminate()
         self.process.wait()
         self.process.stdout.close()
-        self.work.cleanup()
+        if self.work:
+            self.work.cleanup()
 
     def is_running(self):
         return self.process.poll() is None
+
+    def said(self):
+        """The lines on standard error so far."""
+        size = os.fstat(self.errors.fileno()).st_size
+        return os.pread(self.errors.fileno(), size, 0).decode().splitlines()
+
+    def entries(self):
+        """What stands in the folder of `--work`."""
+        return sorted(os.listdir(self.folder))
+
+    def descriptors(self):
+        return len(os.listdir(self._proc("fd")))
 
     def _proc(self, name):
         return f"/proc/{self.process.pid}/{name}"
@@ -55,9 +78,16 @@ class Server:
         return sum(os.readlink(name).startswith("socket:") for name in names)
 
     def cpu_seconds(self):
+        return self._ticks(11, 12)
+
+    def children_seconds(self):
+        """Processor time of the programs that have ended."""
+        return self._ticks(13, 14)
+
+    def _ticks(self, *places):
         with open(self._proc("stat")) as stat:
             words = stat.read().rpartition(")")[2].split()
-        return (int(words[11]) + int(words[12])) / os.sysconf("SC_CLK_TCK")
+        return sum(int(words[place]) for place in places) / os.sysconf("SC_CLK_TCK")
 
     def peak_megabytes(self):
         return self._status_megabytes("VmHWM")

@@ -1,0 +1,83 @@
+"""Starts Debian's Bazel (bazel-bootstrap, 4.2.3) for the scripts, and reads what it says."""
+
+import hashlib
+import os
+import re
+import subprocess
+
+# A rule with a directory as its output: a file of its own, one in a folder below, and one that all such rules share.
+DIRECTORY_RULE = """
+def _impl(ctx):
+    out = ctx.actions.declare_directory(ctx.label.name)
+    ctx.actions.run_shell(
+        outputs = [out],
+        inputs = ctx.files.srcs,
+        command = "mkdir -p $1/below/deep && cat $2 > $1/below/deep/copy && echo $3 > $1/name && echo same > $1/below/same",
+        arguments = [out.path, ctx.files.srcs[0].path, ctx.label.name],
+    )
+    return [DefaultInfo(files = depset([out]))]
+
+directory = rule(implementation = _impl, attrs = {"srcs": attr.label_list(allow_files = True)})
+"""
+
+
+def make_files(folder, files):
+    """Makes files of these texts; one whose name ends in `.sh` may be run."""
+    for name, text in files.items():
+        path = os.path.join(folder, name)
+        os.makedirs(os.path.dirname(path), exist_ok=True)
+        with open(path, "w") as file:
+            file.write(text)
+        if name.endswith(".sh"):
+            os.chmod(path, 0o755)
+
+
+class Counts:
+    """How many actions ran, and how many of them came from the cache, as Bazel says."""
+
+    def __init__(self, told):
+        line = re.search(r"INFO: (\d+) process(?:es)?: (.*)\.", told)
+        if line is None:
+            raise SystemExit(f"Bazel tells no counts:\n{told}")
+        self.kinds = {kind: int(count) for count, kind in re.findall(r"(\d+) ([a-z][a-z -]*)", line[2])}
+        self.internal = self.kinds.pop("internal", 0)
+        self.hits = self.kinds.get("remote cache hit", 0)
+        self.run = sum(self.kinds.values()) - self.hits
+        self.warnings = re.findall(r"WARNING: .*", told)
+
+
+class Bazel:
+    """Bazel with an output base of its own in a workspace. Its server ends with `with`."""
+
+    def __init__(self, folder, workspace, base):
+        self.workspace = workspace
+        self.words = ["bazel", f"--output_user_root={folder}/root", f"--output_base={folder}/{base}"]
+        self.words += ["--nohome_rc", "--noworkspace_rc", "--max_idle_secs=60", "--local_startup_timeout_secs=600"]
+
+    def __enter__(self):
+        return self
+
+    def __exit__(self, *_):
+        subprocess.run([*self.words, "shutdown"], cwd=self.workspace, capture_output=True)
+
+    def run(self, word, *flags, seconds=None):
+        """The status and all that Bazel says."""
+        words = [*self.words, word, "--color=no", "--curses=no", *flags]
+        done = subprocess.run(words, cwd=self.workspace, capture_output=True, text=True, timeout=seconds)
+        return done.returncode, done.stdout + done.stderr
+
+    def outputs(self):
+        return os.path.realpath(os.path.join(self.workspace, "bazel-bin"))
+
+
+def contents(folder):
+    """The hash of each file below a folder."""
+    found = {}
+    for path, _, names in os.walk(folder):
+        for name in names:
+            # what has paths of this machine in it
+            if name.endswith((".params", "MANIFEST", "_manifest")):
+                continue
+            with open(os.path.join(path, name), "rb") as file:
+                found[os.path.relpath(os.path.join(path, name), folder)] = hashlib.sha256(file.read()).hexdigest()
+    return found

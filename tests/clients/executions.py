@@ -1,0 +1,201 @@
+#!/usr/bin/env python3
+"""executions.py PROGRAM [--large] [--only NAME ..] [--skip NAME ..]: has a server run actions, and looks at each answer.
+
+PROGRAM is the built `remoted`. A server with some instances runs small shell scripts, whose input trees, outputs,
+streams, codes, timeouts and leftovers are looked at one after another, a line for each thing: `ok`, or `FAULT` with
+what was found. In the end no process, no folder and no descriptor may be left. --large has outputs of 1,073,741,824
+bytes gathered, which takes as much memory. Run as root it starts a second server as a plain user. It ends with status
+1 where there was a fault.
+"""
+
+import argparse
+import os
+import shutil
+import sys
+import tempfile
+import threading
+import time
+
+import execution_ends as ends
+import execution_inputs as inputs
+import programs
+from executing import Peer
+from execution_context import Context, expect, shell
+from server import Server
+
+INSTANCES = [("main", 2**34, 4), ("other", 10**8, 2), ("small", 20_000, 1), ("off", 1000, 0)]
+NOBODY = 65534
+
+OF_INPUTS = [inputs.probed, inputs.printed, inputs.codes, inputs.signals, inputs.not_there, inputs.found, inputs.environment]
+OF_INPUTS += [
+    inputs.working_directory,
+    inputs.streams_in,
+    inputs.trees,
+    inputs.deep,
+    inputs.many_files,
+    inputs.odd_trees,
+]
+OF_ENDS = [ends.outputs, ends.output_trees, ends.large_streams, ends.too_large, ends.over_quota, ends.timeouts]
+OF_ENDS += [ends.leftovers_of_programs, ends.own_groups, ends.cached, ends.not_cached, ends.watched, ends.cut]
+OF_ENDS += [ends.side_by_side, ends.hundred]
+PLAIN_USER = [
+    inputs.printed,
+    inputs.not_there,
+    inputs.trees,
+    ends.outputs,
+    ends.timeouts,
+    ends.leftovers_of_programs,
+    ends.rights,
+]
+
+
+def make_leftovers(folder):
+    """What a run before may have left in the folder, and things of others, which stay."""
+    aside = os.path.join(folder, "aside")
+    for path in ["0-1/deep/er", "3-17", "aside", "0-x", "0-1-2"]:
+        os.makedirs(os.path.join(folder, path))
+    for path in ["0-1/deep/er/file", "1-9.out", "1-9.err", "aside/kept", "0-5.txt"]:
+        with open(os.path.join(folder, path), "w") as file:
+            file.write("left")
+    os.symlink(aside, os.path.join(folder, "0-2"))
+    os.symlink(aside, os.path.join(folder, "3-17", "link"))
+
+
+def leftovers(context):
+    kept = ["0-1-2", "0-5.txt", "0-x", "aside"]
+    left = programs.settled(lambda: [name for name in context.server.entries() if name not in kept])
+    expect(left, [], "left of the run before")
+    expect(context.server.entries(), kept, "what is no run's")
+    expect(os.listdir(os.path.join(context.server.folder, "aside")), ["kept"], "what a link led to")
+    return "what a run before left is removed at the start, through no link, and nothing else"
+
+
+def nothing_left(context):
+    server = context.server
+    with Peer(server.ports[0]) as peer:
+        context.ran(peer, shell("printf last"))
+    left = programs.settled(lambda: programs.running(server.folder, server.process.pid))
+    expect(left, {}, "running programs")
+    expect(
+        programs.settled(lambda: programs.zombies(server.process.pid)), [], "ended programs that were not waited for"
+    )
+    stray = lambda: [name for name in server.entries() if name not in context.kept]
+    expect(programs.settled(stray), [], "folders")
+    time.sleep(3)
+    more = server.descriptors() - context.descriptors
+    expect(more <= 4, True, f"descriptors: {more} more than at the start")
+    wanted, said = sorted(context.lines), sorted(server.said())
+    expect(said, wanted, "the lines on standard error")
+    return f"no process, no folder and no descriptor is left; {len(said)} lines on standard error, each as it has to be"
+
+
+def is_wanted(name, options):
+    return name not in options.skip and (not options.only or name in options.only)
+
+
+def run_all(context, all_checks, options):
+    faults = 0
+    for check in all_checks:
+        if not is_wanted(check.__name__, options):
+            continue
+        begun = time.monotonic()
+        try:
+            print(f"ok {check.__name__}: {check(context)} ({time.monotonic() - begun:.1f} s)", flush=True)
+        except (Exception, SystemExit) as fault:
+            faults += 1
+            print(f"FAULT {check.__name__}: {fault!r}", flush=True)
+            if not context.server.is_running():
+                print(f"FAULT the server ended, with status {context.server.process.returncode}", flush=True)
+                break
+            for number in programs.running(context.server.folder, context.server.process.pid):
+                os.kill(number, 9)
+    return faults
+
+
+def as_root(program, options):
+    """All checks on one server, whose umask lets nobody else read."""
+    folder = tempfile.mkdtemp(prefix="executions-")
+    if is_wanted("leftovers", options):
+        make_leftovers(folder)
+    every = [leftovers, *OF_INPUTS, *OF_ENDS, *([ends.largest] if options.large else []), nothing_left]
+    try:
+        with Server(program, INSTANCES, 2**62, {"SECRET": "of the server"}, folder, True, umask=0o077) as server:
+            return run_all(Context(server, ["0-1-2", "0-5.txt", "0-x", "aside"]), every, options)
+    finally:
+        shutil.rmtree(folder, ignore_errors=True)
+
+
+def as_nobody(program, options):
+    """Some checks on a server that is a plain user's, who may not look into a folder without rights."""
+    folder = tempfile.mkdtemp(prefix="executions-")
+    os.chown(folder, NOBODY, NOBODY)
+    try:
+        plain = {"user": NOBODY, "group": NOBODY, "extra_groups": []}
+        with Server(program, INSTANCES, 2**62, None, folder, True, **plain) as server:
+            return run_all(Context(server, []), [*PLAIN_USER, nothing_left], options)
+    finally:
+        shutil.rmtree(folder, ignore_errors=True)
+
+
+def turns_end(program, _options):
+    """A server that ends after its turns leaves no program and no folder."""
+    for turns in [3_000, 20_000, 200_000]:
+        folder = tempfile.mkdtemp(prefix="executions-")
+        with Server(program, INSTANCES[:1], turns, None, folder, True) as server:
+            context = Context(server, [])
+            begun = threading.Event()
+            threading.Thread(target=begin_and_wait, args=(server.ports[0], context, begun), daemon=True).start()
+            was_begun = begun.wait(20)
+            try:
+                status = server.process.wait(120)
+            except OSError:
+                status = None
+            left = programs.settled(lambda: programs.running(folder, server.process.pid), 2)
+            entries = server.entries()
+        for number in left:
+            os.kill(number, 9)
+        shutil.rmtree(folder, ignore_errors=True)
+        if was_begun:
+            break
+    else:
+        print("FAULT turns_end: no program was begun before the turns were over")
+        return 1
+    if status != 0 or left or entries:
+        print(f"FAULT turns_end: status {status}, running {left}, left {entries}")
+        return 1
+    print(f"ok turns_end: after {turns:,} turns the server ends with status 0, and programs and folders with it")
+    return 0
+
+
+def begin_and_wait(port, context, begun):
+    """Has programs run that would go on for long, and says when they run."""
+    try:
+        with Peer(port) as peer:
+            number = peer.start(context.action("sleep 1000 & (trap '' TERM INT; sleep 1000) & echo > file; sleep 1000"))
+            peer.next(number)
+            peer.next(number)
+            time.sleep(0.3)
+            begun.set()
+            peer.end(number)
+    except OSError:
+        pass
+
+
+def main():
+    parser = argparse.ArgumentParser(description=__doc__, formatter_class=argparse.RawDescriptionHelpFormatter)
+    parser.add_argument("program")
+    parser.add_argument("--large", action="store_true")
+    parser.add_argument("--only", nargs="*", default=[])
+    parser.add_argument("--skip", nargs="*", default=[])
+    options = parser.parse_args()
+    parts = [as_root]
+    if os.geteuid() == 0:
+        parts.append(as_nobody)
+    if is_wanted("turns_end", options):
+        parts.append(turns_end)
+    faults = sum(part(options.program, options) for part in parts)
+    print(f"{faults} faults" if faults else "no fault")
+    sys.exit(faults > 0)
+
+
+main()

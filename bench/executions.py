@@ -1,10 +1,11 @@
 #!/usr/bin/env python3
-"""executions.py PROGRAM [PART ..] [--count N] [--seconds N]: what running actions costs a server, and others.
+"""executions.py PROGRAM [PART ..] [--count N] [--seconds N] [--in DIR]: what running actions costs a server, and others.
 
 PROGRAM is the built `remoted`. The parts, all of them if none is given:
   rates   one client has /bin/true run N times (2,000), with 4 and with 64 slots: actions a second, the server's
           processor time an action, and that of its children; beside that the plain cost of making a folder, starting
-          /bin/true in it and removing it (`plain_runs.c`, which needs `cc`), with `setsid` before it and without
+          /bin/true in it and removing it (`plain_runs.c`, which needs `cc`), with `setsid` before it and without;
+          all in a folder below --in (/dev/shm), since file systems on disks differ much in what a new file costs
   beside  FindMissingBlobs of one instance, a call each 2 milliseconds, alone and then beside another instance whose
           actions have outputs of 100 MB, and input trees of 10,000 files: median, 99th percentile and longest, in
           milliseconds, N seconds (10) each
@@ -57,7 +58,9 @@ def executed(peer, action, count, at_once):
 def rates(options):
     action = Action([TRUE], variables=(), do_not_cache=True)
     for slots in [4, 64]:
-        with Server(options.program, [("main", 10**9, slots)], 2**62) as server, Peer(server.ports[0]) as peer:
+        with tempfile.TemporaryDirectory(dir=options.below) as folder, Server(
+            options.program, [("main", 10**9, slots)], 2**62, None, folder
+        ) as server, Peer(server.ports[0]) as peer:
             peer.store(action.blobs)
             executed(peer, action, 200, 100)
             own, children = server.cpu_seconds(), server.children_seconds()
@@ -73,7 +76,7 @@ def rates(options):
 
 
 def plain(options):
-    with tempfile.TemporaryDirectory() as folder:
+    with tempfile.TemporaryDirectory(dir=options.below) as folder:
         program = os.path.join(folder, "plain_runs")
         subprocess.run(["cc", "-O2", "-o", program, os.path.join(HERE, "plain_runs.c")], check=True)
         for words in [[TRUE], ["/usr/bin/setsid", "--", TRUE]]:
@@ -219,6 +222,7 @@ def main():
     parser.add_argument("parts", nargs="*", choices=["rates", "beside", "replay", []], default=[])
     parser.add_argument("--count", type=int, default=2_000)
     parser.add_argument("--seconds", type=int, default=10)
+    parser.add_argument("--in", dest="below", default="/dev/shm")
     options = parser.parse_args()
     parts = {"rates": rates, "beside": beside, "replay": replay}
     for name in options.parts or parts:

@@ -165,19 +165,17 @@ class Calm:
 
     def action(self, peer, number):
         tree = {"f": b"%d" % number}
-        script = f"cat f; printf {number} > o; exit {number % 3}"
+        # on a full disk it ends with 1 or 2
+        code = number % 3 * 40
+        script = f"set -e; cat f; printf {number} > o; exit {code}"
         action = Action(["/bin/sh", "-c", script], tree, LONGEST, paths=["o"], variables=[PATH, ("MARK", self.folder)])
         done = peer.execute(action)
-        if (
-            done.status.code == 13
-            or done.status.code == 4
-            or (done.result and done.result.code == 2 and number % 3 != 2)
-        ):
+        if done.status.code in (4, 13) or (done.result and done.result.code in (1, 2)):
             self.counts["calm actions that failed on the full disk"] += 1
             return
         digest = m.digest(b"%d" % number)
         found = done.result and (done.result.code, done.result.stdout, done.result.files)
-        if found != (number % 3, digest, {"o": (digest, False)}):
+        if found != (code, digest, {"o": (digest, False)}):
             self.problems.append(f"action {number}: {done.status.code} {done.status.text} {found}")
         self.counts["calm actions"] += 1
 

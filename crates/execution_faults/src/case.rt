@@ -1,0 +1,158 @@
+//! A run of the case: instances whose clients have actions executed, over fakes.
+
+use crate::counting::{CallFault, Calls, Deed, Failing};
+use crate::fake_folder::FakeFolder;
+use crate::fake_programs::FakePrograms;
+use crate::fake_sockets::{Client, FakeSockets};
+use job_runs::JobRunner;
+use program_status::Output;
+use runner::RunKey;
+use serve::serve;
+use server_events::Configs;
+use std::alloc::{AllocError, Global};
+
+/// How many turns a run of the case takes.
+pub const TURNS: u64 = 70;
+
+/// The names of the instances.
+pub static NAMES: [&str; 3] = ["red", "blue", "green"];
+
+/// In the order of the lines that the clients send: their instances, and how many bytes each sends
+/// or takes at once. The second has nothing executed.
+static CLIENTS: [(u32, usize); 4] = [(0, 16_384), (0, 16_384), (1, 500), (2, 16_384)];
+
+/// The place of the client that has nothing executed.
+pub const BYSTANDER: usize = 1;
+
+/// The fakes.
+#[derive(Clone, Copy)]
+pub enum Fake {
+    Folder,
+    Programs,
+    Sockets,
+}
+
+/// What came of a run of the case.
+#[derive(Drop)]
+pub struct Told<'a> {
+    pub sockets: FakeSockets<'a>,
+    pub errors: Vec<u8>,
+    /// How many programs are left.
+    pub programs: usize,
+    /// How many nodes are left in folders.
+    pub nodes: usize,
+    /// How many of these are not of the run whose folder could not be removed.
+    pub other_nodes: usize,
+    /// How many calls of the fake there were that may go wrong, and how many failed.
+    pub calls: u64,
+    pub faults: u64,
+    /// What the call was for that went wrong.
+    pub wrong: Option<Deed>,
+}
+
+fn clients<'a>(alloc: Global, texts: &'a [Vec<u8>]) -> Result<Vec<Client<'a>>, AllocError> {
+    let mut clients = Vec::new(alloc);
+    for ((instance, most), text) in CLIENTS.iter().zip(texts) {
+        clients.push(Client::new(alloc, *instance, *most, text))?;
+    }
+    Ok(clients)
+}
+
+/// The run whose folder could not be removed.
+fn unremoved(wrong: Option<Deed>) -> Option<RunKey> {
+    match wrong {
+        Some(Deed::Remove(run)) => Some(run),
+        _ => None,
+    }
+}
+
+fn tell<'a>(
+    fake: Fake,
+    sockets: FakeSockets<'a>,
+    runs: &JobRunner<FakeFolder, FakePrograms>,
+    errors: Vec<u8>,
+) -> Told<'a> {
+    let (folder, programs) = (runs.runner().folder(), runs.runner().programs());
+    let Calls {
+        count,
+        faults,
+        wrong,
+        ..
+    } = match fake {
+        Fake::Folder => &folder.calls,
+        Fake::Programs => &programs.calls,
+        Fake::Sockets => &sockets.calls,
+    };
+    let (calls, faults, wrong) = (*count, *faults, *wrong);
+    let (nodes, other_nodes) = folder.left(unremoved(wrong));
+    Told {
+        sockets,
+        errors,
+        programs: programs.left(),
+        nodes,
+        other_nodes,
+        calls,
+        faults,
+        wrong,
+    }
+}
+
+/// A run of the case, in which one call of a fake goes wrong.
+pub fn carry_out<'a>(
+    alloc: Global,
+    configs: &Configs,
+    texts: &'a [Vec<u8>],
+    fake: Fake,
+    failing: Failing,
+) -> Result<Told<'a>, AllocError> {
+    let never = Failing { at: 0, ..failing };
+    let (of_folder, of_programs, of_sockets) = match fake {
+        Fake::Folder => (failing, never, never),
+        Fake::Programs => (never, failing, never),
+        Fake::Sockets => (never, never, failing),
+    };
+    let folder = FakeFolder::new(alloc, of_folder);
+    let programs = FakePrograms::new(alloc, of_programs);
+    let mut sockets = FakeSockets::new(clients(alloc, texts)?, of_sockets);
+    let mut runs = JobRunner::new(alloc, folder, programs, NAMES.len())?;
+    let mut errors = Vec::new(alloc);
+    serve(alloc, configs, &mut sockets, &mut runs, &mut errors, TURNS)?;
+    Ok(tell(fake, sockets, &runs, errors))
+}
+
+/// Tells what is left of programs and folders.
+fn tell_left(runs: &JobRunner<FakeFolder, FakePrograms>, output: &mut Output) {
+    let programs = runs.runner().programs().left();
+    let (nodes, _) = runs.runner().folder().left(None);
+    output.print_text(format!(in output.alloc; "{programs} programs, {nodes} nodes\n"));
+}
+
+/// Tells what is left where only so many turns are taken, and then where all that is left was ended.
+pub fn cut_short(
+    configs: &Configs,
+    texts: &[Vec<u8>],
+    turns: u64,
+    output: &mut Output,
+) -> Result<(), AllocError> {
+    let alloc = output.alloc;
+    let never = Failing {
+        at: 0,
+        fault: CallFault::IsTooLong,
+    };
+    let folder = FakeFolder::new(alloc, never);
+    let programs = FakePrograms::new(alloc, never);
+    let mut sockets = FakeSockets::new(clients(alloc, texts)?, never);
+    let mut runs = JobRunner::new(alloc, folder, programs, NAMES.len())?;
+    let mut errors = Vec::new(alloc);
+    serve(alloc, configs, &mut sockets, &mut runs, &mut errors, turns)?;
+    output.print_text(format!(in alloc; "after {turns} turns: "));
+    tell_left(&runs, output);
+    for _ in 0..TURNS {
+        if runs.end_all() == 0 {
+            break;
+        }
+    }
+    output.print(b"all ended: ");
+    tell_left(&runs, output);
+    Ok(())
+}

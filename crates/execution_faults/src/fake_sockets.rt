@@ -1,0 +1,134 @@
+//! Sockets with clients of their own behind them, and a clock that goes on by a millisecond a turn.
+
+ghost use Rattle.std.specs.Prelude.{◌≤◌, IfOk, length};
+
+use crate::counting::{Calls, Deed, Failing};
+use serve::{Socket, Sockets};
+use std::alloc::Global;
+use std::io::{self, ErrorKind};
+
+/// A client.
+#[derive(Drop)]
+pub struct Client<'a> {
+    pub instance: u32,
+    /// What it has still to send.
+    unsent: &'a [u8],
+    /// How many bytes it sends or takes at once.
+    most: usize,
+    /// Under which number it was let in.
+    number: Option<u32>,
+    pub received: Vec<u8>,
+    pub is_closed: bool,
+}
+
+impl<'a> Client<'a> {
+    pub fn new(alloc: Global, instance: u32, most: usize, unsent: &'a [u8]) -> Client<'a> {
+        Client {
+            instance,
+            unsent,
+            most,
+            number: None,
+            received: Vec::new(alloc),
+            is_closed: false,
+        }
+    }
+
+    /// Whether it is the client that was let in so.
+    pub fn is_at(&self, socket: Socket) -> bool {
+        self.number == Some(socket.connection) && self.instance == socket.instance
+    }
+
+    /// Gives the next bytes that it has to send.
+    fn give(&mut self, room: &mut [u8]) -> io::Result<usize>
+        ensures { IfOk result (λ count. count ≤ length room.new) }
+    {
+        let count = self.unsent.len().min(self.most).min(room.len());
+        if count == 0 {
+            return Err(io::Error::from(ErrorKind::WouldBlock));
+        }
+        room[..count].copy_from_slice(&self.unsent[..count]);
+        self.unsent = &self.unsent[count..];
+        Ok(count)
+    }
+}
+
+/// Sockets in memory.
+#[derive(Drop)]
+pub struct FakeSockets<'a> {
+    pub clients: Vec<Client<'a>>,
+    pub calls: Calls,
+    /// How many turns were begun.
+    pub turns: u64,
+    /// How many calls named a connection that is not open.
+    pub strays: u64,
+}
+
+impl<'a> FakeSockets<'a> {
+    pub fn new(clients: Vec<Client<'a>>, failing: Failing) -> FakeSockets<'a> {
+        FakeSockets {
+            clients,
+            calls: Calls::new(failing),
+            turns: 0,
+            strays: 0,
+        }
+    }
+
+    /// The client of an open connection.
+    fn client(&mut self, socket: Socket) -> io::Result<&mut Client<'a>> {
+        for client in self.clients.iter_mut() {
+            if client.is_at(socket) && !client.is_closed {
+                return Ok(client);
+            }
+        }
+        self.strays = self.strays.saturating_add(1);
+        Err(io::Error::from(ErrorKind::NotConnected))
+    }
+}
+
+impl<'a> Sockets for FakeSockets<'a> {
+    fn now(&mut self) -> u64 {
+        self.turns = self.turns.saturating_add(1);
+        self.turns
+    }
+
+    /// The clock is read in each turn.
+    fn is_later(&self, _moment: u64) -> bool {
+        true
+    }
+
+    fn accept(&mut self, socket: Socket) -> io::Result<()> {
+        self.calls.next(Deed::Accept(socket.instance))?;
+        for client in self.clients.iter_mut() {
+            if client.number.is_none() && client.instance == socket.instance {
+                client.number = Some(socket.connection);
+                return Ok(());
+            }
+        }
+        Err(io::Error::from(ErrorKind::WouldBlock))
+    }
+
+    fn read(&mut self, socket: Socket, room: &mut [u8]) -> io::Result<usize> {
+        self.calls.next(Deed::Read(socket))?;
+        self.client(socket)?.give(room)
+    }
+
+    fn write(&mut self, socket: Socket, bytes: &[u8]) -> io::Result<usize> {
+        self.calls.next(Deed::Write(socket))?;
+        let client = self.client(socket)?;
+        let count = bytes.len().min(client.most);
+        client.received.extend_from_slice(&bytes[..count])?;
+        Ok(count)
+    }
+
+    fn close(&mut self, socket: Socket) {
+        if let Ok(client) = self.client(socket) {
+            client.is_closed = true;
+        }
+    }
+
+    fn faults(&self) -> u64 {
+        self.calls.faults
+    }
+
+    fn rest(&mut self, _idle_turns: u64) {}
+}

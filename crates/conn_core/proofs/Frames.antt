@@ -10,7 +10,7 @@ use Rattle.http2_frames.specs.declared.reader.TheConstants.{CLIENT_PREFACE}
 use Rattle.http2_frames.specs.Items.{behind}
 use Rattle.http2_frames.specs.Reading.{split}
 use Rattle.http2_frames.specs.Wire.{Split}
-use Rattle.http2_frames.specs.Reader.{FrameReaderValue, text_left, split_left, with_more_bytes, IsFrame, front_of, IsReader}
+use Rattle.http2_frames.specs.Reader.{FrameReaderValue, text_left, split_left, with_more_bytes, front_of, IsReader}
 use Rattle.http2_streams.specs.ConnectionFault.{ConnectionFault}
 use Rattle.http2_streams.specs.ConnectionFault.TheVariants.{Connection}
 use Rattle.http2_streams.specs.Decoding.{Gives}
@@ -201,10 +201,10 @@ next_is p f u h =
     let now : split CLIENT_PREFACE.now p.text ≡ behind (received_raw_frames p.history ++ f ∷ []) (split_left (with_more_bytes u [])) = ap (split CLIENT_PREFACE.now) (sym (append-nil p.text)) ∙ h [] in
     ((split_left (with_more_bytes u [])).items, ap (λ (s : Split). s.items) now ∙ append_assoc (received_raw_frames p.history) (f ∷ []) (split_left (with_more_bytes u [])).items)
 
-front_taken : (texts : SourceTexts) (v x : ConnectionValue) (none u : Result FrameReaderValue FrameError) (f : RawFrame) → v.ended ≡ false → f ≡ front_of v.reader → IsFrame f
+front_taken : (texts : SourceTexts) (v x : ConnectionValue) (none u : Result FrameReaderValue FrameError) (f : RawFrame) → v.ended ≡ false → f ≡ front_of v.reader
     → ((preface text : List ℕ) (given : List RawFrame) → IsReader preface v.reader text given → IsReader preface u text (given ++ front_of v.reader ∷ []))
     → TakesFrame (with_reader none v) f x → (p : Past) → IsConnection texts v p → StandsAfterReading texts p true (with_reader u x)
-front_taken texts v x none u f alive front frame passes take p st =
+front_taken texts v x none u f alive front passes take p st =
     let a = alive_of texts v p st alive in
     let reader : IsReader CLIENT_PREFACE.now u p.text (received_raw_frames p.history ++ f ∷ []) = subst (λ (g : RawFrame). IsReader CLIENT_PREFACE.now u p.text (received_raw_frames p.history ++ g ∷ [])) (sym front) (passes CLIENT_PREFACE.now p.text (received_raw_frames p.history) a.reader) in (
       sym st.ended ∙ alive,
@@ -214,7 +214,6 @@ front_taken texts v x none u f alive front frame passes take p st =
         take u texts p (record {
           ended = alive;
           lives = sym st.ended ∙ alive;
-          short = frame.short;
           reader = reader;
           streams = st.streams;
           sending = st.sending;
@@ -228,11 +227,11 @@ front_taken texts v x none u f alive front frame passes take p st =
 abbrev Passes : Result FrameReaderValue FrameError → Result FrameReaderValue FrameError → Type 0
 Passes old new = (preface text : List ℕ) (given : List RawFrame) → IsReader preface old text given → IsReader preface new text (given ++ front_of old ∷ [])
 
-pub taken_front : {T E : Type 0} (r : Result T E) (v old w x : ConnectionValue) (none lent u : Result FrameReaderValue FrameError) (f : RawFrame) → v ≡ old → w ≡ x → v.ended ≡ false → lent ≡ v.reader → f ≡ front_of lent → IsFrame f → Passes lent u
+pub taken_front : {T E : Type 0} (r : Result T E) (v old w x : ConnectionValue) (none lent u : Result FrameReaderValue FrameError) (f : RawFrame) → v ≡ old → w ≡ x → v.ended ≡ false → lent ≡ v.reader → f ≡ front_of lent → Passes lent u
     → OnOk r (TakesFrame (with_reader none v) f x) → OnOk r (ReadsOneFrame old true (with_reader u w))
-taken_front (Err e) v old w x none lent u f is same alive lends front frame passes take = tt
-taken_front (Ok y) v old w x none lent u f is same alive lends front frame passes take = λ texts p st.
-    subst (λ (z : ConnectionValue). StandsAfterReading texts p true (with_reader u z)) (sym same) (front_taken texts v x none u f alive (front ∙ ap front_of lends) frame (subst (λ (z : Result FrameReaderValue FrameError). Passes z u) lends passes) take p (subst (λ (z : ConnectionValue). IsConnection texts z p) (sym is) st))
+taken_front (Err e) v old w x none lent u f is same alive lends front passes take = tt
+taken_front (Ok y) v old w x none lent u f is same alive lends front passes take = λ texts p st.
+    subst (λ (z : ConnectionValue). StandsAfterReading texts p true (with_reader u z)) (sym same) (front_taken texts v x none u f alive (front ∙ ap front_of lends) (subst (λ (z : Result FrameReaderValue FrameError). Passes z u) lends passes) take p (subst (λ (z : ConnectionValue). IsConnection texts z p) (sym is) st))
 
 pub fit_meanwhile : (v old w x : ConnectionValue) → v ≡ old → w ≡ x → ((texts : SourceTexts) → QueuesEndWithin texts v.sending.queues → QueuesEndWithin texts x.sending.queues) → (texts : SourceTexts) → QueuesEndWithin texts old.sending.queues → QueuesEndWithin texts w.sending.queues
 fit_meanwhile v old w x is same keeps texts h = subst (λ (z : ConnectionValue). QueuesEndWithin texts z.sending.queues) (sym same) (keeps texts (subst (λ (z : ConnectionValue). QueuesEndWithin texts z.sending.queues) (sym is) h))

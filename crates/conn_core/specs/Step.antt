@@ -1,6 +1,6 @@
 -- The parts of one step through the received bytes. For the code alone: no public contract speaks
 -- of them.
-use Rattle.std.specs.Prelude.{◌≡◌, ◌<◌, ◌≤◌, ◌==◌, ℕ, true, false, List, [], ◌∷◌, ◌++◌, length, map, filter, Result}
+use Rattle.std.specs.Prelude.{◌≡◌, ◌<◌, ◌≤◌, ◌==◌, ℕ, true, false, List, [], ◌∷◌, ◌++◌, map, filter, Result}
 use Rattle.std.specs.List.{list_any}
 use Rattle.http2_frames.specs.declared.error.FrameError.{FrameError}
 use Rattle.http2_frames.specs.declared.frame.RawFrame.{RawFrame}
@@ -16,7 +16,6 @@ use Rattle.conn_core.specs.Received.{received_raw_frames, outcome, frame_entries
 use Rattle.conn_core.specs.Calls.{is_call, stream_text}
 use Rattle.conn_core.specs.Past.{Past, with_frame}
 use Rattle.conn_core.specs.StandsFor.{IsConnection, AreForLive, ConnectionValue, IsRestOfCall, call_on, members_of, call_stream}
-use Rattle.http2_frames.specs.declared.reader.TheConstants.{MAX_FRAME_SIZE}
 
 -- what is kept of the calls, by the history before the frame
 pub record AreCalls (v : ConnectionValue) (d : List Entry) : Type 0 where
@@ -31,7 +30,6 @@ pub record IsTaking (texts : SourceTexts) (v : ConnectionValue) (p : Past)
     (f : RawFrame) : Type 0 where
   pub ended : v.ended ≡ false
   pub lives : has_failed p.history ≡ false
-  pub short : length f.payload ≤ MAX_FRAME_SIZE
   pub reader : IsReader CLIENT_PREFACE.now v.reader p.text (received_raw_frames p.history ++ f ∷ [])
   pub streams : AreStreams v.streams p.history
   pub sending : IsStoredSending texts v.sending p.history p.owed

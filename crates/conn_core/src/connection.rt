@@ -345,8 +345,7 @@ impl Connection {
     }
 
     fn take_frame(&mut self, frame: &RawFrame<'_>) -> Result<(), AllocError>
-        requires alive { self.old.ended ≡ false }
-        requires short { length frame.now.payload ≤ MAX_FRAME_SIZE }
+        requires { self.old.ended ≡ false }
         ensures stands { OnOk result (TakesFrame self.old frame.now self.new) }
         ensures reader { OnOk result (self.new.reader ≡ self.old.reader) }
         ensures fit { KeepsFit self.old.sending self.new.sending }

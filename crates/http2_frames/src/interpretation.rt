@@ -8,6 +8,7 @@ ghost use Rattle.http2_frames.specs.Frames.{has_flag, lead_length, pad_length, u
 use crate::codes::{ErrorCode, flag, frame_type};
 use crate::frame::{Frame, RawFrame};
 use crate::octets::Octets;
+use crate::reader::MAX_FRAME_SIZE;
 use crate::settings::SettingsList;
 use byteorder::{BigEndian, ByteOrder};
 
@@ -159,14 +160,16 @@ fn content<'a>(frame: &RawFrame<'a>) -> Frame<'a>
 fn unpadded<'a>(frame: &RawFrame<'a>) -> &'a [u8]
     requires sized { lead_length frame.now ≤ length frame.now.payload }
     requires padded { pad_length frame.now ≤ length frame.now.payload - lead_length frame.now }
-    ensures { result.now ≡ unpadded_content frame.now }
+    ensures content { result.now ≡ unpadded_content frame.now }
+    ensures few { length result.now ≤ MAX_FRAME_SIZE }
 {
     let payload = frame.payload.as_slice();
     &payload[lead(frame)..payload.len() - pad_length(frame)]
 }
 
 fn go_away(payload: &[u8]) -> Frame<'_>
-    requires { 8 ≤ length payload.now }
+    requires lead { 8 ≤ length payload.now }
+    requires few { length payload.now ≤ MAX_FRAME_SIZE }
     ensures { result ≡ Frame.GoAway (big_number 4 payload.now % stream_limit)
         (big_number 4 (drop 4 payload.now)) (drop 8 payload.now) }
 {

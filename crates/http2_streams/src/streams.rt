@@ -24,7 +24,7 @@ use crate::live;
 use crate::stream::{Side, Stream};
 use crate::streams::answers::{PROTOCOL_ERROR, nothing, on_ping};
 use http2_flow::{INITIAL_SIZE, Window};
-use http2_frames::{Frame, MAX_FRAME_SIZE, RawFrame, flag, frame_type, interpret};
+use http2_frames::{Frame, RawFrame, flag, frame_type, interpret};
 use http2_headers::{ConnectionFault, HeaderBlocks};
 use std::alloc::{AllocError, Global};
 use std::collections::VecDeque;
@@ -119,7 +119,6 @@ impl Streams {
     /// Takes a frame of the client. What it causes follows from all that passed on the connection
     /// before.
     pub fn on_frame<'a>(&mut self, frame: &RawFrame<'a>) -> Result<StreamEvent<'a>, ConnectionFault>
-        requires { length frame.now.payload ≤ MAX_FRAME_SIZE }
         ensures causes { (d : List Entry) → AreStreams self.old d →
             Gives result (answer_after d frame.now) }
         ensures stands { InMemory result ((d : List Entry) → AreStreams self.old d →
@@ -245,7 +244,6 @@ impl Streams {
     }
 
     fn apply<'a>(&mut self, frame: &RawFrame<'a>) -> Result<StreamEvent<'a>, ConnectionFault>
-        requires { length frame.now.payload ≤ MAX_FRAME_SIZE }
         ensures answer { Gives result (answer_to self.old frame.now) }
         ensures state { IfOk result (λ a. self.new ≡ step_by self.old frame.now a) }
         ensures live { OnErr result (self.new.live ≡ self.old.live) }

@@ -1,9 +1,7 @@
 //! What is sent between received frames. What received frames cause is shown by the stored scripts
 //! of `acceptance`.
 
-ghost use Rattle.std.specs.Prelude.{◌≤◌, length};
-
-use http2_frames::{FrameReader, MAX_FRAME_SIZE, RawFrame};
+use http2_frames::{FrameReader, RawFrame};
 use http2_streams::*;
 use std::alloc::Global;
 use std::test::*;
@@ -18,9 +16,7 @@ enum Brought {
     Fault,
 }
 
-fn brings(streams: &mut Streams, frame: &RawFrame<'_>) -> Brought
-    requires { length frame.now.payload ≤ MAX_FRAME_SIZE }
-{
+fn brings(streams: &mut Streams, frame: &RawFrame<'_>) -> Brought {
     match streams.on_frame(frame) {
         Ok(event) => match event.event {
             Event::Nothing => Brought::Nothing,

@@ -44,8 +44,9 @@ pub record BlockAt (table : Option Table) (ps : List Piece) (end_stream end_head
 
 pub record PartAt (ps : List Piece) (end_stream : Bool) (bytes : List ℕ) : Type 0 where
   pub left : List ℕ
+  pub ends : List (List ℕ)
   pub rest : List Piece
-  pub is : ps ≡ Part (bytes ++ left) ∷ rest
+  pub is : ps ≡ Part (bytes ++ left) ends ∷ rest
   pub end : end_stream ≡ false
 
 -- the frame puts the front of these pieces, if it is of stream s
@@ -66,7 +67,7 @@ follows_more s table ps (f ∷ fs) gs h k = (h.0, follows_more s (table_after_fr
 
 front_more : (s : ℕ) (table : Option Table) (ps more : List Piece) (f : Frame) → FrontOf s table ps f → FrontOf s table (ps ++ more) f
 front_more s table ps more (Headers t e x fragment) h = λ same. let b = h same in record { block = b.block; rest = b.rest ++ more; is = ap (λ (qs : List Piece). qs ++ more) b.is; end = b.end; whole = b.whole; read = b.read }
-front_more s table ps more (Data t e bytes) h = λ same. let b = h same in record { left = b.left; rest = b.rest ++ more; is = ap (λ (qs : List Piece). qs ++ more) b.is; end = b.end }
+front_more s table ps more (Data t e bytes) h = λ same. let b = h same in record { left = b.left; ends = b.ends; rest = b.rest ++ more; is = ap (λ (qs : List Piece). qs ++ more) b.is; end = b.end }
 front_more s table ps more _ h = tt
 
 cond_more : (b : Bool) (p : Piece) (rest more : List Piece) → cond b (p ∷ rest ++ more) (rest ++ more) ≡ cond b (p ∷ rest) rest ++ more
@@ -82,8 +83,8 @@ put_more_on s table ps more (Headers t e x fragment) h = headers_more (t == s) p
 put_more_on s table ps more (Data t e bytes) h = elim (cases_Bool (t == s)) [
   | inl same ↦
       let b = h same in
-      let is : ps ≡ Part (bytes ++ b.left) ∷ b.rest = b.is in
-      rw (same, is) (cond_more (nat_lt (length bytes) (length (bytes ++ b.left))) (Part (drop (length bytes) (bytes ++ b.left))) b.rest more)
+      let is : ps ≡ Part (bytes ++ b.left) b.ends ∷ b.rest = b.is in
+      rw (same, is) (cond_more (nat_lt (length bytes) (length (bytes ++ b.left))) (Part (drop (length bytes) (bytes ++ b.left)) b.ends) b.rest more)
   | inr other ↦ rw other refl
 ]
 put_more_on s table ps more _ h = refl
@@ -183,7 +184,7 @@ front_puts d os u fs (inr p) table =
     subst (λ (gs : List Frame). ((after : Table) × (fold table_after_frame (Some table) gs ≡ Some after)) × ((s : ℕ) → Follows s (Some table) (pieces_left_on d os s) gs)) (sym p.put) (
       (table, refl),
       λ s. (
-        (λ same. record { left = drop (portion d u p.bytes) p.bytes; rest = p.rest; is = subst (λ (m : ℕ). pieces_left_on d os m ≡ Part p.bytes ∷ p.rest) (eqb-true u s same) p.is ∙ ap (λ (bs : List ℕ). Part bs ∷ p.rest) (sym (take-append-drop (portion d u p.bytes) p.bytes)); end = refl }),
+        (λ same. record { left = drop (portion d u p.bytes) p.bytes; ends = p.ends; rest = p.rest; is = subst (λ (m : ℕ). pieces_left_on d os m ≡ Part p.bytes p.ends ∷ p.rest) (eqb-true u s same) p.is ∙ ap (λ (bs : List ℕ). Part bs p.ends ∷ p.rest) (sym (take-append-drop (portion d u p.bytes) p.bytes)); end = refl }),
         tt,
       ),
     )

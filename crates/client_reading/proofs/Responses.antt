@@ -31,7 +31,7 @@ use Rattle.client_reading.proofs.Follows.{BlockAt, Follows}
 abbrev PieceAt : List ℕ → List Single → List Piece → Type 0
 PieceAt part [] ps = (part ≡ []) × (ps ≡ [])
 PieceAt part (Headed block ∷ items) ps = (part ≡ []) × (ps ≡ BlockPiece block ∷ map piece_of items)
-PieceAt part (Message m ∷ items) ps = (left : List ℕ) × (0 < length left) × (framed_message m ≡ part ++ left) × (ps ≡ Part left ∷ map piece_of items)
+PieceAt part (Message m ends ∷ items) ps = (left : List ℕ) × (0 < length left) × (framed_message m ≡ part ++ left) × (ps ≡ Part left ends ∷ map piece_of items)
 
 framed_some : (m : List ℕ) → 0 < length (framed_message m)
 framed_some m = simp length-append (omega arith)
@@ -39,7 +39,7 @@ framed_some m = simp length-append (omega arith)
 fresh : (items : List Single) → PieceAt [] items (map piece_of items)
 fresh [] = (refl, refl)
 fresh (Headed block ∷ items) = (refl, refl)
-fresh (Message m ∷ items) = (framed_message m, framed_some m, refl, refl)
+fresh (Message m ends ∷ items) = (framed_message m, framed_some m, refl, refl)
 
 abbrev AreShort : ℕ → List (List ℕ) → Type 0
 AreShort limit ms = AllByRecursion (λ m. length m ≤ limit) ms
@@ -55,13 +55,13 @@ whole_split limit ms part small all is =
 split_at : (limit : ℕ) (ms : List (List ℕ)) (part : List ℕ) (items : List Single) (ps : List Piece) → limit < 2 ^ 32 → AreShort limit ms → AreWithin limit items → PieceAt part items ps → split limit (flat_map framed_message ms ++ part) ≡ record { items = ms; end = Ok part }
 split_at limit ms part [] ps small all within at = whole_split limit ms part small all at.0
 split_at limit ms part (Headed block ∷ items) ps small all within at = whole_split limit ms part small all at.0
-split_at limit ms part (Message m ∷ items) ps small all within at = part_split limit ms m part at.0 small all within.0 at.2 at.1
+split_at limit ms part (Message m ends ∷ items) ps small all within at = part_split limit ms m part at.0 small all within.0 at.2 at.1
 
 rest_at : (part : List ℕ) (items : List Single) (ps : List Piece) → PieceAt part items ps → IsMessageFront (Ok part) (map part_of items)
 rest_at [] items ps at = tt
 rest_at (b ∷ bs) [] ps at = let e : b ∷ bs ≡ [] = at.0 in cc
 rest_at (b ∷ bs) (Headed block ∷ items) ps at = let e : b ∷ bs ≡ [] = at.0 in cc
-rest_at (b ∷ bs) (Message m ∷ items) ps at = (at.0, at.1, at.2)
+rest_at (b ∷ bs) (Message m ends ∷ items) ps at = (at.0, at.1, at.2)
 
 -- ---- what is read from there on
 
@@ -105,7 +105,7 @@ at_block part [] ps block rest at is = let e : ps ≡ [] = at.1 in cc
 at_block part (Headed b ∷ items) ps block rest at is =
     let e : ps ≡ BlockPiece b ∷ map piece_of items = at.1 in
     record { none = at.0; others = items; is = (let k : b ≡ block = cc in ap (λ (x : ResponseBlock). Headed x ∷ items) k); pieces = cc }
-at_block part (Message m ∷ items) ps block rest at is = let e : ps ≡ Part at.0 ∷ map piece_of items = at.3 in cc
+at_block part (Message m ends ∷ items) ps block rest at is = let e : ps ≡ Part at.0 ends ∷ map piece_of items = at.3 in cc
 
 block_put : (s t : ℕ) (e x : Bool) (fragment : List ℕ) (ps : List Piece) (block : ResponseBlock) (rest : List Piece) → (t == s) ≡ true → ps ≡ BlockPiece block ∷ rest → pieces_after_frame s ps (Headers t e x fragment) ≡ rest
 block_put s t e x fragment ps block rest same is = rw (same, is) refl
@@ -134,20 +134,20 @@ reads_block limit s t e x fragment fs small later table ps items ms part all wit
 
 -- ---- a part of a message
 
-record AtPart (part : List ℕ) (items : List Single) (bytes : List ℕ) (rest : List Piece) : Type 0 where
+record AtPart (part : List ℕ) (items : List Single) (bytes : List ℕ) (ended : List (List ℕ)) (rest : List Piece) : Type 0 where
   message : List ℕ
   others : List Single
-  is : items ≡ Message message ∷ others
+  is : items ≡ Message message ended ∷ others
   text : framed_message message ≡ part ++ bytes
   pieces : rest ≡ map piece_of others
 
-at_part : (part : List ℕ) (items : List Single) (ps : List Piece) (bytes : List ℕ) (rest : List Piece) → PieceAt part items ps → ps ≡ Part bytes ∷ rest → AtPart part items bytes rest
-at_part part [] ps bytes rest at is = let e : ps ≡ [] = at.1 in cc
-at_part part (Headed b ∷ items) ps bytes rest at is = let e : ps ≡ BlockPiece b ∷ map piece_of items = at.1 in cc
-at_part part (Message m ∷ items) ps bytes rest at is =
-    let e : ps ≡ Part at.0 ∷ map piece_of items = at.3 in
+at_part : (part : List ℕ) (items : List Single) (ps : List Piece) (bytes : List ℕ) (ended : List (List ℕ)) (rest : List Piece) → PieceAt part items ps → ps ≡ Part bytes ended ∷ rest → AtPart part items bytes ended rest
+at_part part [] ps bytes ended rest at is = let e : ps ≡ [] = at.1 in cc
+at_part part (Headed b ∷ items) ps bytes ended rest at is = let e : ps ≡ BlockPiece b ∷ map piece_of items = at.1 in cc
+at_part part (Message m ends ∷ items) ps bytes ended rest at is =
+    let e : ps ≡ Part at.0 ends ∷ map piece_of items = at.3 in
     let k : at.0 ≡ bytes = cc in
-    record { message = m; others = items; is = refl; text = at.2 ∙ ap (λ (bs : List ℕ). part ++ bs) k; pieces = cc }
+    record { message = m; others = items; is = (let same : ends ≡ ended = cc in ap (λ (es : List (List ℕ)). Message m es ∷ items) same); text = at.2 ∙ ap (λ (bs : List ℕ). part ++ bs) k; pieces = cc }
 
 drop_front : (xs ys : List ℕ) → drop (length xs) (xs ++ ys) ≡ ys
 drop_front [] ys = refl
@@ -159,11 +159,11 @@ front_less xs ys y = let l = length-append xs (y ∷ ys) in let m : length xs < 
 front_all : (xs : List ℕ) → nat_lt (length xs) (length (xs ++ [])) ≡ false
 front_all xs = let l = length-append xs [] in let m : length (xs ++ []) ≤ length xs = omega (arith, l) in grind (arith, nat_tests)
 
-part_put : (s t : ℕ) (e : Bool) (bytes left : List ℕ) (y : ℕ) (ps rest : List Piece) → (t == s) ≡ true → ps ≡ Part (bytes ++ y ∷ left) ∷ rest → pieces_after_frame s ps (Data t e bytes) ≡ Part (y ∷ left) ∷ rest
-part_put s t e bytes left y ps rest same is = let less = front_less bytes left y in let d = drop_front bytes (y ∷ left) in rw (same, is, less, d) refl
+part_put : (s t : ℕ) (e : Bool) (bytes left : List ℕ) (ended : List (List ℕ)) (y : ℕ) (ps rest : List Piece) → (t == s) ≡ true → ps ≡ Part (bytes ++ y ∷ left) ended ∷ rest → pieces_after_frame s ps (Data t e bytes) ≡ Part (y ∷ left) ended ∷ rest
+part_put s t e bytes left ended y ps rest same is = let less = front_less bytes left y in let d = drop_front bytes (y ∷ left) in rw (same, is, less, d) refl
 
-all_put : (s t : ℕ) (e : Bool) (bytes : List ℕ) (ps rest : List Piece) → (t == s) ≡ true → ps ≡ Part (bytes ++ []) ∷ rest → pieces_after_frame s ps (Data t e bytes) ≡ rest
-all_put s t e bytes ps rest same is = let more = front_all bytes in rw (same, is, more) refl
+all_put : (s t : ℕ) (e : Bool) (bytes : List ℕ) (ended : List (List ℕ)) (ps rest : List Piece) → (t == s) ≡ true → ps ≡ Part (bytes ++ []) ended ∷ rest → pieces_after_frame s ps (Data t e bytes) ≡ rest
+all_put s t e bytes ended ps rest same is = let more = front_all bytes in rw (same, is, more) refl
 
 part_is_heard : (s t : ℕ) (table : Option Table) (e : Bool) (bytes : List ℕ) → (t == s) ≡ true → e ≡ false → stream_parts_of s table (Data t e bytes) ≡ Bytes false bytes ∷ []
 part_is_heard s t table e bytes same end = rw (same, end) refl
@@ -181,31 +181,31 @@ joined limit ms part bytes hs items r =
     }
 
 -- a message is whole
-completed : (limit : ℕ) (ms : List (List ℕ)) (m text : List ℕ) (hs : List StreamPart) (others : List Single) → framed_message m ≡ text → Begins limit (ms ++ m ∷ []) (flat_map framed_message (ms ++ m ∷ []) ++ []) hs others → Begins limit ms (flat_map framed_message ms ++ text) hs (Message m ∷ others)
-completed limit ms m text hs others is r =
+completed : (limit : ℕ) (ms : List (List ℕ)) (m text : List ℕ) (ends : List (List ℕ)) (hs : List StreamPart) (others : List Single) → framed_message m ≡ text → Begins limit (ms ++ m ∷ []) (flat_map framed_message (ms ++ m ∷ []) ++ []) hs others → Begins limit ms (flat_map framed_message ms ++ text) hs (Message m ends ∷ others)
+completed limit ms m text ends hs others is r =
     let e : flat_map framed_message (ms ++ m ∷ []) ++ [] ≡ flat_map framed_message ms ++ text = append-nil (flat_map framed_message (ms ++ m ∷ [])) ∙ flat_map-append framed_message ms (m ∷ []) ∙ ap (λ (x : List ℕ). flat_map framed_message ms ++ x) (append-nil (framed_message m) ∙ is) in
     record {
-      whole = Message m ∷ r.whole;
+      whole = Message m ends ∷ r.whole;
       later = r.later;
-      divided = ap (λ (is : List Single). Message m ∷ is) r.divided;
+      divided = ap (λ (is : List Single). Message m ends ∷ is) r.divided;
       response = ap (λ (x : List ℕ). response_from limit x hs) (sym e) ∙ r.response ∙ ap (λ (ts : List ResponsePart). ts ++ map part_of r.whole) (map-append WholeMessage ms (m ∷ [])) ∙ append_assoc (map WholeMessage ms) (WholeMessage m ∷ []) (map part_of r.whole);
       rest = subst (λ (x : List ℕ). IsMessageFront (message_rest limit x hs) (map part_of r.later)) e r.rest;
     }
 
-reads_part : (limit s t : ℕ) (e : Bool) (bytes : List ℕ) (fs : List Frame) → ReadsAll limit s fs → (table : Option Table) (ps : List Piece) (items : List Single) (ms : List (List ℕ)) (part left : List ℕ) (rest : List Piece) → AreShort limit ms → AreWithin limit items → PieceAt part items ps → (t == s) ≡ true → e ≡ false → ps ≡ Part (bytes ++ left) ∷ rest → Follows s table (pieces_after_frame s ps (Data t e bytes)) fs → Begins limit ms (flat_map framed_message ms ++ part) (stream_parts_from s table (Data t e bytes ∷ fs)) items
-reads_part limit s t e bytes fs later table ps items ms part [] rest all within at same end is h =
-    let k = at_part part items ps (bytes ++ []) rest at is in
-    let put : pieces_after_frame s ps (Data t e bytes) ≡ map piece_of k.others = all_put s t e bytes ps rest same is ∙ k.pieces in
-    let within' : AreWithin limit (Message k.message ∷ k.others) = subst (λ (is : List Single). AreWithin limit is) k.is within in
+reads_part : (limit s t : ℕ) (e : Bool) (bytes : List ℕ) (fs : List Frame) → ReadsAll limit s fs → (table : Option Table) (ps : List Piece) (items : List Single) (ms : List (List ℕ)) (part left : List ℕ) (ended : List (List ℕ)) (rest : List Piece) → AreShort limit ms → AreWithin limit items → PieceAt part items ps → (t == s) ≡ true → e ≡ false → ps ≡ Part (bytes ++ left) ended ∷ rest → Follows s table (pieces_after_frame s ps (Data t e bytes)) fs → Begins limit ms (flat_map framed_message ms ++ part) (stream_parts_from s table (Data t e bytes ∷ fs)) items
+reads_part limit s t e bytes fs later table ps items ms part [] ended rest all within at same end is h =
+    let k = at_part part items ps (bytes ++ []) ended rest at is in
+    let put : pieces_after_frame s ps (Data t e bytes) ≡ map piece_of k.others = all_put s t e bytes ended ps rest same is ∙ k.pieces in
+    let within' : AreWithin limit (Message k.message ended ∷ k.others) = subst (λ (is : List Single). AreWithin limit is) k.is within in
     let r = later table (map piece_of k.others) k.others (ms ++ k.message ∷ []) [] (all_append (λ (m : List ℕ). length m ≤ limit) ms (k.message ∷ []) all (within'.0, tt)) within'.1 (fresh k.others) (subst (λ (qs : List Piece). Follows s table qs fs) put h) in
-    let c = completed limit ms k.message (part ++ bytes) (stream_parts_from s table fs) k.others (k.text ∙ ap (λ (bs : List ℕ). part ++ bs) (append-nil bytes)) r in
+    let c = completed limit ms k.message (part ++ bytes) ended (stream_parts_from s table fs) k.others (k.text ∙ ap (λ (bs : List ℕ). part ++ bs) (append-nil bytes)) r in
     subst (λ (hs : List StreamPart). Begins limit ms (flat_map framed_message ms ++ part) (hs ++ stream_parts_from s table fs) items) (sym (part_is_heard s t table e bytes same end))
     (joined limit ms part bytes (stream_parts_from s table fs) items (subst (λ (is : List Single). Begins limit ms (flat_map framed_message ms ++ (part ++ bytes)) (stream_parts_from s table fs) is) (sym k.is) c))
-reads_part limit s t e bytes fs later table ps items ms part (y ∷ left) rest all within at same end is h =
-    let k = at_part part items ps (bytes ++ y ∷ left) rest at is in
-    let put : pieces_after_frame s ps (Data t e bytes) ≡ Part (y ∷ left) ∷ map piece_of k.others = part_put s t e bytes left y ps rest same is ∙ ap (λ (qs : List Piece). Part (y ∷ left) ∷ qs) k.pieces in
-    let stands : PieceAt (part ++ bytes) (Message k.message ∷ k.others) (Part (y ∷ left) ∷ map piece_of k.others) = (y ∷ left, omega arith, k.text ∙ sym (append_assoc part bytes (y ∷ left)), refl) in
-    let r = later table (Part (y ∷ left) ∷ map piece_of k.others) items ms (part ++ bytes) all within (subst (λ (is : List Single). PieceAt (part ++ bytes) is (Part (y ∷ left) ∷ map piece_of k.others)) (sym k.is) stands) (subst (λ (qs : List Piece). Follows s table qs fs) put h) in
+reads_part limit s t e bytes fs later table ps items ms part (y ∷ left) ended rest all within at same end is h =
+    let k = at_part part items ps (bytes ++ y ∷ left) ended rest at is in
+    let put : pieces_after_frame s ps (Data t e bytes) ≡ Part (y ∷ left) ended ∷ map piece_of k.others = part_put s t e bytes left ended y ps rest same is ∙ ap (λ (qs : List Piece). Part (y ∷ left) ended ∷ qs) k.pieces in
+    let stands : PieceAt (part ++ bytes) (Message k.message ended ∷ k.others) (Part (y ∷ left) ended ∷ map piece_of k.others) = (y ∷ left, omega arith, k.text ∙ sym (append_assoc part bytes (y ∷ left)), refl) in
+    let r = later table (Part (y ∷ left) ended ∷ map piece_of k.others) items ms (part ++ bytes) all within (subst (λ (is : List Single). PieceAt (part ++ bytes) is (Part (y ∷ left) ended ∷ map piece_of k.others)) (sym k.is) stands) (subst (λ (qs : List Piece). Follows s table qs fs) put h) in
     subst (λ (hs : List StreamPart). Begins limit ms (flat_map framed_message ms ++ part) (hs ++ stream_parts_from s table fs) items) (sym (part_is_heard s t table e bytes same end))
     (joined limit ms part bytes (stream_parts_from s table fs) items r)
 
@@ -218,7 +218,7 @@ reads_all limit s small (Headers t e x fragment ∷ fs) = λ table ps items ms p
   | inr other ↦ skips limit s (Headers t e x fragment) fs table ps items ms part (reads_all limit s small fs) all within at (rw other refl) (rw other refl) h.1
 ]
 reads_all limit s small (Data t e bytes ∷ fs) = λ table ps items ms part all within at h. elim (cases_Bool (t == s)) [
-  | inl same ↦ let p = h.0 same in reads_part limit s t e bytes fs (reads_all limit s small fs) table ps items ms part p.left p.rest all within at same p.end p.is h.1
+  | inl same ↦ let p = h.0 same in reads_part limit s t e bytes fs (reads_all limit s small fs) table ps items ms part p.left p.ends p.rest all within at same p.end p.is h.1
   | inr other ↦ skips limit s (Data t e bytes) fs table ps items ms part (reads_all limit s small fs) all within at (rw other refl) (rw other refl) h.1
 ]
 reads_all limit s small (_ ∷ fs) = λ table ps items ms part all within at h. reads_all limit s small fs table ps items ms part all within at h.1

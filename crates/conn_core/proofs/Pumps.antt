@@ -50,7 +50,7 @@ frames_quiet d s [] fs h = cc
 frames_quiet d s (Block block ∷ ps) fs h =
     let is : block_frames d s block ≡ fs = let same : Some (block_frames d s block) ≡ Some fs = h in cc in
     ap (list_any is_goaway) (sym is) ∙ reset_quiet s (is_last block && not (is_ended_by_client d s))
-frames_quiet d s (Part bytes ∷ ps) fs h =
+frames_quiet d s (Part bytes ends ∷ ps) fs h =
     let n : ℕ = part_size (length bytes) (window_left (window d s)) (window_left (connection_window d)) in
     let e = if_some (part_size (length bytes) (window_left (window d s)) (window_left (connection_window d)) == 0) (Some (Data s false (take (part_size (length bytes) (window_left (window d s)) (window_left (connection_window d))) bytes) ∷ [])) fs h in
     let is : Data s false (take (part_size (length bytes) (window_left (window d s)) (window_left (connection_window d))) bytes) ∷ [] ≡ fs = let same : Some (Data s false (take (part_size (length bytes) (window_left (window d s)) (window_left (connection_window d))) bytes) ∷ []) ≡ Some fs = e.1 in cc in
@@ -85,7 +85,7 @@ frames_end d s [] fs h = cc
 frames_end d s (Block block ∷ ps) fs h =
     let is : block_frames d s block ≡ fs = let same : Some (block_frames d s block) ≡ Some fs = h in cc in
     subst EndsWhatItResets is (λ t r. any_first (is_last block && s == t) (list_any (ends t) (reset_after s (is_last block && not (is_ended_by_client d s)))) (reset_last s t (is_last block) (is_ended_by_client d s) r))
-frames_end d s (Part bytes ∷ ps) fs h =
+frames_end d s (Part bytes ends ∷ ps) fs h =
     let e = if_some (part_size (length bytes) (window_left (window d s)) (window_left (connection_window d)) == 0) (Some (Data s false (take (part_size (length bytes) (window_left (window d s)) (window_left (connection_window d))) bytes) ∷ [])) fs h in
     let is : Data s false (take (part_size (length bytes) (window_left (window d s)) (window_left (connection_window d))) bytes) ∷ [] ≡ fs = let same : Some (Data s false (take (part_size (length bytes) (window_left (window d s)) (window_left (connection_window d))) bytes) ∷ []) ≡ Some fs = e.1 in cc in
     subst EndsWhatItResets is (λ t r. r)

@@ -7,13 +7,14 @@ use Rattle.http2_frames.specs.declared.error.FrameError.{FrameError}
 use Rattle.http2_frames.specs.declared.frame.RawFrame.{RawFrame}
 use Rattle.http2_frames.specs.Reading.{split}
 use Rattle.http2_frames.specs.Reader.{FrameReaderValue, IsReader, text_left}
-use Rattle.http2_streams.specs.History.{Entry, live_streams, is_not_closed, has_failed}
+use Rattle.http2_streams.specs.History.{Entry, live_streams, is_not_closed, is_ended_by_server, has_failed}
 use Rattle.http2_streams.specs.LiveStreams.{has_stream}
 use Rattle.http2_streams.specs.declared.stream.Stream.{Stream}
 use Rattle.http2_streams.specs.Rules.{reading_fault, number_is}
 use Rattle.http2_streams.specs.Standing.{Standing}
 use Rattle.http2_streams.specs.StandsFor.{AreStreams}
 use Rattle.grpc_messages.specs.declared.error.MessagesError.{MessagesError}
+use Rattle.grpc_sending.specs.StandsFor.{Sending, IsSending, pieces_on}
 use Rattle.grpc_sending.specs.StoredSending.{SourceTexts, StoredSending, IsStoredSending, ForgetsEnded, stored_on}
 use Rattle.grpc_sending.specs.declared.queue.StoredQueue.{StoredQueue}
 use Rattle.grpc_sending.specs.Owed.{Item, Range}
@@ -101,6 +102,32 @@ pub record IsConnection (texts : SourceTexts) (v : ConnectionValue) (p : Past) :
   pub due : v.due ≡ p.due
   pub over : ForgetsFailed v.sending.queues p.history
   pub alive : has_failed p.history ≡ false → IsAlive v p
+
+-- ---- as it is seen
+
+-- nothing is seen that is to be put on stream s
+abbrev pub SeesNone : Sending → ℕ → Type 0
+SeesNone seen s = pieces_on s seen.queues ≡ []
+
+pub record IsSeenAlive (seen : Sending) (v : ConnectionValue) (p : Past) : Type 0 where
+  pub reader : IsReader CLIENT_PREFACE.now v.reader p.text (received_raw_frames p.history)
+  pub calls : (s : ℕ) → is_not_closed p.history s ≡ true →
+      IsRestOfCall p.history s (call_on s v.calls)
+  pub order : members_of (live_streams p.history) (map call_stream v.calls)
+      ≡ filter (is_call p.history) (live_streams p.history)
+  pub live : (s : ℕ) → has_stream (live_streams p.history) s ≡ false → SeesNone seen s
+  pub finished : (s : ℕ) → is_ended_by_server p.history s ≡ true →
+      (is_not_closed p.history s ≡ false) × SeesNone seen s
+  pub counted : v.reset_count ≡ resets_since_taking p.history
+
+-- with what is to be sent seen so, in the place of what is kept of it
+pub record IsSeen (seen : Sending) (v : ConnectionValue) (p : Past) : Type 0 where
+  pub ended : v.ended ≡ has_failed p.history
+  pub streams : AreStreams v.streams p.history
+  pub sending : IsSending seen p.history p.owed
+  pub due : v.due ≡ p.due
+  pub over : has_failed p.history ≡ true → (s : ℕ) → SeesNone seen s
+  pub alive : has_failed p.history ≡ false → IsSeenAlive seen v p
 
 -- what is kept stands by the one look-up for all that it stands for by the other
 abbrev pub StandsAlike : SourceTexts → SourceTexts → ConnectionValue → Type 0

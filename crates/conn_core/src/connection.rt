@@ -6,6 +6,7 @@ ghost use Rattle.http2_frames.specs.Writing.{raw_of};
 ghost use Rattle.grpc_messages.specs.Wire.{message_length_limit};
 ghost use Rattle.grpc_sending.specs.Step.{IsControl};
 ghost use Rattle.http2_frames.specs.declared.error.FrameError.{FrameError};
+ghost use Rattle.grpc_sending.specs.SortedQueues.{AreSorted};
 ghost use Rattle.grpc_sending.specs.Bytes.{most_untaken};
 ghost use Rattle.grpc_sending.specs.StoredSending.{SourceTexts, QueuesEndWithin, Tells, KeepsFit, KeepsFitWith, KeepsSources, HoldsMore, HasFewSources, sources_of};
 ghost use Rattle.grpc_sending.specs.Owed.{Headed, Message};
@@ -267,10 +268,12 @@ impl Connection {
     }
 
     /// Tells a source whose range is over: it was wholly put, or its stream ended before that. Each
-    /// is told once for each range that was owed of it.
+    /// is told once for each range that was owed of it. What is still to be put stands in rising
+    /// order of streams.
     pub fn spent(&mut self) -> Option<usize>
         ensures source { Tells result self.old.sending.spent self.new.sending.spent }
         ensures none { result ≡ None → self.new ≡ self.old }
+        ensures sorted { AreSorted self.new.sending.queues }
         ensures stands { Becomes self.old (λ p. p) self.new }
         ensures queues { self.new.sending.queues ≡ self.old.sending.queues }
         ensures rest { self.new ≡ record self.old { sending = self.new.sending } }

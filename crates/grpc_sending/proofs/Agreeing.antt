@@ -34,7 +34,7 @@ agree_first texts others n ns h =
 pub same_shown : (texts others : SourceTexts) (ps : List StoredPiece) → AgreeOn (sources_in ps) texts others → flat_map (pieces_in texts) ps ≡ flat_map (pieces_in others) ps
 same_shown texts others [] h = refl
 same_shown texts others (Encoded block ∷ ps) h = ap (λ (qs : List Piece). Block block ∷ qs) (same_shown texts others ps h)
-same_shown texts others (Framed bytes ∷ ps) h = ap (λ (qs : List Piece). Part bytes ∷ qs) (same_shown texts others ps h)
+same_shown texts others (Framed bytes ∷ ps) h = ap (λ (qs : List Piece). Part bytes [] ∷ qs) (same_shown texts others ps h)
 same_shown texts others (Ranged s ∷ ps) h =
     ap (λ (text : List ℕ). span_pieces most_read s text ++ flat_map (pieces_in texts) ps) (agree_first texts others s.source (sources_in ps) h)
     ∙ ap (λ (qs : List Piece). span_pieces most_read s (others s.source) ++ qs) (same_shown texts others ps (agree_right texts others (s.source ∷ []) (sources_in ps) h))

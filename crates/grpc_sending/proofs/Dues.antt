@@ -54,8 +54,8 @@ given texts qs cw xs s n fit h =
     let c = turn_content texts qs cw xs s n fit h in
     let t = has_turn (map (queue_in texts) qs) cw xs (Content s c.part) c.turn in
     let i = content_of cw t.at (pieces_on t.at.number (map (queue_in texts) qs)) s c.part t.turn in
-    let ps : pieces_on s (map (queue_in texts) qs) ≡ Part i.bytes ∷ i.rest = ap (λ k. pieces_on k (map (queue_in texts) qs)) (sym i.number) ∙ i.pieces in
-    let f : front_bytes texts (stored_on s qs) ≡ i.bytes = front_is texts s qs i.bytes i.rest fit ps in
+    let ps : pieces_on s (map (queue_in texts) qs) ≡ Part i.bytes i.ends ∷ i.rest = ap (λ k. pieces_on k (map (queue_in texts) qs)) (sym i.number) ∙ i.pieces in
+    let f : front_bytes texts (stored_on s qs) ≡ i.bytes = front_is texts s qs i.bytes i.ends i.rest fit ps in
     let fits' : n ≤ length i.bytes = omega (arith, i.there, c.size) in
     record {
       part = c.part;
@@ -65,7 +65,7 @@ given texts qs cw xs s n fit h =
       short = omega (arith, i.short, c.size);
       there = omega (arith, fits', ap length f);
       front = i.is_part ∙ ap (λ m. take m i.bytes) c.size ∙ ap (λ bs. take n bs) (sym f);
-      removed = part_removed texts s n qs i.bytes i.rest fit ps fits';
+      removed = part_removed texts s n qs i.bytes i.ends i.rest fit ps fits';
     }
 
 pub puts_given : (texts : SourceTexts) (v v1 : Standing) (w old : StoredSending) (s n : ℕ) (bytes : List ℕ) (rs : List StoredQueue) → w ≡ old → v.failed ≡ false → length w.pending < 65536 → QueuesEndWithin texts w.queues → next_due w.queues (window_left v.connection_window) v.live ≡ Some (Gives s n) →

@@ -17,6 +17,7 @@ pub mod Spans
 pub mod Sources
 pub mod Heads
 pub mod Sorted
+pub mod Holding
 pub mod Keeping
 pub mod Nothing
 pub mod Endings

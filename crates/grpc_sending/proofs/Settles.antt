@@ -23,15 +23,15 @@ use Rattle.grpc_sending.proofs.Pumps.{ended}
 
 abbrev HasBytes : Piece → Type 0
 HasBytes (Block block) = Unit {0}
-HasBytes (Part bytes) = 0 < length bytes
+HasBytes (Part bytes ends) = 0 < length bytes
 
 abbrev AreFilled : List Piece → Type 0
 AreFilled ps = AllByRecursion HasBytes ps
 
-filled_cut : (n k : ℕ) (bytes : List ℕ) → AreFilled (message_pieces n k bytes)
-filled_cut n zero bytes = tt
-filled_cut n (suc k) bytes = elim (cases_Bool (nat_lt n (length bytes))) [
-  | inl more ↦ let some : 0 < length (framed_message (read_message (take n bytes))) = simp length-append (omega arith) in rw more (some, filled_cut n k (drop n bytes))
+filled_cut : (text : List ℕ) (n k : ℕ) (bytes : List ℕ) → AreFilled (message_pieces text n k bytes)
+filled_cut text n zero bytes = tt
+filled_cut text n (suc k) bytes = elim (cases_Bool (nat_lt n (length bytes))) [
+  | inl more ↦ let some : 0 < length (framed_message (read_message (take n bytes))) = simp length-append (omega arith) in rw more (some, filled_cut text n k (drop n bytes))
   | inr last ↦ let some : 0 < length (framed_message (read_message bytes)) = simp length-append (omega arith) in rw last (some, tt)
 ]
 
@@ -43,12 +43,12 @@ filled_items : (is : List Item) → AreFilled (flat_map pieces_of is)
 filled_items [] = tt
 filled_items (Headed block ∷ is) = (tt, filled_items is)
 filled_items (Message message ∷ is) = (simp length-append (omega arith), filled_items is)
-filled_items (Range digest text from count ∷ is) = filled_more (read_pieces (take count (drop from text))) (flat_map pieces_of is) (filled_cut most_read (length (take count (drop from text))) (take count (drop from text))) (filled_items is)
+filled_items (Range digest text from count ∷ is) = filled_more (read_pieces text (take count (drop from text))) (flat_map pieces_of is) (filled_cut text most_read (length (take count (drop from text))) (take count (drop from text))) (filled_items is)
 
 filled_front : (n : ℕ) (ps : List Piece) → AreFilled ps → AreFilled (without_front n ps)
 filled_front n [] h = tt
 filled_front n (Block block ∷ ps) h = h
-filled_front n (Part bytes ∷ ps) h = elim (cases_Bool (nat_lt n (length bytes))) [
+filled_front n (Part bytes ends ∷ ps) h = elim (cases_Bool (nat_lt n (length bytes))) [
   | inl less ↦ let lt : n < length bytes = ltb-true n (length bytes) less in let some : 0 < length (drop n bytes) = omega (arith, length-drop n bytes) in rw less (some, h.1)
   | inr all ↦ rw all h.1
 ]
@@ -99,7 +99,7 @@ smaller_is size a b some h = elim (cases_Bool (a == 0)) [
 waits : (d : List Entry) (s : ℕ) (ps : List Piece) → AreFilled ps → frames_on d s ps ≡ None → Waits d s ps
 waits d s [] h none = tt
 waits d s (Block block ∷ ps) h none = let k : Some (block_frames d s block) ≡ None = none in let z : ⊥ = cc in z
-waits d s (Part bytes ∷ ps) h none =
+waits d s (Part bytes ends ∷ ps) h none =
     let a : ℤ = window_left (window d s) in
     let b : ℤ = window_left (connection_window d) in
     let n = none_of (part_size (length bytes) (window_left (window d s)) (window_left (connection_window d))) _ none in

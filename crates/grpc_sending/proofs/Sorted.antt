@@ -21,7 +21,7 @@ use Rattle.grpc_sending.proofs.Sources.{sum_append, same_set, few_at, pushed_sou
 
 -- ---- orders
 
-above_more : (s t : ℕ) (qs : List StoredQueue) → s < t → AreAbove t qs → AreAbove s qs
+pub above_more : (s t : ℕ) (qs : List StoredQueue) → s < t → AreAbove t qs → AreAbove s qs
 above_more s t [] lt h = tt
 above_more s t (q ∷ qs) lt h = (let a = h.0 in omega (arith, lt, a), above_more s t qs lt h.1)
 
@@ -36,7 +36,7 @@ itself s q is = grind (arith, nat_tests)
 
 -- ---- a stream with no queue
 
-above_none : (s : ℕ) (qs : List StoredQueue) → AreAbove s qs → stored_on s qs ≡ []
+pub above_none : (s : ℕ) (qs : List StoredQueue) → AreAbove s qs → stored_on s qs ≡ []
 above_none s [] h = refl
 above_none s (q ∷ qs) h = let off = higher s q h.0 in rw off (above_none s qs h.1)
 

@@ -20,7 +20,7 @@ use Rattle.grpc_sending.specs.Pump.{part_size}
 use Rattle.grpc_sending.specs.StandsFor.{pieces_on}
 use Rattle.grpc_sending.specs.Step.{content_turn, turn_of, turn_on, next_turn, without_first_at, without_front_at}
 use Rattle.grpc_sending.specs.StoredSending.{SourceTexts, EndsWithinText, EndWithinTexts, QueuesEndWithin, pieces_in, queue_in, stored_on, stored_front, stored_first_at, stored_front_at, front_bytes, count_due, due_of, due_on, next_due}
-use Rattle.grpc_sending.specs.Spans.{Span, span_pieces, span_front, span_size, span_after, IsSpan}
+use Rattle.grpc_sending.specs.Spans.{Span, span_pieces, span_ends, span_front, span_size, span_after, IsSpan}
 use Rattle.grpc_sending.proofs.Spans.{span_is, span_rest, span_front_size, span_put, span_less, span_next}
 use Rattle.grpc_sending.proofs.Queues.{same_test, other_test, changed_on}
 
@@ -93,7 +93,7 @@ count_is s n bytes h = elim (cases_Bool (n == 0)) [
 ]
 
 -- a range in front
-range_front : (texts : SourceTexts) (s : Span) (ps : List StoredPiece) → IsSpan most_read s (texts s.source) → flat_map (pieces_in texts) (Ranged s ∷ ps) ≡ Part (span_front most_read s (texts s.source)) ∷ (span_rest most_read s (texts s.source) ++ flat_map (pieces_in texts) ps)
+range_front : (texts : SourceTexts) (s : Span) (ps : List StoredPiece) → IsSpan most_read s (texts s.source) → flat_map (pieces_in texts) (Ranged s ∷ ps) ≡ Part (span_front most_read s (texts s.source)) (span_ends most_read s (texts s.source)) ∷ (span_rest most_read s (texts s.source) ++ flat_map (pieces_in texts) ps)
 range_front texts s ps h = ap (λ (qs : List Piece). qs ++ flat_map (pieces_in texts) ps) (span_is most_read s (texts s.source) (omega arith) h)
 
 due_is_of : (texts : SourceTexts) (cw : ℤ) (x : Stream) (ps : List StoredPiece) → EndWithinTexts texts ps → due_of cw x ps ≡ option_map counted (turn_of cw x (flat_map (pieces_in texts) ps))
@@ -163,7 +163,7 @@ block_front : (texts : SourceTexts) (block : ResponseBlock) (rest : List Piece) 
 block_front texts block rest [] fit h = record { same = refl }
 block_front texts block rest (Encoded b ∷ ps) fit h = record { same = refl }
 block_front texts block rest (Framed bytes ∷ ps) fit h = record { same = refl }
-block_front texts block rest (Ranged s ∷ ps) fit h = let k : Part (span_front most_read s (texts s.source)) ∷ (span_rest most_read s (texts s.source) ++ flat_map (pieces_in texts) ps) ≡ Block block ∷ rest = sym (range_front texts s ps fit.0) ∙ h in cc
+block_front texts block rest (Ranged s ∷ ps) fit h = let k : Part (span_front most_read s (texts s.source)) (span_ends most_read s (texts s.source)) ∷ (span_rest most_read s (texts s.source) ++ flat_map (pieces_in texts) ps) ≡ Block block ∷ rest = sym (range_front texts s ps fit.0) ∙ h in cc
 
 pub block_removed : (texts : SourceTexts) (s : ℕ) (qs : List StoredQueue) (block : ResponseBlock) (rest : List Piece) → QueuesEndWithin texts qs → pieces_on s (map (queue_in texts) qs) ≡ Block block ∷ rest →
     (t : ℕ) → pieces_on t (map (queue_in texts) (map (stored_first_at s) qs)) ≡ pieces_on t (map (without_first_at s) (map (queue_in texts) qs))
@@ -175,31 +175,31 @@ after_shown texts n s = elim (cases_Bool (nat_lt n (span_size most_read s))) [
   | inr whole ↦ elim (cases_Bool (nat_lt most_read (s.until - s.from))) [ inl more ↦ rw (whole, more) refl | inr last ↦ rw (whole, last) refl ]
 ]
 
-part_front : (texts : SourceTexts) (n : ℕ) (bytes : List ℕ) (rest : List Piece) (ps : List StoredPiece) → EndWithinTexts texts ps → flat_map (pieces_in texts) ps ≡ Part bytes ∷ rest → n ≤ length bytes → Changes texts (stored_front n) (without_front n) ps
-part_front texts n bytes rest [] fit h k = record { same = refl }
-part_front texts n bytes rest (Encoded b ∷ ps) fit h k = record { same = refl }
-part_front texts n bytes rest (Framed bs ∷ ps) fit h k = elim (cases_Bool (nat_lt n (length bs))) [
+part_front : (texts : SourceTexts) (n : ℕ) (bytes : List ℕ) (ends : List (List ℕ)) (rest : List Piece) (ps : List StoredPiece) → EndWithinTexts texts ps → flat_map (pieces_in texts) ps ≡ Part bytes ends ∷ rest → n ≤ length bytes → Changes texts (stored_front n) (without_front n) ps
+part_front texts n bytes ends rest [] fit h k = record { same = refl }
+part_front texts n bytes ends rest (Encoded b ∷ ps) fit h k = record { same = refl }
+part_front texts n bytes ends rest (Framed bs ∷ ps) fit h k = elim (cases_Bool (nat_lt n (length bs))) [
   | inl less ↦ record { same = rw less refl }
   | inr all ↦ record { same = rw all refl }
 ]
-part_front texts n bytes rest (Ranged s ∷ ps) fit h k =
-    let e : Part (span_front most_read s (texts s.source)) ∷ (span_rest most_read s (texts s.source) ++ flat_map (pieces_in texts) ps) ≡ Part bytes ∷ rest = sym (range_front texts s ps fit.0) ∙ h in
+part_front texts n bytes ends rest (Ranged s ∷ ps) fit h k =
+    let e : Part (span_front most_read s (texts s.source)) (span_ends most_read s (texts s.source)) ∷ (span_rest most_read s (texts s.source) ++ flat_map (pieces_in texts) ps) ≡ Part bytes ends ∷ rest = sym (range_front texts s ps fit.0) ∙ h in
     let b : span_front most_read s (texts s.source) ≡ bytes = cc in
     let few : n ≤ span_size most_read s = omega (arith, k, ap length b, span_front_size most_read s (texts s.source) fit.0) in
     record { same = flat_map-append (pieces_in texts) (map Ranged (span_after most_read n s)) ps ∙ ap (λ (qs : List Piece). qs ++ flat_map (pieces_in texts) ps) (after_shown texts n s) ∙ span_put most_read n s (texts s.source) (flat_map (pieces_in texts) ps) (omega arith) fit.0 few }
 
-pub part_removed : (texts : SourceTexts) (s n : ℕ) (qs : List StoredQueue) (bytes : List ℕ) (rest : List Piece) → QueuesEndWithin texts qs → pieces_on s (map (queue_in texts) qs) ≡ Part bytes ∷ rest → n ≤ length bytes →
+pub part_removed : (texts : SourceTexts) (s n : ℕ) (qs : List StoredQueue) (bytes : List ℕ) (ends : List (List ℕ)) (rest : List Piece) → QueuesEndWithin texts qs → pieces_on s (map (queue_in texts) qs) ≡ Part bytes ends ∷ rest → n ≤ length bytes →
     (t : ℕ) → pieces_on t (map (queue_in texts) (map (stored_front_at s n) qs)) ≡ pieces_on t (map (without_front_at s n) (map (queue_in texts) qs))
-part_removed texts s n qs bytes rest fit is short = changed_in texts (stored_front n) (without_front n) s qs refl refl (part_front texts n bytes rest (stored_on s qs) (fit s) (sym (on_in texts s qs) ∙ is) short)
+part_removed texts s n qs bytes ends rest fit is short = changed_in texts (stored_front n) (without_front n) s qs refl refl (part_front texts n bytes ends rest (stored_on s qs) (fit s) (sym (on_in texts s qs) ∙ is) short)
 
-front_of : (texts : SourceTexts) (bytes : List ℕ) (rest : List Piece) (ps : List StoredPiece) → EndWithinTexts texts ps → flat_map (pieces_in texts) ps ≡ Part bytes ∷ rest → front_bytes texts ps ≡ bytes
-front_of texts bytes rest [] fit h = cc
-front_of texts bytes rest (Encoded b ∷ ps) fit h = let k : Block b ∷ flat_map (pieces_in texts) ps ≡ Part bytes ∷ rest = h in cc
-front_of texts bytes rest (Framed bs ∷ ps) fit h = let k : Part bs ∷ flat_map (pieces_in texts) ps ≡ Part bytes ∷ rest = h in cc
-front_of texts bytes rest (Ranged s ∷ ps) fit h = let k : Part (span_front most_read s (texts s.source)) ∷ (span_rest most_read s (texts s.source) ++ flat_map (pieces_in texts) ps) ≡ Part bytes ∷ rest = sym (range_front texts s ps fit.0) ∙ h in cc
+front_of : (texts : SourceTexts) (bytes : List ℕ) (ends : List (List ℕ)) (rest : List Piece) (ps : List StoredPiece) → EndWithinTexts texts ps → flat_map (pieces_in texts) ps ≡ Part bytes ends ∷ rest → front_bytes texts ps ≡ bytes
+front_of texts bytes ends rest [] fit h = cc
+front_of texts bytes ends rest (Encoded b ∷ ps) fit h = let k : Block b ∷ flat_map (pieces_in texts) ps ≡ Part bytes ends ∷ rest = h in cc
+front_of texts bytes ends rest (Framed bs ∷ ps) fit h = let k : Part bs [] ∷ flat_map (pieces_in texts) ps ≡ Part bytes ends ∷ rest = h in cc
+front_of texts bytes ends rest (Ranged s ∷ ps) fit h = let k : Part (span_front most_read s (texts s.source)) (span_ends most_read s (texts s.source)) ∷ (span_rest most_read s (texts s.source) ++ flat_map (pieces_in texts) ps) ≡ Part bytes ends ∷ rest = sym (range_front texts s ps fit.0) ∙ h in cc
 
-pub front_is : (texts : SourceTexts) (s : ℕ) (qs : List StoredQueue) (bytes : List ℕ) (rest : List Piece) → QueuesEndWithin texts qs → pieces_on s (map (queue_in texts) qs) ≡ Part bytes ∷ rest → front_bytes texts (stored_on s qs) ≡ bytes
-front_is texts s qs bytes rest fit is = front_of texts bytes rest (stored_on s qs) (fit s) (sym (on_in texts s qs) ∙ is)
+pub front_is : (texts : SourceTexts) (s : ℕ) (qs : List StoredQueue) (bytes : List ℕ) (ends : List (List ℕ)) (rest : List Piece) → QueuesEndWithin texts qs → pieces_on s (map (queue_in texts) qs) ≡ Part bytes ends ∷ rest → front_bytes texts (stored_on s qs) ≡ bytes
+front_is texts s qs bytes ends rest fit is = front_of texts bytes ends rest (stored_on s qs) (fit s) (sym (on_in texts s qs) ∙ is)
 
 -- where nothing, or a block, comes first there are no bytes
 pub none_there : (texts : SourceTexts) (n : ℕ) (ps : List StoredPiece) → ps ≡ [] → 0 < n → n ≤ length (front_bytes texts ps) → ⊥

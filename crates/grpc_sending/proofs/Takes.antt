@@ -215,7 +215,7 @@ pub owe_range_by : {T E : Type 0} (streams : Standing) (w v : StoredSending) (rs
     OnOk r ((texts : SourceTexts) (digest : Digest) (d : List Entry) (os : List OwedItem) → AreStreams streams d → IsSending (sending_in texts v) d os → IsSending (record { pending = w.pending; position = w.position; queues = map (queue_in texts) rs }) d (owed_with_item d os s (Range digest (texts p.source) p.from (p.until - p.from))))
 owe_range_by streams w v rs s p (Err e) is alive lives none h = tt
 owe_range_by streams w v rs s p (Ok x) is alive lives none h = λ texts digest d os at st.
-    let piece : pieces_in texts (Ranged p) ≡ pieces_of (Range digest (texts p.source) p.from (p.until - p.from)) = ap (λ k. without_front k (read_pieces (span_text p (texts p.source)))) none ∙ without_none most_read (length (span_text p (texts p.source))) (span_text p (texts p.source)) in
+    let piece : pieces_in texts (Ranged p) ≡ pieces_of (Range digest (texts p.source) p.from (p.until - p.from)) = ap (λ k. without_front k (read_pieces (texts p.source) (span_text p (texts p.source)))) none ∙ without_none (texts p.source) most_read (length (span_text p (texts p.source))) (span_text p (texts p.source)) in
     stands_owed streams (sending_in texts w) d os s (Range digest (texts p.source) p.from (p.until - p.from)) (map (queue_in texts) rs) alive lives (subst (λ (y : List Piece). Given (map (queue_in texts) w.queues) (map (queue_in texts) rs) s y) piece (given_in texts w.queues rs s (Ranged p) h)) at (subst (λ (x : StoredSending). IsSending (sending_in texts x) d os) (sym is) st)
 
 -- an item of no pieces
@@ -229,7 +229,7 @@ stands_empty v w d os s item none at st = elim (cases_Bool (v.failed)) [
 ]
 
 empty_pieces : (digest : Digest) (text : List ℕ) (from until : ℕ) → from ≡ until → pieces_of (Range digest text from (until - from)) ≡ []
-empty_pieces digest text from until is = let e : until - from ≡ 0 = omega (arith, is) in ap (λ n. read_pieces (take n (drop from text))) e
+empty_pieces digest text from until is = let e : until - from ≡ 0 = omega (arith, is) in ap (λ n. read_pieces text (take n (drop from text))) e
 
 -- a range of which nothing is to be put: it is empty, or the stream is not live
 abbrev pub IsNothing : Standing → ℕ → ℕ → ℕ → Type 0

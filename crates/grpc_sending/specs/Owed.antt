@@ -41,14 +41,15 @@ owed_with_item d os s item =
 -- each message of a range
 abbrev pub pieces_of : Item → List Piece
 pieces_of (Headed block) = Block block ∷ []
-pieces_of (Message message) = Part (framed_message message) ∷ []
-pieces_of (Range digest text from count) = read_pieces (take count (drop from text))
+pieces_of (Message message) = Part (framed_message message) [] ∷ []
+pieces_of (Range digest text from count) = read_pieces text (take count (drop from text))
 
 -- n bytes of the message in front
 abbrev pub without_front : ℕ → List Piece → List Piece
 without_front n [] = []
 without_front n (Block block ∷ ps) = Block block ∷ ps
-without_front n (Part bytes ∷ ps) = if nat_lt n (length bytes) then Part (drop n bytes) ∷ ps else ps
+without_front n (Part bytes ends ∷ ps) =
+    if nat_lt n (length bytes) then Part (drop n bytes) ends ∷ ps else ps
 
 -- what a frame leaves of what is to be put on stream s: HEADERS puts a block, DATA a part of a
 -- message
@@ -67,3 +68,18 @@ pieces_after_frames fs s ps = fold (pieces_after_frame s) ps fs
 abbrev pub pieces_left_on : List Entry → List OwedItem → ℕ → List Piece
 pieces_left_on d os s =
     pieces_after_frames (sent_frames d) s (flat_map pieces_of (items_owed_on s os))
+
+-- ---- ranges that are not wholly put
+
+-- the text of which a range ends with this piece
+abbrev pub ends_of : Piece → List (List ℕ)
+ends_of (Block block) = []
+ends_of (Part bytes ends) = ends
+
+-- the whole text of each range that stream s is owed and that is not wholly put
+abbrev pub ranges_left_on : List Entry → List OwedItem → ℕ → List (List ℕ)
+ranges_left_on d os s = flat_map ends_of (pieces_left_on d os s)
+
+-- those of all streams: of live ones, while no error of the connection was met
+abbrev pub ranges_left : List Entry → List OwedItem → List (List ℕ)
+ranges_left d os = if has_failed d then [] else flat_map (ranges_left_on d os) (live_streams d)

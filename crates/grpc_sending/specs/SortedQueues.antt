@@ -1,5 +1,5 @@
 -- Queues in rising order of their streams, and the place of a stream's queue among them. For the
--- code alone: no public contract speaks of them.
+-- code alone: `IsQueueAt` and `IsGapFor`.
 use Rattle.std.specs.Prelude.{◌≡◌, ◌<◌, ℕ, zero, suc, List, [], ◌∷◌}
 use Rattle.std.specs.List.{AllByRecursion}
 use Rattle.grpc_sending.specs.declared.queue.StoredQueue.{StoredQueue}

@@ -35,7 +35,11 @@ span_text s text = take (s.until - s.from) (drop s.from text)
 -- the pieces that it stands for, messages of at most m bytes
 abbrev pub span_pieces : ℕ → Span → List ℕ → List Piece
 span_pieces m s text =
-    without_front s.put (message_pieces m (length (span_text s text)) (span_text s text))
+    without_front s.put (message_pieces text m (length (span_text s text)) (span_text s text))
+
+-- the text, where the range ends with the first of them
+abbrev pub span_ends : ℕ → Span → List ℕ → List (List ℕ)
+span_ends m s text = if nat_lt m (s.until - s.from) then [] else text ∷ []
 
 -- the bytes of the first
 abbrev pub span_front : ℕ → Span → List ℕ → List ℕ

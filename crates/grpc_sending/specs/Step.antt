@@ -23,7 +23,7 @@ content_turn s n bytes = if n == 0 then None else Some (Content s (take n bytes)
 abbrev pub turn_of : ℤ → Stream → List Piece → Option Turn
 turn_of connection_window x [] = None
 turn_of connection_window x (Block block ∷ ps) = Some (Head x.number block x.ended_by_client)
-turn_of connection_window x (Part bytes ∷ ps) =
+turn_of connection_window x (Part bytes ends ∷ ps) =
     content_turn x.number (part_size (length bytes) (window_left x.window) connection_window) bytes
 
 abbrev pub turn_on : List Queue → ℤ → Stream → Option Turn

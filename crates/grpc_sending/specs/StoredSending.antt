@@ -7,7 +7,8 @@ use Rattle.hpack.specs.declared.encoder.Position.TheVariants.{First}
 use Rattle.http2_streams.specs.Credit.{window_left}
 use Rattle.http2_frames.specs.declared.frame.Frame.TheVariants.{Data}
 use Rattle.http2_frames.specs.Writing.{text_of}
-use Rattle.http2_streams.specs.History.{Entry, Out, is_not_closed, is_ended_by_server, has_failed}
+use Rattle.http2_streams.specs.History.{Entry, Out, live_streams, is_not_closed, is_ended_by_server, has_failed}
+use Rattle.http2_streams.specs.LiveStreams.{has_stream}
 use Rattle.http2_frames.specs.declared.frame.Frame.{Frame}
 use Rattle.http2_streams.specs.declared.stream.Stream.{Stream}
 use Rattle.http2_streams.specs.Standing.{Standing}
@@ -23,8 +24,9 @@ use Rattle.grpc_sending.specs.declared.turn.Due.{Due}
 use Rattle.grpc_sending.specs.declared.turn.Due.TheVariants.{Opens, Gives}
 use Rattle.grpc_sending.specs.Pieces.{Piece, Block, Part, Queue, most_read}
 use Rattle.grpc_sending.specs.Sources.{count_of, sources_held}
+use Rattle.grpc_sending.specs.SortedQueues.{AreSorted}
 use Rattle.grpc_sending.specs.Spans.{Span, span_pieces, span_front, span_size, span_after, IsSpan}
-use Rattle.grpc_sending.specs.Owed.{OwedItem, Item, Range, pieces_left_on, owed_with_item}
+use Rattle.grpc_sending.specs.Owed.{OwedItem, Item, Range, pieces_left_on, ranges_left, owed_with_item}
 use Rattle.grpc_sending.specs.Pump.{part_size, first_of, next_frames, history_after_pump}
 use Rattle.grpc_sending.specs.Step.{Puts, Rests, Resets, Finishes}
 use Rattle.grpc_sending.specs.StandsFor.{Sending, IsSending}
@@ -50,7 +52,7 @@ new_stored_sending = record { pending = []; position = First; queues = []; spent
 
 abbrev pub pieces_in : SourceTexts → StoredPiece → List Piece
 pieces_in texts (Encoded block) = Block block ∷ []
-pieces_in texts (Framed bytes) = Part bytes ∷ []
+pieces_in texts (Framed bytes) = Part bytes [] ∷ []
 pieces_in texts (Ranged s) = span_pieces most_read s (texts s.source)
 
 abbrev pub queue_in : SourceTexts → StoredQueue → Queue
@@ -190,6 +192,19 @@ abbrev pub KeepsWhatIsLeft : SourceTexts → StoredSending → List Entry → Li
 KeepsWhatIsLeft texts w d os =
     IsStoredSending texts w d os → has_failed d ≡ false → (s : ℕ) → is_not_closed d s ≡ true →
     flat_map (pieces_in texts) (stored_on s w.queues) ≡ pieces_left_on d os s
+
+-- nothing is kept but for live streams, and after an error of the connection for none
+abbrev pub KeepsForLive : List StoredQueue → List Entry → Type 0
+KeepsForLive qs d =
+    (s : ℕ) → (has_failed d ≡ true) ⊎ (has_stream (live_streams d) s ≡ false) →
+    stored_on s qs ≡ []
+
+-- then the sources that are held are those of the ranges that are not wholly put, each once for
+-- each of them, and no other
+abbrev pub KeepsRangesLeft : SourceTexts → StoredSending → List Entry → List OwedItem → Type 0
+KeepsRangesLeft texts w d os =
+    AreSorted w.queues → QueuesEndWithin texts w.queues → KeepsForLive w.queues d →
+    IsStoredSending texts w d os → map texts (sources_held w.queues) ≡ ranges_left d os
 
 -- each range that is kept stays within the text of its source
 abbrev pub KeepsFit : StoredSending → StoredSending → Type 0

@@ -141,6 +141,7 @@ impl Backlog {
         ensures queues { self.new.queues ≡ self.old.queues }
         ensures spent { Tells result self.old.spent self.new.spent }
         ensures none { result ≡ None → self.new ≡ self.old }
+        ensures sorted { AreSorted self.new.queues }
     {
         let source = self.spent.pop()?;
         self.sources -= 1;

@@ -9,7 +9,7 @@ ghost use Rattle.grpc_sending.specs.Owed.{OwedItem};
 ghost use Rattle.grpc_sending.specs.Pump.{history_after_pump};
 ghost use Rattle.grpc_sending.specs.Wire.{IsFieldTen};
 ghost use Rattle.grpc_sending.specs.Settled.{IsSettled};
-ghost use Rattle.grpc_sending.specs.StoredSending.{SourceTexts, StoredSending, Enters, AgreeFor, StandsAlike, FitsAlike, KeepsWhatIsLeft};
+ghost use Rattle.grpc_sending.specs.StoredSending.{SourceTexts, StoredSending, Enters, AgreeFor, StandsAlike, FitsAlike, KeepsWhatIsLeft, KeepsRangesLeft};
 
 /// The pump leaves nothing that could be put.
 pub fn the_pump_settles()
@@ -34,6 +34,13 @@ pub fn only_texts_of_ranges_matter()
 pub fn what_is_kept_is_what_is_left()
     ensures { (texts : SourceTexts) (w : StoredSending) (d : List Entry) (os : List OwedItem) →
         KeepsWhatIsLeft texts w d os }
+{}
+
+/// The sources that are held are those of the ranges that are not wholly put, each once for each of
+/// them, and no other.
+pub fn sources_are_held_until_their_ranges_are_put()
+    ensures { (texts : SourceTexts) (w : StoredSending) (d : List Entry) (os : List OwedItem) →
+        KeepsRangesLeft texts w d os }
 {}
 
 /// A message of a range is a ReadResponse (bytestream.proto) with these bytes as its data, which is

@@ -151,10 +151,12 @@ impl Sender {
     }
 
     /// Tells a source whose range is over: it was wholly put, or its stream ended before that. Each
-    /// is told once for each range that was owed of it.
+    /// is told once for each range that was owed of it. What is still to be put stands in rising
+    /// order of streams.
     pub fn spent(&mut self) -> Option<usize>
         ensures source { Tells result self.old.spent self.new.spent }
         ensures none { result ≡ None → self.new ≡ self.old }
+        ensures sorted { AreSorted self.new.queues }
         ensures rest { self.new ≡ record self.old { spent = self.new.spent } }
     {
         self.backlog.pop_spent()

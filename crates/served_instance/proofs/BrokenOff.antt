@@ -1,6 +1,6 @@
 -- An event was refused for want of memory, and what that breaks off is gone: what is left is what the definitions say.
 use Rattle.std.proofs.Common.{◌≡◌, ◌≤◌, refl, sym, ap, ◌∙◌, subst, arith, length}
-use Rattle.std.specs.Prelude.{ℕ, List, [], ◌∷◌, ◌++◌, map, Option, Some, None, Result, Ok, Err, OnErr}
+use Rattle.std.specs.Prelude.{ℕ, Bool, true, false, cond, ◌==◌, List, [], ◌∷◌, ◌++◌, map, Option, Some, None, Result, Ok, Err, OnErr}
 use Rattle.grpc_sending.proofs.Histories.{append-nil}
 use Rattle.grpc_sending.specs.StoredSending.{SourceTexts}
 use Rattle.blob_pool.specs.Slots.{Slots, text_at}
@@ -18,9 +18,9 @@ use Rattle.server_events.specs.Events.{WhatValue, opened, received, took, closed
 use Rattle.served_instance.specs.declared.open_connection.OpenConnection.{OpenConnection}
 use Rattle.served_instance.specs.Acts.{StandsBy, FindAlike, slots_of}
 use Rattle.served_instance.specs.Connections.{LoneConnection, all_closed, open_ones}
-use Rattle.served_instance.specs.Cuts.{CutsAct, broken_by, others_by, others_than, state_without}
+use Rattle.served_instance.specs.Cuts.{CutsAct, broken_by, others_of, others_by, others_than, state_without}
 use Rattle.served_instance.specs.Lone.{LoneInstance, lone_at_rest}
-use Rattle.served_instance.specs.Ranges.{Releases, range_holders}
+use Rattle.served_instance.specs.Ranges.{Releases, RangesEndWithin, AreTidy, range_holders}
 use Rattle.served_instance.specs.Refusals.{NeedsNoMemory}
 use Rattle.served_instance.specs.Short.{IsMadeInPart, after_break, after_break_all, without_job, IsCutEffect}
 use Rattle.served_instance.specs.Shown.{connection_shown}
@@ -75,6 +75,8 @@ pub record IsBroken (parent : ViewValue) (w : WhatValue) (p q r : Slots) (i j k 
   pub finds : FindAlike p q (others_than w os)
   pub left : xs ≡ others_by (broken_by w) ns
   pub still : FindAlike q r xs
+  pub tidy : AreTidy (map connection_shown os)
+  pub fit : RangesEndWithin (text_at r) (map connection_shown xs)
   pub forgotten : state_in r k ≡ state_without (broken_by w) (state_in q j)
 
 -- the connections that are left stand for these
@@ -83,9 +85,28 @@ others_stand parent w p q r i j k os ns xs ls b s =
     let now = served_agreed (text_at p) (text_at q) (map connection_shown (others_than w os)) ls b.finds s in
     subst (λ (ys : List OpenConnection). AreServed (text_at q) (map connection_shown ys) ls) (sym (b.left ∙ b.others)) now
 
+-- they are tidy still
+tidy_others : (c : ℕ) (os : List OpenConnection) → AreTidy (map connection_shown os) → AreTidy (map connection_shown (others_of c os))
+tidy_others c [] h = tt
+tidy_others c (o ∷ os) h = go (o.number == c) (tidy_others c os h.1) where
+  go : (b : Bool) → AreTidy (map connection_shown (others_of c os)) → AreTidy (map connection_shown (cond b os (o ∷ others_of c os)))
+  go true later = h.1
+  go false later = (h.0, later)
+
+tidy_than : (w : WhatValue) (os : List OpenConnection) → AreTidy (map connection_shown os) → AreTidy (map connection_shown (others_than w os))
+tidy_than (opened c) os h = h
+tidy_than (received c bytes) os h = tidy_others c os h
+tidy_than (took c n) os h = h
+tidy_than (closed c) os h = h
+tidy_than tick os h = tt
+tidy_than (ended job outcome) os h = tt
+
+pub still_tidy : (w : WhatValue) (os ns xs : List OpenConnection) → xs ≡ others_by (broken_by w) ns → others_than w ns ≡ others_than w os → AreTidy (map connection_shown os) → AreTidy (map connection_shown xs)
+still_tidy w os ns xs left others tidy = subst (λ (ys : List OpenConnection). AreTidy (map connection_shown ys)) (sym (left ∙ others)) (tidy_than w os tidy)
+
 left_stands : (parent : ViewValue) (w : WhatValue) (p q r : Slots) (i j k : InstanceSlots) (os ns xs : List OpenConnection) (n : LoneInstance) → IsBroken parent w p q r i j k os ns xs → WatchAtRest n.state → state_in r k ≡ n.state → AreServed (text_at q) (map connection_shown xs) (open_ones n.connections) →
     IsServedInstance (served_state_in r (slots_of k xs)) n
-left_stands parent w p q r i j k os ns xs n b watched e s = stands_for q r k xs n watched b.still (record { state = e; connections = s })
+left_stands parent w p q r i j k os ns xs n b watched e s = stands_for q r k xs n watched (still_tidy w os ns xs b.left b.others b.tidy) b.fit b.still (record { state = e; connections = s })
 
 none_open : (ks : List LoneConnection) → open_ones (all_closed ks) ≡ []
 none_open [] = refl

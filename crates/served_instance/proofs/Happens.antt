@@ -23,7 +23,7 @@ use Rattle.served_instance.specs.declared.open_connection.OpenConnection.{OpenCo
 use Rattle.served_instance.specs.Connections.{LoneConnection, open_ones}
 use Rattle.served_instance.specs.OwedReplies.{item_by, reply_by, CanBeOwed, ReplyCanBeOwed, ItemsEndWithin, RepliesEndWithin, AllTakeRanges}
 use Rattle.served_instance.specs.Lone.{LoneInstance, after_replies, after_call_event}
-use Rattle.served_instance.specs.Ranges.{served_with, sources_at, range_holders}
+use Rattle.served_instance.specs.Ranges.{seen_with, sources_at, range_holders}
 use Rattle.served_instance.specs.Shown.{connection_shown}
 use Rattle.served_instance.specs.Slots.{IsServedBeside, holders_of, IsServedInPool}
 use Rattle.served_instance.specs.StandsFor.{ServedConnection, AreServed}
@@ -124,7 +124,7 @@ answered_kept given IsGood p q r i j vs ws a short =
       others = λ k. omega (arith, a.moves.counts k, a.takes.moves.counts k, a.takes.sources k, a.kept.others k);
       within = record {
         instance = subst IsInstanceWithin (sym (answered_state given IsGood p q r i j vs ws a)) a.within;
-        connections = omega (arith, short, length-map ws (served_with (text_at r)));
+        connections = omega (arith, short, length-map ws (seen_with (text_at r)));
       };
       fit = fit_agreed_each (text_at q) (text_at r) ws find
           (a.takes.fit (text_at q) a.good (fit_agreed_each (text_at p) (text_at q) vs (asked_finds given p q i j vs a.kept a.moves) a.kept.fit));

@@ -12,14 +12,14 @@ use Rattle.executor.specs.InPool.{jobs_in}
 use Rattle.executor.proofs.Calling.{jobs_same, view_same}
 use Rattle.served_instance.specs.StandsFor.{ServedConnection}
 use Rattle.served_instance.specs.Slots.{ServedSlots, holders_of, IsServedInPool}
-use Rattle.served_instance.specs.Ranges.{AllKeepRanges, Releases, sources_at, range_holders, served_with}
+use Rattle.served_instance.specs.Ranges.{AllKeepRanges, Releases, sources_at, range_holders, seen_with}
 use Rattle.served_instance.proofs.Ranges.{fit_agreed_each, ranges_few}
 
 abbrev pub slots_at : InstanceSlots → List ServedConnection → ServedSlots
 slots_at i vs = record { instance = i; connections = vs }
 
 pub few_connections : (p : Slots) (v : ServedSlots) → IsServedInPool p v → length v.connections ≤ 64
-few_connections p v kept = omega (arith, kept.within.connections, length-map v.connections (served_with (text_at p)))
+few_connections p v kept = omega (arith, kept.within.connections, length-map v.connections (seen_with (text_at p)))
 
 few_ranges : (p : Slots) (v : ServedSlots) (k : ℕ) → IsServedInPool p v → range_holders v.connections k ≤ 64 * 2 ^ 64
 few_ranges p v k kept = ranges_few 64 v.connections k (few_connections p v kept) kept.few
@@ -60,7 +60,7 @@ pub release_keeps : (p q : Slots) (i j : InstanceSlots) (vs ws : List ServedConn
 release_keeps p q i j vs ws kept r same new few = record {
   counted = λ k. omega (arith, r.moves.counts k, r.sources k, same k, kept.counted k);
   others = λ k. omega (arith, r.moves.counts k, r.sources k, same k, kept.others k);
-  within = record { instance = new.within; connections = omega (arith, few, length-map ws (served_with (text_at q))) };
+  within = record { instance = new.within; connections = omega (arith, few, length-map ws (seen_with (text_at q))) };
   fit = fit_agreed_each (text_at p) (text_at q) ws (release_finds p q i vs ws kept r) (r.fit (text_at p) kept.fit);
   few = r.few kept.few;
 }
@@ -70,7 +70,7 @@ pub alike_keeps : (p : Slots) (i : InstanceSlots) (vs ws : List ServedConnection
 alike_keeps p i vs ws kept alike few = record {
   counted = λ k. omega (arith, alike.sources k, kept.counted k);
   others = λ k. omega (arith, alike.sources k, kept.others k);
-  within = record { instance = kept.within.instance; connections = omega (arith, few, length-map ws (served_with (text_at p))) };
+  within = record { instance = kept.within.instance; connections = omega (arith, few, length-map ws (seen_with (text_at p))) };
   fit = alike.fit (text_at p) kept.fit;
   few = alike.few kept.few;
 }

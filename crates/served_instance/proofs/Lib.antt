@@ -2,6 +2,7 @@ pub mod Places
 pub mod Opens
 pub mod Serves
 pub mod Ranges
+mod Exact
 mod Apart
 pub mod Refuses
 pub mod Changes

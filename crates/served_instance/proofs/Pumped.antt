@@ -7,36 +7,39 @@ use Rattle.instance_core.specs.Slots.{InstanceSlots}
 use Rattle.served_instance.specs.declared.open_connection.OpenConnection.{OpenConnection}
 use Rattle.served_instance.specs.Connections.{LoneConnection, open_ones, at_all_open}
 use Rattle.served_instance.specs.Lone.{LoneInstance, after_pump}
-use Rattle.served_instance.specs.Slots.{served_state_in, IsServedInPool}
-use Rattle.served_instance.specs.StandsFor.{IsServedInstance, AreServed}
-use Rattle.served_instance.specs.Ranges.{Releases, range_holders}
+use Rattle.served_instance.specs.Slots.{StandsIn, IsServedInPool}
+use Rattle.served_instance.specs.StandsFor.{AreServed}
+use Rattle.served_instance.specs.Ranges.{Releases, AreTidy, range_holders}
 use Rattle.served_instance.specs.Shown.{connection_shown}
 use Rattle.served_instance.specs.Acts.{slots_of}
 use Rattle.served_instance.proofs.Kept.{few_connections, instance_after, release_finds, release_keeps, same_state}
-use Rattle.served_instance.proofs.Stands.{stands_by, stands_for}
+use Rattle.served_instance.proofs.Ranges.{served_agreed}
 
 pub counted_ranges : (p : Slots) (i : InstanceSlots) (os : List OpenConnection) → IsServedInPool p (slots_of i os) → (k : ℕ) → range_holders (map connection_shown os) k ≤ count_at p k
 counted_ranges p i os kept k = omega (arith, kept.counted k)
 
 -- what the instance is afterwards
 pub record IsPumped (p q : Slots) (i : InstanceSlots) (os ns : List OpenConnection) : Type 0 where
-  pub stands : (l : LoneInstance) → IsServedInstance (served_state_in p (slots_of i os)) l → IsServedInstance (served_state_in q (slots_of i ns)) (after_pump l)
+  pub stands : (l : LoneInstance) → StandsIn p (slots_of i os) l → StandsIn q (slots_of i ns) (after_pump l)
+  pub tidy : AreTidy (map connection_shown ns)
   pub kept : IsServedInPool q (slots_of i ns)
 
 -- the connections put all that can be put, and released what no range is left of
 pub record PumpsAll (p q : Slots) (os ns : List OpenConnection) : Type 0 where
   pub stands : (ks : List LoneConnection) → AreServed (text_at p) (map connection_shown os) (open_ones ks) → AreServed (text_at p) (map connection_shown ns) (open_ones (at_all_open with_pumped ks))
+  pub tidy : AreTidy (map connection_shown ns)
   pub releases : Releases p (map connection_shown os) q (map connection_shown ns)
   pub count : length ns ≡ length os
 
 is_pumped : (p q : Slots) (i : InstanceSlots) (os ns : List OpenConnection) → IsServedInPool p (slots_of i os) → PumpsAll p q os ns → IsPumped p q i os ns
 is_pumped p q i os ns kept pumped = record {
   stands = λ l st.
-      let before = stands_by p i os l kept.fit st in
-      stands_for p q i ns (after_pump l) st.watched (release_finds p q i (map connection_shown os) (map connection_shown ns) kept pumped.releases) (record {
-        state = same_state p q i (map connection_shown os) (map connection_shown ns) kept pumped.releases ∙ before.state;
-        connections = pumped.stands l.connections before.connections;
-      });
+      let vs = map connection_shown ns in
+      record {
+        state = same_state p q i (map connection_shown os) vs kept pumped.releases ∙ st.state;
+        connections = served_agreed (text_at p) (text_at q) vs (open_ones (after_pump l).connections) (release_finds p q i (map connection_shown os) vs kept pumped.releases) (pumped.stands l.connections st.connections);
+      };
+  tidy = pumped.tidy;
   kept = release_keeps p q i i (map connection_shown os) (map connection_shown ns) kept pumped.releases (λ k. refl) (instance_after p q i (map connection_shown os) (map connection_shown ns) kept pumped.releases)
       (omega (arith, pumped.count, few_connections p (slots_of i os) kept, length-map os connection_shown, length-map ns connection_shown));
 }

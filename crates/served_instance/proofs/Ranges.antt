@@ -9,88 +9,71 @@ use Rattle.grpc_sending.specs.declared.piece.StoredPiece.TheVariants.{Encoded, F
 use Rattle.grpc_sending.specs.declared.queue.StoredQueue.{StoredQueue}
 use Rattle.grpc_sending.specs.Pieces.{Piece, Block, Part, Queue}
 use Rattle.grpc_sending.specs.Sources.{count_of, sources_in, sources_held}
-use Rattle.grpc_sending.specs.StandsFor.{IsSending}
-use Rattle.grpc_sending.specs.StoredSending.{SourceTexts, StoredSending, AgreeOn, KeepsFit, QueuesEndWithin, EndWithinTexts, stored_on, pieces_in, queue_in, sources_of}
+use Rattle.grpc_sending.specs.StandsFor.{pieces_on}
+use Rattle.grpc_sending.specs.StoredSending.{SourceTexts, StoredSending, AgreeOn, KeepsFit, QueuesEndWithin, EndWithinTexts, new_stored_sending, sending_in, stored_on, pieces_in, queue_in, sources_of}
 use Rattle.grpc_sending.proofs.Agreeing.{count_append, agree_left, agree_right, same_shown, stands_agreed, fit_agreed}
 use Rattle.conn_core.specs.Past.{Past}
-use Rattle.conn_core.specs.StandsFor.{ConnectionValue, IsConnection}
+use Rattle.conn_core.specs.StandsFor.{ConnectionValue, IsConnection, IsSeen}
 use Rattle.served_instance.specs.declared.open_connection.OpenConnection.{OpenConnection}
 use Rattle.served_instance.specs.Connections.{LoneConnection}
-use Rattle.served_instance.specs.StandsFor.{ServedConnection, AreServed, no_texts}
-use Rattle.served_instance.specs.Ranges.{stored_piece, queue_with, served_with, sources_at, range_holders, HaveFewSources, RangesEndWithin, KeepsRanges, AllKeepRanges}
+use Rattle.served_instance.specs.StandsFor.{ServedConnection, SeenConnection, AreServed, AreSeen}
+use Rattle.served_instance.specs.Ranges.{seen_with, sources_at, range_holders, HaveFewSources, RangesEndWithin, KeepsRanges, AllKeepRanges}
 use Rattle.served_instance.specs.Shown.{connection_shown}
 use Rattle.served_instance.specs.Acts.{HoldAlike}
 use Rattle.served_instance.specs.Present.{is_numbered}
 use Rattle.served_instance.proofs.Places.{IsPlace, is_place}
 use Rattle.grpc_sending.specs.Pieces.{most_read}
-use Rattle.grpc_sending.specs.Spans.{span_pieces, span_front}
+use Rattle.grpc_sending.specs.Spans.{span_pieces, span_ends, span_front}
 use Rattle.grpc_sending.proofs.Spans.{span_is, span_rest}
+use Rattle.grpc_sending.proofs.Stored.{on_in}
 
 -- ---- with their texts
 
-same_pieces : (t : SourceTexts) (ps : List Piece) → flat_map (pieces_in t) (map stored_piece ps) ≡ ps
-same_pieces t [] = refl
-same_pieces t (Block block ∷ ps) = ap (λ (xs : List Piece). Block block ∷ xs) (same_pieces t ps)
-same_pieces t (Part bytes ∷ ps) = ap (λ (xs : List Piece). Part bytes ∷ xs) (same_pieces t ps)
-
-same_queues : (t texts : SourceTexts) (qs : List StoredQueue) → map (queue_in t) (map (queue_with texts) qs) ≡ map (queue_in texts) qs
-same_queues t texts [] = refl
-same_queues t texts (q ∷ qs) =
-    ap (λ (ps : List Piece). record { stream = q.stream; pieces = ps } ∷ map (queue_in t) (map (queue_with texts) qs)) (same_pieces t (flat_map (pieces_in texts) q.pieces))
-    ∙ ap (λ (rs : List Queue). queue_in texts q ∷ rs) (same_queues t texts qs)
-
-with_on : (texts : SourceTexts) (s : ℕ) (qs : List StoredQueue) → stored_on s (map (queue_with texts) qs) ≡ map stored_piece (flat_map (pieces_in texts) (stored_on s qs))
-with_on texts s [] = refl
-with_on texts s (q ∷ qs) = elim (cases_Bool (q.stream == s)) [
-  | inl here ↦ rw here refl
-  | inr later ↦ rw later (with_on texts s qs)
-]
-
 -- nothing is kept for a stream, with the texts and without them
-seen_none : (texts : SourceTexts) (s : ℕ) (qs : List StoredQueue) → stored_on s qs ≡ [] → stored_on s (map (queue_with texts) qs) ≡ []
-seen_none texts s qs none = with_on texts s qs ∙ ap (λ (ps : List StoredPiece). map stored_piece (flat_map (pieces_in texts) ps)) none
+seen_none : (texts : SourceTexts) (s : ℕ) (qs : List StoredQueue) → stored_on s qs ≡ [] → pieces_on s (map (queue_in texts) qs) ≡ []
+seen_none texts s qs none = on_in texts s qs ∙ ap (flat_map (pieces_in texts)) none
 
-no_pieces : (texts : SourceTexts) (ps : List StoredPiece) → EndWithinTexts texts ps → map stored_piece (flat_map (pieces_in texts) ps) ≡ [] → ps ≡ []
+no_pieces : (texts : SourceTexts) (ps : List StoredPiece) → EndWithinTexts texts ps → flat_map (pieces_in texts) ps ≡ [] → ps ≡ []
 no_pieces texts [] fit none = refl
-no_pieces texts (Encoded block ∷ ps) fit none = let no : Encoded block ∷ map stored_piece (flat_map (pieces_in texts) ps) ≡ [] = none in cc
-no_pieces texts (Framed bytes ∷ ps) fit none = let no : Framed bytes ∷ map stored_piece (flat_map (pieces_in texts) ps) ≡ [] = none in cc
+no_pieces texts (Encoded block ∷ ps) fit none = let no : Block block ∷ flat_map (pieces_in texts) ps ≡ [] = none in cc
+no_pieces texts (Framed bytes ∷ ps) fit none = let no : Part bytes [] ∷ flat_map (pieces_in texts) ps ≡ [] = none in cc
 no_pieces texts (Ranged s ∷ ps) fit none =
-    let first : span_pieces most_read s (texts s.source) ≡ Part (span_front most_read s (texts s.source)) ∷ span_rest most_read s (texts s.source) = span_is most_read s (texts s.source) (omega arith) fit.0 in
-    let no : Framed (span_front most_read s (texts s.source)) ∷ map stored_piece (span_rest most_read s (texts s.source) ++ flat_map (pieces_in texts) ps) ≡ [] =
-    sym (ap (λ (xs : List Piece). map stored_piece (xs ++ flat_map (pieces_in texts) ps)) first) ∙ none in
+    let first : span_pieces most_read s (texts s.source) ≡ Part (span_front most_read s (texts s.source)) (span_ends most_read s (texts s.source)) ∷ span_rest most_read s (texts s.source) = span_is most_read s (texts s.source) (omega arith) fit.0 in
+    let no : Part (span_front most_read s (texts s.source)) (span_ends most_read s (texts s.source)) ∷ (span_rest most_read s (texts s.source) ++ flat_map (pieces_in texts) ps) ≡ [] =
+    sym (ap (λ (xs : List Piece). xs ++ flat_map (pieces_in texts) ps) first) ∙ none in
     cc
 
-plain_none : (texts : SourceTexts) (s : ℕ) (qs : List StoredQueue) → QueuesEndWithin texts qs → stored_on s (map (queue_with texts) qs) ≡ [] → stored_on s qs ≡ []
-plain_none texts s qs fit none = no_pieces texts (stored_on s qs) (fit s) (sym (with_on texts s qs) ∙ none)
+plain_none : (texts : SourceTexts) (s : ℕ) (qs : List StoredQueue) → QueuesEndWithin texts qs → pieces_on s (map (queue_in texts) qs) ≡ [] → stored_on s qs ≡ []
+plain_none texts s qs fit none = no_pieces texts (stored_on s qs) (fit s) (sym (on_in texts s qs) ∙ none)
 
--- what is seen of a connection stands by no texts for what it stands for by these
-seen_connection : (texts : SourceTexts) (s : ServedConnection) (p : Past) → IsConnection texts s.connection p → IsConnection no_texts (served_with texts s).connection p
+-- what is seen of a connection stands for what it stands for by these texts
+seen_connection : (texts : SourceTexts) (s : ServedConnection) (p : Past) → IsConnection texts s.connection p → IsSeen (sending_in texts s.connection.sending) (seen_with texts s).connection p
 seen_connection texts s p h = record {
   ended = h.ended;
   streams = h.streams;
-  sending = subst (λ (qs : List Queue). IsSending (record { pending = s.connection.sending.pending; position = s.connection.sending.position; queues = qs }) p.history p.owed) (sym (same_queues no_texts texts s.connection.sending.queues)) h.sending;
+  sending = h.sending;
   due = h.due;
   over = λ failed t. seen_none texts t s.connection.sending.queues (h.over failed t);
   alive = λ e. let a = h.alive e in record { reader = a.reader; calls = a.calls; order = a.order; live = λ t out. seen_none texts t s.connection.sending.queues (a.live t out); finished = λ t was. let k = a.finished t was in (k.0, seen_none texts t s.connection.sending.queues k.1); counted = a.counted };
 }
 
-plain_connection : (texts : SourceTexts) (s : ServedConnection) (p : Past) → QueuesEndWithin texts s.connection.sending.queues → IsConnection no_texts (served_with texts s).connection p → IsConnection texts s.connection p
+plain_connection : (texts : SourceTexts) (s : ServedConnection) (p : Past) → QueuesEndWithin texts s.connection.sending.queues → IsSeen (sending_in texts s.connection.sending) (seen_with texts s).connection p → IsConnection texts s.connection p
 plain_connection texts s p fit h = record {
   ended = h.ended;
   streams = h.streams;
-  sending = subst (λ (qs : List Queue). IsSending (record { pending = s.connection.sending.pending; position = s.connection.sending.position; queues = qs }) p.history p.owed) (same_queues no_texts texts s.connection.sending.queues) h.sending;
+  sending = h.sending;
   due = h.due;
   over = λ failed t. plain_none texts t s.connection.sending.queues fit (h.over failed t);
   alive = λ e. let a = h.alive e in record { reader = a.reader; calls = a.calls; order = a.order; live = λ t out. plain_none texts t s.connection.sending.queues fit (a.live t out); finished = λ t was. let k = a.finished t was in (k.0, plain_none texts t s.connection.sending.queues fit k.1); counted = a.counted };
 }
 
-pub seen_served : (texts : SourceTexts) (vs : List ServedConnection) (ls : List LoneConnection) → AreServed texts vs ls → AreServed no_texts (map (served_with texts) vs) ls
+pub seen_served : (texts : SourceTexts) (vs : List ServedConnection) (ls : List LoneConnection) → AreServed texts vs ls → AreSeen (map (seen_with texts) vs) ls
 seen_served texts [] [] s = tt
 seen_served texts [] (l ∷ ls) s = absurd s
 seen_served texts (v ∷ vs) [] s = absurd s
 seen_served texts (v ∷ vs) (l ∷ ls) s = (s.0, seen_connection texts v l.past s.1, seen_served texts vs ls s.2)
 
-pub plain_served : (texts : SourceTexts) (vs : List ServedConnection) (ls : List LoneConnection) → RangesEndWithin texts vs → AreServed no_texts (map (served_with texts) vs) ls → AreServed texts vs ls
+pub plain_served : (texts : SourceTexts) (vs : List ServedConnection) (ls : List LoneConnection) → RangesEndWithin texts vs → AreSeen (map (seen_with texts) vs) ls → AreServed texts vs ls
 plain_served texts [] [] fit s = tt
 plain_served texts [] (l ∷ ls) fit s = absurd s
 plain_served texts (v ∷ vs) [] fit s = absurd s
@@ -243,18 +226,22 @@ fit_none texts w none s = fit_on texts s w.queues (left_none (sources_held w.que
 
 -- ---- what is seen is the same by two look-ups that agree
 
-same_stored : (t u : SourceTexts) (qs : List StoredQueue) → AgreeOn (sources_held qs) t u → map (queue_with t) qs ≡ map (queue_with u) qs
+same_stored : (t u : SourceTexts) (qs : List StoredQueue) → AgreeOn (sources_held qs) t u → map (queue_in t) qs ≡ map (queue_in u) qs
 same_stored t u [] h = refl
 same_stored t u (q ∷ qs) h =
-    ap (λ (ps : List Piece). record { stream = q.stream; pieces = map stored_piece ps } ∷ map (queue_with t) qs) (same_shown t u q.pieces (agree_left t u (sources_in q.pieces) (sources_held qs) h))
-    ∙ ap (λ (rs : List StoredQueue). queue_with u q ∷ rs) (same_stored t u qs (agree_right t u (sources_in q.pieces) (sources_held qs) h))
+    ap (λ (ps : List Piece). record { stream = q.stream; pieces = ps } ∷ map (queue_in t) qs) (same_shown t u q.pieces (agree_left t u (sources_in q.pieces) (sources_held qs) h))
+    ∙ ap (λ (rs : List Queue). queue_in u q ∷ rs) (same_stored t u qs (agree_right t u (sources_in q.pieces) (sources_held qs) h))
 
-abbrev seen_queues : ServedConnection → List StoredQueue → ServedConnection
-seen_queues v qs = record v { connection = record v.connection { sending = record { pending = v.connection.sending.pending; position = v.connection.sending.position; queues = qs; spent = [] } } }
+abbrev seen_queues : ServedConnection → List Queue → SeenConnection
+seen_queues v qs = record {
+  number = v.number;
+  connection = record v.connection { sending = new_stored_sending };
+  sending = record { pending = v.connection.sending.pending; position = v.connection.sending.position; queues = qs };
+}
 
 -- the frame law of an instance's connections in a pool that others change
-pub same_served : (t u : SourceTexts) (vs : List ServedConnection) → AgreeOn (sources_at vs) t u → map (served_with t) vs ≡ map (served_with u) vs
+pub same_served : (t u : SourceTexts) (vs : List ServedConnection) → AgreeOn (sources_at vs) t u → map (seen_with t) vs ≡ map (seen_with u) vs
 same_served t u [] h = refl
 same_served t u (v ∷ vs) h =
-    ap (λ (qs : List StoredQueue). seen_queues v qs ∷ map (served_with t) vs) (same_stored t u v.connection.sending.queues (agree_first t u v vs h))
-    ∙ ap (λ (ws : List ServedConnection). served_with u v ∷ ws) (same_served t u vs (agree_others t u v vs h))
+    ap (λ (qs : List Queue). seen_queues v qs ∷ map (seen_with t) vs) (same_stored t u v.connection.sending.queues (agree_first t u v vs h))
+    ∙ ap (λ (ws : List SeenConnection). seen_with u v ∷ ws) (same_served t u vs (agree_others t u v vs h))

@@ -2,6 +2,7 @@
 use Rattle.std.proofs.Common.{◌≡◌, refl, sym, ap, ◌∙◌, subst, zero, suc, ◌+◌, ◌<◌, ◌≤◌, arith, get_or, take, drop, add-one}
 use Rattle.std.proofs.Math.ListN.{set}
 use Rattle.std.proofs.lemmas.Bool.Decides.{nat_tests}
+use Rattle.std.proofs.lemmas.List.{take_all}
 use Rattle.std.specs.Prelude.{ℕ, true, cond, ◌==◌, List, [], ◌∷◌, ◌++◌, map, length, position, Some}
 use Rattle.blob_pool.specs.Slots.{Slots, text_at, count_at}
 use Rattle.blob_pool.specs.Moves.{Moves, no_holders, one_at}
@@ -13,7 +14,7 @@ use Rattle.conn_core.specs.StandsFor.{ConnectionValue, Becomes}
 use Rattle.served_instance.specs.Connections.{LoneConnection}
 use Rattle.served_instance.specs.declared.open_connection.OpenConnection.{OpenConnection}
 use Rattle.served_instance.specs.StandsFor.{ServedConnection, AreServed}
-use Rattle.served_instance.specs.Ranges.{AllKeepRanges, Releases, sources_at, range_holders, spent_sources}
+use Rattle.served_instance.specs.Ranges.{AllKeepRanges, IsTidy, AreTidy, Releases, sources_at, range_holders}
 use Rattle.served_instance.specs.Shown.{connection_shown}
 use Rattle.served_instance.specs.Present.{is_numbered}
 use Rattle.served_instance.proofs.Places.{IsPlace, is_place}
@@ -220,12 +221,11 @@ set_stands texts (o ∷ os) [] i d w lt h s = absurd s
 set_stands texts (o ∷ os) (l ∷ ls) zero d w lt h s = (s.0, h texts l.past s.1, s.2)
 set_stands texts (o ∷ os) (l ∷ ls) (suc i) d w lt h s = (s.0, s.1, set_stands texts os ls i d w (omega arith) h s.2)
 
-both_none : (xs ys zs : List ℕ) → xs ++ ys ≡ [] → (ys ≡ [] → zs ≡ []) → xs ++ zs ≡ []
-both_none [] ys zs e f = f e
-both_none (x ∷ xs) ys zs e f = cc
+-- those behind which no source waits are tidy, one after another
+pub tidy_more : (os : List OpenConnection) (i : ℕ) (d : OpenConnection) (w : ConnectionValue) → i < length os → AreTidy (map connection_shown (take i os)) → IsTidy w.sending → AreTidy (map connection_shown (take (suc i) (set os i (record { number = (get_or os i d).number; connection = w }))))
+tidy_more [] i d w lt h tidy = absurd (omega arith)
+tidy_more (o ∷ os) zero d w lt h tidy = (tidy, tt)
+tidy_more (o ∷ os) (suc i) d w lt h tidy = (h.0, tidy_more os i d w (omega arith) h.1 tidy)
 
-pub none_more : (os : List OpenConnection) (i : ℕ) (d : OpenConnection) (w : ConnectionValue) → i < length os → spent_sources (map connection_shown (take i os)) ≡ [] → w.sending.spent ≡ [] → spent_sources (map connection_shown (take (suc i) (set os i (record { number = (get_or os i d).number; connection = w })))) ≡ []
-none_more [] i d w lt e none = absurd (omega arith)
-none_more (o ∷ os) zero d w lt e none = ap (λ (xs : List ℕ). xs ++ []) none
-none_more (o ∷ os) (suc i) d w lt e none =
-    both_none o.connection.sending.spent (spent_sources (map connection_shown (take i os))) _ e (λ later. none_more os i d w (omega arith) later none)
+pub tidy_all : (os : List OpenConnection) (i : ℕ) → length os ≤ i → AreTidy (map connection_shown (take i os)) → AreTidy (map connection_shown os)
+tidy_all os i all h = subst (λ (xs : List OpenConnection). AreTidy (map connection_shown xs)) (take_all i os all) h

@@ -14,7 +14,7 @@ use Rattle.instance_core.specs.State.{IsInstanceWithin}
 use Rattle.served_instance.specs.declared.open_connection.OpenConnection.{OpenConnection}
 use Rattle.served_instance.specs.Acts.{FindAlike, slots_of}
 use Rattle.served_instance.specs.OwedReplies.{RepliesEndWithin, AllTakeRanges}
-use Rattle.served_instance.specs.Ranges.{range_holders, served_with, sources_at}
+use Rattle.served_instance.specs.Ranges.{range_holders, seen_with, sources_at}
 use Rattle.served_instance.specs.Shown.{connection_shown}
 use Rattle.served_instance.specs.Slots.{holders_of, IsServedInPool}
 use Rattle.served_instance.specs.StandsFor.{ServedConnection}
@@ -77,7 +77,7 @@ turned_kept p q r i j os ns rs o m within =
       others = λ k. omega (arith, moves.counts k, o.kept.others k);
       within = record {
         instance = within;
-        connections = omega (arith, o.count, few_connections p (slots_of i os) o.kept, length-map os connection_shown, length-map ns connection_shown, length-map ws (served_with (text_at r)));
+        connections = omega (arith, o.count, few_connections p (slots_of i os) o.kept, length-map os connection_shown, length-map ns connection_shown, length-map ws (seen_with (text_at r)));
       };
       fit = fit_agreed_each (text_at p) (text_at r) ws (turned_new p q r i j os ns rs o m) (o.takes.fit (text_at p) (replies_end p rs (o.short p)) o.kept.fit);
       few = o.takes.few o.kept.few;

@@ -9,14 +9,15 @@ use Rattle.instance_core.specs.Watching.{WatchAtRest}
 use Rattle.served_instance.specs.declared.open_connection.OpenConnection.{OpenConnection}
 use Rattle.served_instance.specs.Connections.{open_ones}
 use Rattle.served_instance.specs.Lone.{LoneInstance, lone_at_moment, lone_at_rest}
-use Rattle.served_instance.specs.Ranges.{Releases, RangesEndWithin}
+use Rattle.served_instance.specs.Ranges.{Releases, RangesEndWithin, AreTidy}
 use Rattle.served_instance.specs.StandsFor.{IsServedInstance}
-use Rattle.served_instance.specs.Slots.{ServedSlots, served_state_in, IsServedInPool, IsServedBeside}
+use Rattle.served_instance.specs.Slots.{ServedSlots, served_state_in, StandsIn, IsServedInPool, IsServedBeside}
 use Rattle.served_instance.proofs.Besides.{released_beside}
 use Rattle.served_instance.specs.Shown.{connection_shown}
 use Rattle.served_instance.specs.Acts.{Acts, ActsIn, StandsBy, FindAlike, slots_of}
 use Rattle.served_instance.proofs.Kept.{release_finds, same_state}
 use Rattle.served_instance.proofs.Refuses.{came_stands}
+use Rattle.served_instance.proofs.Exact.{held_by_all}
 use Rattle.served_instance.proofs.Ranges.{seen_served, plain_served, served_agreed}
 
 pub stands_by : (p : Slots) (i : InstanceSlots) (os : List OpenConnection) (l : LoneInstance) → RangesEndWithin (text_at p) (map connection_shown os) → IsServedInstance (served_state_in p (slots_of i os)) l → StandsBy (text_at p) (state_in p i) os l
@@ -32,14 +33,20 @@ came_by parent p i j os v moment l seen changed fit s =
     let S : ServedSlots → Type 0 = λ x. IsServedInstance (served_state_in p x) l in
     came_stands (visible_in p parent) (text_at p) moment (state_in p i) (state_in p j) os l changed (stands_by p i os l (subst (λ (x : ServedSlots). RangesEndWithin (text_at p) x.connections) (sym seen) fit) (subst S (sym seen) s))
 
--- in another pool that has the texts of the ranges
-pub stands_for : (p q : Slots) (j : InstanceSlots) (ns : List OpenConnection) (l : LoneInstance) → WatchAtRest l.state → FindAlike p q ns → StandsBy (text_at p) (state_in q j) ns l → IsServedInstance (served_state_in q (slots_of j ns)) l
-stands_for p q j ns l watched find st = record {
+-- all that has to be released was
+pub served_by : (p : Slots) (v : ServedSlots) (l : LoneInstance) → WatchAtRest l.state → AreTidy v.connections → RangesEndWithin (text_at p) v.connections → StandsIn p v l → IsServedInstance (served_state_in p v) l
+served_by p v l watched tidy fit st = record {
   state = st.state;
-  connections = seen_served (text_at q) (map connection_shown ns) (open_ones l.connections)
-      (served_agreed (text_at p) (text_at q) (map connection_shown ns) (open_ones l.connections) find st.connections);
+  connections = seen_served (text_at p) v.connections (open_ones l.connections) st.connections;
+  ranges = held_by_all (text_at p) v.connections (open_ones l.connections) tidy fit st.connections;
   watched = watched;
 }
+
+-- in another pool that has the texts of the ranges
+pub stands_for : (p q : Slots) (j : InstanceSlots) (ns : List OpenConnection) (l : LoneInstance) → WatchAtRest l.state → AreTidy (map connection_shown ns) → RangesEndWithin (text_at q) (map connection_shown ns) → FindAlike p q ns → StandsBy (text_at p) (state_in q j) ns l → IsServedInstance (served_state_in q (slots_of j ns)) l
+stands_for p q j ns l watched tidy fit find st =
+    let vs = map connection_shown ns in
+    served_by q (slots_of j ns) l watched tidy fit (record { state = st.state; connections = served_agreed (text_at p) (text_at q) vs (open_ones l.connections) find st.connections })
 
 -- what was done with the texts of the one pool stands in the other, where sources were released
 pub released_acts : (parent : ViewValue) (p q : Slots) (i j : InstanceSlots) (os ns : List OpenConnection) (step : LoneInstance → LoneInstance) → IsServedInPool p (slots_of i os) → IsServedBeside p parent (slots_of i os) → Releases p (map connection_shown os) q (map connection_shown ns) → Acts (state_beside q parent i) os (state_beside q parent j) ns step → ActsIn parent p i os q j ns step

@@ -1,41 +1,22 @@
 -- The ranges that connections have still to put: what they are with the texts of their sources, and
 -- which they hold.
-use Rattle.std.specs.Prelude.{◌≡◌, ◌+◌, ℕ, List, [], map}
+use Rattle.std.specs.Prelude.{◌≡◌, ◌+◌, ℕ, List, []}
 use Rattle.std.specs.List.{flat_map, AllByRecursion}
 use Rattle.blob_pool.specs.Slots.{Slots}
 use Rattle.blob_pool.specs.Moves.{Moves, no_holders}
-use Rattle.grpc_sending.specs.declared.piece.StoredPiece.{StoredPiece}
-use Rattle.grpc_sending.specs.declared.piece.StoredPiece.TheVariants.{Encoded, Framed}
-use Rattle.grpc_sending.specs.declared.queue.StoredQueue.{StoredQueue}
-use Rattle.grpc_sending.specs.Pieces.{Piece, Block, Part}
+use Rattle.grpc_sending.specs.SortedQueues.{AreSorted}
 use Rattle.grpc_sending.specs.Sources.{count_of}
-use Rattle.grpc_sending.specs.StoredSending.{SourceTexts, StoredSending, QueuesEndWithin, HasFewSources, KeepsFit, KeepsSources, pieces_in, sources_of}
+use Rattle.grpc_sending.specs.StoredSending.{SourceTexts, StoredSending, QueuesEndWithin, HasFewSources, KeepsFit, KeepsSources, new_stored_sending, sending_in, sources_of}
 use Rattle.conn_core.specs.StandsFor.{ConnectionValue}
-use Rattle.served_instance.specs.StandsFor.{ServedConnection}
+use Rattle.served_instance.specs.StandsFor.{ServedConnection, SeenConnection}
 
 -- ---- with their texts
 
-abbrev pub stored_piece : Piece → StoredPiece
-stored_piece (Block block) = Encoded block
-stored_piece (Part bytes) = Framed bytes
-
--- the messages of each range in its place
-abbrev pub queue_with : SourceTexts → StoredQueue → StoredQueue
-queue_with texts q =
-    record { stream = q.stream; pieces = map stored_piece (flat_map (pieces_in texts) q.pieces) }
-
--- no source is held then
-abbrev pub sending_with : SourceTexts → StoredSending → StoredSending
-sending_with texts w = record {
-  pending = w.pending;
-  position = w.position;
-  queues = map (queue_with texts) w.queues;
-  spent = [];
-}
-
-abbrev pub served_with : SourceTexts → ServedConnection → ServedConnection
-served_with texts s = record s {
-  connection = record s.connection { sending = sending_with texts s.connection.sending };
+abbrev pub seen_with : SourceTexts → ServedConnection → SeenConnection
+seen_with texts s = record {
+  number = s.number;
+  connection = record s.connection { sending = new_stored_sending };
+  sending = sending_in texts s.connection.sending;
 }
 
 -- ---- their sources
@@ -48,9 +29,13 @@ sources_at vs = flat_map (λ s. sources_of s.connection.sending) vs
 abbrev pub range_holders : List ServedConnection → ℕ → ℕ
 range_holders vs k = count_of k (sources_at vs)
 
--- the sources of ranges that are over, which were not released yet
-abbrev pub spent_sources : List ServedConnection → List ℕ
-spent_sources vs = flat_map (λ s. s.connection.sending.spent) vs
+-- no source of a range that is over waits to be released, and queues stand in rising order of their
+-- streams
+abbrev pub IsTidy : StoredSending → Type 0
+IsTidy w = (w.spent ≡ []) × AreSorted w.queues
+
+abbrev pub AreTidy : List ServedConnection → Type 0
+AreTidy vs = AllByRecursion (λ s. IsTidy s.connection.sending) vs
 
 -- each range ends within the text of its source
 abbrev pub RangesEndWithin : SourceTexts → List ServedConnection → Type 0

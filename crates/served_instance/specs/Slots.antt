@@ -1,5 +1,5 @@
 -- What an instance with its connections keeps of its own, and what that is in a pool of texts.
-use Rattle.std.specs.Prelude.{ℕ, ◌+◌, ◌≤◌, ◌<◌, ◌^◌, List, map}
+use Rattle.std.specs.Prelude.{◌≡◌, ℕ, ◌+◌, ◌≤◌, ◌<◌, ◌^◌, List, map}
 use Rattle.blob_pool.specs.Slots.{Slots, text_at, count_at}
 use Rattle.blob_pool.specs.Moves.{Holders}
 use Rattle.instance_core.specs.Slots.{InstanceSlots, state_in, holders_of_instance}
@@ -10,7 +10,7 @@ use Rattle.std.specs.List.{AllByRecursion}
 use Rattle.served_instance.specs.Connections.{open_ones}
 use Rattle.served_instance.specs.Lone.{LoneInstance}
 use Rattle.served_instance.specs.StandsFor.{ServedConnection, ServedState, AreServed, IsServedWithin}
-use Rattle.served_instance.specs.Ranges.{served_with, sources_at, range_holders, RangesEndWithin, HaveFewSources}
+use Rattle.served_instance.specs.Ranges.{seen_with, sources_at, range_holders, RangesEndWithin, HaveFewSources}
 
 -- the instance, whose texts stand in slots, and its open connections, whose ranges are of texts in
 -- slots
@@ -22,7 +22,7 @@ pub record ServedSlots : Type 0 where
 abbrev pub served_state_in : Slots → ServedSlots → ServedState
 served_state_in p v = record {
   state = state_in p v.instance;
-  connections = map (served_with (text_at p)) v.connections;
+  connections = map (seen_with (text_at p)) v.connections;
   ranges = map (text_at p) (sources_at v.connections);
 }
 
@@ -45,6 +45,11 @@ pub record IsServedInPool (p : Slots) (v : ServedSlots) : Type 0 where
 pub record IsServedBeside (p : Slots) (parent : ViewValue) (v : ServedSlots) : Type 0 where
   pub counted : (k : ℕ) → holders_of v k + holders parent k ≤ count_at p k
   pub named : AllByRecursion (λ (b : Blob). Names b.0 b.1) (visible_in p parent)
+
+-- it stands for an instance by itself, but for what has to be released still. For the code alone
+pub record StandsIn (p : Slots) (v : ServedSlots) (l : LoneInstance) : Type 0 where
+  pub state : state_in p v.instance ≡ l.state
+  pub connections : AreServed (text_at p) v.connections (open_ones l.connections)
 
 -- its open connections stand for those of an instance by itself, by the texts of some pool
 pub record HasConnections (v : ServedSlots) (l : LoneInstance) : Type 0 where

@@ -20,11 +20,11 @@ ghost use Rattle.job_queue.specs.declared.queue.TheConstants.{MOST_RUNNING};
 ghost use Rattle.executor.specs.InPool.{task_in};
 ghost use Rattle.executor.specs.Orders.{task_of};
 ghost use Rattle.instance_core.specs.Turns.{orders_meant};
-ghost use Rattle.served_instance.specs.Ranges.{HaveFewSources, RangesEndWithin, Releases, range_holders, spent_sources};
+ghost use Rattle.served_instance.specs.Ranges.{AreTidy, HaveFewSources, RangesEndWithin, Releases, range_holders};
 ghost use Rattle.instance_core.specs.State.{InstanceState};
 ghost use Rattle.instance_core.specs.Slots.{state_in, holders_of_instance, IsInstanceInPool};
 ghost use Rattle.instance_core.specs.InstanceViewShown.{visible_in};
-ghost use Rattle.served_instance.specs.Slots.{served_state_in, holders_of, IsServedInPool, IsServedBeside, HasConnections};
+ghost use Rattle.served_instance.specs.Slots.{served_state_in, holders_of, StandsIn, IsServedInPool, IsServedBeside, HasConnections};
 ghost use Rattle.blob_pool.specs.Slots.{Slots, text_at, count_at};
 ghost use Rattle.blob_pool.specs.Moves.{Moves, no_holders};
 ghost use Rattle.instance_core.specs.Within.{most_stored_bytes};
@@ -90,6 +90,7 @@ impl ServedInstance {
             (new_lone (string_bytes config.now.name) config.now.quota config.now.slots)) }
         ensures within { (p : Slots) → IfOk result
             (λ served. IsServedWithin (served_state_in p served)) }
+        ensures tidy { IfOk result (λ served. AreTidy served.connections) }
         ensures holders { IfOk result (λ served. (k : ℕ) → holders_of served k ≡ 0) }
     {
         Ok(ServedInstance {
@@ -127,6 +128,7 @@ impl ServedInstance {
     ) -> Result<Vec<Order>, EventRefusal>
         requires kept { IsServedInPool pool.old self.old }
         requires beside { IsServedBeside pool.old parent.now self.old }
+        requires tidy { AreTidy self.old.connections }
         ensures outcome { (l : LoneInstance) →
             IsServedInstance (served_state_in pool.old self.old) l
             → IsRefusalOutcome result (refusal_of (event_value event) l) }
@@ -152,7 +154,7 @@ impl ServedInstance {
             → orders_meant (state_in pool.new self.new.instance).jobs orders.items
             ≡ lone_orders (visible_in pool.old parent.now) (event_value event) l) }
         // No source is held of a range that is over.
-        ensures released { OnOk result (spent_sources self.new.connections ≡ []) }
+        ensures tidy { AreTidy self.new.connections }
         ensures moves { Moves pool.old pool.new (holders_of self.old) (holders_of self.new) }
         ensures kept { IsServedInPool pool.new self.new }
     {
@@ -250,9 +252,9 @@ impl ServedInstance {
     /// Puts all that can be put, on each open connection, and releases what no range is left of.
     fn pump(&mut self, pool: &mut Pool)
         requires { IsServedInPool pool.old self.old }
-        ensures stands { (l : LoneInstance) → IsServedInstance (served_state_in pool.old self.old) l
-            → IsServedInstance (served_state_in pool.new self.new) (after_pump l) }
-        ensures released { spent_sources self.new.connections ≡ [] }
+        ensures stands { (l : LoneInstance) → StandsIn pool.old self.old l
+            → StandsIn pool.new self.new (after_pump l) }
+        ensures tidy { AreTidy self.new.connections }
         ensures moves { Moves pool.old pool.new (holders_of self.old) (holders_of self.new) }
         ensures kept { IsServedInPool pool.new self.new }
     {
@@ -363,7 +365,7 @@ fn pump_all(pool: &mut Pool, connections: &mut [OpenConnection])
         → AreServed (text_at pool.old) (map connection_shown connections.old) (open_ones ks)
         → AreServed (text_at pool.old) (map connection_shown connections.new)
         (open_ones (at_all_open with_pumped ks)) }
-    ensures none { spent_sources (map connection_shown connections.new) ≡ [] }
+    ensures tidy { AreTidy (map connection_shown connections.new) }
     ensures releases { Releases pool.old (map connection_shown connections.old)
         pool.new (map connection_shown connections.new) }
     ensures count { length connections.new ≡ length connections.old }

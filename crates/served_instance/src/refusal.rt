@@ -4,7 +4,7 @@ ghost use Rattle.std.specs.Prelude.{◌≡◌};
 ghost use Rattle.served_instance.specs.Codes.{code_of};
 
 /// Why an event is refused. All but want of memory leave everything as it was.
-#[derive(Clone, Copy, PartialEq, Eq)]
+#[derive(Clone, Copy, Debug, PartialEq, Eq)]
 pub enum EventRefusal {
     /// No instance has the number.
     NoSuchInstance,

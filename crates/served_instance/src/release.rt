@@ -4,10 +4,11 @@ ghost use Rattle.std.specs.Prelude.{◌≡◌, ◌≤◌, ℕ, List, [], length,
 ghost use Rattle.blob_pool.specs.Slots.{count_at};
 ghost use Rattle.blob_pool.specs.Moves.{Moves, no_holders};
 ghost use Rattle.grpc_sending.specs.StoredSending.{SourceTexts};
+ghost use Rattle.grpc_sending.specs.SortedQueues.{AreSorted};
 ghost use Rattle.grpc_sending.specs.Sources.{count_of};
 ghost use Rattle.conn_core.specs.StandsFor.{Becomes};
 ghost use Rattle.served_instance.specs.Connections.{LoneConnection};
-ghost use Rattle.served_instance.specs.Ranges.{Releases, range_holders, spent_sources};
+ghost use Rattle.served_instance.specs.Ranges.{AreTidy, Releases, range_holders};
 ghost use Rattle.served_instance.specs.Shown.{connection_shown};
 ghost use Rattle.served_instance.specs.StandsFor.{AreServed};
 
@@ -21,6 +22,7 @@ pub(crate) fn release_spent(pool: &mut Pool, connection: &mut Connection)
     ensures stands { Becomes connection.old (λ p. p) connection.new }
     ensures queues { connection.new.sending.queues ≡ connection.old.sending.queues }
     ensures told { connection.new.sending.spent ≡ [] }
+    ensures sorted { AreSorted connection.new.sending.queues }
     ensures rest { connection.new ≡ record connection.old { sending = connection.new.sending } }
     ensures moves { Moves pool.old pool.new
         (λ k. count_of k connection.old.sending.spent) no_holders }
@@ -38,7 +40,7 @@ pub(crate) fn release_all(pool: &mut Pool, connections: &mut [OpenConnection])
     ensures stands { (texts : SourceTexts) (ls : List LoneConnection)
         → AreServed texts (map connection_shown connections.old) ls
         → AreServed texts (map connection_shown connections.new) ls }
-    ensures none { spent_sources (map connection_shown connections.new) ≡ [] }
+    ensures tidy { AreTidy (map connection_shown connections.new) }
     ensures releases { Releases pool.old (map connection_shown connections.old)
         pool.new (map connection_shown connections.new) }
     ensures count { length connections.new ≡ length connections.old }

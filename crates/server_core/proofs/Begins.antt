@@ -19,7 +19,7 @@ use Rattle.served_instance.specs.StandsFor.{ServedConnection, ServedState, IsSer
 use Rattle.served_instance.specs.Slots.{ServedSlots, served_state_in, holders_of}
 use Rattle.served_instance.specs.Sources.{count_of}
 use Rattle.served_instance.specs.StoredSending.{SourceTexts, sources_of}
-use Rattle.served_instance.specs.Ranges.{sources_at, range_holders, RangesEndWithin, HaveFewSources}
+use Rattle.served_instance.specs.Ranges.{sources_at, range_holders, RangesEndWithin, HaveFewSources, AreTidy}
 use Rattle.served_instance.proofs.Agreeing.{count_append}
 use Rattle.served_instance.proofs.Ranges.{fit_none}
 use Rattle.server_core.specs.Shared.{all_in, all_holders, HasRanges, IsServer}
@@ -123,19 +123,26 @@ few_bare (v ∷ vs) none =
     let both : (k : ℕ) → range_holders (v ∷ vs) k ≡ count_of k (sources_of v.connection.sending) + range_holders vs k = λ k. count_append k (sources_of v.connection.sending) (sources_at vs) in
     (λ k. omega (arith, none k, both k), few_bare vs (λ k. omega (arith, none k, both k)))
 
-ranges_bare : (p : Slots) (xs : List ServedSlots) → ((k : ℕ) → all_holders xs k ≡ 0) → AllByRecursion (HasRanges p) xs
-ranges_bare p [] none = tt
-ranges_bare p (x ∷ xs) none =
+-- no instance holds a source of a range that is over
+abbrev pub AreAllTidy : List ServedSlots → Type 0
+AreAllTidy xs = AllByRecursion (λ (x : ServedSlots). AreTidy x.connections) xs
+
+pub tidy_pushed : (xs : List ServedSlots) (v : ServedSlots) (ys : List ServedSlots) → ys ≡ xs ++ v ∷ [] → AreAllTidy xs → AreTidy v.connections → AreAllTidy ys
+tidy_pushed xs v ys is old own = subst AreAllTidy (sym is) (all-push (λ (x : ServedSlots). AreTidy x.connections) xs v old own)
+
+ranges_bare : (p : Slots) (xs : List ServedSlots) → ((k : ℕ) → all_holders xs k ≡ 0) → AreAllTidy xs → AllByRecursion (HasRanges p) xs
+ranges_bare p [] none tidy = tt
+ranges_bare p (x ∷ xs) none tidy =
     let own : (k : ℕ) → range_holders x.connections k ≡ 0 = λ k. omega (arith, none k) in
-    (record { fit = fit_bare (text_at p) x.connections own; few = few_bare x.connections own }, ranges_bare p xs (λ k. omega (arith, none k)))
+    (record { fit = fit_bare (text_at p) x.connections own; few = few_bare x.connections own; tidy = tidy.0 }, ranges_bare p xs (λ k. omega (arith, none k)) tidy.1)
 
 -- a server that holds nothing
-pub server_begun : (p : Slots) (xs : List ServedSlots) → p ≡ [] → length xs ≤ instance_limit → ((k : ℕ) → all_holders xs k ≡ 0) → AllByRecursion IsServedWithin (all_in p xs) → IsServer p xs
-server_begun p xs empty few none within = record {
+pub server_begun : (p : Slots) (xs : List ServedSlots) → p ≡ [] → length xs ≤ instance_limit → ((k : ℕ) → all_holders xs k ≡ 0) → AllByRecursion IsServedWithin (all_in p xs) → AreAllTidy xs → IsServer p xs
+server_begun p xs empty few none within tidy = record {
   exact = λ k. ap (λ (q : Slots). count_at q k) empty ∙ no_count k ∙ sym (none k);
   few = few;
   within = within;
-  ranges = ranges_bare p xs none;
+  ranges = ranges_bare p xs none tidy;
 }
   where
     no_count : (k : ℕ) → count_at [] k ≡ 0

@@ -3,6 +3,7 @@ mod Others
 mod Slots
 mod Storing
 mod Pooled
+mod Held
 pub mod Limits
 mod Changes
 mod Fronts

@@ -39,8 +39,8 @@ use Rattle.served_instance.specs.declared.refusal.EventRefusal.{EventRefusal}
 use Rattle.served_instance.specs.declared.refusal.EventRefusal.TheVariants.{NoMemory}
 use Rattle.served_instance.specs.Lone.{LoneInstance}
 use Rattle.served_instance.specs.Connections.{open_ones}
-use Rattle.served_instance.specs.StandsFor.{ServedConnection, ServedState, IsServedInstance, IsServedWithin}
-use Rattle.served_instance.specs.Ranges.{served_with, sources_at, range_holders, RangesEndWithin}
+use Rattle.served_instance.specs.StandsFor.{ServedConnection, SeenConnection, ServedState, IsServedInstance, IsServedWithin}
+use Rattle.served_instance.specs.Ranges.{seen_with, sources_at, range_holders, RangesEndWithin, AreTidy}
 use Rattle.served_instance.specs.declared.instance.TheConstants.{CONNECTION_LIMIT}
 use Rattle.served_instance.proofs.Agreeing.{count_append}
 use Rattle.served_instance.proofs.Ranges.{fit_agreed_each, plain_served, same_served}
@@ -163,7 +163,7 @@ holds_few p a w r k =
     let entries = w.instance.texts.entries in
     let most = holders-few a.instance.view.entries k in
     let ranges = ranges_few (2 ^ 64) a.connections r.few k in
-    let many : length a.connections ≤ CONNECTION_LIMIT = omega (arith, w.connections, length-map a.connections (served_with (text_at p))) in
+    let many : length a.connections ≤ CONNECTION_LIMIT = omega (arith, w.connections, length-map a.connections (seen_with (text_at p))) in
     let all = mul-le-mul_right (2 ^ 64) many in
     let jobs = jobs_few p a.instance.jobs k w.instance.jobs in
     omega (arith, long, entries, most, ranges, all, jobs)
@@ -190,6 +190,10 @@ kept_at p xs i a at s =
       few = own.few;
     }
 
+-- no source of a range that is over is held
+pub tidy_at : (p : Slots) (xs : List ServedSlots) (i : ℕ) (a : ServedSlots) → slice_get xs i ≡ Some a → IsServer p xs → AreTidy a.connections
+tidy_at p xs i a at s = (ranges_at p xs i a s.ranges at).tidy
+
 -- ---- others find their texts
 
 abbrev with_visible : ServedState → List Blob → ServedState
@@ -198,7 +202,7 @@ with_visible v bs = record v { state = record v.state { visible = bs } }
 abbrev with_jobs : ServedState → Jobs JobValue → ServedState
 with_jobs v jobs = record v { state = record v.state { jobs = jobs } }
 
-abbrev with_connections : ServedState → List ServedConnection → List (List ℕ) → ServedState
+abbrev with_connections : ServedState → List SeenConnection → List (List ℕ) → ServedState
 with_connections v cs ts = record { state = v.state; connections = cs; ranges = ts }
 
 same_texts : (t u : SourceTexts) (ns : List ℕ) → AgreeOn ns t u → map t ns ≡ map u ns
@@ -219,8 +223,8 @@ other_same p q xs i j a b x ne at there s m =
     let find : AgreeOn (sources_at x.connections) (text_at q) (text_at p) = λ k some. same k (omega (arith, some)) in
     let entries = shown_same p q x.instance.view.entries (λ k some. same k (omega (arith, some))) in
     let jobs = jobs_same p q x.instance.jobs (holders_of a) (holders_of b) (λ k. omega (arith, s.exact k, pair_le xs i j a x k ne at there)) m in
-    ap (λ (cs : List ServedConnection). with_connections (served_state_in q x) cs (map (text_at q) (sources_at x.connections))) (same_served (text_at q) (text_at p) x.connections find)
-    ∙ ap (with_connections (served_state_in q x) (map (served_with (text_at p)) x.connections)) (same_texts (text_at q) (text_at p) (sources_at x.connections) find)
+    ap (λ (cs : List SeenConnection). with_connections (served_state_in q x) cs (map (text_at q) (sources_at x.connections))) (same_served (text_at q) (text_at p) x.connections find)
+    ∙ ap (with_connections (served_state_in q x) (map (seen_with (text_at p)) x.connections)) (same_texts (text_at q) (text_at p) (sources_at x.connections) find)
     ∙ ap (λ (bs : List Blob). with_visible (with_jobs (served_state_in p x) (jobs_in q x.instance.jobs)) bs) entries
     ∙ ap (with_jobs (served_state_in p x)) jobs
 
@@ -228,7 +232,7 @@ other_ranges : (p q : Slots) (xs : List ServedSlots) (i j : ℕ) (a b x : Served
 other_ranges p q xs i j a b x ne at there s m =
     let own = ranges_at p xs j x s.ranges there in
     let find : AgreeOn (sources_at x.connections) (text_at p) (text_at q) = λ k some. sym (apart p q xs i j a b x ne at there s m k (omega (arith, some))) in
-    record { fit = fit_agreed_each (text_at p) (text_at q) x.connections find own.fit; few = own.few }
+    record { fit = fit_agreed_each (text_at p) (text_at q) x.connections find own.fit; few = own.few; tidy = own.tidy }
 
 pub others_after : (p q : Slots) (xs : List ServedSlots) (i : ℕ) (a b : ServedSlots) → slice_get xs i ≡ Some a → IsServer p xs → Moves p q (holders_of a) (holders_of b)
     → (j : ℕ) → j ≢ i → instance_at j (all_in q (set xs i b)) ≡ instance_at j (all_in p xs)
@@ -264,8 +268,8 @@ has_acted xs i j a b x at there = elim (cases_eq j i) [
   | inr ne ↦ inr ((λ e. ne (sym e)), sym (get-set_other xs i j b ne) ∙ there)
 ]
 
-pub server_after : (p q : Slots) (xs : List ServedSlots) (i : ℕ) (a b : ServedSlots) → slice_get xs i ≡ Some a → IsServer p xs → Moves p q (holders_of a) (holders_of b) → IsServedInPool q b → IsServer q (set xs i b)
-server_after p q xs i a b at s m kept = record {
+pub server_after : (p q : Slots) (xs : List ServedSlots) (i : ℕ) (a b : ServedSlots) → slice_get xs i ≡ Some a → IsServer p xs → Moves p q (holders_of a) (holders_of b) → IsServedInPool q b → AreTidy b.connections → IsServer q (set xs i b)
+server_after p q xs i a b at s m kept tidy = record {
   exact = λ k. omega (arith, s.exact k, m.counts k, set_holders xs i a b k at);
   few = omega (arith, length-set xs i b, s.few);
   within = within_by q (set xs i b) (λ j x there. elim (has_acted xs i j a b x at there) [
@@ -273,7 +277,7 @@ server_after p q xs i a b at s m kept = record {
     | inr other ↦ subst IsServedWithin (sym (other_same p q xs i j a b x other.0 at other.1 s m)) (within_at p xs j x s.within other.1)
   ]);
   ranges = ranges_by q (set xs i b) (λ j x there. elim (has_acted xs i j a b x at there) [
-    | inl own ↦ subst (HasRanges q) own (record { fit = kept.fit; few = kept.few })
+    | inl own ↦ subst (HasRanges q) own (record { fit = kept.fit; few = kept.few; tidy = tidy })
     | inr other ↦ other_ranges p q xs i j a b x other.0 at other.1 s m
   ]);
 }

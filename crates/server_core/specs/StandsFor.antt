@@ -1,5 +1,5 @@
 -- What a server keeps of each instance stands for that instance alone.
-use Rattle.std.specs.Prelude.{◌≡◌, ℕ, List, Option, Some}
+use Rattle.std.specs.Prelude.{◌≡◌, ℕ, List, [], ◌∷◌, Option, Some}
 use Rattle.std.specs.declared.alloc.Global.{Global}
 use Rattle.std.specs.declared.vec.Vec.{Vec}
 use Rattle.executor.specs.declared.orders.Order.{Order}
@@ -19,6 +19,12 @@ instance_at i vs = slice_get vs i
 -- the instance of this number is there and stands for this
 abbrev pub StandsAt : ℕ → List ServedState → LoneInstance → Type 0
 StandsAt i vs l = (v : ServedState) × (instance_at i vs ≡ Some v) × IsServedInstance v l
+
+-- the instances stand for these, one by one
+abbrev pub AllStand : List ServedState → List LoneInstance → Type 0
+AllStand [] [] = Unit {0}
+AllStand (v ∷ vs) (l ∷ ls) = IsServedInstance v l × AllStand vs ls
+AllStand vs ls = ⊥
 
 -- these orders of the instance of this number are those orders, with what its jobs have
 abbrev pub OrdersStand : ℕ → List ServedState → Vec Order Global → List OrderValue → Type 0

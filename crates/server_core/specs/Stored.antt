@@ -4,7 +4,8 @@ use Rattle.std.specs.List.{flat_map}
 use Rattle.job_queue.specs.Jobs.{Jobs}
 use Rattle.executor.specs.Job.{JobValue}
 use Rattle.instance_core.specs.Visible.{Blob}
-use Rattle.served_instance.specs.StandsFor.{ServedState}
+use Rattle.served_instance.specs.StandsFor.{ServedState, lone_ranges}
+use Rattle.served_instance.specs.Lone.{LoneInstance}
 use Rattle.server_core.specs.StandsFor.{ServerState}
 
 abbrev pub texts_of : List Blob → List (List ℕ)
@@ -17,8 +18,7 @@ texts_of_jobs jobs =
     flat_map (λ (w : ℕ × JobValue). texts_of w.1.task.texts) jobs.waiting
     ++ flat_map (λ r. texts_of r.1.job.task.texts) jobs.running
 
--- those of an instance: of its blobs, of its jobs, and of ranges that are still to be put on its
--- connections
+-- those of an instance: of its blobs, of its jobs, and of the ranges that are held
 abbrev pub own_texts : ServedState → List (List ℕ)
 own_texts v = texts_of v.state.visible ++ texts_of_jobs v.state.jobs ++ v.ranges
 
@@ -29,6 +29,11 @@ texts_of_all (v ∷ vs) = own_texts v ++ texts_of_all vs
 
 abbrev pub texts_held : ServerState → List (List ℕ)
 texts_held s = texts_of_all s.instances
+
+-- those of an instance by itself: of its blobs, of its jobs, and of each range that a live stream of
+-- an open connection is owed and that is not wholly put, where no error of the connection was met
+abbrev pub lone_texts : LoneInstance → List (List ℕ)
+lone_texts l = texts_of l.state.visible ++ texts_of_jobs l.state.jobs ++ lone_ranges l
 
 abbrev pub IsAmong : List ℕ → List (List ℕ) → Type 0
 IsAmong t [] = ⊥

@@ -18,7 +18,7 @@ use Rattle.served_instance.specs.Slots.{ServedSlots, served_state_in}
 use Rattle.served_instance.specs.StandsFor.{IsServedInstance, AreSettled}
 use Rattle.server_core.specs.Shared.{all_in}
 use Rattle.server_core.specs.StandsFor.{StandsAt}
-use Rattle.server_core.proofs.Others.{kept_at, orders_after, others_after, server_after, stands_here, stands_after, refused_after, beside_nobody}
+use Rattle.server_core.proofs.Others.{kept_at, tidy_at, orders_after, others_after, server_after, stands_here, stands_after, refused_after, beside_nobody}
 use Rattle.server_core.proofs.server.step_one.Goals as goal
 use Rattle.server_core.proofs.server.step_one.Goals.{After-step}
 
@@ -28,8 +28,9 @@ step-requires c =
     let i = c.args.event.instance in
     let d = c.index-instances-number.result in
     let lt : i < length xs = grind (arith, common_steps) in
-    let kept = kept_at c.args.pool.now xs i (get_or xs i d) (slice_get-get_or xs i d lt) c.requires.server in
-    record { kept = kept; beside = beside_nobody c.args.pool.now c.args.nobody.now (get_or xs i d) c.requires.nobody kept }
+    let there = slice_get-get_or xs i d lt in
+    let kept = kept_at c.args.pool.now xs i (get_or xs i d) there c.requires.server in
+    record { kept = kept; beside = beside_nobody c.args.pool.now c.args.nobody.now (get_or xs i d) c.requires.nobody kept; tidy = tidy_at c.args.pool.now xs i (get_or xs i d) there c.requires.server }
 
 -- the instance to which the event is given, as it was
 abbrev found : After-step → ServedSlots
@@ -71,7 +72,7 @@ returns-clause-refused c =
 
 pub returns-clause-server : goal.returns-clause-server
 returns-clause-server c =
-    server_after c.args.pool.now c.step.new.pool c.args.instances.now c.args.event.instance (found c) c.step.new.self (there c) c.requires.server c.step.ensures.moves c.step.ensures.kept
+    server_after c.args.pool.now c.step.new.pool c.args.instances.now c.args.event.instance (found c) c.step.new.self (there c) c.requires.server c.step.ensures.moves c.step.ensures.kept c.step.ensures.tidy
 
 pub returns-clause-short : goal.returns-clause-short
 returns-clause-short c = λ memory l s.

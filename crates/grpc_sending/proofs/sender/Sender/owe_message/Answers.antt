@@ -16,7 +16,7 @@ returns-then-has_failed-clause-ok c = elim c.then-has_failed.branch [
 ]
 
 pub returns-clause-ok : goal.returns-clause-ok
-returns-clause-ok c = owe_by c.args.streams.now (record { pending = c.self.inside.buffer; position = c.self.inside.position; queues = c.self.inside.backlog.queues; spent = c.self.inside.backlog.spent }) c.args.self.now c.push.new.self.queues c.args.stream (Message c.args.message.items) (Framed c.new-message.result) c.push.result c.self.view_is (sym c.has_failed.ensures ∙ c.if-has_failed.false) (sym c.is_live.ensures ∙ c.if-not-is_live.false) (λ texts. ap (λ x. Part x ∷ []) c.new-message.ensures) c.push.ensures.ok
+returns-clause-ok c = owe_by c.args.streams.now (record { pending = c.self.inside.buffer; position = c.self.inside.position; queues = c.self.inside.backlog.queues; spent = c.self.inside.backlog.spent }) c.args.self.now c.push.new.self.queues c.args.stream (Message c.args.message.items) (Framed c.new-message.result) c.push.result c.self.view_is (sym c.has_failed.ensures ∙ c.if-has_failed.false) (sym c.is_live.ensures ∙ c.if-not-is_live.false) (λ texts. ap (λ x. Part x [] ∷ []) c.new-message.ensures) c.push.ensures.ok
 
 pub returns-clause-fit : goal.returns-clause-fit
 returns-clause-fit c = λ texts. fit_push c.push.result (record { pending = c.self.inside.buffer; position = c.self.inside.position; queues = c.self.inside.backlog.queues; spent = c.self.inside.backlog.spent }) c.args.self.now c.push.new.self c.args.stream (Framed c.new-message.result) c.self.view_is c.push.ensures.ok c.push.ensures.err texts tt

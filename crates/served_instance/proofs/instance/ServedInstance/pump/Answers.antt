@@ -4,8 +4,7 @@ use Rattle.blob_pool.specs.Slots.{text_at, count_at}
 use Rattle.served_instance.specs.declared.open_connection.OpenConnection.{OpenConnection}
 use Rattle.served_instance.specs.Ranges.{RangesEndWithin, range_holders}
 use Rattle.served_instance.specs.Shown.{connection_shown}
-use Rattle.served_instance.specs.Slots.{ServedSlots, served_state_in, IsServedInPool}
-use Rattle.served_instance.specs.StandsFor.{IsServedInstance}
+use Rattle.served_instance.specs.Slots.{ServedSlots, StandsIn, IsServedInPool}
 use Rattle.served_instance.specs.Acts.{slots_of}
 use Rattle.served_instance.proofs.Closes.{written_back}
 use Rattle.served_instance.proofs.Pumped.{pumped_written, counted_ranges}
@@ -29,10 +28,10 @@ returns-clause-stands c = λ l st.
     let all = c.self.inside.connections in
     let ns = c.pump_all.new.connections in
     let Q : ServedSlots → Type 0 = λ v. IsServedInPool p v in
-    let S : ServedSlots → Type 0 = λ v. IsServedInstance (served_state_in p v) l in
+    let S : ServedSlots → Type 0 = λ v. StandsIn p v l in
     let done = pumped_written p c.pump_all.new.pool i all.items c.deref_mut.result.now ns _ c.deref_mut.ensures.value
     (written_back all.len ns all.items (c.pump_all.ensures.count ∙ ap length c.deref_mut.ensures.value) (grind (arith, common_steps)))
-    (subst Q (sym c.self.view_is) c.requires) (record { stands = c.pump_all.ensures.stands; releases = c.pump_all.ensures.releases; count = c.pump_all.ensures.count }) in
+    (subst Q (sym c.self.view_is) c.requires) (record { stands = c.pump_all.ensures.stands; tidy = c.pump_all.ensures.tidy; releases = c.pump_all.ensures.releases; count = c.pump_all.ensures.count }) in
     done.stands l (subst S (sym c.self.view_is) st)
 
 pub returns-clause-kept : goal.returns-clause-kept
@@ -44,5 +43,17 @@ returns-clause-kept c =
     let Q : ServedSlots → Type 0 = λ v. IsServedInPool p v in
     let done = pumped_written p c.pump_all.new.pool i all.items c.deref_mut.result.now ns _ c.deref_mut.ensures.value
     (written_back all.len ns all.items (c.pump_all.ensures.count ∙ ap length c.deref_mut.ensures.value) (grind (arith, common_steps)))
-    (subst Q (sym c.self.view_is) c.requires) (record { stands = c.pump_all.ensures.stands; releases = c.pump_all.ensures.releases; count = c.pump_all.ensures.count }) in
+    (subst Q (sym c.self.view_is) c.requires) (record { stands = c.pump_all.ensures.stands; tidy = c.pump_all.ensures.tidy; releases = c.pump_all.ensures.releases; count = c.pump_all.ensures.count }) in
     done.kept
+
+pub returns-clause-tidy : goal.returns-clause-tidy
+returns-clause-tidy c =
+    let p = c.args.pool.now in
+    let i = c.self.inside.instance in
+    let all = c.self.inside.connections in
+    let ns = c.pump_all.new.connections in
+    let Q : ServedSlots → Type 0 = λ v. IsServedInPool p v in
+    let done = pumped_written p c.pump_all.new.pool i all.items c.deref_mut.result.now ns _ c.deref_mut.ensures.value
+    (written_back all.len ns all.items (c.pump_all.ensures.count ∙ ap length c.deref_mut.ensures.value) (grind (arith, common_steps)))
+    (subst Q (sym c.self.view_is) c.requires) (record { stands = c.pump_all.ensures.stands; tidy = c.pump_all.ensures.tidy; releases = c.pump_all.ensures.releases; count = c.pump_all.ensures.count }) in
+    done.tidy

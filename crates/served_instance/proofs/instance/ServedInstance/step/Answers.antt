@@ -11,18 +11,20 @@ use Rattle.std.specs.Prelude.{map, None}
 use Rattle.instance_core.specs.Slots.{state_in}
 use Rattle.served_instance.specs.Cuts.{others_by, state_without}
 use Rattle.blob_pool.specs.Slots.{text_at}
+use Rattle.served_instance.specs.Acts.{slots_of}
+use Rattle.served_instance.specs.Ranges.{AreTidy}
 use Rattle.served_instance.specs.Shown.{connection_shown}
 use Rattle.server_events.specs.Shown.{event_value}
 use Rattle.served_instance.specs.declared.refusal.EventRefusal.TheVariants.{NoSuchInstance, NoMemory}
 use Rattle.served_instance.specs.Present.{refusal_by}
-use Rattle.served_instance.specs.Lone.{lone_at_moment, lone_at_rest, effect_of, orders_of_what}
+use Rattle.served_instance.specs.Lone.{lone_at_moment, lone_at_rest, after_pump, effect_of, orders_of_what}
 use Rattle.instance_core.specs.InstanceViewShown.{visible_in}
-use Rattle.served_instance.specs.Slots.{ServedSlots, served_state_in, IsServedInPool, IsServedBeside}
+use Rattle.served_instance.specs.Slots.{ServedSlots, served_state_in, StandsIn, IsServedInPool, IsServedBeside}
 use Rattle.served_instance.proofs.Refuses.{no_reason, refused_outcome, kept_at_refusal, stands_accepted, settled_accepted, orders_accepted, accepted_what, same_what, not_elsewhere, not_for_memory}
 use Rattle.served_instance.proofs.Serves.{pump_settles}
 use Rattle.served_instance.proofs.Kept.{slots_at, instance_kept, moment_keeps}
-use Rattle.served_instance.proofs.Stands.{came_by, stands_for, at_rest}
-use Rattle.served_instance.proofs.BrokenOff.{IsBroken, is_left}
+use Rattle.served_instance.proofs.Stands.{came_by, served_by, at_rest}
+use Rattle.served_instance.proofs.BrokenOff.{IsBroken, is_left, still_tidy}
 use Rattle.served_instance.proofs.instance.ServedInstance.step.Goals as goal
 
 pub returns-in-Some-clause-outcome : goal.returns-in-Some-clause-outcome
@@ -52,8 +54,10 @@ returns-in-Ok-clause-stands c = λ l s n.
     let acts = c.in-Ok.ensures.acted m rest came in
     let jobs : AreJobs l.state.jobs = subst (λ (x : InstanceState). AreJobs x.jobs) s.state c.requires.kept.within.instance.jobs in
     let k = lone_at_rest (effect_of e.what m) in
-    let here = stands_for q q j ns k (accepted_watched seen e l jobs s.watched) (λ n some. refl) (at_rest parent q j ns (effect_of e.what m) acts) in
-    stands_accepted seen p e c.args.self.now (served_state_in c.pump.new.pool c.pump.new.self) l (sym c.in_default.is ∙ c.refusal.ensures) c.requires.kept.fit s (c.pump.ensures.stands k here)
+    let rested = at_rest parent q j ns (effect_of e.what m) acts in
+    let pumped = c.pump.ensures.stands k (record { state = rested.state; connections = rested.connections }) in
+    let here = served_by c.pump.new.pool c.pump.new.self (after_pump k) (accepted_watched seen e l jobs s.watched) c.pump.ensures.tidy c.pump.ensures.kept.fit pumped in
+    stands_accepted seen p e c.args.self.now (served_state_in c.pump.new.pool c.pump.new.self) l (sym c.in_default.is ∙ c.refusal.ensures) c.requires.kept.fit s here
 
 pub returns-in-Ok-clause-settled : goal.returns-in-Ok-clause-settled
 returns-in-Ok-clause-settled c = λ l s.
@@ -84,7 +88,8 @@ returns-in-Ok-clause-orders c = λ l s.
     let acts = c.in-Ok.ensures.acted m rest came in
     let jobs : AreJobs l.state.jobs = subst (λ (x : InstanceState). AreJobs x.jobs) s.state c.requires.kept.within.instance.jobs in
     let k = lone_at_rest (effect_of e.what m) in
-    let here = stands_for q q j ns k (accepted_watched seen e l jobs s.watched) (λ n some. refl) (at_rest parent q j ns (effect_of e.what m) acts) in
+    let rested = at_rest parent q j ns (effect_of e.what m) acts in
+    let here : StandsIn q (slots_of j ns) k = record { state = rested.state; connections = rested.connections } in
     let after = c.pump.ensures.stands k here in
     let same : (state_in c.pump.new.pool c.pump.new.self.instance).jobs ≡ (state_in q j).jobs = ap (λ (x : InstanceState). x.jobs) after.state ∙ sym (ap (λ (x : InstanceState). x.jobs) here.state) in
     let orders = c.in-Ok.orders.items in
@@ -149,7 +154,20 @@ returns-in-Err-clause-short c = λ memory l s.
       finds = c.in-Err.ensures.finds;
       left = c.break_off_by.ensures.left ∙ ap (λ (b : Broken). others_by b ns) c.by-broken.ensures;
       still = c.break_off_by.ensures.finds;
+      tidy =
+          let T : ServedSlots → Type 0 = λ v. AreTidy v.connections in
+          subst T (sym c.self.view_is) c.requires.tidy;
+      fit = c.break_off_by.ensures.kept.fit;
       forgotten = c.break_off_by.ensures.forgotten ∙ ap (λ (b : Broken). state_without b (state_in q j)) c.by-broken.ensures;
     } in
     let left = is_left parent e.what p q r i j k os ns xs m c.in-Err.ensures.memory_free (λ n cut. short_watched seen e l n cut jobs s.watched) broken came in
     record { left = left.0; short = left.1; stands = left.2 }
+
+pub returns-in-Err-clause-tidy : goal.returns-in-Err-clause-tidy
+returns-in-Err-clause-tidy c =
+    let e = event_value c.args.event in
+    let T : ServedSlots → Type 0 = λ v. AreTidy v.connections in
+    let os = c.self.inside.connections.items in
+    let ns = c.act.new.connections.items in
+    let left = c.break_off_by.ensures.left ∙ ap (λ (b : Broken). others_by b ns) c.by-broken.ensures in
+    still_tidy e.what os ns c.break_off_by.new.connections.items left c.in-Err.ensures.others (subst T (sym c.self.view_is) c.requires.tidy)

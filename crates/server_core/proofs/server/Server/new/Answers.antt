@@ -5,7 +5,7 @@ use Rattle.server_events.specs.Shown.{config_value}
 use Rattle.served_instance.specs.Slots.{served_state_in}
 use Rattle.std.proofs.lemmas.List.{length_push, length-map, take_all}
 use Rattle.server_core.specs.Shared.{all_in}
-use Rattle.server_core.proofs.Begins.{quota_in, slots_in, starts_more, all_pushed, within_pushed, nobody_pushed, server_begun}
+use Rattle.server_core.proofs.Begins.{quota_in, slots_in, starts_more, all_pushed, within_pushed, nobody_pushed, tidy_pushed, server_begun}
 use Rattle.instance_view.specs.Shown.{ViewValue}
 use Rattle.server_core.proofs.server.Server.new.Goals as goal
 
@@ -28,6 +28,7 @@ loop-config-preserved c =
     record {
       count = ap length more ∙ length_push _ _ ∙ ap (λ k. k + 1) old.count;
       nobody = nobody_pushed xs v _ more old.nobody new.holders;
+      tidy = tidy_pushed xs v _ more old.tidy new.tidy;
       within = λ p. within_pushed p xs v _ more (old.within p) (new.within p);
       stands = λ p. starts_more _ _ _ (all_in p xs) _ (served_state_in p v) c.loop-config-test.true c.config-item.is (length-map xs (served_state_in p) ∙ old.count) (ap (all_in p) more ∙ all_pushed p xs v) (old.stands p) (new.stands p);
     }
@@ -45,6 +46,6 @@ invariant_of-result c =
     let good = ap config_fault c.instances-configs.ensures.instances ∙ c.instances-configs.ensures.good in
     let some = (c.the_fault_is_the_first.ensures.none.0 good).few in
     let few : length ys ≤ instance_limit = omega (arith, c.loop-config.invariant.count, c.loop-config.auto.config-index-end, length-map xs config_value, some) in (
-      server_begun c.new-pool.result ys c.new-pool.ensures few c.loop-config.invariant.nobody (c.loop-config.invariant.within c.new-pool.result),
+      server_begun c.new-pool.result ys c.new-pool.ensures few c.loop-config.invariant.nobody (c.loop-config.invariant.within c.new-pool.result) c.loop-config.invariant.tidy,
       ap (λ (v : ViewValue). v.entries) c.in_ok-nobody.ensures,
     )

@@ -10,7 +10,7 @@ use Rattle.job_queue.specs.declared.queue.TheConstants.{LAST_NUMBER, MOST_WAITIN
 use Rattle.executor.specs.Job.{JobValue}
 use Rattle.executor.specs.Steps.{StepValue, jobs_after_steps}
 use Rattle.instance_core.specs.declared.event.CallId.{CallId}
-use Rattle.instance_core.specs.Calls.{Calls, CallValue, IsShortProgress, KeepShort, same_call}
+use Rattle.instance_core.specs.Calls.{Calls, CallValue, IsProgressOf, KeepShort, same_call}
 use Rattle.instance_core.specs.Jobs.{IsWholeJob}
 use Rattle.instance_core.specs.State.{InstanceState, IsInstanceWithin, most_blobs}
 use Rattle.instance_core.specs.Changes.{InstanceChange, Text, Goes, Ends, Wrote, Keeps, Expires, Does, Pushes, Settles, state_after_change, state_after_changes}
@@ -28,7 +28,7 @@ use Rattle.instance_core.proofs.OperationSizes.{IsShort}
 -- of a request is short; jobs stay as they are
 abbrev pub KeepsLimits : ℕ → InstanceChange → Type 0
 KeepsLimits quota (Text c) = StoresNamedText c
-KeepsLimits quota (Goes id call) = IsShortProgress call.progress
+KeepsLimits quota (Goes id call) = IsProgressOf call.method call.progress
 KeepsLimits quota (Ends id) = Unit {0}
 KeepsLimits quota (Wrote w) = IsWithin quota w
 KeepsLimits quota (Keeps results) = AreResultsWithin results
@@ -78,7 +78,7 @@ settles_keeps steps s h w = record {
   whole = h.whole;
   told = h.ended;
   calls = steps_left (λ (cs : Calls). IsDistinct same_call (keys_of cs)) filter_once steps s.calls w.calls;
-  messages = steps_left KeepShort (all_filter (λ (c : CallId × CallValue). IsShortProgress c.1.progress)) steps s.calls w.messages;
+  messages = steps_left KeepShort (all_filter (λ (c : CallId × CallValue). IsProgressOf c.1.method c.1.progress)) steps s.calls w.messages;
   parent = w.parent;
 }
 

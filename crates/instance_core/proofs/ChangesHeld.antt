@@ -1,5 +1,5 @@
 -- What holds of each change that an event makes, whatever is to hold.
-use Rattle.std.proofs.Common.{◌≡◌, ◌<◌, ◌^◌, ℕ, Bool, true, false, cond, List, [], ◌∷◌, ◌++◌, map, Option, Some, None, Result, Ok, Err, refl}
+use Rattle.std.proofs.Common.{◌≡◌, ◌≢◌, ◌<◌, ◌^◌, ℕ, Bool, true, false, cond, List, [], ◌∷◌, ◌++◌, map, Option, Some, None, Result, Ok, Err, refl}
 use Rattle.std.specs.Prelude.{is_some}
 use Rattle.std.specs.List.{AllByRecursion}
 use Rattle.rpc.specs.declared.method.Method.{Method}
@@ -48,7 +48,7 @@ AllAre P cs = AllByRecursion P cs
 
 -- and of a message that is kept
 abbrev pub KeepsMessage : (InstanceChange → Type 0) → CallId → List ℕ → Type 0
-KeepsMessage P id bytes = (method : Method) → P (Goes id (record { method = method; progress = has bytes }))
+KeepsMessage P id bytes = (method : Method) → method ≢ Called.Write → P (Goes id (record { method = method; progress = has bytes }))
 
 -- and of what Execute does
 abbrev pub ExecutesHold : (InstanceChange → Type 0) → InstanceState → Method → List ℕ → Type 0
@@ -101,7 +101,7 @@ next_holds s P a id write bytes (Err refusal) = ends_hold s P a id (next_changes
 -- a message
 with_first_holds : (s : InstanceState) (P : InstanceChange → Type 0) → Allows s P → (id : CallId) (method : Method) (bytes : List ℕ) → KeepsMessage P id bytes → AllAre P (first_message_answer s id method bytes).changes
 with_first_holds s P a id Called.Write bytes keeps = first_holds s P a id Called.Write bytes (first_outcome s bytes) refl
-with_first_holds s P a id method bytes keeps = (keeps method, tt)
+with_first_holds s P a id method bytes keeps = (keeps method (λ write. cc), tt)
 
 with_holds : (s : InstanceState) (P : InstanceChange → Type 0) → Allows s P → (id : CallId) (method : Method) (bytes : List ℕ) (p : ProgressValue) → KeepsMessage P id bytes → AllAre P (answer_by_progress s id method bytes p).changes
 with_holds s P a id method bytes waits keeps = with_first_holds s P a id method bytes keeps

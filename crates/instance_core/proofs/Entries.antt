@@ -5,7 +5,7 @@ use Rattle.std.specs.List.{IsDistinct}
 use Rattle.std.specs.Map.{keys_of}
 use Rattle.indexmap.specs.IndexMap.{insert_entry}
 use Rattle.instance_core.specs.declared.event.CallId.{CallId}
-use Rattle.instance_core.specs.Calls.{Calls, CallValue, same_call, with_call, without_call, IsShortProgress, KeepShort, AreInCourse}
+use Rattle.instance_core.specs.Calls.{Calls, CallValue, same_call, with_call, without_call, IsProgressOf, KeepShort, AreInCourse}
 
 pub inserted : (id : CallId) (call : CallValue) (es : List (CallId × CallValue)) → insert_entry same_call es id call ≡ with_call id call es
 inserted id call [] = refl
@@ -14,7 +14,7 @@ inserted id call (e ∷ es) = go (same_call id e.0) refl (inserted id call es) w
   go true is ih = rw is refl
   go false is ih = rw is (ap (λ (cs : List (CallId × CallValue)). e ∷ cs) ih)
 
-pub with_short : (id : CallId) (call : CallValue) (cs : Calls) → IsShortProgress call.progress → KeepShort cs → KeepShort (with_call id call cs)
+pub with_short : (id : CallId) (call : CallValue) (cs : Calls) → IsProgressOf call.method call.progress → KeepShort cs → KeepShort (with_call id call cs)
 with_short id call [] h kept = (h, tt)
 with_short id call (c ∷ cs) h kept = go (same_call id c.0) (with_short id call cs h kept.1) where
   go : (b : Bool) → KeepShort (with_call id call cs) → KeepShort (cond b ((c.0, call) ∷ cs) (c ∷ with_call id call cs))
@@ -30,7 +30,7 @@ without_short id (c ∷ cs) kept = go (same_call id c.0) (without_short id cs ke
 
 -- a call that was put into the map
 pub put_in : (id : CallId) (call : CallValue) (old new : Calls) → new ≡ insert_entry same_call old id call → IsDistinct same_call (keys_of new)
-    → IsShortProgress call.progress → AreInCourse old → AreInCourse new
+    → IsProgressOf call.method call.progress → AreInCourse old → AreInCourse new
 put_in id call old new is once short calls = record { once = once; messages = rw (is, inserted id call old) (with_short id call old short calls.messages) }
 
 -- a call that was taken out of it
@@ -39,7 +39,7 @@ taken_out id old new is once calls = record { once = once; messages = rw is (wit
 
 -- a call that took the place of another
 pub replaced : (id : CallId) (call : CallValue) (old new : Calls) → new ≡ with_call id call old → IsDistinct same_call (keys_of new)
-    → IsShortProgress call.progress → AreInCourse old → AreInCourse new
+    → IsProgressOf call.method call.progress → AreInCourse old → AreInCourse new
 replaced id call old new is once short calls = record { once = once; messages = rw is (with_short id call old short calls.messages) }
 
 pub ok_is : {T E : Type 0} (r : Result T E) (x : T) {P : Type 0} → r ≡ Ok x → OnOk r P → P

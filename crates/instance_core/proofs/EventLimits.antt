@@ -135,7 +135,7 @@ end_job_fronts s n outcome (Some job) is narrow w =
 
 event_fronts : (s : InstanceState) (event : CallEventValue) → IsShortEvent event → IsInstanceWithin s → FrontsKeep s (answer s event).changes
 event_fronts s (head id method) short w = fronts_keep s (answer s (head id method)).changes (answer_holds s (KeepsLimits s.quota) (limits_allow s w) (head id method) tt) w
-event_fronts s (message id bytes) short w = fronts_keep s (answer s (message id bytes)).changes (answer_holds s (KeepsLimits s.quota) (limits_allow s w) (message id bytes) (λ method. short)) w
+event_fronts s (message id bytes) short w = fronts_keep s (answer s (message id bytes)).changes (answer_holds s (KeepsLimits s.quota) (limits_allow s w) (message id bytes) (λ method other. (other, short))) w
 event_fronts s (fault id refusal) short w = fronts_keep s (answer s (fault id refusal)).changes (answer_holds s (KeepsLimits s.quota) (limits_allow s w) (fault id refusal) tt) w
 event_fronts s (end id) short w = end_fronts s id (call_at id s.calls) w
 event_fronts s (cancel id) short w = fronts_keep s (answer s (cancel id)).changes (answer_holds s (KeepsLimits s.quota) (limits_allow s w) (cancel id) tt) w
@@ -204,7 +204,7 @@ end_stores s outcome (Some job) steps =
     (tt, tt)
 
 stores_beside : (s : InstanceState) (event : CallEventValue) → HoldsBeside (StoresNamed s.visible) s event
-stores_beside s (message id bytes) = λ method. tt
+stores_beside s (message id bytes) = λ method other. tt
 stores_beside s (head id method) = tt
 stores_beside s (fault id refusal) = tt
 stores_beside s (end id) = λ call. call_stores s id call.method call.progress

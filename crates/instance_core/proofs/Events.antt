@@ -16,7 +16,7 @@ use Rattle.bytestream.specs.Reading.{SourceValue, read_asked, offset_check, unti
 use Rattle.bytestream.specs.Writing as Writing
 use Rattle.bytestream.specs.Writing.{WrittenValue, unfinished_reply}
 use Rattle.instance_core.specs.declared.event.CallId.{CallId}
-use Rattle.instance_core.specs.Calls.{Calls, CallValue, ProgressValue, waits, has, writes, watches, CallEventValue, head, message, fault, end, cancel, tick, start_jobs, end_late_jobs, end_job, same_call, call_at, IsShortEvent, IsShortRequest, IsShortProgress, KeepShort}
+use Rattle.instance_core.specs.Calls.{Calls, CallValue, ProgressValue, waits, has, writes, watches, CallEventValue, head, message, fault, end, cancel, tick, start_jobs, end_late_jobs, end_job, same_call, call_at, IsShortEvent, IsShortRequest, IsProgressOf, KeepShort}
 use Rattle.instance_core.specs.State.{InstanceState, IsInstanceWithin, seen}
 use Rattle.instance_core.proofs.Sees.{all_named}
 use Rattle.instance_view.specs.Shown.{ViewValue}
@@ -146,10 +146,10 @@ first_message_short s id Write bytes =
     first_written_short id Write (first_changes s bytes) (first_outcome s bytes) (λ reply h. first_short s.name s.quota s.moment (Rattle.instance_core.specs.Writes.write_state s) bytes reply h)
 first_message_short s id _ bytes = tt
 
-message_short : (s : InstanceState) (id : CallId) (bytes : List ℕ) (o : Option CallValue) → IfSome o (λ call. IsShortProgress call.progress) → AllByRecursion IsShortReply (message_answer s id bytes o).replies
+message_short : (s : InstanceState) (id : CallId) (bytes : List ℕ) (o : Option CallValue) → IfSome o (λ call. IsProgressOf call.method call.progress) → AllByRecursion IsShortReply (message_answer s id bytes o).replies
 message_short s id bytes None h = tt
 message_short s id bytes (Some call) h = go call.progress h where
-  go : (progress : ProgressValue) → IsShortProgress progress → AllByRecursion IsShortReply (answer_by_progress s id call.method bytes progress).replies
+  go : (progress : ProgressValue) → IsProgressOf call.method progress → AllByRecursion IsShortReply (answer_by_progress s id call.method bytes progress).replies
   go waits h = first_message_short s id call.method bytes
   go (has first) h = ((tt, tt), tt)
   go (writes write) h = next_written_short id (next_changes s write bytes) (next_outcome s write bytes) (λ reply answered. next_short write s.quota s.moment s.uploads bytes reply h answered)
@@ -164,20 +164,20 @@ fault_short id refusal (Some call) = go call.progress where
   go (has first) = ((tt, tt), tt)
   go (writes write) = ((tt, tt), tt)
 
-end_short : (s : InstanceState) (id : CallId) (o : Option CallValue) → IsInstanceWithin s → IfSome o (λ call. IsShortProgress call.progress) → AllByRecursion IsShortReply (request_end_answer s id o).replies
+end_short : (s : InstanceState) (id : CallId) (o : Option CallValue) → IsInstanceWithin s → IfSome o (λ call. IsProgressOf call.method call.progress) → AllByRecursion IsShortReply (request_end_answer s id o).replies
 end_short s id None w h = tt
 end_short s id (Some call) w h = go call.progress h where
-  go : (progress : ProgressValue) → IsShortProgress progress → AllByRecursion IsShortReply (end_answer_by_progress s id call.method progress).replies
+  go : (progress : ProgressValue) → IsProgressOf call.method progress → AllByRecursion IsShortReply (end_answer_by_progress s id call.method progress).replies
   go waits h = ((tt, tt), tt)
-  go (has request) h = (answer_short call.method s request w h, tt)
+  go (has request) h = (answer_short call.method s request w h.1, tt)
   go (writes write) h = ((tt, (unfinished_short s.quota write.key s.uploads w.quota w.uploads, (tt, tt))), tt)
   go (watches n) h = tt
 
 -- what is kept of a call is short
-pub found_short : (id : CallId) (calls : Calls) → KeepShort calls → IfSome (call_at id calls) (λ call. IsShortProgress call.progress)
+pub found_short : (id : CallId) (calls : Calls) → KeepShort calls → IfSome (call_at id calls) (λ call. IsProgressOf call.method call.progress)
 found_short id [] h = tt
 found_short id (c ∷ cs) h = go (same_call id c.0) (found_short id cs h.1) where
-  go : (b : Bool) → IfSome (call_at id cs) (λ call. IsShortProgress call.progress) → IfSome (cond b (Some c.1) (call_at id cs)) (λ call. IsShortProgress call.progress)
+  go : (b : Bool) → IfSome (call_at id cs) (λ call. IsProgressOf call.method call.progress) → IfSome (cond b (Some c.1) (call_at id cs)) (λ call. IsProgressOf call.method call.progress)
   go true ih = h.0
   go false ih = ih
 

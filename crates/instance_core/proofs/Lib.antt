@@ -36,6 +36,7 @@ pub mod EventLimits
 pub mod EndingJobs
 pub mod NamedReplies
 pub mod Losses
+mod EmptyBlob
 pub use Rattle.instance_view.proofs.Held
 pub use Rattle.quota_evict.proofs.Limits
 pub use Rattle.quota_evict.proofs.Steps

@@ -22,7 +22,7 @@ use Rattle.instance_core.specs.declared.event.CallId.{CallId}
 use Rattle.instance_core.specs.declared.event.Reply.{Reply}
 use Rattle.uploads.specs.Uploads.{UploadList}
 use Rattle.tree_calls.specs.Complete.{AreResultsWithin}
-use Rattle.instance_core.specs.Calls.{CallValue, ProgressValue, has, Calls, IsShortProgress}
+use Rattle.instance_core.specs.Calls.{CallValue, ProgressValue, has, Calls, IsProgressOf}
 use Rattle.instance_core.specs.State.{InstanceState, most_blobs}
 use Rattle.instance_core.specs.Methods.{answer_to, request_changes}
 use Rattle.instance_core.specs.Changes.{InstanceChange, Text, Keeps, state_after_change, state_after_changes, MadeInPart}
@@ -142,10 +142,10 @@ calls_made (Err e) changes s calls all same = record {
 }
 
 -- what has come of the call that was found is short
-pub progress_short : (call : CallValue) (progress : ProgressValue) (there : Option CallValue) → Some call ≡ there → progress ≡ call.progress → IfSome there (λ c. IsShortProgress c.progress) → IsShortProgress progress
+pub progress_short : (call : CallValue) (progress : ProgressValue) (there : Option CallValue) → Some call ≡ there → progress ≡ call.progress → IfSome there (λ c. IsProgressOf c.method c.progress) → IsProgressOf call.method progress
 progress_short call progress there is same h =
-    let here : IfSome (Some call) (λ c. IsShortProgress c.progress) = subst (λ (o : Option CallValue). IfSome o (λ c. IsShortProgress c.progress)) (sym is) h in
-    subst IsShortProgress (sym same) here
+    let here : IfSome (Some call) (λ c. IsProgressOf c.method c.progress) = subst (λ (o : Option CallValue). IfSome o (λ c. IsProgressOf c.method c.progress)) (sym is) h in
+    subst (IsProgressOf call.method) (sym same) here
 
 -- ---- what a method leaves
 

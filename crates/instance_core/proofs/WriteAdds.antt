@@ -37,7 +37,7 @@ found_has P t (x ∷ xs) b h is = go (t x.0) is (λ later. found_has P t xs b h.
   go true is ih = let equal : x ≡ b = cc in subst P equal h.0
   go false is ih = ih is
 
-used_all : (P : Blob → Type 0) (d : Digest) (bs : List Blob) → AllByRecursion P bs → AllByRecursion P (visible_after_use d bs)
+pub used_all : (P : Blob → Type 0) (d : Digest) (bs : List Blob) → AllByRecursion P bs → AllByRecursion P (visible_after_use d bs)
 used_all P d bs h = go (lookup_entry (same_digest d) bs) refl where
   go : (o : Option Blob) → lookup_entry (same_digest d) bs ≡ o → AllByRecursion P (with_match_first (same_digest d) bs)
   go None is = rw is h
@@ -50,7 +50,7 @@ front_all P room (b ∷ bs) h = go (nat_le (length b.1) room) (front_all P (room
   go true ih = (h.0, ih)
   go false ih = tt
 
-admitted_all : (P : Blob → Type 0) (limit quota : ℕ) (d : Digest) (text : List ℕ) (bs : List Blob) → P (d, text) → AllByRecursion P bs → AllByRecursion P (visible_after_admission limit quota d text bs)
+pub admitted_all : (P : Blob → Type 0) (limit quota : ℕ) (d : Digest) (text : List ℕ) (bs : List Blob) → P (d, text) → AllByRecursion P bs → AllByRecursion P (visible_after_admission limit quota d text bs)
 admitted_all P limit quota d text bs new h = go (is_some (visible_text d bs)) (nat_lt quota (length text)) where
   go : (s t : Bool) → AllByRecursion P (cond s (visible_after_use d bs) (cond t bs ((d, text) ∷ take (limit - 1) (longest_front (quota - length text) bs))))
   go true t = used_all P d bs h

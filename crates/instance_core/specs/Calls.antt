@@ -1,9 +1,10 @@
 -- The calls in course of an instance, and what happens to them and to its jobs.
-use Rattle.std.specs.Prelude.{ℕ, ◌<◌, Bool, ◌==◌, ◌&&◌, if◌then◌else◌, List, [], ◌∷◌, Option, FitsSigned}
+use Rattle.std.specs.Prelude.{ℕ, ◌<◌, ◌≢◌, Bool, ◌==◌, ◌&&◌, if◌then◌else◌, List, [], ◌∷◌, Option, FitsSigned}
 use Rattle.std.specs.Int.{w32}
 use Rattle.std.specs.List.{AllByRecursion, IsDistinct}
 use Rattle.std.specs.Map.{lookup, remove_entry, keys_of}
 use Rattle.rpc.specs.declared.method.Method.{Method}
+use Rattle.rpc.specs.declared.method.Method.TheVariants.{Write}
 use Rattle.rpc.specs.declared.refusal.Refusal.{Refusal}
 use Rattle.bytestream.specs.Size.{size_limit}
 use Rattle.bytestream.specs.Writing.{OpenWriteValue}
@@ -72,18 +73,20 @@ IsShortEvent (message id bytes) = IsShortRequest bytes
 IsShortEvent (end_job n outcome) = IsNarrowOutcome outcome
 IsShortEvent _ = Unit {0}
 
--- no message that is kept is longer, and the size of an upload that is written can be told
--- (bytestream.proto, committed_size)
-abbrev pub IsShortProgress : ProgressValue → Type 0
-IsShortProgress waits = Unit {0}
-IsShortProgress (has bytes) = IsShortRequest bytes
-IsShortProgress (writes write) = write.key.digest.size < size_limit
-IsShortProgress (watches n) = Unit {0}
+-- how much of a request of a method may be kept: no message is longer, and none of a Write waits
+-- for the request's end; the size of an upload that is written can be told (bytestream.proto,
+-- committed_size)
+abbrev pub IsProgressOf : Method → ProgressValue → Type 0
+IsProgressOf method waits = Unit {0}
+IsProgressOf method (has bytes) = (method ≢ Write) × IsShortRequest bytes
+IsProgressOf method (writes write) = write.key.digest.size < size_limit
+IsProgressOf method (watches n) = Unit {0}
 
 abbrev pub KeepShort : Calls → Type 0
-KeepShort calls = AllByRecursion (λ (c : CallId × CallValue). IsShortProgress c.1.progress) calls
+KeepShort calls =
+    AllByRecursion (λ (c : CallId × CallValue). IsProgressOf c.1.method c.1.progress) calls
 
--- no call stands twice, and no message that is kept is too long
+-- no call stands twice, and no message that is kept is too long or a Write's
 pub record AreInCourse (calls : Calls) : Type 0 where
   pub once : IsDistinct same_call (keys_of calls)
   pub messages : KeepShort calls

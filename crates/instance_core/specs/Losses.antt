@@ -3,9 +3,10 @@
 -- `ChangesByRule` has a case for each rule. A blob is lost to an admission alone, and a result to a
 -- store alone; an upload is lost at its end, to a piece that would bring it past its size, or by
 -- its age; and a job that waits starts, and one that runs ends, and neither is lost otherwise.
-use Rattle.std.specs.Prelude.{◌≡◌, ℕ, ◌+◌, ◌<◌, List, [], ◌∷◌, ◌++◌, length}
+use Rattle.std.specs.Prelude.{◌≡◌, ℕ, ◌+◌, ◌<◌, false, List, [], ◌∷◌, ◌++◌, length}
+use Rattle.std.specs.List.{AllByRecursion}
 use Rattle.digest.specs.declared.Digest.{Digest}
-use Rattle.digest.specs.Naming.{Names, same_digest}
+use Rattle.digest.specs.Naming.{Names, same_digest, is_empty_digest}
 use Rattle.instance_view.specs.Visible.{Blob, visible_after_use, with_match_first}
 use Rattle.quota_evict.specs.Admission.{visible_after_admission}
 use Rattle.uploads.specs.Uploads.{KeyValue, UploadList, with_upload, without_upload, text_so_far, uploads_at}
@@ -82,3 +83,13 @@ LeadsThrough s (r ∷ states) t = ChangesByRule s r × LeadsThrough r states t
 pub record LosesByRules (s t : InstanceState) : Type 0 where
   pub states : List InstanceState
   pub leads : LeadsThrough s states t
+
+-- ---- the empty blob
+
+-- a blob that is not the empty one, by its digest
+abbrev pub IsOfSomeByte : Blob → Type 0
+IsOfSomeByte b = is_empty_digest b.0 ≡ false
+
+-- the empty blob is always there, so it has no entry, and thus no slot of the pool
+abbrev pub HasNoEmptyBlob : List Blob → Type 0
+HasNoEmptyBlob visible = AllByRecursion IsOfSomeByte visible

@@ -4,7 +4,7 @@ ghost use Rattle.std.specs.Prelude.{◌≡◌, ◌<◌, ◌^◌, ◌==◌, not, 
 ghost use Rattle.std.specs.List.{IsDistinct};
 ghost use Rattle.std.specs.Map.{keys_of};
 ghost use Rattle.std.specs.Option.{option_copied};
-ghost use Rattle.instance_core.specs.Calls.{CallValue, call_at, same_call, with_call, without_call, watches, IsShortProgress, AreInCourse};
+ghost use Rattle.instance_core.specs.Calls.{CallValue, call_at, same_call, with_call, without_call, watches, IsProgressOf, AreInCourse};
 ghost use Rattle.instance_core.specs.Watching.{calls_after_steps, calls_told, is_watcher, is_watching};
 ghost use Rattle.executor.specs.Ordered.{told_shown};
 ghost use Rattle.executor.specs.Taking.{steps_shown};
@@ -151,7 +151,7 @@ impl Calls {
 
     /// Puts a call in the place of the one of that name, or behind all others.
     pub fn put(&mut self, id: CallId, call: Call) -> Result<(), AllocError>
-        requires short { IsShortProgress call.progress }
+        requires short { IsProgressOf call.method call.progress }
         ensures ok { OnOk result (self.new ≡ with_call id call self.old) }
         ensures err { OnErr result (self.new ≡ self.old) }
         ensures calls { AreInCourse self.new }

@@ -1,6 +1,6 @@
 //! What follows from the definitions alone.
 
-ghost use Rattle.std.specs.Prelude.{◌≡◌, ℕ};
+ghost use Rattle.std.specs.Prelude.{◌≡◌, ℕ, List};
 ghost use Rattle.std.specs.List.{AllByRecursion};
 ghost use Rattle.job_queue.specs.Changes.{IsRunning};
 ghost use Rattle.outcomes.specs.Outcomes.{OutcomeValue};
@@ -9,10 +9,10 @@ ghost use Rattle.instance_core.specs.Apart.{IsCallOn, replies_on};
 ghost use Rattle.instance_core.specs.Calls.{CallEventValue, start_jobs, end_late_jobs, end_job};
 ghost use Rattle.instance_core.specs.Changes.{MadeInPart};
 ghost use Rattle.instance_core.specs.Jobs.{IsWholeOrder};
-ghost use Rattle.instance_core.specs.Losses.{LosesByRules};
+ghost use Rattle.instance_core.specs.Losses.{LosesByRules, HasNoEmptyBlob};
 ghost use Rattle.instance_core.specs.Named.{StoresNamed};
 ghost use Rattle.instance_core.specs.NamedReplies.{ServesNamed};
-ghost use Rattle.instance_core.specs.State.{InstanceState, IsInstanceWithin};
+ghost use Rattle.instance_core.specs.State.{InstanceState, IsInstanceWithin, new_instance};
 ghost use Rattle.instance_core.specs.Watching.{WatchAtRest, WatchDuring};
 
 /// A call stores bytes only under the digest that names them, whatever its request says: a batch,
@@ -63,4 +63,13 @@ pub fn starts_are_told_on_one_connection()
 pub fn calls_lose_by_rules()
     ensures { (s t : InstanceState) (event : CallEventValue)
         → MadeInPart (answer s event).changes s t → LosesByRules s t }
+{}
+
+/// The empty blob is always there, and has no entry in an instance: at first there is none, and no
+/// rule by which what is kept changes gives it one. So it has no slot in the pool.
+pub fn the_empty_blob_has_no_slot()
+    ensures opened { (name : List ℕ) (quota slots : ℕ)
+        → HasNoEmptyBlob (new_instance name quota slots).visible }
+    ensures kept { (s t : InstanceState) → LosesByRules s t → HasNoEmptyBlob s.visible
+        → HasNoEmptyBlob t.visible }
 {}

@@ -1,8 +1,8 @@
 //! What each method but `Write` answers to the one message of its request.
 
-ghost use Rattle.std.specs.Prelude.{◌≡◌, ◌+◌, ◌<◌, ◌≤◌, ◌^◌, ℕ};
+ghost use Rattle.std.specs.Prelude.{◌≡◌, ◌≢◌, ◌+◌, ◌<◌, ◌≤◌, ◌^◌, ℕ};
 ghost use Rattle.blob_pool.specs.Slots.{Slots, count_at};
-ghost use Rattle.rpc.specs.declared.method.Method.TheVariants.{FindMissingBlobs, BatchUpdateBlobs, BatchReadBlobs, GetCapabilities, QueryWriteStatus};
+ghost use Rattle.rpc.specs.declared.method.Method.TheVariants.{FindMissingBlobs, BatchUpdateBlobs, BatchReadBlobs, GetCapabilities, QueryWriteStatus, Write};
 ghost use Rattle.instance_view.specs.Visible.{Blob};
 ghost use Rattle.instance_view.specs.Shown.{visible_in, holders};
 ghost use Rattle.std.specs.Prelude.{List};
@@ -20,7 +20,7 @@ use blob_pool::Pool;
 use bytestream::query;
 use cas_service::{CallError, batch_read, batch_update, find_missing};
 use instance_view::View;
-use rpc::{Method, Refusal};
+use rpc::Method;
 use std::alloc::Global;
 
 /// Answers a `FindMissingBlobs`. What is there is used.
@@ -125,7 +125,8 @@ fn tell_status(
 }
 
 /// Carries out the one message of a request of the method, beside the texts of the instance's
-/// parent. The text of a range that is answered is held.
+/// parent. The messages of a `Write` are carried out as they come, by functions of their own. The
+/// text of a range that is answered is held.
 pub fn carry_out(
     alloc: Global,
     settings: &Settings,
@@ -140,6 +141,7 @@ pub fn carry_out(
         ≤ count_at pool.old k }
     requires room { (k : ℕ) → count_at pool.old k + 2 ^ 64 < 2 ^ 127 }
     requires slots { contents.old.executions.slots ≡ settings.now.slots }
+    requires other { method ≢ Write }
     ensures carried { Carries method settings.now (visible_in pool.old parent.now) message.now
         pool.old contents.old result pool.new contents.new }
 {
@@ -155,7 +157,6 @@ pub fn carry_out(
         Method::QueryWriteStatus => tell_status(alloc, settings, contents, message),
         Method::Execute => start_execution(alloc, settings, contents, parent, pool, message),
         Method::WaitExecution => watch_execution(alloc, contents, message),
-        // No request of a `Write` is kept to its end.
-        Method::Write => Err(CallError::Refused(Refusal::UnknownMethod)),
+        Method::Write => unreachable!(),
     }
 }

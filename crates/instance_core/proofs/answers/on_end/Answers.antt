@@ -12,7 +12,8 @@ use Rattle.instance_core.specs.Methods.{answer_to, request_changes}
 use Rattle.instance_core.specs.ReplyHolders.{result_holders}
 use Rattle.instance_core.specs.Carries.{answer_holders, contents_beside, contents_holders, settled}
 use Rattle.instance_core.proofs.Carrying.{answer_held, answer_ends_within, shown_still, texts_still, moved_on, own_held, within_still, held_by_none}
-use Rattle.instance_core.proofs.Parts.{call_found, ended_whole, ended_in_part, made_whole, made_in_part, calls_made, all_left, front_left}
+use Rattle.instance_core.proofs.Events.{found_short}
+use Rattle.instance_core.proofs.Parts.{call_found, progress_short, ended_whole, ended_in_part, made_whole, made_in_part, calls_made, all_left, front_left}
 use Rattle.instance_core.proofs.answers.on_end.Goals as goal
 
 pub returns-in-Waits-clause-replies : goal.returns-in-Waits-clause-replies
@@ -27,6 +28,12 @@ returns-in-Waits-clause-changed c =
     let waiting : waits ≡ c.in-Some.call.now.progress = rw c.in-Waits.is at c.progress.ensures in
     let there = call_found c.in-Some.call.now c.in-Some.call.now.method waits (call_at c.args.id c.args.calls.now) c.in-Some.ensures.found refl waiting in
     rw (← there) (calls_made c.finish.result (final_answer c.args.id (Err NoMessage)).changes s c.finish.new.calls c.finish.ensures.changed c.finish.ensures.err)
+
+pub carry_out-outcome-requires-clause-other : goal.carry_out-outcome-requires-clause-other
+carry_out-outcome-requires-clause-other c =
+    let come : has c.in-Has.message.items ≡ c.in-Some.call.now.progress = rw c.in-Has.is at c.progress.ensures in
+    let kept = progress_short c.in-Some.call.now (has c.in-Has.message.items) (call_at c.args.id c.args.calls.now) c.in-Some.ensures.found come (found_short c.args.id c.args.calls.now c.in-Some.ensures.calls.messages) in
+    λ write. kept.0 (sym c.method-method.ensures ∙ write)
 
 pub reply_to_request-requires-clause-held : goal.reply_to_request-requires-clause-held
 reply_to_request-requires-clause-held c =

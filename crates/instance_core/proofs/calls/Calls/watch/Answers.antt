@@ -1,5 +1,5 @@
 use Rattle.std.proofs.Common.{◌≡◌, Some, None, refl, sym, ap, subst, ◌∙◌}
-use Rattle.instance_core.specs.Calls.{CallValue, IsShortProgress, call_at, watches}
+use Rattle.instance_core.specs.Calls.{CallValue, IsProgressOf, call_at, watches}
 use Rattle.instance_core.proofs.Entries.{replaced}
 use Rattle.instance_core.proofs.calls.Calls.watch.Goals as goal
 
@@ -10,7 +10,7 @@ returns-in_default-clause-watches c = λ call is.
 pub invariant_of-self : goal.invariant_of-self
 invariant_of-self c =
     replaced c.args.id c.new-watching.result c.self.inside.by_id.entries _ c.replace.ensures.entries c.replace.ensures.once
-    (subst (λ (v : CallValue). IsShortProgress v.progress) (sym c.new-watching.ensures) tt) c.self.invariant
+    (subst (λ (v : CallValue). IsProgressOf v.method v.progress) (sym c.new-watching.ensures) tt) c.self.invariant
 
 pub returns-clause-watches : goal.returns-clause-watches
 returns-clause-watches c = λ call is.
@@ -23,4 +23,4 @@ returns-clause-watches c = λ call is.
 pub returns-clause-calls : goal.returns-clause-calls
 returns-clause-calls c =
     replaced c.args.id c.new-watching.result c.self.inside.by_id.entries _ c.replace.ensures.entries c.replace.ensures.once
-    (subst (λ (v : CallValue). IsShortProgress v.progress) (sym c.new-watching.ensures) tt) c.self.invariant
+    (subst (λ (v : CallValue). IsProgressOf v.method v.progress) (sym c.new-watching.ensures) tt) c.self.invariant

@@ -1,16 +1,18 @@
 -- What calls give, one after another, and the steps of a run that they make.
-use Rattle.std.proofs.Common.{◌≡◌, ℕ, ◌+◌, List, [], ◌∷◌, ◌++◌, map, refl, ap, sym, ◌∙◌, append-nil, append_assoc, subst, arith}
+use Rattle.std.proofs.Common.{◌≡◌, ◌≤◌, ℕ, ◌+◌, List, [], ◌∷◌, ◌++◌, refl, ap, sym, ◌∙◌, append-nil, append_assoc, subst}
 use Rattle.std.specs.Prelude.{Option, Some, None}
 use Rattle.runner.specs.Values.{PlaceValue}
-use Rattle.runner.specs.Calls.{FolderCall, FolderQuestion, FolderAnswer, ProgramCall, ProgramQuestion, ProgramAnswer, call, called, after, Adds, collect}
+use Rattle.runner.specs.Calls.{FolderCall, FolderQuestion, FolderAnswer, ProgramCall, ProgramQuestion, ProgramAnswer, of_folder, of_programs, folder_call, program_call, folder_calls, program_calls, call, called, after, Adds, collect}
 use Rattle.runner.specs.Made.{made, made_by}
 use Rattle.runner.specs.Gathered.{items_answered, call_items, answer_items}
 use Rattle.runner.specs.Told.{items_told, call_told, starts, start_of}
-use Rattle.runner.specs.Steps.{Goes, FolderGoes, ProgramGoes, to_make, to_start, to_look, has_gathered, has_told, then_to_make, then_to_start, then_to_look, then_gathered, then_told, looks, look_of}
+use Rattle.runner.specs.Steps.{Goes, to_make, to_start, to_look, has_gathered, has_told, then_to_make, then_to_start, then_to_look, then_gathered, then_told, looks, look_of}
 use Rattle.runner.specs.declared.stage.Stage.{Stage}
 use Rattle.runner.specs.declared.stage.Step.{Step}
 use Rattle.runner.specs.declared.stage.Step.TheVariants as steps
+use Rattle.runner.specs.Sizes.{most_bytes, held, folder_told, program_told, Fits}
 use Rattle.runner.proofs.Calls.{adds_more, after_none}
+use Rattle.runner.proofs.Sizes.{fits_append, held_then}
 
 pub collect_append : {C A : Type 0} (f : C → List A) (xs ys : List C) → collect f (xs ++ ys) ≡ collect f xs ++ collect f ys
 collect_append f [] ys = refl
@@ -34,8 +36,7 @@ pub goes_alone : (text : ℕ → List ℕ) (place : PlaceValue) (from : Stage) (
     → then_gathered place to ≡ has_gathered place from → then_told place to ≡ has_told place from
     → Goes text place from to f f p p
 goes_alone text place from to f p makes starts_it looks_at gathers told = record {
-  folder_calls = [];
-  program_calls = [];
+  calls = [];
   folder_asked = sym (after_none f);
   programs_asked = sym (after_none p);
   makes = makes;
@@ -43,6 +44,7 @@ goes_alone text place from to f p makes starts_it looks_at gathers told = record
   looks_at = looks_at;
   gathers = gathers ∙ sym (append-nil (has_gathered place from));
   is_told = told ∙ sym (append-nil (has_told place from));
+  fits = tt;
 }
 
 -- one thing was asked of folders
@@ -50,10 +52,10 @@ pub goes_folder : (text : ℕ → List ℕ) (place : PlaceValue) (from : Stage) 
     → Adds f g (call q a)
     → to_make text place from ≡ made_by q ++ then_to_make text place to → to_start place from ≡ then_to_start place to → to_look place from ≡ look_of q ++ then_to_look place to
     → then_gathered place to ≡ has_gathered place from ++ call_items q a → then_told place to ≡ has_told place from
+    → held from + folder_told q a ≤ most_bytes
     → Goes text place from to f g p p
-goes_folder text place from to f g p q a adds makes starts_it looks_at gathers told = record {
-  folder_calls = call q a;
-  program_calls = [];
+goes_folder text place from to f g p q a adds makes starts_it looks_at gathers told fits = record {
+  calls = of_folder record { question = q; answer = a } ∷ [];
   folder_asked = adds;
   programs_asked = sym (after_none p);
   makes = makes ∙ ap (λ zs. zs ++ then_to_make text place to) (sym (append-nil (made_by q)));
@@ -61,6 +63,7 @@ goes_folder text place from to f g p q a adds makes starts_it looks_at gathers t
   looks_at = looks_at ∙ ap (λ zs. zs ++ then_to_look place to) (sym (append-nil (look_of q)));
   gathers = gathers ∙ ap (λ zs. has_gathered place from ++ zs) (sym (append-nil (call_items q a)));
   is_told = told ∙ sym (append-nil (has_told place from));
+  fits = (fits, tt);
 }
 
 -- one thing was asked of programs
@@ -68,10 +71,10 @@ pub goes_program : (text : ℕ → List ℕ) (place : PlaceValue) (from : Stage)
     → Adds p s (called q a)
     → to_make text place from ≡ then_to_make text place to → to_start place from ≡ start_of q ++ then_to_start place to → to_look place from ≡ then_to_look place to
     → then_gathered place to ≡ has_gathered place from → then_told place to ≡ has_told place from ++ call_told q a
+    → held from + program_told q a ≤ most_bytes
     → Goes text place from to f f p s
-goes_program text place from to f p s q a adds makes starts_it looks_at gathers told = record {
-  folder_calls = [];
-  program_calls = called q a;
+goes_program text place from to f p s q a adds makes starts_it looks_at gathers told fits = record {
+  calls = of_programs record { question = q; answer = a } ∷ [];
   folder_asked = sym (after_none f);
   programs_asked = adds;
   makes = makes;
@@ -79,22 +82,27 @@ goes_program text place from to f p s q a adds makes starts_it looks_at gathers 
   looks_at = looks_at;
   gathers = gathers ∙ sym (append-nil (has_gathered place from));
   is_told = told ∙ ap (λ zs. has_told place from ++ zs) (sym (append-nil (call_told q a)));
+  fits = (fits, tt);
 }
 
 -- then more was asked
 pub goes_on : (text : ℕ → List ℕ) (place : PlaceValue) (from mid : Stage) (cost : ℕ) (to : Step) (f g h : Option (List FolderCall)) (p s t : Option (List ProgramCall))
     → Goes text place from (steps.Goes mid cost) f g p s → Goes text place mid to g h s t → Goes text place from to f h p t
-goes_on text place from mid cost to f g h p s t first next = record {
-  folder_calls = first.folder_calls ++ next.folder_calls;
-  program_calls = first.program_calls ++ next.program_calls;
-  folder_asked = adds_more f g h first.folder_calls next.folder_calls first.folder_asked next.folder_asked;
-  programs_asked = adds_more p s t first.program_calls next.program_calls first.programs_asked next.programs_asked;
-  makes = fronts (λ c. made_by c.question) first.folder_calls next.folder_calls _ _ _ first.makes next.makes;
-  starts_it = fronts (λ c. start_of c.question) first.program_calls next.program_calls _ _ _ first.starts_it next.starts_it;
-  looks_at = fronts (λ c. look_of c.question) first.folder_calls next.folder_calls _ _ _ first.looks_at next.looks_at;
-  gathers = behinds (λ c. call_items c.question c.answer) first.folder_calls next.folder_calls _ _ _ first.gathers next.gathers;
-  is_told = behinds (λ c. call_told c.question c.answer) first.program_calls next.program_calls _ _ _ first.is_told next.is_told;
-}
+goes_on text place from mid cost to f g h p s t first next =
+    let folders : folder_calls (first.calls ++ next.calls) ≡ folder_calls first.calls ++ folder_calls next.calls = collect_append folder_call first.calls next.calls in
+    let programs : program_calls (first.calls ++ next.calls) ≡ program_calls first.calls ++ program_calls next.calls = collect_append program_call first.calls next.calls in
+    record {
+      calls = first.calls ++ next.calls;
+      folder_asked = adds_more f g h (folder_calls first.calls) (folder_calls next.calls) first.folder_asked next.folder_asked ∙ ap (after f) (sym folders);
+      programs_asked = adds_more p s t (program_calls first.calls) (program_calls next.calls) first.programs_asked next.programs_asked ∙ ap (after p) (sym programs);
+      makes = fronts (λ c. made_by c.question) (folder_calls first.calls) (folder_calls next.calls) _ _ _ first.makes next.makes ∙ ap (λ cs. made cs ++ then_to_make text place to) (sym folders);
+      starts_it = fronts (λ c. start_of c.question) (program_calls first.calls) (program_calls next.calls) _ _ _ first.starts_it next.starts_it ∙ ap (λ cs. starts cs ++ then_to_start place to) (sym programs);
+      looks_at = fronts (λ c. look_of c.question) (folder_calls first.calls) (folder_calls next.calls) _ _ _ first.looks_at next.looks_at ∙ ap (λ cs. looks cs ++ then_to_look place to) (sym folders);
+      gathers = behinds (λ c. call_items c.question c.answer) (folder_calls first.calls) (folder_calls next.calls) _ _ _ first.gathers next.gathers ∙ ap (λ cs. has_gathered place from ++ items_answered cs) (sym folders);
+      is_told = behinds (λ c. call_told c.question c.answer) (program_calls first.calls) (program_calls next.calls) _ _ _ first.is_told next.is_told ∙ ap (λ cs. has_told place from ++ items_told cs) (sym programs);
+      fits = fits_append (held from) first.calls next.calls first.fits
+          (subst (λ n. Fits n next.calls) (held_then place from (steps.Goes mid cost) first.calls first.gathers first.is_told) next.fits);
+    }
 
 pub goes_nowhere : (text : ℕ → List ℕ) (place : PlaceValue) (stage : Stage) (cost : ℕ) (f : Option (List FolderCall)) (p : Option (List ProgramCall)) → Goes text place stage (steps.Goes stage cost) f f p p
 goes_nowhere text place stage cost f p = goes_alone text place stage (steps.Goes stage cost) f p refl refl refl refl refl
@@ -107,25 +115,24 @@ quiet q (Some x) h = h x
 -- a stage of which the same is to be done, and which has gathered the same
 pub goes_from : (text : ℕ → List ℕ) (place : PlaceValue) (from same : Stage) (to : Step) (f g : Option (List FolderCall)) (p s : Option (List ProgramCall))
     → to_make text place from ≡ to_make text place same → to_start place from ≡ to_start place same → to_look place from ≡ to_look place same
-    → has_gathered place from ≡ has_gathered place same → has_told place from ≡ has_told place same
+    → has_gathered place from ≡ has_gathered place same → has_told place from ≡ has_told place same → held from ≡ held same
     → Goes text place same to f g p s → Goes text place from to f g p s
-goes_from text place from same to f g p s makes starts_it looks_at gathers told goes = record {
-  folder_calls = goes.folder_calls;
-  program_calls = goes.program_calls;
+goes_from text place from same to f g p s makes starts_it looks_at gathers told holds goes = record {
+  calls = goes.calls;
   folder_asked = goes.folder_asked;
   programs_asked = goes.programs_asked;
   makes = makes ∙ goes.makes;
   starts_it = starts_it ∙ goes.starts_it;
   looks_at = looks_at ∙ goes.looks_at;
-  gathers = goes.gathers ∙ ap (λ zs. zs ++ items_answered goes.folder_calls) (sym gathers);
-  is_told = goes.is_told ∙ ap (λ zs. zs ++ items_told goes.program_calls) (sym told);
+  gathers = goes.gathers ∙ ap (λ zs. zs ++ items_answered (folder_calls goes.calls)) (sym gathers);
+  is_told = goes.is_told ∙ ap (λ zs. zs ++ items_told (program_calls goes.calls)) (sym told);
+  fits = subst (λ n. Fits n goes.calls) (sym holds) goes.fits;
 }
 
 -- what a step cost is of no matter
 pub recost : (text : ℕ → List ℕ) (place : PlaceValue) (from s : Stage) (a b : ℕ) (f g : Option (List FolderCall)) (p q : Option (List ProgramCall)) → Goes text place from (steps.Goes s a) f g p q → Goes text place from (steps.Goes s b) f g p q
 recost text place from s a b f g p q goes = record {
-  folder_calls = goes.folder_calls;
-  program_calls = goes.program_calls;
+  calls = goes.calls;
   folder_asked = goes.folder_asked;
   programs_asked = goes.programs_asked;
   makes = goes.makes;
@@ -133,6 +140,7 @@ recost text place from s a b f g p q goes = record {
   looks_at = goes.looks_at;
   gathers = goes.gathers;
   is_told = goes.is_told;
+  fits = goes.fits;
 }
 
 pub goes_exits : (text : ℕ → List ℕ) (place : PlaceValue) (from mid : Stage) (cost : ℕ) (step to : Step) (f g h : Option (List FolderCall)) (p s t : Option (List ProgramCall))

@@ -1,21 +1,17 @@
 -- What is gathered and told, one thing after another.
-use Rattle.std.proofs.Common.{◌≡◌, ℕ, ◌+◌, ◌-◌, Bool, List, [], ◌∷◌, ◌++◌, map, take, drop, length, refl, ap, sym, ◌∙◌, append-nil, append_assoc, length-append, arith, subst}
+use Rattle.std.proofs.Common.{◌≡◌, ℕ, ◌+◌, ◌-◌, List, [], ◌∷◌, ◌++◌, take, length, refl, ap, sym, ◌∙◌, append-nil, append_assoc, length-append, arith}
 use Rattle.std.specs.Prelude.{string_bytes}
-use Rattle.std.proofs.Math.Seq.{take-length}
-use Rattle.std.proofs.lemmas.List.{take-append-le}
 use Rattle.runner.specs.declared.task.RunKey.{RunKey}
 use Rattle.runner.specs.declared.task.NodeKind.{NodeKind}
 use Rattle.runner.specs.declared.task.NodeKind.TheVariants as node_kinds
 use Rattle.runner.specs.declared.task.TaskNode.{TaskNode}
 use Rattle.runner.specs.declared.programs.Stream.{Stream}
 use Rattle.runner.specs.declared.outcome.OutputNode.{OutputNode}
-use Rattle.runner.specs.declared.outcome.OutputNodeKind.{OutputNodeKind}
-use Rattle.runner.specs.declared.outcome.OutputNodeKind.TheVariants as kinds
 use Rattle.runner.specs.declared.outcome.Output.{Output}
 use Rattle.runner.specs.Values.{PlaceValue}
 use Rattle.runner.specs.Made.{names_at, above_then}
 use Rattle.runner.specs.Gathered.{ItemValue, byte_at, numbered, node_items, nodes_items, above_after, above_all, kind_items, output_items}
-use Rattle.runner.specs.Told.{ToldItem, stream_byte, stream_bytes}
+use Rattle.runner.specs.Told.{stream_byte, stream_bytes}
 use Rattle.runner.specs.Steps.{above_behind}
 
 pub numbered_append : (place : PlaceValue) (path : List ℕ) (names : List (List ℕ)) (from : ℕ) (xs ys : List ℕ)

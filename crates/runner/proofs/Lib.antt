@@ -1,4 +1,6 @@
 pub mod Calls
+pub mod Sizes
+pub mod Told
 pub mod Collect
 pub mod Counting
 pub mod Ended

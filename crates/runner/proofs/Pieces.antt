@@ -1,6 +1,5 @@
 -- What reading a piece adds to what was gathered.
-use Rattle.std.proofs.Common.{◌≡◌, ℕ, List, [], ◌∷◌, ◌++◌, Bool, refl, sym, ap, ◌∙◌, append-nil, append_assoc}
-use Rattle.runner.specs.Gathered.{ItemValue}
+use Rattle.std.proofs.Common.{◌≡◌, List, [], ◌∷◌, ◌++◌, sym, ap, ◌∙◌, append-nil, append_assoc}
 
 -- the file was read to its end, and stands among what is whole
 pub read_whole : {A : Type 0} (old new file items : List A) → new ≡ old ++ file → items ≡ [] → new ≡ (old ++ file) ++ items

@@ -1,5 +1,5 @@
 -- A list and its first, and what steps of making and reading add.
-use Rattle.std.proofs.Common.{◌≡◌, ℕ, ◌+◌, ◌-◌, ◌<◌, Bool, true, false, List, [], ◌∷◌, ◌++◌, map, take, drop, length, refl, ap, sym, ◌∙◌, subst, append-nil, append_assoc, arith}
+use Rattle.std.proofs.Common.{◌≡◌, ℕ, ◌+◌, ◌-◌, Bool, List, [], ◌∷◌, ◌++◌, map, take, drop, length, refl, ap, sym, ◌∙◌, append_assoc, arith}
 use Rattle.std.specs.Prelude.{ℤ, Option, Some, None, Result, Ok, Err, string_bytes}
 use Rattle.std.specs.Option.{option_to_list}
 use Rattle.std.specs.Global.{Vec}
@@ -11,8 +11,8 @@ use Rattle.runner.specs.declared.programs.Stream.{Stream}
 use Rattle.runner.specs.declared.programs.Stream.TheVariants as streams
 use Rattle.runner.specs.Values.{PlaceValue, kind_shown}
 use Rattle.runner.specs.Faults.{FolderAnswered, ProgramsAnswered}
-use Rattle.runner.specs.Calls.{FolderQuestion, FolderAnswer, ProgramQuestion, ProgramAnswer, kill_asked, read_asked, bytes_asked, killed, killed_of, bytes_of, folder_bytes_of}
-use Rattle.runner.specs.Made.{MadeItem, node_item, kind_made, node_made, nodes_made, names_at, above_then}
+use Rattle.runner.specs.Calls.{ProgramQuestion, ProgramAnswer, kill_asked, read_asked, bytes_asked, killed, killed_of, bytes_of, folder_bytes_of}
+use Rattle.runner.specs.Made.{MadeItem, node_item, kind_made, nodes_made, names_at, above_then}
 use Rattle.runner.specs.Gathered.{ItemValue, numbered, call_items}
 use Rattle.runner.specs.Told.{ToldItem, code_item, killed_item, stream_bytes, call_told, kill_told, answer_told}
 use Rattle.runner.specs.Steps.{above_behind}

@@ -1,7 +1,8 @@
 -- Nodes that are added to those of an output directory.
-use Rattle.std.proofs.Common.{◌≡◌, ℕ, ◌+◌, ◌-◌, Bool, List, [], ◌∷◌, ◌++◌, take, length, refl, ap, sym, ◌∙◌, arith}
-use Rattle.std.specs.Prelude.{string_bytes}
+use Rattle.std.proofs.Common.{◌≡◌, ◌≤◌, ℕ, ◌+◌, ◌-◌, Bool, List, [], ◌∷◌, ◌++◌, take, length, length-append, refl, ap, sym, ◌∙◌, arith}
+use Rattle.std.specs.Prelude.{min, string_bytes}
 use Rattle.std.proofs.Math.Seq.{take-length}
+use Rattle.std.proofs.lemmas.List.{length-take}
 use Rattle.blob_pool.specs.Drafts.{DraftValue}
 use Rattle.runner.specs.declared.outcome.OutputNode.{OutputNode}
 use Rattle.runner.specs.declared.outcome.OutputNodeKind.TheVariants.{File, Directory}
@@ -12,10 +13,11 @@ use Rattle.runner.specs.declared.stage.Stage.TheVariants as stages
 use Rattle.runner.specs.declared.stage.Step.{Step}
 use Rattle.runner.specs.Calls.{FolderCall}
 use Rattle.runner.specs.Steps.{FolderGoes}
+use Rattle.runner.specs.Sizes.{exited_length, nodes_length}
 use Rattle.runner.proofs.Collect.{goes_from}
 use Rattle.runner.specs.Values.{PlaceValue}
 use Rattle.runner.specs.Made.{names_at}
-use Rattle.runner.specs.Gathered.{ItemValue, file_item, directory_item, numbered, node_items, nodes_items, output_items, above_after, above_all}
+use Rattle.runner.specs.Gathered.{file_item, directory_item, numbered, node_items, nodes_items, output_items, above_after, above_all}
 use Rattle.runner.proofs.Items.{nodes_items_append, above_all_append}
 
 pub all_taken : (above : List (List ℕ)) (level : ℕ) → level ≡ length above + 1 → take (level - 1) above ≡ above
@@ -52,6 +54,15 @@ pub directory_above : (above : List (List ℕ)) (old new : List OutputNode) (n :
 directory_above above old new n so pushed kind =
     so ∙ sym (ap (above_all []) pushed ∙ above_all_append [] old n ∙ ap (λ k. above_after (above_all [] old) n k) kind)
 
+-- names that were cut at a level
+pub not_deeper : {A : Type 0} (above cut pushed : List A) (name : A) (k level deepest : ℕ)
+    → pushed ≡ cut ++ name ∷ [] → cut ≡ take k above → k ≡ min level deepest - 1 → 1 ≤ deepest → length pushed ≤ deepest
+not_deeper above cut pushed name k level deepest push trunc is some =
+    let whole = ap length push ∙ length-append cut (name ∷ []) in
+    let front = ap length trunc in
+    let short = length-take k above in
+    grind (arith, whole, front, short, is, some)
+
 -- a tree of which other entries are to be looked at
 pub tree_goes : {E : Type 0} (place : PlaceValue) (g : Gathering) (t t' : Tree) (r : Result Step E) (f h : Option (List FolderCall))
     → t'.path ≡ t.path → t'.nodes ≡ t.nodes → IfOk r (λ step. FolderGoes place (stages.Tree g t') step f h) → IfOk r (λ step. FolderGoes place (stages.Tree g t) step f h)
@@ -59,5 +70,5 @@ tree_goes place g t t' (Ok s) f h path nodes goes = λ text p.
     goes_from text place (stages.Tree g t) (stages.Tree g t') s f h p p refl refl refl
     (ap (λ x. output_items place g.exited.outputs.items ++ (directory_item place (string_bytes x) [] ∷ nodes_items place (string_bytes x) [] t.nodes.nodes)) (sym path)
     ∙ ap (λ n. output_items place g.exited.outputs.items ++ (directory_item place (string_bytes t'.path) [] ∷ nodes_items place (string_bytes t'.path) [] n.nodes)) (sym nodes))
-    refl (goes text p)
+    refl (ap (λ n. exited_length g.exited + nodes_length n.nodes) (sym nodes)) (goes text p)
 tree_goes place g t t' (Err e) f h path nodes goes = goes

@@ -1,5 +1,5 @@
 -- What a runner's calls make of its runs.
-use Rattle.std.proofs.Common.{◌≡◌, ℕ, List, [], ◌∷◌, ◌++◌, take, drop, refl, ap, sym, ◌∙◌, inl, inr}
+use Rattle.std.proofs.Common.{◌≡◌, ℕ, List, ◌∷◌, ◌++◌, take, drop, ap, sym, ◌∙◌, inr}
 use Rattle.std.specs.Prelude.{Option, Some, None, Result, Ok, Err}
 use Rattle.runner.specs.declared.task.RunKey.{RunKey}
 use Rattle.runner.specs.declared.folder.Place.{Place}
@@ -8,7 +8,7 @@ use Rattle.runner.specs.declared.outcome.Outcome.{Outcome}
 use Rattle.runner.specs.declared.stage.Stage.{Stage}
 use Rattle.runner.specs.declared.stage.Ending.{Ending}
 use Rattle.runner.specs.declared.stage.State.{State}
-use Rattle.runner.specs.declared.stage.State.TheVariants.{Live, Over}
+use Rattle.runner.specs.declared.stage.State.TheVariants.{Live}
 use Rattle.runner.specs.declared.stage.Run.{Run}
 use Rattle.runner.specs.Calls.{FolderCall, ProgramCall}
 use Rattle.runner.specs.Faults.{Counted, OnlyWhereFailed}

@@ -141,3 +141,23 @@ Adds before now more = now ≡ after before more
 abbrev pub collect : {C A : Type 0} → (C → List A) → List C → List A
 collect f [] = []
 collect f (c ∷ cs) = f c ++ collect f cs
+
+-- ---- of both, in one order
+
+pub data RunCall : Type 0 where
+  of_folder : FolderCall → RunCall
+  of_programs : ProgramCall → RunCall
+
+abbrev pub folder_call : RunCall → List FolderCall
+folder_call (of_folder c) = c ∷ []
+folder_call (of_programs c) = []
+
+abbrev pub program_call : RunCall → List ProgramCall
+program_call (of_folder c) = []
+program_call (of_programs c) = c ∷ []
+
+abbrev pub folder_calls : List RunCall → List FolderCall
+folder_calls calls = collect folder_call calls
+
+abbrev pub program_calls : List RunCall → List ProgramCall
+program_calls calls = collect program_call calls

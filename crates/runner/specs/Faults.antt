@@ -84,9 +84,3 @@ StaysOrRises old new = (new ≡ old) ⊎ (new ≡ risen old)
 abbrev pub Counted : {A : Type 0} → Result A RunFault → ℕ → ℕ → ℕ → ℕ → Type 0
 Counted (Ok x) f_old f_new p_old p_new = (f_new ≡ f_old) × (p_new ≡ p_old)
 Counted (Err f) f_old f_new p_old p_new = FaultFailed f f_old f_new p_old p_new
-
--- a fault of no folder and no program
-abbrev pub IsOwnFault : RunFault → Type 0
-IsOwnFault TooLarge = Unit {0}
-IsOwnFault NoMemory = Unit {0}
-IsOwnFault f = ⊥

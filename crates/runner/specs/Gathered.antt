@@ -1,5 +1,5 @@
 -- What is gathered: files and directories, and the bytes of files.
-use Rattle.std.specs.Prelude.{ℕ, ◌+◌, ◌-◌, Bool, List, [], ◌∷◌, ◌++◌, map, take, string_bytes, Option, Some, None}
+use Rattle.std.specs.Prelude.{ℕ, ◌+◌, ◌-◌, Bool, List, [], ◌∷◌, ◌++◌, take, string_bytes, Option, Some, None}
 use Rattle.runner.specs.declared.folder.Found.{Found}
 use Rattle.runner.specs.declared.folder.Found.TheVariants as founds
 use Rattle.runner.specs.declared.folder.FileFacts.{FileFacts}
@@ -11,7 +11,7 @@ use Rattle.runner.specs.declared.outcome.OutputKind.TheVariants as kinds
 use Rattle.runner.specs.declared.outcome.Output.{Output}
 use Rattle.runner.specs.Values.{PlaceValue}
 use Rattle.runner.specs.Made.{names_at}
-use Rattle.runner.specs.Calls.{FolderCall, FolderQuestion, FolderAnswer, root_asked, node_asked, text_asked, directory_asked, parents_asked, look_asked, file_asked, list_asked, bytes_asked, removal_asked, done, found, facts, entries, file_bytes, gone, collect}
+use Rattle.runner.specs.Calls.{FolderCall, FolderQuestion, FolderAnswer, root_asked, node_asked, text_asked, directory_asked, parents_asked, look_asked, file_asked, list_asked, bytes_asked, removal_asked, found, facts, entries, file_bytes, collect}
 
 -- of a run, at the path of an output and the names below it
 pub data ItemValue : Type 0 where

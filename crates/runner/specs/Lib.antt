@@ -5,5 +5,6 @@ pub mod Faults
 pub mod Made
 pub mod Gathered
 pub mod Told
+pub mod Sizes
 pub mod Steps
 pub mod Runs

@@ -4,6 +4,7 @@ use Rattle.runner.specs.declared.task.RunKey.{RunKey}
 use Rattle.runner.specs.declared.task.Task.{Task}
 use Rattle.runner.specs.declared.folder.Place.{Place}
 use Rattle.runner.specs.declared.fault.RunFault.{RunFault}
+use Rattle.runner.specs.declared.fault.RunFault.TheVariants.{TooLarge}
 use Rattle.runner.specs.declared.outcome.Outcome.{Outcome}
 use Rattle.runner.specs.declared.outcome.Outcome.TheVariants as outcomes
 use Rattle.runner.specs.declared.stage.Making.{Making}
@@ -18,6 +19,7 @@ use Rattle.runner.specs.declared.stage.State.TheVariants.{Live, Over}
 use Rattle.runner.specs.declared.stage.Run.{Run}
 use Rattle.runner.specs.Values.{place_shown}
 use Rattle.runner.specs.Calls.{FolderCall, FolderAnswer, removal_asked, call, ProgramCall, ProgramAnswer, program_done, kill_asked, forget_asked, called, Adds}
+use Rattle.runner.specs.Sizes.{Surpasses}
 use Rattle.runner.specs.Steps.{Goes}
 
 abbrev pub run_of : Place → State → Run
@@ -101,6 +103,20 @@ IsKilled key old new f_before f_now p_before p_now =
 
 -- ---- of runs that are not
 
+-- it came to a stage, and what was asked then told of more than is taken
+abbrev pub GrowsTooLarge : (ℕ → List ℕ) → Place → Stage → Option (List FolderCall) → Option (List FolderCall) →
+    Option (List ProgramCall) → Option (List ProgramCall) → Type 0
+GrowsTooLarge text place stage f_before f_now p_before p_now =
+    (reached : Stage) × (cost : ℕ) × (f_mid : Option (List FolderCall)) × (p_mid : Option (List ProgramCall))
+    × Goes text (place_shown place) stage (steps.Goes reached cost) f_before f_mid p_before p_mid
+    × Surpasses reached f_mid f_now p_mid p_now
+
+abbrev pub FailsBy : (ℕ → List ℕ) → Place → Stage → RunFault → Option (List FolderCall) → Option (List FolderCall) →
+    Option (List ProgramCall) → Option (List ProgramCall) → Type 0
+FailsBy text place stage TooLarge f_before f_now p_before p_now =
+    GrowsTooLarge text place stage f_before f_now p_before p_now
+FailsBy text place stage fault f_before f_now p_before p_now = Unit {0}
+
 -- what becomes of a run that is not over: it goes on, or it is over with an outcome, or with a fault
 abbrev pub Becomes : (ℕ → List ℕ) → Place → Stage → Result (Option Outcome) RunFault → State →
     Option (List FolderCall) → Option (List FolderCall) → Option (List ProgramCall) → Option (List ProgramCall) → Type 0
@@ -112,7 +128,8 @@ Becomes text place stage (Ok (Some (outcomes.Exited e))) state f_before f_now p_
     (p_mid : Option (List ProgramCall)) × (state ≡ Over Removing)
     × Goes text (place_shown place) stage (steps.Exits e) f_before f_now p_before p_mid
     × Adds p_mid p_now (called (forget_asked place.run) (Some program_done))
-Becomes text place stage (Err fault) state f_before f_now p_before p_now = state ≡ Over Killing
+Becomes text place stage (Err fault) state f_before f_now p_before p_now =
+    (state ≡ Over Killing) × FailsBy text place stage fault f_before f_now p_before p_now
 
 -- it is put in its place among the others
 pub record HasGone (text : ℕ → List ℕ) (place : Place) (stage : Stage) (result : Result (Option Outcome) RunFault)

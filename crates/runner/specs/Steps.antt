@@ -6,10 +6,8 @@ use Rattle.runner.specs.declared.stage.Prepared.{Prepared}
 use Rattle.runner.specs.declared.stage.Nodes.{Nodes}
 use Rattle.runner.specs.declared.stage.Making.{Making}
 use Rattle.runner.specs.declared.stage.Making.TheVariants as makings
-use Rattle.runner.specs.declared.stage.Ended.{Ended}
 use Rattle.runner.specs.declared.stage.OutputFile.{OutputFile}
 use Rattle.runner.specs.declared.stage.TreeFile.{TreeFile}
-use Rattle.runner.specs.declared.stage.Gathering.{Gathering}
 use Rattle.runner.specs.declared.stage.Stage.{Stage}
 use Rattle.runner.specs.declared.stage.Stage.TheVariants as stages
 use Rattle.runner.specs.declared.stage.Step.{Step}
@@ -18,11 +16,12 @@ use Rattle.runner.specs.declared.tree.Tree.{Tree}
 use Rattle.runner.specs.declared.task.NodeKind.{NodeKind}
 use Rattle.runner.specs.declared.task.NodeKind.TheVariants as node_kinds
 use Rattle.runner.specs.Values.{PlaceValue, command_shown}
-use Rattle.runner.specs.Calls.{FolderCall, FolderQuestion, ProgramCall, ProgramQuestion, start_asked, look_asked, root_asked, node_asked, text_asked, directory_asked, parents_asked, file_asked, list_asked, bytes_asked, removal_asked, Adds, collect}
+use Rattle.runner.specs.Calls.{FolderCall, FolderQuestion, ProgramCall, ProgramQuestion, start_asked, look_asked, root_asked, node_asked, text_asked, directory_asked, parents_asked, file_asked, list_asked, bytes_asked, removal_asked, RunCall, folder_calls, program_calls, Adds, collect}
 use Rattle.runner.specs.Made.{MadeItem, root_item, byte_item, directory_item, parents_item, nodes_made, made}
 use Rattle.runner.specs.Gathered.{ItemValue, items_answered, file_item, numbered, nodes_items, output_items}
 use Rattle.runner.specs.Gathered as Gathered
 use Rattle.runner.specs.Told.{ToldItem, code_item, killed_item, stream_bytes, items_told, starts}
+use Rattle.runner.specs.Sizes.{held, Fits}
 
 -- ---- what is still to be made, to be started and to be looked at
 
@@ -183,19 +182,20 @@ look_of (removal_asked run) = []
 abbrev pub looks : List FolderCall → List FolderQuestion
 looks calls = collect (λ c. look_of c.question) calls
 
--- What was asked meanwhile is a front of what was to be made, to be started and to be looked at, and
--- what was answered is what was gathered and told since.
+-- What was asked meanwhile, in some order of both kinds of calls, is a front of what was to be made,
+-- to be started and to be looked at, and what was answered is what was gathered and told since; none
+-- of it was too large.
 pub record Goes (text : ℕ → List ℕ) (place : PlaceValue) (from : Stage) (to : Step)
     (f_before f_now : Option (List FolderCall)) (p_before p_now : Option (List ProgramCall)) : Type 0 where
-  pub folder_calls : List FolderCall
-  pub program_calls : List ProgramCall
-  pub folder_asked : Adds f_before f_now folder_calls
-  pub programs_asked : Adds p_before p_now program_calls
-  pub makes : to_make text place from ≡ made folder_calls ++ then_to_make text place to
-  pub starts_it : to_start place from ≡ starts program_calls ++ then_to_start place to
-  pub looks_at : to_look place from ≡ looks folder_calls ++ then_to_look place to
-  pub gathers : then_gathered place to ≡ has_gathered place from ++ items_answered folder_calls
-  pub is_told : then_told place to ≡ has_told place from ++ items_told program_calls
+  pub calls : List RunCall
+  pub folder_asked : Adds f_before f_now (folder_calls calls)
+  pub programs_asked : Adds p_before p_now (program_calls calls)
+  pub makes : to_make text place from ≡ made (folder_calls calls) ++ then_to_make text place to
+  pub starts_it : to_start place from ≡ starts (program_calls calls) ++ then_to_start place to
+  pub looks_at : to_look place from ≡ looks (folder_calls calls) ++ then_to_look place to
+  pub gathers : then_gathered place to ≡ has_gathered place from ++ items_answered (folder_calls calls)
+  pub is_told : then_told place to ≡ has_told place from ++ items_told (program_calls calls)
+  pub fits : Fits (held from) calls
 
 -- the same of a step that asks folders alone, and for any texts
 abbrev pub FolderGoes : PlaceValue → Stage → Step → Option (List FolderCall) → Option (List FolderCall) → Type 0

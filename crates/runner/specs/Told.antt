@@ -1,9 +1,8 @@
 -- What is told of a program: its code, that it and all that it started are ended, and what it wrote.
-use Rattle.std.specs.Prelude.{ℕ, ◌+◌, ℤ, true, false, List, [], ◌∷◌, ◌++◌, Option, Some, None}
+use Rattle.std.specs.Prelude.{ℕ, ◌+◌, ℤ, true, List, [], ◌∷◌, Option, Some, None}
 use Rattle.runner.specs.declared.task.RunKey.{RunKey}
 use Rattle.runner.specs.declared.programs.Stream.{Stream}
-use Rattle.runner.specs.Values.{PlaceValue, CommandValue}
-use Rattle.runner.specs.Calls.{ProgramCall, ProgramQuestion, ProgramAnswer, start_asked, end_asked, kill_asked, length_asked, read_asked, forget_asked, program_done, running, ended, killed, written, bytes, collect}
+use Rattle.runner.specs.Calls.{ProgramCall, ProgramQuestion, ProgramAnswer, start_asked, end_asked, kill_asked, length_asked, read_asked, forget_asked, ended, killed, bytes, collect}
 
 pub data ToldItem : Type 0 where
   code_item : RunKey → ℤ → ToldItem

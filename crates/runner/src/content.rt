@@ -1,16 +1,22 @@
 //! What was read of a file or a stream so far.
 
-ghost use Rattle.std.specs.Prelude.{◌≡◌, ◌++◌, ◌≤◌, [], OnOk, length};
-ghost use Rattle.runner.specs.Faults.{IsOwnFault};
-ghost use Rattle.std.specs.Prelude.{OnErr, IfErr};
+ghost use Rattle.std.specs.Prelude.{◌≡◌, ◌++◌, ◌+◌, ◌≤◌, ◌<◌, [], MatchBool, OnOk, length};
+ghost use Rattle.runner.specs.Sizes.{most_bytes};
 
-use crate::fault::RunFault;
 use blob_pool::Draft;
-use std::alloc::Global;
+use std::alloc::{AllocError, Global};
 use std::marker::Model;
 
 /// The most bytes of standard output, standard error and output files together.
 pub(crate) const MOST_BYTES: u64 = 1_073_741_824;
+
+/// Whether so many bytes more are more than is taken, where so many were taken.
+pub(crate) fn is_too_large(taken: u64, more: u64) -> bool
+    requires { taken ≤ most_bytes }
+    ensures { MatchBool result (most_bytes < taken + more) (taken + more ≤ most_bytes) }
+{
+    more > MOST_BYTES - taken
+}
 
 /// What was read of a file or a stream so far, hashed as it came.
 #[derive(Drop)]
@@ -45,15 +51,11 @@ impl Content {
     }
 
     /// Adds bytes that follow.
-    pub(crate) fn push(&mut self, bytes: &[u8]) -> Result<(), RunFault>
-        ensures ok { OnOk result (self.new ≡ self.old ++ bytes.now) }
-        ensures fault { IfErr result IsOwnFault }
+    pub(crate) fn push(&mut self, bytes: &[u8]) -> Result<(), AllocError>
+        requires { length self.old + length bytes.now ≤ most_bytes }
+        ensures { OnOk result (self.new ≡ self.old ++ bytes.now) }
     {
-        if self.draft.length() + bytes.len() as u64 > MOST_BYTES {
-            return Err(RunFault::TooLarge);
-        }
-        self.draft.push(bytes)?;
-        Ok(())
+        self.draft.push(bytes)
     }
 
     /// The whole of it.

@@ -1,15 +1,16 @@
 //! Gathering what a run left at its outputs' paths, step by step.
 
-ghost use Rattle.std.specs.Prelude.{◌≡◌, ◌++◌, IfOk, IfErr};
+ghost use Rattle.std.specs.Prelude.{◌≡◌, ◌++◌, ◌+◌, IfOk, length};
 ghost use Rattle.runner.specs.Values.{PlaceValue, place_shown};
 ghost use Rattle.runner.specs.Steps.{FolderGoes, exited_told, file_items, tree_file_items, tree_items};
 ghost use Rattle.runner.specs.Gathered.{output_items};
-ghost use Rattle.runner.specs.Faults.{FolderCounts, IsOwnFault};
+ghost use Rattle.runner.specs.Faults.{FolderCounts};
+ghost use Rattle.runner.specs.Sizes.{FolderSized, IsCounted, StaysCounted, exited_length, nodes_length};
 ghost use Rattle.runner.specs.declared.stage.Stage.TheVariants as Stages;
 
-use crate::content::{Content, MOST_BYTES};
+use crate::content::{Content, is_too_large};
 use crate::fault::{RunFault, of_folder};
-use crate::folder::{Entry, FileFacts, Folder, Found, Place};
+use crate::folder::{Entry, Folder, Found, Place};
 use crate::making::{PIECE, cost_of};
 use crate::outcome::{Output, OutputKind};
 use crate::stage::{Gathering, OutputFile, Stage, Step, TreeFile};
@@ -24,22 +25,6 @@ const MOST_NODES: usize = 10_001;
 /// What a directory costs of what is done in one call.
 const COST_OF_DIRECTORY: u32 = 32;
 
-/// Whether a file is too long for what may still be taken.
-fn is_too_large(facts: FileFacts, taken: u64) -> bool {
-    facts.size > MOST_BYTES.saturating_sub(taken)
-}
-
-/// The bytes that were taken, and these.
-fn taken_with(taken: u64, piece: &[u8]) -> Result<u64, RunFault>
-    ensures { IfErr result IsOwnFault }
-{
-    let sum = taken.saturating_add(piece.len() as u64);
-    if sum > MOST_BYTES {
-        return Err(RunFault::TooLarge);
-    }
-    Ok(sum)
-}
-
 /// Looks at the next output.
 pub(crate) fn next_output<F: Folder>(
     alloc: Global,
@@ -47,9 +32,12 @@ pub(crate) fn next_output<F: Folder>(
     place: &Place,
     gathering: Gathering,
 ) -> Result<Step, RunFault>
+    requires counted { IsCounted (Stages.Outputs gathering) }
     ensures goes { IfOk result (λ step. FolderGoes (place_shown place.now)
         (Stages.Outputs gathering) step (F.asked folder.old) (F.asked folder.new)) }
     ensures counts { FolderCounts result (F.failures folder.old) (F.failures folder.new) }
+    ensures sized { FolderSized result (Stages.Outputs gathering)
+        (F.asked folder.old) (F.asked folder.new) }
 {
     let mut gathering = gathering;
     let Some(path) = gathering.left.pop_front() else {
@@ -57,7 +45,7 @@ pub(crate) fn next_output<F: Folder>(
     };
     match of_folder(folder.look(place, path.as_str()))? {
         Found::File(facts) => {
-            if is_too_large(facts, gathering.taken) {
+            if is_too_large(gathering.taken, facts.size) {
                 return Err(RunFault::TooLarge);
             }
             let file = OutputFile {
@@ -80,9 +68,12 @@ pub(crate) fn read_file<F: Folder>(
     gathering: Gathering,
     file: OutputFile,
 ) -> Result<Step, RunFault>
+    requires counted { IsCounted (Stages.File gathering file) }
     ensures goes { IfOk result (λ step. FolderGoes (place_shown place.now)
         (Stages.File gathering file) step (F.asked folder.old) (F.asked folder.new)) }
     ensures counts { FolderCounts result (F.failures folder.old) (F.failures folder.new) }
+    ensures sized { FolderSized result (Stages.File gathering file)
+        (F.asked folder.old) (F.asked folder.new) }
 {
     let mut gathering = gathering;
     let mut file = file;
@@ -92,7 +83,11 @@ pub(crate) fn read_file<F: Folder>(
         let gathering = with_file(gathering, file)?;
         return Ok(Step::Goes(Stage::Outputs(gathering), 1));
     }
-    gathering.taken = taken_with(gathering.taken, &piece)?;
+    let count = piece.len() as u64;
+    if is_too_large(gathering.taken, count) {
+        return Err(RunFault::TooLarge);
+    }
+    gathering.taken += count;
     file.content.push(&piece)?;
     Ok(Step::Goes(Stage::File(gathering, file), cost_of(piece.len())))
 }
@@ -102,9 +97,12 @@ fn with_file(gathering: Gathering, file: OutputFile) -> Result<Gathering, AllocE
     ensures items { IfOk result (λ added. (place : PlaceValue) →
         output_items place added.exited.outputs.items
         ≡ output_items place gathering.exited.outputs.items ++ file_items place file) }
+    ensures length { IfOk result (λ added. exited_length added.exited
+        ≡ exited_length gathering.exited + length file.content) }
     ensures told { IfOk result (λ added. (place : PlaceValue) →
         exited_told place added.exited ≡ exited_told place gathering.exited) }
     ensures left { IfOk result (λ added. added.left ≡ gathering.left) }
+    ensures taken { IfOk result (λ added. added.taken ≡ gathering.taken) }
 {
     let mut gathering = gathering;
     let OutputFile {
@@ -148,9 +146,11 @@ pub(crate) fn list_output<F: Folder>(
     gathering: Gathering,
     path: String,
 ) -> Result<Step, RunFault>
+    requires counted { IsCounted (Stages.Listing gathering path) }
     ensures goes { IfOk result (λ step. FolderGoes (place_shown place.now)
         (Stages.Listing gathering path) step (F.asked folder.old) (F.asked folder.new)) }
     ensures counts { FolderCounts result (F.failures folder.old) (F.failures folder.new) }
+    ensures sized { StaysCounted result }
 {
     let entries = of_folder(folder.list(place, path.as_str(), &[], MOST_NODES))?;
     let mut files = VecDeque::new(alloc);
@@ -170,9 +170,12 @@ fn with_tree(gathering: Gathering, tree: Tree) -> Result<Gathering, AllocError>
     ensures items { IfOk result (λ added. (place : PlaceValue) →
         output_items place added.exited.outputs.items
         ≡ output_items place gathering.exited.outputs.items ++ tree_items place tree) }
+    ensures length { IfOk result (λ added. exited_length added.exited
+        ≡ exited_length gathering.exited + nodes_length tree.nodes.nodes) }
     ensures told { IfOk result (λ added. (place : PlaceValue) →
         exited_told place added.exited ≡ exited_told place gathering.exited) }
     ensures left { IfOk result (λ added. added.left ≡ gathering.left) }
+    ensures taken { IfOk result (λ added. added.taken ≡ gathering.taken) }
 {
     let mut gathering = gathering;
     let Tree {
@@ -197,9 +200,12 @@ pub(crate) fn next_in_tree<F: Folder>(
     gathering: Gathering,
     tree: Tree,
 ) -> Result<Step, RunFault>
+    requires counted { IsCounted (Stages.Tree gathering tree) }
     ensures goes { IfOk result (λ step. FolderGoes (place_shown place.now)
         (Stages.Tree gathering tree) step (F.asked folder.old) (F.asked folder.new)) }
     ensures counts { FolderCounts result (F.failures folder.old) (F.failures folder.new) }
+    ensures sized { FolderSized result (Stages.Tree gathering tree)
+        (F.asked folder.old) (F.asked folder.new) }
 {
     let mut tree = tree;
     match next_of(&mut tree.files, &mut tree.todo, tree.nodes.count()) {
@@ -243,15 +249,18 @@ fn look_in_tree<F: Folder>(
     tree: Tree,
     name: String,
 ) -> Result<Step, RunFault>
+    requires counted { IsCounted (Stages.Tree gathering tree) }
     ensures goes { IfOk result (λ step. FolderGoes (place_shown place.now)
         (Stages.Tree gathering tree) step (F.asked folder.old) (F.asked folder.new)) }
     ensures counts { FolderCounts result (F.failures folder.old) (F.failures folder.new) }
+    ensures sized { FolderSized result (Stages.Tree gathering tree)
+        (F.asked folder.old) (F.asked folder.new) }
 {
     let names = tree.nodes.names(name.as_str())?;
     let Some(facts) = of_folder(folder.file(place, tree.path.as_str(), &names))? else {
         return Ok(Step::Goes(Stage::Tree(gathering, tree), 1));
     };
-    if is_too_large(facts, gathering.taken) {
+    if is_too_large(gathering.taken, facts.size) {
         return Err(RunFault::TooLarge);
     }
     let file = TreeFile {
@@ -270,9 +279,11 @@ fn list_in_tree<F: Folder>(
     tree: Tree,
     inner: Inner,
 ) -> Result<Step, RunFault>
+    requires counted { IsCounted (Stages.Tree gathering tree) }
     ensures goes { IfOk result (λ step. FolderGoes (place_shown place.now)
         (Stages.Tree gathering tree) step (F.asked folder.old) (F.asked folder.new)) }
     ensures counts { FolderCounts result (F.failures folder.old) (F.failures folder.new) }
+    ensures sized { StaysCounted result }
 {
     let Tree {
         path,
@@ -301,9 +312,12 @@ pub(crate) fn read_in_tree<F: Folder>(
     tree: Tree,
     file: TreeFile,
 ) -> Result<Step, RunFault>
+    requires counted { IsCounted (Stages.TreeFile gathering tree file) }
     ensures goes { IfOk result (λ step. FolderGoes (place_shown place.now)
         (Stages.TreeFile gathering tree file) step (F.asked folder.old) (F.asked folder.new)) }
     ensures counts { FolderCounts result (F.failures folder.old) (F.failures folder.new) }
+    ensures sized { FolderSized result (Stages.TreeFile gathering tree file)
+        (F.asked folder.old) (F.asked folder.new) }
 {
     let mut gathering = gathering;
     let mut file = file;
@@ -314,16 +328,21 @@ pub(crate) fn read_in_tree<F: Folder>(
         let tree = with_file_read(tree, file)?;
         return Ok(Step::Goes(Stage::Tree(gathering, tree), 1));
     }
-    gathering.taken = taken_with(gathering.taken, &piece)?;
+    let count = piece.len() as u64;
+    if is_too_large(gathering.taken, count) {
+        return Err(RunFault::TooLarge);
+    }
+    gathering.taken += count;
     file.content.push(&piece)?;
     Ok(Step::Goes(Stage::TreeFile(gathering, tree, file), cost_of(piece.len())))
 }
 
 /// Adds a file to an output directory.
-fn with_file_read(tree: Tree, file: TreeFile) -> Result<Tree, RunFault>
+fn with_file_read(tree: Tree, file: TreeFile) -> Result<Tree, AllocError>
     ensures items { IfOk result (λ added. (place : PlaceValue) →
         tree_items place added ≡ tree_items place tree ++ tree_file_items place tree file) }
-    ensures fault { IfErr result IsOwnFault }
+    ensures length { IfOk result (λ added. nodes_length added.nodes.nodes
+        ≡ nodes_length tree.nodes.nodes + length file.content) }
 {
     let Tree {
         path,

@@ -5,6 +5,7 @@ mod content;
 mod fault;
 mod folder;
 mod gathering;
+mod going;
 mod making;
 mod outcome;
 mod programs;

@@ -6,6 +6,7 @@ ghost use Rattle.runner.specs.Calls.{ProgramCall, start_asked};
 ghost use Rattle.runner.specs.Made.{kind_made};
 ghost use Rattle.runner.specs.Steps.{Goes, FolderGoes, ProgramGoes, above_behind, making_left, making_outputs, making_starts, nodes_left};
 ghost use Rattle.runner.specs.Faults.{Counted, FolderCounts, ProgramsCounts};
+ghost use Rattle.runner.specs.Sizes.{StaysCounted};
 ghost use Rattle.runner.specs.declared.stage.Stage.TheVariants as Stages;
 ghost use Rattle.runner.specs.declared.stage.Making.TheVariants as Makings;
 
@@ -38,6 +39,7 @@ fn make_root<F: Folder>(folder: &mut F, place: &Place, nodes: Nodes) -> Result<S
     ensures goes { IfOk result (λ step. FolderGoes (place_shown place.now)
         (Stages.Making (Makings.Root nodes)) step (F.asked folder.old) (F.asked folder.new)) }
     ensures counts { FolderCounts result (F.failures folder.old) (F.failures folder.new) }
+    ensures sized { StaysCounted result }
 {
     of_folder(folder.make_root(place.run))?;
     Ok(Step::Goes(Stage::Making(Making::Nodes(nodes)), COST_OF_NODE))
@@ -86,6 +88,7 @@ fn make_node<F: Folder>(folder: &mut F, place: &Place, nodes: Nodes) -> Result<S
     ensures goes { IfOk result (λ step. FolderGoes (place_shown place.now)
         (Stages.Making (Makings.Nodes nodes)) step (F.asked folder.old) (F.asked folder.new)) }
     ensures counts { FolderCounts result (F.failures folder.old) (F.failures folder.new) }
+    ensures sized { StaysCounted result }
 {
     let Nodes {
         mut above,
@@ -114,6 +117,7 @@ fn write_part<F: Folder, T: Texts>(
         Goes (T.text_of texts.now) (place_shown place.now)
         (Stages.Making (Makings.Writing writing)) step (F.asked folder.old) (F.asked folder.new) p p) }
     ensures counts { FolderCounts result (F.failures folder.old) (F.failures folder.new) }
+    ensures sized { StaysCounted result }
 {
     let Writing { text, from, nodes } = writing;
     let part = texts.part(text, from, PIECE);
@@ -137,6 +141,7 @@ fn make_directory<F: Folder>(
         (Stages.Making (Makings.Directory prepared)) step
         (F.asked folder.old) (F.asked folder.new)) }
     ensures counts { FolderCounts result (F.failures folder.old) (F.failures folder.new) }
+    ensures sized { StaysCounted result }
 {
     of_folder(folder.make_working_directory(place))?;
     let Prepared { command, outputs } = prepared;
@@ -159,6 +164,7 @@ fn make_parents<F: Folder>(
     ensures goes { IfOk result (λ step. FolderGoes (place_shown place.now)
         (Stages.Making (Makings.Parents parents)) step (F.asked folder.old) (F.asked folder.new)) }
     ensures counts { FolderCounts result (F.failures folder.old) (F.failures folder.new) }
+    ensures sized { StaysCounted result }
 {
     let Parents {
         command,
@@ -186,6 +192,7 @@ fn start<P: Programs>(programs: &mut P, place: &Place, prepared: Prepared) -> Re
         (Stages.Making (Makings.Starting prepared)) step
         (P.asked programs.old) (P.asked programs.new)) }
     ensures counts { ProgramsCounts result (P.failures programs.old) (P.failures programs.new) }
+    ensures sized { StaysCounted result }
 {
     of_programs(programs.start(place, &prepared.command))?;
     let Prepared { command, outputs } = prepared;
@@ -206,6 +213,7 @@ pub(crate) fn make<F: Folder, P: Programs, T: Texts>(
         (P.asked programs.old) (P.asked programs.new)) }
     ensures faults { Counted result (F.failures folder.old) (F.failures folder.new)
         (P.failures programs.old) (P.failures programs.new) }
+    ensures sized { StaysCounted result }
 {
     match making {
         Making::Root(nodes) => make_root(folder, place, nodes),

@@ -1,13 +1,14 @@
 //! Asking a program, ending it, and reading what it wrote, step by step.
 
-ghost use Rattle.std.specs.Prelude.{◌≡◌, [], IfErr, IfOk};
+ghost use Rattle.std.specs.Prelude.{◌≡◌, [], IfOk};
 ghost use Rattle.runner.specs.Values.{PlaceValue, place_shown};
 ghost use Rattle.runner.specs.Steps.{ProgramGoes, exited_told, has_told};
-ghost use Rattle.runner.specs.Faults.{IsOwnFault, ProgramsCounts};
+ghost use Rattle.runner.specs.Faults.{ProgramsCounts};
+ghost use Rattle.runner.specs.Sizes.{IsCounted, ProgramSized, StaysCounted};
 ghost use Rattle.runner.specs.declared.stage.Stage.TheVariants as Stages;
 ghost use Rattle.runner.specs.declared.stage.Step.TheVariants.{Goes};
 
-use crate::content::{Content, MOST_BYTES};
+use crate::content::{Content, MOST_BYTES, is_too_large};
 use crate::fault::{RunFault, of_programs};
 use crate::folder::Place;
 use crate::making::{PIECE, cost_of};
@@ -27,6 +28,7 @@ pub(crate) fn ask<P: Programs>(
     ensures goes { IfOk result (λ step. ProgramGoes (place_shown place.now)
         (Stages.Running outputs) step (P.asked programs.old) (P.asked programs.new)) }
     ensures counts { ProgramsCounts result (P.failures programs.old) (P.failures programs.new) }
+    ensures sized { StaysCounted result }
 {
     match of_programs(programs.ask(place.run))? {
         None => Ok(Step::Goes(Stage::Running(outputs), u32::MAX)),
@@ -49,6 +51,7 @@ pub(crate) fn stop<P: Programs>(
     ensures goes { IfOk result (λ step. ProgramGoes (place_shown place.now)
         (Stages.Stopping ended) step (P.asked programs.old) (P.asked programs.new)) }
     ensures counts { ProgramsCounts result (P.failures programs.old) (P.failures programs.new) }
+    ensures sized { StaysCounted result }
 {
     let is_killed = of_programs(programs.kill(place.run))?;
     if is_killed {
@@ -68,6 +71,8 @@ pub(crate) fn measure<P: Programs>(
     ensures goes { IfOk result (λ step. ProgramGoes (place_shown place.now)
         (Stages.Measuring ended) step (P.asked programs.old) (P.asked programs.new)) }
     ensures counts { ProgramsCounts result (P.failures programs.old) (P.failures programs.new) }
+    ensures sized { ProgramSized result (Stages.Measuring ended)
+        (P.asked programs.old) (P.asked programs.new) }
 {
     let length = of_programs(programs.length(place.run))?;
     if length > MOST_BYTES {
@@ -84,9 +89,12 @@ pub(crate) fn read_output<P: Programs>(
     ended: Ended,
     content: Content,
 ) -> Result<Step, RunFault>
+    requires counted { IsCounted (Stages.Output ended content) }
     ensures goes { IfOk result (λ step. ProgramGoes (place_shown place.now)
         (Stages.Output ended content) step (P.asked programs.old) (P.asked programs.new)) }
     ensures counts { ProgramsCounts result (P.failures programs.old) (P.failures programs.new) }
+    ensures sized { ProgramSized result (Stages.Output ended content)
+        (P.asked programs.old) (P.asked programs.new) }
 {
     let mut content = content;
     let from = content.length();
@@ -94,6 +102,9 @@ pub(crate) fn read_output<P: Programs>(
     if piece.is_empty() {
         let stage = Stage::Error(ended, content.whole(), Content::new(alloc));
         return Ok(Step::Goes(stage, 1));
+    }
+    if is_too_large(from, piece.len() as u64) {
+        return Err(RunFault::TooLarge);
     }
     content.push(&piece)?;
     Ok(Step::Goes(Stage::Output(ended, content), cost_of(piece.len())))
@@ -108,38 +119,37 @@ pub(crate) fn read_error<P: Programs>(
     stdout: Draft,
     content: Content,
 ) -> Result<Step, RunFault>
+    requires counted { IsCounted (Stages.Error ended stdout content) }
     ensures goes { IfOk result (λ step. ProgramGoes (place_shown place.now)
         (Stages.Error ended stdout content) step (P.asked programs.old) (P.asked programs.new)) }
     ensures counts { ProgramsCounts result (P.failures programs.old) (P.failures programs.new) }
+    ensures sized { ProgramSized result (Stages.Error ended stdout content)
+        (P.asked programs.old) (P.asked programs.new) }
 {
     let mut content = content;
     let from = content.length();
     let piece = of_programs(programs.read(place.run, Stream::Error, from, PIECE))?;
     if piece.is_empty() {
-        let gathering = both_read(alloc, ended, stdout, content)?;
+        let gathering = both_read(alloc, ended, stdout, content);
         return Ok(Step::Goes(Stage::Outputs(gathering), 1));
+    }
+    if is_too_large(stdout.length() + from, piece.len() as u64) {
+        return Err(RunFault::TooLarge);
     }
     content.push(&piece)?;
     Ok(Step::Goes(Stage::Error(ended, stdout, content), cost_of(piece.len())))
 }
 
 /// Nothing gathered yet.
-fn both_read(
-    alloc: Global,
-    ended: Ended,
-    stdout: Draft,
-    stderr: Content,
-) -> Result<Gathering, RunFault>
-    ensures told { IfOk result (λ gathering. (place : PlaceValue) →
-        exited_told place gathering.exited ≡ has_told place (Stages.Error ended stdout stderr)) }
-    ensures outputs { IfOk result (λ gathering. gathering.exited.outputs.items ≡ []) }
-    ensures left { IfOk result (λ gathering. gathering.left ≡ ended.outputs) }
-    ensures fault { IfErr result IsOwnFault }
+fn both_read(alloc: Global, ended: Ended, stdout: Draft, stderr: Content) -> Gathering
+    requires counted { IsCounted (Stages.Error ended stdout stderr) }
+    ensures told { (place : PlaceValue) →
+        exited_told place result.exited ≡ has_told place (Stages.Error ended stdout stderr) }
+    ensures outputs { result.exited.outputs.items ≡ [] }
+    ensures left { result.left ≡ ended.outputs }
+    ensures counted { IsCounted (Stages.Outputs result) }
 {
-    let taken = stdout.length().saturating_add(stderr.length());
-    if taken > MOST_BYTES {
-        return Err(RunFault::TooLarge);
-    }
+    let taken = stdout.length() + stderr.length();
     let Ended { code, outputs } = ended;
     let exited = Exited {
         code,
@@ -147,9 +157,9 @@ fn both_read(
         stderr: stderr.whole(),
         outputs: Vec::new(alloc),
     };
-    Ok(Gathering {
+    Gathering {
         exited,
         left: outputs,
         taken,
-    })
+    }
 }

@@ -3,11 +3,13 @@
 ghost use Rattle.std.specs.Prelude.{◌≡◌, ◌<◌, ◌≤◌, ◌++◌, ◌∷◌, [], List, IfOk, IfSome, IfNone, OnOk, OnErr, length, vec_len, vec_capacity, take, drop, insert};
 ghost use Rattle.std.specs.List.{list_any};
 ghost use Rattle.runner.specs.Faults.{Counted, OnlyWhereFailed};
+ghost use Rattle.runner.specs.Sizes.{IsCounted};
 ghost use Rattle.runner.specs.Runs.{EndsBy, HasGone, ending_of, IsAt, IsAsked, IsKilled, IsStarted, is_run_of, run_left};
 ghost use Rattle.runner.specs.declared.stage.Run.{Run};
 
 use crate::fault::RunFault;
 use crate::folder::{Folder, Place};
+use crate::going::Going;
 use crate::outcome::Outcome;
 use crate::programs::Programs;
 use crate::stage::{Ending, Making, Nodes, Prepared, Run, Stage, State, Step};
@@ -25,8 +27,7 @@ fn is_run_of(key: RunKey, run: &Run) -> bool
 /// Whether a run can go on at once: it waits for no program, neither to end nor to be killed.
 fn can_go_on(state: &State) -> bool {
     match state {
-        State::Live(Stage::Running(_) | Stage::Stopping(_)) => false,
-        State::Live(_) => true,
+        State::Live(going) => going.can_go_on(),
         State::Over(Ending::Killing) => false,
         State::Over(Ending::Removing) => true,
     }
@@ -91,16 +92,29 @@ fn started(alloc: Global, key: RunKey, task: Task) -> Run
             run: key,
             directory: working_directory,
         },
-        state: State::Live(Stage::Making(Making::Root(nodes))),
+        state: State::Live(Going::new(Stage::Making(Making::Root(nodes)))),
     }
 }
 
 /// Runs, each in a folder of its own.
-#[derive(Drop)]
 pub struct Runner<F: Folder + Drop, P: Programs + Drop> {
     folder: F,
     programs: P,
     runs: Vec<Run>,
+}
+
+// Written out, so that no crate above proves again that each part of it may be dropped.
+impl<F: Folder + Drop, P: Programs + Drop> Drop for Runner<F, P> {
+    fn drop(self) {
+        let Runner {
+            folder,
+            programs,
+            runs,
+        } = self;
+        drop(folder);
+        drop(programs);
+        drop(runs);
+    }
 }
 
 impl<F: Folder + Drop, P: Programs + Drop> Runner<F, P> {
@@ -162,7 +176,7 @@ impl<F: Folder + Drop, P: Programs + Drop> Runner<F, P> {
                 put_left(&mut self.runs, at, place, left);
                 Ok(None)
             }
-            State::Live(stage) => self.go_on(at, texts, place, stage),
+            State::Live(going) => self.go_on(at, texts, place, going.stage()),
         }
     }
 
@@ -176,6 +190,7 @@ impl<F: Folder + Drop, P: Programs + Drop> Runner<F, P> {
     ) -> Result<Option<Outcome>, RunFault>
         requires inside { at ≤ vec_len self.old.runs }
         requires room { vec_len self.old.runs < vec_capacity self.old.runs }
+        requires counted { IsCounted stage }
         ensures went { HasGone (T.text_of texts.now) place stage result at
             self.old.runs.items self.new.runs.items
             (F.asked self.old.folder) (F.asked self.new.folder)
@@ -194,7 +209,7 @@ impl<F: Folder + Drop, P: Programs + Drop> Runner<F, P> {
             stage,
         ) {
             Ok(Step::Goes(next, _spent)) => {
-                let state = State::Live(next);
+                let state = State::Live(Going::new(next));
                 put_back(&mut self.runs, at, Run { place, state });
                 Ok(None)
             }
@@ -275,8 +290,8 @@ fn ending_of(state: State) -> Ending
     ensures { result ≡ ending_of state }
 {
     match state {
-        State::Live(stage) => {
-            drop(stage);
+        State::Live(going) => {
+            drop(going);
             Ending::Killing
         }
         State::Over(ending) => ending,

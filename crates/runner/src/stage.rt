@@ -2,6 +2,7 @@
 
 use crate::content::Content;
 use crate::folder::Place;
+use crate::going::Going;
 use crate::outcome::Exited;
 use crate::task::{Command, TaskNode};
 use crate::tree::Tree;
@@ -127,7 +128,7 @@ pub(crate) enum Step {
 /// Whether a run is over.
 #[derive(Drop)]
 pub(crate) enum State {
-    Live(Stage),
+    Live(Going),
     Over(Ending),
 }
 

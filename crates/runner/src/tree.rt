@@ -1,16 +1,18 @@
 //! An output directory, as far as it was gathered.
 
-ghost use Rattle.std.specs.Prelude.{◌≡◌, ◌-◌, ◌++◌, ◌∷◌, [], List, ℕ, IfOk, IfErr, map, string_bytes};
+ghost use Rattle.std.specs.Prelude.{◌≡◌, ◌+◌, ◌-◌, ◌++◌, ◌∷◌, [], List, ℕ, IfOk, length, map, string_bytes};
 ghost use Rattle.runner.specs.Values.{PlaceValue};
-ghost use Rattle.runner.specs.Faults.{IsOwnFault};
 ghost use Rattle.runner.specs.Gathered.{nodes_items, file_item, directory_item, numbered};
+ghost use Rattle.runner.specs.Sizes.{nodes_length};
 
-use crate::fault::RunFault;
 use crate::outcome::{OutputNode, OutputNodeKind};
 use blob_pool::Draft;
 use std::alloc::{AllocError, Global};
 use std::collections::VecDeque;
 use std::marker::Model;
+
+/// The level of the deepest directory: those of its files are 32 bits, too.
+const DEEPEST: u32 = 4_294_967_294;
 
 /// The nodes of an output directory that were gathered.
 #[derive(Drop)]
@@ -21,14 +23,15 @@ pub(crate) struct TreeNodes {
 }
 
 impl Model for TreeNodes {
-    ghost use Rattle.std.specs.Prelude.{◌≡◌, [], map, string_bytes};
+    ghost use Rattle.std.specs.Prelude.{◌≡◌, ◌≤◌, [], length, map, string_bytes};
     ghost use Rattle.runner.specs.Gathered.{TreeValue, above_all};
 
     ghost Value = { TreeValue };
 
     ghost view = { λ t. record { above = map string_bytes t.above.items; nodes = t.nodes.items } };
 
-    ghost invariant = { λ t. map string_bytes t.above.items ≡ above_all [] t.nodes.items };
+    ghost invariant = { λ t. (map string_bytes t.above.items ≡ above_all [] t.nodes.items)
+        × (length t.above.items ≤ 4294967294) };
 }
 
 /// A copy of names.
@@ -84,20 +87,16 @@ impl TreeNodes {
         name: String,
         content: Draft,
         is_executable: bool,
-    ) -> Result<TreeNodes, RunFault>
+    ) -> Result<TreeNodes, AllocError>
         ensures items { IfOk result (λ tree. (place : PlaceValue) → (path : List ℕ) →
             nodes_items place path [] tree.nodes ≡ nodes_items place path [] self.nodes
             ++ file_item place path (self.above ++ string_bytes name ∷ []) is_executable
             ∷ numbered place path (self.above ++ string_bytes name ∷ []) 0 content.text) }
-        ensures fault { IfErr result IsOwnFault }
+        ensures length { IfOk result (λ tree. nodes_length tree.nodes
+            ≡ nodes_length self.nodes + length content.text) }
     {
         let TreeNodes { above, mut nodes } = self;
-        let Ok(depth) = u32::try_from(above.len()) else {
-            return Err(RunFault::TooLarge);
-        };
-        let Some(level) = depth.checked_add(1) else {
-            return Err(RunFault::TooLarge);
-        };
+        let level = above.len() as u32 + 1;
         let kind = OutputNodeKind::File {
             content,
             is_executable,
@@ -106,18 +105,19 @@ impl TreeNodes {
         Ok(TreeNodes { above, nodes })
     }
 
-    /// Adds a directory, which is to be listed next.
-    pub(crate) fn with_directory(self, name: String, level: u32) -> Result<TreeNodes, RunFault>
+    /// Adds a directory at a level, or at the deepest that there is, which is to be listed next.
+    pub(crate) fn with_directory(self, name: String, level: u32) -> Result<TreeNodes, AllocError>
         ensures items { IfOk result (λ tree. (place : PlaceValue) → (path : List ℕ) →
             nodes_items place path [] tree.nodes ≡ nodes_items place path [] self.nodes
             ++ directory_item place path tree.above ∷ []) }
-        ensures fault { IfErr result IsOwnFault }
+        ensures length { IfOk result (λ tree. nodes_length tree.nodes ≡ nodes_length self.nodes) }
     {
         let TreeNodes {
             mut above,
             mut nodes,
         } = self;
         let alloc = *nodes.allocator();
+        let level = level.min(DEEPEST);
         above.truncate((level as usize).saturating_sub(1));
         above.push(String::from_str(alloc, name.as_str())?)?;
         let kind = OutputNodeKind::Directory;

@@ -1,9 +1,11 @@
 //! What is done for a run in one call: steps, until they took some milliseconds.
 
-ghost use Rattle.std.specs.Prelude.{IfOk};
+ghost use Rattle.std.specs.Prelude.{IfErr, IfOk};
 ghost use Rattle.runner.specs.Values.{place_shown};
 ghost use Rattle.runner.specs.Steps.{Goes};
 ghost use Rattle.runner.specs.Faults.{Counted};
+ghost use Rattle.runner.specs.Runs.{FailsBy};
+ghost use Rattle.runner.specs.Sizes.{IsCounted, IsCountedThen, Sized};
 
 use crate::fault::RunFault;
 use crate::folder::{Folder, Place};
@@ -27,10 +29,13 @@ fn step<F: Folder, P: Programs, T: Texts>(
     place: &Place,
     stage: Stage,
 ) -> Result<Step, RunFault>
+    requires counted { IsCounted stage }
     ensures goes { IfOk result (λ step. Goes (T.text_of texts.now) (place_shown place.now) stage step
         (F.asked folder.old) (F.asked folder.new) (P.asked programs.old) (P.asked programs.new)) }
     ensures faults { Counted result (F.failures folder.old) (F.failures folder.new)
         (P.failures programs.old) (P.failures programs.new) }
+    ensures sized { Sized result stage (F.asked folder.old) (F.asked folder.new)
+        (P.asked programs.old) (P.asked programs.new) }
 {
     match stage {
         Stage::Making(making) => make(folder, programs, texts, place, making),
@@ -60,10 +65,14 @@ pub(crate) fn turn<F: Folder, P: Programs, T: Texts>(
     place: &Place,
     stage: Stage,
 ) -> Result<Step, RunFault>
+    requires counted { IsCounted stage }
     ensures goes { IfOk result (λ step. Goes (T.text_of texts.now) (place_shown place.now) stage step
         (F.asked folder.old) (F.asked folder.new) (P.asked programs.old) (P.asked programs.new)) }
     ensures faults { Counted result (F.failures folder.old) (F.failures folder.new)
         (P.failures programs.old) (P.failures programs.new) }
+    ensures counted { IfOk result IsCountedThen }
+    ensures fails { IfErr result (λ fault. FailsBy (T.text_of texts.now) place.now stage fault
+        (F.asked folder.old) (F.asked folder.new) (P.asked programs.old) (P.asked programs.new)) }
 {
     let mut reached = stage;
     let mut spent = 0u32;

@@ -1,11 +1,14 @@
-use Rattle.std.proofs.Common.{◌≡◌, [], ◌∷◌, ◌++◌, refl, sym, ap, ◌∙◌, map, length, append-nil, append_assoc, arith}
-use Rattle.std.specs.Prelude.{Ok, string_bytes}
+use Rattle.std.proofs.Common.{◌+◌, [], ◌∷◌, ◌++◌, refl, sym, ap, ◌∙◌, map}
+use Rattle.std.specs.Prelude.{string_bytes}
 use Rattle.runner.specs.Values.{place_shown}
-use Rattle.runner.specs.Calls.{look_asked, file_asked, list_asked, bytes_asked, found_of, facts_of, entries_of, folder_bytes_of}
-use Rattle.runner.specs.Gathered.{call_items, file_item, directory_item, numbered, output_items, nodes_items}
-use Rattle.runner.proofs.Collect.{goes_alone, goes_folder, goes_from}
-use Rattle.runner.proofs.Popped.{was_ok, popped, popped_none, bytes_say, more_gathered, no_items}
-use Rattle.runner.proofs.Pieces.{read_whole, read_more, read_inside, one_behind, more_inside, nothing_more, begun, begun_inside}
+use Rattle.runner.specs.Calls.{list_asked, entries_of}
+use Rattle.runner.specs.Gathered.{call_items, directory_item, output_items, nodes_items}
+use Rattle.runner.proofs.Collect.{goes_folder}
+use Rattle.runner.proofs.Popped.{was_ok}
+use Rattle.runner.proofs.Pieces.{one_behind}
+use Rattle.runner.specs.Sizes.{exited_length}
+use Rattle.runner.proofs.Sizes.{fits_still}
+use Rattle.runner.proofs.Told.{taken_on}
 use Rattle.runner.proofs.gathering.list_in_tree.Goals as goal
 
 pub returns-clause-goes : goal.returns-clause-goes
@@ -19,3 +22,7 @@ returns-clause-goes g c = λ text p.
     (one_behind (output_items (place_shown c.args.place.now) c.args.gathering.exited.outputs.items) (directory_item (place_shown c.args.place.now) path [] ∷ nodes_items (place_shown c.args.place.now) path [] c.args.tree.nodes.nodes) _ _
     (ap (λ zs. directory_item (place_shown c.args.place.now) path [] ∷ zs) (c.in_ok-nodes.ensures.items (place_shown c.args.place.now) path ∙ ap (λ is. nodes_items (place_shown c.args.place.now) path [] c.args.tree.nodes.nodes ++ is) (sym items))))
     refl
+    (fits_still _ _ c.requires.counted.1 refl)
+
+pub returns-clause-sized : goal.returns-clause-sized
+returns-clause-sized g c = taken_on _ _ _ _ c.requires.counted refl (ap (λ n. exited_length c.args.gathering.exited + n) c.in_ok-nodes.ensures.length)

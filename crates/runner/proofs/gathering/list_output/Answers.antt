@@ -1,11 +1,12 @@
-use Rattle.std.proofs.Common.{◌≡◌, [], ◌∷◌, ◌++◌, refl, sym, ap, ◌∙◌, map, length, append-nil, append_assoc, arith}
-use Rattle.std.specs.Prelude.{Ok, string_bytes}
+use Rattle.std.proofs.Common.{[], ◌∷◌, refl, ap, ◌∙◌}
+use Rattle.std.specs.Prelude.{string_bytes}
 use Rattle.runner.specs.Values.{place_shown}
-use Rattle.runner.specs.Calls.{look_asked, file_asked, list_asked, bytes_asked, found_of, facts_of, entries_of, folder_bytes_of}
-use Rattle.runner.specs.Gathered.{call_items, file_item, directory_item, numbered, output_items, nodes_items}
-use Rattle.runner.proofs.Collect.{goes_alone, goes_folder, goes_from}
-use Rattle.runner.proofs.Popped.{was_ok, popped, popped_none, bytes_say, more_gathered, no_items}
-use Rattle.runner.proofs.Pieces.{read_whole, read_more, read_inside, one_behind, more_inside, nothing_more, begun, begun_inside}
+use Rattle.runner.specs.Calls.{list_asked, entries_of}
+use Rattle.runner.specs.Gathered.{call_items, directory_item, output_items, nodes_items}
+use Rattle.runner.proofs.Collect.{goes_folder}
+use Rattle.runner.proofs.Popped.{was_ok}
+use Rattle.runner.proofs.Pieces.{begun}
+use Rattle.runner.proofs.Sizes.{fits_still}
 use Rattle.runner.proofs.gathering.list_output.Goals as goal
 
 pub returns-clause-goes : goal.returns-clause-goes
@@ -17,3 +18,4 @@ returns-clause-goes g c = λ text p.
     goes_folder text (place_shown c.args.place.now) _ _ _ _ p q _ c.list.ensures.adds refl refl refl
     (begun (output_items (place_shown c.args.place.now) c.args.gathering.exited.outputs.items) (directory_item (place_shown c.args.place.now) path []) _ _ (ap (nodes_items (place_shown c.args.place.now) path []) c.new.ensures.nodes) items)
     refl
+    (fits_still _ _ c.requires.counted.1 refl)

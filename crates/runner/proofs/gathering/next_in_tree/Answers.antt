@@ -1,12 +1,10 @@
-use Rattle.std.proofs.Common.{◌≡◌, [], ◌∷◌, ◌++◌, refl, sym, ap, ◌∙◌, map, length, append-nil, append_assoc, arith}
-use Rattle.std.specs.Prelude.{Ok, string_bytes}
+use Rattle.std.proofs.Common.{refl, sym, ap, map}
+use Rattle.std.specs.Prelude.{string_bytes}
 use Rattle.runner.specs.Values.{place_shown}
-use Rattle.runner.specs.Calls.{look_asked, file_asked, list_asked, bytes_asked, found_of, facts_of, entries_of, folder_bytes_of}
-use Rattle.runner.specs.Gathered.{call_items, file_item, directory_item, numbered, output_items, nodes_items}
-use Rattle.runner.proofs.Collect.{goes_alone, goes_folder, goes_from}
-use Rattle.runner.proofs.Popped.{was_ok, popped, popped_none, bytes_say, more_gathered, no_items}
-use Rattle.runner.proofs.Pieces.{read_whole, read_more, read_inside, one_behind, more_inside, nothing_more, begun, begun_inside}
+use Rattle.runner.specs.Calls.{look_asked}
+use Rattle.runner.proofs.Collect.{goes_alone}
 use Rattle.runner.proofs.Trees.{tree_goes}
+use Rattle.runner.proofs.Told.{sized_from, stays_sized, taken_on}
 use Rattle.runner.proofs.gathering.next_in_tree.Goals as goal
 
 pub returns-in-File-clause-goes : goal.returns-in-File-clause-goes
@@ -21,3 +19,13 @@ returns-in_ok-gathering-in-Nothing-clause-goes g c = λ text p.
     (ap (λ l. map (look_asked (place_shown c.args.place.now)) (map string_bytes l.items)) (sym c.in_ok-gathering-in-Nothing.ensures.left))
     (c.in_ok-gathering-in-Nothing.ensures.items (place_shown c.args.place.now))
     (c.in_ok-gathering-in-Nothing.ensures.told (place_shown c.args.place.now))
+
+pub returns-in-File-clause-sized : goal.returns-in-File-clause-sized
+returns-in-File-clause-sized g c = λ p. sized_from _ _ _ _ _ p p refl (c.look_in_tree.ensures.sized p)
+
+pub returns-in-Directory-clause-sized : goal.returns-in-Directory-clause-sized
+returns-in-Directory-clause-sized g c = λ p. stays_sized _ _ _ _ p p c.list_in_tree.ensures.sized
+
+pub returns-in_ok-gathering-in-Nothing-clause-sized : goal.returns-in_ok-gathering-in-Nothing-clause-sized
+returns-in_ok-gathering-in-Nothing-clause-sized g c = λ p.
+    taken_on _ _ _ _ c.requires.counted c.in_ok-gathering-in-Nothing.ensures.taken c.in_ok-gathering-in-Nothing.ensures.length

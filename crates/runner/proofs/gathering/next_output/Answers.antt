@@ -1,11 +1,14 @@
-use Rattle.std.proofs.Common.{◌≡◌, [], ◌∷◌, ◌++◌, refl, sym, ap, ◌∙◌, map, length, append-nil, append_assoc, arith}
+use Rattle.std.proofs.Common.{[], ◌∷◌, refl, sym, ap, ◌∙◌, map}
 use Rattle.std.specs.Prelude.{Ok, string_bytes}
 use Rattle.runner.specs.Values.{place_shown}
-use Rattle.runner.specs.Calls.{look_asked, file_asked, list_asked, bytes_asked, found_of, facts_of, entries_of, folder_bytes_of}
-use Rattle.runner.specs.Gathered.{call_items, file_item, directory_item, numbered, output_items, nodes_items}
-use Rattle.runner.proofs.Collect.{goes_alone, goes_folder, goes_from}
-use Rattle.runner.proofs.Popped.{was_ok, popped, popped_none, bytes_say, more_gathered, no_items}
-use Rattle.runner.proofs.Pieces.{read_whole, read_more, read_inside, one_behind, more_inside, nothing_more, begun, begun_inside}
+use Rattle.runner.specs.Calls.{look_asked, found_of}
+use Rattle.runner.specs.Gathered.{call_items, file_item, numbered, output_items}
+use Rattle.runner.proofs.Collect.{goes_alone, goes_folder}
+use Rattle.runner.proofs.Popped.{was_ok, popped, popped_none}
+use Rattle.runner.proofs.Pieces.{nothing_more, begun}
+use Rattle.runner.specs.Sizes.{folder_told}
+use Rattle.runner.proofs.Sizes.{fits_still}
+use Rattle.runner.proofs.Told.{found_says, fits_told, folder_surpasses, more_than, at_most}
 use Rattle.runner.proofs.gathering.next_output.Goals as goal
 
 pub returns-in_default-clause-goes : goal.returns-in_default-clause-goes
@@ -24,6 +27,8 @@ returns-else-is_too_large-clause-goes g c = λ text p.
     (ap (λ l. map (look_asked (place_shown c.args.place.now)) (map string_bytes l)) first ∙ ap (λ s. look_asked (place_shown c.args.place.now) s ∷ map (look_asked (place_shown c.args.place.now)) (map string_bytes c.pop_front.new.self.items)) (sym c.as_str.ensures.value))
     (begun (output_items (place_shown c.args.place.now) c.args.gathering.exited.outputs.items) (file_item (place_shown c.args.place.now) path [] c.in-File.facts.is_executable) _ _ (ap (numbered (place_shown c.args.place.now) path [] 0) c.new.ensures) items)
     refl
+    (fits_told _ _ c.in-File.facts.size (found_says (place_shown c.args.place.now) c.as_str.result.now _ _ is)
+    (at_most _ _ _ _ _ c.is_too_large.ensures c.if-is_too_large.false c.requires.counted.0 refl))
 
 pub returns-in-Directory-clause-goes : goal.returns-in-Directory-clause-goes
 returns-in-Directory-clause-goes g c = λ text p.
@@ -33,6 +38,7 @@ returns-in-Directory-clause-goes g c = λ text p.
     (ap (λ l. map (look_asked (place_shown c.args.place.now)) (map string_bytes l)) first ∙ ap (λ s. look_asked (place_shown c.args.place.now) s ∷ map (look_asked (place_shown c.args.place.now)) (map string_bytes c.pop_front.new.self.items)) (sym c.as_str.ensures.value))
     (nothing_more _ _ (ap (λ r. call_items (look_asked (place_shown c.args.place.now) c.as_str.result.now) (found_of r)) is))
     refl
+    (fits_still _ _ c.requires.counted.1 (ap (λ r. folder_told (look_asked (place_shown c.args.place.now) c.as_str.result.now) (found_of r)) is))
 
 pub returns-in-Nothing-clause-goes : goal.returns-in-Nothing-clause-goes
 returns-in-Nothing-clause-goes g c = λ text p.
@@ -42,6 +48,7 @@ returns-in-Nothing-clause-goes g c = λ text p.
     (ap (λ l. map (look_asked (place_shown c.args.place.now)) (map string_bytes l)) first ∙ ap (λ s. look_asked (place_shown c.args.place.now) s ∷ map (look_asked (place_shown c.args.place.now)) (map string_bytes c.pop_front.new.self.items)) (sym c.as_str.ensures.value))
     (nothing_more _ _ (ap (λ r. call_items (look_asked (place_shown c.args.place.now) c.as_str.result.now) (found_of r)) is))
     refl
+    (fits_still _ _ c.requires.counted.1 (ap (λ r. folder_told (look_asked (place_shown c.args.place.now) c.as_str.result.now) (found_of r)) is))
 
 pub returns-in-Other-clause-goes : goal.returns-in-Other-clause-goes
 returns-in-Other-clause-goes g c = λ text p.
@@ -51,3 +58,11 @@ returns-in-Other-clause-goes g c = λ text p.
     (ap (λ l. map (look_asked (place_shown c.args.place.now)) (map string_bytes l)) first ∙ ap (λ s. look_asked (place_shown c.args.place.now) s ∷ map (look_asked (place_shown c.args.place.now)) (map string_bytes c.pop_front.new.self.items)) (sym c.as_str.ensures.value))
     (nothing_more _ _ (ap (λ r. call_items (look_asked (place_shown c.args.place.now) c.as_str.result.now) (found_of r)) is))
     refl
+    (fits_still _ _ c.requires.counted.1 (ap (λ r. folder_told (look_asked (place_shown c.args.place.now) c.as_str.result.now) (found_of r)) is))
+
+pub returns-then-is_too_large-clause-sized : goal.returns-then-is_too_large-clause-sized
+returns-then-is_too_large-clause-sized g c = λ p.
+    let is = was_ok _ _ _ c.of_folder.ensures c.in_ok-facts.was ∙ ap Ok c.in-File.is in
+    folder_surpasses _ _ _ p (look_asked (place_shown c.args.place.now) c.as_str.result.now) _ c.in-File.facts.size c.look.ensures.adds
+    (found_says (place_shown c.args.place.now) c.as_str.result.now _ _ is)
+    (more_than _ _ _ _ _ c.is_too_large.ensures c.if-is_too_large.true c.requires.counted.0 refl)

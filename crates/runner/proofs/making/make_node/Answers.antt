@@ -6,6 +6,7 @@ use Rattle.runner.specs.Made.{nodes_made}
 use Rattle.runner.specs.Steps.{prepared_left}
 use Rattle.runner.proofs.Collect.{goes_alone, goes_folder, quiet}
 use Rattle.runner.proofs.Popped.{popped, popped_none, named, node_step}
+use Rattle.runner.proofs.Sizes.{fits_none}
 use Rattle.runner.proofs.making.make_node.Goals as goal
 
 pub returns-in_default-clause-goes : goal.returns-in_default-clause-goes
@@ -28,4 +29,4 @@ returns-clause-goes g c = λ text p.
     (c.after_node-making.ensures.left text (place_shown c.args.place.now)))
     (sym (c.after_node-making.ensures.starts (place_shown c.args.place.now)))
     (ap (map (look_asked (place_shown c.args.place.now))) (sym c.after_node-making.ensures.outputs))
-    (sym (quiet q _ (λ x. refl))) refl
+    (sym (quiet q _ (λ x. refl))) refl (fits_none _ refl)

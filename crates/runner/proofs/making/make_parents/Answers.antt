@@ -5,6 +5,7 @@ use Rattle.runner.specs.Calls.{parents_asked, look_asked, call, Adds, done_of}
 use Rattle.runner.specs.Made.{parents_item}
 use Rattle.runner.proofs.Collect.{goes_alone, goes_folder, quiet}
 use Rattle.runner.proofs.Popped.{popped, popped_none, moved}
+use Rattle.runner.proofs.Sizes.{fits_none}
 use Rattle.runner.proofs.making.make_parents.Goals as goal
 
 pub returns-in_default-clause-goes : goal.returns-in_default-clause-goes
@@ -27,4 +28,4 @@ returns-clause-goes g c = λ text p.
     (ap (map (λ o. parents_item (place_shown c.args.place.now) (string_bytes o))) first)
     refl
     (ap (map (look_asked (place_shown c.args.place.now))) (moved string_bytes _ _ _ _ _ first c.in_ok-push_back.ensures.items))
-    (sym (quiet q _ (λ x. refl))) refl
+    (sym (quiet q _ (λ x. refl))) refl (fits_none _ refl)

@@ -6,6 +6,7 @@ use Rattle.runner.specs.Made.{byte_item}
 use Rattle.runner.specs.Steps.{nodes_left}
 use Rattle.runner.proofs.Collect.{goes_alone, goes_folder, quiet}
 use Rattle.runner.proofs.Popped.{no_items, part_step}
+use Rattle.runner.proofs.Sizes.{fits_none}
 use Rattle.runner.proofs.making.write_part.Goals as goal
 
 pub returns-then-is_empty-clause-goes : goal.returns-then-is_empty-clause-goes
@@ -30,4 +31,4 @@ returns-clause-goes g c = λ p.
     (subst (λ ns. Adds (g.F.Folder.asked c.args.folder.now) (g.F.Folder.asked c.write.new.self) (call (text_asked c.args.place.now.run (map string_bytes ns) c.part-part.result.now) (done_of c.write.result)))
     c.deref.ensures.value c.write.ensures.adds)
     (part_step (byte_item c.args.place.now.run names) (text c.args.writing.text) c.part-part.result.now c.args.writing.from (nodes_left text (place_shown c.args.place.now) (take (length names - 1) names) c.args.writing.nodes) c.part-part.ensures.part.follows)
-    refl refl (sym (quiet q _ (λ x. refl))) refl
+    refl refl (sym (quiet q _ (λ x. refl))) refl (fits_none _ refl)

@@ -1,11 +1,11 @@
-use Rattle.std.proofs.Common.{◌≡◌, [], ◌++◌, ◌∷◌, refl, sym, ap, ◌∙◌, subst, length, append-nil, append_assoc, arith}
-use Rattle.std.specs.Prelude.{Ok}
+use Rattle.std.proofs.Common.{◌∷◌, refl, sym, ap, ◌∙◌, arith}
 use Rattle.runner.specs.declared.programs.Stream.TheVariants as streams
 use Rattle.runner.specs.Values.{place_shown}
-use Rattle.runner.specs.Calls.{kill_asked, length_asked, read_asked}
-use Rattle.runner.specs.Told.{call_told, code_item, killed_item, stream_bytes}
+use Rattle.runner.specs.Calls.{length_asked}
+use Rattle.runner.specs.Told.{code_item, killed_item, stream_bytes}
 use Rattle.runner.proofs.Collect.{goes_program}
-use Rattle.runner.proofs.Popped.{programs_ok, quiet_told, kill_says, read_says, more_read, output_whole, no_items}
+use Rattle.runner.proofs.Popped.{programs_ok, quiet_told}
+use Rattle.runner.proofs.Told.{written_says, fits_told, program_surpasses}
 use Rattle.runner.proofs.running.measure.Goals as goal
 
 pub returns-clause-goes : goal.returns-clause-goes
@@ -14,3 +14,10 @@ returns-clause-goes g c = λ text f.
     goes_program text (place_shown c.args.place.now) _ _ f _ _ q _ c.length.ensures.adds refl refl refl refl
     (ap (λ out. code_item c.args.place.now.run c.args.ended.code ∷ killed_item c.args.place.now.run ∷ stream_bytes c.args.place.now.run streams.Output 0 out) c.new.ensures
     ∙ ap (λ is. code_item c.args.place.now.run c.args.ended.code ∷ killed_item c.args.place.now.run ∷ is) (sym (quiet_told q _ (λ x. refl))))
+    (fits_told 0 _ _ (written_says c.args.place.now.run _ _ (programs_ok _ _ _ c.of_programs.ensures c.in_ok-length.was)) (omega (arith, c.if-length-gt-MOST_BYTES.false)))
+
+pub returns-then-length-gt-MOST_BYTES-clause-sized : goal.returns-then-length-gt-MOST_BYTES-clause-sized
+returns-then-length-gt-MOST_BYTES-clause-sized g c = λ f.
+    program_surpasses _ f _ _ (length_asked c.args.place.now.run) _ _ c.length.ensures.adds
+    (written_says c.args.place.now.run _ _ (programs_ok _ _ _ c.of_programs.ensures c.in_ok-length.was))
+    (omega (arith, c.if-length-gt-MOST_BYTES.true))

@@ -1,11 +1,11 @@
-use Rattle.std.proofs.Common.{◌≡◌, [], ◌++◌, ◌∷◌, refl, sym, ap, ◌∙◌, subst, length, append-nil, append_assoc, arith}
+use Rattle.std.proofs.Common.{◌∷◌, refl, sym, ap, ◌∙◌}
 use Rattle.std.specs.Prelude.{Ok}
-use Rattle.runner.specs.declared.programs.Stream.TheVariants as streams
 use Rattle.runner.specs.Values.{place_shown}
-use Rattle.runner.specs.Calls.{kill_asked, length_asked, read_asked}
-use Rattle.runner.specs.Told.{call_told, code_item, killed_item, stream_bytes}
+use Rattle.runner.specs.Calls.{kill_asked}
+use Rattle.runner.specs.Told.{code_item}
 use Rattle.runner.proofs.Collect.{goes_program}
-use Rattle.runner.proofs.Popped.{programs_ok, quiet_told, kill_says, read_says, more_read, output_whole, no_items}
+use Rattle.runner.proofs.Popped.{programs_ok, kill_says}
+use Rattle.runner.proofs.Sizes.{fits_none}
 use Rattle.runner.proofs.running.stop.Goals as goal
 
 pub returns-then-is_killed-clause-goes : goal.returns-then-is_killed-clause-goes
@@ -13,9 +13,11 @@ returns-then-is_killed-clause-goes g c = λ text f.
     let is = programs_ok _ _ _ c.of_programs.ensures c.in_ok-is_killed.was ∙ ap Ok c.if-is_killed.true in
     goes_program text (place_shown c.args.place.now) _ _ f _ _ (kill_asked c.args.place.now.run) _ c.kill.ensures.adds refl refl refl refl
     (ap (λ is. code_item c.args.place.now.run c.args.ended.code ∷ is) (sym (kill_says c.args.place.now.run _ _ is)))
+    (fits_none _ refl)
 
 pub returns-else-is_killed-clause-goes : goal.returns-else-is_killed-clause-goes
 returns-else-is_killed-clause-goes g c = λ text f.
     let is = programs_ok _ _ _ c.of_programs.ensures c.in_ok-is_killed.was ∙ ap Ok c.if-is_killed.false in
     goes_program text (place_shown c.args.place.now) _ _ f _ _ (kill_asked c.args.place.now.run) _ c.kill.ensures.adds refl refl refl refl
     (ap (λ is. code_item c.args.place.now.run c.args.ended.code ∷ is) (sym (kill_says c.args.place.now.run _ _ is)))
+    (fits_none _ refl)

@@ -1,4 +1,4 @@
-use Rattle.std.proofs.Common.{◌≡◌, ◌∙◌, arith}
+use Rattle.std.proofs.Common.{◌∙◌, arith}
 use Rattle.runner.proofs.Lists.{first_and_rest, key_same}
 use Rattle.runner.proofs.runs.place_of.Goals as goal
 

@@ -1,6 +1,6 @@
-use Rattle.std.proofs.Common.{refl, inl, inr}
+use Rattle.std.proofs.Common.{refl, ap, sym, ◌∙◌, inl, inr}
 use Rattle.runner.specs.declared.stage.State.TheVariants.{Live, Over}
-use Rattle.runner.proofs.WentOn.{ended_on, went_on}
+use Rattle.runner.proofs.WentOn.{ended_on, only_where, went_on}
 use Rattle.runner.proofs.runs.Runner.ask.Goals as goal
 
 pub returns-in-Over-clause-asked : goal.returns-in-Over-clause-asked
@@ -9,4 +9,7 @@ returns-in-Over-clause-asked g c =
 
 pub returns-in-Live-clause-asked : goal.returns-in-Live-clause-asked
 returns-in-Live-clause-asked g c =
-    went_on _ _ _ _ _ _ _ c.in-Some.run' _ c.in-Live.stage _ _ _ _ c.in-Some.ensures.taken c.in-Some.ensures.key refl c.in-Live.is c.go_on.ensures.went
+    went_on _ _ _ _ _ _ _ c.in-Some.run' _ c.stage.result _ _ _ _ c.in-Some.ensures.taken c.in-Some.ensures.key refl (c.in-Live.is ∙ ap Live (sym c.stage.ensures.same)) c.go_on.ensures.went
+
+pub returns-in-Live-clause-faults : goal.returns-in-Live-clause-faults
+returns-in-Live-clause-faults g c = only_where _ _ _ _ _ c.go_on.ensures.faults

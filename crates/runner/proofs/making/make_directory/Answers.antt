@@ -1,0 +1,15 @@
+use Rattle.std.proofs.Common.{◌++◌, refl, sym, ap, map}
+use Rattle.std.specs.Prelude.{string_bytes}
+use Rattle.runner.specs.Values.{place_shown}
+use Rattle.runner.specs.Calls.{directory_asked, look_asked}
+use Rattle.runner.proofs.Collect.{goes_folder, quiet}
+use Rattle.runner.proofs.Sizes.{fits_none}
+use Rattle.runner.proofs.making.make_directory.Goals as goal
+
+pub returns-clause-goes : goal.returns-clause-goes
+returns-clause-goes g c = λ text p.
+    let place = place_shown c.args.place.now in
+    let q = directory_asked place in
+    goes_folder text place _ _ _ _ p q _ c.make_working_directory.ensures.adds refl refl
+    (ap (λ made. map (look_asked place) (map string_bytes made ++ map string_bytes c.args.prepared.outputs.items)) (sym c.new-made.ensures.items))
+    (sym (quiet q _ (λ x. refl))) refl (fits_none _ refl)

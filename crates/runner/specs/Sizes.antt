@@ -1,0 +1,181 @@
+-- How many bytes a run holds, how many more an answer tells of, and the most that are taken.
+use Rattle.std.specs.Prelude.{◌≡◌, ◌≤◌, ◌+◌, ℕ, List, [], ◌∷◌, length, Option, Some, Result, Ok, Err}
+use Rattle.runner.specs.declared.fault.RunFault.{RunFault}
+use Rattle.runner.specs.declared.fault.RunFault.TheVariants.{TooLarge}
+use Rattle.runner.specs.declared.folder.Found.TheVariants as founds
+use Rattle.runner.specs.declared.outcome.Exited.{Exited}
+use Rattle.runner.specs.declared.outcome.Output.{Output}
+use Rattle.runner.specs.declared.outcome.OutputKind.{OutputKind}
+use Rattle.runner.specs.declared.outcome.OutputKind.TheVariants as kinds
+use Rattle.runner.specs.declared.outcome.OutputNode.{OutputNode}
+use Rattle.runner.specs.declared.outcome.OutputNodeKind.{OutputNodeKind}
+use Rattle.runner.specs.declared.outcome.OutputNodeKind.TheVariants as node_kinds
+use Rattle.runner.specs.declared.stage.Stage.{Stage}
+use Rattle.runner.specs.declared.stage.Stage.TheVariants as stages
+use Rattle.runner.specs.declared.stage.Step.{Step}
+use Rattle.runner.specs.declared.stage.Step.TheVariants as steps
+use Rattle.runner.specs.Calls.{FolderCall, FolderQuestion, FolderAnswer, look_asked, file_asked, bytes_asked, found, facts, file_bytes, ProgramCall, ProgramQuestion, ProgramAnswer, length_asked, read_asked, written, bytes, RunCall, of_folder, of_programs, folder_calls, program_calls, Adds}
+
+-- of standard output, standard error and output files together
+abbrev pub most_bytes : ℕ
+most_bytes = 1073741824
+
+-- ---- what a run holds
+
+abbrev pub node_length : OutputNodeKind → ℕ
+node_length (node_kinds.File content is_executable) = length content.text
+node_length node_kinds.Directory = 0
+
+abbrev pub nodes_length : List OutputNode → ℕ
+nodes_length [] = 0
+nodes_length (n ∷ ns) = node_length n.kind + nodes_length ns
+
+abbrev pub output_length : OutputKind → ℕ
+output_length (kinds.File content is_executable) = length content.text
+output_length (kinds.Tree nodes) = nodes_length nodes.items
+
+abbrev pub outputs_length : List Output → ℕ
+outputs_length [] = 0
+outputs_length (o ∷ os) = output_length o.kind + outputs_length os
+
+-- of its streams and of its files
+abbrev pub exited_length : Exited → ℕ
+exited_length e = length e.stdout.text + (length e.stderr.text + outputs_length e.outputs.items)
+
+abbrev pub held : Stage → ℕ
+held (stages.Making m) = 0
+held (stages.Running outputs) = 0
+held (stages.Stopping e) = 0
+held (stages.Measuring e) = 0
+held (stages.Output e out) = length out
+held (stages.Error e out err) = length out.text + length err
+held (stages.Outputs g) = exited_length g.exited
+held (stages.File g f) = exited_length g.exited + length f.content
+held (stages.Listing g path) = exited_length g.exited
+held (stages.Tree g t) = exited_length g.exited + nodes_length t.nodes.nodes
+held (stages.TreeFile g t f) = exited_length g.exited + (nodes_length t.nodes.nodes + length f.content)
+
+abbrev pub then_held : Step → ℕ
+then_held (steps.Goes s cost) = held s
+then_held (steps.Exits e) = exited_length e
+
+-- ---- what answers tell of
+
+-- bytes that were read
+abbrev pub part_length : Option FolderAnswer → ℕ
+part_length (Some (file_bytes bs)) = length bs
+part_length a = 0
+
+abbrev pub folder_read : FolderQuestion → Option FolderAnswer → ℕ
+folder_read (bytes_asked place path names from most) a = part_length a
+folder_read q a = 0
+
+-- the size of a file of which nothing is read yet
+abbrev pub found_size : Option FolderAnswer → ℕ
+found_size (Some (found (founds.File f))) = f.size
+found_size a = 0
+
+abbrev pub facts_size : Option FolderAnswer → ℕ
+facts_size (Some (facts (Some f))) = f.size
+facts_size a = 0
+
+abbrev pub folder_told : FolderQuestion → Option FolderAnswer → ℕ
+folder_told (look_asked place path) a = found_size a
+folder_told (file_asked place path names) a = facts_size a
+folder_told q a = folder_read q a
+
+-- the bytes of a stream that were read
+abbrev pub stream_length : Option ProgramAnswer → ℕ
+stream_length (Some (bytes bs)) = length bs
+stream_length a = 0
+
+abbrev pub program_read : ProgramQuestion → Option ProgramAnswer → ℕ
+program_read (read_asked run stream from most) a = stream_length a
+program_read q a = 0
+
+-- the size of both streams, of which nothing is read yet
+abbrev pub written_size : Option ProgramAnswer → ℕ
+written_size (Some (written n)) = n
+written_size a = 0
+
+abbrev pub program_told : ProgramQuestion → Option ProgramAnswer → ℕ
+program_told (length_asked run) a = written_size a
+program_told q a = program_read q a
+
+abbrev pub told : RunCall → ℕ
+told (of_folder c) = folder_told c.question c.answer
+told (of_programs c) = program_told c.question c.answer
+
+abbrev pub read : RunCall → ℕ
+read (of_folder c) = folder_read c.question c.answer
+read (of_programs c) = program_read c.question c.answer
+
+abbrev pub all_read : List RunCall → ℕ
+all_read [] = 0
+all_read (c ∷ cs) = read c + all_read cs
+
+-- What each answer tells of, with all that is held when it comes, is not too large.
+abbrev pub Fits : ℕ → List RunCall → Type 0
+Fits n [] = Unit {0}
+Fits n (c ∷ cs) = (n + told c ≤ most_bytes) × Fits (n + read c) cs
+
+-- ---- the fault of what is too large
+
+-- what was asked of a run at this stage told of too much
+pub record Surpasses (from : Stage) (f_before f_now : Option (List FolderCall))
+    (p_before p_now : Option (List ProgramCall)) : Type 0 where
+  pub calls : List RunCall
+  pub folder_asked : Adds f_before f_now (folder_calls calls)
+  pub programs_asked : Adds p_before p_now (program_calls calls)
+  pub too_large : Fits (held from) calls → ⊥
+
+-- ---- what was taken is counted, and is not too large
+
+abbrev pub IsTaken : ℕ → ℕ → Type 0
+IsTaken taken n = (taken ≡ n) × (n ≤ most_bytes)
+
+abbrev pub IsCounted : Stage → Type 0
+IsCounted (stages.Making m) = Unit {0}
+IsCounted (stages.Running outputs) = Unit {0}
+IsCounted (stages.Stopping e) = Unit {0}
+IsCounted (stages.Measuring e) = Unit {0}
+IsCounted (stages.Output e out) = held (stages.Output e out) ≤ most_bytes
+IsCounted (stages.Error e out err) = held (stages.Error e out err) ≤ most_bytes
+IsCounted (stages.Outputs g) = IsTaken g.taken (held (stages.Outputs g))
+IsCounted (stages.File g f) = IsTaken g.taken (held (stages.File g f))
+IsCounted (stages.Listing g path) = IsTaken g.taken (held (stages.Listing g path))
+IsCounted (stages.Tree g t) = IsTaken g.taken (held (stages.Tree g t))
+IsCounted (stages.TreeFile g t f) = IsTaken g.taken (held (stages.TreeFile g t f))
+
+abbrev pub IsCountedThen : Step → Type 0
+IsCountedThen (steps.Goes s cost) = IsCounted s
+IsCountedThen (steps.Exits e) = exited_length e ≤ most_bytes
+
+-- ---- of a step
+
+abbrev pub IsSizeless : RunFault → Type 0
+IsSizeless TooLarge = ⊥
+IsSizeless f = Unit {0}
+
+-- of one that asks for no size and no bytes
+abbrev pub StaysCounted : Result Step RunFault → Type 0
+StaysCounted (Ok step) = IsCountedThen step
+StaysCounted (Err fault) = IsSizeless fault
+
+abbrev pub SurpassesWhere : RunFault → Stage → Option (List FolderCall) → Option (List FolderCall) →
+    Option (List ProgramCall) → Option (List ProgramCall) → Type 0
+SurpassesWhere TooLarge from f_before f_now p_before p_now = Surpasses from f_before f_now p_before p_now
+SurpassesWhere f from f_before f_now p_before p_now = Unit {0}
+
+abbrev pub Sized : Result Step RunFault → Stage → Option (List FolderCall) → Option (List FolderCall) →
+    Option (List ProgramCall) → Option (List ProgramCall) → Type 0
+Sized (Ok step) from f_before f_now p_before p_now = IsCountedThen step
+Sized (Err fault) from f_before f_now p_before p_now = SurpassesWhere fault from f_before f_now p_before p_now
+
+-- of one that asks folders alone
+abbrev pub FolderSized : Result Step RunFault → Stage → Option (List FolderCall) → Option (List FolderCall) → Type 0
+FolderSized result from f_before f_now = (p : Option (List ProgramCall)) → Sized result from f_before f_now p p
+
+-- of one that asks programs alone
+abbrev pub ProgramSized : Result Step RunFault → Stage → Option (List ProgramCall) → Option (List ProgramCall) → Type 0
+ProgramSized result from p_before p_now = (f : Option (List FolderCall)) → Sized result from f f p_before p_now

@@ -1,0 +1,47 @@
+//! How far a run has come, with its bytes counted.
+
+ghost use Rattle.std.specs.Prelude.{◌≡◌};
+ghost use Rattle.runner.specs.Sizes.{IsCounted};
+
+use crate::stage::Stage;
+use std::marker::Model;
+
+/// How far a run has come that is not over, where the bytes that were taken are counted, and are
+/// not too many.
+#[derive(Drop)]
+pub(crate) struct Going {
+    stage: Stage,
+}
+
+impl Model for Going {
+    ghost use Rattle.runner.specs.Sizes.{IsCounted};
+    ghost use Rattle.runner.specs.declared.stage.Stage.{Stage};
+
+    ghost Value = { Stage };
+
+    ghost view = { λ g. g.stage };
+
+    ghost invariant = { λ g. IsCounted g.stage };
+}
+
+impl Going {
+    pub(crate) fn new(stage: Stage) -> Going
+        requires { IsCounted stage }
+        ensures { result ≡ stage }
+    {
+        Going { stage }
+    }
+
+    pub(crate) fn stage(self) -> Stage
+        ensures same { result ≡ self }
+        ensures counted { IsCounted result }
+    {
+        let Going { stage } = self;
+        stage
+    }
+
+    /// Whether it can go on at once: it waits for no program, neither to end nor to be killed.
+    pub(crate) fn can_go_on(&self) -> bool {
+        !matches!(self.stage, Stage::Running(_) | Stage::Stopping(_))
+    }
+}

@@ -5,6 +5,7 @@ mod clearing;
 mod files;
 mod folder;
 mod paths;
+mod processes;
 mod programs;
 mod removing;
 mod search;

@@ -195,7 +195,7 @@ impl<'a> Table<'a> {
         started.progress = self.sessions.end(started.child.id(), started.progress)?;
         match started.progress {
             Progress::Ended => is_reaped(&mut started.child),
-            Progress::Alive | Progress::Asked(_) => Ok(false),
+            Progress::Alive | Progress::Asked(..) => Ok(false),
         }
     }
 

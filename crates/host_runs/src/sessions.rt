@@ -1,5 +1,6 @@
 //! Ending sessions of programs without waiting, by one shell that is kept for it.
 
+use crate::processes::Processes;
 use std::alloc::Global;
 use std::io::{self, ErrorKind, Read, Write};
 use std::os::fd::AsRawFd;
@@ -10,28 +11,18 @@ pub(crate) const SESSION: &str = "/usr/bin/setsid";
 
 const SHELL: &str = "/bin/sh";
 
-/// Ends the session of each number that it is told: the group of that number, and then, three times
-/// at most, what else is found in the session; and writes one byte. It is nothing amiss where no one
-/// is left in it.
-const SCRIPT: &str = "PATH=/bin:/usr/bin
-while read -r n; do
-  kill -s KILL -- \"-$n\"
-  for round in 1 2 3; do
-    more=
-    for file in $(grep -lsF \" $n \" /proc/[0-9]*/stat); do
-      read -r line < \"$file\" || continue
-      set -- ${line##*) }
-      [ \"$4\" = \"$n\" ] && [ \"$1\" != Z ] || continue
-      file=${file#/proc/}
-      kill -s KILL \"${file%/stat}\" && more=1
-    done
-    [ \"$more\" ] || break
-  done
+/// Ends the process of each number that it is told, or the group of one behind `-`, and writes one
+/// byte for it. It is nothing amiss where there is none.
+const SCRIPT: &str = "while read -r target; do
+  kill -s KILL -- \"$target\"
   echo
 done";
 
 /// How many answers are read at a time.
 const MOST_ANSWERS: usize = 512;
+
+/// How often it is looked for what is left of a session, while anything is.
+const MOST_SEARCHES: u32 = 20;
 
 /// A question to a shell.
 #[derive(Clone, Copy)]
@@ -46,7 +37,8 @@ pub(crate) struct Question {
 #[derive(Clone, Copy)]
 pub(crate) enum Progress {
     Alive,
-    Asked(Question),
+    /// The shell was asked to end it, or what was found of it. So often it may be looked still.
+    Asked(Question, u32),
     Ended,
 }
 
@@ -101,6 +93,14 @@ impl Shell {
         !matches!(self.child.try_wait(), Ok(None))
     }
 
+    /// Whether a question is answered.
+    fn has_answered(&mut self, place: u64) -> io::Result<bool> {
+        if place > self.answered {
+            self.take_answers()?;
+        }
+        Ok(place <= self.answered)
+    }
+
     /// Counts answers that came.
     fn take_answers(&mut self) -> io::Result<()> {
         let mut room = [0u8; MOST_ANSWERS];
@@ -114,13 +114,8 @@ impl Shell {
         }
     }
 
-    /// Tells it the number of a session. Which question that was, unless too many are not answered.
-    fn ask(&mut self, alloc: Global, session: u32) -> io::Result<Option<u64>> {
-        // The numbers 0 and 1 would stand for other sessions than those of programs.
-        if session < 2 {
-            return Err(io::Error::from(ErrorKind::InvalidInput));
-        }
-        let line = format!(in alloc; "{session}\n")?;
+    /// Tells it what to end. Which question that was, unless too many are not answered.
+    fn ask(&mut self, line: &str) -> io::Result<Option<u64>> {
         match self.questions.write(line.as_bytes()) {
             Ok(count) if count == line.len() => {
                 self.asked = self.asked.saturating_add(1);
@@ -132,6 +127,26 @@ impl Shell {
             Err(error) => Err(error),
         }
     }
+
+    /// Tells it the number of a session, to end the group of that number.
+    fn end_group(&mut self, alloc: Global, session: u32) -> io::Result<Option<u64>> {
+        let line = format!(in alloc; "-{session}\n")?;
+        self.ask(line.as_str())
+    }
+
+    /// Tells it processes to end, as many as it takes. Which question was the last of them, and
+    /// whether it took them all.
+    fn end_each(&mut self, alloc: Global, processes: &[u32]) -> io::Result<(u64, bool)> {
+        let mut last = self.answered;
+        for process in processes {
+            let line = format!(in alloc; "{process}\n")?;
+            match self.ask(line.as_str())? {
+                Some(place) => last = place,
+                None => return Ok((last, false)),
+            }
+        }
+        Ok((last, true))
+    }
 }
 
 /// Ends sessions.
@@ -141,6 +156,9 @@ pub(crate) struct Sessions<'a> {
     shell: Option<Shell>,
     /// The number of the shell, or of the one that is started next.
     number: u64,
+    processes: Processes<'a>,
+    /// What was answered when it was looked for processes last.
+    looked: Option<Question>,
 }
 
 impl<'a> Sessions<'a> {
@@ -149,11 +167,19 @@ impl<'a> Sessions<'a> {
             rt,
             shell: None,
             number: 0,
+            processes: Processes::new(rt),
+            looked: None,
         }
     }
 
-    /// Does the next of what is to be done to end a session, and tells how far that is.
+    /// Does the next of what is to be done to end a session, and tells how far that is. Its first
+    /// process and the group of that are ended, and then all else that is found in it, until nothing
+    /// is, or it was looked often.
     pub(crate) fn end(&mut self, session: u32, progress: Progress) -> io::Result<Progress> {
+        // The numbers 0 and 1 would stand for other sessions than those of programs.
+        if session < 2 {
+            return Err(io::Error::from(ErrorKind::InvalidInput));
+        }
         if let Progress::Ended = progress {
             return Ok(Progress::Ended);
         }
@@ -161,7 +187,7 @@ impl<'a> Sessions<'a> {
             Some(shell) => shell,
             None => Shell::start(self.rt)?,
         };
-        let answer = go_on(self.rt.alloc(), &mut shell, self.number, session, progress);
+        let answer = self.go_on(&mut shell, session, progress);
         self.shell = Some(shell);
         answer
     }
@@ -175,31 +201,67 @@ impl<'a> Sessions<'a> {
         }
         Some(shell)
     }
-}
 
-/// Asks a shell to end a session, or whether it has.
-fn go_on(
-    alloc: Global,
-    shell: &mut Shell,
-    number: u64,
-    session: u32,
-    progress: Progress,
-) -> io::Result<Progress> {
-    shell.take_answers()?;
-    if let Progress::Asked(question) = progress {
-        if question.shell == number {
-            return Ok(if question.place <= shell.answered {
-                Progress::Ended
-            } else {
-                progress
-            });
+    fn go_on(
+        &mut self,
+        shell: &mut Shell,
+        session: u32,
+        progress: Progress,
+    ) -> io::Result<Progress> {
+        match progress {
+            Progress::Asked(question, searches) if question.shell == self.number => {
+                if !shell.has_answered(question.place)? {
+                    return Ok(progress);
+                }
+                self.end_rest(shell, session, question, searches)
+            }
+            _ => match shell.end_group(self.rt.alloc(), session)? {
+                None => Ok(progress),
+                Some(place) => Ok(self.asked(place, MOST_SEARCHES)),
+            },
         }
     }
-    match shell.ask(alloc, session)? {
-        None => Ok(progress),
-        Some(place) => Ok(Progress::Asked(Question {
-            shell: number,
-            place,
-        })),
+
+    fn asked(&self, place: u64, searches: u32) -> Progress {
+        let shell = self.number;
+        Progress::Asked(Question { shell, place }, searches)
+    }
+
+    /// Ends what is left of a session, of which all that was found was ended by the answer to a
+    /// question.
+    fn end_rest(
+        &mut self,
+        shell: &mut Shell,
+        session: u32,
+        question: Question,
+        searches: u32,
+    ) -> io::Result<Progress> {
+        if searches == 0 {
+            return Ok(Progress::Ended);
+        }
+        self.look_since(shell, question)?;
+        let left = self.processes.alive_in(session)?;
+        if left.is_empty() {
+            return Ok(Progress::Ended);
+        }
+        let (place, were_all) = shell.end_each(self.rt.alloc(), &left)?;
+        let searches = if were_all { searches - 1 } else { searches };
+        Ok(self.asked(place, searches))
+    }
+
+    /// Looks for processes, unless that was done since a question was answered.
+    fn look_since(&mut self, shell: &Shell, question: Question) -> io::Result<()> {
+        if let Some(looked) = self.looked {
+            if looked.shell == self.number && question.place <= looked.place {
+                return Ok(());
+            }
+        }
+        self.looked = None;
+        self.processes.look()?;
+        self.looked = Some(Question {
+            shell: self.number,
+            place: shell.answered,
+        });
+        Ok(())
     }
 }

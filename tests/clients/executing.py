@@ -23,20 +23,21 @@ class Link(str):
     """The target of a symbolic link."""
 
 
-def directory(tree, blobs):
+def directory(tree, blobs, function=hashlib.sha256):
     """The digest of a mapping of names to contents, links and further mappings; all texts are added to the blobs."""
     files, folders, links = b"", b"", b""
     for name in sorted(tree, key=str.encode):
         inner, named = tree[name], m.field(1, name)
         if isinstance(inner, dict):
-            folders += m.field(2, named + m.field(2, directory(inner, blobs)))
+            folders += m.field(2, named + m.field(2, directory(inner, blobs, function)))
         elif isinstance(inner, Link):
             links += m.field(3, named + m.field(2, inner))
         else:
             blobs.append(bytes(inner))
-            files += m.field(1, named + m.field(2, m.digest(inner)) + m.field(4, int(isinstance(inner, Executable))))
+            digest = m.digest(inner, function)
+            files += m.field(1, named + m.field(2, digest) + m.field(4, int(isinstance(inner, Executable))))
     blobs.append(files + folders + links)
-    return m.digest(blobs[-1])
+    return m.digest(blobs[-1], function)
 
 
 def command(words, variables=(PATH,), files=(), directories=(), paths=(), folder=""):
@@ -47,19 +48,19 @@ def command(words, variables=(PATH,), files=(), directories=(), paths=(), folder
 
 
 class Action:
-    """An action: its digest, and the texts that have to be stored before."""
+    """An action: its digest, and the texts that have to be stored before, all named by one function."""
 
-    def __init__(self, words, tree=None, seconds=0, nanos=0, do_not_cache=False, **more):
+    def __init__(self, words, tree=None, seconds=0, nanos=0, do_not_cache=False, function=hashlib.sha256, **more):
         if isinstance(words, str):
             words = ["/bin/sh", "-c", words]
-        self.blobs = []
-        root = directory(tree or {}, self.blobs)
+        self.blobs, self.function = [], function
+        root = directory(tree or {}, self.blobs, function)
         self.blobs.append(command(words, **more))
-        message = m.field(1, m.digest(self.blobs[-1])) + m.field(2, root)
+        message = m.field(1, m.digest(self.blobs[-1], function)) + m.field(2, root)
         if seconds or nanos:
             message += m.field(6, m.field(1, seconds) + m.field(2, nanos))
         self.blobs.append(message + m.field(7, int(do_not_cache)))
-        self.digest = m.digest(self.blobs[-1])
+        self.digest = m.digest(self.blobs[-1], function)
 
 
 class Operation:
@@ -225,28 +226,28 @@ class Peer:
 
     # What the scripts call for.
 
-    def store(self, blobs):
+    def store(self, blobs, function=hashlib.sha256):
         """Stores texts, small ones in batches and large ones by streams."""
         batch, size = [], 0
         for each in blobs:
             if len(each) > 2_000_000:
-                self._write(each)
+                self._write(each, function)
                 continue
             if size + len(each) + 120 > 3_900_000 or len(batch) == 5000:
-                self._store(batch)
+                self._store(batch, function)
                 batch, size = [], 0
             batch.append(each)
             size += len(each) + 120
         if batch:
-            self._store(batch)
+            self._store(batch, function)
 
-    def _store(self, batch):
-        answers, status = self.call(m.BATCH_UPDATE, m.batch_update("", batch))
+    def _store(self, batch, function):
+        answers, status = self.call(m.BATCH_UPDATE, m.batch_update("", batch, function))
         if status[0] or any(m.first(each, 2) for each in m.every(answers[0], 1)):
             raise SystemExit(f"texts are not stored: {status}")
 
-    def _write(self, text):
-        name = m.write_name(os.urandom(8).hex(), hashlib.sha256(text).hexdigest(), len(text))
+    def _write(self, text, function):
+        name = m.write_name(os.urandom(8).hex(), function(text).hexdigest(), len(text))
         pieces = range(0, len(text), 1_000_000)
         sent = [m.write(name, at, text[at : at + 1_000_000], at + 1_000_000 >= len(text)) for at in pieces]
         status = self.call(m.WRITE, *sent)[1]
@@ -268,7 +269,7 @@ class Peer:
     def start(self, action, instance="", skip=False, is_stored=False):
         """Stores an action, asks for it to be executed, and gives the call's number."""
         if not is_stored:
-            self.store(action.blobs)
+            self.store(action.blobs, action.function)
         asked = m.field(1, instance) + m.field(3, int(skip)) + m.field(6, action.digest)
         return self.begin(EXECUTE, asked)
 
@@ -291,10 +292,10 @@ class Peer:
         answers, status = self.call(GET_RESULT, m.field(2, action.digest))
         return Result(answers[0]) if status[0] == 0 else None
 
-    def tree(self, digest):
+    def tree(self, digest, function=hashlib.sha256):
         """A Tree as a mapping, as `directory` takes it, but with the digests of files in place of their contents."""
         message = self.text(digest)
-        children = {m.digest(each): each for each in m.every(message, 2)}
+        children = {m.digest(each, function): each for each in m.every(message, 2)}
 
         def shown(text):
             found = {}

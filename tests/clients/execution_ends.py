@@ -198,6 +198,25 @@ def counted(c, name):
     return (lambda: len(open(path).readlines()) if os.path.exists(path) else 0), f"echo ran >> {path}; printf {name}"
 
 
+def named_by_sha512(c):
+    by, script = hashlib.sha512, "cat in/a; echo err >&2; printf abc > f; mkdir -p d/e; printf inner > d/e/x"
+    with c.peer() as peer:
+        action = c.action(shell(script, paths=["f", "d"]), tree={"in": {"a": b"given"}}, function=by)
+        result = c.ran(peer, action).result
+        expect(result.files, {"f": (m.digest(b"abc", by), False)}, "output files")
+        tree = {path: peer.tree(each, by) for path, each in result.trees.items()}
+        expect(tree, {"d": {"e": {"x": (m.digest(b"inner", by), False)}}}, "trees")
+        expect((result.stdout, result.stderr), (m.digest(b"given", by), m.digest(b"err\n", by)), "streams")
+        expect(peer.text(m.digest(b"inner", by)), b"inner", "what a tree's file has")
+        expect(peer.cached(action).stdout, m.digest(b"given", by), "GetActionResult")
+        lacking = c.action(shell("true"), tree={"a": b"not there by SHA-512"}, function=by)
+        missing = lacking.blobs.pop(0)
+        peer.store(lacking.blobs, by)
+        done = peer.execute(lacking, is_stored=True)
+        expect(done.status.missing, [f"blobs/{by(missing).hexdigest()}/{len(missing)}"], "what is missing")
+    return "an action of SHA-512: its outputs, their trees and its streams are named by SHA-512"
+
+
 def cached(c):
     ran, script = counted(c, "cached")
     with c.peer() as peer, c.peer() as second:

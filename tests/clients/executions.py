@@ -36,8 +36,8 @@ OF_INPUTS += [
     inputs.odd_trees,
 ]
 OF_ENDS = [ends.outputs, ends.output_trees, ends.large_streams, ends.too_large, ends.over_quota, ends.timeouts]
-OF_ENDS += [ends.leftovers_of_programs, ends.own_groups, ends.cached, ends.not_cached, ends.watched, ends.cut]
-OF_ENDS += [ends.side_by_side, ends.hundred]
+OF_ENDS += [ends.leftovers_of_programs, ends.own_groups, ends.named_by_sha512, ends.cached, ends.not_cached]
+OF_ENDS += [ends.watched, ends.cut, ends.side_by_side, ends.hundred]
 PLAIN_USER = [
     inputs.printed,
     inputs.not_there,

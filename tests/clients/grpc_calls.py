@@ -64,7 +64,7 @@ def stored_and_read(channels):
 def told(channels):
     for name, channel in channels.items():
         for answer in at_once(channel, m.CAPABILITIES, [m.capabilities(name)] * CALLS):
-            expect(m.first(m.first(answer, 1), 1), b"\x01", "SHA256")
+            expect(m.first(m.first(answer, 1), 1), b"\x01\x06", "SHA256 and SHA512")
     yield f"GetCapabilities: {CALLS} calls at a time on each"
 
 

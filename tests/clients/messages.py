@@ -57,16 +57,16 @@ def every(message, number):
     return [value for place, value in fields(message) if place == number]
 
 
-def digest(blob):
-    return field(1, hashlib.sha256(blob).hexdigest()) + field(2, len(blob))
+def digest(blob, function=hashlib.sha256):
+    return field(1, function(blob).hexdigest()) + field(2, len(blob))
 
 
 def find_missing(instance, digests):
     return field(1, instance) + b"".join(field(2, each) if each else b"\x12\x00" for each in digests)
 
 
-def batch_update(instance, blobs):
-    request = lambda blob: field(1, digest(blob)) + field(2, blob)
+def batch_update(instance, blobs, function=hashlib.sha256):
+    request = lambda blob: field(1, digest(blob, function)) + field(2, blob)
     return field(1, instance) + b"".join(field(2, request(blob)) for blob in blobs)
 
 

@@ -17,7 +17,7 @@ def free_ports(count):
 
 
 class Server:
-    """A server with these instances: a name, a quota and maybe slots each. More may stand in its environment.
+    """A server with these instances: a name, a quota and maybe slots and a parent each. More may stand in its environment.
 
     It works in a folder of its own, or in `folder`, which is then left. What it says on standard error is kept where
     it is `heard`. Further words are those of `Popen`.
@@ -28,9 +28,12 @@ class Server:
         self.work = None if folder else tempfile.TemporaryDirectory()
         self.folder = folder or self.work.name
         self.errors = tempfile.TemporaryFile() if heard else None
-        of = lambda name, quota, slots=0: (name, quota, slots)
+        of = lambda name, quota, slots=0, parent=None: (name, quota, slots, parent)
         instances = [of(*each) for each in instances]
-        words = [f"{name}:{port}:{quota}:{slots}" for (name, quota, slots), port in zip(instances, self.ports)]
+        word = lambda name, quota, slots, parent: (quota, slots) if parent is None else (quota, slots, parent)
+        words = [
+            ":".join(str(part) for part in (each[0], port, *word(*each))) for each, port in zip(instances, self.ports)
+        ]
         turns = [] if turns is None else ["--turns", str(turns)]
         self.process = subprocess.Popen(
             [program, "serve", "--work", self.folder, *turns, *words],
@@ -40,7 +43,7 @@ class Server:
             env={**os.environ, **(environment or {})},
             **more,
         )
-        for (name, _, _), port in zip(instances, self.ports):
+        for (name, *_), port in zip(instances, self.ports):
             line = self.process.stdout.readline()
             if line != f"listening {name} {port}\n":
                 raise SystemExit(f"no line for {name}: {line!r}")

@@ -13,6 +13,7 @@ pub fn configs(names: &[&str], quota: u64, output: &mut Output) -> Option<Config
             name,
             quota,
             slots: 0,
+            parent: None,
         });
         output.expect(added);
     }

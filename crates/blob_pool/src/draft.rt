@@ -1,55 +1,14 @@
 //! Texts that are hashed as they come, before they stand in a pool.
 
 ghost use Rattle.std.specs.Prelude.{◌≡◌, ◌+◌, ◌≤◌, ◌++◌, ◌↔◌, [], ℕ, List, length, true, false, IsTrue, OnOk, OnErr, IfOk};
-ghost use Rattle.digest.specs.Naming.{Names, digest_of};
-ghost use Rattle.blob_pool.specs.Drafts.{Hashes, is_going};
+ghost use Rattle.digest.specs.Naming.{Names, digest_by, digest_of};
 ghost use Rattle.paged_text.specs.declared.text.TheConstants.{MOST_BYTES};
 
-use digest::{Digest, Hasher, is_same};
+use crate::hashing::{Digests, Progress, digest_pages, end, update};
+use digest::{Digest, HashFunction, is_same};
 use paged_text::PagedText;
 use std::alloc::{AllocError, Global};
 use std::marker::Model;
-use std::mem;
-
-/// The hash of a text, in course or done.
-#[derive(Drop)]
-pub enum Progress {
-    Going(Hasher),
-    Ended(Digest),
-}
-
-/// Ends the hash.
-pub fn end(progress: &mut Progress) -> Digest
-    ensures digest { (text : List ℕ) → Hashes progress.old text → length text ≤ MOST_BYTES →
-        result ≡ digest_of text }
-    ensures hashes { (text : List ℕ) → Hashes progress.old text → length text ≤ MOST_BYTES →
-        Hashes progress.new text }
-    ensures ended { is_going progress.new ≡ false }
-{
-    let nothing = Digest {
-        hash: [0; 32],
-        size: 0,
-    };
-    let digest = match mem::replace(progress, Progress::Ended(nothing)) {
-        Progress::Going(hasher) => hasher.finish(),
-        Progress::Ended(digest) => digest,
-    };
-    *progress = Progress::Ended(digest);
-    digest
-}
-
-/// Hashes bytes that follow.
-fn update(progress: &mut Progress, bytes: &[u8])
-    requires { is_going progress.old ≡ true }
-    ensures hashes { (text : List ℕ) → Hashes progress.old text →
-        Hashes progress.new (text ++ bytes.now) }
-    ensures going { is_going progress.new ≡ true }
-{
-    match progress {
-        Progress::Going(hasher) => hasher.update(bytes),
-        Progress::Ended(_) => unreachable!(),
-    }
-}
 
 /// A text that is hashed as it comes, and is not in a pool yet.
 #[derive(Drop)]
@@ -71,18 +30,19 @@ impl Model for Draft {
 }
 
 impl Draft {
-    /// No bytes yet. It takes no memory.
-    pub fn new(alloc: Global) -> Draft
+    /// No bytes yet of a text that is meant to be named by a function: it is hashed by SHA-256 as
+    /// it comes, and by SHA-512 where that is the function. It takes no memory.
+    pub fn new(alloc: Global, function: HashFunction) -> Draft
         ensures text { result.text ≡ [] }
         ensures open { result.is_open ≡ true }
     {
         Draft {
             text: PagedText::new(alloc),
-            progress: Progress::Going(Hasher::new()),
+            progress: Progress::new(function),
         }
     }
 
-    /// Bytes that a digest is known to name, which are then not hashed again.
+    /// Bytes that a digest is known to name. Under one by SHA-256 they are not hashed again.
     pub fn of(alloc: Global, digest: &Digest, bytes: &[u8]) -> Result<Draft, AllocError>
         requires named { Names digest.now bytes.now }
         requires most { length bytes.now ≤ MOST_BYTES }
@@ -92,7 +52,7 @@ impl Draft {
         text.push(bytes)?;
         Ok(Draft {
             text,
-            progress: Progress::Ended(*digest),
+            progress: Progress::Ended(Digests::of(digest, bytes)),
         })
     }
 
@@ -122,38 +82,62 @@ impl Draft {
         ensures named { IsTrue result ↔ Names digest.now self.old.text }
         ensures ended { self.new ≡ record self.old { is_open = false } }
     {
-        let own = end(&mut self.progress);
+        let own = self.digest_by(digest.function());
         is_same(digest, &own)
     }
 
-    /// The digest of the text, to which nothing is then added. It takes no memory.
-    pub fn digest(&mut self) -> Digest
-        ensures digest { result ≡ digest_of self.old.text }
+    /// The digest of the text by a function; nothing is then added to the text. By SHA-512 the text
+    /// is hashed anew where it was not meant to be named so. It takes no memory.
+    pub fn digest_by(&mut self, function: HashFunction) -> Digest
+        ensures digest { result ≡ digest_by function self.old.text }
         ensures ended { self.new ≡ record self.old { is_open = false } }
     {
-        end(&mut self.progress)
+        let digests = end(&mut self.progress);
+        match function {
+            HashFunction::Sha256 => digests.sha256,
+            HashFunction::Sha512 => match digests.sha512 {
+                Some(sha512) => sha512,
+                None => digest_pages(&self.text, HashFunction::Sha512),
+            },
+        }
     }
 
-    /// The text and its digest.
+    /// The function that the text was meant to be named by.
+    pub fn function(&self) -> HashFunction {
+        self.progress.function()
+    }
+
+    /// The digest of the text by a function, hashed anew over its pages. It takes no memory.
+    pub fn digest_again(&self, function: HashFunction) -> Digest
+        ensures { result ≡ digest_by function self.now.text }
+    {
+        digest_pages(&self.text, function)
+    }
+
+    /// The text and its digest by SHA-256.
     pub(crate) fn open(self) -> (PagedText, Digest)
         ensures text { result.0 ≡ self.text }
         ensures digest { result.1 ≡ digest_of self.text }
         ensures most { length self.text ≤ MOST_BYTES }
     {
         let Draft { text, mut progress } = self;
-        let digest = end(&mut progress);
-        (text, digest)
+        let digests = end(&mut progress);
+        (text, digests.sha256)
     }
 
-    /// A text with its digest.
+    /// A text with its digest by SHA-256.
     pub(crate) fn close(text: PagedText, digest: Digest) -> Draft
         requires digest { digest ≡ digest_of text }
         requires most { length text ≤ MOST_BYTES }
         ensures { result.text ≡ text }
     {
+        let digests = Digests {
+            sha256: digest,
+            sha512: None,
+        };
         Draft {
             text,
-            progress: Progress::Ended(digest),
+            progress: Progress::Ended(digests),
         }
     }
 }

@@ -2,6 +2,7 @@
 #![tactic(auto)]
 
 mod draft;
+mod hashing;
 mod hold;
 mod index;
 mod pool;

@@ -12,7 +12,7 @@ use crate::hold::{Hold, Kept, keep};
 use crate::index::Index;
 use crate::slot::Slot;
 use crate::slots::{hold_again, put_text, take_text, text};
-use digest::Digest;
+use digest::{Digest, HashFunction};
 use slab::Slab;
 use std::alloc::{AllocError, Global};
 use std::marker::Model;
@@ -75,8 +75,8 @@ impl Pool {
         (self.slots.len() as u64, self.bytes)
     }
 
-    /// Bytes that a digest is known to name, to be sealed here. They are not hashed again. There
-    /// are at most 2^48 of them.
+    /// Bytes that a digest is known to name, to be sealed here. Under one by SHA-256 they are not
+    /// hashed again. There are at most 2^48 of them.
     pub fn draft_of(&self, digest: &Digest, bytes: &[u8]) -> Result<Draft, AllocError>
         requires named { Names digest.now bytes.now }
         requires most { length bytes.now ≤ MOST_BYTES }
@@ -115,7 +115,7 @@ impl Pool {
             text_at self.old k ≡ bytes.now → hold ≡ k) }
         ensures err { OnErr result (self.new ≡ self.old) }
     {
-        let mut draft = Draft::new(self.alloc);
+        let mut draft = Draft::new(self.alloc, HashFunction::Sha256);
         draft.push(bytes)?;
         match self.seal(draft) {
             Ok(hold) => Ok(hold),

@@ -11,7 +11,7 @@ mod querying;
 mod reading;
 mod writing;
 
-pub use part::Part;
+pub use part::{Part, Terms};
 pub use querying::query;
 pub use reading::{ReadAsked, Source, read};
 pub use writing::{FirstPart, OpenWrite, Written, ended_unfinished, write_first, write_next};

@@ -26,6 +26,15 @@ pub struct Part<'a> {
     pub is_last: bool,
 }
 
+/// The terms on which a message of a `Write` is taken.
+#[derive(Clone, Copy)]
+pub struct Terms {
+    /// How many bytes the instance stores at most.
+    pub quota: u64,
+    /// When the message came, in milliseconds.
+    pub moment: u64,
+}
+
 fn call_error(error: UploadError) -> CallError
     ensures { result ≡ upload_error error }
 {
@@ -79,34 +88,41 @@ fn finish_last(
 /// upload.
 pub(crate) fn take_part(
     alloc: Global,
-    quota: u64,
-    moment: u64,
+    terms: Terms,
     first: bool,
     view: &mut View,
     pool: &mut Pool,
     uploads: &mut Uploads,
     part: &Part<'_>,
 ) -> Result<bool, CallError>
-    requires quota { quota ≤ most_stored_bytes }
-    requires kept { IsViewInPool quota pool.old view.old }
-    requires within { AreUploadsWithin quota uploads.old }
+    requires quota { terms.quota ≤ most_stored_bytes }
+    requires kept { IsViewInPool terms.quota pool.old view.old }
+    requires within { AreUploadsWithin terms.quota uploads.old }
     ensures answer { Answers (λ complete. complete) result
-        (part_answer first quota moment (part_shown part.now) uploads.old) }
+        (part_answer first terms.quota terms.moment (part_shown part.now) uploads.old) }
     ensures visible { IfAnswered result (visible_in pool.new view.new
-        ≡ (after_part first view.old.limit quota moment (part_shown part.now)
+        ≡ (after_part first view.old.limit terms.quota terms.moment (part_shown part.now)
         (write_state_with (visible_in pool.old view.old) uploads.old)).visible) }
     ensures uploads { IfAnswered result (uploads.new
-        ≡ (after_part first view.old.limit quota moment (part_shown part.now)
+        ≡ (after_part first view.old.limit terms.quota terms.moment (part_shown part.now)
         (write_state_with (visible_in pool.old view.old) uploads.old)).uploads) }
     ensures memory { IfNoMemory result ((view.new ≡ view.old) × (pool.new ≡ pool.old)
-        × IsOldOrTaken first quota moment (part_shown part.now) uploads.old uploads.new) }
-    ensures within { AreUploadsWithin quota uploads.new }
+        × IsOldOrTaken first terms.quota terms.moment (part_shown part.now)
+        uploads.old uploads.new) }
+    ensures within { AreUploadsWithin terms.quota uploads.new }
     ensures moves { Moves pool.old pool.new (holders view.old) (holders view.new) }
-    ensures kept { IsViewInPool quota pool.new view.new }
+    ensures kept { IsViewInPool terms.quota pool.new view.new }
     ensures limit { view.new.limit ≡ view.old.limit }
 {
-    match uploads.take_piece(alloc, quota, moment, first, part.key, &part.piece) {
-        Ok(()) => finish_last(alloc, quota, view, pool, uploads, part),
+    match uploads.take_piece(
+        alloc,
+        terms.quota,
+        terms.moment,
+        first,
+        part.key,
+        &part.piece,
+    ) {
+        Ok(()) => finish_last(alloc, terms.quota, view, pool, uploads, part),
         Err(error) => Err(call_error(error)),
     }
 }

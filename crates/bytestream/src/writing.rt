@@ -15,7 +15,7 @@ ghost use Rattle.resource_names.specs.Size.{size_limit};
 ghost use Rattle.resource_names.specs.declared.parse.TheConstants.{MOST_UUID};
 
 use crate::names::write_name;
-use crate::part::{Part, take_part};
+use crate::part::{Part, Terms, take_part};
 use blob_pool::Pool;
 use cas_service::{CallError, check_instance};
 use digest::Digest;
@@ -142,32 +142,31 @@ pub fn ended_unfinished(
 pub fn write_first(
     alloc: Global,
     own: &str,
-    quota: u64,
-    moment: u64,
+    terms: Terms,
     view: &mut View,
     pool: &mut Pool,
     uploads: &mut Uploads,
     message: &[u8],
 ) -> Result<Written, CallError>
-    requires quota { quota ≤ most_stored_bytes }
-    requires kept { IsViewInPool quota pool.old view.old }
-    requires within { AreUploadsWithin quota uploads.old }
+    requires quota { terms.quota ≤ most_stored_bytes }
+    requires kept { IsViewInPool terms.quota pool.old view.old }
+    requires within { AreUploadsWithin terms.quota uploads.old }
     ensures answer { Answers written_shown result
-        (first_answer own.now quota moment
+        (first_answer own.now terms.quota terms.moment
         (write_state_with (visible_in pool.old view.old) uploads.old) message.now) }
     ensures named { IfGoes result (λ call. (open_write_shown call).key.digest.size < size_limit) }
     ensures visible { IfAnswered result (visible_in pool.new view.new
-        ≡ (after_first own.now view.old.limit quota moment message.now
+        ≡ (after_first own.now view.old.limit terms.quota terms.moment message.now
         (write_state_with (visible_in pool.old view.old) uploads.old)).visible) }
     ensures uploads { IfAnswered result (uploads.new
-        ≡ (after_first own.now view.old.limit quota moment message.now
+        ≡ (after_first own.now view.old.limit terms.quota terms.moment message.now
         (write_state_with (visible_in pool.old view.old) uploads.old)).uploads) }
     ensures memory { IfNoMemory result ((view.new ≡ view.old) × (pool.new ≡ pool.old)
-        × IsFirstOldOrTaken quota moment (writing.first_asked own.now message.now)
+        × IsFirstOldOrTaken terms.quota terms.moment (writing.first_asked own.now message.now)
         (write_state_with (visible_in pool.old view.old) uploads.old) uploads.new) }
-    ensures within { AreUploadsWithin quota uploads.new }
+    ensures within { AreUploadsWithin terms.quota uploads.new }
     ensures moves { Moves pool.old pool.new (holders view.old) (holders view.new) }
-    ensures kept { IsViewInPool quota pool.new view.new }
+    ensures kept { IsViewInPool terms.quota pool.new view.new }
     ensures limit { view.new.limit ≡ view.old.limit }
 {
     let first = first_asked(alloc, own, message)?;
@@ -182,7 +181,7 @@ pub fn write_first(
         piece: first.piece,
         is_last: first.is_last,
     };
-    if take_part(alloc, quota, moment, true, view, pool, uploads, &part)? {
+    if take_part(alloc, terms, true, view, pool, uploads, &part)? {
         return Ok(Written::Answered(reply));
     }
     Ok(Written::Goes(OpenWrite { name, key }))
@@ -195,38 +194,37 @@ pub fn write_first(
 /// not name the text.
 pub fn write_next(
     alloc: Global,
-    quota: u64,
-    moment: u64,
+    terms: Terms,
     view: &mut View,
     pool: &mut Pool,
     uploads: &mut Uploads,
     call: &OpenWrite,
     message: &[u8],
 ) -> Result<Option<Vec<u8>>, CallError>
-    requires quota { quota ≤ most_stored_bytes }
+    requires quota { terms.quota ≤ most_stored_bytes }
     requires named { (open_write_shown call.now).key.digest.size < size_limit }
-    requires kept { IsViewInPool quota pool.old view.old }
-    requires within { AreUploadsWithin quota uploads.old }
+    requires kept { IsViewInPool terms.quota pool.old view.old }
+    requires within { AreUploadsWithin terms.quota uploads.old }
     ensures answer { Answers (option_map (λ reply. reply.items)) result
-        (next_answer (open_write_shown call.now) quota moment uploads.old message.now) }
+        (next_answer (open_write_shown call.now) terms.quota terms.moment uploads.old message.now) }
     ensures visible { IfAnswered result (visible_in pool.new view.new
-        ≡ (after_next (open_write_shown call.now) view.old.limit quota moment message.now
-        (write_state_with (visible_in pool.old view.old) uploads.old)).visible) }
+        ≡ (after_next (open_write_shown call.now) view.old.limit terms.quota terms.moment
+        message.now (write_state_with (visible_in pool.old view.old) uploads.old)).visible) }
     ensures uploads { IfAnswered result (uploads.new
-        ≡ (after_next (open_write_shown call.now) view.old.limit quota moment message.now
-        (write_state_with (visible_in pool.old view.old) uploads.old)).uploads) }
+        ≡ (after_next (open_write_shown call.now) view.old.limit terms.quota terms.moment
+        message.now (write_state_with (visible_in pool.old view.old) uploads.old)).uploads) }
     ensures memory { IfNoMemory result ((view.new ≡ view.old) × (pool.new ≡ pool.old)
-        × IsNextOldOrTaken quota moment
+        × IsNextOldOrTaken terms.quota terms.moment
         (writing.next_asked (open_write_shown call.now) message.now)
         uploads.old uploads.new) }
-    ensures within { AreUploadsWithin quota uploads.new }
+    ensures within { AreUploadsWithin terms.quota uploads.new }
     ensures moves { Moves pool.old pool.new (holders view.old) (holders view.new) }
-    ensures kept { IsViewInPool quota pool.new view.new }
+    ensures kept { IsViewInPool terms.quota pool.new view.new }
     ensures limit { view.new.limit ≡ view.old.limit }
 {
     let part = next_asked(alloc, call, message)?;
     let reply = reply_of(alloc, part.key.digest().size)?;
-    if take_part(alloc, quota, moment, false, view, pool, uploads, &part)? {
+    if take_part(alloc, terms, false, view, pool, uploads, &part)? {
         return Ok(Some(reply));
     }
     Ok(None)

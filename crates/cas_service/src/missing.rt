@@ -15,7 +15,7 @@ ghost use Rattle.cas_service.specs.FindMissing.{digests_asked, missing_digests, 
 ghost use Rattle.cas_service.specs.Shown.{asked_digest, digest_as_sent, is_unseen};
 
 use crate::error::CallError;
-use crate::requests::{Asked, check_function, check_instance, read_digests, use_all};
+use crate::requests::{Asked, asked_function, check_instance, read_digests, use_all};
 use digest::Digest;
 use instance_view::{Sight, View};
 use reapi_messages as messages;
@@ -36,8 +36,8 @@ fn read_request<'a>(
 {
     let request = FindMissingBlobsRequest::decode(alloc, message)?;
     check_instance(own, request.instance_name)?;
-    check_function(request.digest_function)?;
-    read_digests(alloc, &request.blob_digests)
+    let function = asked_function(request.digest_function)?;
+    read_digests(alloc, function, &request.blob_digests)
 }
 
 /// Whether there is a text of the digest.

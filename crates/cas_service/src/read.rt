@@ -17,7 +17,7 @@ ghost use Rattle.cas_service.specs.Shown.{asked_digest, digest_as_sent, read_res
 
 use crate::error::CallError;
 use crate::requests::{
-    Asked, MOST_BATCH_BYTES, check_function, check_instance, read_digests, use_all,
+    Asked, MOST_BATCH_BYTES, asked_function, check_instance, read_digests, use_all,
 };
 use crate::statuses::{ok_status, refused_status};
 use blob_pool::{Kept, Pool};
@@ -60,8 +60,8 @@ fn read_request<'a>(
 {
     let request = BatchReadBlobsRequest::decode(alloc, message)?;
     check_instance(own, request.instance_name)?;
-    check_function(request.digest_function)?;
-    let asked = read_digests(alloc, &request.digests)?;
+    let function = asked_function(request.digest_function)?;
+    let asked = read_digests(alloc, function, &request.digests)?;
     check_stated_size(&asked)?;
     Ok(asked)
 }

@@ -1,17 +1,17 @@
 //! The tests that requests begin with.
 
-ghost use Rattle.std.specs.Prelude.{◌≡◌, ℕ, List, map, OnOk, OnErr, IfOk};
+ghost use Rattle.std.specs.Prelude.{◌≡◌, ◌<◌, ◌^◌, ℕ, List, map, option_map, OnOk, OnErr, IfOk};
 ghost use Rattle.reapi_messages.specs.Digests.{DigestValue, digest_shown};
 ghost use Rattle.blob_pool.specs.Slots.{Slots};
 ghost use Rattle.instance_view.specs.Shown.{visible_in, holders};
 ghost use Rattle.quota_evict.specs.InPool.{IsViewInPool};
 ghost use Rattle.cas_service.specs.Answers.{Answers};
 ghost use Rattle.cas_service.specs.Changes.{Use, visible_after_changes};
-ghost use Rattle.cas_service.specs.Requests.{instance_check, function_check, digest_sent, digests_sent, digest_value};
+ghost use Rattle.cas_service.specs.Requests.{instance_check, function_asked, is_hash_asked, digest_sent, digests_sent, digest_or_refusal, digest_value};
 ghost use Rattle.cas_service.specs.Shown.{asked_digest, digest_as_sent};
 
 use crate::error::CallError;
-use digest::Digest;
+use digest::{Digest, HashFunction};
 use instance_view::View;
 use reapi_messages as messages;
 use rpc::Refusal;
@@ -38,42 +38,71 @@ pub fn check_instance(own: &str, name: &str) -> Result<(), Refusal>
     }
 }
 
-/// The digest function has to be unset or SHA-256.
-pub fn check_function(digest_function: i32) -> Result<(), Refusal>
-    ensures { result ≡ function_check digest_function }
+/// The hash function that a call names by a `DigestFunction.Value`: SHA-256 (1), SHA-512 (6), or
+/// none (0), so that each of its digests goes by its own length. Others are not supported.
+pub fn asked_function(digest_function: i32) -> Result<Option<HashFunction>, Refusal>
+    ensures { result ≡ function_asked digest_function }
 {
-    if digest_function == 0 || digest_function == 1 {
-        Ok(())
-    } else {
-        Err(Refusal::UnsupportedDigestFunction)
+    match digest_function {
+        0 => Ok(None),
+        1 => Ok(Some(HashFunction::Sha256)),
+        6 => Ok(Some(HashFunction::Sha512)),
+        _ => Err(Refusal::UnsupportedDigestFunction),
     }
 }
 
-/// The digest that a message writes.
-pub fn read_digest(sent: &messages::Digest<'_>) -> Result<Digest, Refusal>
-    ensures { result ≡ digest_sent (digest_shown sent.now) }
+/// Whether a digest is by the function that a call names.
+fn is_asked(function: Option<HashFunction>, digest: &Digest) -> bool
+    ensures { result ≡ is_hash_asked function digest.now.hash }
+{
+    match function {
+        Some(function) => digest.function() == function,
+        None => true,
+    }
+}
+
+/// The digest that a call sends.
+fn read_sent(function: Option<HashFunction>, sent: &messages::Digest<'_>) -> Result<Digest, Refusal>
+    ensures value { result ≡ digest_sent function (digest_shown sent.now) }
+    ensures size { IfOk result (λ digest. digest.size < 2 ^ 63) }
 {
     match Digest::parse(sent.hash, sent.size_bytes) {
-        Some(digest) => Ok(digest),
+        Some(digest) if is_asked(function, &digest) => Ok(digest),
+        _ => Err(Refusal::BadDigest),
+    }
+}
+
+/// The digest that a call has to send, by the hash function that it names.
+pub fn read_digest(
+    function: Option<HashFunction>,
+    sent: &Option<messages::Digest<'_>>,
+) -> Result<Digest, Refusal>
+    ensures value { result ≡ digest_or_refusal function (option_map digest_shown sent.now) }
+    ensures size { IfOk result (λ digest. digest.size < 2 ^ 63) }
+{
+    match sent {
+        Some(sent) => read_sent(function, sent),
         None => Err(Refusal::BadDigest),
     }
 }
 
-/// The digests that a request writes, or the refusal of the first that has not the form.
+/// The digests that a call sends, or the refusal of the first that has not the form or is by
+/// another hash function than the call names.
 #[tactic(auto, unfolding(crate::specs::Requests::digests_sent))]
 pub fn read_digests<'a>(
     alloc: Global,
+    function: Option<HashFunction>,
     digests: &[messages::Digest<'a>],
 ) -> Result<Vec<Asked<'a>>, CallError>
     ensures named { Answers (λ asked. map asked_digest asked.items) result
-        (digests_sent (map digest_shown digests.now)) }
+        (digests_sent function (map digest_shown digests.now)) }
     ensures written { IfOk result (λ asked. map digest_as_sent asked.items
         ≡ map digest_value (map asked_digest asked.items)) }
 {
     let mut asked = Vec::with_capacity(alloc, digests.len())?;
     let mut left = digests;
     'digests: while let [first, rest @ ..] = left {
-        let digest = read_digest(first)?;
+        let digest = read_sent(function, first)?;
         asked.push(Asked {
             sent: *first,
             digest,

@@ -1,8 +1,9 @@
 //! `BatchUpdateBlobs`: stores the blobs of one request.
 
-ghost use Rattle.std.specs.Prelude.{◌≡◌, ◌≤◌, ◌^◌, ℕ, List, map, length, option_map, OnOk, OnErr, IfOk, IsErrOf};
-ghost use Rattle.reapi_messages.specs.Digests.{digest_shown};
-ghost use Rattle.reapi_messages.specs.Batches.{update_blob_request_shown, update_blob_response_shown};
+ghost use Rattle.std.specs.Prelude.{◌≡◌, ◌≤◌, ◌^◌, ℕ, List, map, length, OnOk, OnErr, IfOk, IsErrOf};
+ghost use Rattle.std.specs.List.{AllByRecursion, flat_map};
+ghost use Rattle.reapi_messages.specs.Batches.{batch_update_blobs_response_records, update_blob_request_shown, update_blob_response_shown};
+ghost use Rattle.reapi_messages.specs.Parts.{text_for};
 ghost use Rattle.reapi_messages.specs.Statuses.{status_shown};
 ghost use Rattle.rpc.specs.declared.refusal.Refusal.{Refusal};
 ghost use Rattle.digest.specs.Naming.{Names};
@@ -15,24 +16,30 @@ ghost use Rattle.cas_service.specs.Answers.{Answers};
 ghost use Rattle.cas_service.specs.Changes.{MadeInPart, visible_after_changes};
 ghost use Rattle.cas_service.specs.Requests.{batch_size_check};
 ghost use Rattle.cas_service.specs.Statuses.{status_of_result};
-ghost use Rattle.cas_service.specs.BatchUpdate.{blobs_sent, sent_size, compressor_check, digest_or_refusal, naming_check, quota_check, storage_digest, update_response, update_reply, batch_update_reply, store_of, stores, batch_update_changes};
-ghost use Rattle.cas_service.specs.Shown.{judged_request, verdict};
+ghost use Rattle.cas_service.specs.BatchUpdate.{blobs_sent, sent_size, compressor_check, naming_check, quota_check, storage_digest, update_response, batch_update_reply, stores, batch_update_changes};
+ghost use Rattle.cas_service.specs.Shown.{IsStorable, blobs_sent_shown, judged_request, judged_response, judged_stores};
 ghost use Rattle.quota_evict.specs.Within.{most_stored_bytes};
 
 use crate::error::CallError;
-use crate::requests::{MOST_BATCH_BYTES, check_function, check_instance, read_digest};
+use crate::requests::{MOST_BATCH_BYTES, asked_function, check_instance, read_digest};
 use crate::statuses::{ok_status, refused_status};
 use blob_pool::Pool;
-use digest::Digest;
+use digest::{Digest, HashFunction};
 use instance_view::View;
 use quota_evict::{AdmitError, admit};
-use reapi_messages as messages;
 use reapi_messages::{
     BatchUpdateBlobsRequest, BatchUpdateBlobsResponse, Message, Status, UpdateBlobRequest,
     UpdateBlobResponse,
 };
 use rpc::Refusal;
 use std::alloc::{AllocError, Global};
+
+/// The blobs that a request sends, and the hash function that it names.
+#[derive(Drop)]
+pub struct BlobsSent<'a> {
+    pub function: Option<HashFunction>,
+    pub requests: Vec<UpdateBlobRequest<'a>>,
+}
 
 /// A blob that a request sends, and the digest under which it is stored or why it is not.
 #[derive(Clone, Copy)]
@@ -58,21 +65,19 @@ fn check_sent_size(requests: &[UpdateBlobRequest<'_>]) -> Result<(), Refusal>
     Ok(())
 }
 
-/// The blobs that a request sends.
+/// What a request sends.
 #[tactic(auto, unfolding(crate::specs::BatchUpdate::blobs_sent))]
-fn read_request<'a>(
-    alloc: Global,
-    own: &str,
-    message: &'a [u8],
-) -> Result<Vec<UpdateBlobRequest<'a>>, CallError>
-    ensures { Answers (λ requests. map update_blob_request_shown requests.items) result
-        (blobs_sent own.now message.now) }
+fn read_request<'a>(alloc: Global, own: &str, message: &'a [u8]) -> Result<BlobsSent<'a>, CallError>
+    ensures { Answers blobs_sent_shown result (blobs_sent own.now message.now) }
 {
     let request = BatchUpdateBlobsRequest::decode(alloc, message)?;
     check_instance(own, request.instance_name)?;
-    check_function(request.digest_function)?;
+    let function = asked_function(request.digest_function)?;
     check_sent_size(&request.requests)?;
-    Ok(request.requests)
+    Ok(BlobsSent {
+        function,
+        requests: request.requests,
+    })
 }
 
 /// The compressor has to be the identity.
@@ -83,16 +88,6 @@ fn check_compressor(compressor: i32) -> Result<(), Refusal>
         Ok(())
     } else {
         Err(Refusal::UnsupportedCompressor)
-    }
-}
-
-/// The digest of a blob that is sent.
-fn read_set_digest(sent: &Option<messages::Digest<'_>>) -> Result<Digest, Refusal>
-    ensures { result ≡ digest_or_refusal (option_map digest_shown sent.now) }
-{
-    match sent {
-        Some(digest) => read_digest(digest),
-        None => Err(Refusal::BadDigest),
     }
 }
 
@@ -120,11 +115,15 @@ fn check_quota(quota: u64, bytes: &[u8]) -> Result<(), Refusal>
 
 /// The digest under which a blob is stored, or why it is not.
 #[tactic(auto, unfolding(crate::specs::BatchUpdate::storage_digest))]
-fn judge(quota: u64, sent: &UpdateBlobRequest<'_>) -> Result<Digest, Refusal>
-    ensures { result ≡ storage_digest quota (update_blob_request_shown sent.now) }
+fn judge(
+    function: Option<HashFunction>,
+    quota: u64,
+    sent: &UpdateBlobRequest<'_>,
+) -> Result<Digest, Refusal>
+    ensures { result ≡ storage_digest function quota (update_blob_request_shown sent.now) }
 {
     check_compressor(sent.compressor)?;
-    let digest = read_set_digest(&sent.digest)?;
+    let digest = read_digest(function, &sent.digest)?;
     check_naming(&digest, sent.content)?;
     check_quota(quota, sent.content)?;
     Ok(digest)
@@ -133,19 +132,20 @@ fn judge(quota: u64, sent: &UpdateBlobRequest<'_>) -> Result<Digest, Refusal>
 /// What becomes of each blob, in order.
 fn judge_all<'a>(
     alloc: Global,
+    function: Option<HashFunction>,
     quota: u64,
     requests: &[UpdateBlobRequest<'a>],
 ) -> Result<Vec<Judged<'a>>, AllocError>
-    ensures blobs { IfOk result (λ judged. map judged_request judged.items
-        ≡ map update_blob_request_shown requests.now) }
-    ensures verdicts { IfOk result
-        (λ judged. map verdict judged.items
-        ≡ map (storage_digest quota) (map judged_request judged.items)) }
+    ensures responses { IfOk result (λ judged. map judged_response judged.items
+        ≡ map (update_response function quota) (map update_blob_request_shown requests.now)) }
+    ensures stores { IfOk result (λ judged. flat_map judged_stores judged.items
+        ≡ stores function quota (map update_blob_request_shown requests.now)) }
+    ensures storable { IfOk result (λ judged. AllByRecursion (IsStorable quota) judged.items) }
 {
     let mut judged = Vec::with_capacity(alloc, requests.len())?;
     let mut left = requests;
     'blobs: while let [first, rest @ ..] = left {
-        let verdict = judge(quota, first);
+        let verdict = judge(function, quota, first);
         judged.push(Judged {
             sent: *first,
             verdict,
@@ -168,13 +168,10 @@ fn status<'a>(alloc: Global, verdict: Result<Digest, Refusal>) -> Status<'a>
 /// A response to each blob, in order.
 fn responses_to<'a>(
     alloc: Global,
-    quota: u64,
     judged: &[Judged<'a>],
 ) -> Result<Vec<UpdateBlobResponse<'a>>, AllocError>
-    requires verdicts { map verdict judged.now
-        ≡ map (storage_digest quota) (map judged_request judged.now) }
     ensures { IfOk result (λ responses. map update_blob_response_shown responses.items
-        ≡ map (update_response quota) (map judged_request judged.now)) }
+        ≡ map judged_response judged.now) }
 {
     let mut responses = Vec::with_capacity(alloc, judged.len())?;
     let mut left = judged;
@@ -189,13 +186,12 @@ fn responses_to<'a>(
 }
 
 /// The message that says what becomes of each blob.
-fn reply_to(alloc: Global, quota: u64, judged: &[Judged<'_>]) -> Result<Vec<u8>, AllocError>
-    requires verdicts { map verdict judged.now
-        ≡ map (storage_digest quota) (map judged_request judged.now) }
+fn reply_to(alloc: Global, judged: &[Judged<'_>]) -> Result<Vec<u8>, AllocError>
     ensures { IfOk result (λ reply. reply.items
-        ≡ update_reply quota (map judged_request judged.now)) }
+        ≡ text_for batch_update_blobs_response_records
+        (record { responses = map judged_response judged.now })) }
 {
-    let responses = responses_to(alloc, quota, judged)?;
+    let responses = responses_to(alloc, judged)?;
     let response = BatchUpdateBlobsResponse { responses };
     response.encode(alloc)
 }
@@ -236,10 +232,9 @@ fn store_judged(
 ) -> Result<(), AllocError>
     requires quota { quota ≤ most_stored_bytes }
     requires kept { IsViewInPool quota pool.old view.old }
-    requires verdict { judged.now.verdict ≡ storage_digest quota (judged_request judged.now) }
+    requires storable { IsStorable quota judged.now }
     ensures ok { OnOk result (visible_in pool.new view.new
-        ≡ visible_after_changes view.old.limit quota
-        (store_of judged.now.sent.content.now judged.now.verdict)
+        ≡ visible_after_changes view.old.limit quota (judged_stores judged.now)
         (visible_in pool.old view.old)) }
     ensures err { OnErr result ((view.new ≡ view.old) × (pool.new ≡ pool.old)) }
     ensures moves { Moves pool.old pool.new (holders view.old) (holders view.new) }
@@ -261,13 +256,12 @@ fn store_all(
 ) -> Result<(), AllocError>
     requires quota { quota ≤ most_stored_bytes }
     requires kept { IsViewInPool quota pool.old view.old }
-    requires verdicts { map verdict judged.now
-        ≡ map (storage_digest quota) (map judged_request judged.now) }
+    requires storable { AllByRecursion (IsStorable quota) judged.now }
     ensures stored { OnOk result (visible_in pool.new view.new
-        ≡ visible_after_changes view.old.limit quota (stores quota (map judged_request judged.now))
+        ≡ visible_after_changes view.old.limit quota (flat_map judged_stores judged.now)
         (visible_in pool.old view.old)) }
     ensures memory { OnErr result (MadeInPart view.old.limit quota
-        (stores quota (map judged_request judged.now)) (visible_in pool.old view.old)
+        (flat_map judged_stores judged.now) (visible_in pool.old view.old)
         (visible_in pool.new view.new)) }
     ensures moves { Moves pool.old pool.new (holders view.old) (holders view.new) }
     ensures kept { IsViewInPool quota pool.new view.new }
@@ -309,9 +303,9 @@ pub fn batch_update(
     ensures kept { IsViewInPool quota pool.new view.new }
     ensures limit { view.new.limit ≡ view.old.limit }
 {
-    let requests = read_request(alloc, own, message)?;
-    let judged = judge_all(alloc, quota, &requests)?;
-    let reply = reply_to(alloc, quota, &judged)?;
+    let sent = read_request(alloc, own, message)?;
+    let judged = judge_all(alloc, sent.function, quota, &sent.requests)?;
+    let reply = reply_to(alloc, &judged)?;
     store_all(view, pool, quota, &judged)?;
     Ok(reply)
 }

@@ -44,7 +44,7 @@ work_rule = record (long_option (codes "work")) { required = true }
 -- one word or more for instances
 abbrev pub instances_rule : Rule
 instances_rule =
-    record (new_rule (codes "NAME:PORT:QUOTA:SLOTS")) { required = true; action = Some Append }
+    record (new_rule (codes "NAME:PORT:QUOTA:SLOTS[:PARENT]")) { required = true; action = Some Append }
 
 -- a command that carries out the script of a file
 abbrev pub script_command : Text → Shape
@@ -115,7 +115,7 @@ abbrev pub serve_of : List Row → Option InvocationValue
 serve_of given =
     option_and_then (λ work. option_and_then (λ turns.
     option_map (λ instances. serve work turns instances)
-    (all_of (codes "NAME:PORT:QUOTA:SLOTS") given))
+    (all_of (codes "NAME:PORT:QUOTA:SLOTS[:PARENT]") given))
     (number_of (codes "turns") given)) (first_of (codes "work") given)
 
 abbrev pub file_or_probe_by : Text → List Row → Option InvocationValue

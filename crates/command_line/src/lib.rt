@@ -12,7 +12,7 @@ use clap::{Arg, ArgAction, ArgMatches, Command, Error, value_parser};
 use std::alloc::{AllocError, Global};
 
 /// The name of the words for instances.
-const INSTANCES: &str = "NAME:PORT:QUOTA:SLOTS";
+const INSTANCES: &str = "NAME:PORT:QUOTA:SLOTS[:PARENT]";
 
 const UNARY_ABOUT: &str =
     "Carry out a script of calls on instances of its own, without connections";
@@ -24,7 +24,7 @@ const REPLAY_ABOUT: &str =
     "Carry out a script of events on a server of its own, and print what it sends";
 
 const REPLAY_LINES: &str =
-    "The script: lines `instance NAME QUOTA SLOTS`, and then one line for each event";
+    "The script: lines `instance NAME QUOTA SLOTS [PARENT]`, and then one line for each event";
 
 const PROBE_ABOUT: &str =
     "Send a file's bytes to a server, and print the first bytes that come back";
@@ -47,7 +47,7 @@ pub enum Invocation<'a> {
         /// The folder for the work of actions.
         work: &'a str,
         turns: u64,
-        /// A word `NAME:PORT:QUOTA:SLOTS` for each instance.
+        /// A word `NAME:PORT:QUOTA:SLOTS[:PARENT]` for each instance.
         instances: Vec<&'a str>,
     },
     /// Sends the bytes of a file to a port of this host, and prints the first `want` that come
@@ -85,7 +85,7 @@ fn instances<'a>(alloc: Global) -> Arg<'a>
 {
     Arg::new(alloc, INSTANCES)
         .help(
-            "An instance: its name, its port, its quota in bytes, and how many actions it runs at once",
+            "An instance: name, port, quota in bytes, most actions at once, and perhaps its parent",
         )
         .required(true)
         .action(ArgAction::Append)

@@ -2,57 +2,162 @@
 #![tactic(auto)]
 
 ghost use Rattle.std.specs.Prelude.{◌≡◌, ◌↔◌, ◌<◌, ◌^◌, ◌++◌, ℕ, List, [], length, IsTrue, IfSome, IsNone};
-ghost use Rattle.digest.specs.Naming.{Names, digest_of, is_digest_of, is_empty_digest, same_digest};
-ghost use Rattle.hex.specs.Hex.{IsBytes};
-ghost use Rattle.digest.specs.Text.{IsDigestWritten, digest_in, hash_in, unsigned_of};
+ghost use Rattle.digest.specs.Naming.{Names, digest_by, digest_of, function_of, hash_by, hash_bytes, is_digest_of, is_empty_digest, same_digest};
+ghost use Rattle.digest.specs.Text.{IsDigestWritten, IsHash, bytes_in, digest_in, hash_in, unsigned_of};
 ghost use Rattle.digest.specs.Digits.{AreDigitValues, lower_digit_value, lower_pair};
-ghost use Rattle.digest.specs.Hashing.{Holds};
+ghost use Rattle.digest.specs.Hashing.{Holds, HoldsState};
+ghost use Rattle.digest.specs.declared.HashFunction.TheVariants as By;
 
-use sha2::{Digest as Sha, Sha256};
-use std::hash::{Hash, Hasher as TableHasher};
+use sha2::{Digest as Sha, Sha256, Sha512};
+use std::hash::{Hash as TableHash, Hasher as TableHasher};
 use std::marker::Model;
 
-/// The SHA-256 (FIPS 180-4) and the length in bytes of a blob.
-#[derive(Clone, Copy, PartialEq, Eq)]
+/// A function by which blobs are hashed (FIPS 180-4).
+#[derive(Clone, Copy, PartialEq, Eq, Debug)]
+pub enum HashFunction {
+    Sha256,
+    Sha512,
+}
+
+/// The hash of a blob, by one of the functions.
+#[derive(Clone, Copy)]
+pub enum Hash {
+    Sha256([u8; 32]),
+    Sha512([u8; 64]),
+}
+
+impl PartialEq for Hash {
+    ghost use Rattle.std.specs.Cmp.{partial_equiv_from_equiv};
+    ghost use Rattle.digest.specs.Naming.{same_hash};
+    ghost use Rattle.digest.specs.Same.{hashes_equiv};
+
+    ghost eq = { same_hash };
+
+    ghost laws = { partial_equiv_from_equiv hashes_equiv };
+
+    fn eq(&self, other: &Hash) -> bool {
+        match (self, other) {
+            (Hash::Sha256(a), Hash::Sha256(b)) => a == b,
+            (Hash::Sha512(a), Hash::Sha512(b)) => a == b,
+            _ => false,
+        }
+    }
+}
+
+impl Eq for Hash {
+    ghost use Rattle.digest.specs.Same.{hashes_equiv};
+
+    ghost laws = { hashes_equiv };
+}
+
+impl Hash {
+    /// The hash of some bytes.
+    pub fn by(function: HashFunction, bytes: &[u8]) -> Hash
+        ensures { result ≡ hash_by function bytes.now }
+    {
+        match function {
+            HashFunction::Sha256 => Hash::Sha256(Sha256::digest(bytes)),
+            HashFunction::Sha512 => Hash::Sha512(Sha512::digest(bytes)),
+        }
+    }
+
+    /// The function that it is by.
+    pub fn function(&self) -> HashFunction
+        ensures { result ≡ function_of self.now }
+    {
+        match self {
+            Hash::Sha256(_) => HashFunction::Sha256,
+            Hash::Sha512(_) => HashFunction::Sha512,
+        }
+    }
+
+    /// Its bytes, 32 of SHA-256 and 64 of SHA-512.
+    pub fn as_bytes(&self) -> &[u8]
+        ensures { result.now ≡ hash_bytes self.now }
+    {
+        match self {
+            Hash::Sha256(bytes) => bytes,
+            Hash::Sha512(bytes) => bytes,
+        }
+    }
+}
+
+/// The hash and the length in bytes of a blob.
+#[derive(Clone, Copy)]
 pub struct Digest {
-    pub hash: [u8; 32],
+    pub hash: Hash,
     pub size: u64,
 }
 
+impl PartialEq for Digest {
+    ghost use Rattle.std.specs.Cmp.{partial_equiv_from_equiv};
+    ghost use Rattle.digest.specs.Naming.{same_digest};
+    ghost use Rattle.digest.specs.Same.{digests_equiv};
+
+    ghost eq = { same_digest };
+
+    ghost laws = { partial_equiv_from_equiv digests_equiv };
+
+    fn eq(&self, other: &Digest) -> bool {
+        self.hash == other.hash && self.size == other.size
+    }
+}
+
+impl Eq for Digest {
+    ghost use Rattle.digest.specs.Same.{digests_equiv};
+
+    ghost laws = { digests_equiv };
+}
+
 impl Digest {
-    /// The digest of some bytes.
+    /// The digest of some bytes by SHA-256.
     pub fn of(bytes: &[u8]) -> Digest
         ensures value { result ≡ digest_of bytes.now }
         ensures names { Names result bytes.now }
     {
+        Digest::by(HashFunction::Sha256, bytes)
+    }
+
+    /// The digest of some bytes by a function.
+    pub fn by(function: HashFunction, bytes: &[u8]) -> Digest
+        ensures value { result ≡ digest_by function bytes.now }
+        ensures names { Names result bytes.now }
+    {
         Digest {
-            hash: Sha256::digest(bytes),
+            hash: Hash::by(function, bytes),
             size: bytes.len() as u64,
         }
     }
 
-    /// The digest that a message writes: 64 lower-case hexadecimal digits, and a size that is not
-    /// negative.
+    /// The digest that a message writes: 64 lower-case hexadecimal digits of SHA-256 or 128 of
+    /// SHA-512, and a size that is not negative.
     pub fn parse(hash: &str, size: i64) -> Option<Digest>
         ensures value { result ≡ digest_in hash.now size }
         ensures written { IfSome result (λ d. IsDigestWritten d hash.now size) }
         // Nothing else is refused.
-        ensures refused { IsNone result → (d : Digest) → length d.hash ≡ 32 → IsBytes d.hash →
+        ensures refused { IsNone result → (d : Digest) → IsHash d.hash →
             ¬ (IsDigestWritten d hash.now size) }
     {
         read(hash, size)
+    }
+
+    /// The function of its hash.
+    pub fn function(&self) -> HashFunction
+        ensures { result ≡ function_of self.now.hash }
+    {
+        self.hash.function()
     }
 
     /// Whether it names the empty text.
     pub fn is_empty(&self) -> bool
         ensures { result ≡ is_empty_digest self.now }
     {
-        self.size == 0 && is_same(self, &Digest::of(&[]))
+        self.size == 0 && is_same(self, &Digest::by(self.function(), &[]))
     }
 }
 
-// The bytes of the SHA-256 are written at once, and not one by one as an array's are.
-impl Hash for Digest {
+// The bytes of the hash are written at once, and not one by one as an array's are.
+impl TableHash for Digest {
     ghost use Rattle.digest.specs.Hashed.{hash_writes, hashed_alike};
 
     ghost hash_input = { hash_writes };
@@ -60,7 +165,10 @@ impl Hash for Digest {
     ghost respects_eq = { hashed_alike.fed };
 
     fn hash<H: TableHasher>(&self, state: &mut H) {
-        state.write(&self.hash);
+        match &self.hash {
+            Hash::Sha256(bytes) => state.write(bytes),
+            Hash::Sha512(bytes) => state.write(bytes),
+        }
         state.write_u64(self.size);
     }
 }
@@ -113,18 +221,41 @@ fn byte_of(high: u8, low: u8) -> Option<u8>
 }
 
 /// The bytes that 64 lower-case hexadecimal digits write.
-fn hash(digits: &str) -> Option<[u8; 32]>
-    ensures { result ≡ hash_in digits.now }
+fn short_hash(digits: &[u8]) -> Option<[u8; 32]>
+    requires { length digits.now ≡ 64 }
+    ensures { result ≡ bytes_in 32 digits.now }
 {
-    let digits = digits.as_bytes();
-    if digits.len() != 64 {
-        return None;
-    }
     let mut bytes = [0u8; 32];
     'bytes: for i in 0..32 {
         bytes[i] = byte_of(digits[2 * i], digits[2 * i + 1])?;
     }
     Some(bytes)
+}
+
+/// The bytes that 128 lower-case hexadecimal digits write.
+fn long_hash(digits: &[u8]) -> Option<[u8; 64]>
+    requires { length digits.now ≡ 128 }
+    ensures { result ≡ bytes_in 64 digits.now }
+{
+    let mut bytes = [0u8; 64];
+    'bytes: for i in 0..64 {
+        bytes[i] = byte_of(digits[2 * i], digits[2 * i + 1])?;
+    }
+    Some(bytes)
+}
+
+/// The hash that 64 or 128 lower-case hexadecimal digits write.
+fn hash_of_digits(digits: &str) -> Option<Hash>
+    ensures { result ≡ hash_in digits.now }
+{
+    let digits = digits.as_bytes();
+    if digits.len() == 64 {
+        return Some(Hash::Sha256(short_hash(digits)?));
+    }
+    if digits.len() == 128 {
+        return Some(Hash::Sha512(long_hash(digits)?));
+    }
+    None
 }
 
 fn unsigned(size: i64) -> Option<u64>
@@ -140,7 +271,7 @@ fn read(digits: &str, size: i64) -> Option<Digest>
     ensures { result ≡ digest_in digits.now size }
 {
     let size = unsigned(size)?;
-    let hash = hash(digits)?;
+    let hash = hash_of_digits(digits)?;
     Some(Digest { hash, size })
 }
 
@@ -156,13 +287,51 @@ pub fn matches(digest: &Digest, bytes: &[u8]) -> bool
     ensures value { result ≡ is_digest_of digest.now bytes.now }
     ensures named { IsTrue result ↔ Names digest.now bytes.now }
 {
-    is_same(digest, &Digest::of(bytes))
+    is_same(digest, &Digest::by(digest.function(), bytes))
+}
+
+/// The state of a hash function, by which bytes are hashed that come in pieces.
+#[derive(Drop)]
+pub enum HashState {
+    Sha256(Sha256),
+    Sha512(Sha512),
+}
+
+impl HashState {
+    fn new(function: HashFunction) -> HashState
+        ensures { HoldsState result function [] }
+    {
+        match function {
+            HashFunction::Sha256 => HashState::Sha256(Sha256::new()),
+            HashFunction::Sha512 => HashState::Sha512(Sha512::new()),
+        }
+    }
+
+    fn update(&mut self, piece: &[u8])
+        ensures { (function : HashFunction) (bytes : List ℕ) → HoldsState self.old function bytes →
+            HoldsState self.new function (bytes ++ piece.now) }
+    {
+        match self {
+            HashState::Sha256(state) => state.update(piece),
+            HashState::Sha512(state) => state.update(piece),
+        }
+    }
+
+    fn finish(self) -> Hash
+        ensures { (function : HashFunction) (bytes : List ℕ) → HoldsState self function bytes →
+            result ≡ hash_by function bytes }
+    {
+        match self {
+            HashState::Sha256(state) => Hash::Sha256(state.finalize()),
+            HashState::Sha512(state) => Hash::Sha512(state.finalize()),
+        }
+    }
 }
 
 /// Hashes bytes that come in pieces.
 #[derive(Drop)]
 pub struct Hasher {
-    hash: Sha256,
+    state: HashState,
     count: u64,
 }
 
@@ -171,34 +340,43 @@ impl Model for Hasher {
 
     ghost Value = { HasherValue };
 
-    ghost view = { λ h. record { hash = h.hash; count = h.count } };
+    ghost view = { λ h. record { state = h.state; count = h.count } };
 }
 
 impl Hasher {
-    /// No bytes yet.
+    /// No bytes yet, by SHA-256.
     pub fn new() -> Hasher
-        ensures { Holds result [] }
+        ensures { Holds result By.Sha256 [] }
+    {
+        Hasher::by(HashFunction::Sha256)
+    }
+
+    /// No bytes yet, by a function.
+    pub fn by(function: HashFunction) -> Hasher
+        ensures { Holds result function [] }
     {
         Hasher {
-            hash: Sha256::new(),
+            state: HashState::new(function),
             count: 0,
         }
     }
 
     /// Takes the next piece.
     pub fn update(&mut self, piece: &[u8])
-        ensures { (bytes : List ℕ) → Holds self.old bytes → Holds self.new (bytes ++ piece.now) }
+        ensures { (function : HashFunction) (bytes : List ℕ) → Holds self.old function bytes →
+            Holds self.new function (bytes ++ piece.now) }
     {
-        self.hash.update(piece);
+        self.state.update(piece);
         self.count = self.count.saturating_add(piece.len() as u64);
     }
 
     /// The digest of all that was given, which is not 2^64 bytes or more.
     pub fn finish(self) -> Digest
-        ensures { (bytes : List ℕ) → Holds self bytes → length bytes < 2 ^ 64 → Names result bytes }
+        ensures { (function : HashFunction) (bytes : List ℕ) → Holds self function bytes →
+            length bytes < 2 ^ 64 → result ≡ digest_by function bytes }
     {
         Digest {
-            hash: self.hash.finalize(),
+            hash: self.state.finish(),
             size: self.count,
         }
     }

@@ -1,9 +1,10 @@
 -- Each blob that a run leaves is what its digest says.
-use Rattle.std.proofs.Common.{◌≡◌, ℕ, Bool, true, false, List, [], ◌∷◌, ◌++◌, length, nat_lt, ◌==◌, Result, Ok, Err, refl, sym, subst}
+use Rattle.std.proofs.Common.{◌≡◌, ℕ, Bool, true, false, List, [], ◌∷◌, ◌++◌, length, nat_lt, ◌==◌, Result, Ok, Err, refl, sym, ap, subst}
 use Rattle.std.specs.Prelude.{map, IfOk}
 use Rattle.std.specs.List.{AllByRecursion, flat_map}
 use Rattle.digest.specs.declared.Digest.{Digest}
-use Rattle.digest.specs.Naming.{Names}
+use Rattle.digest.specs.Naming.{Names, function_of, hash_by}
+use Rattle.digest.proofs.Same.{function_again}
 use Rattle.instance_view.specs.Visible.{Blob}
 use Rattle.outcomes.specs.Completing.{blob_shown}
 use Rattle.outcomes.specs.Naming.{digest_like}
@@ -19,7 +20,7 @@ abbrev pub AllNamed : List Blob → Type 0
 AllNamed bs = AllByRecursion (λ (b : Blob). Names b.0 b.1) bs
 
 named_like : (like : Digest) (text : List ℕ) → Names (digest_like like text) text
-named_like like text = record { hash = refl; size = refl }
+named_like like text = record { hash = sym (ap (λ f. hash_by f text) (function_again (function_of like.hash) text)); size = refl }
 
 joined : (bs cs : List Blob) → AllNamed bs → AllNamed cs → AllNamed (bs ++ cs)
 joined [] cs h i = i

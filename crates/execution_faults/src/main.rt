@@ -130,6 +130,7 @@ fn configs(output: &mut Output) -> Option<Configs> {
             name,
             quota: 100_000,
             slots: 1,
+            parent: None,
         }));
     }
     match Configs::new(configs) {

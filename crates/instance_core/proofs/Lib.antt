@@ -42,4 +42,3 @@ pub use Rattle.quota_evict.proofs.Limits
 pub use Rattle.quota_evict.proofs.Steps
 pub mod WatchKept
 pub mod WatchTold
-pub mod JobsHeld

@@ -1,16 +1,16 @@
 -- What any front of an event's changes leaves: what is lost is lost by a rule.
-use Rattle.std.proofs.Common.{◌≡◌, ℕ, ◌+◌, ◌<◌, Bool, true, false, cond, List, [], ◌∷◌, ◌++◌, length, map, Option, Some, None, Result, Ok, Err, refl, sym, ap, subst, arith}
+use Rattle.std.proofs.Common.{◌≡◌, ℕ, ◌+◌, ◌<◌, Bool, true, false, cond, List, [], ◌∷◌, ◌++◌, length, map, Option, Some, None, Result, Ok, Err, refl, sym, ap, subst, ◌∙◌, arith}
 use Rattle.std.specs.Prelude.{◌==◌, ◌&&◌, not, is_some, nat_eq, nat_le, nat_lt}
 use Rattle.std.specs.List.{AllByRecursion}
 use Rattle.std.proofs.lemmas.Bool.Decides.{nat_tests}
-use lib.Pointwise.{pointwise, bytes_decides}
 use Rattle.rpc.specs.declared.method.Method.{Method}
 use Rattle.rpc.specs.declared.method.Method.TheVariants as Called
 use Rattle.rpc.specs.declared.refusal.Refusal.{Refusal}
 use Rattle.rpc.specs.declared.refusal.Refusal.TheVariants.{ExecutionIsOff, QueueFull}
 use Rattle.digest.specs.declared.Digest.{Digest}
-use Rattle.digest.specs.Naming.{Names, same_digest, digest_of, is_digest_of}
-use Rattle.digest.proofs.Same.{same_names}
+use Rattle.digest.specs.declared.Hash.{Hash as BlobHash}
+use Rattle.digest.specs.Naming.{Names, digest_by, function_of, hash_by, same_digest, is_digest_of}
+use Rattle.digest.proofs.Same.{same_names, same_refl}
 use Rattle.instance_view.specs.Visible.{Blob, visible_text, with_match_first}
 use Rattle.cas_service.specs.Changes as Texts
 use Rattle.uploads.specs.declared.error.UploadError.{UploadError}
@@ -283,9 +283,10 @@ wrote w s = state_after_change (Wrote w) s
 -- a digest passes the test of the bytes that it names
 names_same : (d : Digest) (bytes : List ℕ) → Names d bytes → is_digest_of d bytes ≡ true
 names_same d bytes names =
-    let hash : pointwise nat_eq d.hash (digest_of bytes).hash ≡ true = (bytes_decides d.hash (digest_of bytes).hash).1 names.hash in
-    let size : (d.size == length bytes) ≡ true = grind (arith, nat_tests, names.size) in
-    rw (hash, size) refl
+    let of_hash : BlobHash → Digest = λ h. record { hash = h; size = d.size } in
+    let of_size : ℕ → Digest = λ n. record { hash = hash_by (function_of d.hash) bytes; size = n } in
+    let equal : d ≡ digest_by (function_of d.hash) bytes = ap of_hash names.hash ∙ ap of_size names.size in
+    subst (λ (x : Digest). same_digest d x ≡ true) equal (same_refl d)
 
 misnamed : (d : Digest) (bytes : List ℕ) → is_digest_of d bytes ≡ false → Names d bytes → ⊥
 misnamed d bytes is names = let other = names_same d bytes names in absurd (cc)

@@ -1,11 +1,12 @@
 -- What calls store is named by its digest, so that the texts keep their limits.
-use Rattle.std.proofs.Common.{◌≡◌, ◌<◌, ℕ, Bool, true, false, cond, nat_lt, List, [], ◌∷◌, ◌++◌, length, map, Result, Ok, Err, refl, subst}
+use Rattle.std.proofs.Common.{◌≡◌, ◌<◌, ℕ, Bool, true, false, cond, nat_lt, List, [], ◌∷◌, ◌++◌, length, map, Option, Result, Ok, Err, refl, subst}
 use Rattle.std.specs.List.{AllByRecursion}
 use Rattle.reapi_messages.specs.Results.{◌>>=◌}
 use Rattle.reapi_messages.specs.Batches.{UpdateBlobRequestValue}
 use Rattle.rpc.specs.declared.refusal.Refusal.{Refusal}
 use Rattle.rpc.specs.declared.refusal.Refusal.TheVariants.{DigestDoesNotMatch, QuotaExceeded}
 use Rattle.digest.specs.declared.Digest.{Digest}
+use Rattle.digest.specs.declared.HashFunction.{HashFunction}
 use Rattle.digest.specs.Naming.{Names, is_digest_of}
 use Rattle.digest.proofs.Same.{same_names}
 use Rattle.instance_view.specs.Visible.{Blob}
@@ -14,7 +15,8 @@ use Rattle.quota_evict.proofs.Limits.{used_within, admitted_within}
 use Rattle.cas_service.specs.Changes.{TextChange, Use, Store, visible_after_change, uses}
 use Rattle.cas_service.specs.FindMissing.{digests_asked, find_missing_changes}
 use Rattle.cas_service.specs.BatchRead.{digests_to_read, batch_read_changes}
-use Rattle.cas_service.specs.BatchUpdate.{compressor_check, digest_or_refusal, naming_check, quota_check, storage_digest, stores, stores_of_result, store_of, blobs_sent, batch_update_changes}
+use Rattle.cas_service.specs.Requests.{digest_or_refusal}
+use Rattle.cas_service.specs.BatchUpdate.{BlobsSentValue, compressor_check, naming_check, quota_check, storage_digest, stores, stores_of_result, store_of, blobs_sent, batch_update_changes}
 use Rattle.action_cache.specs.Answering.{blobs_used}
 use Rattle.tree_calls.specs.Asking.{tree_asked, action_asked}
 use Rattle.tree_calls.specs.GetTree.{texts_seen, directories_used, get_tree_changes}
@@ -32,9 +34,9 @@ all_append P (x ∷ xs) ys a b = (a.0, all_append P xs ys a.1 b)
 abbrev accepted : Result Unit Refusal
 accepted = Ok tt
 
-stored_named : (quota : ℕ) (r : UpdateBlobRequestValue) (d : Digest) → storage_digest quota r ≡ Ok d → Names d r.content
+stored_named : (function : Option HashFunction) (quota : ℕ) (r : UpdateBlobRequestValue) (d : Digest) → storage_digest function quota r ≡ Ok d → Names d r.content
 unfolding storage_digest
-stored_named quota r d h = go (compressor_check r.compressor) (digest_or_refusal r.digest) h where
+stored_named function quota r d h = go (compressor_check r.compressor) (digest_or_refusal function r.digest) h where
   last : (e : Digest) (n q : Bool) → is_digest_of e r.content ≡ n
       → (cond n accepted (Err DigestDoesNotMatch) >>= λ _. cond q (Err QuotaExceeded) accepted >>= λ _. Ok e) ≡ Ok d → Names d r.content
   last e true false n h =
@@ -48,16 +50,17 @@ stored_named quota r d h = go (compressor_check r.compressor) (digest_or_refusal
   go (Ok u) (Err x) h = absurd (cc)
   go (Err x) s h = absurd (cc)
 
-one_named : (quota : ℕ) (r : UpdateBlobRequestValue) (u : Result Digest Refusal) → storage_digest quota r ≡ u → AllByRecursion StoresNamedText (store_of r.content u)
-one_named quota r (Ok d) is = (stored_named quota r d is, tt)
-one_named quota r (Err refusal) is = tt
+one_named : (function : Option HashFunction) (quota : ℕ) (r : UpdateBlobRequestValue) (u : Result Digest Refusal) → storage_digest function quota r ≡ u → AllByRecursion StoresNamedText (store_of r.content u)
+one_named function quota r (Ok d) is = (stored_named function quota r d is, tt)
+one_named function quota r (Err refusal) is = tt
 
-stores_named : (quota : ℕ) (rs : List UpdateBlobRequestValue) → AllByRecursion StoresNamedText (stores quota rs)
-stores_named quota [] = tt
-stores_named quota (r ∷ rs) = all_append StoresNamedText (store_of r.content (storage_digest quota r)) (stores quota rs) (one_named quota r (storage_digest quota r) refl) (stores_named quota rs)
+stores_named : (function : Option HashFunction) (quota : ℕ) (rs : List UpdateBlobRequestValue) → AllByRecursion StoresNamedText (stores function quota rs)
+stores_named function quota [] = tt
+stores_named function quota (r ∷ rs) =
+    all_append StoresNamedText (store_of r.content (storage_digest function quota r)) (stores function quota rs) (one_named function quota r (storage_digest function quota r) refl) (stores_named function quota rs)
 
-result_named : (quota : ℕ) (r : Result (List UpdateBlobRequestValue) Refusal) → AllByRecursion StoresNamedText (stores_of_result quota r)
-result_named quota (Ok rs) = stores_named quota rs
+result_named : (quota : ℕ) (r : Result BlobsSentValue Refusal) → AllByRecursion StoresNamedText (stores_of_result quota r)
+result_named quota (Ok sent) = stores_named sent.function quota sent.requests
 result_named quota (Err refusal) = tt
 
 all_uses : (ds : List Digest) → AllByRecursion StoresNamedText (map Use ds)

@@ -8,8 +8,7 @@ use Rattle.instance_view.specs.Visible.{Blob}
 use Rattle.reapi_messages.proofs.Tools.{bind_ok, ok_is}
 use Rattle.reapi_messages.specs.MessageError.{MessageError}
 use Rattle.reapi_messages.specs.Fields.{value_of_text}
-use Rattle.cas_service.specs.Requests.{message_or_refusal, instance_check, function_check}
-use Rattle.cas_service.specs.BatchUpdate.{digest_or_refusal}
+use Rattle.cas_service.specs.Requests.{message_or_refusal, instance_check, function_asked, digest_or_refusal}
 use Rattle.tree_calls.specs.Complete.{AreResultsWithin}
 use Rattle.job_queue.specs.Jobs.{Jobs, running_job}
 use Rattle.job_queue.specs.Order.{AreJobs}
@@ -93,7 +92,7 @@ result_short job x asked narrow sizes = go (command_in job.task.command) refl as
   go (Some v) is asked = Written.result_short job.action x job.task.command v is asked narrow sizes
   go None is asked =
       let none : Written.paths_size x.outputs ≡ 0 = rw (no_outputs x.outputs asked) refl in
-      let short = Written.result_written job.action x narrow sizes (omega arith) in
+      let short = Written.result_written job.action x narrow sizes (rw (no_outputs x.outputs asked) tt) (omega arith) in
       omega arith
 
 readable_ok : {V : Type 0} (r : Result V MessageError) (v : V) → message_or_refusal r ≡ Ok v → r ≡ Ok v
@@ -105,7 +104,7 @@ unfolding execute_asked
 asked_form own message asked h =
     let q = bind_ok (message_or_refusal (value_of_text execute_request_of message)) _ asked h in
     let i = bind_ok (instance_check own q.0.instance_name) _ asked q.2 in
-    let f = bind_ok (function_check q.0.digest_function) _ asked i.2 in
-    let d = bind_ok (digest_or_refusal q.0.action_digest) _ asked f.2 in
+    let f = bind_ok (function_asked q.0.digest_function) _ asked i.2 in
+    let d = bind_ok (digest_or_refusal f.0 q.0.action_digest) _ asked f.2 in
     let e = ok_is (record { action = d.0; skips_lookup = q.0.skip_cache_lookup }) asked d.2 in
-    rw (← e) (request_form message q.0 d.0 (readable_ok (value_of_text execute_request_of message) q.0 q.1) d.1)
+    rw (← e) (request_form f.0 message q.0 d.0 (readable_ok (value_of_text execute_request_of message) q.0 q.1) d.1)

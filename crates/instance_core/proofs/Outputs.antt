@@ -1,12 +1,13 @@
 -- What a run leaves: each blob that is admitted is named, no blob is larger than the quota, and the result is short.
-use Rattle.std.proofs.Common.{◌≡◌, ℕ, ◌+◌, ◌<◌, ◌≤◌, ◌^◌, Bool, true, false, cond, not, ◌&&◌, ◌||◌, List, [], ◌∷◌, ◌++◌, length, map, filter, Option, Some, None, refl, ap, ◌∙◌, arith}
+use Rattle.std.proofs.Common.{◌≡◌, ℕ, ◌+◌, ◌<◌, ◌≤◌, ◌^◌, Bool, true, false, cond, not, ◌&&◌, ◌||◌, List, [], ◌∷◌, ◌++◌, length, map, filter, Option, Some, None, refl, sym, ap, ◌∙◌, arith}
 use Rattle.std.specs.Prelude.{is_some, nat_lt, nat_eq}
 use Rattle.std.specs.List.{AllByRecursion, flat_map, list_all}
 use Rattle.std.specs.Map.{lookup}
 use Rattle.std.proofs.lemmas.Bool.Decides.{nat_tests}
 use Rattle.digest.specs.declared.Digest.{Digest}
-use Rattle.digest.specs.Naming.{Names, same_digest, is_empty_digest}
-use Rattle.digest.proofs.Same.{same_equal}
+use Rattle.digest.specs.declared.HashFunction.{HashFunction}
+use Rattle.digest.specs.Naming.{Names, function_of, hash_by, same_digest, is_empty_digest}
+use Rattle.digest.proofs.Same.{function_again, same_equal}
 use Rattle.instance_view.specs.Visible.{Blob, visible_text, blobs_length}
 use Rattle.quota_evict.specs.Within.{AreBlobsWithin, most_stored_bytes, most_blobs}
 use Rattle.quota_evict.proofs.Seen.{seen_named}
@@ -36,7 +37,7 @@ abbrev AreNamed : List Blob → Type 0
 AreNamed blobs = AllByRecursion IsNamed blobs
 
 like_named : (like : Digest) (text : List ℕ) → IsNamed (blob_like like text)
-like_named like text = record { hash = refl; size = refl }
+like_named like text = record { hash = ap (λ (f : HashFunction). hash_by f text) (sym (function_again (function_of like.hash) text)); size = refl }
 
 files_named : (like : Digest) (os : List OutputValue) → AreNamed (flat_map (file_blobs like) os)
 files_named like [] = tt

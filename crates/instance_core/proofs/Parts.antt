@@ -2,8 +2,7 @@
 use Rattle.std.proofs.Common.{◌≡◌, ℕ, List, [], ◌∷◌, ◌++◌, map, Option, Some, Result, Ok, Err, refl, sym, ap, subst, ◌∙◌, append_assoc}
 use Rattle.std.proofs.lemmas.List.{map-append}
 use Rattle.std.specs.Prelude.{IfSome, IsErr, IsErrOf, OnOk, OnErr}
-use Rattle.reapi_messages.specs.Batches.{UpdateBlobRequestValue}
-use Rattle.cas_service.specs.BatchUpdate.{stores_of_result}
+use Rattle.cas_service.specs.BatchUpdate.{BlobsSentValue, stores_of_result}
 use Rattle.std.specs.declared.alloc.Global.{Global}
 use Rattle.std.specs.declared.alloc.AllocError.{AllocError}
 use Rattle.std.specs.declared.vec.Vec.{Vec}
@@ -43,7 +42,7 @@ uses_answered (Err (Refused refusal)) (Ok digests) reply limit most quota p old 
 uses_answered (Err NoMemory) asked reply limit most quota p old new same is used err = tt
 
 -- a call that stores what it is sent: refused, it is sent nothing
-pub stores_answered : (r : Result (Vec ℕ Global) CallError) (sent : Result (List UpdateBlobRequestValue) Refusal) (reply : List UpdateBlobRequestValue → List ℕ) (limit most quota : ℕ) (p q : Slots) (old new : ViewValue)
+pub stores_answered : (r : Result (Vec ℕ Global) CallError) (sent : Result BlobsSentValue Refusal) (reply : BlobsSentValue → List ℕ) (limit most quota : ℕ) (p q : Slots) (old new : ViewValue)
     → limit ≡ most → Answers (λ (reply : Vec ℕ Global). reply.items) r (sent >>= λ requests. Ok (reply requests)) → OnOk r (visible_in q new ≡ Texts.visible_after_changes limit quota (stores_of_result quota sent) (visible_in p old))
     → ((refusal : Refusal) → IsErrOf r (Refused refusal) → (new ≡ old) × (q ≡ p))
     → IfAnswered r (visible_in q new ≡ Texts.visible_after_changes most quota (stores_of_result quota sent) (visible_in p old))

@@ -1,5 +1,5 @@
 -- How long replies are, beside the messages that ask for them.
-use Rattle.std.proofs.Common.{◌≡◌, ℕ, ℤ, pos, ◌+◌, ◌*◌, ◌^◌, ◌<◌, ◌≤◌, Bool, true, false, cond, List, [], ◌∷◌, ◌++◌, length, map, Option, Some, None, Result, Ok, Err, refl, sym, subst, arith, leb-true}
+use Rattle.std.proofs.Common.{◌≡◌, ℕ, ℤ, pos, ◌+◌, ◌*◌, ◌^◌, ◌<◌, ◌≤◌, Bool, true, false, cond, List, [], ◌∷◌, ◌++◌, length, map, Option, Some, None, Result, Ok, Err, refl, sym, ap, subst, arith, leb-true}
 use Rattle.std.specs.Prelude.{nat_le, nat_lt}
 use Rattle.std.specs.Int.{w64, cast_unsigned}
 use Rattle.std.specs.List.{AllByRecursion, filter, concat}
@@ -12,14 +12,15 @@ use Rattle.reapi_messages.specs.Fields.{value_of_text, payloads, each_of, string
 use Rattle.reapi_messages.specs.Parts.{text_for, each_field, string_field, int64_field, embedded_field, repeated_field}
 use Rattle.reapi_messages.specs.Digests.{DigestValue, digest_of, digest_records}
 use Rattle.reapi_messages.specs.Statuses.{StatusValue, status_records}
-use Rattle.reapi_messages.specs.Batches.{UpdateBlobRequestValue, read_blob_response_records, batch_read_blobs_request_of, update_blob_request_of, batch_update_blobs_request_of, update_blob_response_records}
-use Rattle.rpc.specs.declared.refusal.Refusal.TheVariants.{UnknownMethod, BatchTooLarge, BlobNotFound}
+use Rattle.reapi_messages.specs.Batches.{BatchReadBlobsRequestValue, UpdateBlobRequestValue, read_blob_response_records, batch_read_blobs_request_of, update_blob_request_of, batch_update_blobs_request_of, update_blob_response_records}
+use Rattle.rpc.specs.declared.refusal.Refusal.TheVariants.{UnknownMethod, BadDigest, BatchTooLarge, BlobNotFound}
 use Rattle.rpc.specs.Status.{code_of, text_of}
 use Rattle.cas_service.specs.Statuses.{ok_status, refused_status, status_of_result}
-use Rattle.cas_service.specs.BatchUpdate.{blobs_sent, sent_size, storage_digest, update_response, update_reply, batch_update_reply}
+use Rattle.cas_service.specs.BatchUpdate.{BlobsSentValue, blobs_sent, sent_size, storage_digest, update_response, update_reply, batch_update_reply}
 use Rattle.reapi_messages.specs.FindMissing.{find_missing_blobs_request_of}
 use Rattle.rpc.specs.declared.refusal.Refusal.{Refusal}
 use Rattle.digest.specs.declared.Digest.{Digest}
+use Rattle.digest.specs.declared.HashFunction.{HashFunction}
 use Rattle.digest.specs.Text.{digest_in}
 use Rattle.reapi_messages.specs.Capabilities.{sem_ver_records, cache_capabilities_records, execution_capabilities_records}
 use Rattle.reapi_messages.proofs.ProtobufWireTexts.{varint_is}
@@ -30,7 +31,7 @@ use Rattle.digest.proofs.Writings.{is_written}
 use Rattle.std.specs.Map.{lookup}
 use Rattle.cas_service.specs.BatchRead.{stated_size, digests_to_read, read_response, read_reply, batch_read_reply}
 use Rattle.instance_view.specs.Visible.{Blob, visible_text}
-use Rattle.cas_service.specs.Requests.{message_or_refusal, instance_check, function_check, digest_sent, digests_sent, digest_value, form_check, batch_size_check}
+use Rattle.cas_service.specs.Requests.{message_or_refusal, instance_check, function_asked, digest_sent, digests_sent, digest_value, form_check, is_hash_asked, batch_size_check}
 use Rattle.cas_service.specs.FindMissing.{digests_asked, missing_digests, is_missing, missing_reply, find_missing_reply}
 use Rattle.tree_calls.proofs.Sizes.{read_from, weight, sizes, payloads_weight, string_size, int64_narrow, message_written, bytes_written, number_written, both_written}
 
@@ -94,31 +95,34 @@ digests_read = each_read (value_of_text digest_of) (λ ps vs. (digest_sizes vs �
     let b = one.0 in
     (omega arith, (one.1, ih.1)))
 
-well_formed_is : (o : Option Digest) (d : Digest) → form_check o ≡ Ok d → o ≡ Some d
-well_formed_is None d h = absurd (cc)
-well_formed_is (Some e) d h = cc
+well_formed_is : (function : Option HashFunction) (o : Option Digest) (d : Digest) → form_check function o ≡ Ok d → o ≡ Some d
+well_formed_is function None d h = absurd (cc)
+well_formed_is function (Some e) d h = go (is_hash_asked function e.hash) h where
+  go : (b : Bool) → cond b (Ok e) (Err BadDigest) ≡ Ok d → Some e ≡ Some d
+  go true h = cc
+  go false h = absurd (cc)
 
 abbrev sent_value : List ℕ → ℤ → DigestValue
 sent_value hash size = record { hash = hash; size_bytes = size }
 
 -- a digest is written as it was sent
-pub as_sent : (v : DigestValue) (d : Digest) → digest_sent v ≡ Ok d → digest_value d ≡ v
-as_sent v d h =
-    let some = well_formed_is (digest_in v.hash v.size_bytes) d h in
+pub as_sent : (function : Option HashFunction) (v : DigestValue) (d : Digest) → digest_sent function v ≡ Ok d → digest_value d ≡ v
+as_sent function v d h =
+    let some = well_formed_is function (digest_in v.hash v.size_bytes) d h in
     let w = is_written v.hash v.size_bytes (Some d) (sym some) in
     value_is (digest_value d).hash v.hash (pos d.size) v.size_bytes (sym w.hash_is) (sym w.size_is)
   where
     value_is : (a b : List ℕ) (m n : ℤ) → a ≡ b → m ≡ n → sent_value a m ≡ sent_value b n
     value_is a b m n p q = rw (p, q) refl
 
-pub all_as_sent : (vs : List DigestValue) (ds : List Digest) → digests_sent vs ≡ Ok ds → map digest_value ds ≡ vs
-all_as_sent [] ds h = let e : [] ≡ ds = ok_is [] ds h in rw (← e) refl
-all_as_sent (v ∷ vs) ds h =
-    let first = bind_ok (digest_sent v) _ ds h in
-    let rest = bind_ok (digests_sent vs) _ ds first.2 in
+pub all_as_sent : (function : Option HashFunction) (vs : List DigestValue) (ds : List Digest) → digests_sent function vs ≡ Ok ds → map digest_value ds ≡ vs
+all_as_sent function [] ds h = let e : [] ≡ ds = ok_is [] ds h in rw (← e) refl
+all_as_sent function (v ∷ vs) ds h =
+    let first = bind_ok (digest_sent function v) _ ds h in
+    let rest = bind_ok (digests_sent function vs) _ ds first.2 in
     let e = ok_is (first.0 ∷ rest.0) ds rest.2 in
-    let one = as_sent v first.0 first.1 in
-    let more = all_as_sent vs rest.0 rest.1 in
+    let one = as_sent function v first.0 first.1 in
+    let more = all_as_sent function vs rest.0 rest.1 in
     rw (← e, one, more) refl
 
 readable_ok : {V : Type 0} (r : Result V MessageError) (v : V) → message_or_refusal r ≡ Ok v → r ≡ Ok v
@@ -129,12 +133,12 @@ readable_ok (Err e) v h = absurd (cc)
 abbrev pub AreSent : List ℕ → List Digest → Type 0
 AreSent message ds = (digest_sizes (map digest_value ds) ≤ length message) × AllByRecursion FitsSize (map digest_value ds)
 
-pub sent_from : (message : List ℕ) (rs : List Record) (field : ℕ) (vs : List DigestValue) (ds : List Digest) → weight rs ≤ length message → repeated_values digest_of field rs ≡ Ok vs → digests_sent vs ≡ Ok ds → AreSent message ds
-sent_from message rs field vs ds light h g =
+pub sent_from : (function : Option HashFunction) (message : List ℕ) (rs : List Record) (field : ℕ) (vs : List DigestValue) (ds : List Digest) → weight rs ≤ length message → repeated_values digest_of field rs ≡ Ok vs → digests_sent function vs ≡ Ok ds → AreSent message ds
+sent_from function message rs field vs ds light h g =
     let read = digests_read (payloads field rs) vs h in
     let a = read.0 in
     let b = payloads_weight field rs in
-    rw (all_as_sent vs ds g) (omega arith, read.1)
+    rw (all_as_sent function vs ds g) (omega arith, read.1)
 
 pub asked_sent : (own message : List ℕ) (ds : List Digest) → digests_asked own message ≡ Ok ds → AreSent message ds
 unfolding digests_asked find_missing_blobs_request_of
@@ -145,9 +149,9 @@ asked_sent own message ds h =
     let digests = bind_ok (repeated_values digest_of 2 r.records) _ q.0 name.2 in
     let e = ok_is (record { instance_name = name.0; blob_digests = digests.0; digest_function = int32 3 r.records }) q.0 digests.2 in
     let i = bind_ok (instance_check own q.0.instance_name) _ ds q.2 in
-    let f = bind_ok (function_check q.0.digest_function) _ ds i.2 in
+    let f = bind_ok (function_asked q.0.digest_function) _ ds i.2 in
     let same : q.0.blob_digests ≡ digests.0 = cc in
-    sent_from message r.records 2 digests.0 ds r.light digests.1 (rw (← same) f.2)
+    sent_from f.0 message r.records 2 digests.0 ds r.light digests.1 (rw (← same) f.2)
 
 filter_sizes : (test : Digest → Bool) (ds : List Digest) → digest_sizes (map digest_value (filter test ds)) ≤ digest_sizes (map digest_value ds)
 filter_sizes test [] = omega arith
@@ -276,37 +280,37 @@ updates_read = each_read (value_of_text update_blob_request_of) (λ ps rs. (upda
     let b = one.0 in
     (omega arith, (one.1, ih.1)))
 
-update_response_written : (quota : ℕ) (r : UpdateBlobRequestValue) → hash_size r.digest < 2 ^ 40 → FitsSet r.digest → length (text_for update_blob_response_records (update_response quota r)) ≤ 160 + hash_size r.digest
-update_response_written quota r small fits =
-    let status = text_for status_records (status_of_result (storage_digest quota r)) in
+update_response_written : (function : Option HashFunction) (quota : ℕ) (r : UpdateBlobRequestValue) → hash_size r.digest < 2 ^ 40 → FitsSet r.digest → length (text_for update_blob_response_records (update_response function quota r)) ≤ 160 + hash_size r.digest
+update_response_written function quota r small fits =
+    let status = text_for status_records (status_of_result (storage_digest function quota r)) in
     let both = both_written (embedded_field digest_records 1 r.digest) (message_field 2 status) in
     let digest = digest_set_written r.digest small fits in
-    let said = verdict_written (storage_digest quota r) in
+    let said = verdict_written (storage_digest function quota r) in
     let around = message_written 2 status (omega arith) (omega arith) in
     omega arith
 
-updates_framed : (quota : ℕ) (rs : List UpdateBlobRequestValue) → FitSets rs → update_sizes rs < 2 ^ 40 → framed (map (text_for update_blob_response_records) (map (update_response quota) rs)) ≤ 90 * update_sizes rs
+updates_framed : (function : Option HashFunction) (quota : ℕ) (rs : List UpdateBlobRequestValue) → FitSets rs → update_sizes rs < 2 ^ 40 → framed (map (text_for update_blob_response_records) (map (update_response function quota) rs)) ≤ 90 * update_sizes rs
 unfolding update_sizes FitSets
-updates_framed quota [] h small = omega arith
-updates_framed quota (r ∷ rs) h small =
-    let first = update_response_written quota r (omega arith) h.0 in
-    let rest = updates_framed quota rs h.1 (omega arith) in
+updates_framed function quota [] h small = omega arith
+updates_framed function quota (r ∷ rs) h small =
+    let first = update_response_written function quota r (omega arith) h.0 in
+    let rest = updates_framed function quota rs h.1 (omega arith) in
     omega arith
 
-blobs_size : (own message : List ℕ) (rs : List UpdateBlobRequestValue) → blobs_sent own message ≡ Ok rs → (update_sizes rs ≤ length message) × FitSets rs
+blobs_size : (own message : List ℕ) (sent : BlobsSentValue) → blobs_sent own message ≡ Ok sent → (update_sizes sent.requests ≤ length message) × FitSets sent.requests
 unfolding blobs_sent batch_update_blobs_request_of
-blobs_size own message rs h =
-    let q = bind_ok (message_or_refusal (value_of_text batch_update_blobs_request_of message)) _ rs h in
+blobs_size own message sent h =
+    let q = bind_ok (message_or_refusal (value_of_text batch_update_blobs_request_of message)) _ sent h in
     let r = read_from batch_update_blobs_request_of message q.0 (readable_ok (value_of_text batch_update_blobs_request_of message) q.0 q.1) in
     let name = bind_ok (string 1 r.records) _ q.0 r.means in
-    let sent = bind_ok (repeated_values update_blob_request_of 2 r.records) _ q.0 name.2 in
-    let e = ok_is (record { instance_name = name.0; requests = sent.0; digest_function = int32 5 r.records }) q.0 sent.2 in
-    let i = bind_ok (instance_check own q.0.instance_name) _ rs q.2 in
-    let f = bind_ok (function_check q.0.digest_function) _ rs i.2 in
-    let b = bind_ok (batch_size_check (sent_size q.0.requests)) _ rs f.2 in
-    let last = ok_is q.0.requests rs b.2 in
-    let same : sent.0 ≡ rs = cc in
-    let read = updates_read (payloads 2 r.records) sent.0 sent.1 in
+    let blobs = bind_ok (repeated_values update_blob_request_of 2 r.records) _ q.0 name.2 in
+    let e = ok_is (record { instance_name = name.0; requests = blobs.0; digest_function = int32 5 r.records }) q.0 blobs.2 in
+    let i = bind_ok (instance_check own q.0.instance_name) _ sent q.2 in
+    let f = bind_ok (function_asked q.0.digest_function) _ sent i.2 in
+    let b = bind_ok (batch_size_check (sent_size q.0.requests)) _ sent f.2 in
+    let last = ok_is (record { function = f.0; requests = q.0.requests }) sent b.2 in
+    let same : blobs.0 ≡ sent.requests = cc in
+    let read = updates_read (payloads 2 r.records) blobs.0 blobs.1 in
     let a = read.0 in
     let light = r.light in
     let some = payloads_weight 2 r.records in
@@ -315,11 +319,11 @@ blobs_size own message rs h =
 pub batch_update_short : (own : List ℕ) (quota : ℕ) (message reply : List ℕ) → length message ≤ 4194304 → batch_update_reply own quota message ≡ Ok reply → length reply < 2 ^ 32
 batch_update_short own quota message reply short h =
     let b = bind_ok (blobs_sent own message) _ reply h in
-    let e = ok_is (update_reply quota b.0) reply b.2 in
+    let e = ok_is (update_reply b.0.function quota b.0.requests) reply b.2 in
     let sent = blobs_size own message b.0 b.1 in
     let a = sent.0 in
-    let f = updates_framed quota b.0 sent.1 (omega arith) in
-    let w = each_written 1 (map (text_for update_blob_response_records) (map (update_response quota) b.0)) (omega arith) (omega arith) in
+    let f = updates_framed b.0.function quota b.0.requests sent.1 (omega arith) in
+    let w = each_written 1 (map (text_for update_blob_response_records) (map (update_response b.0.function quota) b.0.requests)) (omega arith) (omega arith) in
     rw (← e) (omega arith)
 
 -- ---- BatchReadBlobs
@@ -339,13 +343,13 @@ read_asked own message ds h =
     let digests = bind_ok (repeated_values digest_of 2 r.records) _ q.0 name.2 in
     let e = ok_is (record { instance_name = name.0; digests = digests.0; digest_function = int32 4 r.records }) q.0 digests.2 in
     let i = bind_ok (instance_check own q.0.instance_name) _ ds q.2 in
-    let f = bind_ok (function_check q.0.digest_function) _ ds i.2 in
-    let g = bind_ok (digests_sent q.0.digests) _ ds f.2 in
+    let f = bind_ok (function_asked q.0.digest_function) _ ds i.2 in
+    let g = bind_ok (digests_sent f.0 q.0.digests) _ ds f.2 in
     let b = bind_ok (batch_size_check (stated_size g.0)) _ ds g.2 in
     let last = ok_is g.0 ds b.2 in
-    let same : q.0.digests ≡ digests.0 = cc in
+    let same : q.0.digests ≡ digests.0 = sym (ap (λ (v : BatchReadBlobsRequestValue). v.digests) e) in
     let most = batch_size (stated_size g.0) b.0 b.1 in
-    rw (← last) ((sent_from message r.records 2 digests.0 g.0 r.light digests.1 (rw (← same) g.1)), most)
+    rw (← last) ((sent_from f.0 message r.records 2 digests.0 g.0 r.light digests.1 (rw (← same) g.1)), most)
 
 some_is : (a b : List ℕ) → Some a ≡ Some b → a ≡ b
 some_is a b h = cc
@@ -409,8 +413,13 @@ batch_read_short own visible message reply named short h =
 
 -- ---- GetCapabilities
 
-varint_text : (n : ℕ) → n < 2 ^ 64 → length (packed_text (n ∷ [])) ≤ 10
-varint_text n fits = let v = (varint_is n fits).short in let e = length-append (varint n) [] in omega arith
+functions_text : length (packed_text (1 ∷ 6 ∷ [])) ≤ 20
+functions_text =
+    let first = (varint_is 1 (omega arith)).short in
+    let second = (varint_is 6 (omega arith)).short in
+    let all = length-append (varint 1) (varint 6 ++ []) in
+    let last = length-append (varint 6) [] in
+    omega arith
 
 version_written : length (text_for sem_ver_records version) ≤ 40
 version_written =
@@ -436,15 +445,15 @@ execution_written slots = go (nat_lt 0 slots) where
       let whole : length (text_for execution_capabilities_records (record { digest_function = pos 1; exec_enabled = false })) ≡ length (records_text (number_field 1 1 ++ number_field 2 0)) = refl in
       omega arith
 
-cache_written : length (text_for cache_capabilities_records cache) ≤ 110
+cache_written : length (text_for cache_capabilities_records cache) ≤ 120
 cache_written =
-    let functions = bytes_field 1 (packed_text (1 ∷ [])) in
+    let functions = bytes_field 1 (packed_text (1 ∷ 6 ∷ [])) in
     let enabled = records_text (number_field 1 1) in
     let all = both_written ((functions ++ message_field 2 enabled) ++ number_field 4 4000000) (number_field 5 1) in
     let three = both_written (functions ++ message_field 2 enabled) (number_field 4 4000000) in
     let two = both_written functions (message_field 2 enabled) in
-    let packed = varint_text 1 (omega arith) in
-    let first = bytes_written 1 (packed_text (1 ∷ [])) (omega arith) (omega arith) in
+    let packed = functions_text in
+    let first = bytes_written 1 (packed_text (1 ∷ 6 ∷ [])) (omega arith) (omega arith) in
     let flag = number_written 1 1 (omega arith) (omega arith) in
     let second = message_written 2 enabled (omega arith) (omega arith) in
     let third = number_written 4 4000000 (omega arith) (omega arith) in

@@ -4,6 +4,7 @@ use Rattle.std.specs.Prelude.{◌&&◌, nat_lt}
 use Rattle.std.specs.Str.Parse.{digits_value}
 use Rattle.std.proofs.lemmas.Bool.Decides.{nat_tests}
 use Rattle.digest.specs.declared.Digest.{Digest}
+use Rattle.digest.specs.declared.Hash.{Hash as BlobHash}
 use Rattle.digest.specs.Text.{hash_in}
 use Rattle.bytestream.specs.NameError.{NameError}
 use Rattle.bytestream.specs.NameError.TheVariants.{Form, Hash, Size}
@@ -23,7 +24,7 @@ size_below text n is = go (is_numeral text) (nat_lt (digits_value 10 text) (2 ^ 
 
 digest_below : (hash size : List ℕ) (d : Digest) → digest_of_segments hash size ≡ Ok d → d.size < 2 ^ 63
 digest_below hash size d is = go (hash_in hash) (size_in size) refl is where
-  go : (h : Option (List ℕ)) (n : Option ℕ) → size_in size ≡ n → (or_fault Hash h >>= λ x. or_fault Size n >>= λ m. Ok (record { hash = x; size = m })) ≡ Ok d → d.size < 2 ^ 63
+  go : (h : Option BlobHash) (n : Option ℕ) → size_in size ≡ n → (or_fault Hash h >>= λ x. or_fault Size n >>= λ m. Ok (record { hash = x; size = m })) ≡ Ok d → d.size < 2 ^ 63
   go (Some x) (Some m) at is =
       let whole : Digest = record { hash = x; size = m } in
       let same : whole ≡ d = cc in

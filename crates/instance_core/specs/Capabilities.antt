@@ -15,17 +15,19 @@ version = record { major = pos 2; minor = pos 0 }
 abbrev pub updates : ActionCacheUpdateCapabilitiesValue
 updates = record { update_enabled = true }
 
--- digests are SHA-256 (DigestFunction.Value 1), a batch has at most MOST_BATCH_BYTES, absolute
--- targets of symbolic links are DISALLOWED (SymlinkAbsolutePathStrategy.Value 1)
+-- digests are by SHA-256 and by SHA-512 (DigestFunction.Value 1 and 6), a batch has at most
+-- MOST_BATCH_BYTES, absolute targets of symbolic links are DISALLOWED
+-- (SymlinkAbsolutePathStrategy.Value 1)
 abbrev pub cache : CacheCapabilitiesValue
 cache = record {
-  digest_functions = pos 1 ∷ [];
+  digest_functions = pos 1 ∷ pos 6 ∷ [];
   action_cache_update_capabilities = Some updates;
   max_batch_total_size_bytes = pos MOST_BATCH_BYTES;
   symlink_absolute_path_strategy = pos 1;
 }
 
--- actions are run where there are slots for them
+-- actions are run where there are slots for them; the one function that is named here is SHA-256,
+-- and an action under the other is run too
 abbrev pub execution : ℕ → ExecutionCapabilitiesValue
 execution slots = record { digest_function = pos 1; exec_enabled = nat_lt 0 slots }
 

@@ -1,8 +1,9 @@
 -- What an instance's jobs have.
-use Rattle.std.specs.Prelude.{◌≡◌, ◌⊎◌, ◌<◌, ◌^◌, ℕ, true, List, Contains, length, map}
+use Rattle.std.specs.Prelude.{◌≡◌, ◌⊎◌, ◌<◌, ◌≤◌, ◌^◌, ℕ, true, List, Contains, length, map}
 use Rattle.std.specs.List.{AllByRecursion}
 use Rattle.digest.specs.declared.Digest.{Digest}
 use Rattle.digest.specs.Naming.{Names, is_empty_digest}
+use Rattle.digest.specs.Text.{hash_text}
 use Rattle.instance_view.specs.Visible.{Blob}
 use Rattle.rpc.specs.Messages.{message_length_limit}
 use Rattle.tree_plan.specs.Nodes.{NodeKindValue, PlanNodeValue, file, symlink, directory}
@@ -32,7 +33,7 @@ pub record IsWholeTask (task : TaskValue) : Type 0 where
 pub record IsWholeJob (job : JobValue) : Type 0 where
   pub task : IsWholeTask job.task
   -- messages can say its action
-  pub hash : length job.action.hash ≡ 32
+  pub hash : length (hash_text job.action) ≤ 128
   pub size : job.action.size < 2 ^ 63
 
 -- so is each job that waits or runs

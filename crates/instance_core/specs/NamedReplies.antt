@@ -1,5 +1,5 @@
--- What is served under a digest is what the digest says: the hash is its SHA-256, and the size its
--- length; and a result of an action that is served is complete.
+-- What is served under a digest is what the digest says: its hash, by the function of the digest,
+-- and its length; and a result of an action that is served is complete.
 use Rattle.std.specs.Prelude.{◌≡◌, ◌-◌, ◌==◌, ℕ, pos, if◌then◌else◌, List, [], ◌∷◌, take, drop, Option, Some, None, Ok}
 use Rattle.std.specs.List.{AllByRecursion}
 use Rattle.std.specs.Option.{option_map_or}

@@ -21,7 +21,7 @@ use crate::methods::carry_out;
 use crate::replies::{reply_to_request, reply_with};
 use crate::writing::{finish, on_first_part, settle_next};
 use blob_pool::Pool;
-use bytestream::{ended_unfinished, write_next};
+use bytestream::{Terms, ended_unfinished, write_next};
 use cas_service::CallError;
 use instance_view::View;
 use rpc::{Method, Refusal};
@@ -103,10 +103,13 @@ pub fn on_message(
         Progress::Has(_) => finish(alloc, calls, id, Err(Refusal::MoreThanOneMessage)),
         Progress::Watches(_) => Ok(Vec::new(alloc)),
         Progress::Writes(write) => {
+            let terms = Terms {
+                quota: settings.quota,
+                moment: settings.moment,
+            };
             let outcome = write_next(
                 alloc,
-                settings.quota,
-                settings.moment,
+                terms,
                 &mut contents.view,
                 pool,
                 &mut contents.uploads,

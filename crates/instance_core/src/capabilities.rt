@@ -15,6 +15,9 @@ use std::alloc::{AllocError, Global};
 /// A number of the enum `DigestFunction.Value`.
 const SHA256: i32 = 1;
 
+/// A number of the enum `DigestFunction.Value`.
+const SHA512: i32 = 6;
+
 /// A number of the enum `SymlinkAbsolutePathStrategy.Value`.
 const DISALLOWED: i32 = 1;
 
@@ -31,6 +34,7 @@ fn cache(alloc: Global) -> Result<CacheCapabilities, AllocError>
 {
     let mut digest_functions = Vec::new(alloc);
     digest_functions.push(SHA256)?;
+    digest_functions.push(SHA512)?;
     Ok(CacheCapabilities {
         digest_functions,
         action_cache_update_capabilities: Some(ActionCacheUpdateCapabilities {

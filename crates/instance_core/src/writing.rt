@@ -23,7 +23,7 @@ use crate::contents::{Contents, Settings};
 use crate::event::{CallId, Reply};
 use crate::replies::{refusal_in, reply_with};
 use blob_pool::Pool;
-use bytestream::{Written, write_first};
+use bytestream::{Terms, Written, write_first};
 use cas_service::CallError;
 use rpc::{Method, Refusal};
 use std::alloc::{AllocError, Global};
@@ -142,11 +142,14 @@ pub fn on_first_part(
     ensures results { contents.new.results ≡ contents.old.results }
     ensures calls { AreInCourse calls.new }
 {
+    let terms = Terms {
+        quota: settings.quota,
+        moment: settings.moment,
+    };
     let written = write_first(
         alloc,
         &settings.name,
-        settings.quota,
-        settings.moment,
+        terms,
         &mut contents.view,
         pool,
         &mut contents.uploads,

@@ -89,7 +89,8 @@ fn pop(cache: &mut Cache) -> Option<(Digest, Kept)>
     cache.pop_lru()
 }
 
-/// An instance's texts under their digests, the most recently used first.
+/// An instance's texts under their digests, the most recently used first. A text that stands under
+/// two digests has two entries, each with its own place and its own share of the quota.
 pub struct View {
     cache: Cache,
     limit: usize,

@@ -5,7 +5,7 @@ use Rattle.std.proofs.lemmas.List.Concat.{flat_map-cons}
 use Rattle.message_fields.specs.Record.{Number, Payload, Record}
 use Rattle.message_fields.specs.Writing.{varint, record_text, records_text, number_field, bytes_field, message_field}
 use Rattle.message_fields.specs.Parts.{each_field, flag_field}
-use Rattle.message_fields.proofs.Groups.{groups_small}
+use Rattle.message_fields.proofs.Groups.{groups_few, groups_small}
 use Rattle.message_fields.proofs.ProtobufWireTexts.{varint_is}
 use Rattle.tree_calls.proofs.Sizes.{both_written}
 
@@ -35,6 +35,13 @@ few_written field b few fits =
     let size = small (length b) fits in
     omega arith
 
+-- its length takes two bytes at most
+pub middle_written : (field : ℕ) (b : List ℕ) → field < 15 → length b < 16384 → length (records_text (message_field field b)) ≤ 3 + length b
+middle_written field b few fits =
+    let whole = payload_is field b few in
+    let size = groups_few 2 (length b) (omega arith) (omega arith) in
+    omega arith
+
 pub text_written : (field : ℕ) (b : List ℕ) → field < 15 → length b < 2 ^ 64 → length (records_text (bytes_field field b)) ≤ 11 + length b
 text_written field b few fits = go (eqb (length b) 0) where
   go : (c : Bool) → length (records_text (cond c [] (message_field field b))) ≤ 11 + length b
@@ -46,6 +53,12 @@ few_text_written field b few fits = go (eqb (length b) 0) where
   go : (c : Bool) → length (records_text (cond c [] (message_field field b))) ≤ 2 + length b
   go true = omega arith
   go false = let e = few_written field b few fits in omega arith
+
+pub middle_text_written : (field : ℕ) (b : List ℕ) → field < 15 → length b < 16384 → length (records_text (bytes_field field b)) ≤ 3 + length b
+middle_text_written field b few fits = go (eqb (length b) 0) where
+  go : (c : Bool) → length (records_text (cond c [] (message_field field b))) ≤ 3 + length b
+  go true = omega arith
+  go false = middle_written field b few fits
 
 number_is : (field n : ℕ) → field < 15 → length (records_text (number_field field n)) ≤ 1 + length (varint n)
 number_is field n few = go (eqb n 0) where
@@ -72,4 +85,10 @@ pub more_written : (field : ℕ) (t : List ℕ) (ts : List (List ℕ)) → field
 more_written field t ts few fits =
     let both = both_written (message_field field t) (each_field field ts) in
     let first = payload_written field t few fits in
+    omega arith
+
+pub middle_more : (field : ℕ) (t : List ℕ) (ts : List (List ℕ)) → field < 15 → length t < 16384 → length (records_text (each_field field (t ∷ ts))) ≤ 3 + length t + length (records_text (each_field field ts))
+middle_more field t ts few fits =
+    let both = both_written (message_field field t) (each_field field ts) in
+    let first = middle_written field t few fits in
     omega arith

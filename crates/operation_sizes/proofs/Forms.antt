@@ -1,12 +1,12 @@
 -- Digests that are read have their form.
-use Rattle.std.proofs.Common.{◌≡◌, ℕ, ℤ, pos, negsuc, ◌^◌, ◌<◌, Bool, true, false, cond, ltb, not, List, [], ◌∷◌, length, Option, Some, None, Result, Ok, Err, refl, ap, sym, subst, ltb-true, arith}
+use Rattle.std.proofs.Common.{◌≡◌, ℕ, ℤ, pos, negsuc, ◌^◌, ◌<◌, ◌≤◌, Bool, true, false, cond, ltb, nat_eq, not, List, [], ◌∷◌, length, Option, Some, None, option_map, Result, Ok, Err, refl, ap, sym, subst, eqb-true, ltb-true, arith}
 use Rattle.std.specs.Int.{w64, cast_signed}
-use Rattle.std.specs.List.{AllByRecursion, concat, list_all}
+use Rattle.std.specs.List.{AllByRecursion, concat}
 use Rattle.digest.specs.declared.Digest.{Digest}
-use Rattle.digest.specs.FromHexError.{FromHexError}
-use Rattle.digest.specs.Hex.{decode_sized, lower_digits}
-use Rattle.digest.specs.Text.{bytes_decoded, digest_in, hash_in, hash_text, is_lower_hex_digit, with_hash}
-use Rattle.digest.proofs.HexLemmas.{decode_sized-ok, length-encode_with}
+use Rattle.digest.specs.declared.Hash.{Hash}
+use Rattle.digest.specs.declared.Hash.TheVariants.{Sha256, Sha512}
+use Rattle.digest.specs.declared.HashFunction.{HashFunction}
+use Rattle.digest.specs.Text.{bytes_in, digest_in, hash_in, with_hash}
 use Rattle.digest.proofs.Writings.{is_written}
 use Rattle.message_fields.specs.declared.error.MessageError.{MessageError}
 use Rattle.message_fields.specs.Record.{Record}
@@ -14,8 +14,8 @@ use Rattle.message_fields.specs.Fields.{each_of, embedded_value, flag, int32, in
 use Rattle.message_fields.proofs.Tools.{bind_ok, ok_is}
 use Rattle.reapi_messages.specs.Digests.{DigestValue, digest_of}
 use Rattle.tree_messages.specs.Directories.{DirectoryNodeValue, DirectoryValue, FileNodeValue, directory_node_of, directory_of, file_node_of, symlink_node_of}
-use Rattle.cas_service.specs.BatchUpdate.{digest_or_refusal}
-use Rattle.cas_service.specs.Requests.{form_check}
+use Rattle.rpc.specs.declared.refusal.Refusal.TheVariants.{BadDigest}
+use Rattle.cas_service.specs.Requests.{digest_or_refusal, form_check, is_hash_asked}
 use Rattle.execution_messages.specs.Requests.{ExecuteRequestValue, execute_request_of}
 use Rattle.execution_messages.specs.Actions.{ActionValue, action_of, duration_of}
 use Rattle.input_tree.specs.Directories.{written_digest}
@@ -35,24 +35,23 @@ signed_below m n is = go (ltb m (2 ^ 63)) refl where
   go true low = let e = rw low at is in let same : m ≡ n = cc in let below = ltb-true m (2 ^ 63) low in omega arith
   go false high = let e = rw high at is in absurd (cc)
 
-decoded_size : (digits bytes : List ℕ) → hash_in digits ≡ Some bytes → length digits ≡ 64
-decoded_size digits bytes h = go (list_all is_lower_hex_digit digits) (decode_sized digits 32) refl h where
-  go : (b : Bool) (r : Result (List ℕ) FromHexError) → decode_sized digits 32 ≡ r → cond b (bytes_decoded r) None ≡ Some bytes → length digits ≡ 64
-  go true (Ok bs) is h = decode_sized-ok digits 32 bs is
-  go true (Err e) is h = absurd (cc)
-  go false r is h = absurd (cc)
+few_digits : (digits : List ℕ) (hash : Hash) → hash_in digits ≡ Some hash → length digits ≤ 128
+few_digits digits hash h = go (nat_eq (length digits) 64) (nat_eq (length digits) 128) refl refl h where
+  go : (short long : Bool) → nat_eq (length digits) 64 ≡ short → nat_eq (length digits) 128 ≡ long
+      → cond short (option_map (λ bytes. Sha256 bytes) (bytes_in 32 digits)) (cond long (option_map (λ bytes. Sha512 bytes) (bytes_in 64 digits)) None) ≡ Some hash → length digits ≤ 128
+  go true long is other h = let same = eqb-true (length digits) 64 is in omega arith
+  go false true other is h = let same = eqb-true (length digits) 128 is in omega arith
+  go false false is other h = absurd (cc)
 
 hash_form : (digits : List ℕ) (n : ℕ) (d : Digest) → n < 2 ^ 63 → digest_in digits (pos n) ≡ Some d → HasForm d
 hash_form digits n d below h = go (hash_in digits) refl h where
-  hash : (w : digits ≡ hash_text d) → length digits ≡ 64 → length d.hash ≡ 32
-  hash w whole = let written = ap (length {A = ℕ}) w in let pairs = length-encode_with lower_digits d.hash in omega arith
-
-  go : (o : Option (List ℕ)) → hash_in digits ≡ o → with_hash n o ≡ Some d → HasForm d
+  go : (o : Option Hash) → hash_in digits ≡ o → with_hash n o ≡ Some d → HasForm d
   go None is e = absurd (cc)
-  go (Some bytes) is e =
-      let same : record { hash = bytes; size = n } ≡ d = cc in
+  go (Some hash) is e =
+      let same : record { hash = hash; size = n } ≡ d = cc in
       let size : n ≡ d.size = ap (λ (x : Digest). x.size) same in
-      record { hash = hash (is_written digits (pos n) (Some d) (sym h)).hash_is (decoded_size digits bytes is); size = omega arith }
+      let few = few_digits digits hash is in
+      record { hash = rw (← (is_written digits (pos n) (Some d) (sym h)).hash_is) few; size = omega arith }
 
 read_form : (digits : List ℕ) (size : ℤ) (d : Digest) → IsBelow size → digest_in digits size ≡ Some d → HasForm d
 read_form digits (pos n) d below h = hash_form digits n d (below n refl) h
@@ -180,18 +179,22 @@ action_forms text a h = go (value_of_text action_of text) refl h where
 
 -- ---- requests
 
-pub refused_form : (o : Option DigestValue) (d : Digest) → IsRead o → digest_or_refusal o ≡ Ok d → HasForm d
-refused_form None d read h = absurd (cc)
-refused_form (Some v) d read h = go (digest_in v.hash v.size_bytes) refl h where
-  go : (r : Option Digest) → digest_in v.hash v.size_bytes ≡ r → form_check r ≡ Ok d → HasForm d
-  go None is e = absurd (cc)
-  go (Some x) is e = let same : x ≡ d = cc in subst HasForm same (read_form v.hash v.size_bytes x read is)
+pub refused_form : (function : Option HashFunction) (o : Option DigestValue) (d : Digest) → IsRead o → digest_or_refusal function o ≡ Ok d → HasForm d
+refused_form function None d read h = absurd (cc)
+refused_form function (Some v) d read h = go (digest_in v.hash v.size_bytes) refl h where
+  asked : (x : Digest) (b : Bool) → cond b (Ok x) (Err BadDigest) ≡ Ok d → x ≡ d
+  asked x true e = cc
+  asked x false e = absurd (cc)
 
-pub request_form : (message : List ℕ) (request : ExecuteRequestValue) (d : Digest) → value_of_text execute_request_of message ≡ Ok request → digest_or_refusal request.action_digest ≡ Ok d → HasForm d
+  go : (r : Option Digest) → digest_in v.hash v.size_bytes ≡ r → form_check function r ≡ Ok d → HasForm d
+  go None is e = absurd (cc)
+  go (Some x) is e = subst HasForm (asked x (is_hash_asked function x.hash) e) (read_form v.hash v.size_bytes x read is)
+
+pub request_form : (function : Option HashFunction) (message : List ℕ) (request : ExecuteRequestValue) (d : Digest) → value_of_text execute_request_of message ≡ Ok request → digest_or_refusal function request.action_digest ≡ Ok d → HasForm d
 unfolding execute_request_of
-request_form message request d h is =
+request_form function message request d h is =
     let r = read_from execute_request_of message request h in
     let name = bind_ok (string 1 r.records) _ request r.means in
     let action = bind_ok (embedded_value digest_of 6 r.records) _ request name.2 in
     let e = ok_is (record { instance_name = name.0; skip_cache_lookup = flag 3 r.records; action_digest = action.0; digest_function = int32 9 r.records }) request action.2 in
-    refused_form request.action_digest d (subst (λ (x : ExecuteRequestValue). IsRead x.action_digest) e (embedded_read 6 r.records action.0 action.1)) is
+    refused_form function request.action_digest d (subst (λ (x : ExecuteRequestValue). IsRead x.action_digest) e (embedded_read 6 r.records action.0 action.1)) is

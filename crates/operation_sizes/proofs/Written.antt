@@ -5,10 +5,8 @@ use Rattle.std.specs.List.{AllByRecursion, list_any}
 use Rattle.std.proofs.lemmas.Fmt.{length-decimal-le}
 use Rattle.std.proofs.lemmas.List.{length-append}
 use Rattle.digest.specs.declared.Digest.{Digest}
-use Rattle.digest.specs.Hex.{lower_digits}
 use Rattle.digest.specs.Naming.{same_digest}
 use Rattle.digest.specs.Text.{hash_text}
-use Rattle.digest.proofs.HexLemmas.{length-encode_with}
 use Rattle.message_fields.specs.Writing.{records_text, number_field, bytes_field, message_field}
 use Rattle.message_fields.specs.Parts.{text_for, string_field, int64_field, flag_field, embedded_field, repeated_field}
 use Rattle.reapi_messages.specs.Digests.{digest_records}
@@ -24,25 +22,19 @@ use Rattle.operations.specs.Statuses.{details_of, distinct, failure_text, failur
 use Rattle.operations.specs.Written.{digest_value}
 use Rattle.tree_calls.proofs.Sizes.{both_written}
 use Rattle.operation_sizes.specs.Short.{HasForm}
-use Rattle.operation_sizes.proofs.Fields.{payload_written, text_written, few_text_written, number_written, flag_written, more_written}
+use Rattle.operation_sizes.proofs.Fields.{payload_written, text_written, middle_text_written, number_written, flag_written, more_written}
 
 -- ---- digests
 
-pub digest_written : (hash : List ℕ) (size : ℕ) → length hash ≡ 64 → size < 2 ^ 64 → length (text_for digest_records (record { hash = hash; size_bytes = pos size })) ≤ 77
-digest_written hash size whole fits =
+pub digest_written : (hash : List ℕ) (size : ℕ) → length hash ≤ 128 → size < 2 ^ 64 → length (text_for digest_records (record { hash = hash; size_bytes = pos size })) ≤ 142
+digest_written hash size few fits =
     let both = both_written (string_field 1 hash) (int64_field 2 (pos size)) in
-    let first = few_text_written 1 hash (omega arith) (omega arith) in
+    let first = middle_text_written 1 hash (omega arith) (omega arith) in
     let second = number_written 2 size (omega arith) fits in
     omega arith
 
-pub hash_size : (d : Digest) → length d.hash ≡ 32 → length (hash_text d) ≡ 64
-hash_size d h = let e = length-encode_with lower_digits d.hash in omega arith
-
-form_written : (d : Digest) → HasForm d → length (text_for digest_records (digest_value d)) ≤ 77
-form_written d h =
-    let hash = hash_size d h.hash in
-    let size = h.size in
-    digest_written (hash_text d) d.size hash (omega arith)
+form_written : (d : Digest) → HasForm d → length (text_for digest_records (digest_value d)) ≤ 142
+form_written d h = let size = h.size in digest_written (hash_text d) d.size h.hash (omega arith)
 
 -- ---- Operations
 
@@ -53,7 +45,7 @@ any_written url value few short =
     let second = text_written 2 value (omega arith) (omega arith) in
     omega arith
 
-metadata_written : (stage : ℕ) (d : Digest) → stage < 2 ^ 64 → HasForm d → length (metadata_text (pos stage) (digest_value d)) ≤ 99
+metadata_written : (stage : ℕ) (d : Digest) → stage < 2 ^ 64 → HasForm d → length (metadata_text (pos stage) (digest_value d)) ≤ 164
 metadata_written stage d fits h =
     let digest = form_written d h in
     let both = both_written (number_field 1 stage) (message_field 2 (text_for digest_records (digest_value d))) in
@@ -79,7 +71,7 @@ response_written (Some text) short =
     let around = payload_written 5 (text_for any_records (record { type_url = response_url; value = text })) (omega arith) (omega arith) in
     omega arith
 
-operation_written : (n stage : ℕ) (d : Digest) (done : Bool) (response : Option (List ℕ)) → n < 2 ^ 64 → stage < 2 ^ 64 → HasForm d → response_size response < 2 ^ 39 → length (operation_text n (pos stage) (digest_value d) done response) ≤ 360 + response_size response
+operation_written : (n stage : ℕ) (d : Digest) (done : Bool) (response : Option (List ℕ)) → n < 2 ^ 64 → stage < 2 ^ 64 → HasForm d → response_size response < 2 ^ 39 → length (operation_text n (pos stage) (digest_value d) done response) ≤ 420 + response_size response
 operation_written n stage d done response number fits h short =
     let metadata = metadata_text (pos stage) (digest_value d) in
     let any = text_for any_records (record { type_url = metadata_url; value = metadata }) in
@@ -100,15 +92,15 @@ operation_written n stage d done response number fits h short =
 number_fits : (n : ℕ) → n ≤ LAST_NUMBER + 1 → n < 2 ^ 64
 number_fits n h = omega arith
 
-pub queued_short : (n : ℕ) (d : Digest) → n ≤ LAST_NUMBER + 1 → HasForm d → length (queued_text n d) ≤ 400
+pub queued_short : (n : ℕ) (d : Digest) → n ≤ LAST_NUMBER + 1 → HasForm d → length (queued_text n d) ≤ 500
 queued_short n d few h = let e = operation_written n 2 d false None (number_fits n few) (omega arith) h (omega arith) in omega arith
 
-pub executing_short : (n : ℕ) (d : Digest) → n ≤ LAST_NUMBER + 1 → HasForm d → length (executing_text n d) ≤ 400
+pub executing_short : (n : ℕ) (d : Digest) → n ≤ LAST_NUMBER + 1 → HasForm d → length (executing_text n d) ≤ 500
 executing_short n d few h = let e = operation_written n 3 d false None (number_fits n few) (omega arith) h (omega arith) in omega arith
 
 -- ---- ends
 
-completed_written : (n : ℕ) (d : Digest) (e : EndValue) → n ≤ LAST_NUMBER + 1 → HasForm d → length (response_text e) < 2 ^ 39 → length (completed_text n d e) ≤ 360 + length (response_text e)
+completed_written : (n : ℕ) (d : Digest) (e : EndValue) → n ≤ LAST_NUMBER + 1 → HasForm d → length (response_text e) < 2 ^ 39 → length (completed_text n d e) ≤ 420 + length (response_text e)
 completed_written n d e few h short = operation_written n 4 d true (Some (response_text e)) (number_fits n few) (omega arith) h short
 
 result_written : (text : List ℕ) (cached : Bool) → length text < 2 ^ 32 → length (text_for execute_response_records (record { result = Some text; cached_result = cached; status = None })) ≤ 13 + length text
@@ -196,17 +188,17 @@ each_distinct ds h =
     let few = all.few in
     record { forms = all.forms; few = omega arith }
 
-subject_short : (d : Digest) → HasForm d → length (subject_of d) ≤ 91
+subject_short : (d : Digest) → HasForm d → length (subject_of d) ≤ 155
 subject_short d h =
     let size = h.size in
-    let hash = hash_size d h.hash in
+    let hash = h.hash in
     let digits = length-decimal-le 20 d.size (omega arith) (omega arith) (omega arith) in
     let all = length-append ((codes "blobs/" ++ hash_text d) ++ codes "/") (decimal d.size) in
     let three = length-append (codes "blobs/" ++ hash_text d) (codes "/") in
     let two = length-append (codes "blobs/") (hash_text d) in
     omega arith
 
-violation_written : (d : Digest) → HasForm d → length (text_for violation_records (violation_of (subject_of d))) ≤ 130
+violation_written : (d : Digest) → HasForm d → length (text_for violation_records (violation_of (subject_of d))) ≤ 184
 violation_written d h =
     let subject = subject_short d h in
     let both = both_written (string_field 1 (codes "MISSING")) (string_field 2 (subject_of d)) in
@@ -214,7 +206,7 @@ violation_written d h =
     let second = text_written 2 (subject_of d) (omega arith) (omega arith) in
     omega arith
 
-violations_written : (ds : List Digest) → AllByRecursion HasForm ds → length (records_text (repeated_field violation_records 1 (map violation_of (map subject_of ds)))) ≤ 150 * length ds
+violations_written : (ds : List Digest) → AllByRecursion HasForm ds → length (records_text (repeated_field violation_records 1 (map violation_of (map subject_of ds)))) ≤ 195 * length ds
 violations_written [] h = omega arith
 violations_written (d ∷ ds) h =
     let one = violation_written d h.0 in
@@ -222,19 +214,19 @@ violations_written (d ∷ ds) h =
     let rest = violations_written ds h.1 in
     omega arith
 
-failure_written : (ds : List Digest) → AllByRecursion HasForm ds → length (failure_text ds) ≤ 150 * length ds
+failure_written : (ds : List Digest) → AllByRecursion HasForm ds → length (failure_text ds) ≤ 195 * length ds
 failure_written ds h =
     let once = each_distinct ds h in
     let few = once.few in
     let all = violations_written (distinct ds) once.forms in
     omega arith
 
-details_written : (ds : List Digest) → AllByRecursion HasForm ds → length ds < 2 ^ 20 → details_size (details_of ds) ≤ 150 + 150 * length ds
+details_written : (ds : List Digest) → AllByRecursion HasForm ds → length ds < 2 ^ 20 → details_size (details_of ds) ≤ 150 + 195 * length ds
 details_written ds h few = go (nat_eq (length ds) 0) where
   any : AnyValue
   any = record { type_url = failure_url; value = failure_text ds }
 
-  go : (b : Bool) → details_size (cond b [] (any ∷ [])) ≤ 150 + 150 * length ds
+  go : (b : Bool) → details_size (cond b [] (any ∷ [])) ≤ 150 + 195 * length ds
   go true = omega arith
   go false =
       let text = failure_written ds h in

@@ -1,15 +1,16 @@
 //! Every message by which an execution is told of is so short that four bytes can write its length
 //! (gRPC over HTTP2, Length-Prefixed-Message).
 
-ghost use Rattle.std.specs.Prelude.{◌≡◌, ◌<◌, ◌≤◌, ◌+◌, ◌*◌, ◌^◌, ℕ, Bool, true, List, [], length, Some, Ok, Err, IfOk, IfSome, FitsSigned};
+ghost use Rattle.std.specs.Prelude.{◌≡◌, ◌<◌, ◌≤◌, ◌+◌, ◌*◌, ◌^◌, ℕ, Bool, true, List, [], length, Option, Some, Ok, Err, IfOk, IfSome, FitsSigned};
 ghost use Rattle.std.specs.Int.{w32};
 ghost use Rattle.std.specs.List.{AllByRecursion};
 ghost use Rattle.message_fields.specs.Fields.{value_of_text};
 ghost use Rattle.digest.specs.declared.Digest.{Digest};
+ghost use Rattle.digest.specs.declared.HashFunction.{HashFunction};
 ghost use Rattle.instance_view.specs.Visible.{Blob};
 ghost use Rattle.input_tree.specs.Listing.{Lookup};
 ghost use Rattle.quota_evict.specs.Within.{AreBlobsWithin};
-ghost use Rattle.cas_service.specs.BatchUpdate.{digest_or_refusal};
+ghost use Rattle.cas_service.specs.Requests.{digest_or_refusal};
 ghost use Rattle.tree_calls.specs.Complete.{AreResultsWithin};
 ghost use Rattle.job_queue.specs.Jobs.{Jobs, no_jobs, running_job};
 ghost use Rattle.job_queue.specs.Order.{AreJobs};
@@ -31,12 +32,12 @@ ghost use Rattle.outcomes.specs.Results.{blobs_given, fresh_bytes, result_text};
 ghost use Rattle.operation_sizes.specs.Short.{HasForm, HaveSizes, IsShort};
 ghost use Rattle.operation_sizes.specs.Told.{AreTold, AreToldShortly, IsShortExecuteAnswer, IsShortWaitAnswer};
 
-/// An Operation of an execution that has not ended has at most 400 bytes.
+/// An Operation of an execution that has not ended has at most 500 bytes.
 pub fn unfinished_operations_are_short()
     ensures queued { (n : ℕ) (d : Digest) → n ≤ LAST_NUMBER + 1 → HasForm d →
-        length (queued_text n d) ≤ 400 }
+        length (queued_text n d) ≤ 500 }
     ensures executing { (n : ℕ) (d : Digest) → n ≤ LAST_NUMBER + 1 → HasForm d →
-        length (executing_text n d) ≤ 400 }
+        length (executing_text n d) ≤ 500 }
 {}
 
 /// The Operation of an execution that has ended has at most 1,000 bytes more than its result, and
@@ -92,9 +93,10 @@ pub fn answers_to_execute_are_short()
 
 /// The digest of an action that a request asks for has its form.
 pub fn actions_asked_for_have_their_form()
-    ensures { (message : List ℕ) (request : ExecuteRequestValue) (d : Digest) →
+    ensures { (asked : Option HashFunction) (message : List ℕ) (request : ExecuteRequestValue)
+        (d : Digest) →
         value_of_text execute_request_of message ≡ Ok request →
-        digest_or_refusal request.action_digest ≡ Ok d → HasForm d }
+        digest_or_refusal asked request.action_digest ≡ Ok d → HasForm d }
 {}
 
 /// A call of WaitExecution is answered by a short message.

@@ -63,7 +63,7 @@ fn size_text(alloc: Global, size: u64) -> Result<String, AllocError>
 fn subject(alloc: Global, digest: &Digest) -> Result<String, AllocError>
     ensures { IfOk result (λ text. string_bytes text ≡ subject_of digest.now) }
 {
-    let hash = hex::encode(alloc, digest.hash)?;
+    let hash = hex::encode(alloc, digest.hash.as_bytes())?;
     let size = size_text(alloc, digest.size)?;
     let mut text = String::from_str(alloc, "blobs/")?;
     text.push_str(&hash)?;

@@ -46,7 +46,7 @@ pub fn write_digest(alloc: Global, digest: &Digest) -> Result<WrittenDigest, All
     requires { digest.now.size < 2 ^ 63 }
     ensures { IfOk result (λ written. written_shown written ≡ digest_value digest.now) }
 {
-    let hash = hex::encode(alloc, digest.hash)?;
+    let hash = hex::encode(alloc, digest.hash.as_bytes())?;
     Ok(WrittenDigest {
         hash,
         size: digest.size as i64,

@@ -7,3 +7,4 @@ mod Freshness
 mod Once
 mod Root
 mod Completed
+mod Hashes

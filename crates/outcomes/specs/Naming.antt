@@ -1,14 +1,14 @@
 -- What names the texts that a run leaves: they are named by the function of the action's digest.
 use Rattle.std.specs.Prelude.{ℕ, List}
 use Rattle.digest.specs.declared.Digest.{Digest}
-use Rattle.digest.specs.Naming.{digest_of}
+use Rattle.digest.specs.Naming.{digest_by, function_of}
 use Rattle.instance_view.specs.Visible.{Blob}
 use Rattle.reapi_messages.specs.Digests.{DigestValue}
 use Rattle.operations.specs.Written.{digest_value}
 
 -- the digest of a text, by the function of another digest
 abbrev pub digest_like : Digest → List ℕ → Digest
-digest_like like text = digest_of text
+digest_like like text = digest_by (function_of like.hash) text
 
 -- as messages write it
 abbrev pub written_like : Digest → List ℕ → DigestValue

@@ -13,7 +13,7 @@ use std::alloc::{AllocError, Global};
 pub(crate) fn digest_like(like: &Digest, text: &[u8]) -> Digest
     ensures { result ≡ digest_like like.now text.now }
 {
-    Digest::of(text)
+    Digest::by(like.function(), text)
 }
 
 /// The digest of a text.

@@ -15,7 +15,7 @@ pub struct Instances {
 /// Why a word stands for no instance.
 #[derive(Clone, Copy, Debug, PartialEq, Eq, Error)]
 pub enum WordFault {
-    #[error("it is not NAME:PORT:QUOTA:SLOTS")]
+    #[error("it is not NAME:PORT:QUOTA:SLOTS[:PARENT]")]
     Parts,
     #[error("the port is not a number from 1 to 65535")]
     Port,
@@ -27,6 +27,8 @@ pub enum WordFault {
     Name,
     #[error("an instance before it has the name")]
     NameAgain,
+    #[error("the parent is not another instance, or it has a parent itself")]
+    Parent,
     #[error("an instance before it has the port")]
     PortAgain,
 }
@@ -43,10 +45,26 @@ pub enum InstancesFault {
     NoMemory(#[from(alloc)] AllocError),
 }
 
-/// The four parts of a word.
-fn parts_of(word: &str) -> Option<(&str, &str, &str, &str)> {
+/// The parts of a word, as they are written.
+#[derive(Clone, Copy)]
+struct Parts<'a> {
+    name: &'a str,
+    port: &'a str,
+    quota: &'a str,
+    slots: &'a str,
+    parent: Option<&'a str>,
+}
+
+/// The four parts of a word, or five.
+fn parts_of(word: &str) -> Option<Parts<'_>> {
     let mut parts = word.split(':');
-    let found = (parts.next()?, parts.next()?, parts.next()?, parts.next()?);
+    let found = Parts {
+        name: parts.next()?,
+        port: parts.next()?,
+        quota: parts.next()?,
+        slots: parts.next()?,
+        parent: parts.next(),
+    };
     match parts.next() {
         None => Some(found),
         Some(_) => None,
@@ -74,11 +92,19 @@ fn slots_of(digits: &str) -> Option<u32> {
 }
 
 /// The port, the quota and the slots.
-fn numbers_of(port: &str, quota: &str, slots: &str) -> Result<(u16, u64, u32), WordFault> {
-    let port = port_of(port).ok_or(WordFault::Port)?;
-    let quota = decimal(quota.as_bytes()).ok_or(WordFault::Quota)?;
-    let slots = slots_of(slots).ok_or(WordFault::Slots)?;
+fn numbers_of(parts: &Parts<'_>) -> Result<(u16, u64, u32), WordFault> {
+    let port = port_of(parts.port).ok_or(WordFault::Port)?;
+    let quota = decimal(parts.quota.as_bytes()).ok_or(WordFault::Quota)?;
+    let slots = slots_of(parts.slots).ok_or(WordFault::Slots)?;
     Ok((port, quota, slots))
+}
+
+/// The name of a parent, as a text of its own.
+fn owned(alloc: Global, parent: Option<&str>) -> Result<Option<String>, AllocError> {
+    match parent {
+        None => Ok(None),
+        Some(name) => Ok(Some(String::from_str(alloc, name)?)),
+    }
 }
 
 /// The port and the configuration that a word names.
@@ -87,13 +113,20 @@ fn instance_of(
     place: usize,
     word: &str,
 ) -> Result<(u16, InstanceConfig), InstancesFault> {
-    let Some((name, port, quota, slots)) = parts_of(word) else {
+    let Some(parts) = parts_of(word) else {
         return Err(InstancesFault::Bad(place, WordFault::Parts));
     };
-    match numbers_of(port, quota, slots) {
+    match numbers_of(&parts) {
         Ok((port, quota, slots)) => {
-            let name = String::from_str(alloc, name)?;
-            Ok((port, InstanceConfig { name, quota, slots }))
+            let name = String::from_str(alloc, parts.name)?;
+            let parent = owned(alloc, parts.parent)?;
+            let config = InstanceConfig {
+                name,
+                quota,
+                slots,
+                parent,
+            };
+            Ok((port, config))
         }
         Err(fault) => Err(InstancesFault::Bad(place, fault)),
     }
@@ -106,6 +139,7 @@ fn fault_of(fault: ConfigFault) -> InstancesFault {
         ConfigFault::BadQuota(place) => InstancesFault::Bad(place, WordFault::Quota),
         ConfigFault::BadSlots(place) => InstancesFault::Bad(place, WordFault::Slots),
         ConfigFault::DuplicateName(place) => InstancesFault::Bad(place, WordFault::NameAgain),
+        ConfigFault::BadParent(place) => InstancesFault::Bad(place, WordFault::Parent),
         ConfigFault::TooMany => InstancesFault::TooMany,
     }
 }

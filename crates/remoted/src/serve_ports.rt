@@ -15,7 +15,7 @@ pub struct Served<'a> {
     /// The folder for the work of actions.
     pub work: &'a str,
     pub turns: u64,
-    /// A word `NAME:PORT:QUOTA:SLOTS` for each instance.
+    /// A word `NAME:PORT:QUOTA:SLOTS[:PARENT]` for each instance.
     pub words: &'a [&'a str],
 }
 

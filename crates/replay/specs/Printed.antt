@@ -1,12 +1,13 @@
--- What a script of events prints: the outputs of its instances, each alone, and then the events of
--- no instance.
+-- What a script of events prints: the outputs of its instances, each alone or with its parent, and
+-- then the events of no instance.
 use Rattle.std.specs.Prelude.{ℕ, ◌+◌, List, [], ◌∷◌, ◌++◌, Result, Ok, Err}
 use Rattle.server_core.specs.EventRefusal.{EventRefusal}
 use Rattle.server_core.specs.Codes.{code_of}
 use Rattle.server_core.specs.Outputs.{InstanceOutputValue}
+use Rattle.server_core.specs.Families.{family_in, family_events}
 use Rattle.server_core.specs.LoneOutput.{lone_output, strays}
-use Rattle.server_events.specs.Configs.{ConfigValue}
-use Rattle.server_events.specs.Events.{EventValue, own_events}
+use Rattle.server_events.specs.Configs.{ConfigValue, parent_of}
+use Rattle.server_events.specs.Events.{EventValue}
 use Rattle.executor.specs.Orders.{OrderValue, start, kill}
 use Rattle.script.specs.ResultLines.{sent_line, start_line, kill_line, refusal_line, stray_line}
 use Rattle.script.specs.ReplayScript.{ReplayScriptValue, replay_script_of}
@@ -45,18 +46,20 @@ abbrev pub stray_lines : List ℕ → List ℕ
 stray_lines [] = []
 stray_lines (place ∷ rest) = stray_line place ++ stray_lines rest
 
--- what came of each instance, of which the first has this number: each gives what it would give
--- alone
-abbrev pub lone_lines : ℕ → List ConfigValue → List EventValue → List ℕ
-lone_lines instance [] events = []
-lone_lines instance (config ∷ configs) events =
-    output_lines instance (lone_output config (own_events instance events))
-    ++ lone_lines (instance + 1) configs events
+-- what came of these instances of all, of which the first has this number: each gives what it gives
+-- by itself, with its parent if it has one
+abbrev pub lone_lines : List ConfigValue → ℕ → List ConfigValue → List EventValue → List ℕ
+lone_lines all instance [] events = []
+lone_lines all instance (config ∷ configs) events =
+    output_lines instance
+    (lone_output (family_in all config) (family_events instance (parent_of all config) events))
+    ++ lone_lines all (instance + 1) configs events
 
 -- what a script prints
 abbrev pub printed_text : ReplayScriptValue → List ℕ
 printed_text script =
-    lone_lines 0 script.configs script.events ++ stray_lines (strays script.configs script.events)
+    lone_lines script.configs 0 script.configs script.events
+    ++ stray_lines (strays script.configs script.events)
 
 abbrev pub printed_text_of : Result ReplayScriptValue ℕ → Result (List ℕ) ℕ
 printed_text_of (Ok script) = Ok (printed_text script)

@@ -1,5 +1,5 @@
 //! A script, from its text to the status.
-ghost use Rattle.std.specs.Prelude.{◌≡◌, ◌≢◌, ◌≤◌, ◌^◌, ℕ, length, Ok, None, Some, map, IfOk, IfErr, IfSome};
+ghost use Rattle.std.specs.Prelude.{◌≡◌, ◌≢◌, ◌≤◌, ◌^◌, ℕ, List, [], length, Ok, None, Some, map, IfOk, IfErr, IfSome};
 ghost use Rattle.std.specs.Io.KnownBytes.{Appends};
 ghost use Rattle.program_status.specs.Status.{fault_line, status_of};
 ghost use Rattle.program_status.specs.declared.Status.TheVariants.{Failed};
@@ -7,10 +7,11 @@ ghost use Rattle.replay.specs.Printed.{printed_text, text_printed_by};
 ghost use Rattle.replay.specs.Outcome.{IsOutcome};
 ghost use Rattle.script.specs.Faults.{IsFaultOf};
 ghost use Rattle.script.specs.ReplayShown.{replay_script_value};
+ghost use Rattle.server_core.specs.Families.{family_in, family_events};
 ghost use Rattle.server_core.specs.LoneOutput.{config_at, lone_output, strays};
+ghost use Rattle.server_core.specs.RunSoFar.{HasTaken};
 ghost use Rattle.server_core.specs.Shown.{output_at};
-ghost use Rattle.server_events.specs.Configs.{ConfigValue, config_fault};
-ghost use Rattle.server_events.specs.Events.{own_events};
+ghost use Rattle.server_events.specs.Configs.{ConfigValue, config_fault, parent_of};
 ghost use Rattle.server_events.specs.Shown.{config_value};
 
 use crate::lines::lines;
@@ -18,27 +19,52 @@ use program_status::{Status, read_all, told};
 use script::ScriptFault;
 use script::replay::{EventReader, ReplayScript, parse};
 use server_core::{Outputs, ServerRun};
-use server_events::Configs;
+use server_events::{Configs, InstanceConfig};
 use std::alloc::{AllocError, Global};
 use std::io::{Read, Write};
 
+/// Has a run that begins take the events that are read.
+fn take_all(
+    alloc: Global,
+    begun: ServerRun,
+    mut events: EventReader,
+) -> Result<ServerRun, AllocError>
+    requires begun { (configs : List ConfigValue) × HasTaken configs [] begun }
+    requires few { length events ≤ 2 ^ 63 }
+    ensures { IfOk result (λ run. (configs : List ConfigValue) → HasTaken configs [] begun
+        → HasTaken configs events.entry run) }
+{
+    let mut run = begun;
+    'events: while let Some(event) = events.next_event(alloc)? {
+        run = run.step(event)?;
+    }
+    Ok(run)
+}
+
 /// Runs a server through the events that are read.
-fn run(alloc: Global, configs: &Configs, mut events: EventReader) -> Result<Outputs, AllocError>
+fn run(alloc: Global, configs: &Configs, events: EventReader) -> Result<Outputs, AllocError>
     requires few { length events ≤ 2 ^ 63 }
     ensures alone { IfOk result (λ outputs. (i : ℕ) (config : ConfigValue)
         → config_at i configs.now ≡ Some config
         → output_at i outputs.instances.items
-        ≡ Some (lone_output config (own_events i events.entry))) }
+        ≡ Some (lone_output (family_in configs.now config)
+        (family_events i (parent_of configs.now config) events.entry))) }
     ensures count { IfOk result (λ outputs. length outputs.instances.items
         ≡ length configs.now) }
     ensures strays { IfOk result (λ outputs. outputs.strays.items
         ≡ strays configs.now events.entry) }
 {
-    let mut run = ServerRun::new(alloc, configs)?;
-    'events: while let Some(event) = events.next_event(alloc)? {
-        run = run.step(event)?;
-    }
-    run.outputs(alloc)
+    let begun = ServerRun::new(alloc, configs)?;
+    let ran = take_all(alloc, begun, events)?;
+    ran.outputs(alloc)
+}
+
+/// The configurations of a script, which have no fault.
+fn configured(configs: Vec<InstanceConfig>) -> Configs
+    requires { config_fault (map config_value configs.items) ≡ None }
+    ensures { result ≡ map config_value configs.items }
+{
+    Configs::new(configs).unwrap()
 }
 
 /// Runs a script, and gives what it prints.
@@ -47,7 +73,7 @@ fn carry_out(alloc: Global, script: ReplayScript) -> Result<Vec<u8>, AllocError>
     requires few { length script.events ≤ 2 ^ 63 }
     ensures { IfOk result (λ text. text.items ≡ printed_text (replay_script_value script.entry)) }
 {
-    let configs = Configs::new(script.configs).unwrap();
+    let configs = configured(script.configs);
     let outputs = run(alloc, &configs, script.events)?;
     lines(alloc, &outputs)
 }

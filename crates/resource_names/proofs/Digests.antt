@@ -1,5 +1,5 @@
 -- Digests as names write them.
-use Rattle.std.proofs.Common.{◌≡◌, ℕ, pos, ◌*◌, ◌<◌, ◌==◌, ◌^◌, Bool, true, false, not, cond, ◌&&◌, ◌||◌, List, [], ◌∷◌, ◌++◌, length, get_or, Option, Some, None, Result, Ok, Err, refl, sym, ap, subst, ◌∙◌, arith, inl, inr}
+use Rattle.std.proofs.Common.{◌≡◌, ℕ, ◌<◌, ◌==◌, ◌^◌, Bool, true, false, not, cond, ◌&&◌, ◌||◌, List, [], ◌∷◌, ◌++◌, length, get_or, Option, Some, None, Ok, refl, sym, ap, subst, ◌∙◌, arith, inl, inr}
 use Rattle.std.specs.Prelude.{nat_lt, nat_eq, codes}
 use Rattle.std.specs.List.{list_all}
 use Rattle.std.specs.Str.{bytes_eq}
@@ -9,26 +9,17 @@ use Rattle.std.proofs.lemmas.Bool.{and_parts, cases_eq}
 use Rattle.std.proofs.lemmas.Bool.Decides.{nat_tests}
 use Rattle.std.proofs.lemmas.Str.Parse.{IsNumeralModel, tells_digits, numerals_by_value, digit_from_value}
 use Rattle.std.proofs.lemmas.Fmt.{decimal-digits_value, digits_value-decimal, digits_decimal, decimal_digit, decimal_nonempty, first_decimal}
-use Rattle.digest.specs.FromHexError.{FromHexError}
-use Rattle.digest.specs.Hex.{IsBytes, encode_lower, decode_sized}
-use Rattle.digest.proofs.HexLemmas.{decode_sized-ok, decode_sized-twice, decode_of-ok}
 use Rattle.digest.specs.declared.Digest.{Digest}
-use Rattle.digest.specs.Text.{IsDigestWritten, hash_text, hash_in, is_lower_hex_digit, bytes_decoded, with_hash}
-use Rattle.digest.proofs.Writings.{is_written, is_read}
-use Rattle.resource_names.specs.declared.name.NameError.TheVariants.{Hash, Size}
+use Rattle.digest.specs.declared.Hash.{Hash}
+use Rattle.digest.specs.Text.{hash_text, hash_in, is_lower_hex_digit}
+use Rattle.digest.proofs.Writings.{hash_found, hash_read}
+use Rattle.resource_names.specs.declared.name.NameError.TheVariants as Fault
 use Rattle.resource_names.specs.Names.{◌>>=◌, or_fault, digest_of_segments}
 use Rattle.decimals.specs.Number.{is_decimal_digit}
 use Rattle.decimals.proofs.NumberLemmas.{AllDigits-from_list_all}
 use Rattle.resource_names.specs.Size.{is_numeral, size_in}
 use Rattle.resource_names.specs.Written.{HasNoSlash, IsNameable, digest_text}
 use Rattle.resource_names.proofs.SizeLemmas.{numeral_digits}
-
--- a text is the written form of a hash
-record IsHashText (text bytes : List ℕ) : Type 0 where
-  text_is : text ≡ encode_lower bytes
-  size : length bytes ≡ 32
-  bytes_are : IsBytes bytes
-  clean : HasNoSlash text
 
 -- where no slash passes a test, a byte that does is none
 no_slash : (test : ℕ → Bool) → test 47 ≡ false → (byte : ℕ) → test byte ≡ true → (byte == 47) ≡ false
@@ -44,35 +35,6 @@ clean_of test none [] h = tt
 clean_of test none (byte ∷ text) h =
     let parts = and_parts (test byte) (list_all test text) h in
     (no_slash test none byte parts.0, clean_of test none text parts.1)
-
-hash_found : (text bytes : List ℕ) → hash_in text ≡ Some bytes → IsHashText text bytes
-hash_found text bytes h = go (list_all is_lower_hex_digit text) (decode_sized text 32) refl refl h where
-  written : IsDigestWritten (record { hash = bytes; size = 0 }) text (pos 0)
-  written = is_written text (pos 0) (Some (record { hash = bytes; size = 0 })) (sym (ap (with_hash 0) h))
-
-  go : (t : Bool) (r : Result (List ℕ) FromHexError) → list_all is_lower_hex_digit text ≡ t → decode_sized text 32 ≡ r → cond t (bytes_decoded r) None ≡ Some bytes → IsHashText text bytes
-  go true (Ok bs) lower is e =
-      let same : bs ≡ bytes = cc in
-      let sized : decode_sized text 32 ≡ Ok bytes = is ∙ ap (λ (x : List ℕ). Ok x) same in
-      let digits = decode_sized-ok text 32 bytes sized in
-      let read = decode_of-ok text bytes (sym (decode_sized-twice text 32 digits) ∙ sized) in
-      let twice : length text ≡ 2 * length bytes = read.2 in
-      record { text_is = written.hash_is; size = omega arith; bytes_are = read.3; clean = clean_of is_lower_hex_digit refl text lower }
-  go true (Err e') lower is e = cc
-  go false r lower is e = cc
-
-abbrev hash_or : Option Digest → List ℕ
-hash_or (Some d) = d.hash
-hash_or None = []
-
-hash_read : (bytes : List ℕ) → length bytes ≡ 32 → IsBytes bytes → hash_in (encode_lower bytes) ≡ Some bytes
-hash_read bytes size are = go (hash_in (encode_lower bytes)) read where
-  read : with_hash 0 (hash_in (encode_lower bytes)) ≡ Some (record { hash = bytes; size = 0 })
-  read = is_read (record { hash = bytes; size = 0 }) (encode_lower bytes) (pos 0) size are (record { hash_is = refl; size_is = refl })
-
-  go : (h : Option (List ℕ)) → with_hash 0 h ≡ Some (record { hash = bytes; size = 0 }) → h ≡ Some bytes
-  go None e = cc
-  go (Some bs) e = ap Some (ap hash_or e)
 
 -- a text is the written form of a size
 record IsSizeText (text : List ℕ) (size : ℕ) : Type 0 where
@@ -152,8 +114,8 @@ same_digest hash size d w = rw (w.hash_is, w.size_is) refl
 
 pub digest_found : (hash size : List ℕ) (d : Digest) → digest_of_segments hash size ≡ Ok d → IsDigestText hash size d
 digest_found hash size d e = go (hash_in hash) (size_in size) refl refl e where
-  go : (h : Option (List ℕ)) (n : Option ℕ) → hash_in hash ≡ h → size_in size ≡ n
-      → (or_fault Hash h >>= λ bytes. or_fault Size n >>= λ count. Ok (record { hash = bytes; size = count })) ≡ Ok d → IsDigestText hash size d
+  go : (h : Option Hash) (n : Option ℕ) → hash_in hash ≡ h → size_in size ≡ n
+      → (or_fault Fault.Hash h >>= λ bytes. or_fault Fault.Size n >>= λ count. Ok (record { hash = bytes; size = count })) ≡ Ok d → IsDigestText hash size d
   go (Some bytes) (Some count) h n same' =
       let same : d ≡ record { hash = bytes; size = count } = cc in
       let a = hash_found hash bytes h in
@@ -161,15 +123,15 @@ digest_found hash size d e = go (hash_in hash) (size_in size) refl refl e where
       rw same (record {
         hash_is = a.text_is;
         size_is = b.text_is;
-        nameable = record { hash = a.size; bytes = a.bytes_are; size = b.most };
-        hash_clean = a.clean;
+        nameable = record { hash = a.hash; size = b.most };
+        hash_clean = clean_of is_lower_hex_digit refl hash a.lower;
         size_clean = b.clean;
       })
   go (Some bytes) None h n same' = cc
   go None n' h n same' = cc
 
 pub digest_read : (d : Digest) → IsNameable d → digest_of_segments (hash_text d) (decimal d.size) ≡ Ok d
-digest_read d n = rw (hash_read d.hash n.hash n.bytes, size_read d.size n.size) refl
+digest_read d n = rw (hash_read d.hash n.hash, size_read d.size n.size) refl
 
 pub written_digest : (d : Digest) → IsNameable d → IsDigestText (hash_text d) (decimal d.size) d
 written_digest d n = digest_found (hash_text d) (decimal d.size) d (digest_read d n)

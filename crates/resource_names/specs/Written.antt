@@ -2,9 +2,8 @@
 use Rattle.std.specs.Prelude.{◌≡◌, ℕ, ◌==◌, ◌≤◌, ◌<◌, Bool, false, List, [], ◌∷◌, ◌++◌, length, codes}
 use Rattle.std.specs.List.{AllByRecursion}
 use Rattle.std.specs.Fmt.{decimal}
-use Rattle.digest.specs.Hex.{IsBytes}
 use Rattle.digest.specs.declared.Digest.{Digest}
-use Rattle.digest.specs.Text.{hash_text}
+use Rattle.digest.specs.Text.{IsHash, hash_text}
 use Rattle.resource_names.specs.declared.parse.TheConstants.{MOST_UUID}
 use Rattle.resource_names.specs.Size.{size_limit}
 use Rattle.resource_names.specs.Segments.{segments_of}
@@ -42,10 +41,10 @@ abbrev pub AreFurther : List ℕ → Type 0
 AreFurther [] = Unit {0}
 AreFurther (byte ∷ more) = byte ≡ 47
 
--- a digest that names can write: a hash of 32 bytes, and a size below the limit
+-- a digest that names can write: a hash of as many bytes as its function gives, and a size below
+-- the limit
 pub record IsNameable (d : Digest) : Type 0 where
-  pub hash : length d.hash ≡ 32
-  pub bytes : IsBytes d.hash
+  pub hash : IsHash d.hash
   pub size : d.size < size_limit
 
 -- a text writes the name of a blob for a Read, in whose instance no segment is `blobs` or

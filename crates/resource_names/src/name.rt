@@ -7,7 +7,7 @@ use digest::Digest;
 pub enum NameError {
     /// The segments are not those of such a name, or the instance or the uuid is not one.
     Form,
-    /// The hash is not 64 lower-case hexadecimal digits.
+    /// The hash is neither 64 nor 128 lower-case hexadecimal digits.
     Hash,
     /// The size is no decimal number without leading zeros, or is above 2^63 - 1.
     Size,

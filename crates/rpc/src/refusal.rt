@@ -22,11 +22,12 @@ pub enum Refusal {
     MalformedMessage,
     /// The instance name is neither empty nor the connection's own.
     UnknownInstance,
-    /// The digest function is neither unset nor SHA-256.
+    /// The digest function is neither unset nor SHA-256 or SHA-512.
     UnsupportedDigestFunction,
     /// The compressor is not the identity.
     UnsupportedCompressor,
-    /// The hash is not 64 lower-case hexadecimal digits, or the size is negative.
+    /// The hash is neither 64 nor 128 lower-case hexadecimal digits, it is by another function than
+    /// the call names, or the size is negative.
     BadDigest,
     /// The blobs of a batch have more than 4,000,000 bytes together.
     BatchTooLarge,

@@ -1,6 +1,6 @@
 -- A reply is to the call that the event is of, and a call that is given up gets none.
 use Rattle.std.proofs.Common.{◌≡◌, ℕ, List, refl}
-use Rattle.std.specs.Prelude.{Bool, true, false, Option, Some, None, Result, Ok, Err}
+use Rattle.std.specs.Prelude.{Option, Some, None, Result, Ok, Err}
 use Rattle.std.specs.List.{AllByRecursion}
 use Rattle.instance_core.specs.Method.{Method}
 use Rattle.instance_core.specs.Method.TheVariants.{Write}

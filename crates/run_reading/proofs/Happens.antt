@@ -24,9 +24,9 @@ use Rattle.conn_core.specs.declared.event.CallEvent.TheVariants as Seen
 use Rattle.conn_core.specs.Calls.{is_call, cancels, answer_to_head, items_at_once}
 use Rattle.conn_core.specs.Received.{received_raw_frames, outcome}
 use Rattle.conn_core.specs.Past.{Past, new_past, owed_with_items, with_frame, with_fault, with_taken, with_pumped, with_bytes}
-use Rattle.instance_core.specs.State.{InstanceState, seeing}
+use Rattle.instance_core.specs.State.{InstanceState}
 use Rattle.instance_core.specs.Visible.{Blob}
-use Rattle.served_instance.proofs.Losses.{changes_parent}
+use Rattle.served_instance.proofs.LimitsKept.{AreNamed}
 use Rattle.instance_core.specs.Calls.{CallEventValue, IsShortEvent, tick as time_passes, start_jobs, end_late_jobs, end_job}
 use Rattle.instance_core.specs.Replies.{ReplyValue}
 use Rattle.instance_core.specs.Answer.{answer, state_after}
@@ -37,7 +37,9 @@ use Rattle.served_instance.specs.Connections.{LoneConnection, is_open_at, open_a
 use Rattle.served_instance.specs.Calls.{call_event_on, owed_items, with_items}
 use Rattle.served_instance.specs.Lone.{LoneInstance, after_replies, after_call_event, after_call_events, due_at, without_due, after_frame_on, is_over, after_frames_on, after_fault_on, after_end_on, unread_frames, after_reading_on, after_bytes_on, after_opening, after_closing, effect_of, lone_at_rest, after_pump, lone_at_moment, after_event, new_lone}
 use Rattle.served_instance.specs.Refusals.{refusal_of, after_event_unless, lone_step}
-use Rattle.server_core.specs.Runs.{Run, run_step}
+use Rattle.server_core.specs.Families.{FamilyEvent, own_event, parent_event, event_in}
+use Rattle.server_core.specs.Runs.{FamilyRun, texts_of_parent, family_step}
+use Rattle.server_core.proofs.Limits.{FamilyKeeps, named_beside, step_keeps}
 use Rattle.client_reading.specs.Answerable.{IsAnswerableStream, CanGoOn}
 use Rattle.client_reading.specs.Changes.{IsReceivable, IsPast}
 use Rattle.client_reading.proofs.Answerable.{calls_answerable, requests_answerable}
@@ -45,7 +47,7 @@ use Rattle.client_reading.proofs.Choices.{choose, all_append, all_by}
 use Rattle.client_reading.proofs.Pasts.{frames_received}
 use Rattle.served_instance.proofs.Brought.{IsShortCall, short_on, frame_short}
 use Rattle.run_reading.proofs.Connections.{HasPast, ArePasts}
-use Rattle.run_reading.specs.Happenings.{Happening, MomentCame, TimePassed, connection_place, call_happenings, due_happenings, answer_happenings, request_happenings, frame_happenings, happenings_of_frames, fault_happenings, end_happenings, reading_happenings, happenings_of_bytes, close_happenings, happenings_by, happenings_unless, step_happenings, happenings, RequestAnswered, CallEventCame, JobsTurned, place_of_call, turn_happenings}
+use Rattle.run_reading.specs.Happenings.{Happening, MomentCame, EventOver, TimePassed, connection_place, call_happenings, due_happenings, answer_happenings, request_happenings, frame_happenings, happenings_of_frames, fault_happenings, end_happenings, reading_happenings, happenings_of_bytes, close_happenings, happenings_by, happenings_unless, step_happenings, family_happenings, happenings, place_of_call, turn_happenings}
 use Rattle.run_reading.specs.Replies.{GivenItems, given_items_at, state_after_happening, given_items_from}
 use Rattle.run_reading.proofs.Lifts.{frame_made, fault_made, happened_made, acted_made, pumped_made, bytes_made, all_drop}
 use Rattle.run_reading.proofs.Owes.{OwedFrom, Gift, give, gifts_on, Gives, AreBelow, all_owed, closed_owed, opened_owed, below_more, all_length, closed_length, open_step, none_open, open_has}
@@ -364,8 +366,12 @@ unanswered l m h state none short same = record {
   short = λ narrow gs holds. (short, tt);
 }
 
-came_moves_at : {N : Type 0} (moment : ℕ) (l : LoneInstance) → Moves N l (MomentCame moment ∷ []) (lone_at_moment moment [] l)
-came_moves_at moment l = unanswered l (lone_at_moment moment [] l) (MomentCame moment) refl refl tt refl
+came_moves_at : {N : Type 0} (parent : List Blob) (moment : ℕ) (l : LoneInstance) → (N → AreNamed parent) → Moves N l (MomentCame parent moment ∷ []) (lone_at_moment moment parent l)
+came_moves_at parent moment l named = record {
+  state = refl;
+  holds = λ gs h. subst (λ (xs : List GivenItems). Holds xs (lone_at_moment moment parent l)) (sym (append-nil gs)) (holds_at gs l (lone_at_moment moment parent l) refl h);
+  short = λ n gs h. (named n, tt);
+}
 
 -- ---- jobs
 
@@ -406,54 +412,55 @@ pumped_moves l = quietly l (after_pump l) refl (λ gs h. record {
   due = pumped_due l.connections h.due;
 })
 
--- nothing that happens makes the instance read more of a parent's
-happening_reads_none : (s : InstanceState) (h : Happening) → s.parent ≡ [] → (state_after_happening s h).parent ≡ []
-happening_reads_none s (MomentCame moment) none = refl
-happening_reads_none s TimePassed none = changes_parent (answer s time_passes).changes s ∙ none
-happening_reads_none s (RequestAnswered place stream item) none = none
-happening_reads_none s (CallEventCame place event) none = changes_parent (answer s event).changes s ∙ none
-happening_reads_none s (JobsTurned places event) none = changes_parent (answer s event).changes s ∙ none
-
-happenings_read_none : (hs : List Happening) (s : InstanceState) → s.parent ≡ [] → (fold state_after_happening s hs).parent ≡ []
-happenings_read_none [] s none = none
-happenings_read_none (h ∷ hs) s none = happenings_read_none hs (state_after_happening s h) (happening_reads_none s h none)
-
 -- behind the event the instance is at rest
-rest_moves : {N : Type 0} (l : LoneInstance) → l.state.parent ≡ [] → Moves N l [] (lone_at_rest l)
-rest_moves l none = quietly l (lone_at_rest l) (ap (λ (bs : List Blob). seeing bs l.state) (sym none)) (λ gs h. holds_at gs l (lone_at_rest l) refl h)
+rest_moves : {N : Type 0} (l : LoneInstance) → Moves N l (EventOver ∷ []) (lone_at_rest l)
+rest_moves l = unanswered l (lone_at_rest l) EventOver refl refl tt refl
 
-accepted_moves : (e : EventValue) (l : LoneInstance) → Moves (IsNarrow e) l (MomentCame e.moment ∷ happenings_by e.what (lone_at_moment e.moment [] l)) (after_event [] e l)
-accepted_moves e l =
-    let at : LoneInstance = lone_at_moment e.moment [] l in
+-- an event that comes while the parent has these texts
+abbrev Comes : List Blob → EventValue → Type 0
+Comes parent e = AreNamed parent × IsNarrow e
+
+where_so : {M N : Type 0} (l m : LoneInstance) (hs : List Happening) → (M → N) → Moves N l hs m → Moves M l hs m
+where_so l m hs so h = record { state = h.state; holds = h.holds; short = λ n. h.short (so n) }
+
+accepted_moves : (parent : List Blob) (e : EventValue) (l : LoneInstance)
+    → Moves (Comes parent e) l (MomentCame parent e.moment ∷ (happenings_by e.what (lone_at_moment e.moment parent l) ++ EventOver ∷ [])) (after_event parent e l)
+accepted_moves parent e l =
+    let at : LoneInstance = lone_at_moment e.moment parent l in
     let after : LoneInstance = effect_of e.what at in
     let rest : LoneInstance = lone_at_rest after in
     let hs : List Happening = happenings_by e.what at in
-    let moved : Moves (IsNarrow e) at hs after = what_moves e.what at in
-    let none : after.state.parent ≡ [] = ap (λ (s : InstanceState). s.parent) moved.state ∙ happenings_read_none hs at.state refl in
-    let ended : Moves (IsNarrow e) after [] (after_event [] e l) = then_moves after rest (after_event [] e l) [] [] (rest_moves after none) (pumped_moves rest) in
-    let all : Moves (IsNarrow e) l (MomentCame e.moment ∷ (hs ++ [])) (after_event [] e l) = then_moves l at (after_event [] e l) (MomentCame e.moment ∷ []) (hs ++ []) (came_moves_at e.moment l) (then_moves at after (after_event [] e l) hs [] moved ended) in
-    subst (λ (ks : List Happening). Moves (IsNarrow e) l (MomentCame e.moment ∷ ks) (after_event [] e l)) (append-nil hs) all
+    let moved : Moves (Comes parent e) at hs after = where_so at after hs (λ n. n.1) (what_moves e.what at) in
+    let ended : Moves (Comes parent e) after (EventOver ∷ []) (after_event parent e l) = then_moves after rest (after_event parent e l) (EventOver ∷ []) [] (rest_moves after) (pumped_moves rest) in
+    then_moves l at (after_event parent e l) (MomentCame parent e.moment ∷ []) (hs ++ EventOver ∷ []) (came_moves_at parent e.moment l (λ n. n.0)) (then_moves at after (after_event parent e l) hs (EventOver ∷ []) moved ended)
 
-unless_moves : (e : EventValue) (l : LoneInstance) (o : Option EventRefusal) → Moves (IsNarrow e) l (happenings_unless e l o) (after_event_unless [] e l o)
-unless_moves e l None = accepted_moves e l
-unless_moves e l (Some refusal) = quietly l l refl (λ gs h. h)
+unless_moves : (parent : List Blob) (e : EventValue) (l : LoneInstance) (o : Option EventRefusal) → Moves (Comes parent e) l (happenings_unless parent e l o) (after_event_unless parent e l o)
+unless_moves parent e l None = accepted_moves parent e l
+unless_moves parent e l (Some refusal) = quietly l l refl (λ gs h. h)
 
-pub step_moves : (e : EventValue) (l : LoneInstance) → Moves (IsNarrow e) l (step_happenings e l) (lone_step [] e l)
-step_moves e l = unless_moves e l (refusal_of e l)
+pub step_moves : (parent : List Blob) (e : EventValue) (l : LoneInstance) → Moves (Comes parent e) l (step_happenings parent e l) (lone_step parent e l)
+step_moves parent e l = unless_moves parent e l (refusal_of e l)
 
--- ---- a run
+-- ---- a run of an instance and its parent
 
-where_narrow : {M N : Type 0} (l m : LoneInstance) (hs : List Happening) → (M → N) → Moves N l hs m → Moves M l hs m
-where_narrow l m hs narrow h = record { state = h.state; holds = h.holds; short = λ n. h.short (narrow n) }
+-- the two keep their limits, and no message of these events is too long
+abbrev pub HasNarrowEvents : FamilyRun → List FamilyEvent → Type 0
+HasNarrowEvents f es = FamilyKeeps f × AllByRecursion IsNarrow (map event_in es)
 
-pub run_moves : (r : Run) (es : List EventValue) → Moves (AllByRecursion IsNarrow es) r.lone (happenings r.lone es) (fold run_step r es).lone
-run_moves r [] = quietly r.lone r.lone refl (λ gs h. h)
-run_moves r (e ∷ es) =
-    let next : LoneInstance = lone_step [] e r.lone in
-    let last : LoneInstance = (fold run_step (run_step r e) es).lone in
-    then_moves r.lone next last (step_happenings e r.lone) (happenings next es)
-    (where_narrow r.lone next (step_happenings e r.lone) (λ narrow. narrow.0) (step_moves e r.lone))
-    (where_narrow next last (happenings next es) (λ narrow. narrow.1) (run_moves (run_step r e) es))
+family_moves : (f : FamilyRun) (e : FamilyEvent) → Moves (FamilyKeeps f × IsNarrow (event_in e)) f.own.lone (family_happenings f e) (family_step f e).own.lone
+family_moves f (own_event e) =
+    where_so f.own.lone (lone_step (texts_of_parent f.parent) e f.own.lone) (step_happenings (texts_of_parent f.parent) e f.own.lone)
+    (λ n. (named_beside f.parent n.0.beside, n.1)) (step_moves (texts_of_parent f.parent) e f.own.lone)
+family_moves f (parent_event e) = quietly f.own.lone f.own.lone refl (λ gs h. h)
+
+pub run_moves : (f : FamilyRun) (es : List FamilyEvent) → Moves (HasNarrowEvents f es) f.own.lone (happenings f es) (fold family_step f es).own.lone
+run_moves f [] = quietly f.own.lone f.own.lone refl (λ gs h. h)
+run_moves f (e ∷ es) =
+    let next : FamilyRun = family_step f e in
+    let last : LoneInstance = (fold family_step next es).own.lone in
+    then_moves f.own.lone next.own.lone last (family_happenings f e) (happenings next es)
+    (where_so f.own.lone next.own.lone (family_happenings f e) (λ n. (n.0, n.1.0)) (family_moves f e))
+    (where_so next.own.lone last (happenings next es) (λ n. (step_keeps f e n.1.0 n.0, n.1.1)) (run_moves next es))
 
 pub first_holds : (name : List ℕ) (quota slots : ℕ) → Holds [] (new_lone name quota slots)
 first_holds name quota slots = record { owes = record { owed = tt; below = tt }; pasts = tt; due = tt }

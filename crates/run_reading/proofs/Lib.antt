@@ -9,3 +9,4 @@ pub mod Lengths
 pub mod Happens
 pub mod Texts
 pub mod Runs
+pub mod Takings

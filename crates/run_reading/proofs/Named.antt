@@ -9,28 +9,30 @@ use Rattle.instance_core.specs.declared.event.CallId.{CallId}
 use Rattle.instance_core.specs.Replies.{ReplyItemValue, begins, says, gives, ends, refuses, ReplyValue}
 use Rattle.instance_core.specs.Answer.{answer, state_after}
 use Rattle.instance_core.specs.Calls.{CallEventValue, tick, IsShortEvent}
-use Rattle.instance_core.specs.State.{InstanceState, IsInstanceWithin, at_moment}
+use Rattle.instance_core.specs.State.{InstanceState, IsInstanceWithin, at_moment, seeing}
 use Rattle.served_instance.specs.Lone.{state_at_event}
 use Rattle.served_instance.specs.Calls.{item_of, owed_items}
-use Rattle.served_instance.proofs.LimitsKept.{moment_within, seeing_within}
+use Rattle.served_instance.proofs.LimitsKept.{AreNamed, moment_within, seeing_within}
 use Rattle.client_reading.proofs.Choices.{all_append}
 use Rattle.instance_core.proofs.EventLimits.{after_keeps}
 use Rattle.run_reading.specs.Replies.{GivenItems, items_of_reply, items_at_place, given_items_from}
-use Rattle.run_reading.specs.Happenings.{Happening, MomentCame, TimePassed, RequestAnswered, CallEventCame, JobsTurned}
+use Rattle.run_reading.specs.Happenings.{Happening, MomentCame, EventOver, TimePassed, RequestAnswered, CallEventCame, JobsTurned}
 use Rattle.instance_core.specs.NamedReplies.{AnsweredEvent, Request, request_at, IsNamedItem, ServesNamed}
 use Rattle.instance_core.proofs.NamedReplies.{AreNamedItems, AreNamedReplies, serves_named}
 use Rattle.run_reading.specs.Named.{answered_events, IsNamedGift, GivesNamed}
 
 -- ---- all answers
 
--- what a request is answered at once is no range, and a message's length can be written in front of it
+-- what a request is answered at once is no range, and a message's length can be written in front of it; and a parent's
+-- texts are what their digests say
 abbrev pub IsShortItem : Item → Type 0
 IsShortItem (Headed block) = Unit {0}
 IsShortItem (Message bytes) = length bytes < 2 ^ 32
 IsShortItem (Range digest text from count) = ⊥
 
 abbrev pub IsShortHappening : Happening → Type 0
-IsShortHappening (MomentCame moment) = Unit {0}
+IsShortHappening (MomentCame parent moment) = AreNamed parent
+IsShortHappening EventOver = Unit {0}
 IsShortHappening TimePassed = Unit {0}
 IsShortHappening (RequestAnswered place stream item) = IsShortItem item
 IsShortHappening (CallEventCame place event) = IsShortEvent event
@@ -39,7 +41,8 @@ IsShortHappening (JobsTurned places event) = IsShortEvent event
 -- what holds of each answer that is given within the limits, holds of all
 pub each_answer : (P : AnsweredEvent → Type 0) (s : InstanceState) (hs : List Happening) → ((t : InstanceState) (event : CallEventValue) → IsInstanceWithin t → P (record { state = t; event = event })) → AllByRecursion IsShortHappening hs → IsInstanceWithin s → AllByRecursion P (answered_events s hs)
 each_answer P s [] good short w = tt
-each_answer P s (MomentCame moment ∷ hs) good short w = each_answer P (state_at_event moment [] s) hs good short.1 (seeing_within [] (at_moment moment s) tt (moment_within moment s w))
+each_answer P s (MomentCame parent moment ∷ hs) good short w = each_answer P (state_at_event moment parent s) hs good short.1 (seeing_within parent (at_moment moment s) short.0 (moment_within moment s w))
+each_answer P s (EventOver ∷ hs) good short w = each_answer P (seeing [] s) hs good short.1 (seeing_within [] s tt w)
 each_answer P s (TimePassed ∷ hs) good short w = each_answer P (state_after s tick) hs good short.1 (after_keeps s tick tt w)
 each_answer P s (RequestAnswered place stream item ∷ hs) good short w = each_answer P s hs good short.1 w
 each_answer P s (CallEventCame place event ∷ hs) good short w = (good s event w, each_answer P (state_after s event) hs good short.1 (after_keeps s event short.0 w))
@@ -97,7 +100,8 @@ pub all_given : (P : Item → Type 0) → ((item : Item) → IsShortItem item �
     → ((t : InstanceState) (event : CallEventValue) → IsShortEvent event → IsInstanceWithin t → AllByRecursion (HasItems P) (answer t event).replies)
     → (s : InstanceState) (hs : List Happening) → AllByRecursion IsShortHappening hs → IsInstanceWithin s → AreItems P (given_items_from s hs)
 all_given P one replies s [] short w = tt
-all_given P one replies s (MomentCame moment ∷ hs) short w = all_given P one replies (state_at_event moment [] s) hs short.1 (seeing_within [] (at_moment moment s) tt (moment_within moment s w))
+all_given P one replies s (MomentCame parent moment ∷ hs) short w = all_given P one replies (state_at_event moment parent s) hs short.1 (seeing_within parent (at_moment moment s) short.0 (moment_within moment s w))
+all_given P one replies s (EventOver ∷ hs) short w = all_given P one replies (seeing [] s) hs short.1 (seeing_within [] s tt w)
 all_given P one replies s (TimePassed ∷ hs) short w = all_given P one replies (state_after s tick) hs short.1 (after_keeps s tick tt w)
 all_given P one replies s (RequestAnswered place stream item ∷ hs) short w = ((one item short.0, tt), all_given P one replies s hs short.1 w)
 all_given P one replies s (CallEventCame place event ∷ hs) short w =

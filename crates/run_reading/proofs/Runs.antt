@@ -1,10 +1,9 @@
 -- What holds of a run holds of what it gives.
-use Rattle.std.proofs.Common.{◌≡◌, ℕ, ◌+◌, ◌≤◌, ◌^◌, List, [], ◌∷◌, sym, subst}
-use Rattle.std.specs.Prelude.{suc, fold, Option, Some, None}
+use Rattle.std.proofs.Common.{◌≡◌, ℕ, ◌+◌, List, [], ◌∷◌, sym, subst}
+use Rattle.std.specs.Prelude.{suc, fold, map, Option, Some, None}
 use Rattle.std.specs.List.{AllByRecursion}
-use Rattle.server_events.specs.Configs.{ConfigValue}
+use Rattle.instance_core.specs.Visible.{Blob}
 use Rattle.server_events.specs.Events.{EventValue, WhatValue, opened, received, took, closed, tick, ended}
-use Rattle.server_events.specs.Instance.{slots_limit}
 use Rattle.executor.specs.Orders.{OrderValue}
 use Rattle.instance_core.specs.Calls.{tick as time_passes, start_jobs, end_late_jobs, end_job}
 use Rattle.instance_core.specs.Jobs.{IsWholeOrder}
@@ -15,9 +14,10 @@ use Rattle.served_instance.specs.Connections.{LoneConnection}
 use Rattle.served_instance.specs.Lone.{LoneInstance, after_call_event, after_bytes_on, orders_of_what, lone_at_moment}
 use Rattle.served_instance.specs.Narrow.{IsNarrow}
 use Rattle.served_instance.specs.Refusals.{refusal_of, orders_unless, lone_orders}
-use Rattle.served_instance.proofs.LimitsKept.{KeepsLimits, happened_keeps, bytes_keep, moment_within, seeing_within, stepped_keeps}
-use Rattle.server_core.specs.Runs.{Run, new_run, orders_at, run_step, run_of}
-use Rattle.server_core.proofs.Limits.{new_within}
+use Rattle.served_instance.proofs.LimitsKept.{AreNamed, KeepsLimits, happened_keeps, bytes_keep, moment_within, seeing_within}
+use Rattle.server_core.specs.Families.{Family, FamilyEvent, AreLimited, own_event, parent_event, event_in}
+use Rattle.server_core.specs.Runs.{Run, FamilyRun, new_family_run, texts_of_parent, orders_at, family_step, run_of_family}
+use Rattle.server_core.proofs.Limits.{FamilyKeeps, named_beside, new_family_keeps, step_keeps}
 use Rattle.client_reading.proofs.Choices.{all_append}
 use Rattle.grpc_sending.specs.Owed.{Item}
 use Rattle.client_reading.specs.Responses.{IsItemWithin, IsTakable, IsBeginning, stream_parts, response_of}
@@ -45,29 +45,31 @@ all_read place gs (k ∷ ks) short owed made text =
       all_read (suc place) gs ks short owed.1 made.1 text.1,
     )
 
-run_holds : (config : ConfigValue) (events : List EventValue) → Holds (run_given_items config events) (run_of config events).lone
-run_holds config events = (run_moves (new_run config) events).holds [] (first_holds config.name config.quota config.slots)
+run_holds : (family : Family) (events : List FamilyEvent) → Holds (run_given_items family events) (run_of_family family events).own.lone
+run_holds family events = (run_moves (new_family_run family) events).holds [] (first_holds family.own.name family.own.quota family.own.slots)
 
-run_short : (config : ConfigValue) (events : List EventValue) → AllByRecursion IsNarrow events → AllByRecursion IsShortHappening (run_happenings config events)
-run_short config events narrow = (run_moves (new_run config) events).short narrow [] (first_holds config.name config.quota config.slots)
+run_short : (family : Family) (events : List FamilyEvent) → AreLimited family → AllByRecursion IsNarrow (map event_in events) → AllByRecursion IsShortHappening (run_happenings family events)
+run_short family events limited narrow =
+    (run_moves (new_family_run family) events).short (new_family_keeps family limited, narrow) [] (first_holds family.own.name family.own.quota family.own.slots)
 
-pub replies_read : (config : ConfigValue) (events : List EventValue) → config.quota ≤ 2 ^ 40 → config.slots ≤ slots_limit → AllByRecursion IsNarrow events
-    → AreConnectionsRead 0 (run_given_items config events) (run_of config events).lone.connections
-replies_read config events small few narrow =
-    let h = run_holds config events in
-    let short : AreWithin (run_given_items config events) = given_within (new_instance_of config) (run_happenings config events) (run_short config events narrow) (new_within config.name config.quota config.slots small few) in
-    all_read 0 (run_given_items config events) (run_of config events).lone.connections short h.owes.owed h.pasts (run_reads (new_run config) events tt)
+pub replies_read : (family : Family) (events : List FamilyEvent) → AreLimited family → AllByRecursion IsNarrow (map event_in events)
+    → AreConnectionsRead 0 (run_given_items family events) (run_of_family family events).own.lone.connections
+replies_read family events limited narrow =
+    let h = run_holds family events in
+    let short : AreWithin (run_given_items family events) =
+    given_within (new_instance_of family.own) (run_happenings family events) (run_short family events limited narrow) (new_family_keeps family limited).own.within in
+    all_read 0 (run_given_items family events) (run_of_family family events).own.lone.connections short h.owes.owed h.pasts (run_reads (new_family_run family) events tt)
 
-pub state_is : (config : ConfigValue) (events : List EventValue) → (run_of config events).lone.state ≡ fold state_after_happening (new_instance_of config) (run_happenings config events)
-state_is config events = (run_moves (new_run config) events).state
+pub state_is : (family : Family) (events : List FamilyEvent) → (run_of_family family events).own.lone.state ≡ fold state_after_happening (new_instance_of family.own) (run_happenings family events)
+state_is family events = (run_moves (new_family_run family) events).state
 
-pub run_named : (config : ConfigValue) (events : List EventValue) → config.quota ≤ 2 ^ 40 → config.slots ≤ slots_limit → AllByRecursion IsNarrow events
-    → AllByRecursion ServesNamed (run_answered_events config events)
-run_named config events small few narrow = all_named (new_instance_of config) (run_happenings config events) (run_short config events narrow) (new_within config.name config.quota config.slots small few)
+pub run_named : (family : Family) (events : List FamilyEvent) → AreLimited family → AllByRecursion IsNarrow (map event_in events)
+    → AllByRecursion ServesNamed (run_answered_events family events)
+run_named family events limited narrow = all_named (new_instance_of family.own) (run_happenings family events) (run_short family events limited narrow) (new_family_keeps family limited).own.within
 
-pub run_gives_named : (config : ConfigValue) (events : List EventValue) → config.quota ≤ 2 ^ 40 → config.slots ≤ slots_limit → AllByRecursion IsNarrow events
-    → AllByRecursion GivesNamed (run_given_items config events)
-run_gives_named config events small few narrow = all_gifts (new_instance_of config) (run_happenings config events) (run_short config events narrow) (new_within config.name config.quota config.slots small few)
+pub run_gives_named : (family : Family) (events : List FamilyEvent) → AreLimited family → AllByRecursion IsNarrow (map event_in events)
+    → AllByRecursion GivesNamed (run_given_items family events)
+run_gives_named family events limited narrow = all_gifts (new_instance_of family.own) (run_happenings family events) (run_short family events limited narrow) (new_family_keeps family limited).own.within
 
 -- ---- what is ordered
 
@@ -82,22 +84,26 @@ what_whole (closed c) l h = tt
 what_whole tick l h = orders_whole (after_call_event time_passes l).state end_late_jobs (happened_keeps time_passes l tt h).within
 what_whole (ended job outcome) l h = orders_whole l.state (end_job job outcome) h.within
 
-unless_whole : (e : EventValue) (l : LoneInstance) (o : Option EventRefusal) → KeepsLimits l → AllByRecursion IsWholeOrder (orders_unless [] e l o)
-unless_whole e l None h = what_whole e.what (lone_at_moment e.moment [] l) (record { within = seeing_within [] (at_moment e.moment l.state) tt (moment_within e.moment l.state h.within); short = h.short })
-unless_whole e l (Some refusal) h = tt
+unless_whole : (parent : List Blob) (e : EventValue) (l : LoneInstance) (o : Option EventRefusal) → AreNamed parent → KeepsLimits l → AllByRecursion IsWholeOrder (orders_unless parent e l o)
+unless_whole parent e l None named h =
+    what_whole e.what (lone_at_moment e.moment parent l) (record { within = seeing_within parent (at_moment e.moment l.state) named (moment_within e.moment l.state h.within); short = h.short })
+unless_whole parent e l (Some refusal) named h = tt
 
 placed_whole : (place : ℕ) (os : List OrderValue) → AllByRecursion IsWholeOrder os → AreWholeOrders (orders_at place os)
 placed_whole place [] h = tt
 placed_whole place (o ∷ os) h = (h.0, placed_whole place os h.1)
 
-more_whole : (r : Run) (es : List EventValue) → AllByRecursion IsNarrow es → KeepsLimits r.lone → AreWholeOrders r.orders → AreWholeOrders (fold run_step r es).orders
-more_whole r [] narrow h so_far = so_far
-more_whole r (e ∷ es) narrow h so_far =
-    let here : List OrderValue = lone_orders [] e r.lone in
-    let whole : AllByRecursion IsWholeOrder here = unless_whole e r.lone (refusal_of e r.lone) h in
-    more_whole (run_step r e) es narrow.1 (stepped_keeps [] e r.lone (refusal_of e r.lone) tt narrow.0 h)
+more_whole : (f : FamilyRun) (es : List FamilyEvent) → AllByRecursion IsNarrow (map event_in es) → FamilyKeeps f → AreWholeOrders f.own.orders → AreWholeOrders (fold family_step f es).own.orders
+more_whole f [] narrow h so_far = so_far
+more_whole f (own_event e ∷ es) narrow h so_far =
+    let parent : List Blob = texts_of_parent f.parent in
+    let r : Run = f.own in
+    let here : List OrderValue = lone_orders parent e r.lone in
+    let whole : AllByRecursion IsWholeOrder here = unless_whole parent e r.lone (refusal_of e r.lone) (named_beside f.parent h.beside) h.own in
+    more_whole (family_step f (own_event e)) es narrow.1 (step_keeps f (own_event e) narrow.0 h)
     (all_append (λ (o : ℕ × OrderValue). IsWholeOrder o.1) r.orders (orders_at (r.count + 1) here) so_far (placed_whole (r.count + 1) here whole))
+more_whole f (parent_event e ∷ es) narrow h so_far = more_whole (family_step f (parent_event e)) es narrow.1 (step_keeps f (parent_event e) narrow.0 h) so_far
 
-pub run_orders_whole : (config : ConfigValue) (events : List EventValue) → config.quota ≤ 2 ^ 40 → config.slots ≤ slots_limit → AllByRecursion IsNarrow events
-    → AllByRecursion (λ (o : ℕ × OrderValue). IsWholeOrder o.1) (run_of config events).orders
-run_orders_whole config events small few narrow = more_whole (new_run config) events narrow (record { within = new_within config.name config.quota config.slots small few; short = tt }) tt
+pub run_orders_whole : (family : Family) (events : List FamilyEvent) → AreLimited family → AllByRecursion IsNarrow (map event_in events)
+    → AllByRecursion (λ (o : ℕ × OrderValue). IsWholeOrder o.1) (run_of_family family events).own.orders
+run_orders_whole family events limited narrow = more_whole (new_family_run family) events narrow (new_family_keeps family limited) tt

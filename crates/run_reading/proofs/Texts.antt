@@ -32,7 +32,9 @@ use Rattle.served_instance.specs.Connections.{LoneConnection, is_open_at, open_a
 use Rattle.served_instance.specs.Calls.{call_event_on, owed_items, with_items}
 use Rattle.served_instance.specs.Lone.{LoneInstance, after_replies, after_call_event, after_call_events, due_at, without_due, after_due_on, after_frame_on, is_over, after_frames_on, after_fault_on, after_end_on, unread_frames, after_reading_on, after_bytes_on, effect_of, lone_at_moment}
 use Rattle.served_instance.specs.Refusals.{refusal_of, after_event_unless}
-use Rattle.server_core.specs.Runs.{Run, run_step}
+use Rattle.instance_core.specs.Visible.{Blob}
+use Rattle.server_core.specs.Families.{FamilyEvent, own_event, parent_event}
+use Rattle.server_core.specs.Runs.{FamilyRun, texts_of_parent, family_step}
 use Rattle.client_reading.proofs.Choices.{choose, all_append}
 use Rattle.client_reading.proofs.Nexts.{pump_keeps}
 use Rattle.run_reading.specs.Replies.{ReadsText}
@@ -232,10 +234,11 @@ pumped_reads : (ks : List LoneConnection) → AllRead ks → AllRead (at_all_ope
 pumped_reads [] h = tt
 pumped_reads (k ∷ ks) h = (choose (λ (j : LoneConnection). ReadsText j.past) k.is_open (record k { past = with_pumped k.past }) k (λ _. same_frames k.past.history (with_pumped k.past).history k.past.text (pumped_raw k.past.history k.past.owed) h.0) (λ _. h.0), pumped_reads ks h.1)
 
-step_reads : (e : EventValue) (l : LoneInstance) (o : Option EventRefusal) → AllRead l.connections → AllRead (after_event_unless [] e l o).connections
-step_reads e l None h = pumped_reads (effect_of e.what (lone_at_moment e.moment [] l)).connections (acted_reads e.what (lone_at_moment e.moment [] l) h)
-step_reads e l (Some refusal) h = h
+step_reads : (parent : List Blob) (e : EventValue) (l : LoneInstance) (o : Option EventRefusal) → AllRead l.connections → AllRead (after_event_unless parent e l o).connections
+step_reads parent e l None h = pumped_reads (effect_of e.what (lone_at_moment e.moment parent l)).connections (acted_reads e.what (lone_at_moment e.moment parent l) h)
+step_reads parent e l (Some refusal) h = h
 
-pub run_reads : (r : Run) (es : List EventValue) → AllRead r.lone.connections → AllByRecursion (λ (k : LoneConnection). ReadsText k.past) (fold run_step r es).lone.connections
-run_reads r [] h = h
-run_reads r (e ∷ es) h = run_reads (run_step r e) es (step_reads e r.lone (refusal_of e r.lone) h)
+pub run_reads : (f : FamilyRun) (es : List FamilyEvent) → AllRead f.own.lone.connections → AllByRecursion (λ (k : LoneConnection). ReadsText k.past) (fold family_step f es).own.lone.connections
+run_reads f [] h = h
+run_reads f (own_event e ∷ es) h = run_reads (family_step f (own_event e)) es (step_reads (texts_of_parent f.parent) e f.own.lone (refusal_of e f.own.lone) h)
+run_reads f (parent_event e ∷ es) h = run_reads (family_step f (parent_event e)) es h

@@ -1,6 +1,6 @@
--- What happens in a run that matters to answers: moments come, time passes, requests come that are
--- no calls, and events of calls, in order. Each definition here goes beside one of Lone.antt of
--- served_instance, whose steps it follows, and lists what happens in it.
+-- What happens to an instance in a run that matters to its answers: moments come, time passes,
+-- requests come that are no calls, and events of calls, in order. Each definition here goes beside
+-- one of Lone.antt of served_instance, whose steps it follows, and lists what happens in it.
 use Rattle.std.specs.Prelude.{ℕ, Bool, false, not, ◌&&◌, ◌==◌, suc, if◌then◌else◌, List, [], ◌∷◌, ◌++◌, map, Option, Some, None, Result, Ok, Err}
 use Rattle.std.specs.List.{list_any}
 use Rattle.std.specs.Option.{option_map_or}
@@ -23,11 +23,17 @@ use Rattle.served_instance.specs.declared.refusal.EventRefusal.{EventRefusal}
 use Rattle.served_instance.specs.Connections.{LoneConnection, is_open_at, open_at, at_open}
 use Rattle.served_instance.specs.Calls.{call_event_on}
 use Rattle.served_instance.specs.Lone.{LoneInstance, due_at, is_over, after_frame_on, after_frames_on, after_bytes_on, unread_frames, lone_at_moment}
-use Rattle.served_instance.specs.Refusals.{refusal_of, lone_step}
+use Rattle.served_instance.specs.Refusals.{refusal_of}
+use Rattle.instance_core.specs.Visible.{Blob}
+use Rattle.server_core.specs.Families.{FamilyEvent, own_event, parent_event}
+use Rattle.server_core.specs.Runs.{FamilyRun, texts_of_parent, family_step}
 
 pub data Happening : Type 0 where
-  -- an event that is not refused comes at this moment, in milliseconds
-  MomentCame : ℕ → Happening
+  -- an event that is not refused comes at this moment, in milliseconds, while the instance's parent
+  -- has these texts
+  MomentCame : List Blob → ℕ → Happening
+  -- such an event is over: the parent's texts are read no more
+  EventOver : Happening
   -- old uploads are forgotten
   TimePassed : Happening
   -- the request on this stream, of the connection at this place, is no call: this item is owed to
@@ -130,14 +136,21 @@ happenings_by tick l = TimePassed ∷ turn_happenings end_late_jobs l
 happenings_by (ended job outcome) l = turn_happenings (end_job job outcome) l
 
 -- a refused event changes nothing
-abbrev pub happenings_unless : EventValue → LoneInstance → Option EventRefusal → List Happening
-happenings_unless e l None = MomentCame e.moment ∷ happenings_by e.what (lone_at_moment e.moment [] l)
-happenings_unless e l (Some refusal) = []
+abbrev pub happenings_unless : List Blob → EventValue → LoneInstance → Option EventRefusal → List Happening
+happenings_unless parent e l None =
+    MomentCame parent e.moment
+    ∷ (happenings_by e.what (lone_at_moment e.moment parent l) ++ EventOver ∷ [])
+happenings_unless parent e l (Some refusal) = []
 
-abbrev pub step_happenings : EventValue → LoneInstance → List Happening
-step_happenings e l = happenings_unless e l (refusal_of e l)
+abbrev pub step_happenings : List Blob → EventValue → LoneInstance → List Happening
+step_happenings parent e l = happenings_unless parent e l (refusal_of e l)
 
--- all that happens of these events, one after another
-abbrev pub happenings : LoneInstance → List EventValue → List Happening
-happenings l [] = []
-happenings l (e ∷ es) = step_happenings e l ++ happenings (lone_step [] e l) es
+-- what happens to the parent is nothing that happens to the instance
+abbrev pub family_happenings : FamilyRun → FamilyEvent → List Happening
+family_happenings f (own_event e) = step_happenings (texts_of_parent f.parent) e f.own.lone
+family_happenings f (parent_event e) = []
+
+-- all that happens to an instance at these events of it and of its parent, one after another
+abbrev pub happenings : FamilyRun → List FamilyEvent → List Happening
+happenings f [] = []
+happenings f (e ∷ es) = family_happenings f e ++ happenings (family_step f e) es

@@ -1,7 +1,7 @@
 -- What the streams of a run's connections are given for all that happens: at a request that is no
 -- call the answer to it, and at an event of a call what the instance replies (`answer` of
--- instance_core). Its state is a run of such answers, of the moments at which they are given and of
--- the passing of time, and of nothing else.
+-- instance_core). Its state is a run of such answers, of the moments at which they are given, with
+-- the texts that its parent has then, and of the passing of time, and of nothing else.
 use Rattle.std.specs.Prelude.{◌≡◌, ℕ, ◌-◌, ◌==◌, ◌&&◌, suc, if◌then◌else◌, List, [], ◌∷◌, ◌++◌, map, fold, Option, Some, None}
 use Rattle.std.specs.List.{flat_map}
 use Rattle.conn_core.specs.ReaderConstants.{CLIENT_PREFACE}
@@ -14,17 +14,17 @@ use Rattle.conn_core.specs.Received.{received_raw_frames}
 use Rattle.instance_core.specs.Calls.{tick}
 use Rattle.instance_core.specs.Replies.{ReplyValue}
 use Rattle.instance_core.specs.Answer.{answer, state_after}
-use Rattle.instance_core.specs.State.{InstanceState, new_instance}
+use Rattle.instance_core.specs.State.{InstanceState, new_instance, seeing}
 use Rattle.server_events.specs.Configs.{ConfigValue}
-use Rattle.server_events.specs.Events.{EventValue}
 use Rattle.served_instance.specs.Connections.{LoneConnection}
 use Rattle.served_instance.specs.Calls.{owed_items}
-use Rattle.served_instance.specs.Lone.{new_lone, state_at_event}
-use Rattle.server_core.specs.Runs.{run_of}
+use Rattle.served_instance.specs.Lone.{state_at_event}
+use Rattle.server_core.specs.Families.{Family, FamilyEvent}
+use Rattle.server_core.specs.Runs.{new_family_run, run_of_family}
 use Rattle.client_reading.specs.Changes.{IsPast}
 use Rattle.client_reading.specs.Responses.{stream_parts, response_of, IsBeginning}
 use Rattle.client_reading.specs.Reads.{IsReadByClient}
-use Rattle.run_reading.specs.Happenings.{Happening, MomentCame, TimePassed, RequestAnswered, CallEventCame, JobsTurned, happenings}
+use Rattle.run_reading.specs.Happenings.{Happening, MomentCame, EventOver, TimePassed, RequestAnswered, CallEventCame, JobsTurned, happenings}
 
 -- items that a stream of the connection at this place is given
 pub record GivenItems : Type 0 where
@@ -42,7 +42,8 @@ items_at_place None reply = []
 items_at_place (Some place) reply = items_of_reply place reply ∷ []
 
 abbrev pub given_items_at : InstanceState → Happening → List GivenItems
-given_items_at s (MomentCame moment) = []
+given_items_at s (MomentCame parent moment) = []
+given_items_at s EventOver = []
 given_items_at s TimePassed = []
 given_items_at s (RequestAnswered place stream item) =
     record { place = place; stream = stream; items = item ∷ [] } ∷ []
@@ -51,7 +52,8 @@ given_items_at s (JobsTurned places event) =
     flat_map (λ reply. items_at_place (places reply.call) reply) (answer s event).replies
 
 abbrev pub state_after_happening : InstanceState → Happening → InstanceState
-state_after_happening s (MomentCame moment) = state_at_event moment [] s
+state_after_happening s (MomentCame parent moment) = state_at_event moment parent s
+state_after_happening s EventOver = seeing [] s
 state_after_happening s TimePassed = state_after s tick
 state_after_happening s (RequestAnswered place stream item) = s
 state_after_happening s (CallEventCame place event) = state_after s event
@@ -74,21 +76,21 @@ items_on place stream gs = flat_map (items_given place stream) gs
 abbrev pub new_instance_of : ConfigValue → InstanceState
 new_instance_of config = new_instance config.name config.quota config.slots
 
-abbrev pub run_happenings : ConfigValue → List EventValue → List Happening
-run_happenings config events = happenings (new_lone config.name config.quota config.slots) events
+abbrev pub run_happenings : Family → List FamilyEvent → List Happening
+run_happenings family events = happenings (new_family_run family) events
 
-abbrev pub run_given_items : ConfigValue → List EventValue → List GivenItems
-run_given_items config events =
-    given_items_from (new_instance_of config) (run_happenings config events)
+abbrev pub run_given_items : Family → List FamilyEvent → List GivenItems
+run_given_items family events =
+    given_items_from (new_instance_of family.own) (run_happenings family events)
 
 -- what their answers make of the instance
-abbrev pub run_state : ConfigValue → List EventValue → InstanceState
-run_state config events =
-    fold state_after_happening (new_instance_of config) (run_happenings config events)
+abbrev pub run_state : Family → List FamilyEvent → InstanceState
+run_state family events =
+    fold state_after_happening (new_instance_of family.own) (run_happenings family events)
 
 -- the connections of the run, in order of opening
-abbrev pub run_connections : ConfigValue → List EventValue → List LoneConnection
-run_connections config events = (run_of config events).lone.connections
+abbrev pub run_connections : Family → List FamilyEvent → List LoneConnection
+run_connections family events = (run_of_family family events).own.lone.connections
 
 -- the longest message that the four bytes in front of it can state (gRPC over HTTP2,
 -- Length-Prefixed-Message)

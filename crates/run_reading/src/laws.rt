@@ -1,14 +1,15 @@
-//! What holds of every run of an instance by itself.
+//! What holds of every run of an instance, and of its parent if it has one, by themselves.
 
-ghost use Rattle.std.specs.Prelude.{◌≡◌, ◌≤◌, List, map};
+ghost use Rattle.std.specs.Prelude.{◌≡◌, ◌++◌, ◌∷◌, [], None, List, map};
 ghost use Rattle.std.specs.List.{AllByRecursion};
-ghost use Rattle.server_events.specs.Configs.{ConfigValue};
-ghost use Rattle.server_events.specs.Events.{EventValue};
-ghost use Rattle.server_events.specs.Instance.{quota_limit, slots_limit};
 ghost use Rattle.instance_core.specs.Jobs.{IsWholeOrder};
 ghost use Rattle.served_instance.specs.Lone.{sent_bytes_on};
 ghost use Rattle.served_instance.specs.Narrow.{IsNarrow};
-ghost use Rattle.server_core.specs.Runs.{run_of};
+ghost use Rattle.server_events.specs.Events.{EventValue};
+ghost use Rattle.served_instance.specs.Refusals.{refusal_of};
+ghost use Rattle.served_instance.specs.StandsFor.{AreSettled};
+ghost use Rattle.server_core.specs.Families.{Family, FamilyEvent, AreLimited, event_in, own_event};
+ghost use Rattle.server_core.specs.Runs.{run_of_family};
 ghost use Rattle.server_core.specs.LoneOutput.{lone_output};
 ghost use Rattle.run_reading.specs.Replies.{run_connections, run_given_items, run_state, AreConnectionsRead};
 ghost use Rattle.instance_core.specs.NamedReplies.{ServesNamed};
@@ -19,39 +20,49 @@ ghost use Rattle.run_reading.specs.Named.{run_answered_events, GivesNamed};
 /// and on each stream a beginning of the answers to its request, of which none is dropped while the
 /// stream is open.
 pub fn replies_are_read()
-    ensures sent { (config : ConfigValue) (events : List EventValue)
-        → (lone_output config events).sent ≡ map sent_bytes_on (run_connections config events) }
-    ensures read { (config : ConfigValue) (events : List EventValue) → config.quota ≤ quota_limit
-        → config.slots ≤ slots_limit → AllByRecursion IsNarrow events
-        → AreConnectionsRead 0 (run_given_items config events) (run_connections config events) }
+    ensures sent { (family : Family) (events : List FamilyEvent)
+        → (lone_output family events).sent ≡ map sent_bytes_on (run_connections family events) }
+    ensures read { (family : Family) (events : List FamilyEvent) → AreLimited family
+        → AllByRecursion IsNarrow (map event_in events)
+        → AreConnectionsRead 0 (run_given_items family events) (run_connections family events) }
+{}
+
+/// Each accepted event of a run leaves the instance's open connections settled: an error of the
+/// connection was met, or as much is untaken as the pump puts, or each live stream waits for a
+/// window or has nothing to put.
+pub fn runs_are_settled()
+    ensures { (family : Family) (events : List FamilyEvent) (e : EventValue)
+        → refusal_of e (run_of_family family events).own.lone ≡ None
+        → AreSettled (run_of_family family (events ++ own_event e ∷ [])).own.lone }
 {}
 
 /// The replies of a run are those that the instance gives to the events of its calls, one after
 /// another, and to what happens to its jobs, from the state in which it was opened, each at its
-/// moment: nothing else makes its state, but that time passes.
+/// moment and beside the texts that its parent has then: nothing else makes its state, but that time
+/// passes.
 pub fn replies_are_the_instances()
-    ensures { (config : ConfigValue) (events : List EventValue)
-        → (run_of config events).lone.state ≡ run_state config events }
+    ensures { (family : Family) (events : List FamilyEvent)
+        → (run_of_family family events).own.lone.state ≡ run_state family events }
 {}
 
-/// Each blob that is served in a run is named by the digest that was asked for: its SHA-256 is the
-/// hash, and its length the size. What a Read is given is a range of the text that the instance
-/// itself has under the digest in the resource name, from read_offset on and at most read_limit
-/// bytes (bytestream.proto). A reply to BatchReadBlobs has a response for each digest asked for, in
+/// Each blob that is served in a run is named by the digest that was asked for: the hash is its
+/// SHA-256, or its SHA-512 where that is the digest's function, and the size its length. What a Read
+/// is given is a range of the text that the instance itself has under the digest in the resource
+/// name, from read_offset on and at most read_limit bytes (bytestream.proto). A reply to BatchReadBlobs has a response for each digest asked for, in
 /// order, and data with status OK are what that digest says. A message of a reply to GetTree is a
 /// page of the tree whose root was asked for, and each directory of it is what a digest of the
 /// tree's list names. A reply to GetActionResult is the result that the instance itself has of the
 /// action, and each blob that it names is there (remote_execution.proto).
 pub fn blobs_served_are_named()
-    ensures answers { (config : ConfigValue) (events : List EventValue) → config.quota ≤ quota_limit
-        → config.slots ≤ slots_limit → AllByRecursion IsNarrow events
-        → AllByRecursion ServesNamed (run_answered_events config events) }
-    ensures streams { (config : ConfigValue) (events : List EventValue) → config.quota ≤ quota_limit
-        → config.slots ≤ slots_limit → AllByRecursion IsNarrow events
-        → AllByRecursion GivesNamed (run_given_items config events) }
+    ensures answers { (family : Family) (events : List FamilyEvent) → AreLimited family
+        → AllByRecursion IsNarrow (map event_in events)
+        → AllByRecursion ServesNamed (run_answered_events family events) }
+    ensures streams { (family : Family) (events : List FamilyEvent) → AreLimited family
+        → AllByRecursion IsNarrow (map event_in events)
+        → AllByRecursion GivesNamed (run_given_items family events) }
     // What is ordered to be run has what it needs: each file of its plan is empty or has its text
     // there, and each text is what its digest says.
-    ensures orders { (config : ConfigValue) (events : List EventValue) → config.quota ≤ quota_limit
-        → config.slots ≤ slots_limit → AllByRecursion IsNarrow events
-        → AllByRecursion (λ o. IsWholeOrder o.1) (lone_output config events).orders }
+    ensures orders { (family : Family) (events : List FamilyEvent) → AreLimited family
+        → AllByRecursion IsNarrow (map event_in events)
+        → AllByRecursion (λ o. IsWholeOrder o.1) (lone_output family events).orders }
 {}

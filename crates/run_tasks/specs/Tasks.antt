@@ -1,6 +1,9 @@
 -- What is run for a task of a job: its command, in its tree.
-use Rattle.std.specs.Prelude.{◌≡◌, ℕ, Bool, List, [], map, string_bytes, unwrap_or}
+use Rattle.std.specs.Prelude.{◌≡◌, ℕ, Bool, List, [], ◌∷◌, map, string_bytes, unwrap_or}
 use Rattle.digest.specs.declared.Digest.{Digest}
+use Rattle.digest.specs.declared.HashFunction.{HashFunction}
+use Rattle.digest.specs.declared.HashFunction.TheVariants.{Sha256}
+use Rattle.digest.specs.Naming.{function_of}
 use Rattle.tree_plan.specs.Nodes as plans
 use Rattle.tree_plan.specs.Nodes.{PlanNodeValue}
 use Rattle.execution_messages.specs.Actions.{CommandValue, EnvironmentVariableValue}
@@ -75,9 +78,16 @@ output_paths c = map (λ a. a.path) (asked_outputs c)
 
 -- ---- tasks
 
--- what runs is the command of the task, in the tree of the task
+-- the function of the first of these digests, which is that of a task's action
+abbrev pub function_for : List Digest → HashFunction
+function_for [] = Sha256
+function_for (d ∷ ds) = function_of d.hash
+
+-- what runs is the command of the task, in the tree of the task, and what it leaves is hashed by the
+-- function of the task's action
 pub record IsTaskOf (t : TaskValue) (run : Task) : Type 0 where
   pub program : command_shown run.command ≡ program_of (command_for t.command)
   pub directory : string_bytes run.working_directory ≡ (command_for t.command).working_directory
   pub outputs : map string_bytes run.outputs.items ≡ output_paths (command_for t.command)
   pub nodes : map node_shown run.nodes.items ≡ map (node_of (blob_digests t.texts)) t.nodes
+  pub function : run.function ≡ function_for (blob_digests t.texts)

@@ -1,21 +1,33 @@
 //! Tasks of jobs as tasks of runs.
 
-ghost use Rattle.std.specs.Prelude.{IfOk};
+ghost use Rattle.std.specs.Prelude.{◌≡◌, IfOk};
 ghost use Rattle.blob_pool.specs.Slots.{Slots};
 ghost use Rattle.executor.specs.InPool.{task_in};
-ghost use Rattle.run_tasks.specs.Tasks.{IsTaskOf};
+ghost use Rattle.run_tasks.specs.Tasks.{IsTaskOf, function_for};
+ghost use Rattle.run_tasks.specs.Texts.{kept_digests};
 
 use crate::commands::{command_for, output_paths, program_of};
 use crate::nodes::nodes_of;
-use executor::Task as JobTask;
+use digest::HashFunction;
+use executor::{KeptText, Task as JobTask};
 use runner::Task;
 use std::alloc::{AllocError, Global};
+
+/// The function of the digest of a task's action, which is the first of its texts.
+fn function_for(texts: &[KeptText]) -> HashFunction
+    ensures { result ≡ function_for (kept_digests texts.now) }
+{
+    match texts {
+        [action, ..] => action.digest.function(),
+        [] => HashFunction::Sha256,
+    }
+}
 
 /// What is run for a task of a job: the command that its text spells, with the variables and the
 /// outputs in the order of the command, in the tree of its plan. A file is made of the text whose
 /// number it has among the task's texts (`LentTexts`); where none of them has its digest, that number
 /// is of none, and the file is empty. Where the task's text spells no command that is taken, nothing
-/// is asked for.
+/// is asked for. What the run leaves is hashed by the function of the digest of the task's action.
 ///
 /// Err: a request for memory was refused.
 pub fn run_task(alloc: Global, task: &JobTask) -> Result<Task, AllocError>
@@ -26,10 +38,12 @@ pub fn run_task(alloc: Global, task: &JobTask) -> Result<Task, AllocError>
     let command = program_of(alloc, &message)?;
     let working_directory = String::from_str(alloc, message.working_directory)?;
     let outputs = output_paths(alloc, &message)?;
+    let function = function_for(&task.texts);
     Ok(Task {
         nodes,
         command,
         working_directory,
         outputs,
+        function,
     })
 }

@@ -51,7 +51,7 @@ IsStateOf (Over e) t = ⊥
 
 abbrev pub IsStarted : RunKey → Task → Run → Type 0
 IsStarted key t run =
-    (run.place ≡ record { run = key; directory = t.working_directory }) × IsStateOf run.state t
+    (run.place ≡ record { run = key; directory = t.working_directory; function = t.function }) × IsStateOf run.state t
 
 -- ---- of runs that are over
 

@@ -4,6 +4,7 @@ ghost use Rattle.std.specs.Prelude.{◌≡◌, ◌++◌, ◌+◌, ◌≤◌, ◌
 ghost use Rattle.runner.specs.Sizes.{most_bytes};
 
 use blob_pool::Draft;
+use digest::HashFunction;
 use std::alloc::{AllocError, Global};
 use std::marker::Model;
 
@@ -35,12 +36,12 @@ impl Model for Content {
 }
 
 impl Content {
-    /// Nothing yet. It takes no memory.
-    pub(crate) fn new(alloc: Global) -> Content
+    /// Nothing yet of what is to be named by a function. It takes no memory.
+    pub(crate) fn new(alloc: Global, function: HashFunction) -> Content
         ensures { result ≡ [] }
     {
         Content {
-            draft: Draft::new(alloc),
+            draft: Draft::new(alloc, function),
         }
     }
 

@@ -3,14 +3,16 @@
 ghost use Rattle.std.specs.Prelude.{◌≡◌, ◌≤◌, ℕ, List, Option, None, IfOk, length};
 
 use crate::task::{NodeKind, RunKey};
+use digest::HashFunction;
 use std::io;
 
-/// A run, and the directory in its folder in which its program runs.
+/// A run, the directory in its folder in which its program runs, and how what it leaves is hashed.
 #[derive(Drop, Debug)]
 pub struct Place {
     pub run: RunKey,
     /// From the root on, with `/` between names; empty for the root itself.
     pub directory: String,
+    pub function: HashFunction,
 }
 
 /// What is told of a file.

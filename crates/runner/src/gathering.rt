@@ -51,7 +51,7 @@ pub(crate) fn next_output<F: Folder>(
             let file = OutputFile {
                 path,
                 is_executable: facts.is_executable,
-                content: Content::new(alloc),
+                content: Content::new(alloc, place.function),
             };
             Ok(Step::Goes(Stage::File(gathering, file), 1))
         }
@@ -266,7 +266,7 @@ fn look_in_tree<F: Folder>(
     let file = TreeFile {
         name,
         is_executable: facts.is_executable,
-        content: Content::new(alloc),
+        content: Content::new(alloc, place.function),
     };
     Ok(Step::Goes(Stage::TreeFile(gathering, tree, file), 1))
 }

@@ -78,7 +78,7 @@ pub(crate) fn measure<P: Programs>(
     if length > MOST_BYTES {
         return Err(RunFault::TooLarge);
     }
-    Ok(Step::Goes(Stage::Output(ended, Content::new(alloc)), 1))
+    Ok(Step::Goes(Stage::Output(ended, Content::new(alloc, place.function)), 1))
 }
 
 /// Reads the next piece of standard output.
@@ -100,7 +100,7 @@ pub(crate) fn read_output<P: Programs>(
     let from = content.length();
     let piece = of_programs(programs.read(place.run, Stream::Output, from, PIECE))?;
     if piece.is_empty() {
-        let stage = Stage::Error(ended, content.whole(), Content::new(alloc));
+        let stage = Stage::Error(ended, content.whole(), Content::new(alloc, place.function));
         return Ok(Step::Goes(stage, 1));
     }
     if is_too_large(from, piece.len() as u64) {

@@ -81,6 +81,7 @@ fn started(alloc: Global, key: RunKey, task: Task) -> Run
         command,
         working_directory,
         outputs,
+        function,
     } = task;
     let nodes = Nodes {
         above: Vec::new(alloc),
@@ -91,6 +92,7 @@ fn started(alloc: Global, key: RunKey, task: Task) -> Run
         place: Place {
             run: key,
             directory: working_directory,
+            function,
         },
         state: State::Live(Going::new(Stage::Making(Making::Root(nodes)))),
     }

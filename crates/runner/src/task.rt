@@ -1,5 +1,6 @@
 //! What is to be run.
 
+use digest::HashFunction;
 use std::collections::VecDeque;
 
 /// A run: a job of an instance.
@@ -54,4 +55,6 @@ pub struct Task {
     pub working_directory: String,
     /// Paths from the working directory on, in the order asked for.
     pub outputs: VecDeque<String>,
+    /// The function by which what the program leaves is to be named: it is hashed so as it is read.
+    pub function: HashFunction,
 }

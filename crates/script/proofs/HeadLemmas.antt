@@ -19,7 +19,7 @@ use Rattle.script.specs.FirstBadLine.{Leads, after_lines}
 use Rattle.script.specs.Parts.{lines_of, words_of}
 use Rattle.script.specs.ReplayEvents.{event_at, event_of, what_of}
 use Rattle.script.specs.ReplayHead.{ReplayHeadValue, after_head_line, after_head_words, head_of, head_with_config, head_with_event}
-use Rattle.script.specs.ReplayScript.{ReplayScriptValue, after_replay_line, after_replay_words, config_of, empty_replay_script, replay_script_of, with_config, with_event}
+use Rattle.script.specs.ReplayScript.{ReplayScriptValue, after_replay_line, after_replay_words, config_if_good, config_of, empty_replay_script, replay_script_of, roots_of_lines, with_config, with_event}
 use Rattle.script.proofs.FirstLemmas.{Leads-from_Ok}
 use Rattle.script.proofs.LineLemmas.{length-lines_of}
 use Rattle.script.proofs.Somes.{mapped}
@@ -31,56 +31,74 @@ not_empty es e =
     let longer = length_push es e in
     grind (arith, nat_tests)
 
-with_event-head : (s : ReplayScriptValue) (e : EventValue) → head_of (with_event s e) ≡ head_with_event (head_of s) e
-with_event-head s e = ap (λ (b : Bool). head_with_none s (not b)) (not_empty s.events e)
+with_event-head : (roots : List (List ℕ)) (s : ReplayScriptValue) (e : EventValue) → head_of roots (with_event s e) ≡ head_with_event (head_of roots s) e
+with_event-head roots s e = ap (λ (b : Bool). head_with_none s (not b)) (not_empty s.events e)
   where
     head_with_none : ReplayScriptValue → Bool → ReplayHeadValue
-    head_with_none s b = record { configs = s.configs; has_events = b }
+    head_with_none s b = record { roots = roots; configs = s.configs; has_events = b }
 
-configured : (s : ReplayScriptValue) (o : Option ConfigValue) → option_map head_of (option_map (with_config s) o) ≡ option_map (head_with_config (head_of s)) o
-configured s None = refl
-configured s (Some c) = refl
+configured : (roots : List (List ℕ)) (s : ReplayScriptValue) (o : Option ConfigValue)
+    → option_map (head_of roots) (option_map (with_config s) o) ≡ option_map (head_with_config (head_of roots s)) o
+configured roots s None = refl
+configured roots s (Some c) = refl
 
-happened : (s : ReplayScriptValue) (o : Option EventValue) → option_map head_of (option_map (with_event s) o) ≡ option_map (head_with_event (head_of s)) o
-happened s None = refl
-happened s (Some e) = ap Some (with_event-head s e)
+happened : (roots : List (List ℕ)) (s : ReplayScriptValue) (o : Option EventValue)
+    → option_map (head_of roots) (option_map (with_event s) o) ≡ option_map (head_with_event (head_of roots s)) o
+happened roots s None = refl
+happened roots s (Some e) = ap Some (with_event-head roots s e)
 
-by_kind : (configures early : Bool) (s : ReplayScriptValue) (c : Option ConfigValue) (e : Option EventValue)
-    → option_map head_of (cond configures (cond early (option_map (with_config s) c) None) (option_map (with_event s) e))
-    ≡ cond configures (cond (not early) None (option_map (head_with_config (head_of s)) c)) (option_map (head_with_event (head_of s)) e)
-by_kind true true s c e = configured s c
-by_kind true false s c e = refl
-by_kind false early s c e = happened s e
+by_kind : (configures early : Bool) (roots : List (List ℕ)) (s : ReplayScriptValue) (c : Option ConfigValue) (e : Option EventValue)
+    → option_map (head_of roots) (cond configures (cond early (option_map (with_config s) c) None) (option_map (with_event s) e))
+    ≡ cond configures (cond (not early) None (option_map (head_with_config (head_of roots s)) c)) (option_map (head_with_event (head_of roots s)) e)
+by_kind true true roots s c e = configured roots s c
+by_kind true false roots s c e = refl
+by_kind false early roots s c e = happened roots s e
 
-head_of-after_words : (s : ReplayScriptValue) (words : List (List ℕ)) → option_map head_of (after_replay_words s words) ≡ after_head_words (head_of s) words
-head_of-after_words s [] = refl
-head_of-after_words s (kind ∷ arguments) =
-    by_kind (bytes_eq kind (codes "instance")) (length s.events == 0) s (config_of s.configs arguments) (event_of kind arguments)
+head_of-after_words : (roots : List (List ℕ)) (s : ReplayScriptValue) (words : List (List ℕ))
+    → option_map (head_of roots) (after_replay_words roots s words) ≡ after_head_words (head_of roots s) words
+head_of-after_words roots s [] = refl
+head_of-after_words roots s (kind ∷ arguments) =
+    by_kind (bytes_eq kind (codes "instance")) (length s.events == 0) roots s (option_and_then (config_if_good roots s.configs) (config_of arguments)) (event_of kind arguments)
 
-head_of-after_line : (s : ReplayScriptValue) (line : List ℕ) → option_map head_of (after_replay_line s line) ≡ after_head_line (head_of s) line
-head_of-after_line s [] = refl
-head_of-after_line s (byte ∷ line) = head_of-after_words s (words_of (byte ∷ line))
+head_of-after_line : (roots : List (List ℕ)) (s : ReplayScriptValue) (line : List ℕ)
+    → option_map (head_of roots) (after_replay_line roots s line) ≡ after_head_line (head_of roots s) line
+head_of-after_line roots s [] = refl
+head_of-after_line roots s (byte ∷ line) = head_of-after_words roots s (words_of (byte ∷ line))
+
+-- a line that configures an instance
+pub configures_line : (head : ReplayHeadValue) (line kind : List ℕ) (arguments : List (List ℕ)) (config : ConfigValue) → words_of line ≡ kind ∷ arguments
+    → bytes_eq kind (codes "instance") ≡ true → head.has_events ≡ false → option_and_then (config_if_good head.roots head.configs) (config_of arguments) ≡ Some config
+    → after_head_line head line ≡ Some (head_with_config head config)
+configures_line head [] kind arguments config words is early read =
+    let empty : [] ≡ kind = cc in
+    let clash : false ≡ true = ap (λ k. bytes_eq k (codes "instance")) empty ∙ is in
+    cc
+configures_line head (byte ∷ line) kind arguments config words is early read =
+    ap (after_head_words head) words
+    ∙ ap (λ b. cond b (cond head.has_events None (option_map (head_with_config head) (option_and_then (config_if_good head.roots head.configs) (config_of arguments)))) (option_map (head_with_event head) (event_of kind arguments))) is
+    ∙ ap (λ b. cond b None (option_map (head_with_config head) (option_and_then (config_if_good head.roots head.configs) (config_of arguments)))) early
+    ∙ ap (option_map (head_with_config head)) read
 
 -- ---- all lines
 
-head_of-lines : (number : ℕ) (s : ReplayScriptValue) (lines : List (List ℕ))
-    → result_map_both head_of (λ n. n) (after_lines after_replay_line number s lines) ≡ after_lines after_head_line number (head_of s) lines
-head_of-lines number s [] = refl
-head_of-lines number s (line ∷ lines) =
-    go (λ next. head_of-lines (number + 1) next lines) (after_replay_line s line) refl
+head_of-lines : (roots : List (List ℕ)) (number : ℕ) (s : ReplayScriptValue) (lines : List (List ℕ))
+    → result_map_both (head_of roots) (λ n. n) (after_lines (after_replay_line roots) number s lines) ≡ after_lines after_head_line number (head_of roots s) lines
+head_of-lines roots number s [] = refl
+head_of-lines roots number s (line ∷ lines) =
+    go (λ next. head_of-lines roots (number + 1) next lines) (after_replay_line roots s line) refl
   where
-    step : (r : Option ReplayScriptValue) → ((next : ReplayScriptValue) → result_map_both head_of (λ n. n) (after_lines after_replay_line (number + 1) next lines) ≡ after_lines after_head_line (number + 1) (head_of next) lines)
-        → result_map_both head_of (λ n. n) (option_map_or (λ next. after_lines after_replay_line (number + 1) next lines) r (Err number))
-        ≡ option_map_or (λ next. after_lines after_head_line (number + 1) next lines) (option_map head_of r) (Err number)
+    step : (r : Option ReplayScriptValue) → ((next : ReplayScriptValue) → result_map_both (head_of roots) (λ n. n) (after_lines (after_replay_line roots) (number + 1) next lines) ≡ after_lines after_head_line (number + 1) (head_of roots next) lines)
+        → result_map_both (head_of roots) (λ n. n) (option_map_or (λ next. after_lines (after_replay_line roots) (number + 1) next lines) r (Err number))
+        ≡ option_map_or (λ next. after_lines after_head_line (number + 1) next lines) (option_map (head_of roots) r) (Err number)
     step None later = refl
     step (Some next) later = later next
 
-    go : ((next : ReplayScriptValue) → result_map_both head_of (λ n. n) (after_lines after_replay_line (number + 1) next lines) ≡ after_lines after_head_line (number + 1) (head_of next) lines)
-        → (r : Option ReplayScriptValue) → after_replay_line s line ≡ r
-        → result_map_both head_of (λ n. n) (after_lines after_replay_line number s (line ∷ lines)) ≡ after_lines after_head_line number (head_of s) (line ∷ lines)
+    go : ((next : ReplayScriptValue) → result_map_both (head_of roots) (λ n. n) (after_lines (after_replay_line roots) (number + 1) next lines) ≡ after_lines after_head_line (number + 1) (head_of roots next) lines)
+        → (r : Option ReplayScriptValue) → after_replay_line roots s line ≡ r
+        → result_map_both (head_of roots) (λ n. n) (after_lines (after_replay_line roots) number s (line ∷ lines)) ≡ after_lines after_head_line number (head_of roots s) (line ∷ lines)
     go later r e =
-        step (after_replay_line s line) later
-        ∙ ap (λ o. option_map_or (λ next. after_lines after_head_line (number + 1) next lines) o (Err number)) (head_of-after_line s line)
+        step (after_replay_line roots s line) later
+        ∙ ap (λ o. option_map_or (λ next. after_lines after_head_line (number + 1) next lines) o (Err number)) (head_of-after_line roots s line)
 
 -- ---- the events
 
@@ -108,23 +126,26 @@ after_kind true true s t c e none h =
 after_kind true false s t c e none h = cc
 after_kind false early s t c e none h = one_more s t e h
 
-events-after_words : (s t : ReplayScriptValue) (words : List (List ℕ)) → after_replay_words s words ≡ Some t → t.events ≡ s.events ++ option_to_list (event_of_words words)
-events-after_words s t [] h = cc
-events-after_words s t (kind ∷ arguments) h =
-    after_kind (bytes_eq kind (codes "instance")) (length s.events == 0) s t (config_of s.configs arguments) (event_of kind arguments)
+events-after_words : (roots : List (List ℕ)) (s t : ReplayScriptValue) (words : List (List ℕ)) → after_replay_words roots s words ≡ Some t
+    → t.events ≡ s.events ++ option_to_list (event_of_words words)
+events-after_words roots s t [] h = cc
+events-after_words roots s t (kind ∷ arguments) h =
+    after_kind (bytes_eq kind (codes "instance")) (length s.events == 0) s t (option_and_then (config_if_good roots s.configs) (config_of arguments)) (event_of kind arguments)
     (λ e. ap (λ k. event_of k arguments) ((bytes_eq-Decides kind (codes "instance")).0 e) ∙ no_event arguments) h
 
-events-after_line : (s t : ReplayScriptValue) (line : List ℕ) → after_replay_line s line ≡ Some t → t.events ≡ s.events ++ option_to_list (event_of_line line)
-events-after_line s t [] h =
+events-after_line : (roots : List (List ℕ)) (s t : ReplayScriptValue) (line : List ℕ) → after_replay_line roots s line ≡ Some t
+    → t.events ≡ s.events ++ option_to_list (event_of_line line)
+events-after_line roots s t [] h =
     let same : s ≡ t = cc in
     ap (λ (x : ReplayScriptValue). x.events) (sym same) ∙ sym (append-nil s.events)
-events-after_line s t (byte ∷ line) h = events-after_words s t (words_of (byte ∷ line)) h
+events-after_line roots s t (byte ∷ line) h = events-after_words roots s t (words_of (byte ∷ line)) h
 
-events-Leads : (s t : ReplayScriptValue) (lines : List (List ℕ)) → Leads after_replay_line s lines t → t.events ≡ s.events ++ events_of_lines lines
-events-Leads s t [] h = ap (λ (x : ReplayScriptValue). x.events) (sym h) ∙ sym (append-nil s.events)
-events-Leads s t (line ∷ lines) h =
-    events-Leads h.0 t lines h.2
-    ∙ ap (λ es. es ++ events_of_lines lines) (events-after_line s h.0 line h.1)
+events-Leads : (roots : List (List ℕ)) (s t : ReplayScriptValue) (lines : List (List ℕ)) → Leads (after_replay_line roots) s lines t
+    → t.events ≡ s.events ++ events_of_lines lines
+events-Leads roots s t [] h = ap (λ (x : ReplayScriptValue). x.events) (sym h) ∙ sym (append-nil s.events)
+events-Leads roots s t (line ∷ lines) h =
+    events-Leads roots h.0 t lines h.2
+    ∙ ap (λ es. es ++ events_of_lines lines) (events-after_line roots s h.0 line h.1)
     ∙ append_assoc s.events (option_to_list (event_of_line line)) (events_of_lines lines)
 
 -- ---- whole texts
@@ -132,39 +153,46 @@ events-Leads s t (line ∷ lines) h =
 script_with : List ConfigValue → List EventValue → ReplayScriptValue
 script_with configs events = record { configs = configs; events = events }
 
--- the script of a text, of which the lines were read without keeping events
-pub replay_script_of-head : (text : List ℕ) (head : ReplayHeadValue) → after_lines after_head_line 1 (head_of empty_replay_script) (lines_of text) ≡ Ok head
-    → replay_script_of text ≡ Ok (record { configs = head.configs; events = events_of_text text })
+-- the script of these lines, which were read without keeping events
+script_of_lines-head : (roots lines : List (List ℕ)) (head : ReplayHeadValue) → after_lines after_head_line 1 (head_of roots empty_replay_script) lines ≡ Ok head
+    → after_lines (after_replay_line roots) 1 empty_replay_script lines ≡ Ok (record { configs = head.configs; events = events_of_lines lines })
 unfolding script_with
-replay_script_of-head text head h = go (replay_script_of text) refl
+script_of_lines-head roots lines head h = go (after_lines (after_replay_line roots) 1 empty_replay_script lines) refl
   where
-    go : (r : Result ReplayScriptValue ℕ) → replay_script_of text ≡ r → replay_script_of text ≡ Ok (script_with head.configs (events_of_text text))
+    go : (r : Result ReplayScriptValue ℕ) → after_lines (after_replay_line roots) 1 empty_replay_script lines ≡ r
+        → after_lines (after_replay_line roots) 1 empty_replay_script lines ≡ Ok (script_with head.configs (events_of_lines lines))
     go (Ok s) e =
-        let image : Ok (head_of s) ≡ Ok head = ap (result_map_both head_of (λ n. n)) (sym e) ∙ head_of-lines 1 empty_replay_script (lines_of text) ∙ h in
-        let same : head_of s ≡ head = cc in
-        let events = events-Leads empty_replay_script s (lines_of text) (Leads-from_Ok after_replay_line 1 empty_replay_script s (lines_of text) e) in
+        let image : Ok (head_of roots s) ≡ Ok head = ap (result_map_both (head_of roots) (λ n. n)) (sym e) ∙ head_of-lines roots 1 empty_replay_script lines ∙ h in
+        let same : head_of roots s ≡ head = cc in
+        let events = events-Leads roots empty_replay_script s lines (Leads-from_Ok (after_replay_line roots) 1 empty_replay_script s lines e) in
         e ∙ ap Ok (ap₂ script_with (ap (λ (x : ReplayHeadValue). x.configs) same) events)
     go (Err n) e =
-        let image : Err n ≡ Ok head = ap (result_map_both head_of (λ n. n)) (sym e) ∙ head_of-lines 1 empty_replay_script (lines_of text) ∙ h in
+        let image : Err n ≡ Ok head = ap (result_map_both (head_of roots) (λ n. n)) (sym e) ∙ head_of-lines roots 1 empty_replay_script lines ∙ h in
         cc
 
-bad_line-head : (text : List ℕ) (number : ℕ) → after_lines after_head_line 1 (head_of empty_replay_script) (lines_of text) ≡ Err number
-    → replay_script_of text ≡ Err number
-bad_line-head text number h = go (replay_script_of text) refl
+bad_line-head : (roots lines : List (List ℕ)) (number : ℕ) → after_lines after_head_line 1 (head_of roots empty_replay_script) lines ≡ Err number
+    → after_lines (after_replay_line roots) 1 empty_replay_script lines ≡ Err number
+bad_line-head roots lines number h = go (after_lines (after_replay_line roots) 1 empty_replay_script lines) refl
   where
-    go : (r : Result ReplayScriptValue ℕ) → replay_script_of text ≡ r → replay_script_of text ≡ Err number
+    go : (r : Result ReplayScriptValue ℕ) → after_lines (after_replay_line roots) 1 empty_replay_script lines ≡ r
+        → after_lines (after_replay_line roots) 1 empty_replay_script lines ≡ Err number
     go (Ok s) e =
-        let image : Ok (head_of s) ≡ Err number = ap (result_map_both head_of (λ n. n)) (sym e) ∙ head_of-lines 1 empty_replay_script (lines_of text) ∙ h in
+        let image : Ok (head_of roots s) ≡ Err number = ap (result_map_both (head_of roots) (λ n. n)) (sym e) ∙ head_of-lines roots 1 empty_replay_script lines ∙ h in
         cc
     go (Err n) e =
-        let image : Err n ≡ Err number = ap (result_map_both head_of (λ n. n)) (sym e) ∙ head_of-lines 1 empty_replay_script (lines_of text) ∙ h in
+        let image : Err n ≡ Err number = ap (result_map_both (head_of roots) (λ n. n)) (sym e) ∙ head_of-lines roots 1 empty_replay_script lines ∙ h in
         let same : n ≡ number = cc in
         e ∙ ap Err same
 
+-- the script of a text
+pub replay_script_of-head : (text : List ℕ) (head : ReplayHeadValue) → after_lines after_head_line 1 (head_of (roots_of_lines (lines_of text)) empty_replay_script) (lines_of text) ≡ Ok head
+    → replay_script_of text ≡ Ok (record { configs = head.configs; events = events_of_text text })
+replay_script_of-head text head h = script_of_lines-head (roots_of_lines (lines_of text)) (lines_of text) head h
+
 -- and its fault
-pub IsFaultOf-head : (text : List ℕ) (fault : ScriptFault) → IsFaultOf (after_lines after_head_line 1 (head_of empty_replay_script) (lines_of text)) fault
+pub IsFaultOf-head : (text : List ℕ) (fault : ScriptFault) → IsFaultOf (after_lines after_head_line 1 (head_of (roots_of_lines (lines_of text)) empty_replay_script) (lines_of text)) fault
     → IsFaultOf (replay_script_of text) fault
-IsFaultOf-head text (BadLine number) h = bad_line-head text number h
+IsFaultOf-head text (BadLine number) h = bad_line-head (roots_of_lines (lines_of text)) (lines_of text) number h
 IsFaultOf-head text NoMemory h = tt
 
 -- ---- how many events

@@ -1,10 +1,15 @@
 -- A line is good exactly where it has one of the forms.
-use Rattle.std.proofs.Common.{◌≡◌, ℕ, ◌^◌, ◌<◌, ◌==◌, ◌&&◌, Bool, true, false, inl, inr, cond, List, [], ◌∷◌, length, Some, None, codes, refl, sym, ap, ◌∙◌, arith}
+use Rattle.std.proofs.Common.{◌≡◌, ℕ, ◌^◌, ◌==◌, ◌&&◌, Bool, true, false, inl, inr, cond, List, [], ◌∷◌, length, Some, None, codes, get_or, refl, sym, ap, ◌∙◌, subst, arith}
 use Rattle.std.proofs.lemmas.Bool.{and_parts}
 use Rattle.std.proofs.lemmas.Bool.Decides.{nat_tests}
 use Rattle.std.proofs.lemmas.List.Splits.{join_with_byte-slice_split}
 use Rattle.std.proofs.lemmas.Slice.Eq.{bytes_eq-Decides}
-use Rattle.std.specs.Prelude.{◌↔◌, ◌⊎◌, nat_lt, is_none, option_map, option_and_then}
+use Rattle.std.proofs.lemmas.List.Folds.{Any-from_list_any, list_any_at}
+use Rattle.std.proofs.lemmas.List.Sums.{AllPass-from_list_all, list_all-from_AllPass}
+use Rattle.std.specs.Char.{is_ascii}
+use Rattle.std.specs.List.{AllPass, list_all, list_any}
+use Rattle.std.specs.Option.{option_map_or}
+use Rattle.std.specs.Prelude.{◌↔◌, ◌⊎◌, Contains, Option, IfSome, nat_lt, is_none, option_map, option_and_then}
 use Rattle.std.specs.Str.{bytes_eq}
 use Rattle.decimals.specs.Number.{decimal_of}
 use Rattle.script.specs.Parts.{words_of}
@@ -13,11 +18,11 @@ use Rattle.server_events.specs.Configs.{ConfigValue, instance_limit, own_fault}
 use Rattle.outcomes.specs.Outcomes.{exited, failed}
 use Rattle.server_events.specs.Events.{WhatValue, opened, received, took, closed, tick, ended}
 use Rattle.server_events.proofs.OwnLemmas.{None-from_good, own_fault-None}
-use Rattle.script.specs.Arguments.{number_of}
+use Rattle.script.specs.Arguments.{ascii_of, number_of}
 use Rattle.script.specs.ReplayEvents.{event_at, event_of, what_of}
-use Rattle.script.specs.ReplayLines.{IsEventLine, IsGoodReplayLine, IsReplayInstanceLine, IsSpelled, Tells}
-use Rattle.script.specs.ReplayScript.{ReplayScriptValue, after_replay_line, after_replay_words, config, config_if_good, config_of, may_follow, with_config, with_event}
-use Rattle.script.proofs.ConfigLemmas.{none_is}
+use Rattle.script.specs.ReplayLines.{AreConfigWords, IsEventLine, IsGoodReplayLine, IsReplayInstanceLine, IsSpelled, Tells}
+use Rattle.script.specs.ReplayScript.{ReplayScriptValue, after_replay_line, after_replay_words, config, config_if_good, config_of, may_build, with_config, with_event}
+use Rattle.script.proofs.ConfigLemmas.{added, none_is}
 use Rattle.script.proofs.EventForms.{Some-from_Tells, Tells-from_Some}
 use Rattle.script.proofs.NumberForms.{IsNumber-decimal_below, decimal_below-IsNumber}
 use Rattle.script.proofs.LineLemmas.{nothing_left}
@@ -25,35 +30,92 @@ use Rattle.script.proofs.Somes.{mapped, chained, chosen, if_some}
 
 -- ---- from a good line to its form
 
-instance_form : (before after : ReplayScriptValue) (kind : List ℕ) (arguments : List (List ℕ)) (made : ConfigValue)
-    → kind ≡ codes "instance" → before.events ≡ [] → config_of before.configs arguments ≡ Some made → with_config before made ≡ after
-    → IsReplayInstanceLine before (kind ∷ arguments) after
-instance_form before after kind [] made k first h adds = cc
-instance_form before after kind (a ∷ []) made k first h adds = cc
-instance_form before after kind (a ∷ b ∷ []) made k first h adds = cc
-instance_form before after kind (name ∷ quota ∷ slots ∷ []) made k first h adds =
-    let read = chained (λ bytes. option_and_then (λ count. config_if_good before.configs (config name bytes count)) (number_of slots)) (decimal_of quota) made h in
-    let counted = chained (λ count. config_if_good before.configs (config name read.0 count)) (number_of slots) made read.2 in
-    let found = chosen (may_follow before.configs (config name read.0 counted.0)) (config name read.0 counted.0) made counted.2 in
-    let may = and_parts (nat_lt (length before.configs) instance_limit) (is_none (own_fault before.configs (config name read.0 counted.0))) found.0 in
-    let free = may.0 in
-    let good = own_fault-None before.configs (config name read.0 counted.0) (none_is _ may.1) in
-    record {
-      name = name;
+-- the words of an instance
+all_ascii : (word text : List ℕ) → ascii_of word ≡ Some text → (word ≡ text) × AllPass is_ascii text
+all_ascii word text h =
+    let found = chosen (list_all is_ascii word) word text h in
+    (found.1, subst (AllPass is_ascii) found.1 (AllPass-from_list_all is_ascii word found.0))
+
+config_words : (words : List (List ℕ)) (made : ConfigValue) → config_of words ≡ Some made → AreConfigWords words made
+config_words [] made h = cc
+config_words (a ∷ []) made h = cc
+config_words (a ∷ b ∷ []) made h = cc
+config_words (name ∷ quota ∷ slots ∷ []) made h =
+    let read = chained (λ bytes. option_map (λ count. config name bytes count None) (number_of slots)) (decimal_of quota) made h in
+    let counted = mapped (λ count. config name read.0 count None) (number_of slots) made read.2 in
+    subst (AreConfigWords (name ∷ quota ∷ slots ∷ [])) counted.2 (record {
       quota = quota;
       slots = slots;
-      bytes = read.0;
-      count = counted.0;
-      form = ap (λ w. w ∷ name ∷ quota ∷ slots ∷ []) k;
+      form = refl;
       bytes_number = read.1;
-      count_number = (IsNumber-decimal_below (2 ^ 32) slots counted.0 counted.1).decimal;
+      count_number = IsNumber-decimal_below (2 ^ 32) slots counted.0 counted.1;
+      ascii = tt;
+    })
+config_words (name ∷ quota ∷ slots ∷ parent ∷ []) made h =
+    let read = chained (λ bytes. option_and_then (λ count. option_map (λ text. config name bytes count (Some text)) (ascii_of parent)) (number_of slots)) (decimal_of quota) made h in
+    let counted = chained (λ count. option_map (λ text. config name read.0 count (Some text)) (ascii_of parent)) (number_of slots) made read.2 in
+    let named = mapped (λ text. config name read.0 counted.0 (Some text)) (ascii_of parent) made counted.2 in
+    let text = all_ascii parent named.0 named.1 in
+    subst (AreConfigWords (name ∷ quota ∷ slots ∷ parent ∷ [])) named.2 (record {
+      quota = quota;
+      slots = slots;
+      form = ap (λ p. name ∷ quota ∷ slots ∷ p ∷ []) text.0;
+      bytes_number = read.1;
+      count_number = IsNumber-decimal_below (2 ^ 32) slots counted.0 counted.1;
+      ascii = text.1;
+    })
+config_words (a ∷ b ∷ c ∷ d ∷ e ∷ more) made h = cc
+
+words_config : (words : List (List ℕ)) (name : List ℕ) (quota slots : ℕ) (parent : Option (List ℕ)) → AreConfigWords words (config name quota slots parent)
+    → config_of words ≡ Some (config name quota slots parent)
+words_config words name quota slots None h =
+    ap config_of h.form
+    ∙ ap (option_and_then (λ bytes. option_map (λ count. config name bytes count None) (number_of h.slots))) h.bytes_number
+    ∙ ap (option_map (λ count. config name quota count None)) (decimal_below-IsNumber (2 ^ 32) h.slots slots h.count_number)
+words_config words name quota slots (Some parent) h =
+    ap config_of h.form
+    ∙ ap (option_and_then (λ bytes. option_and_then (λ count. option_map (λ text. config name bytes count (Some text)) (ascii_of parent)) (number_of h.slots))) h.bytes_number
+    ∙ ap (option_and_then (λ count. option_map (λ text. config name quota count (Some text)) (ascii_of parent))) (decimal_below-IsNumber (2 ^ 32) h.slots slots h.count_number)
+    ∙ ap (λ b. option_map (λ text. config name quota slots (Some text)) (cond b (Some parent) None)) (list_all-from_AllPass is_ascii parent h.ascii)
+
+-- the names on which an instance may build
+built_on : (roots : List (List ℕ)) (made : ConfigValue) → may_build roots made ≡ true → IfSome made.parent (Contains roots)
+built_on roots made h = go made.parent h
+  where
+    go : (parent : Option (List ℕ)) → option_map_or (λ name. list_any (λ root. bytes_eq root name) roots) parent true ≡ true → IfSome parent (Contains roots)
+    go None h = tt
+    go (Some name) h =
+        let found = Any-from_list_any (λ root. bytes_eq root name) roots h in
+        let same : found.1 ≡ name = (bytes_eq-Decides found.1 name).0 found.4 in
+        subst (Contains roots) same (found.0, found.2, found.3)
+
+builds_on : (roots : List (List ℕ)) (made : ConfigValue) → IfSome made.parent (Contains roots) → may_build roots made ≡ true
+builds_on roots made h = go made.parent h
+  where
+    go : (parent : Option (List ℕ)) → IfSome parent (Contains roots) → option_map_or (λ name. list_any (λ root. bytes_eq root name) roots) parent true ≡ true
+    go None h = refl
+    go (Some name) h = list_any_at (λ root. bytes_eq root name) roots h.0 name h.1 ((bytes_eq-Decides (get_or roots h.0 name) name).1 h.2)
+
+instance_form : (roots : List (List ℕ)) (before after : ReplayScriptValue) (kind : List ℕ) (arguments : List (List ℕ)) (made : ConfigValue)
+    → kind ≡ codes "instance" → before.events ≡ [] → option_and_then (config_if_good roots before.configs) (config_of arguments) ≡ Some made → with_config before made ≡ after
+    → IsReplayInstanceLine roots before (kind ∷ arguments) after
+instance_form roots before after kind arguments made k first h adds =
+    let found = added roots before.configs arguments made h in
+    let may = and_parts (nat_lt (length before.configs) instance_limit) (is_none (own_fault before.configs made)) found.1 in
+    let free = may.0 in
+    let good = own_fault-None before.configs made (none_is _ may.1) in
+    record {
+      arguments = arguments;
+      made = made;
+      form = ap (λ w. w ∷ arguments) k;
+      config_words = config_words arguments made found.0;
       first = first;
       room = grind (arith, nat_tests);
       good = good.0;
       new_name = good.1;
-      adds = sym adds ∙ ap (with_config before) (sym found.1);
+      parent = built_on roots made found.2;
+      adds = sym adds;
     }
-instance_form before after kind (a ∷ b ∷ c ∷ d ∷ more) made k first h adds = cc
 
 event_form : (before after : ReplayScriptValue) (kind : List ℕ) (arguments : List (List ℕ))
     → option_map (with_event before) (event_of kind arguments) ≡ Some after → IsEventLine before (kind ∷ arguments) after
@@ -79,39 +141,37 @@ event_form before after kind (moment ∷ instance ∷ arguments) h =
       adds = sym added.2 ∙ ap (with_event before) (sym what.2);
     }
 
-words_form : (before after : ReplayScriptValue) (words : List (List ℕ)) → after_replay_words before words ≡ Some after
-    → IsReplayInstanceLine before words after ⊎ IsEventLine before words after
-words_form before after [] h = cc
-words_form before after (kind ∷ arguments) h = go (bytes_eq kind (codes "instance")) refl h
+words_form : (roots : List (List ℕ)) (before after : ReplayScriptValue) (words : List (List ℕ)) → after_replay_words roots before words ≡ Some after
+    → IsReplayInstanceLine roots before words after ⊎ IsEventLine before words after
+words_form roots before after [] h = cc
+words_form roots before after (kind ∷ arguments) h = go (bytes_eq kind (codes "instance")) refl h
   where
     go : (configures : Bool) → bytes_eq kind (codes "instance") ≡ configures
-        → cond configures (cond (length before.events == 0) (option_map (with_config before) (config_of before.configs arguments)) None)
+        → cond configures (cond (length before.events == 0) (option_map (with_config before) (option_and_then (config_if_good roots before.configs) (config_of arguments))) None)
         (option_map (with_event before) (event_of kind arguments)) ≡ Some after
-        → IsReplayInstanceLine before (kind ∷ arguments) after ⊎ IsEventLine before (kind ∷ arguments) after
+        → IsReplayInstanceLine roots before (kind ∷ arguments) after ⊎ IsEventLine before (kind ∷ arguments) after
     go true i h =
-        let early = if_some (length before.events == 0) (option_map (with_config before) (config_of before.configs arguments)) after h in
-        let added = mapped (with_config before) (config_of before.configs arguments) after early.1 in
-        inl (instance_form before after kind arguments added.0 ((bytes_eq-Decides kind (codes "instance")).0 i) (nothing_left before.events early.0) added.1 added.2)
+        let early = if_some (length before.events == 0) (option_map (with_config before) (option_and_then (config_if_good roots before.configs) (config_of arguments))) after h in
+        let more = mapped (with_config before) (option_and_then (config_if_good roots before.configs) (config_of arguments)) after early.1 in
+        inl (instance_form roots before after kind arguments more.0 ((bytes_eq-Decides kind (codes "instance")).0 i) (nothing_left before.events early.0) more.1 more.2)
     go false i h = inr (event_form before after kind arguments h)
 
 -- ---- from a form to a good line
 
-Some-from_instance : (before after : ReplayScriptValue) (words : List (List ℕ)) → IsReplayInstanceLine before words after → after_replay_words before words ≡ Some after
-Some-from_instance before after words h =
-    let made = config h.name h.bytes h.count in
-    let few = h.good.slots in
-    let small : h.count < 2 ^ 32 = omega (arith, few) in
-    let counted : number_of h.slots ≡ Some h.count = decimal_below-IsNumber (2 ^ 32) h.slots h.count (record { decimal = h.count_number; small = small }) in
+Some-from_instance : (roots : List (List ℕ)) (before after : ReplayScriptValue) (words : List (List ℕ)) → IsReplayInstanceLine roots before words after
+    → after_replay_words roots before words ≡ Some after
+Some-from_instance roots before after words h =
+    let made = h.made in
     let own = None-from_good before.configs made h.good h.new_name in
     let free = h.room in
     let room : nat_lt (length before.configs) instance_limit ≡ true = grind (arith, nat_tests) in
-    let read : config_of before.configs (h.name ∷ h.quota ∷ h.slots ∷ []) ≡ Some made =
-    ap (option_and_then (λ bytes. option_and_then (λ count. config_if_good before.configs (config h.name bytes count)) (number_of h.slots))) h.bytes_number
-    ∙ ap (option_and_then (λ count. config_if_good before.configs (config h.name h.bytes count))) counted
-    ∙ ap (λ b. cond (b && is_none (own_fault before.configs made)) (Some made) None) room
-    ∙ ap (λ r. cond (is_none r) (Some made) None) own in
-    ap (after_replay_words before) h.form
-    ∙ ap (λ events. cond (length events == 0) (option_map (with_config before) (config_of before.configs (h.name ∷ h.quota ∷ h.slots ∷ []))) None) h.first
+    let read : option_and_then (config_if_good roots before.configs) (config_of h.arguments) ≡ Some made =
+    ap (option_and_then (config_if_good roots before.configs)) (words_config h.arguments made.name made.quota made.slots made.parent h.config_words)
+    ∙ ap (λ b. cond ((b && is_none (own_fault before.configs made)) && may_build roots made) (Some made) None) room
+    ∙ ap (λ r. cond (is_none r && may_build roots made) (Some made) None) own
+    ∙ ap (λ b. cond b (Some made) None) (builds_on roots made h.parent) in
+    ap (after_replay_words roots before) h.form
+    ∙ ap (λ events. cond (length events == 0) (option_map (with_config before) (option_and_then (config_if_good roots before.configs) (config_of h.arguments))) None) h.first
     ∙ ap (option_map (with_config before)) read ∙ ap Some (sym h.adds)
 
 -- no line of an event begins as an instance's does
@@ -124,45 +184,48 @@ other_kind kind arguments tick h = rw (h.0) refl
 other_kind kind arguments (ended job failed) h = rw (h.0) refl
 other_kind kind arguments (ended job (exited run)) h = rw (h.0) refl
 
-Some-from_event : (before after : ReplayScriptValue) (words : List (List ℕ)) → IsEventLine before words after → after_replay_words before words ≡ Some after
-Some-from_event before after words h =
+Some-from_event : (roots : List (List ℕ)) (before after : ReplayScriptValue) (words : List (List ℕ)) → IsEventLine before words after
+    → after_replay_words roots before words ≡ Some after
+Some-from_event roots before after words h =
     let read : event_of h.kind (h.moment ∷ h.instance ∷ h.arguments) ≡ Some (event_at h.at h.number h.what) =
     ap (option_and_then (λ at. option_and_then (λ number. option_map (event_at at number) (what_of h.kind h.arguments)) (number_of h.instance))) h.moment_number
     ∙ ap (option_and_then (λ number. option_map (event_at h.at number) (what_of h.kind h.arguments))) (decimal_below-IsNumber (2 ^ 32) h.instance h.number h.instance_number)
     ∙ ap (option_map (event_at h.at h.number)) (Some-from_Tells h.kind h.arguments h.what h.tells) in
-    ap (after_replay_words before) h.form
-    ∙ ap (λ b. cond b (cond (length before.events == 0) (option_map (with_config before) (config_of before.configs (h.moment ∷ h.instance ∷ h.arguments))) None) (option_map (with_event before) (event_of h.kind (h.moment ∷ h.instance ∷ h.arguments)))) (other_kind h.kind h.arguments h.what h.tells)
+    ap (after_replay_words roots before) h.form
+    ∙ ap (λ b. cond b (cond (length before.events == 0) (option_map (with_config before) (option_and_then (config_if_good roots before.configs) (config_of (h.moment ∷ h.instance ∷ h.arguments)))) None) (option_map (with_event before) (event_of h.kind (h.moment ∷ h.instance ∷ h.arguments)))) (other_kind h.kind h.arguments h.what h.tells)
     ∙ ap (option_map (with_event before)) read ∙ ap Some (sym h.adds)
 
-Some-from_words : (before after : ReplayScriptValue) (words : List (List ℕ)) → IsReplayInstanceLine before words after ⊎ IsEventLine before words after
-    → after_replay_words before words ≡ Some after
-Some-from_words before after words (inl h) = Some-from_instance before after words h
-Some-from_words before after words (inr h) = Some-from_event before after words h
+Some-from_words : (roots : List (List ℕ)) (before after : ReplayScriptValue) (words : List (List ℕ)) → IsReplayInstanceLine roots before words after ⊎ IsEventLine before words after
+    → after_replay_words roots before words ≡ Some after
+Some-from_words roots before after words (inl h) = Some-from_instance roots before after words h
+Some-from_words roots before after words (inr h) = Some-from_event roots before after words h
 
 -- ---- whole lines
 
 -- an empty line has one empty word, which begins no line
-words_alone : (before after : ReplayScriptValue) (line : List ℕ) → after_replay_words before (words_of line) ≡ Some after → after_replay_line before line ≡ Some after
-words_alone before after [] h = cc
-words_alone before after (byte ∷ line) h = h
+words_alone : (roots : List (List ℕ)) (before after : ReplayScriptValue) (line : List ℕ) → after_replay_words roots before (words_of line) ≡ Some after
+    → after_replay_line roots before line ≡ Some after
+words_alone roots before after [] h = cc
+words_alone roots before after (byte ∷ line) h = h
 
 words_of-spelled : (line : List ℕ) (words : List (List ℕ)) → IsSpelled line words → (words ≡ [] → ⊥) → words_of line ≡ words
 words_of-spelled line [] h some = absurd (some refl)
 words_of-spelled line (word ∷ words) h some = ap words_of h.form ∙ parts_of-join 32 word words h.apart
 
-some_words : (before after : ReplayScriptValue) (words : List (List ℕ)) → after_replay_words before words ≡ Some after → words ≡ [] → ⊥
-some_words before after words h e = let none : None ≡ Some after = sym (ap (after_replay_words before) e) ∙ h in cc
+some_words : (roots : List (List ℕ)) (before after : ReplayScriptValue) (words : List (List ℕ)) → after_replay_words roots before words ≡ Some after → words ≡ [] → ⊥
+some_words roots before after words h e = let none : None ≡ Some after = sym (ap (after_replay_words roots before) e) ∙ h in cc
 
-pub good_line_has_form : (before after : ReplayScriptValue) (line : List ℕ) → (after_replay_line before line ≡ Some after) ↔ IsGoodReplayLine before line after
-good_line_has_form before after line = (there line, back)
+pub good_line_has_form : (roots : List (List ℕ)) (before after : ReplayScriptValue) (line : List ℕ)
+    → (after_replay_line roots before line ≡ Some after) ↔ IsGoodReplayLine roots before line after
+good_line_has_form roots before after line = (there line, back)
   where
-    there : (line : List ℕ) → after_replay_line before line ≡ Some after → IsGoodReplayLine before line after
+    there : (line : List ℕ) → after_replay_line roots before line ≡ Some after → IsGoodReplayLine roots before line after
     there [] h = inl (refl, cc)
     there (byte ∷ line) h =
-        inr (words_of (byte ∷ line), record { form = sym (join_with_byte-slice_split 32 (byte ∷ line)); apart = Lacks-parts_of 32 (byte ∷ line) }, words_form before after (words_of (byte ∷ line)) h)
+        inr (words_of (byte ∷ line), record { form = sym (join_with_byte-slice_split 32 (byte ∷ line)); apart = Lacks-parts_of 32 (byte ∷ line) }, words_form roots before after (words_of (byte ∷ line)) h)
 
-    back : IsGoodReplayLine before line after → after_replay_line before line ≡ Some after
-    back (inl empty) = ap (after_replay_line before) empty.0 ∙ ap Some (sym empty.1)
+    back : IsGoodReplayLine roots before line after → after_replay_line roots before line ≡ Some after
+    back (inl empty) = ap (after_replay_line roots before) empty.0 ∙ ap Some (sym empty.1)
     back (inr form) =
-        let read = Some-from_words before after form.0 form.2 in
-        words_alone before after line (ap (after_replay_words before) (words_of-spelled line form.0 form.1 (some_words before after form.0 read)) ∙ read)
+        let read = Some-from_words roots before after form.0 form.2 in
+        words_alone roots before after line (ap (after_replay_words roots before) (words_of-spelled line form.0 form.1 (some_words roots before after form.0 read)) ∙ read)

@@ -34,3 +34,9 @@ pub triple : {X : Type 0} (a b c x y z : X)
     → (a ≡ x) × (b ≡ y) × (c ≡ z)
 unfolding part_or
 triple a b c x y z h = (ap (part_or (λ t. t.0) a) h, ap (part_or (λ t. t.1) a) h, ap (part_or (λ t. t.2) a) h)
+
+pub quadruple : {X Y : Type 0} (a b c x y z : X) (d w : Y)
+    → (let left : Option (X × X × X × Y) = Some (a, b, c, d) in let right : Option (X × X × X × Y) = Some (x, y, z, w) in left ≡ right)
+    → (a ≡ x) × (b ≡ y) × (c ≡ z) × (d ≡ w)
+unfolding part_or
+quadruple a b c x y z d w h = (ap (part_or (λ t. t.0) a) h, ap (part_or (λ t. t.1) a) h, ap (part_or (λ t. t.2) a) h, ap (part_or (λ t. t.3) d) h)

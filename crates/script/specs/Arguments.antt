@@ -1,5 +1,7 @@
 -- The words after the first of a line.
 use Rattle.std.specs.Prelude.{ℕ, ℤ, pos, neg_ℤ, ◌+◌, ◌^◌, ◌==◌, nat_lt, if◌then◌else◌, List, [], ◌∷◌, Option, Some, None, option_map, option_and_then}
+use Rattle.std.specs.Char.{is_ascii}
+use Rattle.std.specs.List.{list_all}
 use Rattle.decimals.specs.Number.{decimal_of}
 
 -- ---- numbers
@@ -43,6 +45,16 @@ abbrev pub three_of : List (List ℕ) → Option (List ℕ × List ℕ × List �
 three_of (first ∷ second ∷ third ∷ []) = Some (first, second, third)
 three_of _ = None
 
+abbrev pub three_or_four_of : List (List ℕ) → Option (List ℕ × List ℕ × List ℕ × Option (List ℕ))
+three_or_four_of (first ∷ second ∷ third ∷ []) = Some (first, second, third, None)
+three_or_four_of (first ∷ second ∷ third ∷ fourth ∷ []) = Some (first, second, third, Some fourth)
+three_or_four_of _ = None
+
 -- the number of the only word
 abbrev pub only_number_of : List (List ℕ) → Option ℕ
 only_number_of words = option_and_then number_of (one_of words)
+
+-- ---- words of ASCII
+
+abbrev pub ascii_of : List ℕ → Option (List ℕ)
+ascii_of word = if list_all is_ascii word then Some word else None

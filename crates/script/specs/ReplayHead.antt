@@ -1,20 +1,25 @@
 -- What has to be known of the lines of a script so far to tell whether the next is good, namely its
--- instances, and whether there was an event. For the code alone: no public contract speaks of it.
-use Rattle.std.specs.Prelude.{ℕ, Bool, true, not, ◌==◌, if◌then◌else◌, List, [], ◌∷◌, ◌++◌, length, codes, Option, Some, None, option_map}
+-- instances, and whether there was an event, and the names on which instances may build. For the
+-- code alone: no public contract speaks of it.
+use Rattle.std.specs.Prelude.{ℕ, Bool, true, not, ◌==◌, if◌then◌else◌, List, [], ◌∷◌, ◌++◌, length, codes, Option, Some, None, option_map, option_and_then}
 use Rattle.std.specs.Str.{bytes_eq}
 use Rattle.server_events.specs.Configs.{ConfigValue}
 use Rattle.server_events.specs.Events.{EventValue}
 use Rattle.script.specs.Parts.{words_of}
 use Rattle.script.specs.ReplayEvents.{event_of}
-use Rattle.script.specs.ReplayScript.{ReplayScriptValue, config_of}
+use Rattle.script.specs.ReplayScript.{ReplayScriptValue, config_if_good, config_of}
 
 pub record ReplayHeadValue : Type 0 where
+  pub roots : List (List ℕ)
   pub configs : List ConfigValue
   pub has_events : Bool
 
-abbrev pub head_of : ReplayScriptValue → ReplayHeadValue
-head_of script =
-    record { configs = script.configs; has_events = not (length script.events == 0) }
+abbrev pub head_of : List (List ℕ) → ReplayScriptValue → ReplayHeadValue
+head_of roots script = record {
+  roots = roots;
+  configs = script.configs;
+  has_events = not (length script.events == 0);
+}
 
 abbrev pub head_with_config : ReplayHeadValue → ConfigValue → ReplayHeadValue
 head_with_config head config = record head { configs = head.configs ++ config ∷ [] }
@@ -27,7 +32,8 @@ after_head_words head [] = None
 after_head_words head (kind ∷ arguments) =
     if bytes_eq kind (codes "instance")
     then (if head.has_events
-    then None else option_map (head_with_config head) (config_of head.configs arguments))
+    then None else option_map (head_with_config head)
+    (option_and_then (config_if_good head.roots head.configs) (config_of arguments)))
     else option_map (head_with_event head) (event_of kind arguments)
 
 abbrev pub after_head_line : ReplayHeadValue → List ℕ → Option ReplayHeadValue

@@ -1,17 +1,18 @@
 -- Which lines are good, and which is the first bad one, in words of their own.
-use Rattle.std.specs.Prelude.{◌≡◌, ◌≢◌, ℕ, ℤ, pos, neg_ℤ, ◌+◌, ◌<◌, ◌≤◌, ◌⊎◌, List, [], ◌∷◌, ◌++◌, length, codes, Some}
+use Rattle.std.specs.Prelude.{◌≡◌, ◌≢◌, ℕ, ℤ, pos, neg_ℤ, ◌+◌, ◌<◌, ◌≤◌, ◌⊎◌, List, [], ◌∷◌, ◌++◌, length, codes, Contains, Some, IfSome}
 use Rattle.std.specs.Char.{is_ascii}
 use Rattle.std.specs.List.{All, AllPass}
+use Rattle.std.specs.Option.{option_to_list}
 use Rattle.script.specs.Hexadecimal.{IsBytes, hex_word}
 use Rattle.decimals.specs.Number.{decimal_of}
 use Rattle.script.specs.Arguments.{number_limit, exit_code_limit}
 use Rattle.script.specs.Parts.{spaced_line}
-use Rattle.server_events.specs.Configs.{instance_limit}
+use Rattle.server_events.specs.Configs.{ConfigValue, instance_limit}
 use Rattle.outcomes.specs.Outcomes.{ExitedValue, OutputValue, exited, failed}
 use Rattle.server_events.specs.Events.{WhatValue, opened, received, took, closed, tick, ended}
 use Rattle.server_events.specs.Faults.{IsConfig}
 use Rattle.script.specs.ReplayEvents.{content_limit, event_at, plain_file}
-use Rattle.script.specs.ReplayScript.{ReplayScriptValue, config, with_config, with_event}
+use Rattle.script.specs.ReplayScript.{ReplayScriptValue, with_config, with_event}
 
 -- ---- the words of a line
 
@@ -91,23 +92,29 @@ Tells kind arguments (ended job (exited run)) =
 
 -- ---- good lines
 
--- `instance NAME QUOTA SLOTS`, before any event: one more instance, which may follow those before
--- it
-pub record IsReplayInstanceLine (before : ReplayScriptValue) (words : List (List ℕ))
-    (after : ReplayScriptValue) : Type 0 where
-  pub name : List ℕ
+-- the words of an instance line behind its first: NAME QUOTA SLOTS, and perhaps PARENT, in ASCII
+pub record AreConfigWords (arguments : List (List ℕ)) (made : ConfigValue) : Type 0 where
   pub quota : List ℕ
   pub slots : List ℕ
-  pub bytes : ℕ
-  pub count : ℕ
-  pub form : words ≡ codes "instance" ∷ name ∷ quota ∷ slots ∷ []
-  pub bytes_number : decimal_of quota ≡ Some bytes
-  pub count_number : decimal_of slots ≡ Some count
+  pub form : arguments ≡ made.name ∷ quota ∷ slots ∷ option_to_list made.parent
+  pub bytes_number : decimal_of quota ≡ Some made.quota
+  pub count_number : IsNumber number_limit slots made.slots
+  pub ascii : IfSome made.parent (AllPass is_ascii)
+
+-- `instance NAME QUOTA SLOTS [PARENT]`, before any event: one more instance, which may follow those
+-- before it, and builds on none or on one of these names
+pub record IsReplayInstanceLine (roots : List (List ℕ)) (before : ReplayScriptValue)
+    (words : List (List ℕ)) (after : ReplayScriptValue) : Type 0 where
+  pub arguments : List (List ℕ)
+  pub made : ConfigValue
+  pub form : words ≡ codes "instance" ∷ arguments
+  pub config_words : AreConfigWords arguments made
   pub first : before.events ≡ []
   pub room : length before.configs < instance_limit
-  pub good : IsConfig (config name bytes count)
-  pub new_name : All (λ other. name ≢ other.name) before.configs
-  pub adds : after ≡ with_config before (config name bytes count)
+  pub good : IsConfig made
+  pub new_name : All (λ other. made.name ≢ other.name) before.configs
+  pub parent : IfSome made.parent (Contains roots)
+  pub adds : after ≡ with_config before made
 
 -- a kind, a moment, an instance, and what happens
 pub record IsEventLine (before : ReplayScriptValue) (words : List (List ℕ))
@@ -126,8 +133,8 @@ pub record IsEventLine (before : ReplayScriptValue) (words : List (List ℕ))
   pub adds : after ≡ with_event before (event_at at number what)
 
 -- a line that leads from one script to the next: an empty one, which adds nothing, or one of these
-abbrev pub IsGoodReplayLine : ReplayScriptValue → List ℕ → ReplayScriptValue → Type 0
-IsGoodReplayLine before line after =
+abbrev pub IsGoodReplayLine : List (List ℕ) → ReplayScriptValue → List ℕ → ReplayScriptValue → Type 0
+IsGoodReplayLine roots before line after =
     ((line ≡ []) × (after ≡ before))
     ⊎ ((words : List (List ℕ)) × IsSpelled line words
-    × (IsReplayInstanceLine before words after ⊎ IsEventLine before words after))
+    × (IsReplayInstanceLine roots before words after ⊎ IsEventLine before words after))

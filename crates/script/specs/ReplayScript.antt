@@ -1,12 +1,14 @@
 -- A script: the instances that it configures, and then what happens to them.
-use Rattle.std.specs.Prelude.{ℕ, Bool, ◌&&◌, nat_lt, ◌==◌, if◌then◌else◌, List, [], ◌∷◌, ◌++◌, length, codes, Option, Some, None, is_none, option_and_then, option_map, Result}
+use Rattle.std.specs.Prelude.{ℕ, Bool, true, ◌&&◌, nat_lt, ◌==◌, if◌then◌else◌, List, [], ◌∷◌, ◌++◌, length, codes, Option, Some, None, is_none, option_and_then, option_map, Result}
+use Rattle.std.specs.List.{list_any}
+use Rattle.std.specs.Option.{option_map_or, option_to_list}
 use Rattle.std.specs.Str.{bytes_eq}
 use Rattle.script.specs.FirstBadLine.{after_lines}
 use Rattle.decimals.specs.Number.{decimal_of}
 use Rattle.script.specs.Parts.{lines_of, words_of}
 use Rattle.server_events.specs.Configs.{ConfigValue, instance_limit, own_fault}
 use Rattle.server_events.specs.Events.{EventValue}
-use Rattle.script.specs.Arguments.{number_of}
+use Rattle.script.specs.Arguments.{ascii_of, number_of}
 use Rattle.script.specs.ReplayEvents.{event_of}
 
 pub record ReplayScriptValue : Type 0 where
@@ -15,24 +17,53 @@ pub record ReplayScriptValue : Type 0 where
 
 -- ---- instances
 
+abbrev pub config : List ℕ → ℕ → ℕ → Option (List ℕ) → ConfigValue
+config name quota slots parent =
+    record { name = name; quota = quota; slots = slots; parent = parent }
+
+-- NAME QUOTA SLOTS, and behind it PARENT, in ASCII, where the instance builds on one
+abbrev pub config_of : List (List ℕ) → Option ConfigValue
+config_of (name ∷ quota ∷ slots ∷ []) =
+    option_and_then (λ bytes. option_map (λ count. config name bytes count None)
+    (number_of slots)) (decimal_of quota)
+config_of (name ∷ quota ∷ slots ∷ parent ∷ []) =
+    option_and_then (λ bytes. option_and_then (λ count.
+    option_map (λ text. config name bytes count (Some text)) (ascii_of parent)) (number_of slots))
+    (decimal_of quota)
+config_of _ = None
+
 -- an instance may follow these others: they leave room for it, and it has no fault
 abbrev pub may_follow : List ConfigValue → ConfigValue → Bool
 may_follow before config =
     nat_lt (length before) instance_limit && is_none (own_fault before config)
 
-abbrev pub config_if_good : List ConfigValue → ConfigValue → Option ConfigValue
-config_if_good before config = if may_follow before config then Some config else None
+-- an instance builds on none, or on one of these names
+abbrev pub may_build : List (List ℕ) → ConfigValue → Bool
+may_build roots config =
+    option_map_or (λ name. list_any (λ root. bytes_eq root name) roots) config.parent true
 
-abbrev pub config : List ℕ → ℕ → ℕ → ConfigValue
-config name quota slots = record { name = name; quota = quota; slots = slots }
+abbrev pub config_if_good : List (List ℕ) → List ConfigValue → ConfigValue → Option ConfigValue
+config_if_good roots before config =
+    if may_follow before config && may_build roots config then Some config else None
 
--- NAME QUOTA SLOTS
-abbrev pub config_of : List ConfigValue → List (List ℕ) → Option ConfigValue
-config_of before (name ∷ quota ∷ slots ∷ []) =
-    option_and_then (λ bytes. option_and_then (λ count.
-    config_if_good before (config name bytes count)) (number_of slots))
-    (decimal_of quota)
-config_of before _ = None
+-- ---- the instances on which others may build
+
+-- the name of an instance that builds on none
+abbrev pub root_name : ConfigValue → Option (List ℕ)
+root_name config = if is_none config.parent then Some config.name else None
+
+-- and of the one that a line of these words configures
+abbrev pub root_of_words : List (List ℕ) → Option (List ℕ)
+root_of_words [] = None
+root_of_words (kind ∷ arguments) =
+    if bytes_eq kind (codes "instance")
+    then option_and_then root_name (config_of arguments) else None
+
+-- those of all lines, wherever they stand
+abbrev pub roots_of_lines : List (List ℕ) → List (List ℕ)
+roots_of_lines [] = []
+roots_of_lines (line ∷ lines) =
+    option_to_list (root_of_words (words_of line)) ++ roots_of_lines lines
 
 -- ---- one line after others
 
@@ -43,25 +74,33 @@ abbrev pub with_event : ReplayScriptValue → EventValue → ReplayScriptValue
 with_event script event = record script { events = script.events ++ event ∷ [] }
 
 -- the script with one more line of these words; none where they have no form, or where they
--- configure an instance after an event or one that may not follow those before it
-abbrev pub after_replay_words : ReplayScriptValue → List (List ℕ) → Option ReplayScriptValue
-after_replay_words script [] = None
-after_replay_words script (kind ∷ arguments) =
+-- configure an instance after an event, one that may not follow those before it, or one that builds
+-- on none of these names
+abbrev pub after_replay_words : List (List ℕ) → ReplayScriptValue → List (List ℕ) → Option ReplayScriptValue
+after_replay_words roots script [] = None
+after_replay_words roots script (kind ∷ arguments) =
     if bytes_eq kind (codes "instance")
     then (if length script.events == 0
-    then option_map (with_config script) (config_of script.configs arguments) else None)
+    then option_map (with_config script)
+    (option_and_then (config_if_good roots script.configs) (config_of arguments)) else None)
     else option_map (with_event script) (event_of kind arguments)
 
 -- the script with one more line; an empty line adds nothing
-abbrev pub after_replay_line : ReplayScriptValue → List ℕ → Option ReplayScriptValue
-after_replay_line script [] = Some script
-after_replay_line script (byte ∷ line) = after_replay_words script (words_of (byte ∷ line))
+abbrev pub after_replay_line : List (List ℕ) → ReplayScriptValue → List ℕ → Option ReplayScriptValue
+after_replay_line roots script [] = Some script
+after_replay_line roots script (byte ∷ line) =
+    after_replay_words roots script (words_of (byte ∷ line))
 
 -- ---- whole texts
 
 abbrev pub empty_replay_script : ReplayScriptValue
 empty_replay_script = record { configs = []; events = [] }
 
+-- the script that these lines write, where an instance may build on one of any line
+abbrev pub replay_script_of_lines : List (List ℕ) → Result ReplayScriptValue ℕ
+replay_script_of_lines lines =
+    after_lines (after_replay_line (roots_of_lines lines)) 1 empty_replay_script lines
+
 -- the script that a text writes, or the number of its first bad line, counted from 1
 abbrev pub replay_script_of : List ℕ → Result ReplayScriptValue ℕ
-replay_script_of text = after_lines after_replay_line 1 empty_replay_script (lines_of text)
+replay_script_of text = replay_script_of_lines (lines_of text)

@@ -1,9 +1,12 @@
 //! The words after the first of a line.
 ghost use Rattle.std.specs.Prelude.{◌≡◌, Option, option_map};
-ghost use Rattle.script.specs.Arguments.{one_of, two_of, three_of, number_of, exit_code_of, only_number_of};
+ghost use Rattle.std.specs.Char.{is_ascii};
+ghost use Rattle.std.specs.List.{list_all};
+ghost use Rattle.script.specs.Arguments.{one_of, two_of, three_of, three_or_four_of, number_of, exit_code_of, only_number_of, ascii_of};
 
 use crate::Parts;
 use decimals::decimal;
+use std::str;
 
 /// The number below 2^32 that a word writes in decimal.
 pub(crate) fn number(word: &[u8]) -> Option<u32>
@@ -56,6 +59,45 @@ pub(crate) fn three<'a>(mut words: Parts<'a>) -> Option<(&'a [u8], &'a [u8], &'a
         None => Some((first, second, third)),
         Some(_) => None,
     }
+}
+
+/// The words, where there are three, or four.
+pub(crate) fn three_or_four<'a>(
+    mut words: Parts<'a>,
+) -> Option<(&'a [u8], &'a [u8], &'a [u8], Option<&'a [u8]>)>
+    ensures { option_map (λ w. (w.0.now, w.1.now, w.2.now, option_map (λ f. f.now) w.3)) result
+        ≡ three_or_four_of words.entry }
+{
+    let first = words.next()?;
+    let second = words.next()?;
+    let third = words.next()?;
+    let Some(fourth) = words.next() else {
+        return Some((first, second, third, None));
+    };
+    match words.next() {
+        None => Some((first, second, third, Some(fourth))),
+        Some(_) => None,
+    }
+}
+
+/// The text of a word of ASCII.
+pub(crate) fn ascii_text(word: &[u8]) -> Option<&str>
+    ensures { option_map (λ text. text.now) result ≡ ascii_of word.now }
+{
+    if !are_ascii(word) {
+        return None;
+    }
+    match str::from_utf8(word) {
+        Ok(text) => Some(text),
+        Err(_) => None,
+    }
+}
+
+/// Whether all bytes are ASCII.
+pub(crate) fn are_ascii(word: &[u8]) -> bool
+    ensures { result ≡ list_all is_ascii word.now }
+{
+    word.iter().all(|byte| byte.is_ascii())
 }
 
 /// The number below 2^32 that the only word writes.

@@ -1,16 +1,18 @@
 -- What the calls of the sockets, of the runs and of the server keep.
 use Rattle.std.proofs.Common.{◌≡◌, ◌≢◌, ℕ, ◌≤◌, ◌<◌, List, [], ◌∷◌, ◌++◌, map, length, take, drop, get_or, ◌-◌, refl, ap, ◌∙◌, sym, subst, arith, inl, inr, append-nil, append_assoc}
 use Rattle.std.specs.Prelude.{◌⊎◌, ◌↔◌, Bool, cond, Option, Some, None, IsSomeAnd, IfSome, IfErr, Result, Ok, Err}
-use Rattle.std.specs.Option.{option_map}
+use Rattle.std.specs.Option.{option_map, option_map_or, option_and_then}
+use Rattle.std.specs.List.{slice_get}
 use Rattle.std.specs.Io.{StartsWith}
 use Rattle.std.specs.declared.alloc.Global.{Global}
 use Rattle.std.specs.declared.vec.Vec.{Vec}
 use Rattle.std.proofs.lemmas.Bool.{cases_eq, cases_lt, eq-eqb, ne_eqb}
 use Rattle.std.proofs.Math.ListN.{drop_of_length-le}
 use Rattle.std.proofs.lemmas.List.{length-take-le, map-append, take_all}
+use Rattle.std.proofs.lemmas.Grind.{flat_map-append}
 use Rattle.std.proofs.lemmas.List.Elements.{filter_map-append}
 use Rattle.std.proofs.lemmas.List.Sums.{fold_push}
-use Rattle.std.proofs.lemmas.Option.{none-some, same_Some, slice_get_cases}
+use Rattle.std.proofs.lemmas.Option.{none-some, same_Some, slice_get_cases, slice_get-map}
 use Rattle.runner.proofs.Lists.{first_and_rest, no_rest}
 use Rattle.outcomes.specs.Outcomes.{OutcomeValue}
 use Rattle.executor.specs.declared.orders.Order.{Order}
@@ -19,22 +21,28 @@ use Rattle.executor.specs.Ordered.{order_meant}
 use Rattle.instance_core.specs.Turns.{orders_meant}
 use Rattle.served_instance.specs.Bytes.{pending_bytes}
 use Rattle.served_instance.specs.Past.{Past}
-use Rattle.server_events.specs.Configs.{ConfigValue}
-use Rattle.server_events.specs.Events.{EventValue, WhatValue, took, ended}
+use Rattle.instance_core.specs.State.{InstanceState}
+use Rattle.instance_core.specs.Visible.{Blob}
+use Rattle.server_events.specs.Configs.{ConfigValue, parent_of}
+use Rattle.server_events.specs.Faults.{AreParents}
+use Rattle.server_events.specs.Events.{EventValue, WhatValue, took, tick, ended}
 use Rattle.served_instance.specs.Connections.{open_at}
 use Rattle.served_instance.specs.declared.refusal.EventRefusal.{EventRefusal}
 use Rattle.served_instance.specs.declared.refusal.EventRefusal.TheVariants.{NoSuchInstance, NoSuchConnection, ConnectionExists, TooManyConnections, NoSuchJob, TimeWentBack, TookTooMuch, NoMemory}
-use Rattle.served_instance.specs.Lone.{LoneInstance, new_lone}
+use Rattle.served_instance.specs.Lone.{LoneInstance}
 use Rattle.served_instance.specs.Refusals.{refusal_of, lone_orders, lone_step, orders_unless, IsRefusalOutcome}
 use Rattle.served_instance.specs.StandsFor.{ServedState}
 use Rattle.server_core.specs.Marked.{StandsShortAt}
-use Rattle.server_core.specs.StandsFor.{OrdersStand, StandsAt, instance_at}
+use Rattle.server_core.specs.Families.{Family, family_in}
+use Rattle.server_core.specs.LoneOutput.{config_at}
+use Rattle.server_core.specs.Parents.{parent_at, parent_texts, texts_at, texts_of_one}
+use Rattle.server_core.specs.StandsFor.{ServerState, OrdersStand, StandsAt, instance_at}
 use Rattle.serve.specs.SocketEvents.{SocketEvent, PortEvent, port, what_of, moment_after, moment_of, Adds}
 use Rattle.serve.specs.RunEvents.{RunEvent, ordered, gave, AddsRuns}
-use Rattle.serve.specs.Happenings.{Happening, at_sockets, at_runs, moment_then, moment_behind, own_event, event_for}
-use Rattle.serve.specs.Served.{AtWork, with_orders, AreCarriedOut, Comes, HappenedTogether, MayHappen, MayServe, MayStep, MayTake, IsFaithful, IsServed, StandsServing, IsServerAt, IsServing, WasServed, TakesEvent}
+use Rattle.serve.specs.Happenings.{Happening, at_sockets, told, at_runs, with_times, all_timed, moment_then, moment_behind, own_event, event_for}
+use Rattle.serve.specs.Served.{AtWork, with_orders, AreCarriedOut, Comes, HappenedTogether, HasParents, MayHappen, MayHappenTo, ParentMayHappen, MayStep, MayTake, IsFaithful, IsServed, Serves, StandsBeside, StandsServing, IsServerAt, IsServing, WasServed, TakesEvent, at_rest, begun, texts_of}
 use Rattle.served_instance.proofs.Moments.{took_taken}
-use Rattle.serve.proofs.Happenings.{all_runs, no_sockets, together_on, moment_more, moment_together, may_serve_on, carried, passed, may_within}
+use Rattle.serve.proofs.Happenings.{AreOf, IsNot, both, parts_of, parts_on, parts_ordered, moment_more, moment_together, may_serve_on, carried, parent_carried, passed, may_within}
 
 abbrev pub event_told : ℕ → ℕ → WhatValue → EventValue
 event_told m j what = record { moment = m; instance = j; what = what }
@@ -110,47 +118,51 @@ IsOtherOutcome (Err r) = IsOther r
 other_is : (A : Type 0) (r : EventRefusal) → IsOther r → refused_with A r ≢ Err NoMemory
 other_is A r other is = subst IsOtherOutcome is other
 
-abbrev Own : {A : Type 0} → Result A EventRefusal → EventValue → List ServedState → List ServedState → Type 0
-Own outcome e vs ws = outcome ≢ Err NoMemory → (l : LoneInstance) → StandsAt e.instance vs l → StandsAt e.instance ws (lone_step [] e l)
+abbrev Own : {A : Type 0} → Result A EventRefusal → List Blob → EventValue → List ServedState → List ServedState → Type 0
+Own outcome parent e vs ws = outcome ≢ Err NoMemory → (l : LoneInstance) → StandsAt e.instance vs l → StandsAt e.instance ws (lone_step parent e l)
 
-abbrev InPart : {A : Type 0} → Result A EventRefusal → EventValue → List ServedState → List ServedState → Type 0
-InPart outcome e vs ws = outcome ≡ Err NoMemory → (l : LoneInstance) → StandsAt e.instance vs l → StandsShortAt e l ws
+abbrev InPart : {A : Type 0} → Result A EventRefusal → List Blob → EventValue → List ServedState → List ServedState → Type 0
+InPart outcome parent e vs ws = outcome ≡ Err NoMemory → (l : LoneInstance) → StandsAt e.instance vs l → StandsShortAt parent e l ws
 
 abbrev Others : EventValue → List ServedState → List ServedState → Type 0
 Others e vs ws = (j : ℕ) → j ≢ e.instance → instance_at j ws ≡ instance_at j vs
 
 -- a refused event orders nothing
-pub refused_taken : (A : Type 0) (r : EventRefusal) (e : EventValue) (vs ws : List ServedState) (known : Option (List RunEvent)) → Own (refused_with A r) e vs ws → InPart (refused_with A r) e vs ws → ((l : LoneInstance) → StandsAt e.instance vs l → IsRefusalOutcome (refused_with A r) (refusal_of e l)) → Others e vs ws → TakesEvent e vs ws known known
-refused_taken A r e vs ws known own short gave_reason others = record {
+pub refused_taken : (A : Type 0) (r : EventRefusal) (e : EventValue) (server next : ServerState) (known : Option (List RunEvent)) → Own (refused_with A r) (parent_texts e.instance server) e server.instances next.instances → InPart (refused_with A r) (parent_texts e.instance server) e server.instances next.instances → ((l : LoneInstance) → StandsAt e.instance server.instances l → IsRefusalOutcome (refused_with A r) (refusal_of e l)) → Others e server.instances next.instances → next.parents ≡ server.parents → TakesEvent e server next known known
+refused_taken A r e server next known own short gave_reason others parents = record {
   orders = [];
   carried = nothing_added known;
-  own = λ l s. elim (memory_or r) [
-    | inl memory ↦
-        let t = short (ap Err memory) l s in
-        let accepted : refusal_of e l ≡ None = subst (λ (x : EventRefusal). IsRefusalOutcome (refused_with A x) (refusal_of e l)) memory (gave_reason l s) in
-        record { now = t.left; may = inr (accepted, t.short, refl); stands = t.stands }
-    | inr other ↦
-        let no_orders : lone_orders [] e l ≡ [] = ap (orders_unless [] e l) (reason A r (refusal_of e l) other (gave_reason l s)) in
-        record {
-          now = lone_step [] e l;
-          may = inl (ap (with_orders (lone_step [] e l)) (sym no_orders));
-          stands = own (other_is A r other) l s;
-        }
-  ];
+  own = λ l s.
+      let parent : List Blob = parent_texts e.instance server in
+      elim (memory_or r) [
+        | inl memory ↦
+            let t = short (ap Err memory) l s in
+            let accepted : refusal_of e l ≡ None = subst (λ (x : EventRefusal). IsRefusalOutcome (refused_with A x) (refusal_of e l)) memory (gave_reason l s) in
+            record { now = t.left; may = inr (accepted, t.short, refl); stands = t.stands }
+        | inr other ↦
+            let no_orders : lone_orders parent e l ≡ [] = ap (orders_unless parent e l) (reason A r (refusal_of e l) other (gave_reason l s)) in
+            record {
+              now = lone_step parent e l;
+              may = inl (ap (with_orders (lone_step parent e l)) (sym no_orders));
+              stands = own (other_is A r other) l s;
+            }
+      ];
   others = others;
+  parents = parents;
 }
 
 -- the orders of an event that is not refused are carried out
-pub accepted_taken : (e : EventValue) (vs ws : List ServedState) (orders : Vec Order Global) (before after : Option (List RunEvent)) (v : ServedState) → instance_at e.instance ws ≡ Some v → ((l : LoneInstance) → StandsAt e.instance vs l → StandsAt e.instance ws (lone_step [] e l)) → ((l : LoneInstance) → StandsAt e.instance vs l → OrdersStand e.instance ws orders (lone_orders [] e l)) → Others e vs ws → AreCarriedOut e.instance ws orders.items before after → TakesEvent e vs ws before after
-accepted_taken e vs ws orders before after v is own given others so = record {
+pub accepted_taken : (e : EventValue) (server next : ServerState) (orders : Vec Order Global) (before after : Option (List RunEvent)) (v : ServedState) → instance_at e.instance next.instances ≡ Some v → ((l : LoneInstance) → StandsAt e.instance server.instances l → StandsAt e.instance next.instances (lone_step (parent_texts e.instance server) e l)) → ((l : LoneInstance) → StandsAt e.instance server.instances l → OrdersStand e.instance next.instances orders (lone_orders (parent_texts e.instance server) e l)) → Others e server.instances next.instances → next.parents ≡ server.parents → AreCarriedOut e.instance next.instances orders.items before after → TakesEvent e server next before after
+accepted_taken e server next orders before after v is own given others parents so = record {
   orders = orders_meant v.state.jobs orders.items;
   carried = so v is;
   own = λ l s. record {
-    now = lone_step [] e l;
-    may = inl (ap (with_orders (lone_step [] e l)) (given l s v is));
+    now = lone_step (parent_texts e.instance server) e l;
+    may = inl (ap (with_orders (lone_step (parent_texts e.instance server) e l)) (given l s v is));
     stands = own l s;
   };
   others = others;
+  parents = parents;
 }
 
 abbrev IsOkOutcome : {A E : Type 0} → Result A E → Type 0
@@ -167,12 +179,12 @@ there_is vs i lt = elim (slice_get_cases vs i).1 [
 ]
 
 -- where the event was accepted its instance is there
-pub accepted_by : {A : Type 0} (x : A) (e : EventValue) (vs ws : List ServedState) (orders : Vec Order Global) (before after : Option (List RunEvent)) → (Ok x ≢ Err NoMemory → (l : LoneInstance) → StandsAt e.instance vs l → StandsAt e.instance ws (lone_step [] e l)) → ((l : LoneInstance) → StandsAt e.instance vs l → OrdersStand e.instance ws orders (lone_orders [] e l)) → Others e vs ws → (Ok x ≡ Err NoSuchInstance) ↔ (length vs ≤ e.instance) → length ws ≡ length vs → AreCarriedOut e.instance ws orders.items before after → TakesEvent e vs ws before after
-accepted_by x e vs ws orders before after own given others stray count so =
-    elim (cases_lt e.instance (length ws)) [
+pub accepted_by : {A : Type 0} (x : A) (e : EventValue) (server next : ServerState) (orders : Vec Order Global) (before after : Option (List RunEvent)) → (Ok x ≢ Err NoMemory → (l : LoneInstance) → StandsAt e.instance server.instances l → StandsAt e.instance next.instances (lone_step (parent_texts e.instance server) e l)) → ((l : LoneInstance) → StandsAt e.instance server.instances l → OrdersStand e.instance next.instances orders (lone_orders (parent_texts e.instance server) e l)) → Others e server.instances next.instances → (Ok x ≡ Err NoSuchInstance) ↔ (length server.instances ≤ e.instance) → length next.instances ≡ length server.instances → next.parents ≡ server.parents → AreCarriedOut e.instance next.instances orders.items before after → TakesEvent e server next before after
+accepted_by x e server next orders before after own given others stray count parents so =
+    elim (cases_lt e.instance (length next.instances)) [
       | inl lt ↦
-          let there = there_is ws e.instance lt in
-          accepted_taken e vs ws orders before after there.0 there.1 (own (ok_not_err x NoMemory (Ok x) refl)) given others so
+          let there = there_is next.instances e.instance lt in
+          accepted_taken e server next orders before after there.0 there.1 (own (ok_not_err x NoMemory (Ok x) refl)) given others parents so
       | inr le ↦ absurd (ok_not_err x NoSuchInstance (Ok x) refl (stray.1 (omega (arith, count, le))))
     ]
 
@@ -181,139 +193,269 @@ accepted_by x e vs ws orders before after own given others stray count so =
 -- what happens is this event of instance j, and nothing to any other
 pub record IsFor (j : ℕ) (what : WhatValue) (x : Happening) : Type 0 where
   pub event : (i m : ℕ) → event_for i m x ≡ own_event i m j what
-  pub comes : (i m : ℕ) (w v : AtWork) → Comes i m w x v → MayHappen i m w x v
+  pub comes : (parent : List Blob) (i m : ℕ) (w v : AtWork) → Comes parent i m w x v → MayHappen parent i m w x v
   pub stays : (m : ℕ) → moment_then m x ≡ m
 
 port_for : (j : ℕ) (p : PortEvent) → IsFor j (what_of p) (at_sockets (port j p))
-port_for j p = record { event = λ i m. refl; comes = λ i m w v so. so; stays = λ m. refl }
+port_for j p = record { event = λ i m. refl; comes = λ parent i m w v so. so; stays = λ m. refl }
 
 gave_for : (j job : ℕ) (outcome : OutcomeValue) → IsFor j (ended job outcome) (at_runs (gave j job outcome))
-gave_for j job outcome = record { event = λ i m. refl; comes = λ i m w v so. so; stays = λ m. refl }
+gave_for j job outcome = record { event = λ i m. refl; comes = λ parent i m w v so. so; stays = λ m. refl }
+
+pub told_for : (j : ℕ) → IsFor j tick (told j)
+told_for j = record { event = λ i m. refl; comes = λ parent i m w v so. so; stays = λ m. refl }
 
 -- the orders of instance j
 abbrev pub orders_of_one : ℕ → List OrderValue → List Happening
 orders_of_one j orders = map at_runs (map (ordered j) orders)
 
--- the instance itself takes it, and its orders are carried out
-own_serves : (i : ℕ) (h : List Happening) (l n : LoneInstance) (w : AtWork) (what : WhatValue) (x : Happening) (orders : List OrderValue) → IsFor i what x → MayServe i 0 w h (with_orders l []) → IsFaithful i (moment_behind h) l x → MayStep (event_told (moment_behind h) i what) l (with_orders n orders) → MayServe i 0 w (h ++ x ∷ orders_of_one i orders) (with_orders n [])
-own_serves i h l n w what x orders fits serves faithful may =
-    let m : ℕ = moment_behind h in
+-- the instance itself takes it
+takes_it : (parent : List Blob) (i m : ℕ) (l n : LoneInstance) (what : WhatValue) (x : Happening) (orders : List OrderValue) → IsFor i what x → IsFaithful i m l x → MayStep parent (event_told m i what) l (with_orders n orders) → MayHappen parent i m (with_orders l []) x (with_orders n orders)
+takes_it parent i m l n what x orders fits faithful may =
     let e : EventValue = event_told m i what in
     let own : event_for i m x ≡ Some e = fits.event i m ∙ ap (λ (b : Bool). cond b (Some e) None) (eq-eqb i i refl) in
-    let take_it : MayTake (event_for i m x) l (with_orders n orders) = subst (λ (o : Option EventValue). MayTake o l (with_orders n orders)) (sym own) may in
-    may_serve_on h (x ∷ orders_of_one i orders) i 0 w (with_orders l []) (with_orders n []) serves
-    (with_orders n orders, fits.comes i m (with_orders l []) (with_orders n orders) (refl, faithful, take_it), carried i (moment_then m x) n orders)
+    fits.comes parent i m (with_orders l []) (with_orders n orders) (refl, faithful, subst (λ (o : Option EventValue). MayTake parent o l (with_orders n orders)) (sym own) may)
 
 -- any other one passes it by
-other_serves : (i j : ℕ) (h : List Happening) (l : LoneInstance) (w : AtWork) (what : WhatValue) (x : Happening) (orders : List OrderValue) → i ≢ j → IsFor j what x → MayServe i 0 w h (with_orders l []) → IsFaithful i (moment_behind h) l x → MayServe i 0 w (h ++ x ∷ orders_of_one j orders) (with_orders l [])
-other_serves i j h l w what x orders ne fits serves faithful =
-    let m : ℕ = moment_behind h in
+passes_it : (parent : List Blob) (i j m : ℕ) (l : LoneInstance) (what : WhatValue) (x : Happening) → i ≢ j → IsFor j what x → IsFaithful i m l x → MayHappen parent i m (with_orders l []) x (with_orders l [])
+passes_it parent i j m l what x ne fits faithful =
     let none : event_for i m x ≡ None = fits.event i m ∙ ap (λ (b : Bool). cond b (Some (event_told m j what)) None) (ne_eqb j i (λ same. ne (sym same))) in
-    let take_none : MayTake (event_for i m x) l (with_orders l []) = subst (λ (o : Option EventValue). MayTake o l (with_orders l [])) (sym none) refl in
-    may_serve_on h (x ∷ orders_of_one j orders) i 0 w (with_orders l []) (with_orders l []) serves
-    (with_orders l [], fits.comes i m (with_orders l []) (with_orders l []) (refl, faithful, take_none), passed i j (moment_then m x) (with_orders l []) orders ne)
+    fits.comes parent i m (with_orders l []) (with_orders l []) (refl, faithful, subst (λ (o : Option EventValue). MayTake parent o l (with_orders l [])) (sym none) refl)
+
+-- the premise that a happening is faithful
+abbrev pub Premise : List ServedState → Happening → Type 0
+Premise vs x = (m n : ℕ) (l : LoneInstance) → StandsAt n vs l → l.state.moment ≤ m → IsFaithful n m l x
+
+abbrev pub rests : Option LoneInstance → Option AtWork
+rests l = option_map (λ (n : LoneInstance). with_orders n []) l
+
+parent_passes : (p : Option ℕ) (j m : ℕ) (l : Option LoneInstance) (vs : List ServedState) (what : WhatValue) (x : Happening) → IsNot p j → IsFor j what x → StandsBeside p vs m l → Premise vs x → ParentMayHappen p m (rests l) x (rests l)
+parent_passes None j m None vs what x not fits stands premise = refl
+parent_passes None j m (Some l) vs what x not fits stands premise = tt
+parent_passes (Some n) j m None vs what x not fits stands premise = absurd stands
+parent_passes (Some n) j m (Some l) vs what x not fits stands premise = passes_it [] n j m l what x not fits (premise m n l stands.0 stands.1)
 
 later : (n : ℕ) (h : List Happening) (j : ℕ) (what : WhatValue) (x : Happening) (orders : List OrderValue) → IsFor j what x → n ≤ moment_behind h → n ≤ moment_behind (h ++ x ∷ orders_of_one j orders)
 later n h j what x orders fits le = subst (λ (m : ℕ). n ≤ m) (sym (moment_more h x (map (ordered j) orders) ∙ fits.stays (moment_behind h))) le
 
-stands_more : (config : ConfigValue) (i : ℕ) (h : List Happening) (vs ws : List ServedState) (before after : Option (List RunEvent)) (j : ℕ) (what : WhatValue) (x : Happening) → IsFor j what x → (t : TakesEvent (event_told (moment_behind h) j what) vs ws before after) → (a : StandsServing config i h vs) → IsFaithful i (moment_behind h) a.now x → StandsServing config i (h ++ x ∷ orders_of_one j t.orders) ws
-stands_more config i h vs ws before after j what x fits t a faithful =
-    let m : ℕ = moment_behind h in
-    let begun : AtWork = with_orders (new_lone config.name config.quota config.slots) [] in
-    elim (cases_eq i j) [
-      | inl same ↦
-          let here = t.own a.now (subst (λ (n : ℕ). StandsAt n vs a.now) same a.stands) in
-          let fits_it : IsFor i what x = subst (λ (n : ℕ). IsFor n what x) (sym same) fits in
-          let may : MayStep (event_told m i what) a.now (with_orders here.now t.orders) = subst (λ (n : ℕ). MayStep (event_told m n what) a.now (with_orders here.now t.orders)) (sym same) here.may in
-          record {
-            now = here.now;
-            serves = subst (λ (n : ℕ). MayServe i 0 begun (h ++ x ∷ orders_of_one n t.orders) (with_orders here.now [])) same
-                (own_serves i h a.now here.now begun what x t.orders fits_it a.serves faithful may);
-            times = later here.now.state.moment h j what x t.orders fits (may_within (event_told m i what) a.now (with_orders here.now t.orders) m may (omega arith) a.times);
-            stands = subst (λ (n : ℕ). StandsAt n ws here.now) (sym same) here.stands;
-          }
-      | inr ne ↦ record {
-        now = a.now;
-        serves = other_serves i j h a.now begun what x t.orders ne fits a.serves faithful;
-        times = later a.now.state.moment h j what x t.orders fits a.times;
-        stands = (a.stands.0, t.others i ne ∙ a.stands.1, a.stands.2);
-      }
-    ]
+-- a parent that stands where it stood
+beside_on : (p : Option ℕ) (vs ws : List ServedState) (m n j : ℕ) (l : Option LoneInstance) → IsNot p j → m ≤ n → ((k : ℕ) → k ≢ j → instance_at k ws ≡ instance_at k vs) → StandsBeside p vs m l → StandsBeside p ws n l
+beside_on None vs ws m n j l not le others stands = stands
+beside_on (Some p) vs ws m n j None not le others stands = absurd stands
+beside_on (Some p) vs ws m n j (Some l) not le others stands =
+    ((stands.0.0, others p not ∙ stands.0.1, stands.0.2), (let late = stands.1 in omega (arith, le, late)))
 
--- the premise that a happening is faithful
-abbrev pub Premise : List ServedState → Happening → Type 0
-Premise vs x = (h : List Happening) (i : ℕ) (config : ConfigValue) (a : StandsServing config i h vs) → IsFaithful i (moment_behind h) a.now x
+-- ---- what a parent has
+
+-- the parents of an instance of this number
+pub record HasParent (i : ℕ) (p : Option ℕ) (server : ServerState) : Type 0 where
+  pub at : parent_at i server.parents ≡ p
+  pub apart : IsNot p i
+  pub root : IfSome p (λ n. parent_at n server.parents ≡ None)
+
+read_at : (n : ℕ) (vs : List ServedState) (l : LoneInstance) → StandsAt n vs l → texts_at n vs ≡ l.state.visible
+read_at n vs l stands =
+    ap (λ (o : Option ServedState). option_map_or (λ v. v.state.visible) o []) stands.1
+    ∙ ap (λ (s : InstanceState). s.visible) stands.2.state
+
+read_beside : (p : Option ℕ) (vs : List ServedState) (m : ℕ) (l : Option LoneInstance) → StandsBeside p vs m l → texts_of_one p vs ≡ texts_of (rests l)
+read_beside None vs m None stands = refl
+read_beside None vs m (Some l) stands = let clash : Some l ≡ None = stands in absurd (none-some l (sym clash))
+read_beside (Some p) vs m None stands = absurd stands
+read_beside (Some p) vs m (Some l) stands = read_at p vs l stands.0
+
+own_read : (i : ℕ) (p : Option ℕ) (server : ServerState) (m : ℕ) (l : Option LoneInstance) → HasParent i p server → StandsBeside p server.instances m l → parent_texts i server ≡ texts_of (rests l)
+own_read i p server m l has stands =
+    ap (λ (o : Option ℕ). texts_of_one o server.instances) has.at ∙ read_beside p server.instances m l stands
+
+-- ---- an event of an instance, of its parent, and of another one
+
+own_more : (family : Family) (i : ℕ) (p : Option ℕ) (h : List Happening) (server next : ServerState) (before after : Option (List RunEvent)) (what : WhatValue) (x : Happening) → IsFor i what x → (t : TakesEvent (event_told (moment_behind h) i what) server next before after) → HasParent i p server → Premise server.instances x → StandsServing family i p h server.instances → StandsServing family i p (h ++ x ∷ orders_of_one i t.orders) next.instances
+own_more family i p h server next before after what x fits t has premise a =
+    let m : ℕ = moment_behind h in
+    let here = t.own a.now a.stands in
+    let parent : Option AtWork = rests a.beside in
+    let may : MayStep (texts_of parent) (event_told m i what) a.now (with_orders here.now t.orders) =
+    subst (λ (ts : List Blob). MayStep ts (event_told m i what) a.now (with_orders here.now t.orders)) (own_read i p server m a.beside has a.stands_beside) here.may in
+    let stepped : MayHappenTo i p m (at_rest a.now a.beside) x (both (with_orders here.now t.orders) parent) = record {
+      own = takes_it (texts_of parent) i m a.now here.now what x t.orders fits (premise m i a.now a.stands a.times) may;
+      parent = parent_passes p i m a.beside server.instances what x has.apart fits a.stands_beside premise;
+    } in
+    record {
+      now = here.now;
+      beside = a.beside;
+      serves = may_serve_on h (x ∷ orders_of_one i t.orders) i p 0 (at_rest (begun family.own) (option_map begun family.parent)) (at_rest a.now a.beside) (at_rest here.now a.beside) a.serves
+          (both (with_orders here.now t.orders) parent, stepped, carried i p (moment_then m x) here.now parent t.orders has.apart);
+      times = later here.now.state.moment h i what x t.orders fits (may_within (texts_of parent) (event_told m i what) a.now (with_orders here.now t.orders) m may (omega arith) a.times);
+      stands = here.stands;
+      stands_beside = beside_on p server.instances next.instances m (moment_behind (h ++ x ∷ orders_of_one i t.orders)) i a.beside has.apart (later m h i what x t.orders fits (omega arith)) t.others a.stands_beside;
+    }
+
+parent_more : (family : Family) (i j : ℕ) (h : List Happening) (server next : ServerState) (before after : Option (List RunEvent)) (what : WhatValue) (x : Happening) → IsFor j what x → (t : TakesEvent (event_told (moment_behind h) j what) server next before after) → HasParent i (Some j) server → Premise server.instances x → StandsServing family i (Some j) h server.instances → StandsServing family i (Some j) (h ++ x ∷ orders_of_one j t.orders) next.instances
+parent_more family i j h server next before after what x fits t has premise a = go a.beside a.serves a.stands_beside
+  where
+    go : (beside : Option LoneInstance) → Serves family i (Some j) h a.now beside → StandsBeside (Some j) server.instances (moment_behind h) beside → StandsServing family i (Some j) (h ++ x ∷ orders_of_one j t.orders) next.instances
+    go None serves stands = absurd stands
+    go (Some l) serves stands =
+        let there = t.own l stands.0 in
+        let may : MayStep [] (event_told (moment_behind h) j what) l (with_orders there.now t.orders) =
+        subst (λ (ts : List Blob). MayStep ts (event_told (moment_behind h) j what) l (with_orders there.now t.orders)) (ap (λ (o : Option ℕ). texts_of_one o server.instances) has.root) there.may in
+        let stepped : MayHappenTo i (Some j) (moment_behind h) (at_rest a.now (Some l)) x (both (with_orders a.now []) (Some (with_orders there.now t.orders))) = record {
+          own = passes_it (texts_of (Some (with_orders l []))) i j (moment_behind h) a.now what x (λ same. has.apart (sym same)) fits (premise (moment_behind h) i a.now a.stands a.times);
+          parent = takes_it [] j (moment_behind h) l there.now what x t.orders fits (premise (moment_behind h) j l stands.0 stands.1) may;
+        } in
+        record {
+          now = a.now;
+          beside = Some there.now;
+          serves = may_serve_on h (x ∷ orders_of_one j t.orders) i (Some j) 0 (at_rest (begun family.own) (option_map begun family.parent)) (at_rest a.now (Some l)) (at_rest a.now (Some there.now)) serves
+              (both (with_orders a.now []) (Some (with_orders there.now t.orders)), stepped, parent_carried i j (moment_then (moment_behind h) x) (with_orders a.now []) there.now t.orders has.apart);
+          times = later a.now.state.moment h j what x t.orders fits a.times;
+          stands = (a.stands.0, t.others i (λ same. has.apart (sym same)) ∙ a.stands.1, a.stands.2);
+          stands_beside = (there.stands, later there.now.state.moment h j what x t.orders fits (may_within [] (event_told (moment_behind h) j what) l (with_orders there.now t.orders) (moment_behind h) may (omega arith) stands.1));
+        }
+
+other_more : (family : Family) (i : ℕ) (p : Option ℕ) (j : ℕ) (h : List Happening) (server next : ServerState) (before after : Option (List RunEvent)) (what : WhatValue) (x : Happening) → i ≢ j → IsNot p j → IsFor j what x → (t : TakesEvent (event_told (moment_behind h) j what) server next before after) → Premise server.instances x → StandsServing family i p h server.instances → StandsServing family i p (h ++ x ∷ orders_of_one j t.orders) next.instances
+other_more family i p j h server next before after what x ne not fits t premise a =
+    let m : ℕ = moment_behind h in
+    let stepped : MayHappenTo i p m (at_rest a.now a.beside) x (at_rest a.now a.beside) = record {
+      own = passes_it (texts_of (rests a.beside)) i j m a.now what x ne fits (premise m i a.now a.stands a.times);
+      parent = parent_passes p j m a.beside server.instances what x not fits a.stands_beside premise;
+    } in
+    record {
+      now = a.now;
+      beside = a.beside;
+      serves = may_serve_on h (x ∷ orders_of_one j t.orders) i p 0 (at_rest (begun family.own) (option_map begun family.parent)) (at_rest a.now a.beside) (at_rest a.now a.beside) a.serves
+          (at_rest a.now a.beside, stepped, passed i p j (moment_then m x) (at_rest a.now a.beside) t.orders ne not);
+      times = later a.now.state.moment h j what x t.orders fits a.times;
+      stands = (a.stands.0, t.others i ne ∙ a.stands.1, a.stands.2);
+      stands_beside = beside_on p server.instances next.instances m (moment_behind (h ++ x ∷ orders_of_one j t.orders)) j a.beside not (later m h j what x t.orders fits (omega arith)) t.others a.stands_beside;
+    }
+
+pub stands_more : (family : Family) (i : ℕ) (p : Option ℕ) (h : List Happening) (server next : ServerState) (before after : Option (List RunEvent)) (j : ℕ) (what : WhatValue) (x : Happening) → IsFor j what x → (t : TakesEvent (event_told (moment_behind h) j what) server next before after) → HasParent i p server → Premise server.instances x → StandsServing family i p h server.instances → StandsServing family i p (h ++ x ∷ orders_of_one j t.orders) next.instances
+stands_more family i p h server next before after j what x fits t has premise a = go (cases_eq j i) p has a
+  where
+    mine : (q : Option ℕ) → j ≡ i → HasParent i q server → StandsServing family i q h server.instances → StandsServing family i q (h ++ x ∷ orders_of_one j t.orders) next.instances
+    mine q same given b =
+        subst (λ (k : ℕ). HasParent k q server → StandsServing family k q h server.instances → StandsServing family k q (h ++ x ∷ orders_of_one j t.orders) next.instances) same
+        (λ g c. own_more family j q h server next before after what x fits t g premise c) given b
+
+    beside : (n : ℕ) → (j ≡ n) ⊎ (j ≡ n → ⊥) → i ≢ j → HasParent i (Some n) server → StandsServing family i (Some n) h server.instances → StandsServing family i (Some n) (h ++ x ∷ orders_of_one j t.orders) next.instances
+    beside n (inl same) ne given b =
+        subst (λ (k : ℕ). HasParent i (Some k) server → StandsServing family i (Some k) h server.instances → StandsServing family i (Some k) (h ++ x ∷ orders_of_one j t.orders) next.instances) same
+        (λ g c. parent_more family i j h server next before after what x fits t g premise c) given b
+    beside n (inr other) ne given b = other_more family i (Some n) j h server next before after what x ne (λ same. other (sym same)) fits t premise b
+
+    go : (j ≡ i) ⊎ (j ≡ i → ⊥) → (q : Option ℕ) → HasParent i q server → StandsServing family i q h server.instances → StandsServing family i q (h ++ x ∷ orders_of_one j t.orders) next.instances
+    go (inl same) q given b = mine q same given b
+    go (inr other) None given b = other_more family i None j h server next before after what x (λ same. other (sym same)) tt fits t premise b
+    go (inr other) (Some n) given b = beside n (cases_eq j n) (λ same. other (sym same)) given b
+
+-- the parent of an instance of these configurations
+pub parent_here : (configs : List ConfigValue) (server : ServerState) (i : ℕ) (config : ConfigValue) → HasParents configs server → config_at i configs ≡ Some config → HasParent i (parent_of configs config) server
+parent_here configs server i config has is = record {
+  at = ap (option_and_then (λ (x : Option ℕ). x)) there;
+  apart = go (parent_of configs config) there;
+  root = up (parent_of configs config) there;
+}
+  where
+    there : slice_get server.parents i ≡ Some (parent_of configs config)
+    there = ap (λ (ps : List (Option ℕ)). slice_get ps i) has.same ∙ slice_get-map (parent_of configs) configs i ∙ ap (option_map (parent_of configs)) is
+
+    go : (p : Option ℕ) → slice_get server.parents i ≡ Some p → IsNot p i
+    go None at = tt
+    go (Some n) at = (has.good i n at).another
+
+    up : (p : Option ℕ) → slice_get server.parents i ≡ Some p → IfSome p (λ n. parent_at n server.parents ≡ None)
+    up None at = tt
+    up (Some n) at = ap (option_and_then (λ (x : Option ℕ). x)) (has.good i n at).builds_on_none
+
+parents_on : (configs : List ConfigValue) (server next : ServerState) → next.parents ≡ server.parents → HasParents configs server → HasParents configs next
+parents_on configs server next same has = record { same = same ∙ has.same; good = subst AreParents (sym same) has.good }
+
+-- all instances of a server have served this
+pub record AllServing (configs : List ConfigValue) (h : List Happening) (server : ServerState) : Type 0 where
+  pub parents : HasParents configs server
+  pub each : (i : ℕ) (config : ConfigValue) → config_at i configs ≡ Some config → StandsServing (family_in configs config) i (parent_of configs config) h server.instances
+
+-- all instances of a server after an event that is told
+pub each_more : (configs : List ConfigValue) (h : List Happening) (server next : ServerState) (before after : Option (List RunEvent)) (j : ℕ) (what : WhatValue) (x : Happening) → IsFor j what x → (t : TakesEvent (event_told (moment_behind h) j what) server next before after) → HasParents configs server → Premise server.instances x → AllServing configs h server → AllServing configs (h ++ x ∷ orders_of_one j t.orders) next
+each_more configs h server next before after j what x fits t parents premise all = record {
+  parents = parents_on configs server next t.parents parents;
+  each = λ i config is.
+      stands_more (family_in configs config) i (parent_of configs config) h server next before after j what x fits t (parent_here configs server i config parents is) premise (all.each i config is);
+}
 
 -- the server after an event that is told, by what happened at the sockets and at the runs
-at_more : (configs : List ConfigValue) (sockets more_sockets : List SocketEvent) (runs more_runs : List RunEvent) (vs ws : List ServedState) (before after : Option (List RunEvent)) (m j : ℕ) (what : WhatValue) (x : Happening) → IsFor j what x → moment_of (sockets ++ more_sockets) ≡ moment_of sockets → HappenedTogether more_sockets more_runs (x ∷ []) → before ≡ Some (runs ++ more_runs) → TakesEvent (event_told m j what) vs ws before after → Premise vs x → IsServerAt configs sockets runs vs m → IsServing configs (Some (sockets ++ more_sockets)) after ws m
-at_more configs sockets more_sockets runs more_runs vs ws before after m j what x fits same_moment one known t premise at =
-    let now : m ≡ moment_behind at.h = at.moment ∙ sym (moment_together sockets runs at.h at.together) in
-    let moved : TakesEvent (event_told (moment_behind at.h) j what) vs ws before after = subst (λ (n : ℕ). TakesEvent (event_told n j what) vs ws before after) now t in
+at_more : (configs : List ConfigValue) (sockets more_sockets : List SocketEvent) (runs more_runs : List RunEvent) (server next : ServerState) (before after : Option (List RunEvent)) (m j : ℕ) (what : WhatValue) (x : Happening) → IsFor j what x → moment_of (sockets ++ more_sockets) ≡ moment_of sockets → AreOf (all_timed (length configs) more_sockets) more_runs (x ∷ []) → before ≡ Some (runs ++ more_runs) → TakesEvent (event_told m j what) server next before after → Premise server.instances x → IsServerAt configs sockets runs server m → IsServing configs (Some (sockets ++ more_sockets)) after next m
+at_more configs sockets more_sockets runs more_runs server next before after m j what x fits same_moment one known t premise at =
+    let count : ℕ = length configs in
+    let now : m ≡ moment_behind at.h = at.moment ∙ sym (moment_together count sockets runs at.h at.together) in
+    let moved : TakesEvent (event_told (moment_behind at.h) j what) server next before after = subst (λ (n : ℕ). TakesEvent (event_told n j what) server next before after) now t in
     let orders : List RunEvent = map (ordered j) moved.orders in
-    let behind : HappenedTogether more_sockets (more_runs ++ orders) (x ∷ map at_runs orders) =
-    subst (λ (s : List SocketEvent). HappenedTogether s (more_runs ++ orders) (x ∷ map at_runs orders)) (append-nil more_sockets)
-    (together_on more_sockets [] more_runs orders (x ∷ []) (map at_runs orders) one (record { at_sockets_so = no_sockets orders; at_runs_so = all_runs orders })) in
-    let server : IsServerAt configs (sockets ++ more_sockets) (runs ++ (more_runs ++ orders)) ws m = record {
+    let parts : AreOf (all_timed count sockets ++ all_timed count more_sockets) (runs ++ (more_runs ++ orders)) (at.h ++ x ∷ map at_runs orders) =
+    parts_on (all_timed count sockets) (all_timed count more_sockets) runs (more_runs ++ orders) at.h (x ∷ map at_runs orders)
+    (parts_of count sockets runs at.h at.together) (parts_ordered (all_timed count more_sockets) more_runs orders x one) in
+    let all = each_more configs at.h server next before after j what x fits moved at.parents premise (record { parents = at.parents; each = at.each }) in
+    let done : IsServerAt configs (sockets ++ more_sockets) (runs ++ (more_runs ++ orders)) next m = record {
       h = at.h ++ x ∷ map at_runs orders;
-      together = together_on sockets more_sockets runs (more_runs ++ orders) at.h (x ∷ map at_runs orders) at.together behind;
-      each = λ i config is.
-          let a = at.each i config is in
-          stands_more config i at.h vs ws before after j what x fits moved a (premise at.h i config a);
+      together = record { at_sockets_so = parts.timed_so ∙ sym (flat_map-append (with_times count) sockets more_sockets); at_runs_so = parts.runs_so };
+      parents = all.parents;
+      each = all.each;
       moment = at.moment ∙ sym same_moment;
     } in
     let after_is : after ≡ Some (runs ++ (more_runs ++ orders)) = moved.carried ∙ ap (option_map (λ (h : List RunEvent). h ++ orders)) known ∙ ap Some (append_assoc runs more_runs orders) in
-    subst (λ (o : Option (List RunEvent)). IsServing configs (Some (sockets ++ more_sockets)) o ws m) (sym after_is) server
+    subst (λ (o : Option (List RunEvent)). IsServing configs (Some (sockets ++ more_sockets)) o next m) (sym after_is) done
 
 -- ---- by what happened
 
-pub none_serves : (configs : List ConfigValue) (known : Option (List SocketEvent)) (vs : List ServedState) (m : ℕ) → IsServing configs known None vs m
-none_serves configs None vs m = tt
-none_serves configs (Some s) vs m = tt
+pub none_serves : (configs : List ConfigValue) (known : Option (List SocketEvent)) (server : ServerState) (m : ℕ) → IsServing configs known None server m
+none_serves configs None server m = tt
+none_serves configs (Some s) server m = tt
 
 -- at the port of an instance
-pub after_port : (configs : List ConfigValue) (old new : Option (List SocketEvent)) (was is : Option (List RunEvent)) (vs ws : List ServedState) (m j : ℕ) (p : PortEvent) → Adds old new (port j p ∷ []) → TakesEvent (event_at m j p) vs ws was is → Premise vs (at_sockets (port j p)) → IsServing configs old was vs m → IsServing configs new is ws m
-after_port configs None new was is vs ws m j p adds t premise at = subst (λ (o : Option (List SocketEvent)). IsServing configs o is ws m) (sym adds) tt
-after_port configs (Some s) new None is vs ws m j p adds t premise at = subst (λ (o : Option (List RunEvent)). IsServing configs new o ws m) (sym t.carried) (none_serves configs new ws m)
-after_port configs (Some s) new (Some r) is vs ws m j p adds t premise at =
-    subst (λ (o : Option (List SocketEvent)). IsServing configs o is ws m) (sym adds)
-    (at_more configs s (port j p ∷ []) r [] vs ws (Some r) is m j (what_of p) (at_sockets (port j p)) (port_for j p)
-    (fold_push moment_after 0 s (port j p)) (record { at_sockets_so = refl; at_runs_so = refl }) (ap Some (sym (append-nil r))) t premise at)
+pub after_port : (configs : List ConfigValue) (old new : Option (List SocketEvent)) (was is : Option (List RunEvent)) (server next : ServerState) (m j : ℕ) (p : PortEvent) → Adds old new (port j p ∷ []) → TakesEvent (event_at m j p) server next was is → Premise server.instances (at_sockets (port j p)) → IsServing configs old was server m → IsServing configs new is next m
+after_port configs None new was is server next m j p adds t premise at = subst (λ (o : Option (List SocketEvent)). IsServing configs o is next m) (sym adds) tt
+after_port configs (Some s) new None is server next m j p adds t premise at = subst (λ (o : Option (List RunEvent)). IsServing configs new o next m) (sym t.carried) (none_serves configs new next m)
+after_port configs (Some s) new (Some r) is server next m j p adds t premise at =
+    subst (λ (o : Option (List SocketEvent)). IsServing configs o is next m) (sym adds)
+    (at_more configs s (port j p ∷ []) r [] server next (Some r) is m j (what_of p) (at_sockets (port j p)) (port_for j p)
+    (fold_push moment_after 0 s (port j p)) (record { timed_so = refl; runs_so = refl }) (ap Some (sym (append-nil r))) t premise at)
 
 -- at the run of a job
-pub after_outcome : (configs : List ConfigValue) (known : Option (List SocketEvent)) (was asked is : Option (List RunEvent)) (vs ws : List ServedState) (m j job : ℕ) (outcome : OutcomeValue) → AddsRuns was asked (gave j job outcome ∷ []) → TakesEvent (event_told m j (ended job outcome)) vs ws asked is → IsServing configs known was vs m → IsServing configs known is ws m
-after_outcome configs None was asked is vs ws m j job outcome adds t at = tt
-after_outcome configs (Some s) None asked is vs ws m j job outcome adds t at =
-    subst (λ (o : Option (List RunEvent)). IsServing configs (Some s) o ws m) (sym (t.carried ∙ ap (option_map (λ (h : List RunEvent). h ++ map (ordered j) t.orders)) adds)) tt
-after_outcome configs (Some s) (Some r) asked is vs ws m j job outcome adds t at =
-    subst (λ (x : List SocketEvent). IsServing configs (Some x) is ws m) (append-nil s)
-    (at_more configs s [] r (gave j job outcome ∷ []) vs ws asked is m j (ended job outcome) (at_runs (gave j job outcome)) (gave_for j job outcome)
-    (ap moment_of (append-nil s)) (record { at_sockets_so = refl; at_runs_so = refl }) adds t (λ h i config a. tt) at)
+pub after_outcome : (configs : List ConfigValue) (known : Option (List SocketEvent)) (was asked is : Option (List RunEvent)) (server next : ServerState) (m j job : ℕ) (outcome : OutcomeValue) → AddsRuns was asked (gave j job outcome ∷ []) → TakesEvent (event_told m j (ended job outcome)) server next asked is → IsServing configs known was server m → IsServing configs known is next m
+after_outcome configs None was asked is server next m j job outcome adds t at = tt
+after_outcome configs (Some s) None asked is server next m j job outcome adds t at =
+    subst (λ (o : Option (List RunEvent)). IsServing configs (Some s) o next m) (sym (t.carried ∙ ap (option_map (λ (h : List RunEvent). h ++ map (ordered j) t.orders)) adds)) tt
+after_outcome configs (Some s) (Some r) asked is server next m j job outcome adds t at =
+    subst (λ (x : List SocketEvent). IsServing configs (Some x) is next m) (append-nil s)
+    (at_more configs s [] r (gave j job outcome ∷ []) server next asked is m j (ended job outcome) (at_runs (gave j job outcome)) (gave_for j job outcome)
+    (ap moment_of (append-nil s)) (record { timed_so = refl; runs_so = refl }) adds t (λ n k l stands late. tt) at)
 
 -- what was asked, by what is told of it
 pub asked_adds : (was asked : Option (List RunEvent)) (answered told_so : List RunEvent) → AddsRuns was asked answered → told_so ≡ answered → AddsRuns was asked told_so
 asked_adds was asked answered told_so adds same = subst (λ (xs : List RunEvent). AddsRuns was asked xs) (sym same) adds
 
 -- nothing happened at the sockets
-pub after_none : (configs : List ConfigValue) (old new : Option (List SocketEvent)) (known : Option (List RunEvent)) (vs : List ServedState) (m : ℕ) → Adds old new [] → IsServing configs old known vs m → IsServing configs new known vs m
-after_none configs None new known vs m adds at = subst (λ (o : Option (List SocketEvent)). IsServing configs o known vs m) (sym adds) tt
-after_none configs (Some h) new known vs m adds at =
-    subst (λ (o : Option (List SocketEvent)). IsServing configs o known vs m) (sym (adds ∙ ap Some (append-nil h))) at
+pub after_none : (configs : List ConfigValue) (old new : Option (List SocketEvent)) (known : Option (List RunEvent)) (server : ServerState) (m : ℕ) → Adds old new [] → IsServing configs old known server m → IsServing configs new known server m
+after_none configs None new known server m adds at = subst (λ (o : Option (List SocketEvent)). IsServing configs o known server m) (sym adds) tt
+after_none configs (Some h) new known server m adds at =
+    subst (λ (o : Option (List SocketEvent)). IsServing configs o known server m) (sym (adds ∙ ap Some (append-nil h))) at
 
 -- nothing happened at the runs
-pub after_no_run : (configs : List ConfigValue) (known : Option (List SocketEvent)) (was is : Option (List RunEvent)) (vs : List ServedState) (m : ℕ) → AddsRuns was is [] → IsServing configs known was vs m → IsServing configs known is vs m
-after_no_run configs known None is vs m adds at = subst (λ (o : Option (List RunEvent)). IsServing configs known o vs m) (sym adds) at
-after_no_run configs known (Some h) is vs m adds at =
-    subst (λ (o : Option (List RunEvent)). IsServing configs known o vs m) (sym (adds ∙ ap Some (append-nil h))) at
+pub after_no_run : (configs : List ConfigValue) (known : Option (List SocketEvent)) (was is : Option (List RunEvent)) (server : ServerState) (m : ℕ) → AddsRuns was is [] → IsServing configs known was server m → IsServing configs known is server m
+after_no_run configs known None is server m adds at = subst (λ (o : Option (List RunEvent)). IsServing configs known o server m) (sym adds) at
+after_no_run configs known (Some h) is server m adds at =
+    subst (λ (o : Option (List RunEvent)). IsServing configs known o server m) (sym (adds ∙ ap Some (append-nil h))) at
 
-pub was_served : (configs : List ConfigValue) (known : Option (List SocketEvent)) (runs : Option (List RunEvent)) (vs : List ServedState) (m : ℕ) → IsServing configs known runs vs m → WasServed configs known runs
-was_served configs None runs vs m at = tt
-was_served configs (Some s) None vs m at = tt
-was_served configs (Some s) (Some r) vs m at = (
+pub was_served : (configs : List ConfigValue) (known : Option (List SocketEvent)) (runs : Option (List RunEvent)) (server : ServerState) (m : ℕ) → IsServing configs known runs server m → WasServed configs known runs
+was_served configs None runs server m at = tt
+was_served configs (Some s) None server m at = tt
+was_served configs (Some s) (Some r) server m at = (
   at.h,
   at.together,
   λ i config is.
       let a = at.each i config is in
-      (a.now, a.serves),
+      (a.now, a.beside, a.serves),
 )
 
 -- ---- what is written, and the number of a connection that is accepted
@@ -333,25 +475,23 @@ abbrev pub Pends : ℕ → ℕ → List ServedState → Option (List ℕ) → Ty
 Pends i c vs answer = (l : LoneInstance) → StandsAt i vs l → answer ≡ option_map (λ (p : Past). pending_bytes p.history) (open_at c l.connections)
 
 next_written : (vs : List ServedState) (i c n : ℕ) (bytes : List ℕ) → n ≤ length bytes → Pends i c vs (Some bytes) → Premise vs (at_sockets (port i (PortEvent.written c (take n bytes))))
-next_written vs i c n bytes le pends = λ h k config a same.
-    let l : LoneInstance = a.now in
-    let m : ℕ = moment_behind h in
-    let here : StandsAt i vs l = subst (λ (x : ℕ). StandsAt x vs l) (sym same) a.stands in
+next_written vs i c n bytes le pends = λ m k l stands late same.
+    let here : StandsAt i vs l = subst (λ (x : ℕ). StandsAt x vs l) (sym same) stands in
     let waits : Some bytes ≡ option_map (λ (p : Past). pending_bytes p.history) (open_at c l.connections) = pends l here in
     let counted : refusal_of (event_told m k (took c (length (take n bytes)))) l ≡ None =
     ap (λ (x : ℕ). refusal_of (event_told m k (took c x)) l) (length-take-le n bytes le)
-    ∙ took_taken m k c n bytes l a.times le waits in
+    ∙ took_taken m k c n bytes l late le waits in
     (next_by n bytes (open_at c l.connections) le waits, counted)
 
 free_accepted : (vs : List ServedState) (i c : ℕ) → Pends i c vs None → Premise vs (at_sockets (port i (PortEvent.accepted c)))
-free_accepted vs i c pends = λ h k config a same.
-    none_by (open_at c a.now.connections) (pends a.now (subst (λ (x : ℕ). StandsAt x vs a.now) (sym same) a.stands))
+free_accepted vs i c pends = λ m k l stands late same.
+    none_by (open_at c l.connections) (pends l (subst (λ (x : ℕ). StandsAt x vs l) (sym same) stands))
 
 -- ---- by happening
 
-pub read_told : (configs : List ConfigValue) (old new : Option (List SocketEvent)) (was is : Option (List RunEvent)) (vs ws : List ServedState) (m i c : ℕ) (bytes items : List ℕ) → Adds old new (port i (PortEvent.read c bytes) ∷ []) → items ≡ bytes → TakesEvent (event_at m i (PortEvent.read c items)) vs ws was is → IsServing configs old was vs m → IsServing configs new is ws m
-read_told configs old new was is vs ws m i c bytes items adds same t at =
-    after_port configs old new was is vs ws m i (PortEvent.read c bytes) adds (subst (λ (b : List ℕ). TakesEvent (event_at m i (PortEvent.read c b)) vs ws was is) same t) (λ h k config a. tt) at
+pub read_told : (configs : List ConfigValue) (old new : Option (List SocketEvent)) (was is : Option (List RunEvent)) (server next : ServerState) (m i c : ℕ) (bytes items : List ℕ) → Adds old new (port i (PortEvent.read c bytes) ∷ []) → items ≡ bytes → TakesEvent (event_at m i (PortEvent.read c items)) server next was is → IsServing configs old was server m → IsServing configs new is next m
+read_told configs old new was is server next m i c bytes items adds same t at =
+    after_port configs old new was is server next m i (PortEvent.read c bytes) adds (subst (λ (b : List ℕ). TakesEvent (event_at m i (PortEvent.read c b)) server next was is) same t) (λ n k l stands late. tt) at
 
 -- a slice of a vector that was written to stands in the vector
 pub written_back : (n : ℕ) (xs ys : List ℕ) → length xs ≡ length ys → n ≡ length ys → take n (xs ++ drop (length xs) ys) ≡ xs
@@ -360,32 +500,36 @@ written_back n xs ys e f =
     let whole : length xs ≤ n = omega arith in
     ap (λ (zs : List ℕ). take n (xs ++ zs)) (drop_of_length-le ys le) ∙ ap (take n) (append-nil xs) ∙ take_all n xs whole
 
-pub shut_told : (configs : List ConfigValue) (old new : Option (List SocketEvent)) (was is : Option (List RunEvent)) (vs ws : List ServedState) (m i c : ℕ) → Adds old new (port i (PortEvent.shut c) ∷ []) → TakesEvent (event_at m i (PortEvent.shut c)) vs ws was is → IsServing configs old was vs m → IsServing configs new is ws m
-shut_told configs old new was is vs ws m i c adds t at = after_port configs old new was is vs ws m i (PortEvent.shut c) adds t (λ h k config a. tt) at
+pub shut_told : (configs : List ConfigValue) (old new : Option (List SocketEvent)) (was is : Option (List RunEvent)) (server next : ServerState) (m i c : ℕ) → Adds old new (port i (PortEvent.shut c) ∷ []) → TakesEvent (event_at m i (PortEvent.shut c)) server next was is → IsServing configs old was server m → IsServing configs new is next m
+shut_told configs old new was is server next m i c adds t at = after_port configs old new was is server next m i (PortEvent.shut c) adds t (λ n k l stands late. tt) at
 
-pub written_told : (configs : List ConfigValue) (old new : Option (List SocketEvent)) (was is : Option (List RunEvent)) (vs ws : List ServedState) (m i c n : ℕ) (bytes : List ℕ) → n ≤ length bytes → Pends i c vs (Some bytes) → Adds old new (port i (PortEvent.written c (take n bytes)) ∷ []) → TakesEvent (event_told m i (took c n)) vs ws was is → IsServing configs old was vs m → IsServing configs new is ws m
-written_told configs old new was is vs ws m i c n bytes le pends adds t at =
-    let counted : TakesEvent (event_at m i (PortEvent.written c (take n bytes))) vs ws was is =
-    subst (λ (k : ℕ). TakesEvent (event_told m i (took c k)) vs ws was is) (sym (length-take-le n bytes le)) t in
-    after_port configs old new was is vs ws m i (PortEvent.written c (take n bytes)) adds counted (next_written vs i c n bytes le pends) at
+pub written_told : (configs : List ConfigValue) (old new : Option (List SocketEvent)) (was is : Option (List RunEvent)) (server next : ServerState) (m i c n : ℕ) (bytes : List ℕ) → n ≤ length bytes → Pends i c server.instances (Some bytes) → Adds old new (port i (PortEvent.written c (take n bytes)) ∷ []) → TakesEvent (event_told m i (took c n)) server next was is → IsServing configs old was server m → IsServing configs new is next m
+written_told configs old new was is server next m i c n bytes le pends adds t at =
+    let counted : TakesEvent (event_at m i (PortEvent.written c (take n bytes))) server next was is =
+    subst (λ (k : ℕ). TakesEvent (event_told m i (took c k)) server next was is) (sym (length-take-le n bytes le)) t in
+    after_port configs old new was is server next m i (PortEvent.written c (take n bytes)) adds counted (next_written server.instances i c n bytes le pends) at
 
-pub accepted_told : (configs : List ConfigValue) (old new : Option (List SocketEvent)) (was is : Option (List RunEvent)) (vs ws : List ServedState) (m i c : ℕ) → Pends i c vs None → Adds old new (port i (PortEvent.accepted c) ∷ []) → TakesEvent (event_at m i (PortEvent.accepted c)) vs ws was is → IsServing configs old was vs m → IsServing configs new is ws m
-accepted_told configs old new was is vs ws m i c pends adds t at =
-    after_port configs old new was is vs ws m i (PortEvent.accepted c) adds t (free_accepted vs i c pends) at
+pub accepted_told : (configs : List ConfigValue) (old new : Option (List SocketEvent)) (was is : Option (List RunEvent)) (server next : ServerState) (m i c : ℕ) → Pends i c server.instances None → Adds old new (port i (PortEvent.accepted c) ∷ []) → TakesEvent (event_at m i (PortEvent.accepted c)) server next was is → IsServing configs old was server m → IsServing configs new is next m
+accepted_told configs old new was is server next m i c pends adds t at =
+    after_port configs old new was is server next m i (PortEvent.accepted c) adds t (free_accepted server.instances i c pends) at
 
 -- ---- the beginning
 
 abbrev pub IsFresh : {X : Type 0} → Option (List X) → Type 0
 IsFresh known = IfSome known (λ h. h ≡ [])
 
-pub begins : (configs : List ConfigValue) (known : Option (List SocketEvent)) (runs : Option (List RunEvent)) (vs : List ServedState) (m : ℕ) → IsFresh known → IsFresh runs → IsServing configs (Some []) (Some []) vs m → IsServing configs known runs vs m
-begins configs None runs vs m fresh unrun at = tt
-begins configs (Some s) None vs m fresh unrun at = tt
-begins configs (Some s) (Some r) vs m fresh unrun at =
-    subst (λ (x : List SocketEvent). IsServerAt configs x r vs m) (sym fresh) (subst (λ (y : List RunEvent). IsServerAt configs [] y vs m) (sym unrun) at)
+pub begins : (configs : List ConfigValue) (known : Option (List SocketEvent)) (runs : Option (List RunEvent)) (server : ServerState) (m : ℕ) → IsFresh known → IsFresh runs → IsServing configs (Some []) (Some []) server m → IsServing configs known runs server m
+begins configs None runs server m fresh unrun at = tt
+begins configs (Some s) None server m fresh unrun at = tt
+begins configs (Some s) (Some r) server m fresh unrun at =
+    subst (λ (x : List SocketEvent). IsServerAt configs x r server m) (sym fresh) (subst (λ (y : List RunEvent). IsServerAt configs [] y server m) (sym unrun) at)
 
-nothing_served : (configs : List ConfigValue) → (h : List Happening) × HappenedTogether [] [] h × IsServed configs h
-nothing_served configs = ([], record { at_sockets_so = refl; at_runs_so = refl }, λ i config is. (new_lone config.name config.quota config.slots, refl))
+nothing_served : (configs : List ConfigValue) → (h : List Happening) × HappenedTogether (length configs) [] [] h × IsServed configs h
+nothing_served configs = (
+  [],
+  record { at_sockets_so = refl; at_runs_so = refl },
+  λ i config is. (begun config, option_map begun (family_in configs config).parent, refl),
+)
 
 pub fresh_served : (configs : List ConfigValue) (known : Option (List SocketEvent)) (runs : Option (List RunEvent)) → IsFresh known → IsFresh runs → WasServed configs known runs
 fresh_served configs None runs fresh unrun = tt

@@ -1,4 +1,5 @@
 mod Happenings
 mod Keeps
+mod Beginning
 mod Ticks
 mod Silence

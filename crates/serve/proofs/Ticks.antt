@@ -1,40 +1,38 @@
--- Time goes on for one instance after another.
-use Rattle.std.proofs.Common.{◌≡◌, ◌≢◌, ℕ, ◌+◌, ◌<◌, ◌≤◌, List, [], ◌∷◌, ◌++◌, map, length, refl, ap, ◌∙◌, sym, subst, arith, inl, inr, append-nil, append_assoc}
-use Rattle.std.specs.Prelude.{Option, Some, None, IfSome, fold}
+-- One instance after another is told the time.
+use Rattle.std.proofs.Common.{◌≡◌, ℕ, zero, ◌+◌, ◌≤◌, List, [], ◌∷◌, ◌++◌, map, length, refl, ap, ◌∙◌, sym, subst, arith, add-one, append-nil, append_assoc}
+use Rattle.std.specs.Prelude.{suc, Option, Some, None, IfSome}
 use Rattle.std.specs.Option.{option_map}
-use Rattle.std.proofs.lemmas.Bool.{cases_eq}
+use Rattle.std.specs.List.{range_with_len}
+use Rattle.std.proofs.lemmas.Grind.{flat_map-append}
 use Rattle.std.proofs.lemmas.List.{map-append}
-use Rattle.std.proofs.lemmas.Option.{slice_get_within}
-use Rattle.executor.specs.Orders.{OrderValue}
-use Rattle.server_events.specs.Configs.{ConfigValue}
+use Rattle.std.proofs.lemmas.List.Sums.{fold_push}
+use Rattle.server_events.specs.Configs.{ConfigValue, parent_of}
 use Rattle.server_events.specs.Events.{EventValue, tick}
-use Rattle.served_instance.specs.Lone.{new_lone}
-use Rattle.served_instance.specs.StandsFor.{ServedState}
-use Rattle.server_core.specs.LoneOutput.{config_at}
+use Rattle.served_instance.specs.Lone.{LoneInstance}
+use Rattle.server_core.specs.Families.{Family, family_in}
+use Rattle.server_core.specs.StandsFor.{ServerState}
 use Rattle.serve.specs.SocketEvents.{SocketEvent, clock, moment_after, moment_of, Adds}
 use Rattle.serve.specs.RunEvents.{RunEvent, ordered}
-use Rattle.serve.specs.Happenings.{Happening, at_sockets, at_runs, moment_then, moment_behind}
-use Rattle.serve.specs.Served.{AtWork, with_orders, HappenedTogether, MayServe, StandsServing, IsServerAt, IsServing, TakesEvent}
-use Rattle.std.proofs.lemmas.List.Sums.{fold_push}
-use Rattle.serve.proofs.Happenings.{all_runs, no_sockets, together_on, moment_more, moment_together, may_serve_on, carried, passed, may_within}
-use Rattle.serve.proofs.Keeps.{event_told, orders_of_one, none_serves}
+use Rattle.serve.specs.Happenings.{Happening, at_sockets, told, at_runs, all_told, all_timed, with_times, moment_behind}
+use Rattle.serve.specs.Served.{ParentMayHappen, StandsBeside, StandsServing, IsServerAt, IsServing, TakesEvent, at_rest, begun}
+use Rattle.serve.proofs.Happenings.{AreOf, parts_of, parts_on, parts_ordered, moment_more, moment_together, may_serve_on}
+use Rattle.serve.proofs.Keeps.{AllServing, each_more, event_told, none_serves, rests, told_for}
 
--- the clock showed n, and then this happened at the runs
-abbrev pub since : ℕ → List RunEvent → List Happening
-since n more = at_sockets (clock n) ∷ map at_runs more
+-- so many instances were told the time
+abbrev told_so_far : ℕ → List Happening
+told_so_far k = map told (range_with_len 0 k)
 
--- time went on for the instances before number k, and what they ordered was carried out
-pub record HasTicked (configs : List ConfigValue) (sockets : List SocketEvent) (runs : List RunEvent) (n k : ℕ) (vs : List ServedState) (now : Option (List RunEvent)) : Type 0 where
+-- the clock showed n, the instances before number k were told it, and what they ordered was carried out
+pub record HasTicked (configs : List ConfigValue) (sockets : List SocketEvent) (runs : List RunEvent) (n k : ℕ) (server : ServerState) (now : Option (List RunEvent)) : Type 0 where
   pub h : List Happening
-  pub together : HappenedTogether sockets runs h
   pub more : List RunEvent
+  pub parts : AreOf (all_timed (length configs) sockets ++ at_sockets (clock n) ∷ told_so_far k) (runs ++ more) h
   pub runs_now : now ≡ Some (runs ++ more)
-  pub passes : (i m : ℕ) (w : AtWork) → k ≤ i → MayServe i m w (map at_runs more) w
-  pub done : (i : ℕ) (config : ConfigValue) → config_at i configs ≡ Some config → i < k → StandsServing config i (h ++ since n more) vs
-  pub left : (i : ℕ) (config : ConfigValue) → config_at i configs ≡ Some config → k ≤ i → StandsServing config i h vs
+  pub all : AllServing configs h server
+  pub moment : moment_behind h ≡ n
 
-abbrev pub IsTicking : List ConfigValue → Option (List SocketEvent) → Option (List RunEvent) → ℕ → ℕ → List ServedState → Option (List RunEvent) → Type 0
-IsTicking configs known was n k vs now = IfSome known (λ s. IfSome was (λ r. HasTicked configs s r n k vs now))
+abbrev pub IsTicking : List ConfigValue → Option (List SocketEvent) → Option (List RunEvent) → ℕ → ℕ → ServerState → Option (List RunEvent) → Type 0
+IsTicking configs known was n k server now = IfSome known (λ s. IfSome was (λ r. HasTicked configs s r n k server now))
 
 -- the clock shows no less than it did
 abbrev pub Rises : Option (List SocketEvent) → ℕ → Type 0
@@ -44,106 +42,105 @@ Rises known n = IfSome known (λ h. moment_of h ≤ n)
 abbrev pub StaysUnknown : Option (List RunEvent) → Option (List RunEvent) → Type 0
 StaysUnknown was now = was ≡ None → now ≡ None
 
-pub still_unknown : (was before after : Option (List RunEvent)) (e : EventValue) (vs ws : List ServedState) → TakesEvent e vs ws before after → StaysUnknown was before → StaysUnknown was after
-still_unknown was before after e vs ws t unknown = λ is. t.carried ∙ ap (option_map (λ (x : List RunEvent). x ++ map (ordered e.instance) t.orders)) (unknown is)
+pub still_unknown : (was before after : Option (List RunEvent)) (e : EventValue) (server next : ServerState) → TakesEvent e server next before after → StaysUnknown was before → StaysUnknown was after
+still_unknown was before after e server next t unknown = λ is. t.carried ∙ ap (option_map (λ (x : List RunEvent). x ++ map (ordered e.instance) t.orders)) (unknown is)
 
-pub none_ticked : (configs : List ConfigValue) (known : Option (List SocketEvent)) (was : Option (List RunEvent)) (vs : List ServedState) (m n : ℕ) → IsServing configs known was vs m → IsTicking configs known was n 0 vs was
-none_ticked configs None was vs m n at = tt
-none_ticked configs (Some s) None vs m n at = tt
-none_ticked configs (Some s) (Some r) vs m n at = record {
-  h = at.h;
-  together = at.together;
-  more = [];
-  runs_now = ap Some (sym (append-nil r));
-  passes = λ i m w le. refl;
-  done = λ i config is lt. absurd (omega (arith, lt));
-  left = λ i config is le. at.each i config is;
-}
+-- ---- the clock is read
 
-other : (config : ConfigValue) (i : ℕ) (h : List Happening) (e : EventValue) (vs ws : List ServedState) (before after : Option (List RunEvent)) → TakesEvent e vs ws before after → i ≢ e.instance → StandsServing config i h vs → StandsServing config i h ws
-other config i h e vs ws before after t ne a = record {
-  now = a.now;
-  serves = a.serves;
-  times = a.times;
-  stands = (a.stands.0, t.others i ne ∙ a.stands.1, a.stands.2);
-}
+clock_passes : (p : Option ℕ) (m n : ℕ) (l : Option LoneInstance) → ParentMayHappen p m (rests l) (at_sockets (clock n)) (rests l)
+clock_passes p m n None = refl
+clock_passes None m n (Some l) = tt
+clock_passes (Some k) m n (Some l) = (refl, tt, refl)
 
--- what happens at the runs is later than nothing
-later : (k : ℕ) (h : List Happening) (orders : List RunEvent) → k ≤ moment_behind h → k ≤ moment_behind (h ++ map at_runs orders)
-later k h [] le = subst (λ (x : List Happening). k ≤ moment_behind x) (sym (append-nil h)) le
-later k h (r ∷ orders) le = subst (λ (m : ℕ). k ≤ m) (sym (moment_more h (at_runs r) orders)) le
+beside_later : (p : Option ℕ) (server : ServerState) (m n : ℕ) (l : Option LoneInstance) → m ≤ n → StandsBeside p server.instances m l → StandsBeside p server.instances n l
+beside_later None server m n l le stands = stands
+beside_later (Some p) server m n None le stands = absurd stands
+beside_later (Some p) server m n (Some l) le stands = (stands.0, (let late = stands.1 in omega (arith, le, late)))
 
--- .. and orders of another are passed by
-further : (config : ConfigValue) (i j : ℕ) (h : List Happening) (orders : List OrderValue) (vs : List ServedState) → i ≢ j → StandsServing config i h vs → StandsServing config i (h ++ orders_of_one j orders) vs
-further config i j h orders vs ne a = record {
-  now = a.now;
-  serves = may_serve_on h (orders_of_one j orders) i 0 (with_orders (new_lone config.name config.quota config.slots) []) (with_orders a.now []) (with_orders a.now []) a.serves (passed i j (moment_behind h) (with_orders a.now []) orders ne);
-  times = later a.now.state.moment h (map (ordered j) orders) a.times;
-  stands = a.stands;
-}
+clock_moment : (h : List Happening) (n : ℕ) → moment_behind (h ++ at_sockets (clock n) ∷ []) ≡ n
+clock_moment h n = moment_more h (at_sockets (clock n)) []
 
-since_more : (h : List Happening) (n : ℕ) (more orders : List RunEvent) → (h ++ since n more) ++ map at_runs orders ≡ h ++ since n (more ++ orders)
-since_more h n more orders =
-    append_assoc h (since n more) (map at_runs orders)
-    ∙ ap (λ (x : List Happening). h ++ at_sockets (clock n) ∷ x) (sym (map-append at_runs more orders))
-
-ticked : (config : ConfigValue) (h : List Happening) (more : List RunEvent) (n k : ℕ) (vs ws : List ServedState) (before after : Option (List RunEvent)) → moment_behind h ≤ n → ((m : ℕ) (w : AtWork) → MayServe k m w (map at_runs more) w) → (t : TakesEvent (event_told n k tick) vs ws before after) → StandsServing config k h vs → StandsServing config k (h ++ since n (more ++ map (ordered k) t.orders)) ws
-ticked config h more n k vs ws before after rises passes t a =
-    let here = t.own a.now a.stands in
-    let begun : AtWork = with_orders (new_lone config.name config.quota config.slots) [] in
-    let ordered_now : AtWork = with_orders here.now t.orders in
-    let at_clock : MayServe k 0 begun (h ++ since n more) ordered_now =
-    may_serve_on h (since n more) k 0 begun (with_orders a.now []) ordered_now a.serves
-    (ordered_now, (refl, tt, here.may), passes n ordered_now) in
+at_clock : (family : Family) (i : ℕ) (p : Option ℕ) (h : List Happening) (server : ServerState) (n : ℕ) → moment_behind h ≤ n → StandsServing family i p h server.instances → StandsServing family i p (h ++ at_sockets (clock n) ∷ []) server.instances
+at_clock family i p h server n rises a =
+    let late = a.times in
     record {
-      now = here.now;
-      serves = subst (λ (x : List Happening). MayServe k 0 begun x (with_orders here.now [])) (since_more h n more (map (ordered k) t.orders))
-          (may_serve_on (h ++ since n more) (orders_of_one k t.orders) k 0 begun ordered_now (with_orders here.now []) at_clock (carried k (moment_behind (h ++ since n more)) here.now t.orders));
-      times = subst (λ (m : ℕ). here.now.state.moment ≤ m) (sym (moment_more h (at_sockets (clock n)) (more ++ map (ordered k) t.orders)))
-          (may_within (event_told n k tick) a.now ordered_now n here.may (omega arith) (omega (arith, rises, a.times)));
-      stands = here.stands;
+      now = a.now;
+      beside = a.beside;
+      serves = may_serve_on h (at_sockets (clock n) ∷ []) i p 0 (at_rest (begun family.own) (option_map begun family.parent)) (at_rest a.now a.beside) (at_rest a.now a.beside) a.serves
+          (at_rest a.now a.beside, record { own = (refl, tt, refl); parent = clock_passes p (moment_behind h) n a.beside }, refl);
+      times = subst (λ (m : ℕ). a.now.state.moment ≤ m) (sym (clock_moment h n)) (omega (arith, rises, late));
+      stands = a.stands;
+      stands_beside = beside_later p server (moment_behind h) (moment_behind (h ++ at_sockets (clock n) ∷ [])) a.beside (subst (λ (m : ℕ). moment_behind h ≤ m) (sym (clock_moment h n)) rises) a.stands_beside;
     }
 
-done_more : (configs : List ConfigValue) (sockets : List SocketEvent) (runs : List RunEvent) (n k : ℕ) (vs ws : List ServedState) (before after : Option (List RunEvent)) → moment_of sockets ≤ n → (t : TakesEvent (event_told n k tick) vs ws before after) → (so : HasTicked configs sockets runs n k vs before) → (i : ℕ) (config : ConfigValue) → config_at i configs ≡ Some config → i < k + 1 → StandsServing config i (so.h ++ since n (so.more ++ map (ordered k) t.orders)) ws
-done_more configs sockets runs n k vs ws before after rises t so i config is lt =
-    let more : List RunEvent = so.more ++ map (ordered k) t.orders in
-    elim (cases_eq i k) [
-      | inl same ↦
-          let before_it : StandsServing config k so.h vs = subst (λ (j : ℕ). StandsServing config j so.h vs) same (so.left i config is (omega (arith, same))) in
-          let late : moment_behind so.h ≤ n = subst (λ (m : ℕ). m ≤ n) (sym (moment_together sockets runs so.h so.together)) rises in
-          subst (λ (j : ℕ). StandsServing config j (so.h ++ since n more) ws) (sym same) (ticked config so.h so.more n k vs ws before after late (λ m w. so.passes k m w (omega arith)) t before_it)
-      | inr ne ↦
-          subst (λ (x : List Happening). StandsServing config i x ws) (since_more so.h n so.more (map (ordered k) t.orders))
-          (further config i k (so.h ++ since n so.more) t.orders ws ne (other config i (so.h ++ since n so.more) (event_told n k tick) vs ws before after t ne (so.done i config is (omega (arith, lt, ne)))))
-    ]
+pub none_ticked : (configs : List ConfigValue) (known : Option (List SocketEvent)) (was : Option (List RunEvent)) (server : ServerState) (m n : ℕ) → Rises known n → IsServing configs known was server m → IsTicking configs known was n 0 server was
+none_ticked configs None was server m n rises at = tt
+none_ticked configs (Some s) None server m n rises at = tt
+none_ticked configs (Some s) (Some r) server m n rises at =
+    let count : ℕ = length configs in
+    let late : moment_behind at.h ≤ n = subst (λ (k : ℕ). k ≤ n) (sym (moment_together count s r at.h at.together)) rises in
+    record {
+      h = at.h ++ at_sockets (clock n) ∷ [];
+      more = [];
+      parts = parts_on (all_timed count s) (at_sockets (clock n) ∷ []) r [] at.h (at_sockets (clock n) ∷ []) (parts_of count s r at.h at.together) (record { timed_so = refl; runs_so = refl });
+      runs_now = ap Some (sym (append-nil r));
+      all = record { parents = at.parents; each = λ i config is. at_clock (family_in configs config) i (parent_of configs config) at.h server n late (at.each i config is) };
+      moment = clock_moment at.h n;
+    }
 
-passes_more : (more : List RunEvent) (orders : List OrderValue) (i k m : ℕ) (w : AtWork) → i ≢ k → ((n : ℕ) (v : AtWork) → MayServe i n v (map at_runs more) v) → MayServe i m w (map at_runs (more ++ map (ordered k) orders)) w
-passes_more more orders i k m w ne passes =
-    subst (λ (x : List Happening). MayServe i m w x w) (sym (map-append at_runs more (map (ordered k) orders)))
-    (may_serve_on (map at_runs more) (orders_of_one k orders) i m w w w (passes m w) (passed i k (fold moment_then m (map at_runs more)) w orders ne))
+-- ---- one more is told
 
-pub one_ticked : (configs : List ConfigValue) (known : Option (List SocketEvent)) (was before after : Option (List RunEvent)) (n k : ℕ) (vs ws : List ServedState) → Rises known n → TakesEvent (event_told n k tick) vs ws before after → IsTicking configs known was n k vs before → IsTicking configs known was n (k + 1) ws after
-one_ticked configs None was before after n k vs ws rises t so = tt
-one_ticked configs (Some s) None before after n k vs ws rises t so = tt
-one_ticked configs (Some s) (Some r) before after n k vs ws rises t so = record {
-  h = so.h;
-  together = so.together;
-  more = so.more ++ map (ordered k) t.orders;
-  runs_now = t.carried ∙ ap (option_map (λ (x : List RunEvent). x ++ map (ordered k) t.orders)) so.runs_now ∙ ap Some (append_assoc r so.more (map (ordered k) t.orders));
-  passes = λ i m w le. passes_more so.more t.orders i k m w (λ same. absurd (omega (arith, le, same))) (λ n v. so.passes i n v (omega (arith, le)));
-  done = done_more configs s r n k vs ws before after rises t so;
-  left = λ i config is le. other config i so.h (event_told n k tick) vs ws before after t (λ same. absurd (omega (arith, le, same))) (so.left i config is (omega (arith, le)));
-}
+range_more : (a k : ℕ) → range_with_len a k ++ (a + k) ∷ [] ≡ range_with_len a (suc k)
+range_more a zero = ap (λ (x : ℕ). x ∷ []) (omega arith)
+range_more a (suc k) =
+    ap (λ (x : ℕ). a ∷ (range_with_len (a + 1) k ++ x ∷ [])) (omega arith)
+    ∙ ap (λ (xs : List ℕ). a ∷ xs) (range_more (a + 1) k)
 
-pub all_ticked : (configs : List ConfigValue) (known new : Option (List SocketEvent)) (was now : Option (List RunEvent)) (n k : ℕ) (vs : List ServedState) → Adds known new (clock n ∷ []) → StaysUnknown was now → length configs ≤ k → IsTicking configs known was n k vs now → IsServing configs new now vs n
-all_ticked configs None new was now n k vs adds unknown le so = subst (λ (o : Option (List SocketEvent)). IsServing configs o now vs n) (sym adds) tt
-all_ticked configs (Some s) new None now n k vs adds unknown le so = subst (λ (o : Option (List RunEvent)). IsServing configs new o vs n) (sym (unknown refl)) (none_serves configs new vs n)
-all_ticked configs (Some s) new (Some r) now n k vs adds unknown le so =
-    let at : IsServerAt configs (s ++ clock n ∷ []) (r ++ so.more) vs n = record {
-      h = so.h ++ since n so.more;
-      together = together_on s (clock n ∷ []) r so.more so.h (since n so.more) so.together (record { at_sockets_so = ap (λ (x : List SocketEvent). clock n ∷ x) (no_sockets so.more); at_runs_so = all_runs so.more });
-      each = λ i config is. let lt = slice_get_within configs i config is in so.done i config is (omega (arith, lt, le));
+told_more : (k : ℕ) → told_so_far k ++ told k ∷ [] ≡ told_so_far (k + 1)
+told_more k =
+    sym (map-append told (range_with_len 0 k) (k ∷ []))
+    ∙ ap (λ (x : ℕ). map told (range_with_len 0 k ++ x ∷ [])) (omega arith)
+    ∙ ap (map told) (range_more 0 k ∙ ap (range_with_len 0) (sym (add-one k)))
+
+pub one_ticked : (configs : List ConfigValue) (known : Option (List SocketEvent)) (was before after : Option (List RunEvent)) (n k : ℕ) (server next : ServerState) → TakesEvent (event_told n k tick) server next before after → IsTicking configs known was n k server before → IsTicking configs known was n (k + 1) next after
+one_ticked configs None was before after n k server next t so = tt
+one_ticked configs (Some s) None before after n k server next t so = tt
+one_ticked configs (Some s) (Some r) before after n k server next t so =
+    let count : ℕ = length configs in
+    let moved : TakesEvent (event_told (moment_behind so.h) k tick) server next before after = subst (λ (m : ℕ). TakesEvent (event_told m k tick) server next before after) (sym so.moment) t in
+    let orders : List RunEvent = map (ordered k) moved.orders in
+    let timed : List Happening = all_timed count s ++ at_sockets (clock n) ∷ told_so_far k in
+    let parts : AreOf (timed ++ told k ∷ []) ((r ++ so.more) ++ orders) (so.h ++ told k ∷ map at_runs orders) =
+    parts_on timed (told k ∷ []) (r ++ so.more) orders so.h (told k ∷ map at_runs orders) so.parts (parts_ordered (told k ∷ []) [] orders (told k) (record { timed_so = refl; runs_so = refl })) in
+    let longer : timed ++ told k ∷ [] ≡ all_timed count s ++ at_sockets (clock n) ∷ told_so_far (k + 1) =
+    append_assoc (all_timed count s) (at_sockets (clock n) ∷ told_so_far k) (told k ∷ [])
+    ∙ ap (λ (xs : List Happening). all_timed count s ++ at_sockets (clock n) ∷ xs) (told_more k) in
+    record {
+      h = so.h ++ told k ∷ map at_runs orders;
+      more = so.more ++ orders;
+      parts = record { timed_so = parts.timed_so ∙ longer; runs_so = parts.runs_so ∙ append_assoc r so.more orders };
+      runs_now = moved.carried ∙ ap (option_map (λ (x : List RunEvent). x ++ orders)) so.runs_now ∙ ap Some (append_assoc r so.more orders);
+      all = each_more configs so.h server next before after k tick (told k) (told_for k) moved so.all.parents (λ m j l stands late. tt) so.all;
+      moment = moment_more so.h (told k) orders ∙ so.moment;
+    }
+
+-- ---- all were told
+
+pub all_ticked : (configs : List ConfigValue) (known new : Option (List SocketEvent)) (was now : Option (List RunEvent)) (n k : ℕ) (server : ServerState) → Adds known new (clock n ∷ []) → StaysUnknown was now → length configs ≡ k → IsTicking configs known was n k server now → IsServing configs new now server n
+all_ticked configs None new was now n k server adds unknown all so = subst (λ (o : Option (List SocketEvent)). IsServing configs o now server n) (sym adds) tt
+all_ticked configs (Some s) new None now n k server adds unknown all so = subst (λ (o : Option (List RunEvent)). IsServing configs new o server n) (sym (unknown refl)) (none_serves configs new server n)
+all_ticked configs (Some s) new (Some r) now n k server adds unknown all so =
+    let count : ℕ = length configs in
+    let timed : all_timed count s ++ at_sockets (clock n) ∷ told_so_far k ≡ all_timed count (s ++ clock n ∷ []) =
+    ap (λ (x : ℕ). all_timed count s ++ at_sockets (clock n) ∷ told_so_far x) (sym all)
+    ∙ ap (λ (xs : List Happening). all_timed count s ++ at_sockets (clock n) ∷ xs) (sym (append-nil (all_told count)))
+    ∙ sym (flat_map-append (with_times count) s (clock n ∷ [])) in
+    let at : IsServerAt configs (s ++ clock n ∷ []) (r ++ so.more) server n = record {
+      h = so.h;
+      together = record { at_sockets_so = so.parts.timed_so ∙ timed; at_runs_so = so.parts.runs_so };
+      parents = so.all.parents;
+      each = so.all.each;
       moment = sym (fold_push moment_after 0 s (clock n));
     } in
-    subst (λ (o : Option (List SocketEvent)). IsServing configs o now vs n) (sym adds)
-    (subst (λ (o : Option (List RunEvent)). IsServing configs (Some (s ++ clock n ∷ [])) o vs n) (sym so.runs_now) at)
+    subst (λ (o : Option (List SocketEvent)). IsServing configs o now server n) (sym adds)
+    (subst (λ (o : Option (List RunEvent)). IsServing configs (Some (s ++ clock n ∷ [])) o server n) (sym so.runs_now) at)

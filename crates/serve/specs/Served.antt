@@ -1,12 +1,15 @@
 -- What a server has to do with what happens at its sockets and at the runs of its jobs, also where
 -- memory is refused. To be read from `IsServed` up.
 use Rattle.std.specs.Prelude.{◌≡◌, ◌≢◌, ◌≤◌, ◌⊎◌, ℕ, List, [], ◌∷◌, map, length, Option, Some, None, IsSomeAnd, IfSome}
+use Rattle.std.specs.Option.{option_map, option_map_or}
 use Rattle.std.specs.Io.{StartsWith}
 use Rattle.executor.specs.declared.orders.Order.{Order}
 use Rattle.executor.specs.Orders.{OrderValue}
 use Rattle.instance_core.specs.Turns.{orders_meant}
+use Rattle.instance_core.specs.Visible.{Blob}
 use Rattle.served_instance.specs.Bytes.{pending_bytes}
-use Rattle.server_events.specs.Configs.{ConfigValue}
+use Rattle.server_events.specs.Configs.{ConfigValue, parent_of, parents_of}
+use Rattle.server_events.specs.Faults.{AreParents}
 use Rattle.server_events.specs.Events.{EventValue, took}
 use Rattle.served_instance.specs.Connections.{open_at}
 use Rattle.served_instance.specs.Lone.{LoneInstance, new_lone}
@@ -14,10 +17,12 @@ use Rattle.served_instance.specs.Refusals.{refusal_of, lone_orders, lone_step}
 use Rattle.served_instance.specs.Short.{Short}
 use Rattle.served_instance.specs.StandsFor.{ServedState}
 use Rattle.server_core.specs.LoneOutput.{config_at}
-use Rattle.server_core.specs.StandsFor.{StandsAt, instance_at}
+use Rattle.server_core.specs.Families.{Family, family_in}
+use Rattle.server_core.specs.Parents.{parent_texts}
+use Rattle.server_core.specs.StandsFor.{ServerState, StandsAt, instance_at}
 use Rattle.serve.specs.SocketEvents.{SocketEvent, port, accepted, written, moment_of}
 use Rattle.serve.specs.RunEvents.{RunEvent, ordered, gave, AddsRuns}
-use Rattle.serve.specs.Happenings.{Happening, at_sockets, at_runs, socket_events, run_events, moment_then, moment_behind, event_for}
+use Rattle.serve.specs.Happenings.{Happening, at_sockets, told, at_runs, timed_events, all_timed, run_events, moment_then, moment_behind, event_for}
 
 -- ---- what an instance may come to by itself
 
@@ -29,17 +34,18 @@ pub record AtWork : Type 0 where
 abbrev pub with_orders : LoneInstance → List OrderValue → AtWork
 with_orders l orders = record { instance = l; orders = orders }
 
--- what an event may make of it: what it does alone, with the orders that it gives alone; or, where
--- nothing else refuses it and memory was refused, a part of that, with no order
-abbrev pub MayStep : EventValue → LoneInstance → AtWork → Type 0
-MayStep e l w =
-    (w ≡ with_orders (lone_step [] e l) (lone_orders [] e l))
-    ⊎ ((refusal_of e l ≡ None) × Short [] e l w.instance × (w.orders ≡ []))
+-- what an event may make of it, while its parent has these texts: what it does by itself, with the
+-- orders that it gives by itself; or, where nothing else refuses it and memory was refused, a part of
+-- that, with no order
+abbrev pub MayStep : List Blob → EventValue → LoneInstance → AtWork → Type 0
+MayStep parent e l w =
+    (w ≡ with_orders (lone_step parent e l) (lone_orders parent e l))
+    ⊎ ((refusal_of e l ≡ None) × Short parent e l w.instance × (w.orders ≡ []))
 
 -- .. and what no event does
-abbrev pub MayTake : Option EventValue → LoneInstance → AtWork → Type 0
-MayTake None l w = w ≡ with_orders l []
-MayTake (Some e) l w = MayStep e l w
+abbrev pub MayTake : List Blob → Option EventValue → LoneInstance → AtWork → Type 0
+MayTake parent None l w = w ≡ with_orders l []
+MayTake parent (Some e) l w = MayStep parent e l w
 
 -- ---- what is right at the port of an instance
 
@@ -64,103 +70,157 @@ IsFaithful i m l x = Unit {0}
 -- ---- what happens to an instance
 
 -- it has carried out all its orders, what happens is right at its port, and it takes its event of it
-abbrev pub Comes : ℕ → ℕ → AtWork → Happening → AtWork → Type 0
-Comes i m w x v =
-    (w.orders ≡ []) × IsFaithful i m w.instance x × MayTake (event_for i m x) w.instance v
+abbrev pub Comes : List Blob → ℕ → ℕ → AtWork → Happening → AtWork → Type 0
+Comes parent i m w x v =
+    (w.orders ≡ []) × IsFaithful i m w.instance x × MayTake parent (event_for i m x) w.instance v
 
 -- this order is the next of its own
 abbrev pub IsCarriedOut : OrderValue → AtWork → AtWork → Type 0
 IsCarriedOut o w v = w ≡ with_orders v.instance (o ∷ v.orders)
 
--- what happens at moment m may make v of instance i
-abbrev pub MayHappen : ℕ → ℕ → AtWork → Happening → AtWork → Type 0
-MayHappen i m w (at_sockets s) v = Comes i m w (at_sockets s) v
-MayHappen i m w (at_runs (gave j job outcome)) v = Comes i m w (at_runs (gave j job outcome)) v
-MayHappen i m w (at_runs (ordered j o)) v = (j ≡ i → IsCarriedOut o w v) × (j ≢ i → v ≡ w)
+-- what happens at moment m may make v of instance i, whose parent has these texts
+abbrev pub MayHappen : List Blob → ℕ → ℕ → AtWork → Happening → AtWork → Type 0
+MayHappen parent i m w (at_sockets s) v = Comes parent i m w (at_sockets s) v
+MayHappen parent i m w (told j) v = Comes parent i m w (told j) v
+MayHappen parent i m w (at_runs (gave j job outcome)) v =
+    Comes parent i m w (at_runs (gave j job outcome)) v
+MayHappen parent i m w (at_runs (ordered j o)) v = (j ≡ i → IsCarriedOut o w v) × (j ≢ i → v ≡ w)
 
--- from moment m on all this happens, and makes v of instance i
-abbrev pub MayServe : ℕ → ℕ → AtWork → List Happening → AtWork → Type 0
-MayServe i m w [] v = v ≡ w
-MayServe i m w (x ∷ h) v =
-    (k : AtWork) × MayHappen i m w x k × MayServe i (moment_then m x) k h v
+-- ---- what happens to an instance and its parent
 
--- .. from nothing on, and all its orders are carried out
-abbrev pub Serves : ConfigValue → ℕ → List Happening → LoneInstance → Type 0
-Serves config i h n =
-    MayServe i 0 (with_orders (new_lone config.name config.quota config.slots) []) h
-    (with_orders n [])
+pub record FamilyAtWork : Type 0 where
+  pub own : AtWork
+  pub parent : Option AtWork
 
--- each instance served all that happened
+-- the texts that the parent has by then
+abbrev pub texts_of : Option AtWork → List Blob
+texts_of parent = option_map_or (λ w. w.instance.state.visible) parent []
+
+-- the parent, which has this number, builds on no other
+abbrev pub ParentMayHappen : Option ℕ → ℕ → Option AtWork → Happening → Option AtWork → Type 0
+ParentMayHappen p m None x v = v ≡ None
+ParentMayHappen p m (Some w) x None = ⊥
+ParentMayHappen p m (Some w) x (Some v) = IfSome p (λ n. MayHappen [] n m w x v)
+
+-- what happens at moment m may make g of instance i and of its parent
+pub record MayHappenTo (i : ℕ) (p : Option ℕ) (m : ℕ) (f : FamilyAtWork) (x : Happening)
+    (g : FamilyAtWork) : Type 0 where
+  pub own : MayHappen (texts_of f.parent) i m f.own x g.own
+  pub parent : ParentMayHappen p m f.parent x g.parent
+
+-- from moment m on all this happens, and makes g of the two
+abbrev pub MayServe : ℕ → Option ℕ → ℕ → FamilyAtWork → List Happening → FamilyAtWork → Type 0
+MayServe i p m f [] g = g ≡ f
+MayServe i p m f (x ∷ h) g =
+    (k : FamilyAtWork) × MayHappenTo i p m f x k × MayServe i p (moment_then m x) k h g
+
+-- with all their orders carried out
+abbrev pub at_rest : LoneInstance → Option LoneInstance → FamilyAtWork
+at_rest own parent = record {
+  own = with_orders own [];
+  parent = option_map (λ l. with_orders l []) parent;
+}
+
+abbrev pub begun : ConfigValue → LoneInstance
+begun config = new_lone config.name config.quota config.slots
+
+-- .. from nothing on, and all their orders are carried out
+abbrev pub Serves : Family → ℕ → Option ℕ → List Happening → LoneInstance → Option LoneInstance → Type 0
+Serves family i p h own parent =
+    MayServe i p 0 (at_rest (begun family.own) (option_map begun family.parent)) h
+    (at_rest own parent)
+
+-- each instance, with its parent if it has one, served all that happened
 abbrev pub IsServed : List ConfigValue → List Happening → Type 0
 IsServed configs h =
     (i : ℕ) (config : ConfigValue) → config_at i configs ≡ Some config →
-    (n : LoneInstance) × Serves config i h n
+    (own : LoneInstance) × (parent : Option LoneInstance)
+    × Serves (family_in configs config) i (parent_of configs config) h own parent
 
--- what happened at the sockets and what happened at the runs, in one order
-pub record HappenedTogether (sockets : List SocketEvent) (runs : List RunEvent)
+-- what happened at the sockets, with so many instances that are told the time as soon as the clock
+-- was read, and what happened at the runs, in one order
+pub record HappenedTogether (count : ℕ) (sockets : List SocketEvent) (runs : List RunEvent)
     (h : List Happening) : Type 0 where
-  pub at_sockets_so : socket_events h ≡ sockets
+  pub at_sockets_so : timed_events h ≡ all_timed count sockets
   pub at_runs_so : run_events h ≡ runs
 
 abbrev pub WasServed : List ConfigValue → Option (List SocketEvent) → Option (List RunEvent) → Type 0
 WasServed configs sockets runs =
     IfSome sockets (λ s. IfSome runs (λ r.
-    (h : List Happening) × HappenedTogether s r h × IsServed configs h))
+    (h : List Happening) × HappenedTogether (length configs) s r h × IsServed configs h))
 
 -- ---- while it serves: for the code alone
 
--- an instance of the server stands for what it has come to
-pub record StandsServing (config : ConfigValue) (i : ℕ) (h : List Happening)
+-- the parent of this number stands for what it has come to, and is not ahead of the clock
+abbrev pub StandsBeside : Option ℕ → List ServedState → ℕ → Option LoneInstance → Type 0
+StandsBeside None vs m l = l ≡ None
+StandsBeside (Some p) vs m None = ⊥
+StandsBeside (Some p) vs m (Some l) = StandsAt p vs l × (l.state.moment ≤ m)
+
+-- an instance of the server, and its parent of that number, stand for what they have come to
+pub record StandsServing (family : Family) (i : ℕ) (p : Option ℕ) (h : List Happening)
     (vs : List ServedState) : Type 0 where
   pub now : LoneInstance
-  pub serves : Serves config i h now
+  pub beside : Option LoneInstance
+  pub serves : Serves family i p h now beside
   -- it is not ahead of the clock
   pub times : now.state.moment ≤ moment_behind h
   pub stands : StandsAt i vs now
+  pub stands_beside : StandsBeside p vs (moment_behind h) beside
+
+-- the server has the parents of these configurations
+pub record HasParents (configs : List ConfigValue) (server : ServerState) : Type 0 where
+  pub same : server.parents ≡ parents_of configs
+  pub good : AreParents server.parents
 
 pub record IsServerAt (configs : List ConfigValue) (sockets : List SocketEvent)
-    (runs : List RunEvent) (vs : List ServedState) (m : ℕ) : Type 0 where
+    (runs : List RunEvent) (server : ServerState) (m : ℕ) : Type 0 where
   pub h : List Happening
-  pub together : HappenedTogether sockets runs h
+  pub together : HappenedTogether (length configs) sockets runs h
+  pub parents : HasParents configs server
   pub each : (i : ℕ) (config : ConfigValue) → config_at i configs ≡ Some config
-      → StandsServing config i h vs
+      → StandsServing (family_in configs config) i (parent_of configs config) h server.instances
   -- what the clock showed last
   pub moment : m ≡ moment_of sockets
 
 abbrev pub IsServing : List ConfigValue → Option (List SocketEvent) → Option (List RunEvent) →
-    List ServedState → ℕ → Type 0
-IsServing configs sockets runs vs m =
-    IfSome sockets (λ s. IfSome runs (λ r. IsServerAt configs s r vs m))
+    ServerState → ℕ → Type 0
+IsServing configs sockets runs server m =
+    IfSome sockets (λ s. IfSome runs (λ r. IsServerAt configs s r server m))
 
 -- whatever instances a server served by what had happened, it serves by what has happened now
 abbrev pub KeepsServing :
-    Option (List SocketEvent) → Option (List RunEvent) → List ServedState → ℕ →
-    Option (List SocketEvent) → Option (List RunEvent) → List ServedState → ℕ → Type 0
-KeepsServing old was vs m new is ws n =
-    (configs : List ConfigValue) → IsServing configs old was vs m → IsServing configs new is ws n
+    Option (List SocketEvent) → Option (List RunEvent) → ServerState → ℕ →
+    Option (List SocketEvent) → Option (List RunEvent) → ServerState → ℕ → Type 0
+KeepsServing old was before m new is after n =
+    (configs : List ConfigValue) → IsServing configs old was before m
+    → IsServing configs new is after n
 
--- the same of so many instances at most
-abbrev pub KeepsServingAtMost : ℕ →
-    Option (List SocketEvent) → Option (List RunEvent) → List ServedState → ℕ →
-    Option (List SocketEvent) → Option (List RunEvent) → List ServedState → ℕ → Type 0
-KeepsServingAtMost most old was vs m new is ws n =
-    (configs : List ConfigValue) → length configs ≤ most →
-    IsServing configs old was vs m → IsServing configs new is ws n
+-- the same of so many instances
+abbrev pub KeepsServingAll : ℕ →
+    Option (List SocketEvent) → Option (List RunEvent) → ServerState → ℕ →
+    Option (List SocketEvent) → Option (List RunEvent) → ServerState → ℕ → Type 0
+KeepsServingAll count old was before m new is after n =
+    (configs : List ConfigValue) → length configs ≡ count →
+    IsServing configs old was before m → IsServing configs new is after n
 
 -- the instance of the event stands for what the event may make of it, with these orders
-pub record StandsAfter (e : EventValue) (l : LoneInstance) (orders : List OrderValue)
-    (vs : List ServedState) : Type 0 where
+pub record StandsAfter (parent : List Blob) (e : EventValue) (l : LoneInstance)
+    (orders : List OrderValue) (vs : List ServedState) : Type 0 where
   pub now : LoneInstance
-  pub may : MayStep e l (with_orders now orders)
+  pub may : MayStep parent e l (with_orders now orders)
   pub stands : StandsAt e.instance vs now
 
 -- an instance takes an event, all or a part of it, and its orders are carried out; no other changes
-pub record TakesEvent (e : EventValue) (vs ws : List ServedState)
+pub record TakesEvent (e : EventValue) (server next : ServerState)
     (before after : Option (List RunEvent)) : Type 0 where
   pub orders : List OrderValue
   pub carried : AddsRuns before after (map (ordered e.instance) orders)
-  pub own : (l : LoneInstance) → StandsAt e.instance vs l → StandsAfter e l orders ws
-  pub others : (j : ℕ) → j ≢ e.instance → instance_at j ws ≡ instance_at j vs
+  pub own : (l : LoneInstance) → StandsAt e.instance server.instances l
+      → StandsAfter (parent_texts e.instance server) e l orders next.instances
+  pub others : (j : ℕ) → j ≢ e.instance
+      → instance_at j next.instances ≡ instance_at j server.instances
+  pub parents : next.parents ≡ server.parents
 
 -- these orders of an instance are carried out, with what its jobs have
 abbrev pub AreCarriedOut : ℕ → List ServedState → List Order →

@@ -63,8 +63,8 @@ fn ask<R: Runs, E: Write>(
     run: RunKey,
 )
     ensures serving { (sockets : Option (List SocketEvent)) → KeepsServing
-        sockets (R.happened runs.old) server.old.instances moment
-        sockets (R.happened runs.new) server.new.instances moment }
+        sockets (R.happened runs.old) server.old moment
+        sockets (R.happened runs.new) server.new moment }
 {
     let task = server.lend(run.instance, run.job);
     let answer = runs.ask(run, task);
@@ -85,8 +85,8 @@ pub(crate) fn ask_all<S: Sockets, R: Runs, E: Write>(
     moment: u64,
 ) -> bool
     ensures serving { (known : Option (List SocketEvent)) → KeepsServing
-        known (R.happened runs.old) server.old.instances moment
-        known (R.happened runs.new) server.new.instances moment }
+        known (R.happened runs.old) server.old moment
+        known (R.happened runs.new) server.new moment }
 {
     for _ in 0..runs.count() {
         let Some(run) = runs.next() else {

@@ -50,7 +50,7 @@ pub(crate) fn tell<R: Runs>(
 ) -> Result<(), EventRefusal>
     ensures takes { TakesEvent
         (record { moment = moment; instance = instance; what = what_value what })
-        server.old.instances server.new.instances (R.happened runs.old) (R.happened runs.new) }
+        server.old server.new (R.happened runs.old) (R.happened runs.new) }
 {
     let event = Event {
         moment,

@@ -74,8 +74,8 @@ fn receive<S: Sockets, R: Runs>(
     room: &mut Vec<u8>,
 ) -> Tried
     ensures serving { KeepsServing
-        (S.happened sockets.old) (R.happened runs.old) server.old.instances moment
-        (S.happened sockets.new) (R.happened runs.new) server.new.instances moment }
+        (S.happened sockets.old) (R.happened runs.old) server.old moment
+        (S.happened sockets.new) (R.happened runs.new) server.new moment }
 {
     if !has_room(alloc, room) {
         return Tried::NotReady;
@@ -108,8 +108,8 @@ fn send<S: Sockets, R: Runs>(
     socket: Socket,
 ) -> Tried
     ensures serving { KeepsServing
-        (S.happened sockets.old) (R.happened runs.old) server.old.instances moment
-        (S.happened sockets.new) (R.happened runs.new) server.new.instances moment }
+        (S.happened sockets.old) (R.happened runs.old) server.old moment
+        (S.happened sockets.new) (R.happened runs.new) server.new moment }
 {
     let bytes = match server.pending(socket.instance, socket.connection) {
         Some(bytes) if !bytes.is_empty() => bytes,
@@ -152,8 +152,8 @@ pub(crate) fn close<S: Sockets, R: Runs>(
     socket: Socket,
 )
     ensures serving { KeepsServing
-        (S.happened sockets.old) (R.happened runs.old) server.old.instances moment
-        (S.happened sockets.new) (R.happened runs.new) server.new.instances moment }
+        (S.happened sockets.old) (R.happened runs.old) server.old moment
+        (S.happened sockets.new) (R.happened runs.new) server.new moment }
 {
     sockets.close(socket);
     let gone = What::Closed(socket.connection);
@@ -173,8 +173,8 @@ pub(crate) fn exchange<S: Sockets, R: Runs>(
     room: &mut Vec<u8>,
 ) -> Tried
     ensures serving { KeepsServing
-        (S.happened sockets.old) (R.happened runs.old) server.old.instances moment
-        (S.happened sockets.new) (R.happened runs.new) server.new.instances moment }
+        (S.happened sockets.old) (R.happened runs.old) server.old moment
+        (S.happened sockets.new) (R.happened runs.new) server.new moment }
 {
     let received = receive(alloc, server, sockets, runs, moment, open, room);
     let socket = open.socket;

@@ -1,7 +1,7 @@
 //! The turns.
 
 ghost use Rattle.std.specs.Prelude.{◌≡◌, ℕ, [], length, Some, IfSome, IfOk, IfErr};
-ghost use Rattle.serve.specs.Served.{IsServing, KeepsServing, KeepsServingAtMost, WasServed};
+ghost use Rattle.serve.specs.Served.{IsServing, KeepsServing, KeepsServingAll, WasServed};
 
 use crate::asking::ask_all;
 use crate::carrying::tell;
@@ -60,7 +60,7 @@ impl Serving {
     /// A server of instances with these configurations, and no connections.
     fn new(alloc: Global, configs: &Configs) -> Result<Serving, AllocError>
         ensures serving { IfOk result (λ s. IsServing configs.now
-            (Some []) (Some []) s.server.instances s.moment) }
+            (Some []) (Some []) s.server s.moment) }
         ensures instances { IfOk result (λ s. s.instances ≡ length configs.now) }
     {
         Ok(Serving {
@@ -83,11 +83,11 @@ impl Serving {
         runs: &mut R,
         errors: &mut E,
     ) -> bool
-        ensures serving { KeepsServingAtMost self.old.instances
+        ensures serving { KeepsServingAll self.old.instances
             (S.happened sockets.old) (R.happened runs.old)
-            self.old.server.instances self.old.moment
+            self.old.server self.old.moment
             (S.happened sockets.new) (R.happened runs.new)
-            self.new.server.instances self.new.moment }
+            self.new.server self.new.moment }
         ensures instances { self.new.instances ≡ self.old.instances }
     {
         self.keep_time(sockets, runs);
@@ -105,11 +105,11 @@ impl Serving {
     /// Reads the clock where it went on. While it shows the same nothing is to be told, of which
     /// many turns of a busy server are spared.
     fn keep_time<S: Sockets, R: Runs>(&mut self, sockets: &mut S, runs: &mut R)
-        ensures serving { KeepsServingAtMost self.old.instances
+        ensures serving { KeepsServingAll self.old.instances
             (S.happened sockets.old) (R.happened runs.old)
-            self.old.server.instances self.old.moment
+            self.old.server self.old.moment
             (S.happened sockets.new) (R.happened runs.new)
-            self.new.server.instances self.new.moment }
+            self.new.server self.new.moment }
         ensures instances { self.new.instances ≡ self.old.instances }
     {
         if sockets.is_later(self.moment) {
@@ -119,11 +119,11 @@ impl Serving {
 
     /// Time goes on for each instance.
     fn tick<S: Sockets, R: Runs>(&mut self, sockets: &mut S, runs: &mut R)
-        ensures serving { KeepsServingAtMost self.old.instances
+        ensures serving { KeepsServingAll self.old.instances
             (S.happened sockets.old) (R.happened runs.old)
-            self.old.server.instances self.old.moment
+            self.old.server self.old.moment
             (S.happened sockets.new) (R.happened runs.new)
-            self.new.server.instances self.new.moment }
+            self.new.server self.new.moment }
         ensures instances { self.new.instances ≡ self.old.instances }
     {
         self.moment = sockets.now();
@@ -136,9 +136,9 @@ impl Serving {
     fn open_all<S: Sockets, R: Runs>(&mut self, sockets: &mut S, runs: &mut R) -> bool
         ensures serving { KeepsServing
             (S.happened sockets.old) (R.happened runs.old)
-            self.old.server.instances self.old.moment
+            self.old.server self.old.moment
             (S.happened sockets.new) (R.happened runs.new)
-            self.new.server.instances self.new.moment }
+            self.new.server self.new.moment }
         ensures instances { self.new.instances ≡ self.old.instances }
     {
         let mut opened = false;
@@ -156,9 +156,9 @@ impl Serving {
     fn open<S: Sockets, R: Runs>(&mut self, sockets: &mut S, runs: &mut R, instance: u32) -> bool
         ensures serving { KeepsServing
             (S.happened sockets.old) (R.happened runs.old)
-            self.old.server.instances self.old.moment
+            self.old.server self.old.moment
             (S.happened sockets.new) (R.happened runs.new)
-            self.new.server.instances self.new.moment }
+            self.new.server self.new.moment }
         ensures instances { self.new.instances ≡ self.old.instances }
     {
         let connection = self.next;
@@ -200,9 +200,9 @@ impl Serving {
     fn make_room<S: Sockets, R: Runs>(&mut self, sockets: &mut S, runs: &mut R, instance: u32)
         ensures serving { KeepsServing
             (S.happened sockets.old) (R.happened runs.old)
-            self.old.server.instances self.old.moment
+            self.old.server self.old.moment
             (S.happened sockets.new) (R.happened runs.new)
-            self.new.server.instances self.new.moment }
+            self.new.server self.new.moment }
         ensures instances { self.new.instances ≡ self.old.instances }
     {
         let found = longest_silent(&self.server, &self.connections, instance, self.moment);
@@ -218,9 +218,9 @@ impl Serving {
     fn exchange_all<S: Sockets, R: Runs>(&mut self, sockets: &mut S, runs: &mut R) -> bool
         ensures serving { KeepsServing
             (S.happened sockets.old) (R.happened runs.old)
-            self.old.server.instances self.old.moment
+            self.old.server self.old.moment
             (S.happened sockets.new) (R.happened runs.new)
-            self.new.server.instances self.new.moment }
+            self.new.server self.new.moment }
         ensures instances { self.new.instances ≡ self.old.instances }
     {
         let alloc = *self.connections.allocator();
@@ -276,7 +276,8 @@ impl Serving {
 /// is written to one is each time what its instance alone, by its own events, has waiting on it
 /// then; and what is begun and ended at the runs is what that instance alone orders, each order once
 /// and in order. Its own events are those of its port, the time, and what the runs of its own jobs
-/// gave; of these some may have been carried out in part, for want of memory. No fault of a socket or
+/// gave; of these some may have been carried out in part, for want of memory. An instance that
+/// builds on another is alone with that one, and reads what it has by then. No fault of a socket or
 /// a run and no such refusal ends the turns: an error is want of memory before the first.
 pub fn serve<S: Sockets, R: Runs, E: Write>(
     alloc: Global,

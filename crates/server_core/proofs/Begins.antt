@@ -1,17 +1,16 @@
 -- A server and its records at their beginning.
 use Rattle.std.proofs.Common.{◌≡◌, ℕ, ◌+◌, ◌^◌, ◌<◌, ◌≤◌, List, [], ◌∷◌, ◌++◌, length, get_or, take, map, refl, ap, ◌∙◌, sym, subst, arith, inl, inr, All}
-use Rattle.std.specs.Prelude.{◌==◌, true, cond, Some, string_bytes}
+use Rattle.std.specs.Prelude.{◌==◌, true, cond, Option, Some, None, string_bytes}
 use Rattle.std.proofs.lemmas.Bool.Decides.{nat_tests}
 use Rattle.std.specs.List.{slice_get, AllByRecursion}
-use Rattle.std.proofs.lemmas.Option.{slice_get_within, get_or_from_slice_get}
 use Rattle.blob_pool.specs.Slots.{Slots, text_at, count_at}
 use Rattle.std.proofs.lemmas.Bool.{cases_lt}
-use Rattle.std.proofs.lemmas.List.{get_or-map, map_more, length-map}
+use Rattle.std.proofs.lemmas.List.{get_or-map, map_more, map_push, length-map}
 use Rattle.std.proofs.lemmas.Grind.{common_steps}
 use Rattle.server_events.specs.declared.configs.InstanceConfig.{InstanceConfig}
 use Rattle.job_queue.specs.declared.queue.TheConstants.{MOST_RUNNING}
 use Rattle.server_events.specs.Instance.{slots_limit}
-use Rattle.server_events.specs.Configs.{ConfigValue, instance_limit}
+use Rattle.server_events.specs.Configs.{ConfigValue, instance_limit, parent_of}
 use Rattle.server_events.specs.Faults.{IsConfig}
 use Rattle.server_events.specs.Shown.{config_value}
 use Rattle.served_instance.specs.Lone.{new_lone}
@@ -42,6 +41,18 @@ slots_in xs k x lt at all =
     let c : IsConfig (get_or (map config_value xs) k (config_value x)) = all k (config_value x) (rw length-map lt) in
     let slots = subst (λ (v : ConfigValue). v.slots ≤ slots_limit) (get_or-map config_value xs k x (config_value x) lt ∙ ap config_value (sym at)) c.slots in
     omega (arith, slots)
+
+-- the parent of one more
+pub parents_more : (configs : List ConfigValue) (xs : List InstanceConfig) (k : ℕ) (x : InstanceConfig) (ps qs : List (Option ℕ)) (p : Option ℕ) → k < length xs → x ≡ get_or xs k x → qs ≡ ps ++ p ∷ [] → ps ≡ map (parent_of configs) (map config_value (take k xs)) → p ≡ parent_of configs (config_value x)
+    → qs ≡ map (parent_of configs) (map config_value (take (k + 1) xs))
+parents_more configs xs k x ps qs p lt at is so_far own =
+    let f : ConfigValue → Option ℕ = parent_of configs in
+    let more : map config_value (take (k + 1) xs) ≡ map config_value (take k xs) ++ config_value x ∷ [] =
+    map_more config_value xs k x lt ∙ ap (λ (y : InstanceConfig). map config_value (take k xs) ++ config_value y ∷ []) (sym at) in
+    is
+    ∙ ap (λ (ys : List (Option ℕ)). ys ++ p ∷ []) so_far
+    ∙ ap (λ (o : Option ℕ). map f (map config_value (take k xs)) ++ o ∷ []) own
+    ∙ sym (ap (map f) more ∙ map_push f (map config_value (take k xs)) (config_value x))
 
 abbrev pub Starts : List ConfigValue → List ServedState → Type 0
 Starts configs vs = (i : ℕ) (config : ConfigValue) → config_at i configs ≡ Some config → StandsAt i vs (new_lone config.name config.quota config.slots)
@@ -79,7 +90,7 @@ begun_more records more v n count is h own i lt config =
 -- nothing was counted yet
 pub none_counted : (v : RecordValue) → ((config : ConfigValue) → IsRecord v (new_run config)) → v.count < 1
 none_counted v own =
-    let none : v.count ≡ 0 = (own (record { name = []; quota = 0; slots = 0 })).count in
+    let none : v.count ≡ 0 = (own (record { name = []; quota = 0; slots = 0; parent = None })).count in
     omega arith
 
 -- ---- one more instance over a pool

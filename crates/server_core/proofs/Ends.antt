@@ -8,8 +8,9 @@ use Rattle.server_core.specs.Outputs.{InstanceOutputValue}
 use Rattle.server_core.specs.Runs.{Run, output_of_run}
 use Rattle.server_core.specs.Shown.{instance_output_shown}
 use Rattle.server_core.specs.Records.{RecordValue, IsRecord}
-use Rattle.server_core.specs.Shown.{output_at}
-use Rattle.server_core.specs.RunTo.{IsNotedAt}
+use Rattle.server_core.specs.Shown.{output_at, parent_output_at}
+use Rattle.served_instance.specs.StandsFor.{ServedState}
+use Rattle.server_core.specs.RunTo.{IsNotedAt, HasParentRun}
 use Rattle.server_core.proofs.Lists.{get-append, get-last, get-pushed}
 
 abbrev pub Give : List RecordValue → List InstanceOutput → Type 0
@@ -32,3 +33,9 @@ outputs_more records outputs all v o count is give own i r noted =
           ∙ ap (option_map instance_output_shown) (get-last outputs o)
           ∙ ap Some (own r (subst (λ (w : RecordValue). IsRecord w r) (sym new.1) noted.2))
     ]
+
+-- what a parent gives, if there is one
+pub parent_given : (vs : List ServedState) (records : List RecordValue) (outputs : List InstanceOutput) (parent : Option ℕ) (r : Option Run) → HasParentRun parent vs records r → Give records outputs → parent_output_at parent outputs ≡ option_map output_of_run r
+parent_given vs records outputs None r h give = sym (ap (option_map output_of_run) h)
+parent_given vs records outputs (Some p) None h give = absurd h
+parent_given vs records outputs (Some p) (Some r) h give = give p r h.noted

@@ -1,5 +1,6 @@
 mod Lists
 mod Others
+mod Acted
 mod Slots
 mod Storing
 mod Pooled
@@ -12,5 +13,6 @@ mod Places
 mod Begins
 mod Steps
 mod Ends
+mod Families
 mod Runs
 mod Marks

@@ -1,6 +1,7 @@
--- An instance by itself keeps its limits through every run.
+-- An instance keeps its limits through every run, and so does its parent.
 use Rattle.std.proofs.Common.{ℕ, ◌^◌, ◌≤◌, List, [], ◌∷◌, arith}
-use Rattle.std.specs.Prelude.{fold}
+use Rattle.std.specs.Prelude.{IfSome, Option, Some, None, fold, map}
+use Rattle.std.specs.Option.{option_map}
 use Rattle.std.specs.List.{AllByRecursion, IsDistinct}
 use Rattle.job_queue.specs.Jobs.{no_jobs}
 use Rattle.job_queue.specs.Order.{AreJobs}
@@ -13,12 +14,33 @@ use Rattle.server_events.specs.Configs.{ConfigValue}
 use Rattle.server_events.specs.Events.{EventValue}
 use Rattle.served_instance.specs.Narrow.{IsNarrow}
 use Rattle.served_instance.specs.Refusals.{refusal_of}
-use Rattle.server_core.specs.Runs.{Run, new_run, run_step, run_of}
-use Rattle.served_instance.proofs.LimitsKept.{KeepsLimits, stepped_keeps}
+use Rattle.server_core.specs.Families.{Family, FamilyEvent, IsLimited, AreLimited, own_event, parent_event, event_in}
+use Rattle.server_core.specs.Runs.{Run, FamilyRun, new_run, run_step, new_family_run, texts_of_parent, family_step, run_of_family}
+use Rattle.served_instance.proofs.LimitsKept.{KeepsLimits, AreNamed, stepped_keeps}
 
-runs_keep : (r : Run) (events : List EventValue) → AllByRecursion IsNarrow events → KeepsLimits r.lone → KeepsLimits (fold run_step r events).lone
-runs_keep r [] narrow h = h
-runs_keep r (e ∷ events) narrow h = runs_keep (run_step r e) events narrow.1 (stepped_keeps [] e r.lone (refusal_of e r.lone) tt narrow.0 h)
+-- what a parent has is named by its digests
+pub named_beside : (r : Option Run) → IfSome r (λ k. KeepsLimits k.lone) → AreNamed (texts_of_parent r)
+named_beside None h = tt
+named_beside (Some r) h = h.within.texts.named
+
+parent_keeps : (r : Option Run) (e : EventValue) → IsNarrow e → IfSome r (λ k. KeepsLimits k.lone) → IfSome (option_map (λ k. run_step [] k e) r) (λ k. KeepsLimits k.lone)
+parent_keeps None e narrow h = tt
+parent_keeps (Some r) e narrow h = stepped_keeps [] e r.lone (refusal_of e r.lone) tt narrow h
+
+pub record FamilyKeeps (f : FamilyRun) : Type 0 where
+  pub own : KeepsLimits f.own.lone
+  pub beside : IfSome f.parent (λ k. KeepsLimits k.lone)
+
+pub step_keeps : (f : FamilyRun) (e : FamilyEvent) → IsNarrow (event_in e) → FamilyKeeps f → FamilyKeeps (family_step f e)
+step_keeps f (own_event e) narrow h = record {
+  own = stepped_keeps (texts_of_parent f.parent) e f.own.lone (refusal_of e f.own.lone) (named_beside f.parent h.beside) narrow h.own;
+  beside = h.beside;
+}
+step_keeps f (parent_event e) narrow h = record { own = h.own; beside = parent_keeps f.parent e narrow h.beside }
+
+runs_keep : (f : FamilyRun) (es : List FamilyEvent) → AllByRecursion IsNarrow (map event_in es) → FamilyKeeps f → FamilyKeeps (fold family_step f es)
+runs_keep f [] narrow h = h
+runs_keep f (e ∷ es) narrow h = runs_keep (family_step f e) es narrow.1 (step_keeps f e narrow.0 h)
 
 no_calls : IsDistinct same_call []
 unfolding IsDistinct
@@ -43,6 +65,16 @@ new_within name quota slots small few = record {
   parent = tt;
 }
 
-pub run_within : (config : ConfigValue) (events : List EventValue) → config.quota ≤ 2 ^ 40 → config.slots ≤ MOST_RUNNING → AllByRecursion IsNarrow events → IsInstanceWithin (run_of config events).lone.state
-run_within config events small few narrow =
-    (runs_keep (new_run config) events narrow (record { within = new_within config.name config.quota config.slots small few; short = tt })).within
+new_keeps : (config : ConfigValue) → IsLimited config → KeepsLimits (new_run config).lone
+new_keeps config limited =
+    let few : config.slots ≤ MOST_RUNNING = omega (arith, limited.slots) in
+    record { within = new_within config.name config.quota config.slots limited.quota few; short = tt }
+
+pub new_family_keeps : (family : Family) → AreLimited family → FamilyKeeps (new_family_run family)
+new_family_keeps family limited = record { own = new_keeps family.own limited.own; beside = beside family.parent limited.parent } where
+  beside : (o : Option ConfigValue) → IfSome o IsLimited → IfSome (option_map new_run o) (λ k. KeepsLimits k.lone)
+  beside None h = tt
+  beside (Some config) h = new_keeps config h
+
+pub run_within : (family : Family) (events : List FamilyEvent) → AreLimited family → AllByRecursion IsNarrow (map event_in events) → IsInstanceWithin (run_of_family family events).own.lone.state
+run_within family events limited narrow = (runs_keep (new_family_run family) events narrow (new_family_keeps family limited)).own.within

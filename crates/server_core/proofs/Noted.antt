@@ -6,6 +6,7 @@ use Rattle.std.proofs.lemmas.Bool.{true≢false, ltb-false}
 use Rattle.served_instance.specs.Bytes.{untaken_count}
 use Rattle.served_instance.proofs.Histories.{append-nil}
 use Rattle.served_instance.specs.Past.{Past}
+use Rattle.instance_core.specs.Visible.{Blob}
 use Rattle.server_events.specs.Events.{EventValue, WhatValue, opened, received, took, closed, tick, ended}
 use Rattle.served_instance.specs.declared.refusal.EventRefusal.{EventRefusal}
 use Rattle.served_instance.specs.declared.refusal.EventRefusal.TheVariants.{NoSuchInstance, NoSuchConnection, ConnectionExists, TooManyConnections, NoSuchJob, TimeWentBack, TookTooMuch, NoMemory}
@@ -57,26 +58,26 @@ length_sent : (ks : List LoneConnection) → length (map sent_bytes_on ks) ≡ l
 length_sent [] = refl
 length_sent (k ∷ ks) = ap suc (length_sent ks)
 
-pub noted_apart : (v : RecordValue) (r : Run) (e : EventValue) → IsRecord v r → refusal_of e r.lone ≡ None → AreApart (lone_step [] e r.lone).connections
-noted_apart v r e st none =
+pub noted_apart : (v : RecordValue) (r : Run) (bs : List Blob) (e : EventValue) → IsRecord v r → refusal_of e r.lone ≡ None → AreApart (lone_step bs e r.lone).connections
+noted_apart v r bs e st none =
     let ks = r.lone.connections in
     let k1 = connections_after e.what ks in
-    let m : LoneInstance = lone_step [] e r.lone in
-    let step : m ≡ after_event [] e r.lone = ap (after_event_unless [] e r.lone) none in
-    let grown : AreGrown k1 m.connections = subst (λ (n : LoneInstance). AreGrown k1 n.connections) (sym step) (accepted_more [] e r.lone) in
+    let m : LoneInstance = lone_step bs e r.lone in
+    let step : m ≡ after_event bs e r.lone = ap (after_event_unless bs e r.lone) none in
+    let grown : AreGrown k1 m.connections = subst (λ (n : LoneInstance). AreGrown k1 n.connections) (sym step) (accepted_more bs e r.lone) in
     apart_grown k1 m.connections grown (apart_after e.what ks (may e r.lone none) st.apart)
 
-pub noted : (v : RecordValue) (r : Run) (e : EventValue) (given : List OrderValue) (ordered : List (ℕ × OrderValue)) (ss : List (ℕ × List ℕ)) (os : List OpenRecord) → IsRecord v r → refusal_of e r.lone ≡ None → given ≡ lone_orders [] e r.lone → ordered ≡ v.orders ++ orders_at (v.count + 1) given → ss ≡ sent_bytes_with_all (lone_step [] e r.lone) (open_records_after e.what (length v.sent) v.live) (sent_bytes_after e.what v.sent) → os ≡ map (record_after_noting (lone_step [] e r.lone)) (open_records_after e.what (length v.sent) v.live) → IsRecord (record { count = v.count + 1; orders = ordered; refusals = v.refusals; sent = ss; live = os }) (run_step r e)
-noted v r e given ordered ss os st none gave ordered_is ss_is os_is =
+pub noted : (v : RecordValue) (r : Run) (bs : List Blob) (e : EventValue) (given : List OrderValue) (ordered : List (ℕ × OrderValue)) (ss : List (ℕ × List ℕ)) (os : List OpenRecord) → IsRecord v r → refusal_of e r.lone ≡ None → given ≡ lone_orders bs e r.lone → ordered ≡ v.orders ++ orders_at (v.count + 1) given → ss ≡ sent_bytes_with_all (lone_step bs e r.lone) (open_records_after e.what (length v.sent) v.live) (sent_bytes_after e.what v.sent) → os ≡ map (record_after_noting (lone_step bs e r.lone)) (open_records_after e.what (length v.sent) v.live) → IsRecord (record { count = v.count + 1; orders = ordered; refusals = v.refusals; sent = ss; live = os }) (run_step bs r e)
+noted v r bs e given ordered ss os st none gave ordered_is ss_is os_is =
     let ks = r.lone.connections in
-    let m : LoneInstance = lone_step [] e r.lone in
+    let m : LoneInstance = lone_step bs e r.lone in
     let s1 = sent_bytes_after e.what (map sent_bytes_on ks) in
     let k1 = connections_after e.what ks in
-    let step : m ≡ after_event [] e r.lone = ap (after_event_unless [] e r.lone) none in
-    let grown : AreGrown k1 m.connections = subst (λ (n : LoneInstance). AreGrown k1 n.connections) (sym step) (accepted_more [] e r.lone) in
+    let step : m ≡ after_event bs e r.lone = ap (after_event_unless bs e r.lone) none in
+    let grown : AreGrown k1 m.connections = subst (λ (n : LoneInstance). AreGrown k1 n.connections) (sym step) (accepted_more bs e r.lone) in
     let can : May e.what ks = may e r.lone none in
     let fronts : AreFronts s1 m.connections = fronts_grown s1 k1 m.connections (fronts_after e.what ks (all_within ks st.taken) can) grown in
-    let apart : AreApart m.connections = noted_apart v r e st none in
+    let apart : AreApart m.connections = noted_apart v r bs e st none in
     let sent : sent_bytes_after e.what v.sent ≡ s1 = ap (sent_bytes_after e.what) st.sent in
     let size : length v.sent ≡ length ks = ap length st.sent ∙ length_sent ks in
     let known : open_records_after e.what (length v.sent) v.live ≡ known_from 0 s1 m.connections =
@@ -97,11 +98,11 @@ noted v r e given ordered ss os st none gave ordered_is ss_is os_is =
 -- ---- an event that is refused
 
 -- the step of a run, by the reason to refuse the event
-abbrev step_by : Run → EventValue → Option EventRefusal → Run
-step_by r e o = record {
-  lone = after_event_unless [] e r.lone o;
+abbrev step_by : List Blob → Run → EventValue → Option EventRefusal → Run
+step_by bs r e o = record {
+  lone = after_event_unless bs e r.lone o;
   count = r.count + 1;
-  orders = r.orders ++ orders_at (r.count + 1) (orders_unless [] e r.lone o);
+  orders = r.orders ++ orders_at (r.count + 1) (orders_unless bs e r.lone o);
   refusals = r.refusals ++ refusals_at (r.count + 1) o;
 }
 
@@ -116,10 +117,10 @@ refused_for A TimeWentBack reason ne h = h
 refused_for A TookTooMuch reason ne h = h
 
 -- nothing is put and nothing is ordered
-pub refused_noted : (A : Type 0) (v : RecordValue) (r : Run) (e : EventValue) (refusal : EventRefusal) (told : List (ℕ × EventRefusal)) → IsRecord v r → refusal ≢ NoMemory → IsRefusalOutcome {A = A} (Err refusal) (refusal_of e r.lone) → told ≡ v.refusals ++ (v.count + 1, refusal) ∷ [] → IsRecord (record { count = v.count + 1; orders = v.orders; refusals = told; sent = v.sent; live = v.live }) (run_step r e)
-refused_noted A v r e refusal told st ne gave told_is =
+pub refused_noted : (A : Type 0) (v : RecordValue) (r : Run) (bs : List Blob) (e : EventValue) (refusal : EventRefusal) (told : List (ℕ × EventRefusal)) → IsRecord v r → refusal ≢ NoMemory → IsRefusalOutcome {A = A} (Err refusal) (refusal_of e r.lone) → told ≡ v.refusals ++ (v.count + 1, refusal) ∷ [] → IsRecord (record { count = v.count + 1; orders = v.orders; refusals = told; sent = v.sent; live = v.live }) (run_step bs r e)
+refused_noted A v r bs e refusal told st ne gave told_is =
     let w : RecordValue = record { count = v.count + 1; orders = v.orders; refusals = told; sent = v.sent; live = v.live } in
-    let stepped : IsRecord w (step_by r e (Some refusal)) = record {
+    let stepped : IsRecord w (step_by bs r e (Some refusal)) = record {
       count = ap (λ n. n + 1) st.count;
       orders = st.orders ∙ sym (append-nil r.orders);
       refusals = told_is
@@ -130,4 +131,4 @@ refused_noted A v r e refusal told st ne gave told_is =
       taken = st.taken;
       apart = st.apart;
     } in
-    subst (λ (o : Option EventRefusal). IsRecord w (step_by r e o)) (sym (refused_for A refusal (refusal_of e r.lone) ne gave)) stepped
+    subst (λ (o : Option EventRefusal). IsRecord w (step_by bs r e o)) (sym (refused_for A refusal (refusal_of e r.lone) ne gave)) stepped

@@ -31,7 +31,7 @@ use Rattle.instance_core.specs.Slots.{state_in}
 use Rattle.instance_core.specs.Turns.{orders_meant}
 use Rattle.instance_core.specs.Visible.{Blob}
 use Rattle.instance_core.specs.Naming.{Names}
-use Rattle.instance_view.specs.Shown.{ViewValue, ViewEntry, blobs_in, visible_in, holders, entry_holders}
+use Rattle.instance_view.specs.Shown.{ViewValue, ViewEntry, blobs_in, holders, entry_holders}
 use Rattle.instance_core.proofs.Held.{shown_same, holders-few}
 use Rattle.instance_core.proofs.Steps.{length-visible_in}
 use Rattle.instance_core.specs.State.{most_blobs}
@@ -60,7 +60,7 @@ one_le (x ∷ xs) zero a k at = let same = same_holders x a k at in omega (arith
 one_le (x ∷ xs) (suc i) a k at = let ih = one_le xs i a k at in omega (arith, ih)
 
 -- two instances hold no more than all together
-pair_le : (xs : List ServedSlots) (i j : ℕ) (a b : ServedSlots) (k : ℕ) → i ≢ j → slice_get xs i ≡ Some a → slice_get xs j ≡ Some b → holders_of a k + holders_of b k ≤ all_holders xs k
+pub pair_le : (xs : List ServedSlots) (i j : ℕ) (a b : ServedSlots) (k : ℕ) → i ≢ j → slice_get xs i ≡ Some a → slice_get xs j ≡ Some b → holders_of a k + holders_of b k ≤ all_holders xs k
 pair_le [] i j a b k ne at there = cc
 pair_le (x ∷ xs) zero zero a b k ne at there = absurd (ne refl)
 pair_le (x ∷ xs) zero (suc j) a b k ne at there = let one = one_le xs j b k there in let same = same_holders x a k at in omega (arith, one, same)
@@ -102,7 +102,7 @@ others_few m (x ∷ xs) (suc i) a k few at =
 abbrev HaveFewer : ℕ → List ServedConnection → Type 0
 HaveFewer m vs = AllByRecursion (λ s. (k : ℕ) → count_of k (sources_of s.connection.sending) < m) vs
 
-within_at : (p : Slots) (xs : List ServedSlots) (i : ℕ) (a : ServedSlots) → AllByRecursion IsServedWithin (all_in p xs) → slice_get xs i ≡ Some a → IsServedWithin (served_state_in p a)
+pub within_at : (p : Slots) (xs : List ServedSlots) (i : ℕ) (a : ServedSlots) → AllByRecursion IsServedWithin (all_in p xs) → slice_get xs i ≡ Some a → IsServedWithin (served_state_in p a)
 within_at p [] i a w at = cc
 within_at p (x ∷ xs) zero a w at = let same : x ≡ a = first x a at in subst (λ (y : ServedSlots). IsServedWithin (served_state_in p y)) same w.0
   where

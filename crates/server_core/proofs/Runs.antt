@@ -1,6 +1,6 @@
 -- One more event of a run, and the run's end.
 use Rattle.std.proofs.Common.{◌≡◌, ℕ, zero, suc, ◌+◌, List, [], ◌∷◌, ◌++◌, length, ap, ◌∙◌, sym, subst, arith, append-nil, append_assoc}
-use Rattle.std.specs.Prelude.{Bool, true, false, cond, ◌==◌, if◌then◌else◌, fold, Some}
+use Rattle.std.specs.Prelude.{Some}
 use Rattle.std.specs.List.{AllByRecursion}
 use Rattle.std.proofs.lemmas.Option.{none-some, same_Some}
 use Rattle.instance_core.specs.State.{IsInstanceWithin}
@@ -8,25 +8,17 @@ use Rattle.served_instance.specs.Lone.{LoneInstance}
 use Rattle.served_instance.specs.StandsFor.{ServedState, IsServedWithin}
 use Rattle.server_core.specs.StandsFor.{StandsAt, instance_at}
 use Rattle.std.proofs.lemmas.List.{length_push}
-use Rattle.std.proofs.lemmas.List.Elements.{filter-append}
-use Rattle.std.proofs.lemmas.List.Sums.{fold_push}
 use Rattle.std.proofs.Math.Nat.{add-zero}
-use Rattle.server_events.specs.Configs.{ConfigValue}
-use Rattle.server_events.specs.Events.{EventValue, own_events}
-use Rattle.server_core.specs.Runs.{Run, run_of, run_step}
-use Rattle.server_core.specs.RunTo.{HasRun}
+use Rattle.server_events.specs.Configs.{ConfigValue, parent_of}
+use Rattle.server_events.specs.Faults.{AreParents}
+use Rattle.server_events.specs.Events.{EventValue}
+use Rattle.server_core.specs.Families.{family_in, family_events}
+use Rattle.server_core.specs.Parents.{parent_texts}
+use Rattle.server_core.specs.Runs.{FamilyRun, run_of_family}
+use Rattle.server_core.specs.RunTo.{HasFamilyRun}
 use Rattle.server_core.specs.RunSoFar.{HasTaken, RunValue}
 use Rattle.server_core.specs.LoneOutput.{stray_at, strays_from, strays}
-
-fold_if : {A B : Type 0} (f : B → A → B) (a : B) (xs : List A) (x : A) (b : Bool) → fold f a (xs ++ cond b (x ∷ []) []) ≡ cond b (f (fold f a xs) x) (fold f a xs)
-fold_if f a xs x true = fold_push f a xs x
-fold_if f a xs x false = ap (fold f a) (append-nil xs)
-
--- an event takes its instance a step on, and no other
-run_more : (config : ConfigValue) (i : ℕ) (events : List EventValue) (e : EventValue) → run_of config (own_events i (events ++ e ∷ [])) ≡ (if e.instance == i then run_step (run_of config (own_events i events)) e else run_of config (own_events i events))
-run_more config i events e =
-    ap (run_of config) (filter-append (λ x. x.instance == i) events (e ∷ []))
-    ∙ fold_if run_step (run_of config []) (own_events i events) e (e.instance == i)
+use Rattle.server_core.proofs.Families.{Stepped, parent_there, family_more, family_on}
 
 strays_push : (place count : ℕ) (es : List EventValue) (e : EventValue) → strays_from place count (es ++ e ∷ []) ≡ strays_from place count es ++ stray_at (place + length es) count e
 strays_push place count [] e = append-nil (stray_at place count e) ∙ ap (λ p. stray_at p count e) (sym (add-zero place))
@@ -43,13 +35,20 @@ strays_more configs events e place is =
 -- a run after one more event
 pub taken_more : (configs : List ConfigValue) (events : List EventValue) (e : EventValue) (v w : RunValue) → HasTaken configs events v
     → w.count ≡ v.count + 1 → length w.server.instances ≡ length v.server.instances
-    → ((i : ℕ) (r : Run) → HasRun i v.server.instances v.records r → HasRun i w.server.instances w.records (if e.instance == i then run_step r e else r))
+    → w.server.parents ≡ v.server.parents → AreParents v.server.parents
+    → Stepped (parent_texts e.instance v.server) e v.server.instances v.records w.server.instances w.records
     → w.strays ≡ v.strays ++ stray_at w.count (length v.server.instances) e
     → HasTaken configs (events ++ e ∷ []) w
-taken_more configs events e v w h count many runs strayed = record {
+taken_more configs events e v w h count many stay good runs strayed = record {
   many = many ∙ h.many;
   count = count ∙ ap (λ n. n + 1) h.count ∙ sym (length_push events e);
-  alone = λ i config is. subst (λ (r : Run). HasRun i w.server.instances w.records r) (sym (run_more config i events e)) (runs i _ (h.alone i config is));
+  parents = stay ∙ h.parents;
+  alone = λ i config is.
+      let parent = parent_of configs config in
+      let family = family_in configs config in
+      let there = parent_there configs v.server.parents i config h.parents is in
+      subst (λ (f : FamilyRun). HasFamilyRun i parent w.server.instances w.records f) (sym (family_more family i parent events e))
+      (family_on v.server e w.server.instances v.records w.records i parent (run_of_family family (family_events i parent events)) good there runs (h.alone i config is));
   strays = strayed
       ∙ ap (λ ps. ps ++ stray_at w.count (length v.server.instances) e) h.strays
       ∙ ap (λ n. strays configs events ++ stray_at w.count n e) h.many

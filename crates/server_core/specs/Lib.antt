@@ -1,4 +1,6 @@
 pub mod Outputs
+pub mod Parents
+pub mod Families
 pub mod Runs
 pub mod Marked
 pub mod LoneOutput
@@ -11,6 +13,7 @@ pub mod StandsFor
 pub mod Lent
 pub mod Shared
 pub mod Stored
+pub mod Acted
 pub mod Pooled
 pub use Rattle.served_instance.specs.declared.refusal.EventRefusal
 pub use Rattle.served_instance.specs.Codes

@@ -1,13 +1,12 @@
 -- What an event changes of what is noted of a run. For the code alone, but for `connection_change`,
 -- which `InstanceRecord::note` asks for.
-use Rattle.std.specs.Prelude.{ℕ, zero, suc, ◌==◌, ◌-◌, if◌then◌else◌, not, List, [], ◌∷◌, ◌++◌, map, filter, drop, length, fold, Option, Some, None}
+use Rattle.std.specs.Prelude.{ℕ, zero, suc, ◌==◌, ◌-◌, if◌then◌else◌, not, List, [], ◌∷◌, ◌++◌, map, filter, drop, length, fold}
 use Rattle.std.specs.Option.{option_map_or}
 use Rattle.served_instance.specs.Bytes.{pending_bytes}
 use Rattle.server_events.specs.Events.{WhatValue, opened, took, closed}
 use Rattle.served_instance.specs.Connections.{open_at}
 use Rattle.served_instance.specs.Lone.{LoneInstance}
 use Rattle.served_instance.specs.declared.broken.Broken.{Broken}
-use Rattle.served_instance.specs.declared.broken.Broken.TheVariants as Broken
 use Rattle.served_instance.specs.declared.broken.Broken.TheVariants.{One, All, AllAndJob}
 use Rattle.server_core.specs.declared.record.ConnectionChange.{ConnectionChange}
 use Rattle.server_core.specs.declared.record.ConnectionChange.TheVariants.{Opened, Took, Closed, Nothing}

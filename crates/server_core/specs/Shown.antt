@@ -1,6 +1,6 @@
 -- What the outputs of a run stand for.
 use Rattle.std.specs.Prelude.{ℕ, List, map, Option}
-use Rattle.std.specs.Option.{option_map}
+use Rattle.std.specs.Option.{option_map, option_and_then}
 use Rattle.std.specs.List.{slice_get}
 use Rattle.served_instance.specs.declared.refusal.EventRefusal.{EventRefusal}
 use Rattle.instance_core.specs.Visible.{Blob}
@@ -49,3 +49,7 @@ instance_output_shown output = record {
 
 abbrev pub output_at : ℕ → List InstanceOutput → Option InstanceOutputValue
 output_at i outputs = option_map instance_output_shown (slice_get outputs i)
+
+-- of a parent, if there is one
+abbrev pub parent_output_at : Option ℕ → List InstanceOutput → Option InstanceOutputValue
+parent_output_at parent outputs = option_and_then (λ p. output_at p outputs) parent

@@ -9,9 +9,10 @@ use Rattle.std.specs.List.{slice_get}
 use Rattle.served_instance.specs.Lone.{LoneInstance}
 use Rattle.served_instance.specs.StandsFor.{ServedState, IsServedInstance}
 
--- a server: its instances
+-- a server: its instances, and the number of each one's parent, if it has one
 pub record ServerState : Type 0 where
   pub instances : List ServedState
+  pub parents : List (Option ℕ)
 
 abbrev pub instance_at : ℕ → List ServedState → Option ServedState
 instance_at i vs = slice_get vs i

@@ -1,5 +1,5 @@
-//! A server of many instances, each of which gives what it would give alone; whole runs of it, and
-//! the record of what each instance's run gives.
+//! A server of many instances, each of which gives what it would give alone, or with the one that it
+//! builds on; whole runs of it, and the record of what each instance's run gives.
 #![tactic(auto)]
 
 mod laws;
@@ -10,7 +10,8 @@ mod server;
 mod whole_run;
 
 pub use laws::{
-    a_run_keeps_its_limits, equal_events_give_equal_outputs, without_refusals_of_memory_it_is_alone,
+    a_parent_is_by_itself, a_run_keeps_its_limits, equal_events_give_equal_outputs,
+    without_a_parent_it_is_by_itself, without_refusals_of_memory_it_is_alone,
 };
 pub use orders::{OrderedAt, RunOrder, RunTask, TaskText};
 pub use outputs::{InstanceOutput, RefusedEvent, SentBytes};

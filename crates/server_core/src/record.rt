@@ -1,6 +1,6 @@
 //! What is noted of the run of one instance.
 
-ghost use Rattle.std.specs.Prelude.{◌≡◌, ◌≢◌, ◌<◌, ◌+◌, ◌-◌, ◌^◌, ◌==◌, ◌++◌, [], not, map, filter, length, drop, Result, Err, IfOk, OnOk, OnErr};
+ghost use Rattle.std.specs.Prelude.{◌≡◌, ◌≢◌, ◌<◌, ◌+◌, ◌-◌, ◌^◌, ◌==◌, ◌++◌, List, not, map, filter, length, drop, Result, Err, IfOk, OnOk, OnErr};
 ghost use Rattle.server_events.specs.Configs.{ConfigValue};
 ghost use Rattle.server_events.specs.Events.{EventValue};
 ghost use Rattle.server_events.specs.Shown.{what_value};
@@ -12,6 +12,7 @@ ghost use Rattle.server_core.specs.Runs.{Run, new_run, orders_at, run_step, outp
 ghost use Rattle.server_core.specs.Shown.{sent_shown, ordered_shown, instance_output_shown};
 ghost use Rattle.instance_core.specs.Slots.{state_in};
 ghost use Rattle.instance_core.specs.Turns.{orders_meant};
+ghost use Rattle.instance_core.specs.Visible.{Blob};
 ghost use Rattle.served_instance.specs.Cuts.{broken_by};
 ghost use Rattle.server_core.specs.Marked.{IsShortStep};
 ghost use Rattle.server_core.specs.Notes.{open_records_left, connection_change, record_after_taking, open_records_changed, sent_bytes_changed, with_more_at, sent_bytes_with, sent_bytes_with_all, record_after_noting};
@@ -104,7 +105,8 @@ impl InstanceRecord {
     }
 
     /// Notes an event that the instance took or refused, by what it changes of the connections, and
-    /// the bytes and the orders that it gave. The instance and the pool are as the event left them.
+    /// the bytes and the orders that it gave, whatever texts its parent had. The instance and the
+    /// pool are as the event left them.
     /// Where memory is refused the event is counted, no refusal is noted, and of the bytes and the
     /// orders some may be: the record stands for no run any more, and is to be dropped.
     pub fn note(
@@ -116,14 +118,14 @@ impl InstanceRecord {
     ) -> Result<(), AllocError>
         requires memory { outcome ≢ Err EventRefusal.NoMemory }
         requires room { self.old.count < 2 ^ 64 - 1 }
-        ensures stands { OnOk result ((r : Run) (event : EventValue) → IsRecord self.old r
-            → change ≡ connection_change event.what
+        ensures stands { OnOk result ((r : Run) (parent : List Blob) (event : EventValue)
+            → IsRecord self.old r → change ≡ connection_change event.what
             → IsRefusalOutcome outcome (refusal_of event r.lone)
-            → HasConnections instance.now (lone_step [] event r.lone)
+            → HasConnections instance.now (lone_step parent event r.lone)
             → IfOk outcome (λ orders.
             orders_meant (state_in pool.now instance.now.instance).jobs orders.items
-            ≡ lone_orders [] event r.lone)
-            → IsRecord self.new (run_step r event)) }
+            ≡ lone_orders parent event r.lone)
+            → IsRecord self.new (run_step parent r event)) }
         ensures count { self.new.count ≡ self.old.count + 1 }
         ensures err { OnErr result (self.new.refusals ≡ self.old.refusals) }
     {
@@ -148,8 +150,9 @@ impl InstanceRecord {
     /// is to be dropped.
     pub fn note_short(&mut self, broken: Broken) -> Result<(), AllocError>
         requires room { self.old.count < 2 ^ 64 - 1 }
-        ensures stands { OnOk result ((r q : Run) (event : EventValue) → IsRecord self.old r
-            → broken ≡ broken_by event.what → IsShortStep r event q → IsRecord self.new q) }
+        ensures stands { OnOk result ((r q : Run) (parent : List Blob) (event : EventValue)
+            → IsRecord self.old r → broken ≡ broken_by event.what
+            → IsShortStep parent r event q → IsRecord self.new q) }
         ensures count { self.new.count ≡ self.old.count + 1 }
     {
         self.count += 1;

@@ -1,8 +1,9 @@
 //! The server, event by event.
 
-ghost use Rattle.std.specs.Prelude.{◌≡◌, ◌≢◌, ◌<◌, ◌≤◌, ◌↔◌, ℕ, [], length, option_map, Some, None, IfSome, IfOk, IfErr, OnOk, Err};
+ghost use Rattle.std.specs.Prelude.{◌≡◌, ◌≢◌, ◌<◌, ◌≤◌, ◌↔◌, ℕ, List, [], length, Option, option_map, Some, None, IfSome, IfOk, IfErr, OnOk, Err};
 ghost use Rattle.std.specs.List.{AllByRecursion};
-ghost use Rattle.server_events.specs.Configs.{ConfigValue};
+ghost use Rattle.server_events.specs.Configs.{ConfigValue, parents_of};
+ghost use Rattle.server_events.specs.Faults.{AreParents};
 ghost use Rattle.server_events.specs.Shown.{event_value};
 ghost use Rattle.served_instance.specs.Bytes.{most_untaken, pending_bytes};
 ghost use Rattle.served_instance.specs.History.{has_failed};
@@ -15,8 +16,10 @@ ghost use Rattle.served_instance.specs.StandsFor.{ServedState};
 ghost use Rattle.served_instance.specs.Refusals.{NeedsNoMemory, refusal_of, lone_step, lone_orders, IsRefusalOutcome};
 ghost use Rattle.served_instance.specs.StandsFor.{IsServedWithin, AreSettled};
 ghost use Rattle.served_instance.specs.Slots.{served_state_in};
+ghost use Rattle.server_core.specs.Acted.{HasActed};
 ghost use Rattle.server_core.specs.Lent.{lent_shown};
 ghost use Rattle.server_core.specs.LoneOutput.{config_at};
+ghost use Rattle.server_core.specs.Parents.{AreParentsOf, parent_at, texts_at, texts_of_one, parent_texts};
 ghost use Rattle.server_core.specs.Shared.{all_in, IsServer};
 ghost use Rattle.server_core.specs.StandsFor.{OrdersStand, StandsAt, instance_at};
 ghost use Rattle.server_core.specs.Marked.{StandsShortAt};
@@ -26,12 +29,12 @@ ghost use Rattle.blob_pool.specs.Slots.{Slots, text_at};
 ghost use Rattle.served_instance.specs.Ranges.{RangesEndWithin};
 
 use blob_pool::Pool;
-use instance_view::View;
 use served_instance::{EventRefusal, Order, ServedInstance, Task};
 use server_events::laws::the_fault_is_the_first;
-use server_events::{Configs, Event};
+use server_events::{Configs, Event, InstanceConfig};
 use std::alloc::{AllocError, Global};
 use std::marker::Model;
+use std::mem::swap;
 
 /// The task of a job that runs, and the pool in which its texts lie.
 #[derive(Clone, Copy)]
@@ -45,21 +48,29 @@ pub struct LentTask<'a> {
 #[derive(Drop)]
 pub struct Server {
     pool: Pool,
-    /// The texts of no instance: what an instance reads that builds on none.
-    nobody: View,
+    /// An instance that nothing happens to. It stands in the place of one that takes an event and
+    /// reads what its parent has; and its texts, of which there are none, are read by one that
+    /// builds on no other.
+    spare: ServedInstance,
     instances: Vec<ServedInstance>,
+    /// The number of each one's parent, if it has one.
+    parents: Vec<Option<usize>>,
 }
 
 impl Model for Server {
-    ghost use Rattle.std.specs.Prelude.{◌≡◌, []};
+    ghost use Rattle.std.specs.Prelude.{◌≡◌, [], length};
+    ghost use Rattle.server_core.specs.Parents.{AreParentsOf};
     ghost use Rattle.server_core.specs.Shared.{all_in, IsServer};
     ghost use Rattle.server_core.specs.StandsFor.{ServerState};
 
     ghost Value = { ServerState };
 
-    ghost view = { λ s. record { instances = all_in s.pool s.instances.items } };
+    ghost view = { λ s. record
+        { instances = all_in s.pool s.instances.items; parents = s.parents.items } };
 
-    ghost invariant = { λ s. IsServer s.pool s.instances.items × (s.nobody.entries ≡ []) };
+    ghost invariant = { λ s. IsServer s.pool s.instances.items
+        × (s.spare.instance.view.entries ≡ [])
+        × AreParentsOf (length s.instances.items) s.parents.items };
 }
 
 impl Server {
@@ -70,11 +81,14 @@ impl Server {
             → StandsAt i server.instances (new_lone config.name config.quota config.slots)) }
         ensures count { IfOk result (λ server. length server.instances ≡ length configs.now) }
         ensures within { IfOk result (λ server. AllByRecursion IsServedWithin server.instances) }
+        ensures parents { IfOk result (λ server. server.parents ≡ parents_of configs.now) }
+        ensures related { IfOk result (λ server. AreParents server.parents) }
     {
+        let parents = new_parents(alloc, configs)?;
         let configs = configs.instances();
         the_fault_is_the_first(configs);
         let pool = Pool::new(alloc);
-        let nobody = View::new(alloc, 1)?;
+        let spare = new_spare(alloc)?;
         let mut instances = Vec::new(alloc);
         for config in configs {
             let served = ServedInstance::new(alloc, config)?;
@@ -82,32 +96,36 @@ impl Server {
         }
         Ok(Server {
             pool,
-            nobody,
+            spare,
             instances,
+            parents,
         })
     }
 
     /// Takes an event. It is refused for the first reason that stands, and then nothing is changed;
-    /// or its instance does what it would do alone, and gives the orders to whoever runs jobs; or
-    /// memory is refused, and its instance did a part of it (`Short`) and goes on from there. No
-    /// other instance changes.
+    /// or its instance does what it would do by itself beside the texts that its parent has, and
+    /// gives the orders to whoever runs jobs; or memory is refused, and its instance did a part of
+    /// it (`Short`) and goes on from there. No other instance changes, its parent neither.
     pub fn step(&mut self, event: Event) -> Result<Vec<Order>, EventRefusal>
-        // The event's instance does what it would do alone, which is nothing where it refuses.
+        // The event's instance does what it would do by itself beside the texts of its parent, which
+        // is nothing where it refuses.
         ensures own { result ≢ Err EventRefusal.NoMemory → (l : LoneInstance)
             → StandsAt event.instance self.old.instances l
-            → StandsAt event.instance self.new.instances (lone_step [] (event_value event) l) }
+            → StandsAt event.instance self.new.instances
+            (lone_step (parent_texts event.instance self.old) (event_value event) l) }
         // Where memory is refused it did a part of that.
         ensures short { result ≡ Err EventRefusal.NoMemory → (l : LoneInstance)
             → StandsAt event.instance self.old.instances l
-            → StandsShortAt (event_value event) l self.new.instances }
+            → StandsShortAt (parent_texts event.instance self.old) (event_value event) l
+            self.new.instances }
         ensures settled { OnOk result ((l : LoneInstance) →
-            StandsAt event.instance self.old.instances l
-            → AreSettled (lone_step [] (event_value event) l)) }
-        // The orders are those that it would give alone.
+            StandsAt event.instance self.old.instances l → AreSettled
+            (lone_step (parent_texts event.instance self.old) (event_value event) l)) }
+        // The orders are those that it would give by itself.
         ensures orders { IfOk result (λ orders. (l : LoneInstance)
             → StandsAt event.instance self.old.instances l
             → OrdersStand event.instance self.new.instances orders
-            (lone_orders [] (event_value event) l)) }
+            (lone_orders (parent_texts event.instance self.old) (event_value event) l)) }
         // No other instance changes, whatever came of the event.
         ensures others { (j : ℕ) → j ≢ event.instance
             → instance_at j self.new.instances ≡ instance_at j self.old.instances }
@@ -124,8 +142,16 @@ impl Server {
         ensures memory_free { NeedsNoMemory (event_value event).what
             → result ≢ Err EventRefusal.NoMemory }
         ensures count { length self.new.instances ≡ length self.old.instances }
+        // Each instance builds on the one that it built on.
+        ensures parents { self.new.parents ≡ self.old.parents }
     {
-        step_one(&mut self.pool, &self.nobody, &mut self.instances, event)
+        step_one(
+            &mut self.pool,
+            &mut self.spare,
+            &mut self.instances,
+            &self.parents,
+            event,
+        )
     }
 
     /// The bytes that were put on an open connection and not taken.
@@ -223,7 +249,8 @@ fn stored_of(pool: &Pool, instances: &[ServedInstance]) -> (u64, u128)
 fn pool_of<'a>(pool: &'a Pool, instances: &[ServedInstance]) -> &'a Pool
     requires { IsServer pool.now instances.now }
     ensures pool { result.now ≡ pool.now }
-    ensures texts { IsPoolOf result.now (record { instances = all_in pool.now instances.now }) }
+    ensures texts { (parents : List (Option ℕ)) → IsPoolOf result.now
+        (record { instances = all_in pool.now instances.now; parents = parents }) }
 {
     // Neither statement has an effect; they are there for the proof.
     let _instances = instances;
@@ -231,28 +258,60 @@ fn pool_of<'a>(pool: &'a Pool, instances: &[ServedInstance]) -> &'a Pool
     pool
 }
 
-/// Gives the event to the instance that it names, which builds on no other.
+/// An instance that has nothing.
+fn new_spare(alloc: Global) -> Result<ServedInstance, AllocError>
+    ensures { IfOk result (λ spare. spare.instance.view.entries ≡ []) }
+{
+    let config = InstanceConfig {
+        name: String::new(alloc),
+        quota: 0,
+        slots: 0,
+        parent: None,
+    };
+    ServedInstance::new(alloc, &config)
+}
+
+/// The number of the parent of each, if it has one.
+fn new_parents(alloc: Global, configs: &Configs) -> Result<Vec<Option<usize>>, AllocError>
+    ensures { IfOk result (λ parents. parents.items ≡ parents_of configs.now) }
+{
+    let instances = configs.instances();
+    let mut parents = Vec::new(alloc);
+    for config in instances {
+        parents.push(configs.parent_of(config))?;
+    }
+    Ok(parents)
+}
+
+/// Gives the event to the instance that it names, which reads what its parent has.
 fn step_one(
     pool: &mut Pool,
-    nobody: &View,
+    spare: &mut ServedInstance,
     instances: &mut [ServedInstance],
+    parents: &[Option<usize>],
     event: Event,
 ) -> Result<Vec<Order>, EventRefusal>
     requires server { IsServer pool.old instances.old }
-    requires nobody { nobody.now.entries ≡ [] }
+    requires parents { AreParentsOf (length instances.old) parents.now }
+    requires spare { spare.old.instance.view.entries ≡ [] }
     ensures own { result ≢ Err EventRefusal.NoMemory → (l : LoneInstance)
         → StandsAt event.instance (all_in pool.old instances.old) l
         → StandsAt event.instance (all_in pool.new instances.new)
-        (lone_step [] (event_value event) l) }
+        (lone_step (texts_of_one (parent_at event.instance parents.now)
+        (all_in pool.old instances.old)) (event_value event) l) }
     ensures short { result ≡ Err EventRefusal.NoMemory → (l : LoneInstance)
         → StandsAt event.instance (all_in pool.old instances.old) l
-        → StandsShortAt (event_value event) l (all_in pool.new instances.new) }
+        → StandsShortAt (texts_of_one (parent_at event.instance parents.now)
+        (all_in pool.old instances.old)) (event_value event) l (all_in pool.new instances.new) }
     ensures settled { OnOk result ((l : LoneInstance) → StandsAt event.instance
-        (all_in pool.old instances.old) l → AreSettled (lone_step [] (event_value event) l)) }
+        (all_in pool.old instances.old) l → AreSettled
+        (lone_step (texts_of_one (parent_at event.instance parents.now)
+        (all_in pool.old instances.old)) (event_value event) l)) }
     ensures orders { IfOk result (λ orders. (l : LoneInstance)
         → StandsAt event.instance (all_in pool.old instances.old) l
         → OrdersStand event.instance (all_in pool.new instances.new) orders
-        (lone_orders [] (event_value event) l)) }
+        (lone_orders (texts_of_one (parent_at event.instance parents.now)
+        (all_in pool.old instances.old)) (event_value event) l)) }
     ensures others { (j : ℕ) → j ≢ event.instance
         → instance_at j (all_in pool.new instances.new)
         ≡ instance_at j (all_in pool.old instances.old) }
@@ -266,10 +325,60 @@ fn step_one(
         → result ≢ Err EventRefusal.NoMemory }
     ensures server { IsServer pool.new instances.new }
     ensures count { length instances.new ≡ length instances.old }
+    ensures spare { spare.new ≡ spare.old }
 {
     let number = event.instance as usize;
     if number >= instances.len() {
         return Err(EventRefusal::NoSuchInstance);
     }
-    instances[number].step(nobody, pool, event)
+    let parent = parents[number];
+    step_at(pool, spare, instances, number, parent, event)
+}
+
+/// Gives the event to the instance of a number, which reads what its parent has, if it has one.
+fn step_at(
+    pool: &mut Pool,
+    spare: &mut ServedInstance,
+    instances: &mut [ServedInstance],
+    number: usize,
+    parent: Option<usize>,
+    event: Event,
+) -> Result<Vec<Order>, EventRefusal>
+    requires server { IsServer pool.old instances.old }
+    requires there { number < length instances.old }
+    requires parent { IfSome parent (λ p. (p < length instances.old) × (p ≢ number)) }
+    requires spare { spare.old.instance.view.entries ≡ [] }
+    ensures acted { HasActed pool.old (texts_of_one parent (all_in pool.old instances.old))
+        instances.old pool.new instances.new number (event_value event) result }
+    ensures spare { spare.new ≡ spare.old }
+{
+    match parent {
+        None => instances[number].step(spare.view(), pool, event),
+        Some(place) => step_beside(pool, spare, instances, number, place, event),
+    }
+}
+
+/// Gives the event to the instance of a number, which reads the texts of the one at another place.
+/// The spare one stands in its place meanwhile.
+fn step_beside(
+    pool: &mut Pool,
+    spare: &mut ServedInstance,
+    instances: &mut [ServedInstance],
+    number: usize,
+    place: usize,
+    event: Event,
+) -> Result<Vec<Order>, EventRefusal>
+    requires server { IsServer pool.old instances.old }
+    requires there { number < length instances.old }
+    requires place { place < length instances.old }
+    requires apart { place ≢ number }
+    ensures acted { HasActed pool.old (texts_at place (all_in pool.old instances.old))
+        instances.old pool.new instances.new number (event_value event) result }
+    ensures spare { spare.new ≡ spare.old }
+{
+    swap(&mut instances[number], spare);
+    let parent = instances[place].view();
+    let outcome = spare.step(parent, pool, event);
+    swap(&mut instances[number], spare);
+    outcome
 }

@@ -2,14 +2,17 @@
 
 ghost use Rattle.std.specs.Prelude.{◌≡◌, ◌+◌, ◌-◌, ◌^◌, ◌<◌, ◌==◌, ◌++◌, ℕ, List, [], ◌∷◌, All, Some, length, map, IfOk, OnOk, if◌then◌else◌};
 ghost use Rattle.std.specs.List.{AllByRecursion};
-ghost use Rattle.server_events.specs.Configs.{ConfigValue};
-ghost use Rattle.server_events.specs.Events.{EventValue, own_events};
+ghost use Rattle.server_events.specs.Configs.{ConfigValue, parent_of};
+ghost use Rattle.server_events.specs.Faults.{AreParents};
+ghost use Rattle.server_events.specs.Events.{EventValue};
 ghost use Rattle.server_events.specs.Shown.{event_value};
 ghost use Rattle.instance_core.specs.State.{IsInstanceWithin};
 ghost use Rattle.served_instance.specs.StandsFor.{IsServedWithin};
-ghost use Rattle.server_core.specs.Runs.{Run, new_run, run_of, run_step, output_of_run};
+ghost use Rattle.server_core.specs.Families.{family_in, family_events};
+ghost use Rattle.server_core.specs.Parents.{parent_texts};
+ghost use Rattle.server_core.specs.Runs.{Run, new_run, run_of_family, run_step, output_of_run};
 ghost use Rattle.server_core.specs.LoneOutput.{config_at, lone_output, strays, stray_at};
-ghost use Rattle.server_core.specs.Shown.{output_at};
+ghost use Rattle.server_core.specs.Shown.{output_at, parent_output_at};
 ghost use Rattle.server_core.specs.Marked.{GivesRunOutput};
 ghost use Rattle.server_core.specs.RunTo.{IsNotedAt, HasRun, HasGoneOn};
 ghost use Rattle.server_core.specs.RunSoFar.{HasTaken, HasPassed};
@@ -110,24 +113,29 @@ impl ServerRun {
     }
 
     /// What the run gave. Each instance gives the very bytes on its connections, the orders and the
-    /// refusals that it would give alone; where some of its events were refused for want of memory,
-    /// those of a run in which just these were done in part.
+    /// refusals that it would give with its parent alone; where some of its events or of its
+    /// parent's were refused for want of memory, those of a run in which just these were done in
+    /// part.
     pub fn outputs(self, alloc: Global) -> Result<Outputs, AllocError>
         ensures alone { IfOk result (λ outputs. (configs : List ConfigValue)
             (events : List EventValue) → HasTaken configs events self
             → (i : ℕ) (config : ConfigValue) → config_at i configs ≡ Some config
             → output_at i outputs.instances.items
-            ≡ Some (lone_output config (own_events i events))) }
+            ≡ Some (lone_output (family_in configs config)
+            (family_events i (parent_of configs config) events))) }
         ensures may { IfOk result (λ outputs. (configs : List ConfigValue)
             (events : List EventValue) → HasPassed configs events self
             → (i : ℕ) (config : ConfigValue) → config_at i configs ≡ Some config
-            → GivesRunOutput config (own_events i events)
-            (output_at i outputs.instances.items)) }
+            → GivesRunOutput (family_in configs config)
+            (family_events i (parent_of configs config) events)
+            (output_at i outputs.instances.items)
+            (parent_output_at (parent_of configs config) outputs.instances.items)) }
         // Each instance keeps its limits.
         ensures within { OnOk result ((configs : List ConfigValue)
             (events : List EventValue) → HasTaken configs events self
             → (i : ℕ) (config : ConfigValue) → config_at i configs ≡ Some config
-            → IsInstanceWithin (run_of config (own_events i events)).lone.state) }
+            → IsInstanceWithin (run_of_family (family_in configs config)
+            (family_events i (parent_of configs config) events)).own.lone.state) }
         ensures count { IfOk result (λ outputs. (configs : List ConfigValue)
             (events : List EventValue) → HasTaken configs events self
             → length outputs.instances.items ≡ length configs) }
@@ -149,18 +157,20 @@ impl ServerRun {
 }
 
 /// Runs a server through events. Each instance gives the very bytes on its connections, the orders
-/// and the refusals that it would give alone: they are determined by its configuration and its own
-/// events.
+/// and the refusals that it would give with its parent alone: they are determined by the
+/// configuration and the events of these two.
 pub fn run(alloc: Global, configs: &Configs, events: Vec<Event>) -> Result<Outputs, AllocError>
     ensures alone { IfOk result (λ outputs. (i : ℕ) (config : ConfigValue)
         → config_at i configs.now ≡ Some config
         → output_at i outputs.instances.items
-        ≡ Some (lone_output config (own_events i (map event_value events.items)))) }
+        ≡ Some (lone_output (family_in configs.now config)
+        (family_events i (parent_of configs.now config) (map event_value events.items)))) }
     // Each instance keeps its limits: each of its texts is what its digest says.
     ensures within { OnOk result ((i : ℕ) (config : ConfigValue)
         → config_at i configs.now ≡ Some config
-        → IsInstanceWithin (run_of config
-        (own_events i (map event_value events.items))).lone.state) }
+        → IsInstanceWithin (run_of_family (family_in configs.now config)
+        (family_events i (parent_of configs.now config)
+        (map event_value events.items))).own.lone.state) }
     ensures count { IfOk result (λ outputs. length outputs.instances.items ≡ length configs.now) }
     ensures strays { IfOk result (λ outputs. outputs.strays.items
         ≡ strays configs.now (map event_value events.items)) }
@@ -173,13 +183,16 @@ pub fn run(alloc: Global, configs: &Configs, events: Vec<Event>) -> Result<Outpu
 }
 
 /// Runs a server through events, also past those that are refused for want of memory. What each
-/// instance gives is a run of it by itself, over its own events, in which just those that are
-/// recorded so were done in part. An error is want of memory for the new server or for the record.
+/// instance gives is a run of it and its parent by themselves, over the events of both, in which just
+/// those that are recorded so, of it and of its parent, were done in part. An error is want of memory
+/// for the new server or for the record.
 pub fn run_on(alloc: Global, configs: &Configs, events: Vec<Event>) -> Result<Outputs, AllocError>
     ensures may { IfOk result (λ outputs. (i : ℕ) (config : ConfigValue)
         → config_at i configs.now ≡ Some config
-        → GivesRunOutput config (own_events i (map event_value events.items))
-        (output_at i outputs.instances.items)) }
+        → GivesRunOutput (family_in configs.now config)
+        (family_events i (parent_of configs.now config) (map event_value events.items))
+        (output_at i outputs.instances.items)
+        (parent_output_at (parent_of configs.now config) outputs.instances.items)) }
     ensures count { IfOk result (λ outputs. length outputs.instances.items ≡ length configs.now) }
     ensures strays { IfOk result (λ outputs. outputs.strays.items
         ≡ strays configs.now (map event_value events.items)) }
@@ -203,11 +216,13 @@ fn step_and_note(
     requires count { length records.old ≡ length server.old.instances }
     requires room { All (λ r. r.count < place) records.old }
     ensures count { OnOk result (length server.new.instances ≡ length server.old.instances) }
+    ensures parents { server.new.parents ≡ server.old.parents }
     ensures room { OnOk result (All (λ r. r.count < place + 1) records.new) }
     ensures within { AllByRecursion IsServedWithin server.new.instances }
     ensures runs { OnOk result ((i : ℕ) (r : Run) → HasRun i server.old.instances records.old r
         → HasRun i server.new.instances records.new
-        (if event.instance == i then run_step r (event_value event) else r)) }
+        (if event.instance == i
+        then run_step (parent_texts event.instance server.old) r (event_value event) else r)) }
     ensures strays { OnOk result (strays.new.items
         ≡ strays.old.items ++ stray_at place (length server.old.instances)
         (event_value event)) }
@@ -239,10 +254,12 @@ fn step_on_and_note(
     requires count { length records.old ≡ length server.old.instances }
     requires room { All (λ r. r.count < place) records.old }
     ensures count { OnOk result (length server.new.instances ≡ length server.old.instances) }
+    ensures parents { server.new.parents ≡ server.old.parents }
     ensures room { OnOk result (All (λ r. r.count < place + 1) records.new) }
     ensures within { AllByRecursion IsServedWithin server.new.instances }
     ensures runs { OnOk result ((i : ℕ) (r : Run) → HasRun i server.old.instances records.old r
-        → HasGoneOn (event_value event) r i server.new.instances records.new) }
+        → HasGoneOn (parent_texts event.instance server.old) (event_value event) r i
+        server.new.instances records.new) }
     ensures strays { OnOk result (strays.new.items
         ≡ strays.old.items ++ stray_at place (length server.old.instances)
         (event_value event)) }

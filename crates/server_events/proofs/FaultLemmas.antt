@@ -6,11 +6,12 @@ use Rattle.std.proofs.lemmas.List.{get_or_append_left, length-append}
 use Rattle.std.proofs.lemmas.List.Elements.{All-nil, All-push}
 use Rattle.std.proofs.lemmas.List.Quantifiers.{all_pairs_push}
 use Rattle.std.specs.Option.{option_or}
-use Rattle.std.specs.Prelude.{◌↔◌, nat_lt}
+use Rattle.std.specs.Prelude.{◌↔◌, ◌⊎◌, ◌≤◌, nat_lt}
 use Rattle.server_events.specs.declared.fault.ConfigFault.{ConfigFault}
 use Rattle.server_events.specs.declared.fault.ConfigFault.TheVariants.{TooMany}
-use Rattle.server_events.specs.Configs.{ConfigValue, config_fault, first_own_fault, instance_limit, own_fault}
-use Rattle.server_events.specs.Faults.{AreConfigs, AreGood, IsConfig, IsFaultOf, IsOwnFault}
+use Rattle.server_events.specs.Configs.{ConfigValue, config_fault, first_own_fault, first_parent_fault, instance_limit, own_fault, parents_of}
+use Rattle.server_events.specs.Faults.{AreConfigs, AreGood, AreParents, IsConfig, IsFaultOf, IsOwnFault}
+use Rattle.server_events.proofs.ParentLemmas.{bad_is_some, none_is_well, parents_are, some_is_bad, well_is_none}
 use Rattle.server_events.proofs.OwnLemmas.{IsNewName, None-from_good, Some-from_fault, own_fault-None, own_fault-Some}
 
 -- ---- good instances
@@ -126,44 +127,72 @@ some_first before (first ∷ front) config back fault h bad =
 
 -- ---- whole lists
 
+-- the two parts of a fault, where there is none
+no_parts : (own parent : Option ConfigFault) → option_or own parent ≡ None → (own ≡ None) × (parent ≡ None)
+no_parts None parent h = (refl, h)
+no_parts (Some fault) parent h = cc
+
+-- and where there is one
+some_part : (own parent : Option ConfigFault) (fault : ConfigFault) → option_or own parent ≡ Some fault
+    → (own ≡ Some fault) ⊎ ((own ≡ None) × (parent ≡ Some fault))
+some_part None parent fault h = inr (refl, h)
+some_part (Some other) parent fault h = inl h
+
 pub none_is_good : (configs : List ConfigValue) → (config_fault configs ≡ None) ↔ AreConfigs configs
 none_is_good configs = (go (nat_lt instance_limit (length configs)) refl, back)
   where
+    at : (many : Bool) → nat_lt instance_limit (length configs) ≡ many → config_fault configs ≡ cond many (Some TooMany) (option_or (first_own_fault [] configs) (first_parent_fault configs))
+    at many e = ap (λ b. cond b (Some TooMany) (option_or (first_own_fault [] configs) (first_parent_fault configs))) e
+
     go : (many : Bool) → nat_lt instance_limit (length configs) ≡ many → config_fault configs ≡ None → AreConfigs configs
-    go true e h =
-        let clash : Some TooMany ≡ None = sym (ap (λ b. cond b (Some TooMany) (first_own_fault [] configs)) e) ∙ h in cc
+    go true e h = let clash : Some TooMany ≡ None = sym (at true e) ∙ h in cc
     go false e h =
-        record {
-          few = grind (arith, nat_tests);
-          good = first_none [] configs AreGood-nil (sym (ap (λ b. cond b (Some TooMany) (first_own_fault [] configs)) e) ∙ h);
-        }
+        let parts = no_parts (first_own_fault [] configs) (first_parent_fault configs) (sym (at false e) ∙ h) in
+        let good = first_none [] configs AreGood-nil parts.0 in
+        record { few = grind (arith, nat_tests); good = good; parents = none_is_well configs good parts.1 }
 
     back : AreConfigs configs → config_fault configs ≡ None
     back h =
         let few = h.few in
         let e : nat_lt instance_limit (length configs) ≡ false = grind (arith, nat_tests) in
-        ap (λ b. cond b (Some TooMany) (first_own_fault [] configs)) e ∙ none_first [] configs h.good
+        at false e ∙ ap (λ r. option_or r (first_parent_fault configs)) (none_first [] configs h.good) ∙ well_is_none configs h.parents
 
 pub some_is_first : (configs : List ConfigValue) (fault : ConfigFault) → (config_fault configs ≡ Some fault) ↔ IsFaultOf configs fault
 some_is_first configs fault = (go (nat_lt instance_limit (length configs)) refl, back)
   where
-    at : (many : Bool) → nat_lt instance_limit (length configs) ≡ many → config_fault configs ≡ cond many (Some TooMany) (first_own_fault [] configs)
-    at many e = ap (λ b. cond b (Some TooMany) (first_own_fault [] configs)) e
+    at : (many : Bool) → nat_lt instance_limit (length configs) ≡ many → config_fault configs ≡ cond many (Some TooMany) (option_or (first_own_fault [] configs) (first_parent_fault configs))
+    at many e = ap (λ b. cond b (Some TooMany) (option_or (first_own_fault [] configs) (first_parent_fault configs))) e
+
+    part : length configs ≤ instance_limit → (first_own_fault [] configs ≡ Some fault) ⊎ ((first_own_fault [] configs ≡ None) × (first_parent_fault configs ≡ Some fault))
+        → IsFaultOf configs fault
+    part few (inl own) =
+        let found = first_some [] configs fault AreGood-nil own in
+        inr (inl (few, record { front = found.front; config = found.config; back = found.back; whole = found.whole; good = found.good; bad = found.bad }))
+    part few (inr parent) = inr (inr (few, some_is_bad configs fault (first_none [] configs AreGood-nil parent.0) parent.1))
 
     go : (many : Bool) → nat_lt instance_limit (length configs) ≡ many → config_fault configs ≡ Some fault → IsFaultOf configs fault
     go true e h =
         let same : Some TooMany ≡ Some fault = sym (at true e) ∙ h in
         inl (cc, grind (arith, nat_tests))
-    go false e h =
-        let found = first_some [] configs fault AreGood-nil (sym (at false e) ∙ h) in
-        inr (grind (arith, nat_tests), record { front = found.front; config = found.config; back = found.back; whole = found.whole; good = found.good; bad = found.bad })
+    go false e h = part (grind (arith, nat_tests)) (some_part (first_own_fault [] configs) (first_parent_fault configs) fault (sym (at false e) ∙ h))
+
+    not_many : length configs ≤ instance_limit → nat_lt instance_limit (length configs) ≡ false
+    not_many few = grind (arith, nat_tests)
 
     back : IsFaultOf configs fault → config_fault configs ≡ Some fault
     back (inl h) =
         let many = h.1 in
         let e : nat_lt instance_limit (length configs) ≡ true = grind (arith, nat_tests) in
         at true e ∙ ap Some (sym h.0)
-    back (inr h) =
-        let few = h.0 in
-        let e : nat_lt instance_limit (length configs) ≡ false = grind (arith, nat_tests) in
-        at false e ∙ ap (first_own_fault []) h.1.whole ∙ some_first [] h.1.front h.1.config h.1.back fault h.1.good h.1.bad
+    back (inr (inl h)) =
+        at false (not_many h.0)
+        ∙ ap (λ r. option_or r (first_parent_fault configs)) (ap (first_own_fault []) h.1.whole ∙ some_first [] h.1.front h.1.config h.1.back fault h.1.good h.1.bad)
+    back (inr (inr h)) =
+        at false (not_many h.0)
+        ∙ ap (λ r. option_or r (first_parent_fault configs)) (none_first [] configs h.1.good) ∙ bad_is_some configs fault h.1
+
+-- instances without a fault build on others that build on none
+pub parents_good : (configs : List ConfigValue) → config_fault configs ≡ None → AreParents (parents_of configs)
+parents_good configs h =
+    let good = (none_is_good configs).0 h in
+    parents_are configs good.good good.parents

@@ -1,4 +1,5 @@
 pub mod FaultLemmas
 pub mod ListLemmas
+pub mod ParentLemmas
 pub mod OwnLemmas
 pub mod NameLemmas

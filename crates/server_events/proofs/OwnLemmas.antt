@@ -10,7 +10,7 @@ use Rattle.std.specs.Str.{bytes_eq}
 use Rattle.server_events.specs.Instance.{IsInstanceName, is_instance_name, quota_limit, slots_limit}
 use Rattle.server_events.proofs.NameLemmas.{IsInstanceName-from_test, is_instance_name-true}
 use Rattle.server_events.specs.declared.fault.ConfigFault.{ConfigFault}
-use Rattle.server_events.specs.declared.fault.ConfigFault.TheVariants.{BadName, BadQuota, BadSlots, DuplicateName, TooMany}
+use Rattle.server_events.specs.declared.fault.ConfigFault.TheVariants.{BadName, BadQuota, BadSlots, DuplicateName, TooMany, BadParent}
 use Rattle.server_events.specs.Configs.{ConfigValue, is_named_among, own_fault}
 use Rattle.server_events.specs.Faults.{IsConfig, IsOwnFault}
 
@@ -140,3 +140,4 @@ Some-from_fault before config (DuplicateName number) h = go (is_named_among befo
         rw (is_instance_name-true config.name h.1.name, fits_is, slotted_is, e, h.0) refl
     go false e = absurd (h.2 (new_name before config.name e))
 Some-from_fault before config TooMany h = absurd h
+Some-from_fault before config (BadParent number) h = absurd h

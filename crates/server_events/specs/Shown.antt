@@ -1,4 +1,5 @@
 -- What the types of configurations and events stand for.
+use Rattle.std.specs.Prelude.{option_map}
 use Rattle.std.specs.String.{string_bytes}
 use Rattle.server_events.specs.declared.configs.InstanceConfig.{InstanceConfig}
 use Rattle.server_events.specs.declared.event.Event.{Event}
@@ -9,8 +10,12 @@ use Rattle.server_events.specs.Configs.{ConfigValue}
 use Rattle.server_events.specs.Events.{WhatValue, opened, received, took, closed, tick, ended, EventValue}
 
 abbrev pub config_value : InstanceConfig → ConfigValue
-config_value config =
-    record { name = string_bytes config.name; quota = config.quota; slots = config.slots }
+config_value config = record {
+  name = string_bytes config.name;
+  quota = config.quota;
+  slots = config.slots;
+  parent = option_map string_bytes config.parent;
+}
 
 abbrev pub what_value : What → WhatValue
 what_value (Open connection) = opened connection

@@ -1,6 +1,6 @@
 //! The instances of a server.
 ghost use Rattle.std.specs.Prelude.{◌≡◌, ◌∷◌, [], map, IfOk, IfErr, Some, None, length};
-ghost use Rattle.server_events.specs.Configs.{config_fault, own_fault, first_own_fault, is_named_among};
+ghost use Rattle.server_events.specs.Configs.{config_fault, own_fault, first_own_fault, first_parent_fault, has_bad_parent, names_a_root, is_named_among, number_named, parent_of};
 ghost use Rattle.server_events.specs.Shown.{config_value};
 
 use crate::fault::ConfigFault;
@@ -18,10 +18,14 @@ pub struct InstanceConfig {
     pub quota: u64,
     /// The most actions that it runs at once; with 0 it runs none.
     pub slots: u32,
+    /// The name of the instance on which it builds, its parent: it reads the parent's blobs as its
+    /// own, and changes nothing of it. A parent builds on none.
+    pub parent: Option<String>,
 }
 
 /// The configurations of a server's instances: at most [`INSTANCE_LIMIT`], each with a name, a
-/// quota and slots that an instance may have, and no two of one name.
+/// quota and slots that an instance may have, no two of one name, and each that builds on one
+/// builds on another of the list, which builds on none.
 ///
 /// Contracts see it as the list of them, which has no fault.
 #[derive(Drop)]
@@ -44,7 +48,8 @@ impl Model for Configs {
 impl Configs {
     /// The configurations of this list, or its first fault: too many instances; and else the first
     /// fault of the first instance that has one, in the order name, quota, slots, name of an
-    /// earlier instance. It takes no memory.
+    /// earlier instance; and else the first instance that may not build on its parent. It takes no
+    /// memory.
     pub fn new(instances: Vec<InstanceConfig>) -> Result<Configs, ConfigFault>
         ensures configs { IfOk result (λ configs. configs ≡ map config_value instances.items) }
         ensures good { IfOk result (λ configs. config_fault (map config_value instances.items)
@@ -55,7 +60,10 @@ impl Configs {
         if instances.len() > INSTANCE_LIMIT {
             return Err(ConfigFault::TooMany);
         }
-        match first_own_fault(&instances) {
+        if let Some(fault) = first_own_fault(&instances) {
+            return Err(fault);
+        }
+        match first_parent_fault(&instances) {
             None => Ok(Configs { instances }),
             Some(fault) => Err(fault),
         }
@@ -68,6 +76,30 @@ impl Configs {
     {
         &self.instances
     }
+
+    /// The number of the instance on which one of these builds.
+    pub fn parent_of(&self, config: &InstanceConfig) -> Option<usize>
+        ensures { result ≡ parent_of self.now (config_value config.now) }
+    {
+        parent_among(&self.instances, config)
+    }
+}
+
+fn parent_among(instances: &[InstanceConfig], config: &InstanceConfig) -> Option<usize>
+    ensures { result ≡ parent_of (map config_value instances.now) (config_value config.now) }
+{
+    match &config.parent {
+        None => None,
+        Some(parent) => number_named(instances, parent.as_bytes()),
+    }
+}
+
+fn number_named(instances: &[InstanceConfig], name: &[u8]) -> Option<usize>
+    ensures { result ≡ number_named (map config_value instances.now) name.now }
+{
+    instances
+        .iter()
+        .position(|instance| instance.name.as_bytes() == name)
 }
 
 /// The first fault that an instance has which follows these others, in the order name, quota,
@@ -107,4 +139,35 @@ fn first_own_fault(instances: &[InstanceConfig]) -> Option<ConfigFault>
         }
     }
     None
+}
+
+// The fault of the first instance that may not build on its parent.
+fn first_parent_fault(instances: &[InstanceConfig]) -> Option<ConfigFault>
+    ensures { result ≡ first_parent_fault (map config_value instances.now) }
+{
+    let bad = instances
+        .iter()
+        .position(|instance| has_bad_parent(instances, instance));
+    match bad {
+        None => None,
+        Some(number) => Some(ConfigFault::BadParent(number)),
+    }
+}
+
+/// Whether an instance builds on one that is not among these, on itself, or on one that builds on
+/// another.
+pub fn has_bad_parent(instances: &[InstanceConfig], config: &InstanceConfig) -> bool
+    ensures { result ≡ has_bad_parent (map config_value instances.now) (config_value config.now) }
+{
+    match &config.parent {
+        None => false,
+        Some(parent) => !names_a_root(instances, parent.as_bytes()),
+    }
+}
+
+// Whether one of the instances has the name, and builds on none.
+fn names_a_root(instances: &[InstanceConfig], name: &[u8]) -> bool
+    ensures { result ≡ names_a_root (map config_value instances.now) name.now }
+{
+    instances.iter().any(|instance| instance.name.as_bytes() == name && instance.parent.is_none())
 }

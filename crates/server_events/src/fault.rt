@@ -15,4 +15,6 @@ pub enum ConfigFault {
     DuplicateName(usize),
     /// There are more instances than a server has.
     TooMany,
+    /// The instance builds on one that is not there, on itself, or on one that builds on another.
+    BadParent(usize),
 }

@@ -1,6 +1,6 @@
 //! What a server is started with and what happens to it: the configurations of its instances, which
-//! names, quotas and slot counts these may have, and the events of its connections and its clock,
-//! and of the runs of jobs, of which it has none yet.
+//! names, quotas, slot counts and parents these may have, and the events of its connections and its
+//! clock, and of the runs of jobs, of which it has none yet.
 #![tactic(auto)]
 
 mod configs;
@@ -9,7 +9,7 @@ mod fault;
 mod instance;
 pub mod laws;
 
-pub use crate::configs::{Configs, INSTANCE_LIMIT, InstanceConfig, own_fault};
+pub use crate::configs::{Configs, INSTANCE_LIMIT, InstanceConfig, has_bad_parent, own_fault};
 pub use crate::event::{Event, What};
 pub use crate::fault::ConfigFault;
 pub use crate::instance::{QUOTA_LIMIT, SLOTS_LIMIT, is_instance_name, is_quota, is_slot_count};

@@ -65,7 +65,7 @@ fn directory<'a>(name: &'a str, digest: messages::Digest<'a>) -> DirectoryNode<'
 
 /// The text of `c`.
 fn inner_text(alloc: Global, is_good: bool) -> Result<Vec<u8>, AllocError> {
-    let hash = hex::encode(alloc, &Digest::of(b"text").hash)?;
+    let hash = hex::encode(alloc, Digest::of(b"text").hash.as_bytes())?;
     let digest = messages::Digest {
         hash: &hash,
         size_bytes: 4,
@@ -79,7 +79,7 @@ fn inner_text(alloc: Global, is_good: bool) -> Result<Vec<u8>, AllocError> {
 
 /// The root's text, where `c` has this digest.
 fn root_text(alloc: Global, inner: &Digest) -> Result<Vec<u8>, AllocError> {
-    let hash = hex::encode(alloc, &Digest::of(b"text").hash)?;
+    let hash = hex::encode(alloc, Digest::of(b"text").hash.as_bytes())?;
     let digest = messages::Digest {
         hash: &hash,
         size_bytes: 4,
@@ -88,7 +88,7 @@ fn root_text(alloc: Global, inner: &Digest) -> Result<Vec<u8>, AllocError> {
         name: "b",
         target: "c/d",
     };
-    let inner_hash = hex::encode(alloc, &inner.hash)?;
+    let inner_hash = hex::encode(alloc, inner.hash.as_bytes())?;
     let inner_digest = messages::Digest {
         hash: &inner_hash,
         size_bytes: i64::try_from(inner.size).unwrap_or(0),

@@ -6,7 +6,7 @@ ghost use Rattle.blob_pool.specs.Moves.{Moves, HasRoom, no_holders, one_at};
 
 use crate::texts::is_read;
 use blob_pool::{Draft, Kept, Pool, keep, release_kept};
-use digest::Digest;
+use digest::{Digest, HashFunction};
 use std::alloc::{AllocError, Global};
 
 /// Holds a text beside a digest, and says whether that names it.
@@ -20,7 +20,7 @@ fn hold_beside(
     requires most { length text.now ≤ 2 ^ 48 }
     ensures { IfOk result (λ held. Moves pool.old pool.new no_holders (one_at held.1)) }
 {
-    let mut draft = Draft::new(alloc);
+    let mut draft = Draft::new(alloc, digest.function());
     draft.push(text)?;
     let is_named = draft.names(digest);
     match pool.seal(draft) {
@@ -45,18 +45,19 @@ fn is_given_back(
 }
 
 /// Whether two texts beside one digest both stand and are given back as themselves, and one text
-/// beside two digests stands once.
+/// beside its digests by both functions stands once.
 pub fn both_stand(alloc: Global) -> Result<bool, AllocError> {
     let mut pool = Pool::new(alloc);
     let named = Digest::of(b"first");
+    let other = Digest::by(HashFunction::Sha512, b"first");
     let first = hold_beside(alloc, &mut pool, &named, b"first")?;
     let second = hold_beside(alloc, &mut pool, &named, b"second")?;
-    let again = hold_beside(alloc, &mut pool, &Digest::of(b"second"), b"first")?;
+    let again = hold_beside(alloc, &mut pool, &other, b"first")?;
     let (texts, bytes) = pool.stored();
     let is_first = is_given_back(alloc, &mut pool, first.1, b"first")?;
     let is_second = is_given_back(alloc, &mut pool, second.1, b"second")?;
     let is_again = is_given_back(alloc, &mut pool, again.1, b"first")?;
-    let are_named_right = first.0 && !second.0 && !again.0;
+    let are_named_right = first.0 && !second.0 && again.0;
     let are_given_back = is_first && is_second && is_again;
     Ok(are_named_right && are_given_back && texts == 2 && bytes == 11 && pool.stored().0 == 0)
 }

@@ -106,7 +106,7 @@ fn store_directory(
     requires kept { IsViewInPool 100000000 pool.old view.old }
     ensures kept { IsViewInPool 100000000 pool.new view.new }
 {
-    let hash = hex::encode(alloc, &below.hash)?;
+    let hash = hex::encode(alloc, below.hash.as_bytes())?;
     let size_bytes = i64::try_from(below.size).unwrap_or(0);
     let digest = messages::Digest {
         hash: &hash,

@@ -3,7 +3,7 @@
 ghost use Rattle.std.specs.Prelude.{◌≡◌, ◌<◌, ◌+◌, ◌≤◌, ◌^◌, length, true};
 
 use blob_pool::{Draft, Kept, Pool, keep, release_kept};
-use digest::Digest;
+use digest::{Digest, HashFunction};
 use std::alloc::{AllocError, Global};
 
 /// How long a text of these tests is at most.
@@ -53,7 +53,7 @@ pub fn is_read(alloc: Global, pool: &Pool, kept: Kept, text: &[u8]) -> Result<bo
 /// Whether a text that is put in pieces comes back.
 pub fn comes_back(alloc: Global, text: &[u8]) -> Result<bool, AllocError> {
     let mut pool = Pool::new(alloc);
-    let mut draft = Draft::new(alloc);
+    let mut draft = Draft::new(alloc, HashFunction::Sha256);
     push_in_pieces(&mut draft, text)?;
     let is_named = draft.names(&Digest::of(text));
     match pool.seal(draft) {

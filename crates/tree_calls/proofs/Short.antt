@@ -25,8 +25,7 @@ use Rattle.input_tree.specs.Pages.{page_bytes, page_text, place_asked, place_wit
 use Rattle.input_tree.specs.Number.{decimal_of}
 use Rattle.action_cache.specs.Results.{front_within}
 use Rattle.action_cache.specs.Answering.{blobs_for}
-use Rattle.cas_service.specs.Requests.{message_or_refusal, instance_check, function_check}
-use Rattle.cas_service.specs.BatchUpdate.{digest_or_refusal}
+use Rattle.cas_service.specs.Requests.{message_or_refusal, instance_check, function_asked, digest_or_refusal}
 use Rattle.rpc.specs.declared.refusal.Refusal.{Refusal}
 use Rattle.tree_calls.specs.Asking.{ResultSentValue, action_asked, result_sent}
 use Rattle.tree_calls.specs.GetTree.{texts_seen, get_tree_replies}
@@ -173,8 +172,8 @@ sent_short own request sent h =
     let q = bind_ok (message_or_refusal (value_of_text update_action_result_request_of request)) _ sent h in
     let short = request_short request q.0 (readable_ok (value_of_text update_action_result_request_of request) q.0 q.1) in
     let i = bind_ok (instance_check own q.0.instance_name) _ sent q.2 in
-    let f = bind_ok (function_check q.0.digest_function) _ sent i.2 in
-    let d = bind_ok (digest_or_refusal q.0.action_digest) _ sent f.2 in
+    let f = bind_ok (function_asked q.0.digest_function) _ sent i.2 in
+    let d = bind_ok (digest_or_refusal f.0 q.0.action_digest) _ sent f.2 in
     let e = ok_is (record { action = d.0; text = unwrap_or q.0.action_result [] }) sent d.2 in
     rw (← e) short
 

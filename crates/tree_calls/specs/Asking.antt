@@ -7,8 +7,7 @@ use Rattle.tree_messages.specs.GetTree.{get_tree_request_of}
 use Rattle.tree_messages.specs.ActionCache.{get_action_result_request_of, update_action_result_request_of}
 use Rattle.rpc.specs.declared.refusal.Refusal.{Refusal}
 use Rattle.digest.specs.declared.Digest.{Digest}
-use Rattle.cas_service.specs.Requests.{message_or_refusal, instance_check, function_check}
-use Rattle.cas_service.specs.BatchUpdate.{digest_or_refusal}
+use Rattle.cas_service.specs.Requests.{message_or_refusal, instance_check, function_asked, digest_or_refusal}
 use Rattle.tree_calls.specs.declared.asking.TreeAsked.{TreeAsked}
 use Rattle.tree_calls.specs.declared.asking.ResultSent.{ResultSent}
 
@@ -38,8 +37,8 @@ unfoldable pub tree_asked : List ℕ → List ℕ → Result TreeAskedValue Refu
 tree_asked own message = do
   request ← message_or_refusal (value_of_text get_tree_request_of message)
   _ ← instance_check own request.instance_name
-  _ ← function_check request.digest_function
-  root ← digest_or_refusal request.root_digest
+  function ← function_asked request.digest_function
+  root ← digest_or_refusal function request.root_digest
   Ok (record { root = root; page_size = request.page_size; page_token = request.page_token })
 
 -- the action whose result is asked for
@@ -47,8 +46,8 @@ unfoldable pub action_asked : List ℕ → List ℕ → Result Digest Refusal
 action_asked own message = do
   request ← message_or_refusal (value_of_text get_action_result_request_of message)
   _ ← instance_check own request.instance_name
-  _ ← function_check request.digest_function
-  digest_or_refusal request.action_digest
+  function ← function_asked request.digest_function
+  digest_or_refusal function request.action_digest
 
 -- the bytes of an action's result; one that is not set has none
 pub record ResultSentValue : Type 0 where
@@ -63,6 +62,6 @@ unfoldable pub result_sent : List ℕ → List ℕ → Result ResultSentValue Re
 result_sent own message = do
   request ← message_or_refusal (value_of_text update_action_result_request_of message)
   _ ← instance_check own request.instance_name
-  _ ← function_check request.digest_function
-  action ← digest_or_refusal request.action_digest
+  function ← function_asked request.digest_function
+  action ← digest_or_refusal function request.action_digest
   Ok (record { action = action; text = unwrap_or request.action_result [] })

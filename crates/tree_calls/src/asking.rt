@@ -1,17 +1,11 @@
 //! What requests ask for, once they passed the tests that each begins with.
 
-ghost use Rattle.std.specs.Prelude.{◌≡◌, option_map};
-ghost use Rattle.reapi_messages.specs.Digests.{digest_shown};
 ghost use Rattle.cas_service.specs.Answers.{Answers};
-ghost use Rattle.cas_service.specs.BatchUpdate.{digest_or_refusal};
 ghost use Rattle.tree_calls.specs.Asking.{tree_asked, tree_asked_shown, action_asked, result_sent, result_sent_shown};
 
-use cas_service::{CallError, check_function, check_instance};
+use cas_service::{CallError, asked_function, check_instance, read_digest};
 use digest::Digest;
-use input_tree::digest_written;
 use message_fields::Message;
-use reapi_messages as messages;
-use rpc::Refusal;
 use std::alloc::Global;
 use tree_messages::{GetActionResultRequest, GetTreeRequest, UpdateActionResultRequest};
 
@@ -31,16 +25,6 @@ pub struct ResultSent {
     pub text: Vec<u8>,
 }
 
-/// The digest that a request has to write.
-fn read_digest(sent: &Option<messages::Digest<'_>>) -> Result<Digest, Refusal>
-    ensures { result ≡ digest_or_refusal (option_map digest_shown sent.now) }
-{
-    match digest_written(sent) {
-        Some(digest) => Ok(digest),
-        None => Err(Refusal::BadDigest),
-    }
-}
-
 /// The tree that a `GetTreeRequest` asks for.
 #[tactic(auto, unfolding(crate::specs::Asking::tree_asked))]
 pub fn tree_asked<'a>(
@@ -52,8 +36,8 @@ pub fn tree_asked<'a>(
 {
     let request = GetTreeRequest::decode(alloc, message)?;
     check_instance(own, request.instance_name)?;
-    check_function(request.digest_function)?;
-    let root = read_digest(&request.root_digest)?;
+    let function = asked_function(request.digest_function)?;
+    let root = read_digest(function, &request.root_digest)?;
     Ok(TreeAsked {
         root,
         page_size: request.page_size,
@@ -68,8 +52,8 @@ pub fn action_asked(alloc: Global, own: &str, message: &[u8]) -> Result<Digest, 
 {
     let request = GetActionResultRequest::decode(alloc, message)?;
     check_instance(own, request.instance_name)?;
-    check_function(request.digest_function)?;
-    let action = read_digest(&request.action_digest)?;
+    let function = asked_function(request.digest_function)?;
+    let action = read_digest(function, &request.action_digest)?;
     Ok(action)
 }
 
@@ -80,8 +64,8 @@ pub fn result_sent(alloc: Global, own: &str, message: &[u8]) -> Result<ResultSen
 {
     let request = UpdateActionResultRequest::decode(alloc, message)?;
     check_instance(own, request.instance_name)?;
-    check_function(request.digest_function)?;
-    let action = read_digest(&request.action_digest)?;
+    let function = asked_function(request.digest_function)?;
+    let action = read_digest(function, &request.action_digest)?;
     let text = match request.action_result {
         Some(text) => text,
         None => Vec::new(alloc),

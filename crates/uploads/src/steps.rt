@@ -127,11 +127,11 @@ fn write(
     ensures whole { AreWhole table.new.entries }
 {
     if find(table, key).is_none() {
-        let mut upload = Upload::empty(alloc);
+        let mut upload = Upload::empty(alloc, key);
         add(&mut upload, moment, bytes)?;
         return put(table, key, upload);
     }
-    let mut upload = exchange(table, key, Upload::empty(alloc));
+    let mut upload = exchange(table, key, Upload::empty(alloc, key));
     let added = add(&mut upload, moment, bytes);
     let _empty = exchange(table, key, upload);
     added
@@ -254,7 +254,7 @@ pub fn finish(
     ensures kept { IsViewInPool quota pool.new view.new }
     ensures limit { view.new.limit ≡ view.old.limit }
 {
-    let mut upload = exchange(table, key, Upload::empty(alloc));
+    let mut upload = exchange(table, key, Upload::empty(alloc, key));
     if !is_named(&mut upload, &key.digest()) {
         forget(table, key);
         return Err(UploadError::Hash);

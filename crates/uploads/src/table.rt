@@ -27,13 +27,13 @@ pub struct Upload {
 pub type Table = IndexMap<UploadKey, Upload>;
 
 impl Upload {
-    /// An upload without bytes. It takes no memory.
-    pub fn empty(alloc: Global) -> Upload
+    /// An upload of a key without bytes. It takes no memory.
+    pub fn empty(alloc: Global, key: &UploadKey) -> Upload
         ensures shown { upload_shown result ≡ record { text = []; written = 0 } }
         ensures open { result.draft.is_open ≡ true }
     {
         Upload {
-            draft: Draft::new(alloc),
+            draft: Draft::new(alloc, key.digest().function()),
             written: 0,
         }
     }

@@ -8,7 +8,7 @@ use std::alloc::{AllocError, Global};
 
 /// A message's length and hash.
 fn line_of(alloc: Global, message: &[u8]) -> Result<String, AllocError> {
-    let hash = hex::encode(alloc, &Digest::of(message).hash)?;
+    let hash = hex::encode(alloc, Digest::of(message).hash.as_bytes())?;
     let length = message.len();
     format!(in alloc; "  {length} {hash}\n")
 }

@@ -15,7 +15,7 @@ pub struct Blob {
 
 impl Blob {
     pub fn of(text: Vec<u8>, output: &mut Output) -> Blob {
-        let hash = output.string(hex::encode(output.alloc, &Digest::of(&text).hash));
+        let hash = output.string(hex::encode(output.alloc, Digest::of(&text).hash.as_bytes()));
         Blob { text, hash }
     }
 

@@ -13,6 +13,22 @@ const EMPTY: &str = "e3b0c44298fc1c149afbf4c8996fb92427ae41e4649b934ca495991b785
 /// SHA-256 of `abcdbcdecdefdefgefghfghighijhijkijkljklmklmnlmnomnopnopq` (FIPS 180-4's example).
 const TWO_BLOCKS: &str = "248d6a61d20638b8e5c026930c3e6039a33ce45964ff2167f6ecedd419db06c1";
 
+/// SHA-512 of `abc` (FIPS 180-4's example).
+const SHA512_ABC: &str =
+    "ddaf35a193617abacc417349ae20413112e6fa4e89a97ea20a9eeee64b55d39a2192992a274fc1a836ba3c23a3feebbd454d4423643ce80e2a9ac94fa54ca49f";
+
+/// SHA-512 of the empty text.
+const SHA512_EMPTY: &str =
+    "cf83e1357eefb8bdf1542850d66d8007d620e4050b5715dc83f4a921d36ce9ce47d0d13c5d85f2b0ff8318d2877eec2f63b931bd47417a81a538327af927da3e";
+
+/// A text of two blocks of SHA-512 (FIPS 180-4's example).
+const LONG_TEXT: &[u8] =
+    b"abcdefghbcdefghicdefghijdefghijkefghijklfghijklmghijklmnhijklmnoijklmnopjklmnopqklmnopqrlmnopqrsmnopqrstnopqrstu";
+
+/// Its SHA-512.
+const SHA512_TWO_BLOCKS: &str =
+    "8e959b75dae313da8cf4f72814fc143f8f7779c6eb9f7fa17299aeadb6889018501d289e4900f7e4331b99dec4b5433ac7d329eeb6dd26545e96e55b874be909";
+
 /// Whether the digest of this hash and of the text's size names the text, and no longer text does.
 fn is_named(hash: &str, text: &[u8]) -> bool {
     let Some(written) = Digest::parse(hash, text.len() as i64) else {
@@ -22,8 +38,9 @@ fn is_named(hash: &str, text: &[u8]) -> bool {
         size: written.size + 1,
         ..written
     };
-    Digest::of(text) == written
-        && is_same(&Digest::of(text), &written)
+    let own = Digest::by(written.function(), text);
+    own == written
+        && is_same(&own, &written)
         && matches(&written, text)
         && !matches(&written, b"abd")
         && written.is_empty() == text.is_empty()
@@ -39,6 +56,10 @@ fn names_texts() -> bool {
             TWO_BLOCKS,
             b"abcdbcdecdefdefgefghfghighijhijkijkljklmklmnlmnomnopnopq",
         )
+        && is_named(SHA512_ABC, b"abc")
+        && is_named(SHA512_EMPTY, b"")
+        && is_named(SHA512_TWO_BLOCKS, LONG_TEXT)
+        && !is_same(&Digest::of(b""), &Digest::by(HashFunction::Sha512, b""))
 }
 
 #[test]
@@ -55,8 +76,8 @@ impl Case for Reads {
     }
 }
 
-/// Four sizes, and hashes that are no 64 lower-case hexadecimal digits.
-static FORMS: [(&str, Reads); 12] = [
+/// Sizes, and hashes that are neither 64 nor 128 lower-case hexadecimal digits.
+static FORMS: [(&str, Reads); 18] = [
     (ABC, Reads(0, true)),
     (ABC, Reads(i64::MAX, true)),
     (ABC, Reads(-1, false)),
@@ -90,6 +111,24 @@ static FORMS: [(&str, Reads); 12] = [
         "éa7816bf8f01cfea414140de5dae2223b00361a396177a9cb410ff61f20015ad",
         Reads(3, false),
     ),
+    (SHA512_ABC, Reads(0, true)),
+    (SHA512_ABC, Reads(-1, false)),
+    (
+        "ddaf35a193617abacc417349ae20413112e6fa4e89a97ea20a9eeee64b55d39a2192992a274fc1a836ba3c23a3feebbd454d4423643ce80e2a9ac94fa54ca49",
+        Reads(3, false),
+    ),
+    (
+        "ddaf35a193617abacc417349ae20413112e6fa4e89a97ea20a9eeee64b55d39a2192992a274fc1a836ba3c23a3feebbd454d4423643ce80e2a9ac94fa54ca49f0",
+        Reads(3, false),
+    ),
+    (
+        "ddaf35a193617abacc417349ae20413112e6fa4e89a97ea20a9eeee64b55d39a2192992a274fc1a836ba3c23a3feebbd",
+        Reads(3, false),
+    ),
+    (
+        "ddaf35a193617abacc417349ae20413112e6fa4e89a97ea20a9eeee64b55d39a2192992a274fc1a836ba3c23a3feebbd454d4423643ce80e2a9ac94fa54ca49F",
+        Reads(3, false),
+    ),
 ];
 
 #[test]
@@ -97,21 +136,23 @@ fn forms(rt: HostRuntime) {
     all_hold(&rt, &rt, &FORMS);
 }
 
-fn of_two(first: &[u8], second: &[u8]) -> Digest {
-    let mut hasher = Hasher::new();
+fn of_two(function: HashFunction, first: &[u8], second: &[u8]) -> Digest {
+    let mut hasher = Hasher::by(function);
     hasher.update(first);
     hasher.update(second);
     hasher.finish()
 }
 
 fn joins_pieces(whole: &Digest) -> bool {
-    of_two(b"abc", b"") == *whole
-        && of_two(b"", b"abc") == *whole
-        && of_two(b"a", b"bc") == *whole
-        && of_two(b"", b"").is_empty()
+    let function = whole.function();
+    of_two(function, b"abc", b"") == *whole
+        && of_two(function, b"", b"abc") == *whole
+        && of_two(function, b"a", b"bc") == *whole
+        && of_two(function, b"", b"").is_empty()
 }
 
 #[test]
 fn pieces(rt: HostRuntime) {
     assert!(rt; joins_pieces(&Digest::of(b"abc")));
+    assert!(rt; joins_pieces(&Digest::by(HashFunction::Sha512, b"abc")));
 }

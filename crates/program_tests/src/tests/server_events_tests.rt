@@ -14,6 +14,7 @@ fn config(alloc: Global, wanted: &Wanted) -> Result<InstanceConfig, AllocError> 
         name: String::from_str(alloc, name)?,
         quota,
         slots,
+        parent: None,
     })
 }
 
@@ -35,6 +36,7 @@ fn told(fault: ConfigFault) -> Told {
         ConfigFault::BadSlots(number) => ("slots", number),
         ConfigFault::DuplicateName(number) => ("duplicate", number),
         ConfigFault::TooMany => ("many", 0),
+        ConfigFault::BadParent(number) => ("parent", number),
     }
 }
 
@@ -113,6 +115,7 @@ fn numbered(alloc: Global, front: &[Wanted]) -> Result<Vec<InstanceConfig>, Allo
             name: number.to_string(alloc)?,
             quota: 1,
             slots: 1,
+            parent: None,
         })?;
     }
     Ok(all)
@@ -172,4 +175,90 @@ static OWN_FAULTS: [(&str, After); 3] = [
 #[test]
 fn faults_of_one(rt: HostRuntime) {
     all_hold(&rt, &rt, &OWN_FAULTS);
+}
+
+/// An instance's name and its parent's.
+type Child = (&'static str, Option<&'static str>);
+
+fn child(alloc: Global, wanted: &Child) -> Result<InstanceConfig, AllocError> {
+    let mut made = config(alloc, &(wanted.0, 1, 1))?;
+    if let Some(parent) = wanted.1 {
+        made.parent = Some(String::from_str(alloc, parent)?);
+    }
+    Ok(made)
+}
+
+fn children(alloc: Global, wanted: &[Child]) -> Result<Vec<InstanceConfig>, AllocError> {
+    let mut configs = Vec::new(alloc);
+    for one in wanted {
+        configs.push(child(alloc, one)?)?;
+    }
+    Ok(configs)
+}
+
+/// Instances that may build on others, and their fault.
+struct Family(&'static [Child], Option<Told>);
+
+impl Case for Family {
+    fn holds(&self, host: &HostRuntime, _name: &str) -> bool {
+        match children(host.alloc(), self.0) {
+            Ok(configs) => told_of(Configs::new(configs).err()) == self.1,
+            Err(_) => false,
+        }
+    }
+}
+
+static FAMILIES: [(&str, Family); 7] = [
+    (
+        "two children, one before their parent",
+        Family(&[("a", Some("p")), ("p", None), ("b", Some("p"))], None),
+    ),
+    (
+        "no such name",
+        Family(&[("a", None), ("b", Some("c"))], Some(("parent", 1))),
+    ),
+    (
+        "the own name",
+        Family(&[("a", Some("a"))], Some(("parent", 0))),
+    ),
+    (
+        "a parent that has a parent",
+        Family(
+            &[("p", None), ("b", Some("a")), ("a", Some("p"))],
+            Some(("parent", 1)),
+        ),
+    ),
+    (
+        "two that build on each other",
+        Family(&[("a", Some("b")), ("b", Some("a"))], Some(("parent", 0))),
+    ),
+    (
+        "no name",
+        Family(&[("p", None), ("a", Some(""))], Some(("parent", 1))),
+    ),
+    // A fault of an instance by itself comes first, wherever it stands.
+    (
+        "a later name before a parent",
+        Family(&[("a", Some("c")), ("B", None)], Some(("name", 1))),
+    ),
+];
+
+#[test]
+fn parents(rt: HostRuntime) {
+    all_hold(&rt, &rt, &FAMILIES);
+}
+
+/// The number of the last instance's parent.
+fn last_parent(alloc: Global, wanted: &[Child]) -> Option<usize> {
+    let configs = Configs::new(children(alloc, wanted).ok()?).ok()?;
+    configs.parent_of(configs.instances().last()?)
+}
+
+#[test]
+fn numbers_of_parents(rt: HostRuntime) {
+    let alloc = rt.alloc();
+    assert!(rt;
+        last_parent(alloc, &[("o", None), ("p", None), ("a", Some("p"))]) == Some(1)
+            && last_parent(alloc, &[("p", None), ("o", None)]).is_none()
+    );
 }

@@ -1,13 +1,13 @@
 //! The files that a program left.
 ghost use Rattle.std.specs.Prelude.{◌≡◌, map, Some, None, Ok, Err, IfOk, option_map, string_bytes};
-ghost use Rattle.std.specs.Char.{is_ascii};
-ghost use Rattle.std.specs.List.{list_all};
 ghost use Rattle.outcomes.specs.Shown.{output_shown};
 ghost use Rattle.script.specs.ReplayEvents.{content_of, output_of, outputs_of, path_and_content_of, plain_file};
 
+use crate::arguments::are_ascii;
 use crate::fault::LineFault;
 use crate::{Parts, hex_bytes};
 use blob_pool::Draft;
+use digest::HashFunction;
 use outcomes::{Content, Output, OutputKind};
 use std::alloc::Global;
 use std::str;
@@ -60,7 +60,7 @@ pub(crate) fn read_content(alloc: Global, word: &[u8]) -> Result<Content, LineFa
     if bytes.len() > CONTENT_LIMIT {
         return Err(LineFault::Bad);
     }
-    let mut draft = Draft::new(alloc);
+    let mut draft = Draft::new(alloc, HashFunction::Sha256);
     draft.push(&bytes)?;
     Ok(Content::new(draft))
 }
@@ -78,10 +78,4 @@ fn path_and_content(word: &[u8]) -> Option<(&str, &str)>
         Ok(text) => text.rsplit_once('='),
         Err(_) => None,
     }
-}
-
-fn are_ascii(word: &[u8]) -> bool
-    ensures { result ≡ list_all is_ascii word.now }
-{
-    word.iter().all(|byte| byte.is_ascii())
 }

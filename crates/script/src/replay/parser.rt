@@ -1,21 +1,22 @@
 //! A text as a script.
-ghost use Rattle.std.specs.Prelude.{◌≡◌, ◌≤◌, ◌+◌, length, map, Some, None, Ok, Err, IfOk, IfErr, OnOk};
+ghost use Rattle.std.specs.Prelude.{◌≡◌, ◌≤◌, ◌+◌, length, map, Some, None, Ok, Err, IfOk, IfErr, OnOk, option_map, option_and_then, string_bytes};
+ghost use Rattle.std.specs.List.{list_any};
+ghost use Rattle.std.specs.Str.{bytes_eq};
 ghost use Rattle.server_events.specs.Configs.{config_fault};
 ghost use Rattle.server_events.specs.Shown.{config_value};
 ghost use Rattle.script.specs.ReplayHead.{after_head_line};
-ghost use Rattle.script.specs.ReplayScript.{replay_script_of, config, config_if_good, config_of, may_follow};
+ghost use Rattle.script.specs.ReplayScript.{replay_script_of, config_if_good, config_of, may_build, may_follow};
 ghost use Rattle.script.specs.Faults.{IsFaultOf};
-ghost use Rattle.script.specs.ReplayShown.{head_value, replay_script_value};
+ghost use Rattle.script.specs.ReplayShown.{form_value, head_value, replay_script_value};
 
-use crate::arguments::{number, three};
 use crate::fault::{LineFault, ScriptFault};
 use crate::reader::{FromLines, read_lines};
 use crate::replay::event::read_event;
+use crate::replay::instance::{InstanceForm, instance_form, roots_of_text};
 use crate::replay::reader::EventReader;
 use crate::{Parts, words};
-use decimals::decimal;
 use server_events::{INSTANCE_LIMIT, InstanceConfig, own_fault};
-use std::alloc::Global;
+use std::alloc::{AllocError, Global};
 use std::str;
 
 /// The instances that a script configures, and what happens to them, in order. The events are read
@@ -28,7 +29,8 @@ pub struct ReplayScript<'a> {
 
 /// The script that a text writes, or the number of its first bad line: one that has no form,
 /// configures an instance after an event, or configures an instance that may not follow those
-/// before it.
+/// before it or may not build on its parent. A parent may be the instance of any line that
+/// configures one which builds on none, of a later one too.
 pub fn parse(alloc: Global, text: &[u8]) -> Result<ReplayScript<'_>, ScriptFault>
     ensures script { IfOk result (λ script.
         replay_script_of text.now ≡ Ok (replay_script_value script)) }
@@ -41,6 +43,7 @@ pub fn parse(alloc: Global, text: &[u8]) -> Result<ReplayScript<'_>, ScriptFault
     ensures few { IfOk result (λ script. length script.events ≤ length text.now + 1) }
 {
     let mut head = ReplayHead {
+        roots: roots_of_text(alloc, text)?,
         configs: Vec::new(alloc),
         has_events: false,
     };
@@ -51,14 +54,16 @@ pub fn parse(alloc: Global, text: &[u8]) -> Result<ReplayScript<'_>, ScriptFault
     })
 }
 
-// The instances of the lines so far, and whether there was an event among them.
+// The names on which instances may build, the instances of the lines so far, and whether there was
+// an event among them.
 #[derive(Drop)]
-pub(crate) struct ReplayHead {
+pub(crate) struct ReplayHead<'a> {
+    pub(crate) roots: Vec<&'a [u8]>,
     pub(crate) configs: Vec<InstanceConfig>,
     pub(crate) has_events: bool,
 }
 
-impl FromLines for ReplayHead {
+impl<'a> FromLines for ReplayHead<'a> {
     ghost use Rattle.script.specs.ReplayHead.{ReplayHeadValue};
 
     ghost Value = { ReplayHeadValue };
@@ -73,7 +78,7 @@ impl FromLines for ReplayHead {
 }
 
 // Adds what one more line says.
-fn add_line(alloc: Global, head: &mut ReplayHead, line: &[u8]) -> Result<(), LineFault>
+fn add_line(alloc: Global, head: &mut ReplayHead<'_>, line: &[u8]) -> Result<(), LineFault>
     ensures read { OnOk result (after_head_line (head_value head.old) line.now
         ≡ Some (head_value head.new)) }
     ensures bad { result ≡ Err LineFault.Bad →
@@ -88,7 +93,7 @@ fn add_line(alloc: Global, head: &mut ReplayHead, line: &[u8]) -> Result<(), Lin
         if head.has_events {
             return Err(LineFault::Bad);
         }
-        let config = read_config(alloc, &head.configs, words)?;
+        let config = read_config(alloc, head, words)?;
         head.configs.push(config)?;
     } else {
         read_event(alloc, kind, words)?;
@@ -97,47 +102,60 @@ fn add_line(alloc: Global, head: &mut ReplayHead, line: &[u8]) -> Result<(), Lin
     Ok(())
 }
 
-// The instance of the words NAME QUOTA SLOTS, where it may follow those before it.
+// The instance of the words NAME QUOTA SLOTS, and perhaps PARENT, where it may follow those before
+// it and build on its parent.
 fn read_config(
     alloc: Global,
-    before: &[InstanceConfig],
-    words: Parts,
+    head: &ReplayHead<'_>,
+    words: Parts<'_>,
 ) -> Result<InstanceConfig, LineFault>
-    ensures read { IfOk result (λ config. config_of (map config_value before.now) words.entry
-        ≡ Some (config_value config)) }
-    ensures bad { result ≡ Err LineFault.Bad →
-        config_of (map config_value before.now) words.entry ≡ None }
+    ensures read { IfOk result (λ config. option_and_then
+        (config_if_good (head_value head.now).roots (head_value head.now).configs)
+        (config_of words.entry) ≡ Some (config_value config)) }
+    ensures bad { result ≡ Err LineFault.Bad → option_and_then
+        (config_if_good (head_value head.now).roots (head_value head.now).configs)
+        (config_of words.entry) ≡ None }
 {
-    let (name, quota, slots) = three(words).ok_or(LineFault::Bad)?;
-    let quota = decimal(quota).ok_or(LineFault::Bad)?;
-    let slots = number(slots).ok_or(LineFault::Bad)?;
-    config_if_good(alloc, before, name, quota, slots)
+    match instance_form(words) {
+        None => Err(LineFault::Bad),
+        Some(form) => config_if_good(alloc, &head.roots, &head.configs, form),
+    }
 }
 
 fn config_if_good(
     alloc: Global,
+    roots: &[&[u8]],
     before: &[InstanceConfig],
-    name: &[u8],
-    quota: u64,
-    slots: u32,
+    form: InstanceForm<'_>,
 ) -> Result<InstanceConfig, LineFault>
-    ensures made { IfOk result (λ made. config_if_good (map config_value before.now)
-        (config name.now quota slots) ≡ Some (config_value made)) }
-    ensures bad { result ≡ Err LineFault.Bad →
-        config_if_good (map config_value before.now) (config name.now quota slots) ≡ None }
+    ensures made { IfOk result (λ made. config_if_good (map (λ root. root.now) roots.now)
+        (map config_value before.now) (form_value form.entry) ≡ Some (config_value made)) }
+    ensures bad { result ≡ Err LineFault.Bad → config_if_good (map (λ root. root.now) roots.now)
+        (map config_value before.now) (form_value form.entry) ≡ None }
 {
-    let Ok(name) = str::from_utf8(name) else {
+    let Ok(name) = str::from_utf8(form.name) else {
         return Err(LineFault::Bad);
     };
     let config = InstanceConfig {
         name: String::from_str(alloc, name)?,
-        quota,
-        slots,
+        quota: form.quota,
+        slots: form.slots,
+        parent: owned(alloc, form.parent)?,
     };
-    if may_follow(before, &config) {
+    if may_follow(before, &config) && may_build(roots, &config) {
         Ok(config)
     } else {
         Err(LineFault::Bad)
+    }
+}
+
+fn owned(alloc: Global, name: Option<&str>) -> Result<Option<String>, AllocError>
+    ensures { IfOk result (λ owned. option_map string_bytes owned
+        ≡ option_map (λ text. text.now) name.entry) }
+{
+    match name {
+        None => Ok(None),
+        Some(name) => Ok(Some(String::from_str(alloc, name)?)),
     }
 }
 
@@ -145,4 +163,20 @@ fn may_follow(before: &[InstanceConfig], config: &InstanceConfig) -> bool
     ensures { result ≡ may_follow (map config_value before.now) (config_value config.now) }
 {
     before.len() < INSTANCE_LIMIT && own_fault(before, config).is_none()
+}
+
+fn may_build(roots: &[&[u8]], config: &InstanceConfig) -> bool
+    ensures { result ≡ may_build (map (λ root. root.now) roots.now) (config_value config.now) }
+{
+    match &config.parent {
+        None => true,
+        Some(parent) => is_among(roots, parent.as_bytes()),
+    }
+}
+
+fn is_among(roots: &[&[u8]], name: &[u8]) -> bool
+    ensures { result ≡ list_any (λ root. bytes_eq root name.now)
+        (map (λ root. root.now) roots.now) }
+{
+    roots.iter().any(|root| *root == name)
 }

@@ -1,9 +1,17 @@
-use Rattle.std.proofs.Common.{◌≡◌, ◌∷◌, rules}
-use Rattle.server_events.specs.Shown.{event_value}
-use Rattle.replay.proofs.Alone.{one_more}
+use Rattle.std.proofs.lemmas.Result.{IfOk-weaker}
 use Rattle.replay.proofs.run.run.Goals as goal
 
-pub events-preserved : goal.events-preserved
-events-preserved c =
-    let first : c.events.events ≡ event_value c.in-Some.event ∷ c.next_event.new.self = search rules in
-    one_more c.args.configs.now c.args.events c.events.events c.next_event.new.self (event_value c.in-Some.event) c.events.run c.in_ok-run-2.run' first c.in_ok-run-2.ensures c.events.invariant
+pub take_all-requires-clause-begun : goal.take_all-requires-clause-begun
+take_all-requires-clause-begun c = (c.args.configs.now, c.in_ok-begun.ensures)
+
+pub returns-clause-alone : goal.returns-clause-alone
+returns-clause-alone c =
+    IfOk-weaker c.outputs.result _ _ (λ outputs each. each c.args.configs.now c.args.events (c.in_ok-ran.ensures c.args.configs.now c.in_ok-begun.ensures)) c.outputs.ensures.alone
+
+pub returns-clause-count : goal.returns-clause-count
+returns-clause-count c =
+    IfOk-weaker c.outputs.result _ _ (λ outputs each. each c.args.configs.now c.args.events (c.in_ok-ran.ensures c.args.configs.now c.in_ok-begun.ensures)) c.outputs.ensures.count
+
+pub returns-clause-strays : goal.returns-clause-strays
+returns-clause-strays c =
+    IfOk-weaker c.outputs.result _ _ (λ outputs each. each c.args.configs.now c.args.events (c.in_ok-ran.ensures c.args.configs.now c.in_ok-begun.ensures)) c.outputs.ensures.strays

@@ -5,7 +5,7 @@ use Rattle.tree_plan.specs.Shown.{nodes_shown}
 use Rattle.execution_messages.specs.Actions.{CommandValue, command_shown}
 use Rattle.executor.specs.declared.keeping.KeptText.{KeptText}
 use Rattle.run_tasks.specs.Texts.{kept_digests}
-use Rattle.run_tasks.specs.Tasks.{command_for, node_of, output_paths, program_of}
+use Rattle.run_tasks.specs.Tasks.{command_for, function_for, node_of, output_paths, program_of}
 use Rattle.run_tasks.proofs.Numbering.{digests_in}
 use Rattle.run_tasks.proofs.tasks.run_task.Goals as goal
 
@@ -23,4 +23,8 @@ returns c = λ p.
           ∙ ap (λ (ts : List KeptText). map (node_of (kept_digests ts)) (nodes_shown c.deref-2.result.now)) c.deref.ensures.value
           ∙ ap (λ (ns : List PlanNode). map (node_of (kept_digests task.texts.items)) (nodes_shown ns)) c.deref-2.ensures.value
           ∙ ap (λ (ds : List Digest). map (node_of ds) (nodes_shown task.plan.nodes.items)) (sym (digests_in p task.texts.items));
+      function =
+          c.function_for-function.ensures
+          ∙ ap (λ (ts : List KeptText). function_for (kept_digests ts)) c.deref-4.ensures.value
+          ∙ ap function_for (sym (digests_in p task.texts.items));
     }

@@ -13,7 +13,7 @@ use Rattle.serve.proofs.carrying.tell.Goals as goal
 pub returns-in_err-orders : goal.returns-in_err-orders
 returns-in_err-orders g c =
     let did = c.in_err-orders.ensures in
-    record { takes = refused_taken _ c.in_err-orders.field-0.0 _ _ _ _ did.own did.short did.outcome did.others }
+    record { takes = refused_taken _ c.in_err-orders.field-0.0 _ _ _ _ did.own did.short did.outcome did.others did.parents }
 
 pub returns : goal.returns
 returns g c =
@@ -21,7 +21,6 @@ returns g c =
     let e : EventValue = event_told c.args.moment c.args.instance (what_value c.args.what) in
     let before : Option (List RunEvent) = g.R.Runs.happened c.args.runs.now in
     let after : Option (List RunEvent) = g.R.Runs.happened c.carry_out.new.runs in
-    let vs : List ServedState = c.args.server.now.instances in
     let ws : List ServedState = c.step.new.self.instances in
     let carried : AreCarriedOut c.args.instance ws c.in_ok-orders.orders.items before after = λ v is. subst (λ (os : List Order). AddsRuns before after (map (ordered c.args.instance) (orders_meant v.state.jobs os))) c.deref.ensures.value (c.carry_out.ensures v is) in
-    record { takes = accepted_by c.in_ok-orders.orders e vs ws c.in_ok-orders.orders before after did.own did.orders did.others did.stray did.count carried }
+    record { takes = accepted_by c.in_ok-orders.orders e c.args.server.now c.step.new.self c.in_ok-orders.orders before after did.own did.orders did.others did.stray did.count did.parents carried }

@@ -4,7 +4,7 @@ use Rattle.serve.proofs.serving.serve.Goals as goal
 
 pub returns : goal.returns
 returns g c = record {
-  served = was_served c.args.configs.now (g.S.Sockets.happened c.loop.sockets) (g.R.Runs.happened c.loop.runs) c.loop.serving.server.instances c.loop.serving.moment c.loop.invariant.serving;
+  served = was_served c.args.configs.now (g.S.Sockets.happened c.loop.sockets) (g.R.Runs.happened c.loop.runs) c.loop.serving.server c.loop.serving.moment c.loop.invariant.serving;
   unbegun = tt;
 }
 

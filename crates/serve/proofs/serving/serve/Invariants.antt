@@ -4,6 +4,6 @@ use Rattle.serve.proofs.serving.serve.Given as goal
 
 abbrev pub invariant-loop : goal.invariant-loop
 invariant-loop g l = record {
-  serving : IsServing l.configs (g.S.Sockets.happened l.sockets) (g.R.Runs.happened l.runs) l.serving.server.instances l.serving.moment;
+  serving : IsServing l.configs (g.S.Sockets.happened l.sockets) (g.R.Runs.happened l.runs) l.serving.server l.serving.moment;
   instances : l.serving.instances ≡ length l.configs;
 }

@@ -1,4 +1,4 @@
-use Rattle.std.proofs.Common.{ap, ◌∙◌, ◌≡◌, ◌≢◌, ◌++◌, ◌∷◌, [], ◌+◌, sym, subst, arith, append-nil}
+use Rattle.std.proofs.Common.{ap, ◌∙◌, ◌≡◌, ◌≢◌, ◌++◌, sym, subst, arith, append-nil}
 use Rattle.std.specs.Prelude.{Err, Result}
 use Rattle.std.specs.declared.alloc.Global.{Global}
 use Rattle.std.specs.declared.vec.Vec.{Vec}
@@ -9,6 +9,7 @@ use Rattle.std.proofs.lemmas.Result.{on_ok_weaker}
 use Rattle.served_instance.specs.declared.refusal.EventRefusal.{EventRefusal}
 use Rattle.served_instance.specs.declared.refusal.EventRefusal.TheVariants.{NoMemory}
 use Rattle.server_events.specs.Shown.{event_value}
+use Rattle.server_core.specs.Parents.{parent_texts}
 use Rattle.server_core.proofs.Steps.{stray_told, none_told}
 use Rattle.server_core.proofs.Marks.{stray_on, noted_on, short_on}
 use Rattle.server_core.proofs.whole_run.step_on_and_note.Goals as goal
@@ -16,7 +17,7 @@ use Rattle.server_core.proofs.whole_run.step_on_and_note.Goals as goal
 pub returns-in_ok-push-in-None-clause-runs : goal.returns-in_ok-push-in-None-clause-runs
 returns-in_ok-push-in-None-clause-runs c =
     let did = c.step-outcome.ensures in
-    stray_on (event_value c.args.event) _ _ _ did.count did.others (sym c.in-None.ensures.found)
+    stray_on _ (event_value c.args.event) _ _ _ did.count did.others (sym c.in-None.ensures.found)
 
 pub returns-in_ok-push-in-None-clause-strays : goal.returns-in_ok-push-in-None-clause-strays
 returns-in_ok-push-in-None-clause-strays c =
@@ -30,9 +31,9 @@ returns-then-matches-clause-runs c =
     let did = c.step-outcome.ensures in
     let memory : c.step-outcome.result ≡ Err NoMemory = grind (arith, common_steps) in
     on_ok_weaker c.note_short.result
-    (λ notes. short_on e _ _ _ _ _ (did.short memory) did.others
+    (λ notes. short_on _ e _ _ _ _ _ (did.short memory) did.others
     (λ l s. subst (λ (o : Result (Vec Order Global) EventRefusal). IsRefusalOutcome o (refusal_of e l)) memory (did.outcome l s))
-    (λ r q old step. notes r q e old c.by-broken.ensures step))
+    (λ r q old step. notes r q (parent_texts c.args.event.instance c.args.server.now) e old c.by-broken.ensures step))
     c.note_short.ensures.stands
 
 pub returns-then-matches-clause-strays : goal.returns-then-matches-clause-strays
@@ -46,7 +47,7 @@ pub returns-else-matches-clause-runs : goal.returns-else-matches-clause-runs
 returns-else-matches-clause-runs c =
     let did = c.step-outcome.ensures in
     let ne : c.step-outcome.result ≢ Err NoMemory = grind (arith, common_steps) in
-    on_ok_weaker c.note.result (λ notes. noted_on c.step-outcome.result (event_value c.args.event) _ _ _ c.in-Some.pool.now c.in-Some.served.now _ _ (did.own ne) did.others did.outcome (sym c.in-Some.ensures.found) c.in-Some.ensures.fit did.orders (λ r st. notes r (event_value c.args.event) st c.made_by-change.ensures)) c.note.ensures.stands
+    on_ok_weaker c.note.result (λ notes. noted_on _ c.step-outcome.result (event_value c.args.event) _ _ _ c.in-Some.pool.now c.in-Some.served.now _ _ (did.own ne) did.others did.outcome (sym c.in-Some.ensures.found) c.in-Some.ensures.fit did.orders (λ r st. notes r (parent_texts c.args.event.instance c.args.server.now) (event_value c.args.event) st c.made_by-change.ensures)) c.note.ensures.stands
 
 pub returns-else-matches-clause-strays : goal.returns-else-matches-clause-strays
 returns-else-matches-clause-strays c =

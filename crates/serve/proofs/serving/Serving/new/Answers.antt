@@ -1,15 +1,12 @@
-use Rattle.std.proofs.Common.{arith, refl, []}
+use Rattle.std.proofs.Common.{refl, []}
+use Rattle.serve.proofs.Beginning.{at_first}
 use Rattle.serve.proofs.serving.Serving.new.Goals as goal
 
 pub returns-clause-serving : goal.returns-clause-serving
 returns-clause-serving c = record {
   h = [];
   together = record { at_sockets_so = refl; at_runs_so = refl };
-  each = λ i config is. record {
-    now = _;
-    serves = refl;
-    times = omega arith;
-    stands = c.in_ok-new.ensures.stands i config is;
-  };
+  parents = record { same = c.in_ok-new.ensures.parents; good = c.in_ok-new.ensures.related };
+  each = λ i config is. at_first c.args.configs.now i config _ c.in_ok-new.ensures.parents c.in_ok-new.ensures.related c.in_ok-new.ensures.stands is;
   moment = refl;
 }

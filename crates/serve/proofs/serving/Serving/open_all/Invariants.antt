@@ -5,6 +5,6 @@ use Rattle.serve.proofs.serving.Serving.open_all.Given as goal
 
 abbrev pub invariant-loop-instance : goal.invariant-loop-instance
 invariant-loop-instance g l = record {
-  serving : (configs : List ConfigValue) → IsServing configs (g.S.Sockets.happened l.fn.sockets) (g.R.Runs.happened l.fn.runs) l.fn.self.server.instances l.fn.self.moment → IsServing configs (g.S.Sockets.happened l.sockets) (g.R.Runs.happened l.runs) l.self.server.instances l.self.moment;
+  serving : (configs : List ConfigValue) → IsServing configs (g.S.Sockets.happened l.fn.sockets) (g.R.Runs.happened l.fn.runs) l.fn.self.server l.fn.self.moment → IsServing configs (g.S.Sockets.happened l.sockets) (g.R.Runs.happened l.runs) l.self.server l.self.moment;
   instances : l.self.instances ≡ l.fn.self.instances;
 }

@@ -4,7 +4,7 @@ use Rattle.serve.proofs.serving.Serving.tick.Goals as goal
 
 pub loop-instance-init : goal.loop-instance-init
 loop-instance-init g c = record {
-  ticking = λ configs at. none_ticked configs _ _ _ _ _ at;
+  ticking = λ configs at. none_ticked configs _ _ _ _ _ c.now-self.ensures.rises at;
   unknown = λ is. is;
   adds = c.now-self.ensures.adds;
   rises = c.now-self.ensures.rises;
@@ -13,7 +13,7 @@ loop-instance-init g c = record {
 
 pub loop-instance-preserved : goal.loop-instance-preserved
 loop-instance-preserved g c = record {
-  ticking = λ configs at. one_ticked configs _ _ _ _ _ _ _ _ c.loop-instance.invariant.rises c.tell.ensures.takes (c.loop-instance.invariant.ticking configs at);
+  ticking = λ configs at. one_ticked configs _ _ _ _ _ _ _ _ c.tell.ensures.takes (c.loop-instance.invariant.ticking configs at);
   unknown = still_unknown _ _ _ _ _ _ c.tell.ensures.takes c.loop-instance.invariant.unknown;
   adds = c.loop-instance.invariant.adds;
   rises = c.loop-instance.invariant.rises;
@@ -21,5 +21,5 @@ loop-instance-preserved g c = record {
 }
 
 pub returns-clause-serving : goal.returns-clause-serving
-returns-clause-serving g c = λ configs le at.
-    all_ticked configs _ _ _ _ _ c.loop-instance.instance _ c.loop-instance.invariant.adds c.loop-instance.invariant.unknown (omega (arith, le, c.loop-instance-test.false)) (c.loop-instance.invariant.ticking configs at)
+returns-clause-serving g c = λ configs same at.
+    all_ticked configs _ _ _ _ _ c.loop-instance.instance _ c.loop-instance.invariant.adds c.loop-instance.invariant.unknown (omega (arith, same, c.loop-instance-test.false, c.loop-instance.auto.instance-end)) (c.loop-instance.invariant.ticking configs at)

@@ -1,16 +1,17 @@
-use Rattle.std.proofs.Common.{◌≡◌, ap, ◌∙◌, sym, length, ◌+◌, ◌≤◌, map, take, arith}
-use Rattle.server_events.specs.Configs.{config_fault, instance_limit}
+use Rattle.std.proofs.Common.{◌≡◌, ap, ◌∙◌, sym, subst, length, ◌+◌, ◌≤◌, map, take, arith}
+use Rattle.server_events.specs.Configs.{config_fault, instance_limit, parent_of}
 use Rattle.server_core.specs.LoneOutput.{config_at}
 use Rattle.server_events.specs.Shown.{config_value}
 use Rattle.served_instance.specs.Slots.{served_state_in}
 use Rattle.std.proofs.lemmas.List.{length_push, length-map, take_all}
 use Rattle.server_core.specs.Shared.{all_in}
 use Rattle.server_core.proofs.Begins.{quota_in, slots_in, starts_more, all_pushed, within_pushed, nobody_pushed, tidy_pushed, server_begun}
-use Rattle.instance_view.specs.Shown.{ViewValue}
+use Rattle.server_events.proofs.FaultLemmas.{parents_good}
+use Rattle.server_events.specs.Faults.{AreParents}
 use Rattle.server_core.proofs.server.Server.new.Goals as goal
 
-pub new-requires-in-loop-config : goal.new-requires-in-loop-config
-new-requires-in-loop-config c =
+pub new-requires : goal.new-requires
+new-requires c =
     let good = ap config_fault c.instances-configs.ensures.instances ∙ c.instances-configs.ensures.good in
     let each = (c.the_fault_is_the_first.ensures.none.0 good).good.each in
     record {
@@ -44,8 +45,16 @@ invariant_of-result c =
     let xs = c.instances-configs.result.now in
     let ys = c.loop-config.instances.items in
     let good = ap config_fault c.instances-configs.ensures.instances ∙ c.instances-configs.ensures.good in
+    let parents = c.in_ok-parents.ensures in
     let some = (c.the_fault_is_the_first.ensures.none.0 good).few in
     let few : length ys ≤ instance_limit = omega (arith, c.loop-config.invariant.count, c.loop-config.auto.config-index-end, length-map xs config_value, some) in (
       server_begun c.new-pool.result ys c.new-pool.ensures few c.loop-config.invariant.nobody (c.loop-config.invariant.within c.new-pool.result) c.loop-config.invariant.tidy,
-      ap (λ (v : ViewValue). v.entries) c.in_ok-nobody.ensures,
+      c.in_ok-spare.ensures,
+      record {
+        each = ap length parents ∙ length-map c.args.configs.now (parent_of c.args.configs.now) ∙ sym (ap length c.instances-configs.ensures.instances) ∙ length-map xs config_value ∙ omega (arith, c.loop-config.invariant.count, c.loop-config.auto.config-index-end);
+        others = subst AreParents (sym parents) (parents_good c.args.configs.now c.instances-configs.ensures.good);
+      },
     )
+
+pub returns-clause-related : goal.returns-clause-related
+returns-clause-related c = subst AreParents (sym c.in_ok-parents.ensures) (parents_good c.args.configs.now c.instances-configs.ensures.good)

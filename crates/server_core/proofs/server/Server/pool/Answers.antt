@@ -10,4 +10,4 @@ returns c =
     let p = c.self.inside.pool in
     let q = c.pool_of.result.now in
     subst (λ (s : ServerState). IsPoolOf q s) c.self.view_is
-    (subst (λ (xs : List ServedSlots). IsPoolOf q (record { instances = all_in p xs })) c.deref.ensures.value c.pool_of.ensures.texts)
+    (subst (λ (xs : List ServedSlots). IsPoolOf q (record { instances = all_in p xs; parents = c.self.inside.parents.items })) c.deref.ensures.value (c.pool_of.ensures.texts c.self.inside.parents.items))

@@ -1,16 +1,19 @@
-use Rattle.std.proofs.Common.{[], ap, ◌∙◌, ◌≡◌, sym, length, subst, List, arith, ℕ}
+use Rattle.std.proofs.Common.{ap, ◌∙◌, ◌≡◌, sym, length, subst, List, arith, ℕ}
 use Rattle.std.specs.declared.alloc.Global.{Global}
 use Rattle.std.specs.declared.vec.Vec.{Vec}
 use Rattle.std.proofs.lemmas.Grind.{common_steps}
-use Rattle.std.proofs.lemmas.Result.{IfOk-weaker}
+use Rattle.std.proofs.lemmas.Result.{IfOk-weaker, on_ok_weaker}
 use Rattle.executor.specs.declared.orders.Order.{Order}
+use Rattle.instance_core.specs.Visible.{Blob}
 use Rattle.server_events.specs.Shown.{event_value}
-use Rattle.served_instance.specs.StandsFor.{ServedState}
+use Rattle.served_instance.specs.StandsFor.{ServedState, AreSettled}
 use Rattle.served_instance.specs.Slots.{ServedSlots}
 use Rattle.server_core.specs.Shared.{all_in}
 use Rattle.served_instance.specs.Refusals.{lone_step, lone_orders}
 use Rattle.server_core.specs.Marked.{StandsShortAt}
+use Rattle.server_core.specs.Parents.{parent_texts}
 use Rattle.server_core.specs.StandsFor.{OrdersStand, StandsAt}
+use Rattle.server_core.proofs.Acted.{read_is}
 use Rattle.server_core.proofs.Lists.{written}
 use Rattle.server_core.proofs.server.Server.step.Goals as goal
 
@@ -22,7 +25,9 @@ returns-clause-own c = λ ne l s.
     let long : c.self.inside.instances.len ≡ length c.step_one.new.instances = grind (arith, common_steps) in
     let old = ap (all_in p) c.deref_mut.ensures.value ∙ ap (λ v. v.instances) c.self.view_is in
     let before = subst (λ (vs : List ServedState). StandsAt n vs l) (sym old) s in
-    subst (λ (xs : List ServedSlots). StandsAt n (all_in q xs) (lone_step [] (event_value c.args.event) l)) (sym (written _ _ _ long)) (c.step_one.ensures.own ne l before)
+    let read = read_is n _ _ _ _ _ c.deref.ensures.value (ap (all_in p) c.deref_mut.ensures.value) c.self.view_is in
+    subst (λ (xs : List ServedSlots). StandsAt n (all_in q xs) (lone_step (parent_texts n c.args.self.now) (event_value c.args.event) l)) (sym (written _ _ _ long))
+    (subst (λ (bs : List Blob). StandsAt n (all_in q c.step_one.new.instances) (lone_step bs (event_value c.args.event) l)) read (c.step_one.ensures.own ne l before))
 
 pub returns-clause-short : goal.returns-clause-short
 returns-clause-short c = λ memory l s.
@@ -32,7 +37,20 @@ returns-clause-short c = λ memory l s.
     let long : c.self.inside.instances.len ≡ length c.step_one.new.instances = grind (arith, common_steps) in
     let old = ap (all_in p) c.deref_mut.ensures.value ∙ ap (λ v. v.instances) c.self.view_is in
     let before = subst (λ (vs : List ServedState). StandsAt n vs l) (sym old) s in
-    subst (λ (xs : List ServedSlots). StandsShortAt (event_value c.args.event) l (all_in q xs)) (sym (written _ _ _ long)) (c.step_one.ensures.short memory l before)
+    let read = read_is n _ _ _ _ _ c.deref.ensures.value (ap (all_in p) c.deref_mut.ensures.value) c.self.view_is in
+    subst (λ (xs : List ServedSlots). StandsShortAt (parent_texts n c.args.self.now) (event_value c.args.event) l (all_in q xs)) (sym (written _ _ _ long))
+    (subst (λ (bs : List Blob). StandsShortAt bs (event_value c.args.event) l (all_in q c.step_one.new.instances)) read (c.step_one.ensures.short memory l before))
+
+pub returns-clause-settled : goal.returns-clause-settled
+returns-clause-settled c =
+    let n : ℕ = c.args.event.instance in
+    let p = c.self.inside.pool in
+    let old = ap (all_in p) c.deref_mut.ensures.value ∙ ap (λ v. v.instances) c.self.view_is in
+    let read = read_is n _ _ _ _ _ c.deref.ensures.value (ap (all_in p) c.deref_mut.ensures.value) c.self.view_is in
+    on_ok_weaker c.step_one.result (λ settled l s.
+    subst (λ (bs : List Blob). AreSettled (lone_step bs (event_value c.args.event) l)) read
+    (settled l (subst (λ (vs : List ServedState). StandsAt n vs l) (sym old) s)))
+    c.step_one.ensures.settled
 
 pub returns-clause-orders : goal.returns-clause-orders
 returns-clause-orders c =
@@ -41,7 +59,9 @@ returns-clause-orders c =
     let q = c.step_one.new.pool in
     let long : c.self.inside.instances.len ≡ length c.step_one.new.instances = grind (arith, common_steps) in
     let old = ap (all_in p) c.deref_mut.ensures.value ∙ ap (λ v. v.instances) c.self.view_is in
+    let read = read_is n _ _ _ _ _ c.deref.ensures.value (ap (all_in p) c.deref_mut.ensures.value) c.self.view_is in
     IfOk-weaker c.step_one.result _ _ (λ (orders : Vec Order Global) given l s.
     let before = subst (λ (vs : List ServedState). StandsAt n vs l) (sym old) s in
-    subst (λ (xs : List ServedSlots). OrdersStand n (all_in q xs) orders (lone_orders [] (event_value c.args.event) l)) (sym (written _ _ _ long)) (given l before))
+    subst (λ (xs : List ServedSlots). OrdersStand n (all_in q xs) orders (lone_orders (parent_texts n c.args.self.now) (event_value c.args.event) l)) (sym (written _ _ _ long))
+    (subst (λ (bs : List Blob). OrdersStand n (all_in q c.step_one.new.instances) orders (lone_orders bs (event_value c.args.event) l)) read (given l before)))
     c.step_one.ensures.orders

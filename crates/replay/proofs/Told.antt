@@ -1,0 +1,19 @@
+-- What is told of a run is what came of it, or that it failed.
+use Rattle.std.proofs.Common.{◌≡◌, ℕ, List, sym, subst, inl, inr}
+use Rattle.std.specs.Prelude.{◌⊎◌, Option, Some, None, Result, IfSome}
+use Rattle.program_status.specs.declared.Status.{Status}
+use Rattle.program_status.specs.declared.Status.TheVariants.{Failed}
+use Rattle.replay.specs.Outcome.{IsOutcome}
+
+-- whatever a text prints
+abbrev pub CameOf : Option (List ℕ) → (List ℕ → Result (List ℕ) ℕ) → Option (List ℕ) → Option (List ℕ) → Status → Type 0
+CameOf read printed before after status = IfSome read (λ text. IsOutcome (printed text) status before after)
+
+failed_too : (read : Option (List ℕ)) (printed : List ℕ → Result (List ℕ) ℕ) (before after : Option (List ℕ)) → CameOf read printed before after Failed
+failed_too None printed before after = tt
+failed_too (Some text) printed before after = tt
+
+pub outcome_told : (read : Option (List ℕ)) (printed : List ℕ → Result (List ℕ) ℕ) (before after : Option (List ℕ)) (was is : Status)
+    → (is ≡ Failed) ⊎ (is ≡ was) → CameOf read printed before after was → CameOf read printed before after is
+outcome_told read printed before after was is (inl failed) h = subst (CameOf read printed before after) (sym failed) (failed_too read printed before after)
+outcome_told read printed before after was is (inr same) h = subst (CameOf read printed before after) (sym same) h

@@ -1,0 +1,9 @@
+use Rattle.replay.specs.Printed.{text_printed_by}
+use Rattle.replay.proofs.Told.{outcome_told}
+use Rattle.replay.proofs.run.replay.Goals as goal
+
+pub returns-clause-outcome : goal.returns-clause-outcome
+returns-clause-outcome g c = outcome_told _ text_printed_by _ _ _ _ c.told.ensures.status c.perform.ensures
+
+pub returns-clause-told : goal.returns-clause-told
+returns-clause-told g c = c.told.ensures.told

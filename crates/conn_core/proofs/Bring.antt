@@ -37,7 +37,6 @@ use Rattle.conn_core.proofs.Began.{after_refused, after_begun, thinned}
 use Rattle.conn_core.proofs.Reset.{reset_stream}
 use Rattle.conn_core.proofs.Forgets.{KeepsOut, Forgets, unmet, unlisted, keeps_closed, some_brought, none_ended}
 use Rattle.std.proofs.Common.{inr}
-use Rattle.std.proofs.lemmas.Bool.{eqb-true}
 
 abbrev pub kept_as : ConnectionValue → StoredSending → List Call → List CallEvent → ConnectionValue
 kept_as v w cs due = record { reader = v.reader; streams = v.streams; sending = w; calls = cs; due = due; ended = v.ended; reset_count = v.reset_count }

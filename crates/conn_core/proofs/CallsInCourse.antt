@@ -1,8 +1,8 @@
 -- What is kept of the streams says whether a call is in course.
-use Rattle.std.proofs.Common.{◌≡◌, refl, ap, ◌∙◌, sym}
-use Rattle.std.specs.Prelude.{ℕ, ◌==◌, ◌&&◌, Bool, true, false, not, List, length}
+use Rattle.std.proofs.Common.{◌≡◌, refl, ap, ◌∙◌}
+use Rattle.std.specs.Prelude.{ℕ, ◌==◌, ◌&&◌, Bool, true, false, not, length}
 use Rattle.std.proofs.lemmas.List.{length-map}
-use Rattle.http2_streams.specs.History.{Entry, live_streams, has_failed}
+use Rattle.http2_streams.specs.History.{live_streams, has_failed}
 use Rattle.http2_streams.specs.Standing.{stream_at}
 use Rattle.grpc_sending.specs.StoredSending.{SourceTexts}
 use Rattle.conn_core.specs.Past.{Past}

@@ -41,7 +41,7 @@ use Rattle.http2_streams.proofs.EventLaw.{live_after_frame, event_on_stream}
 use Rattle.http2_streams.proofs.LiveLaw.{idle_is_live}
 use Rattle.conn_core.proofs.StreamsLaws.{answers_are}
 use Rattle.conn_core.proofs.Opened.{idle}
-use Rattle.conn_core.proofs.Answered.{outcome_cut, outcome_fault, in_front, answers_quiet, failed_after, entries_caused, put_behind, fits_of}
+use Rattle.conn_core.proofs.Answered.{outcome_cut, outcome_fault, in_front, answers_quiet, failed_after, entries_caused, put_behind}
 
 -- ---- the calls that end
 

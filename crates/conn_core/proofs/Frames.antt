@@ -35,7 +35,6 @@ use Rattle.conn_core.specs.Past.{Past, with_frame}
 use Rattle.conn_core.specs.StandsFor.{ConnectionValue, IsConnection, IsAlive, StandsAfterReading, ReadsOneFrame, IsNextFrame, unread_length, call_stream}
 use Rattle.conn_core.specs.Step.{IsTaking, HasBrought, TakesFrame, with_reader}
 use Rattle.conn_core.specs.Putting.{Puts, PutsUnless, Fails, AwaitsItsAnswer, ended_calls, have_answer_form}
-use Rattle.conn_core.proofs.Putting.{PutsIf}
 use Rattle.conn_core.proofs.StreamsLaws.{answers_are}
 use Rattle.conn_core.proofs.Answered.{answered_fits, fits_of}
 use Rattle.conn_core.proofs.Ends.{answered_cut, taken_fault, read_fault}

@@ -12,11 +12,10 @@ use Rattle.http2_streams.specs.declared.event.Event.TheVariants.{Nothing, Reques
 use Rattle.http2_streams.specs.declared.event.StreamEvent.{StreamEvent}
 use Rattle.http2_streams.specs.History.{Entry, In, Unreadable, Out, Took, opened_streams, highest_stream, live_streams, is_not_closed}
 use Rattle.http2_streams.specs.Rules.{answer_after}
-use Rattle.http2_streams.specs.Entries.{control_frames}
 use Rattle.grpc_calls.specs.Requests.{head_of}
 use Rattle.grpc_sending.specs.Bytes.{untaken_count}
 use Rattle.conn_core.specs.Floods.{is_flood}
-use Rattle.conn_core.specs.Received.{fits, outcome, outcome_of, may_put_all}
+use Rattle.conn_core.specs.Received.{fits, outcome, outcome_of}
 use Rattle.conn_core.specs.Calls.{events_of_entry, events_of_entries, events, begins_call, content_on, is_call, stream_text}
 use Rattle.http2_streams.specs.LiveStreams.{IsOnItsStream}
 use Rattle.http2_streams.proofs.EventLaw.{event_on_stream}

@@ -1,12 +1,11 @@
 -- How the count of resets goes on with the history.
-use Rattle.std.proofs.Common.{◌≡◌, ◌<◌, ℕ, ◌+◌, arith, List, [], ◌∷◌, ◌++◌, refl, ap, ◌∙◌, sym, append_assoc}
-use Rattle.std.specs.Prelude.{Bool, true, false, cond, ◌==◌, ◌&&◌, nat_le, map}
-use Rattle.std.specs.List.{list_any}
+use Rattle.std.proofs.Common.{◌≡◌, ◌<◌, ℕ, ◌+◌, arith, List, [], ◌∷◌, ◌++◌, ap, ◌∙◌, sym, append_assoc}
+use Rattle.std.specs.Prelude.{Bool, false, cond, ◌==◌, ◌&&◌, nat_le, map}
 use Rattle.std.proofs.lemmas.Bool.{ne_eqb}
 use Rattle.http2_frames.specs.declared.codes.frame_type.TheConstants.{RST_STREAM}
 use Rattle.http2_frames.specs.declared.frame.Frame.{Frame}
 use Rattle.http2_frames.specs.declared.frame.RawFrame.{RawFrame}
-use Rattle.http2_streams.specs.History.{Entry, In, Unreadable, Out, Took, has_failed, live_streams}
+use Rattle.http2_streams.specs.History.{Entry, In, Out, Took, has_failed}
 use Rattle.http2_streams.specs.Rules.{is_live_at}
 use Rattle.http2_streams.specs.Standing.{Standing}
 use Rattle.http2_streams.specs.StandsFor.{AreStreams}

@@ -1,4 +1,4 @@
-use Rattle.std.proofs.Common.{refl, ap, ◌∙◌, ◌+◌, List, []}
+use Rattle.std.proofs.Common.{refl, ap, ◌∙◌, ◌+◌}
 use Rattle.std.specs.Prelude.{cond}
 use Rattle.http2_streams.specs.History.{In, Out, Took}
 use Rattle.conn_core.specs.Floods.{resets_since_taking}

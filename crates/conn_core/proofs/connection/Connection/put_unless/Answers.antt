@@ -1,5 +1,3 @@
-use Rattle.std.proofs.Common.{refl}
-use Rattle.std.specs.Prelude.{true, false}
 use Rattle.conn_core.proofs.Frames.{unless_flood, unless_calm}
 use Rattle.conn_core.proofs.connection.Connection.put_unless.Goals as goal
 

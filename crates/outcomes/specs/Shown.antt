@@ -32,8 +32,8 @@ output_shown o = output_of o.kind (string_bytes o.path)
 abbrev pub exited_shown : Exited → ExitedValue
 exited_shown x = record {
   code = x.code;
-  stdout = x.stdout;
-  stderr = x.stderr;
+  stdout = x.streams.value.stdout;
+  stderr = x.streams.value.stderr;
   outputs = map output_shown x.outputs.items;
 }
 

@@ -17,7 +17,7 @@ ghost use Rattle.outcomes.specs.Outcomes.{output_file, output_tree};
 use crate::asked::are_asked;
 use crate::content::Content;
 use crate::naming::{digest_like, write_content, write_text};
-use crate::outcome::{Exited, NodeKind, Output, OutputKind, OutputNode};
+use crate::outcome::{Exited, NodeKind, Output, OutputKind, OutputNode, Streams};
 use crate::tree::tree_of;
 use action_reading::AskedOutput;
 use blob_pool::Draft;
@@ -376,10 +376,10 @@ pub fn complete(
     let Some(collection) = collect(alloc, action, outputs)? else {
         return Ok(None);
     };
-    let out = name_stream(alloc, action, &exited.stdout)?;
-    let err = name_stream(alloc, action, &exited.stderr)?;
+    let out = name_stream(alloc, action, &exited.streams.stdout)?;
+    let err = name_stream(alloc, action, &exited.streams.stderr)?;
     let result = write_result(alloc, &exited, &collection, &out, &err)?;
-    let Exited { stdout, stderr, .. } = exited;
+    let Streams { stdout, stderr } = Box::into_inner(exited.streams);
     let blobs = join_blobs(action, collection, stdout, stderr)?;
     Ok(Some(Completion { blobs, result }))
 }

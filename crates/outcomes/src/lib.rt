@@ -16,5 +16,5 @@ mod tree;
 pub use completion::{BlobText, Completion, OutputBlob, complete};
 pub use content::Content;
 pub use laws::{a_root_has_the_nodes_of_level_one, each_directory_is_a_child_once};
-pub use outcome::{Exited, NodeKind, Outcome, Output, OutputKind, OutputNode};
+pub use outcome::{Exited, NodeKind, Outcome, Output, OutputKind, OutputNode, Streams};
 pub use quota::is_over_quota;

@@ -1,6 +1,10 @@
 //! What the run of an action gives.
 
+ghost use Rattle.std.specs.Prelude.{◌≡◌, IfOk, map};
+ghost use Rattle.outcomes.specs.Shown.{exited_shown, output_shown};
+
 use crate::content::Content;
+use std::alloc::{AllocError, Global};
 
 /// What a node of an output directory is.
 #[derive(Drop)]
@@ -50,10 +54,41 @@ pub struct Output {
 #[derive(Drop)]
 pub struct Exited {
     pub code: i32,
-    pub stdout: Content,
-    pub stderr: Content,
+    /// Behind a pointer, so that every event is small, whatever it tells of.
+    pub streams: Box<Streams>,
     /// In the order asked for; those that are not there are left out.
     pub outputs: Vec<Output>,
+}
+
+/// What a run wrote.
+#[derive(Drop)]
+pub struct Streams {
+    pub stdout: Content,
+    pub stderr: Content,
+}
+
+impl Exited {
+    /// What a run gave that came to its end: its exit code, what it wrote, and its outputs.
+    pub fn new(
+        alloc: Global,
+        code: i32,
+        streams: Streams,
+        outputs: Vec<Output>,
+    ) -> Result<Exited, AllocError>
+        ensures { IfOk result (λ run. exited_shown run ≡ record {
+          code = code;
+          stdout = streams.stdout;
+          stderr = streams.stderr;
+          outputs = map output_shown outputs.items;
+        }) }
+    {
+        let streams = Box::new(alloc, streams)?;
+        Ok(Exited {
+            code,
+            streams,
+            outputs,
+        })
+    }
 }
 
 /// What the run of an action gave.

@@ -4,7 +4,7 @@ ghost use Rattle.std.specs.Prelude.{◌≡◌, ℕ, List, map, string_bytes, IfO
 ghost use Rattle.outcomes.specs.Shown.{exited_shown, kind_shown, node_shown, outcome_shown, output_of, output_shown};
 ghost use Rattle.run_tasks.specs.Given.{exited_given, kind_given, node_given, outcome_given, output_at, output_given};
 
-use outcomes::{Content, Exited, NodeKind, Outcome, Output, OutputKind, OutputNode};
+use outcomes::{Content, Exited, NodeKind, Outcome, Output, OutputKind, OutputNode, Streams};
 use std::alloc::{AllocError, Global};
 use std::collections::VecDeque;
 
@@ -95,12 +95,11 @@ fn exited_told(alloc: Global, exited: runner::Exited) -> Result<Exited, AllocErr
         outputs,
     } = exited;
     let outputs = outputs_told(alloc, outputs)?;
-    Ok(Exited {
-        code,
+    let streams = Streams {
         stdout: Content::new(stdout),
         stderr: Content::new(stderr),
-        outputs,
-    })
+    };
+    Exited::new(alloc, code, streams, outputs)
 }
 
 /// What the server is told of what a run gave: the same, in the same order. No text is copied.

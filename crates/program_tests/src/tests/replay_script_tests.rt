@@ -37,8 +37,8 @@ fn is_exit(event: &Event) -> bool {
         What::Outcome(job, Outcome::Exited(exited)) => {
             *job == u64::MAX
                 && exited.code == i32::MIN
-                && exited.stdout.is_empty()
-                && is_text(&exited.stderr, b"ou")
+                && exited.streams.stdout.is_empty()
+                && is_text(&exited.streams.stderr, b"ou")
                 && are_files(&exited.outputs)
         }
         _ => false,

@@ -8,7 +8,7 @@ use crate::fault::LineFault;
 use crate::replay::output::{read_content, read_outputs};
 use crate::{Parts, hex_bytes};
 use decimals::decimal;
-use outcomes::{Exited, Outcome};
+use outcomes::{Exited, Outcome, Streams};
 use server_events::{Event, What};
 use std::alloc::Global;
 
@@ -85,12 +85,13 @@ fn read_exit(alloc: Global, mut words: Parts) -> Result<What, LineFault>
     let stdout = words.next().ok_or(LineFault::Bad)?;
     let stderr = words.next().ok_or(LineFault::Bad)?;
     let job = decimal(job).ok_or(LineFault::Bad)?;
-    let exited = Exited {
-        code: exit_code(code).ok_or(LineFault::Bad)?,
+    let code = exit_code(code).ok_or(LineFault::Bad)?;
+    let streams = Streams {
         stdout: read_content(alloc, stdout)?,
         stderr: read_content(alloc, stderr)?,
-        outputs: read_outputs(alloc, words)?,
     };
+    let outputs = read_outputs(alloc, words)?;
+    let exited = Exited::new(alloc, code, streams, outputs)?;
     Ok(What::Outcome(job, Outcome::Exited(exited)))
 }
 

@@ -1,4 +1,4 @@
-use Rattle.std.proofs.Common.{◌≡◌, ◌+◌, length, map}
+use Rattle.std.proofs.Common.{◌≡◌, length, map}
 use Rattle.outcomes.specs.Asked.{are_asked}
 use Rattle.action_reading.specs.Shown.{asked_shown}
 use Rattle.outcomes.specs.Shown.{output_shown}

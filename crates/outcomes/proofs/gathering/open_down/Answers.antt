@@ -1,6 +1,6 @@
-use Rattle.std.proofs.Common.{rules, arith, ◌≡◌, ◌<◌, List, length, map, refl, ap, ◌∙◌}
+use Rattle.std.proofs.Common.{arith, ◌<◌, List, length, map, refl, ap, ◌∙◌}
 use Rattle.outcomes.specs.declared.folder.OpenFolder.{OpenFolder}
-use Rattle.outcomes.specs.Gathering.{down_to, nothing, open_shown}
+use Rattle.outcomes.specs.Gathering.{down_to, open_shown}
 use Rattle.outcomes.proofs.Opening.{opened_next}
 use Rattle.outcomes.proofs.gathering.open_down.Goals as goal
 

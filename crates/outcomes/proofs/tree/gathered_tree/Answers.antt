@@ -1,4 +1,4 @@
-use Rattle.std.proofs.Common.{rules, ◌≡◌, true, false, List, [], ◌∷◌, Some, map, ap, ◌∙◌}
+use Rattle.std.proofs.Common.{rules, ◌≡◌, true, false, List, [], Some, map, ap, ◌∙◌}
 use Rattle.std.specs.List.{list_all}
 use Rattle.message_fields.specs.Parts.{text_for}
 use Rattle.input_tree.specs.Directories.{is_directory}

@@ -1,15 +1,15 @@
 -- A line is good exactly where it has one of the forms.
-use Rattle.std.proofs.Common.{◌≡◌, ℕ, ◌^◌, ◌==◌, ◌&&◌, Bool, true, false, inl, inr, cond, List, [], ◌∷◌, length, Some, None, codes, get_or, refl, sym, ap, ◌∙◌, subst, arith}
-use Rattle.std.proofs.lemmas.Bool.{and_parts}
-use Rattle.std.proofs.lemmas.Bool.Decides.{nat_tests}
+use Rattle.std.proofs.Common.{◌≡◌, ◌≢◌, ℕ, ◌^◌, ◌==◌, ◌&&◌, Bool, true, false, not, inl, inr, cond, List, [], ◌∷◌, ◌++◌, length, Some, None, codes, refl, sym, ap, ◌∙◌, subst, arith}
+use Rattle.std.proofs.lemmas.Bool.{and_parts, false_from_ne_true}
+use Rattle.std.proofs.lemmas.Bool.Decides.{Decides-not, nat_tests, not_from_Decides}
 use Rattle.std.proofs.lemmas.List.Splits.{join_with_byte-slice_split}
 use Rattle.std.proofs.lemmas.Slice.Eq.{bytes_eq-Decides}
-use Rattle.std.proofs.lemmas.List.Folds.{Any-from_list_any, list_any_at}
+use Rattle.std.proofs.lemmas.List.Elements.{All-nil, All-cons, All-head, All-tail}
 use Rattle.std.proofs.lemmas.List.Sums.{AllPass-from_list_all, list_all-from_AllPass}
 use Rattle.std.specs.Char.{is_ascii}
-use Rattle.std.specs.List.{AllPass, list_all, list_any}
+use Rattle.std.specs.List.{All, AllPass, find, list_all}
 use Rattle.std.specs.Option.{option_map_or}
-use Rattle.std.specs.Prelude.{◌↔◌, ◌⊎◌, Contains, Option, IfSome, nat_lt, is_none, option_map, option_and_then}
+use Rattle.std.specs.Prelude.{◌↔◌, ◌⊎◌, Option, IfSome, nat_lt, is_none, option_map, option_and_then}
 use Rattle.std.specs.Str.{bytes_eq}
 use Rattle.decimals.specs.Number.{decimal_of}
 use Rattle.script.specs.Parts.{words_of}
@@ -20,8 +20,8 @@ use Rattle.server_events.specs.Events.{WhatValue, opened, received, took, closed
 use Rattle.server_events.proofs.OwnLemmas.{None-from_good, own_fault-None}
 use Rattle.script.specs.Arguments.{ascii_of, number_of}
 use Rattle.script.specs.ReplayEvents.{event_at, event_of, what_of}
-use Rattle.script.specs.ReplayLines.{AreConfigWords, IsEventLine, IsGoodReplayLine, IsReplayInstanceLine, IsSpelled, Tells}
-use Rattle.script.specs.ReplayScript.{ReplayScriptValue, after_replay_line, after_replay_words, config, config_if_good, config_of, may_build, with_config, with_event}
+use Rattle.script.specs.ReplayLines.{AreConfigWords, IsEventLine, IsGoodReplayLine, IsReplayInstanceLine, IsSpelled, MayBuildOn, Tells}
+use Rattle.script.specs.ReplayScript.{ReplayScriptValue, after_replay_line, after_replay_words, config, config_if_good, config_of, first_is_root, may_build, with_config, with_event}
 use Rattle.script.proofs.ConfigLemmas.{added, none_is}
 use Rattle.script.proofs.EventForms.{Some-from_Tells, Tells-from_Some}
 use Rattle.script.proofs.NumberForms.{IsNumber-decimal_below, decimal_below-IsNumber}
@@ -78,29 +78,84 @@ words_config words name quota slots (Some parent) h =
     ∙ ap (option_and_then (λ count. option_map (λ text. config name quota count (Some text)) (ascii_of parent))) (decimal_below-IsNumber (2 ^ 32) h.slots slots h.count_number)
     ∙ ap (λ b. option_map (λ text. config name quota slots (Some text)) (cond b (Some parent) None)) (list_all-from_AllPass is_ascii parent h.ascii)
 
--- the names on which an instance may build
-built_on : (roots : List (List ℕ)) (made : ConfigValue) → may_build roots made ≡ true → IfSome made.parent (Contains roots)
-built_on roots made h = go made.parent h
+-- what stands around the first instance of a name
+record IsFirstNamed (all : List ConfigValue) (name : List ℕ) (named : ConfigValue) : Type 0 where
+  front : List ConfigValue
+  back : List ConfigValue
+  whole : all ≡ front ++ named ∷ back
+  other_names : All (λ other. other.name ≢ name) front
+  has_name : named.name ≡ name
+
+first_named : (all : List ConfigValue) (name : List ℕ) (named : ConfigValue) → find (λ c. bytes_eq c.name name) all ≡ Some named → IsFirstNamed all name named
+first_named [] name named h = cc
+first_named (config ∷ all) name named h = go (first_named all name named) (bytes_eq config.name name) refl h
   where
-    go : (parent : Option (List ℕ)) → option_map_or (λ name. list_any (λ root. bytes_eq root name) roots) parent true ≡ true → IfSome parent (Contains roots)
+    go : (find (λ c. bytes_eq c.name name) all ≡ Some named → IsFirstNamed all name named) → (same : Bool) → bytes_eq config.name name ≡ same
+        → cond same (Some config) (find (λ c. bytes_eq c.name name) all) ≡ Some named → IsFirstNamed (config ∷ all) name named
+    go later true e h =
+        let is : config ≡ named = cc in
+        record { front = []; back = all; whole = ap (λ c. c ∷ all) is; other_names = All-nil (λ other. other.name ≢ name); has_name = subst (λ (c : ConfigValue). c.name ≡ name) is ((bytes_eq-Decides config.name name).0 e) }
+    go later false e h =
+        let found = later h in
+        record {
+          front = config ∷ found.front;
+          back = found.back;
+          whole = ap (λ cs. config ∷ cs) found.whole;
+          other_names = All-cons (λ other. other.name ≢ name) config found.front (not_from_Decides (bytes_eq config.name name) (bytes_eq-Decides config.name name) e) found.other_names;
+          has_name = found.has_name;
+        }
+
+found_first : (front back : List ConfigValue) (name : List ℕ) (named : ConfigValue) → All (λ other. other.name ≢ name) front → named.name ≡ name
+    → find (λ c. bytes_eq c.name name) (front ++ named ∷ back) ≡ Some named
+found_first [] back name named others is =
+    ap (λ b. cond b (Some named) (find (λ c. bytes_eq c.name name) back)) ((bytes_eq-Decides named.name name).1 is)
+found_first (config ∷ front) back name named others is =
+    ap (λ b. cond b (Some config) (find (λ c. bytes_eq c.name name) (front ++ named ∷ back)))
+    (false_from_ne_true (bytes_eq config.name name) (λ e. All-head (λ other. other.name ≢ name) config front others ((bytes_eq-Decides config.name name).0 e)))
+    ∙ found_first front back name named (All-tail (λ other. other.name ≢ name) config front others) is
+
+-- the instance on which another may build
+built_on : (all : List ConfigValue) (made : ConfigValue) → may_build all made ≡ true → IfSome made.parent (MayBuildOn all made)
+built_on all made h = go made.parent h
+  where
+    go : (parent : Option (List ℕ)) → option_map_or (λ name. not (bytes_eq name made.name) && first_is_root all name) parent true ≡ true → IfSome parent (MayBuildOn all made)
     go None h = tt
-    go (Some name) h =
-        let found = Any-from_list_any (λ root. bytes_eq root name) roots h in
-        let same : found.1 ≡ name = (bytes_eq-Decides found.1 name).0 found.4 in
-        subst (Contains roots) same (found.0, found.2, found.3)
+    go (Some name) h = found (find (λ c. bytes_eq c.name name) all) refl parts.1
+      where
+        parts : (not (bytes_eq name made.name) ≡ true) × (first_is_root all name ≡ true)
+        parts = and_parts (not (bytes_eq name made.name)) (first_is_root all name) h
 
-builds_on : (roots : List (List ℕ)) (made : ConfigValue) → IfSome made.parent (Contains roots) → may_build roots made ≡ true
-builds_on roots made h = go made.parent h
+        found : (o : Option ConfigValue) → find (λ c. bytes_eq c.name name) all ≡ o → option_map_or (λ c. is_none c.parent) o false ≡ true → MayBuildOn all made name
+        found None e h = cc
+        found (Some root) e h =
+            let first = first_named all name root e in
+            record {
+              front = first.front;
+              root = root;
+              back = first.back;
+              whole = first.whole;
+              other_names = first.other_names;
+              named = first.has_name;
+              alone = none_is root.parent h;
+              another = (Decides-not (bytes_eq name made.name) (bytes_eq-Decides name made.name)).0 parts.0;
+            }
+
+builds_on : (all : List ConfigValue) (made : ConfigValue) → IfSome made.parent (MayBuildOn all made) → may_build all made ≡ true
+builds_on all made h = go made.parent h
   where
-    go : (parent : Option (List ℕ)) → IfSome parent (Contains roots) → option_map_or (λ name. list_any (λ root. bytes_eq root name) roots) parent true ≡ true
+    go : (parent : Option (List ℕ)) → IfSome parent (MayBuildOn all made) → option_map_or (λ name. not (bytes_eq name made.name) && first_is_root all name) parent true ≡ true
     go None h = refl
-    go (Some name) h = list_any_at (λ root. bytes_eq root name) roots h.0 name h.1 ((bytes_eq-Decides (get_or roots h.0 name) name).1 h.2)
+    go (Some name) h =
+        ap (λ b. b && first_is_root all name) ((Decides-not (bytes_eq name made.name) (bytes_eq-Decides name made.name)).1 h.another)
+        ∙ ap (λ cs. first_is_root cs name) h.whole
+        ∙ ap (λ o. option_map_or (λ c. is_none c.parent) o false) (found_first h.front h.back name h.root h.other_names h.named)
+        ∙ ap is_none h.alone
 
-instance_form : (roots : List (List ℕ)) (before after : ReplayScriptValue) (kind : List ℕ) (arguments : List (List ℕ)) (made : ConfigValue)
-    → kind ≡ codes "instance" → before.events ≡ [] → option_and_then (config_if_good roots before.configs) (config_of arguments) ≡ Some made → with_config before made ≡ after
-    → IsReplayInstanceLine roots before (kind ∷ arguments) after
-instance_form roots before after kind arguments made k first h adds =
-    let found = added roots before.configs arguments made h in
+instance_form : (all : List ConfigValue) (before after : ReplayScriptValue) (kind : List ℕ) (arguments : List (List ℕ)) (made : ConfigValue)
+    → kind ≡ codes "instance" → before.events ≡ [] → option_and_then (config_if_good all before.configs) (config_of arguments) ≡ Some made → with_config before made ≡ after
+    → IsReplayInstanceLine all before (kind ∷ arguments) after
+instance_form all before after kind arguments made k first h adds =
+    let found = added all before.configs arguments made h in
     let may = and_parts (nat_lt (length before.configs) instance_limit) (is_none (own_fault before.configs made)) found.1 in
     let free = may.0 in
     let good = own_fault-None before.configs made (none_is _ may.1) in
@@ -113,7 +168,7 @@ instance_form roots before after kind arguments made k first h adds =
       room = grind (arith, nat_tests);
       good = good.0;
       new_name = good.1;
-      parent = built_on roots made found.2;
+      parent = built_on all made found.2;
       adds = sym adds;
     }
 
@@ -141,37 +196,37 @@ event_form before after kind (moment ∷ instance ∷ arguments) h =
       adds = sym added.2 ∙ ap (with_event before) (sym what.2);
     }
 
-words_form : (roots : List (List ℕ)) (before after : ReplayScriptValue) (words : List (List ℕ)) → after_replay_words roots before words ≡ Some after
-    → IsReplayInstanceLine roots before words after ⊎ IsEventLine before words after
-words_form roots before after [] h = cc
-words_form roots before after (kind ∷ arguments) h = go (bytes_eq kind (codes "instance")) refl h
+words_form : (all : List ConfigValue) (before after : ReplayScriptValue) (words : List (List ℕ)) → after_replay_words all before words ≡ Some after
+    → IsReplayInstanceLine all before words after ⊎ IsEventLine before words after
+words_form all before after [] h = cc
+words_form all before after (kind ∷ arguments) h = go (bytes_eq kind (codes "instance")) refl h
   where
     go : (configures : Bool) → bytes_eq kind (codes "instance") ≡ configures
-        → cond configures (cond (length before.events == 0) (option_map (with_config before) (option_and_then (config_if_good roots before.configs) (config_of arguments))) None)
+        → cond configures (cond (length before.events == 0) (option_map (with_config before) (option_and_then (config_if_good all before.configs) (config_of arguments))) None)
         (option_map (with_event before) (event_of kind arguments)) ≡ Some after
-        → IsReplayInstanceLine roots before (kind ∷ arguments) after ⊎ IsEventLine before (kind ∷ arguments) after
+        → IsReplayInstanceLine all before (kind ∷ arguments) after ⊎ IsEventLine before (kind ∷ arguments) after
     go true i h =
-        let early = if_some (length before.events == 0) (option_map (with_config before) (option_and_then (config_if_good roots before.configs) (config_of arguments))) after h in
-        let more = mapped (with_config before) (option_and_then (config_if_good roots before.configs) (config_of arguments)) after early.1 in
-        inl (instance_form roots before after kind arguments more.0 ((bytes_eq-Decides kind (codes "instance")).0 i) (nothing_left before.events early.0) more.1 more.2)
+        let early = if_some (length before.events == 0) (option_map (with_config before) (option_and_then (config_if_good all before.configs) (config_of arguments))) after h in
+        let more = mapped (with_config before) (option_and_then (config_if_good all before.configs) (config_of arguments)) after early.1 in
+        inl (instance_form all before after kind arguments more.0 ((bytes_eq-Decides kind (codes "instance")).0 i) (nothing_left before.events early.0) more.1 more.2)
     go false i h = inr (event_form before after kind arguments h)
 
 -- ---- from a form to a good line
 
-Some-from_instance : (roots : List (List ℕ)) (before after : ReplayScriptValue) (words : List (List ℕ)) → IsReplayInstanceLine roots before words after
-    → after_replay_words roots before words ≡ Some after
-Some-from_instance roots before after words h =
+Some-from_instance : (all : List ConfigValue) (before after : ReplayScriptValue) (words : List (List ℕ)) → IsReplayInstanceLine all before words after
+    → after_replay_words all before words ≡ Some after
+Some-from_instance all before after words h =
     let made = h.made in
     let own = None-from_good before.configs made h.good h.new_name in
     let free = h.room in
     let room : nat_lt (length before.configs) instance_limit ≡ true = grind (arith, nat_tests) in
-    let read : option_and_then (config_if_good roots before.configs) (config_of h.arguments) ≡ Some made =
-    ap (option_and_then (config_if_good roots before.configs)) (words_config h.arguments made.name made.quota made.slots made.parent h.config_words)
-    ∙ ap (λ b. cond ((b && is_none (own_fault before.configs made)) && may_build roots made) (Some made) None) room
-    ∙ ap (λ r. cond (is_none r && may_build roots made) (Some made) None) own
-    ∙ ap (λ b. cond b (Some made) None) (builds_on roots made h.parent) in
-    ap (after_replay_words roots before) h.form
-    ∙ ap (λ events. cond (length events == 0) (option_map (with_config before) (option_and_then (config_if_good roots before.configs) (config_of h.arguments))) None) h.first
+    let read : option_and_then (config_if_good all before.configs) (config_of h.arguments) ≡ Some made =
+    ap (option_and_then (config_if_good all before.configs)) (words_config h.arguments made.name made.quota made.slots made.parent h.config_words)
+    ∙ ap (λ b. cond ((b && is_none (own_fault before.configs made)) && may_build all made) (Some made) None) room
+    ∙ ap (λ r. cond (is_none r && may_build all made) (Some made) None) own
+    ∙ ap (λ b. cond b (Some made) None) (builds_on all made h.parent) in
+    ap (after_replay_words all before) h.form
+    ∙ ap (λ events. cond (length events == 0) (option_map (with_config before) (option_and_then (config_if_good all before.configs) (config_of h.arguments))) None) h.first
     ∙ ap (option_map (with_config before)) read ∙ ap Some (sym h.adds)
 
 -- no line of an event begins as an instance's does
@@ -184,48 +239,48 @@ other_kind kind arguments tick h = rw (h.0) refl
 other_kind kind arguments (ended job failed) h = rw (h.0) refl
 other_kind kind arguments (ended job (exited run)) h = rw (h.0) refl
 
-Some-from_event : (roots : List (List ℕ)) (before after : ReplayScriptValue) (words : List (List ℕ)) → IsEventLine before words after
-    → after_replay_words roots before words ≡ Some after
-Some-from_event roots before after words h =
+Some-from_event : (all : List ConfigValue) (before after : ReplayScriptValue) (words : List (List ℕ)) → IsEventLine before words after
+    → after_replay_words all before words ≡ Some after
+Some-from_event all before after words h =
     let read : event_of h.kind (h.moment ∷ h.instance ∷ h.arguments) ≡ Some (event_at h.at h.number h.what) =
     ap (option_and_then (λ at. option_and_then (λ number. option_map (event_at at number) (what_of h.kind h.arguments)) (number_of h.instance))) h.moment_number
     ∙ ap (option_and_then (λ number. option_map (event_at h.at number) (what_of h.kind h.arguments))) (decimal_below-IsNumber (2 ^ 32) h.instance h.number h.instance_number)
     ∙ ap (option_map (event_at h.at h.number)) (Some-from_Tells h.kind h.arguments h.what h.tells) in
-    ap (after_replay_words roots before) h.form
-    ∙ ap (λ b. cond b (cond (length before.events == 0) (option_map (with_config before) (option_and_then (config_if_good roots before.configs) (config_of (h.moment ∷ h.instance ∷ h.arguments)))) None) (option_map (with_event before) (event_of h.kind (h.moment ∷ h.instance ∷ h.arguments)))) (other_kind h.kind h.arguments h.what h.tells)
+    ap (after_replay_words all before) h.form
+    ∙ ap (λ b. cond b (cond (length before.events == 0) (option_map (with_config before) (option_and_then (config_if_good all before.configs) (config_of (h.moment ∷ h.instance ∷ h.arguments)))) None) (option_map (with_event before) (event_of h.kind (h.moment ∷ h.instance ∷ h.arguments)))) (other_kind h.kind h.arguments h.what h.tells)
     ∙ ap (option_map (with_event before)) read ∙ ap Some (sym h.adds)
 
-Some-from_words : (roots : List (List ℕ)) (before after : ReplayScriptValue) (words : List (List ℕ)) → IsReplayInstanceLine roots before words after ⊎ IsEventLine before words after
-    → after_replay_words roots before words ≡ Some after
-Some-from_words roots before after words (inl h) = Some-from_instance roots before after words h
-Some-from_words roots before after words (inr h) = Some-from_event roots before after words h
+Some-from_words : (all : List ConfigValue) (before after : ReplayScriptValue) (words : List (List ℕ)) → IsReplayInstanceLine all before words after ⊎ IsEventLine before words after
+    → after_replay_words all before words ≡ Some after
+Some-from_words all before after words (inl h) = Some-from_instance all before after words h
+Some-from_words all before after words (inr h) = Some-from_event all before after words h
 
 -- ---- whole lines
 
 -- an empty line has one empty word, which begins no line
-words_alone : (roots : List (List ℕ)) (before after : ReplayScriptValue) (line : List ℕ) → after_replay_words roots before (words_of line) ≡ Some after
-    → after_replay_line roots before line ≡ Some after
-words_alone roots before after [] h = cc
-words_alone roots before after (byte ∷ line) h = h
+words_alone : (all : List ConfigValue) (before after : ReplayScriptValue) (line : List ℕ) → after_replay_words all before (words_of line) ≡ Some after
+    → after_replay_line all before line ≡ Some after
+words_alone all before after [] h = cc
+words_alone all before after (byte ∷ line) h = h
 
 words_of-spelled : (line : List ℕ) (words : List (List ℕ)) → IsSpelled line words → (words ≡ [] → ⊥) → words_of line ≡ words
 words_of-spelled line [] h some = absurd (some refl)
 words_of-spelled line (word ∷ words) h some = ap words_of h.form ∙ parts_of-join 32 word words h.apart
 
-some_words : (roots : List (List ℕ)) (before after : ReplayScriptValue) (words : List (List ℕ)) → after_replay_words roots before words ≡ Some after → words ≡ [] → ⊥
-some_words roots before after words h e = let none : None ≡ Some after = sym (ap (after_replay_words roots before) e) ∙ h in cc
+some_words : (all : List ConfigValue) (before after : ReplayScriptValue) (words : List (List ℕ)) → after_replay_words all before words ≡ Some after → words ≡ [] → ⊥
+some_words all before after words h e = let none : None ≡ Some after = sym (ap (after_replay_words all before) e) ∙ h in cc
 
-pub good_line_has_form : (roots : List (List ℕ)) (before after : ReplayScriptValue) (line : List ℕ)
-    → (after_replay_line roots before line ≡ Some after) ↔ IsGoodReplayLine roots before line after
-good_line_has_form roots before after line = (there line, back)
+pub good_line_has_form : (all : List ConfigValue) (before after : ReplayScriptValue) (line : List ℕ)
+    → (after_replay_line all before line ≡ Some after) ↔ IsGoodReplayLine all before line after
+good_line_has_form all before after line = (there line, back)
   where
-    there : (line : List ℕ) → after_replay_line roots before line ≡ Some after → IsGoodReplayLine roots before line after
+    there : (line : List ℕ) → after_replay_line all before line ≡ Some after → IsGoodReplayLine all before line after
     there [] h = inl (refl, cc)
     there (byte ∷ line) h =
-        inr (words_of (byte ∷ line), record { form = sym (join_with_byte-slice_split 32 (byte ∷ line)); apart = Lacks-parts_of 32 (byte ∷ line) }, words_form roots before after (words_of (byte ∷ line)) h)
+        inr (words_of (byte ∷ line), record { form = sym (join_with_byte-slice_split 32 (byte ∷ line)); apart = Lacks-parts_of 32 (byte ∷ line) }, words_form all before after (words_of (byte ∷ line)) h)
 
-    back : IsGoodReplayLine roots before line after → after_replay_line roots before line ≡ Some after
-    back (inl empty) = ap (after_replay_line roots before) empty.0 ∙ ap Some (sym empty.1)
+    back : IsGoodReplayLine all before line after → after_replay_line all before line ≡ Some after
+    back (inl empty) = ap (after_replay_line all before) empty.0 ∙ ap Some (sym empty.1)
     back (inr form) =
-        let read = Some-from_words roots before after form.0 form.2 in
-        words_alone roots before after line (ap (after_replay_words roots before) (words_of-spelled line form.0 form.1 (some_words roots before after form.0 read)) ∙ read)
+        let read = Some-from_words all before after form.0 form.2 in
+        words_alone all before after line (ap (after_replay_words all before) (words_of-spelled line form.0 form.1 (some_words all before after form.0 read)) ∙ read)

@@ -1,6 +1,6 @@
 -- What has to be known of the lines of a script so far to tell whether the next is good, namely its
--- instances, and whether there was an event, and the names on which instances may build. For the
--- code alone: no public contract speaks of it.
+-- instances, and whether there was an event, and the instances of all lines. For the code alone: no
+-- public contract speaks of it.
 use Rattle.std.specs.Prelude.{ℕ, Bool, true, not, ◌==◌, if◌then◌else◌, List, [], ◌∷◌, ◌++◌, length, codes, Option, Some, None, option_map, option_and_then}
 use Rattle.std.specs.Str.{bytes_eq}
 use Rattle.server_events.specs.Configs.{ConfigValue}
@@ -10,13 +10,13 @@ use Rattle.script.specs.ReplayEvents.{event_of}
 use Rattle.script.specs.ReplayScript.{ReplayScriptValue, config_if_good, config_of}
 
 pub record ReplayHeadValue : Type 0 where
-  pub roots : List (List ℕ)
+  pub all : List ConfigValue
   pub configs : List ConfigValue
   pub has_events : Bool
 
-abbrev pub head_of : List (List ℕ) → ReplayScriptValue → ReplayHeadValue
-head_of roots script = record {
-  roots = roots;
+abbrev pub head_of : List ConfigValue → ReplayScriptValue → ReplayHeadValue
+head_of all script = record {
+  all = all;
   configs = script.configs;
   has_events = not (length script.events == 0);
 }
@@ -33,7 +33,7 @@ after_head_words head (kind ∷ arguments) =
     if bytes_eq kind (codes "instance")
     then (if head.has_events
     then None else option_map (head_with_config head)
-    (option_and_then (config_if_good head.roots head.configs) (config_of arguments)))
+    (option_and_then (config_if_good head.all head.configs) (config_of arguments)))
     else option_map (head_with_event head) (event_of kind arguments)
 
 abbrev pub after_head_line : ReplayHeadValue → List ℕ → Option ReplayHeadValue

@@ -1,5 +1,5 @@
 -- Which lines are good, and which is the first bad one, in words of their own.
-use Rattle.std.specs.Prelude.{◌≡◌, ◌≢◌, ℕ, ℤ, pos, neg_ℤ, ◌+◌, ◌<◌, ◌≤◌, ◌⊎◌, List, [], ◌∷◌, ◌++◌, length, codes, Contains, Some, IfSome}
+use Rattle.std.specs.Prelude.{◌≡◌, ◌≢◌, ℕ, ℤ, pos, neg_ℤ, ◌+◌, ◌<◌, ◌≤◌, ◌⊎◌, List, [], ◌∷◌, ◌++◌, length, codes, Some, None, IfSome}
 use Rattle.std.specs.Char.{is_ascii}
 use Rattle.std.specs.List.{All, AllPass}
 use Rattle.std.specs.Option.{option_to_list}
@@ -101,9 +101,21 @@ pub record AreConfigWords (arguments : List (List ℕ)) (made : ConfigValue) : T
   pub count_number : IsNumber number_limit slots made.slots
   pub ascii : IfSome made.parent (AllPass is_ascii)
 
+-- an instance may build on the one of this name: that is another one, and the first of all these
+-- that has the name builds on none
+pub record MayBuildOn (all : List ConfigValue) (made : ConfigValue) (name : List ℕ) : Type 0 where
+  pub front : List ConfigValue
+  pub root : ConfigValue
+  pub back : List ConfigValue
+  pub whole : all ≡ front ++ root ∷ back
+  pub other_names : All (λ other. other.name ≢ name) front
+  pub named : root.name ≡ name
+  pub alone : root.parent ≡ None
+  pub another : name ≢ made.name
+
 -- `instance NAME QUOTA SLOTS [PARENT]`, before any event: one more instance, which may follow those
--- before it, and builds on none or on one of these names
-pub record IsReplayInstanceLine (roots : List (List ℕ)) (before : ReplayScriptValue)
+-- before it, and builds on none or may build on its parent among all of these
+pub record IsReplayInstanceLine (all : List ConfigValue) (before : ReplayScriptValue)
     (words : List (List ℕ)) (after : ReplayScriptValue) : Type 0 where
   pub arguments : List (List ℕ)
   pub made : ConfigValue
@@ -113,7 +125,7 @@ pub record IsReplayInstanceLine (roots : List (List ℕ)) (before : ReplayScript
   pub room : length before.configs < instance_limit
   pub good : IsConfig made
   pub new_name : All (λ other. made.name ≢ other.name) before.configs
-  pub parent : IfSome made.parent (Contains roots)
+  pub parent : IfSome made.parent (MayBuildOn all made)
   pub adds : after ≡ with_config before made
 
 -- a kind, a moment, an instance, and what happens
@@ -133,8 +145,8 @@ pub record IsEventLine (before : ReplayScriptValue) (words : List (List ℕ))
   pub adds : after ≡ with_event before (event_at at number what)
 
 -- a line that leads from one script to the next: an empty one, which adds nothing, or one of these
-abbrev pub IsGoodReplayLine : List (List ℕ) → ReplayScriptValue → List ℕ → ReplayScriptValue → Type 0
-IsGoodReplayLine roots before line after =
+abbrev pub IsGoodReplayLine : List ConfigValue → ReplayScriptValue → List ℕ → ReplayScriptValue → Type 0
+IsGoodReplayLine all before line after =
     ((line ≡ []) × (after ≡ before))
     ⊎ ((words : List (List ℕ)) × IsSpelled line words
-    × (IsReplayInstanceLine roots before words after ⊎ IsEventLine before words after))
+    × (IsReplayInstanceLine all before words after ⊎ IsEventLine before words after))

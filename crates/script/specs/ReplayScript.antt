@@ -1,6 +1,6 @@
 -- A script: the instances that it configures, and then what happens to them.
-use Rattle.std.specs.Prelude.{ℕ, Bool, true, ◌&&◌, nat_lt, ◌==◌, if◌then◌else◌, List, [], ◌∷◌, ◌++◌, length, codes, Option, Some, None, is_none, option_and_then, option_map, Result}
-use Rattle.std.specs.List.{list_any}
+use Rattle.std.specs.Prelude.{ℕ, Bool, true, false, not, ◌&&◌, nat_lt, ◌==◌, if◌then◌else◌, List, [], ◌∷◌, ◌++◌, length, codes, Option, Some, None, is_none, option_and_then, option_map, Result}
+use Rattle.std.specs.List.{find}
 use Rattle.std.specs.Option.{option_map_or, option_to_list}
 use Rattle.std.specs.Str.{bytes_eq}
 use Rattle.script.specs.FirstBadLine.{after_lines}
@@ -37,33 +37,36 @@ abbrev pub may_follow : List ConfigValue → ConfigValue → Bool
 may_follow before config =
     nat_lt (length before) instance_limit && is_none (own_fault before config)
 
--- an instance builds on none, or on one of these names
-abbrev pub may_build : List (List ℕ) → ConfigValue → Bool
-may_build roots config =
-    option_map_or (λ name. list_any (λ root. bytes_eq root name) roots) config.parent true
+-- the first of these instances of that name builds on none
+abbrev pub first_is_root : List ConfigValue → List ℕ → Bool
+first_is_root all name =
+    option_map_or (λ config. is_none config.parent)
+    (find (λ config. bytes_eq config.name name) all) false
 
-abbrev pub config_if_good : List (List ℕ) → List ConfigValue → ConfigValue → Option ConfigValue
-config_if_good roots before config =
-    if may_follow before config && may_build roots config then Some config else None
+-- an instance builds on none, or on another one: the first of these of that name, which builds on
+-- none itself
+abbrev pub may_build : List ConfigValue → ConfigValue → Bool
+may_build all config =
+    option_map_or (λ name. not (bytes_eq name config.name) && first_is_root all name)
+    config.parent true
+
+abbrev pub config_if_good : List ConfigValue → List ConfigValue → ConfigValue → Option ConfigValue
+config_if_good all before config =
+    if may_follow before config && may_build all config then Some config else None
 
 -- ---- the instances on which others may build
 
--- the name of an instance that builds on none
-abbrev pub root_name : ConfigValue → Option (List ℕ)
-root_name config = if is_none config.parent then Some config.name else None
-
--- and of the one that a line of these words configures
-abbrev pub root_of_words : List (List ℕ) → Option (List ℕ)
-root_of_words [] = None
-root_of_words (kind ∷ arguments) =
-    if bytes_eq kind (codes "instance")
-    then option_and_then root_name (config_of arguments) else None
+-- the instance that a line of these words configures
+abbrev pub config_of_words : List (List ℕ) → Option ConfigValue
+config_of_words [] = None
+config_of_words (kind ∷ arguments) =
+    if bytes_eq kind (codes "instance") then config_of arguments else None
 
 -- those of all lines, wherever they stand
-abbrev pub roots_of_lines : List (List ℕ) → List (List ℕ)
-roots_of_lines [] = []
-roots_of_lines (line ∷ lines) =
-    option_to_list (root_of_words (words_of line)) ++ roots_of_lines lines
+abbrev pub configs_of_lines : List (List ℕ) → List ConfigValue
+configs_of_lines [] = []
+configs_of_lines (line ∷ lines) =
+    option_to_list (config_of_words (words_of line)) ++ configs_of_lines lines
 
 -- ---- one line after others
 
@@ -74,22 +77,21 @@ abbrev pub with_event : ReplayScriptValue → EventValue → ReplayScriptValue
 with_event script event = record script { events = script.events ++ event ∷ [] }
 
 -- the script with one more line of these words; none where they have no form, or where they
--- configure an instance after an event, one that may not follow those before it, or one that builds
--- on none of these names
-abbrev pub after_replay_words : List (List ℕ) → ReplayScriptValue → List (List ℕ) → Option ReplayScriptValue
-after_replay_words roots script [] = None
-after_replay_words roots script (kind ∷ arguments) =
+-- configure an instance after an event, one that may not follow those before it, or one that may
+-- not build on its parent among all of these
+abbrev pub after_replay_words : List ConfigValue → ReplayScriptValue → List (List ℕ) → Option ReplayScriptValue
+after_replay_words all script [] = None
+after_replay_words all script (kind ∷ arguments) =
     if bytes_eq kind (codes "instance")
     then (if length script.events == 0
     then option_map (with_config script)
-    (option_and_then (config_if_good roots script.configs) (config_of arguments)) else None)
+    (option_and_then (config_if_good all script.configs) (config_of arguments)) else None)
     else option_map (with_event script) (event_of kind arguments)
 
 -- the script with one more line; an empty line adds nothing
-abbrev pub after_replay_line : List (List ℕ) → ReplayScriptValue → List ℕ → Option ReplayScriptValue
-after_replay_line roots script [] = Some script
-after_replay_line roots script (byte ∷ line) =
-    after_replay_words roots script (words_of (byte ∷ line))
+abbrev pub after_replay_line : List ConfigValue → ReplayScriptValue → List ℕ → Option ReplayScriptValue
+after_replay_line all script [] = Some script
+after_replay_line all script (byte ∷ line) = after_replay_words all script (words_of (byte ∷ line))
 
 -- ---- whole texts
 
@@ -99,7 +101,7 @@ empty_replay_script = record { configs = []; events = [] }
 -- the script that these lines write, where an instance may build on one of any line
 abbrev pub replay_script_of_lines : List (List ℕ) → Result ReplayScriptValue ℕ
 replay_script_of_lines lines =
-    after_lines (after_replay_line (roots_of_lines lines)) 1 empty_replay_script lines
+    after_lines (after_replay_line (configs_of_lines lines)) 1 empty_replay_script lines
 
 -- the script that a text writes, or the number of its first bad line, counted from 1
 abbrev pub replay_script_of : List ℕ → Result ReplayScriptValue ℕ

@@ -14,13 +14,13 @@ replay_script_value script = record {
   events = script.events;
 }
 
-abbrev pub head_value : ReplayHead → ReplayHeadValue
-head_value head = record {
-  roots = map (λ root. root.now) head.roots.items;
-  configs = map config_value head.configs.items;
-  has_events = head.has_events;
-}
-
 abbrev pub form_value : InstanceForm → ConfigValue
 form_value form = config form.name.now form.quota form.slots
     (option_map (λ parent. parent.now) form.parent)
+
+abbrev pub head_value : ReplayHead → ReplayHeadValue
+head_value head = record {
+  all = map form_value head.forms.items;
+  configs = map config_value head.configs.items;
+  has_events = head.has_events;
+}

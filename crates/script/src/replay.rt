@@ -3,8 +3,8 @@
 //! A script is a text of lines, M a moment in milliseconds, I an instance's number, C a
 //! connection's:
 //!
-//! - `instance NAME QUOTA SLOTS [PARENT]` configures an instance, which may build on the instance
-//!   PARENT of another line, also a later one; these lines come first;
+//! - `instance NAME QUOTA SLOTS [PARENT]` configures an instance, which may build on another one:
+//!   the first of any line that is named PARENT, which builds on none; these lines come first;
 //! - `open M I C`, `closed M I C`: a connection is opened or closed;
 //! - `bytes M I C HEX`: bytes come on a connection;
 //! - `took M I C N`: so many of a connection's bytes are taken;

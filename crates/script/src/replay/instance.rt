@@ -2,7 +2,7 @@
 ghost use Rattle.std.specs.Prelude.{◌≡◌, ◌++◌, map, IfOk, OnOk, option_map};
 ghost use Rattle.std.specs.Option.{option_to_list};
 ghost use Rattle.script.specs.Parts.{lines_of, words_of};
-ghost use Rattle.script.specs.ReplayScript.{config_of, root_of_words, roots_of_lines};
+ghost use Rattle.script.specs.ReplayScript.{config_of, config_of_words, configs_of_lines, first_is_root};
 ghost use Rattle.script.specs.ReplayShown.{form_value};
 
 use crate::arguments::{ascii_text, number, three_or_four};
@@ -45,41 +45,47 @@ pub(crate) fn instance_form(words: Parts<'_>) -> Option<InstanceForm<'_>>
     }
 }
 
-/// The names of the instances that the lines of a text configure and that build on none.
-pub(crate) fn roots_of_text(alloc: Global, text: &[u8]) -> Result<Vec<&[u8]>, AllocError>
-    ensures { IfOk result (λ roots. map (λ root. root.now) roots.items
-        ≡ roots_of_lines (lines_of text.now)) }
+/// The instances that the lines of a text configure, wherever they stand, whether or not a server
+/// may have them.
+pub(crate) fn forms_of_text(alloc: Global, text: &[u8]) -> Result<Vec<InstanceForm<'_>>, AllocError>
+    ensures { IfOk result (λ forms. map form_value forms.items
+        ≡ configs_of_lines (lines_of text.now)) }
 {
-    let mut roots = Vec::new(alloc);
+    let mut forms = Vec::new(alloc);
     for line in lines(text) {
-        add_root(&mut roots, line)?;
+        add_form(&mut forms, line)?;
     }
-    Ok(roots)
+    Ok(forms)
 }
 
-// Adds the name of the instance that a line configures, where that builds on none.
-fn add_root<'a>(roots: &mut Vec<&'a [u8]>, line: &'a [u8]) -> Result<(), AllocError>
-    ensures { OnOk result (map (λ root. root.now) roots.new.items
-        ≡ map (λ root. root.now) roots.old.items
-        ++ option_to_list (root_of_words (words_of line.now))) }
+// Adds the instance that a line configures, where it does.
+fn add_form<'a>(forms: &mut Vec<InstanceForm<'a>>, line: &'a [u8]) -> Result<(), AllocError>
+    ensures { OnOk result (map form_value forms.new.items ≡ map form_value forms.old.items
+        ++ option_to_list (config_of_words (words_of line.now))) }
 {
-    match root_of_line(line) {
-        Some(root) => Ok(roots.push(root)?),
+    match form_of_line(line) {
+        Some(form) => Ok(forms.push(form)?),
         None => Ok(()),
     }
 }
 
-// The name of the instance that a line configures, where that builds on none.
-fn root_of_line(line: &[u8]) -> Option<&[u8]>
-    ensures { option_map (λ root. root.now) result ≡ root_of_words (words_of line.now) }
+// The instance that a line configures, where it does.
+fn form_of_line(line: &[u8]) -> Option<InstanceForm<'_>>
+    ensures { option_map form_value result ≡ config_of_words (words_of line.now) }
 {
     let mut words = words(line);
     if words.next()? != b"instance".as_slice() {
         return None;
     }
-    let form = instance_form(words)?;
-    match form.parent {
-        None => Some(form.name),
-        Some(_) => None,
+    instance_form(words)
+}
+
+/// Whether the first of these instances of that name builds on none.
+pub(crate) fn first_is_root(forms: &[InstanceForm<'_>], name: &[u8]) -> bool
+    ensures { result ≡ first_is_root (map form_value forms.now) name.now }
+{
+    match forms.iter().find(|form| form.name == name) {
+        Some(form) => form.parent.is_none(),
+        None => false,
     }
 }

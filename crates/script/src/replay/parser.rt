@@ -1,7 +1,5 @@
 //! A text as a script.
 ghost use Rattle.std.specs.Prelude.{◌≡◌, ◌≤◌, ◌+◌, length, map, Some, None, Ok, Err, IfOk, IfErr, OnOk, option_map, option_and_then, string_bytes};
-ghost use Rattle.std.specs.List.{list_any};
-ghost use Rattle.std.specs.Str.{bytes_eq};
 ghost use Rattle.server_events.specs.Configs.{config_fault};
 ghost use Rattle.server_events.specs.Shown.{config_value};
 ghost use Rattle.script.specs.ReplayHead.{after_head_line};
@@ -12,7 +10,7 @@ ghost use Rattle.script.specs.ReplayShown.{form_value, head_value, replay_script
 use crate::fault::{LineFault, ScriptFault};
 use crate::reader::{FromLines, read_lines};
 use crate::replay::event::read_event;
-use crate::replay::instance::{InstanceForm, instance_form, roots_of_text};
+use crate::replay::instance::{InstanceForm, first_is_root, forms_of_text, instance_form};
 use crate::replay::reader::EventReader;
 use crate::{Parts, words};
 use server_events::{INSTANCE_LIMIT, InstanceConfig, own_fault};
@@ -29,8 +27,8 @@ pub struct ReplayScript<'a> {
 
 /// The script that a text writes, or the number of its first bad line: one that has no form,
 /// configures an instance after an event, or configures an instance that may not follow those
-/// before it or may not build on its parent. A parent may be the instance of any line that
-/// configures one which builds on none, of a later one too.
+/// before it or may not build on its parent. A parent is another instance, of any line, of a later
+/// one too: the first of its name, which builds on none.
 pub fn parse(alloc: Global, text: &[u8]) -> Result<ReplayScript<'_>, ScriptFault>
     ensures script { IfOk result (λ script.
         replay_script_of text.now ≡ Ok (replay_script_value script)) }
@@ -43,7 +41,7 @@ pub fn parse(alloc: Global, text: &[u8]) -> Result<ReplayScript<'_>, ScriptFault
     ensures few { IfOk result (λ script. length script.events ≤ length text.now + 1) }
 {
     let mut head = ReplayHead {
-        roots: roots_of_text(alloc, text)?,
+        forms: forms_of_text(alloc, text)?,
         configs: Vec::new(alloc),
         has_events: false,
     };
@@ -54,11 +52,11 @@ pub fn parse(alloc: Global, text: &[u8]) -> Result<ReplayScript<'_>, ScriptFault
     })
 }
 
-// The names on which instances may build, the instances of the lines so far, and whether there was
-// an event among them.
+// The instances of all lines, those of the lines so far, and whether there was an event among the
+// latter.
 #[derive(Drop)]
 pub(crate) struct ReplayHead<'a> {
-    pub(crate) roots: Vec<&'a [u8]>,
+    pub(crate) forms: Vec<InstanceForm<'a>>,
     pub(crate) configs: Vec<InstanceConfig>,
     pub(crate) has_events: bool,
 }
@@ -110,27 +108,27 @@ fn read_config(
     words: Parts<'_>,
 ) -> Result<InstanceConfig, LineFault>
     ensures read { IfOk result (λ config. option_and_then
-        (config_if_good (head_value head.now).roots (head_value head.now).configs)
+        (config_if_good (head_value head.now).all (head_value head.now).configs)
         (config_of words.entry) ≡ Some (config_value config)) }
     ensures bad { result ≡ Err LineFault.Bad → option_and_then
-        (config_if_good (head_value head.now).roots (head_value head.now).configs)
+        (config_if_good (head_value head.now).all (head_value head.now).configs)
         (config_of words.entry) ≡ None }
 {
     match instance_form(words) {
         None => Err(LineFault::Bad),
-        Some(form) => config_if_good(alloc, &head.roots, &head.configs, form),
+        Some(form) => config_if_good(alloc, &head.forms, &head.configs, form),
     }
 }
 
 fn config_if_good(
     alloc: Global,
-    roots: &[&[u8]],
+    forms: &[InstanceForm<'_>],
     before: &[InstanceConfig],
     form: InstanceForm<'_>,
 ) -> Result<InstanceConfig, LineFault>
-    ensures made { IfOk result (λ made. config_if_good (map (λ root. root.now) roots.now)
+    ensures made { IfOk result (λ made. config_if_good (map form_value forms.now)
         (map config_value before.now) (form_value form.entry) ≡ Some (config_value made)) }
-    ensures bad { result ≡ Err LineFault.Bad → config_if_good (map (λ root. root.now) roots.now)
+    ensures bad { result ≡ Err LineFault.Bad → config_if_good (map form_value forms.now)
         (map config_value before.now) (form_value form.entry) ≡ None }
 {
     let Ok(name) = str::from_utf8(form.name) else {
@@ -142,7 +140,7 @@ fn config_if_good(
         slots: form.slots,
         parent: owned(alloc, form.parent)?,
     };
-    if may_follow(before, &config) && may_build(roots, &config) {
+    if may_follow(before, &config) && may_build(forms, &config) {
         Ok(config)
     } else {
         Err(LineFault::Bad)
@@ -165,18 +163,11 @@ fn may_follow(before: &[InstanceConfig], config: &InstanceConfig) -> bool
     before.len() < INSTANCE_LIMIT && own_fault(before, config).is_none()
 }
 
-fn may_build(roots: &[&[u8]], config: &InstanceConfig) -> bool
-    ensures { result ≡ may_build (map (λ root. root.now) roots.now) (config_value config.now) }
+fn may_build(forms: &[InstanceForm<'_>], config: &InstanceConfig) -> bool
+    ensures { result ≡ may_build (map form_value forms.now) (config_value config.now) }
 {
     match &config.parent {
         None => true,
-        Some(parent) => is_among(roots, parent.as_bytes()),
+        Some(parent) => *parent != config.name && first_is_root(forms, parent.as_bytes()),
     }
-}
-
-fn is_among(roots: &[&[u8]], name: &[u8]) -> bool
-    ensures { result ≡ list_any (λ root. bytes_eq root name.now)
-        (map (λ root. root.now) roots.now) }
-{
-    roots.iter().any(|root| *root == name)
 }

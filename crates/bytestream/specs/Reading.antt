@@ -1,5 +1,5 @@
--- Read (bytestream.proto): a range of a blob, as a function of the instance's own texts and the
--- message.
+-- Read (bytestream.proto): a range of a blob, as a function of the texts that the instance sees
+-- and of the message.
 use Rattle.std.specs.Prelude.{ℕ, ℤ, pos, negsuc, ◌+◌, min, nat_le, ◌==◌, if◌then◌else◌, List, length, Option, Some, None, Result, Ok, Err}
 use Rattle.reapi_messages.specs.Results.{◌>>=◌}
 use Rattle.reapi_messages.specs.Fields.{value_of_text}

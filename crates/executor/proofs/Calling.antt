@@ -1,23 +1,23 @@
 -- What calls of Execute and WaitExecution do, from what the functions do that they call.
-use Rattle.std.proofs.Common.{◌≡◌, ℕ, ◌+◌, ◌<◌, ◌≤◌, Bool, true, false, List, [], ◌∷◌, ◌++◌, length, map, Option, Some, None, refl, sym, ap, subst, ◌∙◌, arith}
-use Rattle.std.specs.Prelude.{nat_eq, nat_le, nat_lt, option_map, is_some, Ok}
+use Rattle.std.proofs.Common.{◌≡◌, ℕ, ◌+◌, ◌<◌, ◌≤◌, Bool, true, false, List, [], ◌∷◌, ◌++◌, length, map, Option, Some, None, refl, sym, ap, ◌∙◌, arith}
+use Rattle.std.specs.Prelude.{nat_eq, nat_le, nat_lt, option_map, Ok}
 use Rattle.std.specs.Map.{lookup}
 use Rattle.std.proofs.lemmas.Bool.Decides.{nat_tests}
-use Rattle.std.proofs.lemmas.List.{length-map, map-append}
+use Rattle.std.proofs.lemmas.List.{map-append}
 use Rattle.digest.specs.declared.Digest.{Digest}
 use Rattle.digest.specs.Naming.{same_digest}
 use Rattle.blob_pool.specs.Slots.{Slots, text_at, count_at}
 use Rattle.blob_pool.specs.Moves.{Holders, Moves, no_holders}
 use Rattle.blob_pool.proofs.Moves.{moves_more}
 use Rattle.instance_view.specs.Visible.{Blob, visible_text, with_match_first}
-use Rattle.instance_view.specs.Shown.{ViewEntry, ViewValue, blobs_in, entry_holders, visible_in, holders}
+use Rattle.instance_view.specs.Shown.{ViewEntry, ViewValue, blobs_in, visible_in, holders}
 use Rattle.instance_view.specs.Sight.{SightValue, seen_in, sight_holders, sight_of}
 use Rattle.instance_view.proofs.Held.{shown_same, shown_apart}
 use Rattle.input_tree.specs.Texts.{texts_of}
 use Rattle.input_tree.specs.Uses.{visible_after_uses}
 use Rattle.action_cache.specs.Answering.{blobs_for, blobs_used, results_after}
-use Rattle.job_queue.specs.Jobs.{Jobs, StageValue, waits, runs, has_ended, same_number, jobs_after_done, jobs_after_push, stage_of, stage_among, or_else}
-use Rattle.job_queue.specs.Sums.{waiting_sum, running_sum, jobs_sum}
+use Rattle.job_queue.specs.Jobs.{Jobs, waits, runs, has_ended, same_number, jobs_after_done, jobs_after_push, stage_of, or_else}
+use Rattle.job_queue.specs.Sums.{waiting_sum, running_sum}
 use Rattle.job_queue.specs.declared.queue.Running.{Running}
 use Rattle.job_queue.specs.declared.queue.TheConstants.{LAST_NUMBER, MOST_WAITING}
 use Rattle.job_queue.proofs.Sums.{sum-push}
@@ -26,7 +26,7 @@ use Rattle.executor.specs.declared.job.Job.{Job}
 use Rattle.executor.specs.Job.{JobValue, kept_along}
 use Rattle.executor.specs.Keeping.{kept_entries}
 use Rattle.executor.specs.Preparing.{PreparedValue, job_of, met}
-use Rattle.executor.specs.Execute.{ExecutionState, ExecuteChange, ExecuteDone, Uses, Keeps, Does, Pushes, queued, by_job, by_looking, execute, looked_up, look_in}
+use Rattle.executor.specs.Execute.{ExecutionState, ExecuteChange, Uses, Keeps, Does, Pushes, queued, by_job, by_looking, execute, looked_up, look_in}
 use Rattle.executor.specs.Changes.{after_changes}
 use Rattle.executor.specs.InPool.{job_in, job_holders, jobs_in, jobs_holders, waiting_in, running_in, execution_in, stage_in}
 

@@ -1,24 +1,24 @@
 -- Texts that are held once more.
-use Rattle.std.proofs.Common.{◌≡◌, ℕ, zero, suc, ◌+◌, ◌<◌, ◌≤◌, ◌^◌, Bool, true, false, cond, List, [], ◌∷◌, ◌++◌, length, Option, Some, None, refl, sym, ap, subst, ◌∙◌, append_assoc, arith}
+use Rattle.std.proofs.Common.{◌≡◌, ℕ, zero, suc, false, List, [], ◌∷◌, ◌++◌, Option, Some, None, refl, sym, ap, ◌∙◌, arith}
 use Rattle.std.specs.Prelude.{option_map}
 use Rattle.std.specs.Map.{lookup}
-use Rattle.std.proofs.lemmas.List.{append-nil, map-append}
+use Rattle.std.proofs.lemmas.List.{map-append}
 use Rattle.digest.specs.declared.Digest.{Digest}
 use Rattle.digest.specs.Naming.{same_digest, is_empty_digest}
-use Rattle.blob_pool.specs.Slots.{Slots, HeldText, text_at, count_at}
-use Rattle.blob_pool.specs.Moves.{Moves, one_at, no_holders, HasRoom}
-use Rattle.blob_pool.proofs.Moves.{moves_more, moves_trans}
-use Rattle.instance_view.specs.Visible.{Blob, visible_text}
+use Rattle.blob_pool.specs.Slots.{Slots, text_at}
+use Rattle.blob_pool.specs.Moves.{Moves, one_at, no_holders}
+use Rattle.blob_pool.proofs.Moves.{moves_more}
+use Rattle.instance_view.specs.Visible.{visible_text}
 use Rattle.instance_view.specs.declared.view.Seen.{Seen}
 use Rattle.instance_view.specs.declared.view.Seen.TheVariants.{Empty, Text}
 use Rattle.executor.specs.declared.keeping.KeptText.{KeptText}
 use Rattle.executor.specs.Keeping.{kept_entry, kept_entries, seen_blobs}
-use Rattle.instance_view.specs.Shown.{text_seen, ViewEntry, ViewValue, blob_in, blobs_in, entry_holders, visible_in, holders}
+use Rattle.instance_view.specs.Shown.{text_seen, ViewEntry, ViewValue, entry_holders, visible_in}
 use Rattle.instance_view.proofs.Entries.{holders-push, lookup-shown}
 use Rattle.instance_view.specs.Sight.{SightValue, seen_in}
 use Rattle.instance_view.proofs.Either.{both, both_shown}
 use Rattle.input_tree.specs.Texts.{texts_of}
-use Rattle.executor.specs.Job.{found_text, kept_text, kept_along}
+use Rattle.executor.specs.Job.{found_text, kept_text}
 
 -- a pool whose slot has a byte
 slot_with : ℕ → Slots

@@ -4,5 +4,6 @@ pub mod Calling
 pub mod Starts
 pub mod Timings
 pub mod Turns
+pub mod StartedJobs
 pub mod Taken
 pub mod Numbers

@@ -1,5 +1,5 @@
 -- The numbers that calls of Execute use up, and the texts that a job keeps.
-use Rattle.std.proofs.Common.{◌≡◌, ℕ, ◌+◌, Bool, true, false, List, [], ◌∷◌, ◌++◌, length, map, Option, Some, None, refl, sym, ap, ◌∙◌}
+use Rattle.std.proofs.Common.{◌≡◌, ℕ, ◌+◌, Bool, true, false, List, [], ◌∷◌, ◌++◌, length, map, Option, Some, None, refl, sym, ap}
 use Rattle.std.specs.Prelude.{Result, Ok, Err, nat_eq, nat_le, nat_lt}
 use Rattle.digest.specs.declared.Digest.{Digest}
 use Rattle.digest.specs.Naming.{same_digest, is_empty_digest}
@@ -11,10 +11,9 @@ use Rattle.operations.specs.Once.{IsEachOnce}
 use Rattle.operations.specs.Operations.{completed_text, finds}
 use Rattle.operations.proofs.EachOnce.{among, both-false, each-once, or-false}
 use Rattle.rpc.specs.declared.refusal.Refusal.{Refusal}
-use Rattle.rpc.specs.declared.refusal.Refusal.TheVariants.{ExecutionIsOff, QueueFull}
 use Rattle.executor.specs.Changes.{after_changes}
-use Rattle.executor.specs.Execute.{ExecuteAnswer, ExecuteChange, ExecuteDone, ExecutionState, Does, Pushes, by_job, by_looking, by_preparing, by_result, execute, look_in, looked_up}
-use Rattle.executor.specs.Job.{kept_along, kept_text, kept_texts, found_text}
+use Rattle.executor.specs.Execute.{ExecuteAnswer, ExecuteDone, ExecutionState, Does, Pushes, by_job, by_looking, by_preparing, execute, look_in, looked_up}
+use Rattle.executor.specs.Job.{kept_along, kept_text, kept_texts}
 use Rattle.executor.specs.Preparing.{FaultValue, PreparedValue, job_of, met, prepared}
 use Rattle.executor.proofs.Calling.{uses_first}
 

@@ -1,12 +1,11 @@
 -- Jobs that start one after another.
-use Rattle.std.proofs.Common.{◌≡◌, ℕ, zero, suc, ◌+◌, ◌-◌, ◌<◌, ◌≤◌, ◌⊎◌, inl, inr, List, [], ◌∷◌, ◌++◌, length, refl, length-append, arith}
-use Rattle.job_queue.specs.Jobs.{Jobs, jobs_after_start}
+use Rattle.std.proofs.Common.{◌≡◌, ℕ, zero, suc, ◌+◌, ◌-◌, ◌≤◌, ◌⊎◌, inl, inr, List, [], ◌∷◌, ◌++◌, length, refl, length-append, arith}
+use Rattle.job_queue.specs.Jobs.{Jobs}
 use Rattle.job_queue.specs.Order.{AreJobs}
-use Rattle.job_queue.specs.declared.queue.Running.{Running}
 use Rattle.job_queue.specs.declared.queue.TheConstants.{MOST_RUNNING}
 use Rattle.job_queue.proofs.Keeping.{after-start}
 use Rattle.executor.specs.Job.{JobValue}
-use Rattle.executor.specs.Steps.{StepValue, jobs_after_steps, starts_of, starts_at}
+use Rattle.executor.specs.Steps.{jobs_after_steps, starts_of, starts_at}
 use Rattle.executor.specs.Taking.{CanTake}
 
 abbrev waiting_with : Jobs JobValue → List (ℕ × JobValue) → Jobs JobValue

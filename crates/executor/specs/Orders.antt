@@ -1,6 +1,6 @@
 -- What is ordered of whoever runs jobs, and what those are told who watch them: both follow from
 -- the steps of an event.
-use Rattle.std.specs.Prelude.{ℕ, Bool, true, false, List, map, Option, Some, None, option_map}
+use Rattle.std.specs.Prelude.{ℕ, Bool, true, false, List, Option, Some, None, option_map}
 use Rattle.std.specs.List.{filter_map}
 use Rattle.job_queue.specs.Jobs.{Jobs, running_job}
 use Rattle.executor.specs.Job.{JobValue, TaskValue}

@@ -2,11 +2,9 @@
 
 ghost use Rattle.std.specs.Prelude.{◌≡◌, option_map};
 ghost use Rattle.blob_pool.specs.Slots.{Slots};
-ghost use Rattle.job_queue.specs.Jobs.{Jobs};
-ghost use Rattle.executor.specs.Job.{JobValue};
 ghost use Rattle.executor.specs.InPool.{jobs_in, task_in};
-ghost use Rattle.executor.specs.Orders.{order_of, task_of, told};
-ghost use Rattle.executor.specs.Ordered.{order_meant, told_shown};
+ghost use Rattle.executor.specs.Orders.{task_of, told};
+ghost use Rattle.executor.specs.Ordered.{order_by, told_shown};
 ghost use Rattle.executor.specs.Taking.{step_shown};
 
 use crate::job::{Job, Task};
@@ -34,8 +32,7 @@ pub struct Told<'a> {
 impl Step {
     /// The order that goes with the step, where one does.
     pub fn order(&self) -> Option<Order>
-        ensures { (after : Jobs JobValue) →
-            order_meant after result ≡ order_of after (step_shown self.now) }
+        ensures { result ≡ order_by (step_shown self.now) }
     {
         match self {
             Step::TimesOut { number, .. } => Some(Order::Kill { job: *number }),

@@ -1,6 +1,6 @@
 -- An event of a call is answered to that call alone.
 use Rattle.std.proofs.Common.{◌≡◌, sym, subst}
-use Rattle.std.specs.Prelude.{ℕ, Bool, true, false, if◌then◌else◌, List, [], ◌∷◌, map, Option, Some, None, Result, Ok, Err}
+use Rattle.std.specs.Prelude.{ℕ, List, [], ◌∷◌, map, Option, Some, None, Result, Ok, Err}
 use Rattle.std.specs.List.{AllByRecursion}
 use Rattle.blob_pool.specs.Slots.{Slots}
 use Rattle.rpc.specs.declared.method.Method.{Method}
@@ -10,7 +10,7 @@ use Rattle.bytestream.specs.Writing as Writing
 use Rattle.bytestream.specs.Writing.{WrittenValue}
 use Rattle.instance_core.specs.declared.event.CallId.{CallId}
 use Rattle.instance_core.specs.declared.event.Reply.{Reply}
-use Rattle.instance_core.specs.Answer.{answer, reply_with, continuation_answer, head_answer, first_write_answer, next_write_answer, first_message_answer, answer_by_progress, message_answer, fault_by_progress, fault_answer, end_answer_by_progress, request_end_answer}
+use Rattle.instance_core.specs.Answer.{answer, head_answer, first_write_answer, next_write_answer, first_message_answer, answer_by_progress, message_answer, fault_by_progress, fault_answer, end_answer_by_progress, request_end_answer}
 use Rattle.instance_core.specs.Calls.{ProgressValue, waits, has, writes, watches, CallValue, CallEventValue, head, message, fault, end, cancel, tick as time_passes, start_jobs, end_late_jobs, end_job, call_at}
 use Rattle.instance_core.specs.Changes.{InstanceChange}
 use Rattle.instance_core.specs.Replies.{ReplyValue}

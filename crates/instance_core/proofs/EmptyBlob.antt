@@ -1,7 +1,6 @@
 -- No rule gives the empty blob an entry.
-use Rattle.std.proofs.Common.{◌≡◌, ℕ, Bool, true, false, cond, List, [], ◌∷◌, ◌-◌, length, take, Some, ap, sym, subst, inl, inr}
+use Rattle.std.proofs.Common.{◌≡◌, ℕ, Bool, true, cond, List, [], ◌∷◌, ◌-◌, length, take, Some, ap, sym, subst, inl, inr}
 use Rattle.std.specs.Prelude.{is_some, nat_lt, Option}
-use Rattle.std.specs.List.{AllByRecursion}
 use Rattle.std.specs.Map.{lookup}
 use Rattle.std.proofs.lemmas.Bool.{cases_Bool}
 use Rattle.digest.specs.declared.Digest.{Digest}

@@ -13,7 +13,7 @@ use Rattle.job_queue.specs.Jobs.{running_job}
 use Rattle.outcomes.specs.Outcomes.{OutcomeValue}
 use Rattle.operations.specs.Operations.{EndValue}
 use Rattle.executor.specs.Job.{JobValue}
-use Rattle.executor.specs.Orders.{orders_of}
+use Rattle.executor.specs.Ordered.{order_meant, orders_by}
 use Rattle.executor.specs.Steps.{StepValue, end_steps, jobs_after_steps}
 use Rattle.executor.specs.Taking.{steps_shown}
 use Rattle.executor.specs.declared.steps.Step.{Step}
@@ -25,9 +25,10 @@ use Rattle.instance_core.specs.Calls.{Calls, CallEventValue, end_job}
 use Rattle.instance_core.specs.Changes.{InstanceChange, Text, Keeps, state_after_changes, MadeInPart}
 use Rattle.instance_core.specs.Shown.{reply_shown}
 use Rattle.instance_core.specs.State.{InstanceState, most_blobs}
-use Rattle.instance_core.specs.Turns.{HasOrders, IsReady, orders_meant}
+use Rattle.instance_core.specs.Turns.{IsReady}
 use Rattle.instance_core.specs.Watching.{replies_to_watchers}
 use Rattle.instance_core.proofs.EventLimits.{results_keep}
+use Rattle.instance_core.proofs.OrdersMeant.{event_orders}
 use Rattle.instance_core.proofs.Parts.{changed_more, made_texts, texts_in_part, with_results, with_texts}
 
 -- ---- turns
@@ -38,22 +39,22 @@ pub told_so : (r : Result Turn AllocError) (p : Slots) (only : Option ℕ) (call
 told_so (Ok turn) p only calls steps told same = rw same told
 told_so (Err e) p only calls steps told same = tt
 
-pub ordered_so : (r : Result Turn AllocError) (steps : Vec Step Global) → IfOk r (λ turn. HasOrders (steps_shown steps.items) turn.orders.items) → IfOk r (λ turn. turn.steps ≡ steps)
-    → IfOk r (λ turn. HasOrders (steps_shown turn.steps.items) turn.orders.items)
-ordered_so (Ok turn) steps has same = subst (λ (v : Vec Step Global). HasOrders (steps_shown v.items) turn.orders.items) (sym same) has
+pub ordered_so : (r : Result Turn AllocError) (steps : Vec Step Global) → IfOk r (λ turn. turn.orders.items ≡ orders_by (steps_shown steps.items)) → IfOk r (λ turn. turn.steps ≡ steps)
+    → IfOk r (λ turn. turn.orders.items ≡ orders_by (steps_shown turn.steps.items))
+ordered_so (Ok turn) steps has same = has ∙ sym (ap (λ (v : Vec Step Global). orders_by (steps_shown v.items)) same)
 ordered_so (Err e) steps has same = tt
 
 -- .. is ready for the event that has them
-pub ready_of : (p : Slots) (s : InstanceState) (event : CallEventValue) (only : Option ℕ) (turn : Turn) → map (reply_shown p) turn.replies.items ≡ replies_to only (replies_to_watchers s.calls (steps_shown turn.steps.items)) → steps_shown turn.steps.items ≡ steps_at s event → HasOrders (steps_shown turn.steps.items) turn.orders.items
+pub ready_of : (p : Slots) (s : InstanceState) (event : CallEventValue) (only : Option ℕ) (turn : Turn) → map (reply_shown p) turn.replies.items ≡ replies_to only (replies_to_watchers s.calls (steps_shown turn.steps.items)) → steps_shown turn.steps.items ≡ steps_at s event → turn.orders.items ≡ orders_by (steps_shown turn.steps.items)
     → IsReady p s event (replies_to only (replies_to_watchers s.calls (steps_at s event))) turn
 ready_of p s event only turn told steps has = record {
   replies = told ∙ ap (λ (ss : List StepValue). replies_to only (replies_to_watchers s.calls ss)) steps;
   steps = steps;
-  orders = subst (λ (ss : List StepValue). orders_meant (jobs_after_steps ss s.jobs) turn.orders.items ≡ orders_of ss s.jobs) steps (has s.jobs);
+  orders = ap (map (order_meant (jobs_after_steps (steps_at s event) s.jobs))) (has ∙ ap orders_by steps) ∙ event_orders s event;
 }
 
 pub ready_by : (r : Result Turn AllocError) (p : Slots) (s : InstanceState) (event : CallEventValue) (only : Option ℕ) (steps : Vec Step Global) → steps_shown steps.items ≡ steps_at s event
-    → IfOk r (λ turn. map (reply_shown p) turn.replies.items ≡ replies_to only (replies_to_watchers s.calls (steps_shown steps.items))) → IfOk r (λ turn. HasOrders (steps_shown steps.items) turn.orders.items) → IfOk r (λ turn. turn.steps ≡ steps)
+    → IfOk r (λ turn. map (reply_shown p) turn.replies.items ≡ replies_to only (replies_to_watchers s.calls (steps_shown steps.items))) → IfOk r (λ turn. turn.orders.items ≡ orders_by (steps_shown steps.items)) → IfOk r (λ turn. turn.steps ≡ steps)
     → IfOk r (IsReady p s event (replies_to only (replies_to_watchers s.calls (steps_at s event))))
 ready_by (Ok turn) p s event only steps is told has same =
     ready_of p s event only turn (told_so (Ok turn) p only s.calls steps told same) (ap (λ (v : Vec Step Global). steps_shown v.items) same ∙ is) (ordered_so (Ok turn) steps has same)

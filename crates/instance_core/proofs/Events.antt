@@ -14,7 +14,7 @@ use Rattle.instance_view.specs.Visible.{Blob, visible_text}
 use Rattle.bytestream.specs.declared.reading.ReadAsked.{ReadAsked}
 use Rattle.bytestream.specs.Reading.{SourceValue, read_asked, offset_check, until_of, range_asked, read_answer}
 use Rattle.bytestream.specs.Writing as Writing
-use Rattle.bytestream.specs.Writing.{WrittenValue, unfinished_reply}
+use Rattle.bytestream.specs.Writing.{WrittenValue}
 use Rattle.instance_core.specs.declared.event.CallId.{CallId}
 use Rattle.instance_core.specs.Calls.{Calls, CallValue, ProgressValue, waits, has, writes, watches, CallEventValue, head, message, fault, end, cancel, tick, start_jobs, end_late_jobs, end_job, same_call, call_at, IsShortEvent, IsShortRequest, IsProgressOf, KeepShort}
 use Rattle.instance_core.specs.State.{InstanceState, IsInstanceWithin, seen}
@@ -34,7 +34,7 @@ use Rattle.instance_core.specs.Replies.{AnswerValue, one_message, messages, rang
 use Rattle.instance_core.specs.Changes.{InstanceChange, MadeInPart}
 use Rattle.instance_core.proofs.EventLimits.{after_keeps, front_keeps}
 use Rattle.instance_core.specs.Writes.{first_changes, next_changes, first_outcome, next_outcome}
-use Rattle.instance_core.specs.Answer.{reply_with, continuation_answer, head_answer, first_write_answer, next_write_answer, first_message_answer, answer_by_progress, message_answer, fault_by_progress, fault_answer, end_answer_by_progress, request_end_answer, answer, state_after}
+use Rattle.instance_core.specs.Answer.{head_answer, first_write_answer, next_write_answer, first_message_answer, answer_by_progress, message_answer, fault_by_progress, fault_answer, end_answer_by_progress, request_end_answer, answer, state_after}
 use Rattle.instance_core.specs.declared.event.Reply.{Reply}
 use Rattle.instance_core.specs.Shown.{reply_shown}
 use Rattle.instance_core.proofs.Short.{find_missing_short, batch_update_short, batch_read_short, get_capabilities_short}

@@ -14,6 +14,7 @@ mod Carrying
 mod Replying
 mod Beside
 mod Telling
+pub mod OrdersMeant
 mod Ended
 mod Readying
 mod Taking

@@ -1,6 +1,6 @@
 -- What any front of an event's changes leaves: what is lost is lost by a rule.
 use Rattle.std.proofs.Common.{◌≡◌, ℕ, ◌+◌, ◌<◌, Bool, true, false, cond, List, [], ◌∷◌, ◌++◌, length, map, Option, Some, None, Result, Ok, Err, refl, sym, ap, subst, ◌∙◌, arith}
-use Rattle.std.specs.Prelude.{◌==◌, ◌&&◌, not, is_some, nat_eq, nat_le, nat_lt}
+use Rattle.std.specs.Prelude.{◌&&◌, not, is_some, nat_eq, nat_le, nat_lt}
 use Rattle.std.specs.List.{AllByRecursion}
 use Rattle.std.proofs.lemmas.Bool.Decides.{nat_tests}
 use Rattle.rpc.specs.declared.method.Method.{Method}

@@ -1,17 +1,14 @@
 -- Calls that watch jobs are told, one after another, and steps are gone through.
 use Rattle.std.proofs.Common.{◌≡◌, ℕ, zero, suc, ◌+◌, ◌-◌, ◌<◌, ◌≤◌, Bool, true, false, List, [], ◌∷◌, ◌++◌, length, drop, take, get_or, map, Option, Some, None, refl, sym, ap, ◌∙◌, append_assoc, append-nil, arith}
 use Rattle.std.specs.Prelude.{filter, nat_le, slice_get, ◌==◌}
-use Rattle.std.specs.List.{filter_map}
 use Rattle.std.proofs.lemmas.Bool.Decides.{nat_tests}
 use Rattle.std.proofs.lemmas.List.{map-append, take_all}
 use Rattle.std.proofs.lemmas.List.Concat.{flat_map-cons}
 use Rattle.std.proofs.lemmas.List.Elements.{filter-append, filter_map-append}
 use Rattle.std.proofs.Math.Seq.{drop-cons}
 use Rattle.std.proofs.lemmas.Option.{get_or_from_slice_get, slice_get-get_or, slice_get_within}
-use Rattle.job_queue.specs.Jobs.{Jobs}
-use Rattle.executor.specs.Job.{JobValue}
-use Rattle.executor.specs.Orders.{ToldValue, OrderValue, order_of, told}
-use Rattle.executor.specs.Ordered.{order_meant}
+use Rattle.executor.specs.Orders.{ToldValue, told}
+use Rattle.executor.specs.Ordered.{order_by, orders_by}
 use Rattle.executor.specs.Steps.{StepValue}
 use Rattle.executor.specs.Taking.{step_shown, steps_shown}
 use Rattle.executor.specs.declared.orders.Order.{Order}
@@ -22,7 +19,6 @@ use Rattle.instance_core.specs.ReplyHolders.{items_holders, replies_holders}
 use Rattle.instance_core.specs.Apart.{hears, replies_to}
 use Rattle.instance_core.specs.Calls.{Calls, CallValue}
 use Rattle.instance_core.specs.Replies.{ReplyValue}
-use Rattle.instance_core.specs.Turns.{orders_meant}
 use Rattle.instance_core.specs.Watching.{is_watcher, is_watching, watchers, told_reply, replies_told, replies_to_watchers}
 
 -- ---- a list from a place on
@@ -127,31 +123,18 @@ watchers_next only calls s all-left left old new all is pushed h =
     ∙ append_assoc old (replies_to only (replies_told calls (told s))) (replies_to only (replies_to_watchers calls left))
     ∙ ap (λ (rs : List ReplyValue). old ++ rs) (sym split) ∙ h
 
-pub orders_next : (after : Jobs JobValue) (s : StepValue) (all-left left : List StepValue) (old new all : List OrderValue) → all-left ≡ s ∷ left → new ≡ old ++ filter_map (order_of after) (s ∷ []) → old ++ filter_map (order_of after) all-left ≡ all → new ++ filter_map (order_of after) left ≡ all
-orders_next after s all-left left old new all is pushed h =
-    let f : StepValue → Option OrderValue = order_of after in
-    let split : filter_map f all-left ≡ filter_map f (s ∷ []) ++ filter_map f left = ap (filter_map f) is ∙ filter_map-append f (s ∷ []) left in
-    ap (λ (os : List OrderValue). os ++ filter_map f left) pushed
-    ∙ append_assoc old (filter_map f (s ∷ [])) (filter_map f left)
-    ∙ ap (λ (os : List OrderValue). old ++ os) (sym split) ∙ h
+pub orders_next : (s : StepValue) (all-left left : List StepValue) (old new all : List Order) → all-left ≡ s ∷ left → new ≡ old ++ orders_by (s ∷ []) → old ++ orders_by all-left ≡ all → new ++ orders_by left ≡ all
+orders_next s all-left left old new all is pushed h =
+    let split : orders_by all-left ≡ orders_by (s ∷ []) ++ orders_by left = ap orders_by is ∙ filter_map-append order_by (s ∷ []) left in
+    ap (λ (os : List Order). os ++ orders_by left) pushed
+    ∙ append_assoc old (orders_by (s ∷ [])) (orders_by left)
+    ∙ ap (λ (os : List Order). old ++ os) (sym split) ∙ h
 
--- no step is left
-pub no_steps : (steps : List Step) → length steps ≡ 0 → steps_shown steps ≡ []
-no_steps [] h = refl
-no_steps (s ∷ steps) h = absurd (omega (arith, h))
-
--- the order of a step that has one, and of one that has none
-pub order_added : (after : Jobs JobValue) (s : StepValue) (order : Order) (old new : List Order) → order_meant after (Some order) ≡ order_of after s → new ≡ old ++ order ∷ [] → orders_meant after new ≡ orders_meant after old ++ filter_map (order_of after) (s ∷ [])
-order_added after s order old new is pushed =
-    let f : Order → Option OrderValue = λ (o : Order). order_meant after (Some o) in
-    ap (orders_meant after) pushed ∙ filter_map-append f old (order ∷ []) ∙ ap (λ (os : List OrderValue). orders_meant after old ++ os) (go (f order) refl)
-  where
-    go : (o : Option OrderValue) → order_meant after (Some order) ≡ o → filter_map (λ (x : Order). order_meant after (Some x)) (order ∷ []) ≡ filter_map (order_of after) (s ∷ [])
-    go None none = let none' : order_of after s ≡ None = sym is ∙ none in rw (none, none') refl
-    go (Some v) some = let some' : order_of after s ≡ Some v = sym is ∙ some in rw (some, some') refl
-
-pub order_none : (after : Jobs JobValue) (s : StepValue) (old : List Order) → None ≡ order_of after s → orders_meant after old ≡ orders_meant after old ++ filter_map (order_of after) (s ∷ [])
-order_none after s old is = let none : filter_map (order_of after) (s ∷ []) ≡ [] = rw (← is) refl in sym (append-nil (orders_meant after old)) ∙ ap (λ (os : List OrderValue). orders_meant after old ++ os) (sym none)
+-- the order of a step that has one
+pub order_added : (s : StepValue) (order : Order) (old new : List Order) → Some order ≡ order_by s → new ≡ old ++ order ∷ [] → new ≡ old ++ orders_by (s ∷ [])
+order_added s order old new is pushed =
+    let one : orders_by (s ∷ []) ≡ order ∷ [] = rw (← is) refl in
+    pushed ∙ ap (λ (os : List Order). old ++ os) (sym one)
 
 -- a reply that gives no range holds nothing
 pub pushed_holds : (old : List Reply) (r : Reply) (k : ℕ) → items_holders r.items.items k ≡ 0 → replies_holders (old ++ r ∷ []) k ≡ replies_holders old k

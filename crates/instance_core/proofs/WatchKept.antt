@@ -13,7 +13,7 @@ use Rattle.reapi_messages.specs.Results.{◌>>=◌}
 use Rattle.cas_service.specs.Changes as Texts
 use Rattle.bytestream.specs.Writing as Writing
 use Rattle.bytestream.specs.Writing.{OpenWriteValue, PartValue, WrittenValue, FirstAsked, first_asked, next_asked}
-use Rattle.job_queue.specs.Jobs.{Jobs, StageValue, same_number, stage_of, or_else}
+use Rattle.job_queue.specs.Jobs.{Jobs, same_number, stage_of, or_else}
 use Rattle.job_queue.specs.Jobs as Stage
 use Rattle.job_queue.specs.declared.queue.Running.{Running}
 use Rattle.job_queue.specs.declared.queue.TheConstants.{LAST_NUMBER, MOST_WAITING}
@@ -22,7 +22,7 @@ use Rattle.job_queue.proofs.Orders.{all-append, all-weaker}
 use Rattle.executor.specs.Job.{JobValue}
 use Rattle.executor.specs.Preparing.{FaultValue, PreparedValue, prepared, met, job_of}
 use Rattle.executor.specs.Execute as Executor
-use Rattle.executor.specs.Execute.{ExecutionState, ExecuteAnswer, done, queued, ExecuteChange, ExecuteDone, look_in, by_result, by_fault, by_job, by_preparing, by_looking, looked_up, execute}
+use Rattle.executor.specs.Execute.{ExecutionState, ExecuteAnswer, done, queued, ExecuteChange, ExecuteDone, look_in, by_result, by_job, by_preparing, by_looking, looked_up, execute}
 use Rattle.action_cache.specs.Answering.{blobs_used}
 use Rattle.executor.specs.Waiting.{number_named, wait_answer, wait_for, wait}
 use Rattle.execution_calls.specs.Asking.{ExecuteAskedValue, execute_asked, name_asked}

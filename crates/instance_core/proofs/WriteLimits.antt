@@ -21,7 +21,7 @@ use Rattle.uploads.proofs.ListLemmas.{within_without, within_call}
 use Rattle.bytestream.specs.Refusals.{name_or_refusal}
 use Rattle.bytestream.specs.Querying.{key_of_name}
 use Rattle.bytestream.specs.Writing as Writing
-use Rattle.bytestream.specs.Writing.{OpenWriteValue, PartValue, WrittenValue, WriteState, FirstAsked, first_asked, part_outcome, part_answer, after_last_part, after_end, after_taking, after_part, reply_first, first_part_answer}
+use Rattle.bytestream.specs.Writing.{OpenWriteValue, PartValue, WriteState, FirstAsked, first_asked, part_outcome, part_answer, after_last_part, after_end, after_taking, after_part, reply_first, first_part_answer}
 use Rattle.instance_core.proofs.StatedSizes.{name_below}
 use Rattle.instance_core.specs.State.{InstanceState, most_blobs}
 use Rattle.instance_core.specs.Writes.{write_state, with_piece, with_part, first_outcome}

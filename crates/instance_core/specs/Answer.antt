@@ -11,7 +11,7 @@
 -- done or waits under a new number, or `Settles`, jobs end and start (Changes.antt). `ending`
 -- (execution_calls, Ending.antt) is what becomes of a job whose run gave an outcome, and
 -- `start_steps`, `tick_steps` and `end_steps` (executor, Steps.antt) which jobs end and start.
-use Rattle.std.specs.Prelude.{ℕ, List, [], ◌∷◌, ◌++◌, map, Option, Some, None, Result, Ok, Err, if◌then◌else◌}
+use Rattle.std.specs.Prelude.{ℕ, List, [], ◌∷◌, ◌++◌, map, Option, Some, None, Result, Ok, Err}
 use Rattle.digest.specs.declared.Digest.{Digest}
 use Rattle.instance_view.specs.Visible.{Blob}
 use Rattle.rpc.specs.declared.method.Method.{Method}
@@ -25,7 +25,7 @@ use Rattle.executor.specs.Steps.{StepValue, start_steps, tick_steps, end_steps}
 use Rattle.outcomes.specs.Outcomes.{OutcomeValue}
 use Rattle.execution_calls.specs.Ending.{EndingValue, admissions, ending, results_with}
 use Rattle.bytestream.specs.Writing as Writing
-use Rattle.bytestream.specs.Writing.{OpenWriteValue, WrittenValue, unfinished_reply}
+use Rattle.bytestream.specs.Writing.{WrittenValue, unfinished_reply}
 use Rattle.instance_core.specs.declared.event.CallId.{CallId}
 use Rattle.instance_core.specs.Calls.{ProgressValue, waits, has, writes, watches, CallValue, CallEventValue, head, message, fault, end, cancel, tick, start_jobs, end_late_jobs, end_job, call_at}
 use Rattle.instance_core.specs.Replies.{AnswerValue, one_message, watching, ReplyItemValue, ReplyValue, items_of}

@@ -60,8 +60,8 @@ abbrev pub bytes_from : ℕ → ℕ → List ℕ → List ℕ
 bytes_from offset limit text =
     if limit == 0 then drop offset text else take limit (drop offset text)
 
--- a range is of the text that the instance itself has under the digest in the resource name, and
--- that the digest names; its bytes are those from read_offset on, at most read_limit of them
+-- a range is of the text that the instance sees under the digest in the resource name, and that
+-- the digest names; its bytes are those from read_offset on, at most read_limit of them
 pub record IsNamedRange (s : InstanceState) (message : List ℕ) (given : SourceValue) : Type 0 where
   pub asked : ReadAsked
   pub asks : read_asked s.name message ≡ Ok asked

@@ -13,6 +13,7 @@ ghost use Rattle.operations.specs.Shown.{end_shown};
 ghost use Rattle.outcomes.specs.Shown.{outcome_shown};
 ghost use Rattle.outcomes.specs.Completing.{blob_shown};
 ghost use Rattle.executor.specs.InPool.{jobs_in};
+ghost use Rattle.executor.specs.Ordered.{orders_by};
 ghost use Rattle.executor.specs.Steps.{end_steps};
 ghost use Rattle.executor.specs.Taking.{steps_shown};
 ghost use Rattle.execution_calls.specs.Ending.{results_with};
@@ -24,7 +25,7 @@ ghost use Rattle.instance_core.specs.Replies.{IsShortReply};
 ghost use Rattle.instance_core.specs.ReplyHolders.{replies_holders};
 ghost use Rattle.instance_core.specs.Shown.{Ongoing, contents_state, ongoing_in, reply_shown};
 ghost use Rattle.instance_core.specs.State.{IsInstanceWithin};
-ghost use Rattle.instance_core.specs.Turns.{HasOrders, IsReady};
+ghost use Rattle.instance_core.specs.Turns.{IsReady};
 ghost use Rattle.instance_core.specs.Watching.{replies_to_watchers};
 
 use crate::calls::Calls;
@@ -55,7 +56,7 @@ fn ready_to_end(
     ensures replies { (p : Slots) → IfOk result (λ turn. map (reply_shown p) turn.replies.items
         ≡ replies_to_watchers calls.now (steps_shown turn.steps.items)) }
     ensures orders { IfOk result
-        (λ turn. HasOrders (steps_shown turn.steps.items) turn.orders.items) }
+        (λ turn. turn.orders.items ≡ orders_by (steps_shown turn.steps.items)) }
     ensures given { (k : ℕ) → IfOk result (λ turn. replies_holders turn.replies.items k ≡ 0) }
 {
     let steps = end_steps(alloc, executions, settings.moment, job, end)?;

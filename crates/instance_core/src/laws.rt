@@ -23,7 +23,7 @@ pub fn calls_store_named_texts()
 {}
 
 /// What a call is answered is named by the digest that was asked for. A Read is given a range of
-/// the text that the instance itself has under the digest in the resource name (bytestream.proto);
+/// the text that the instance sees under the digest in the resource name (bytestream.proto);
 /// data with status OK in a reply to BatchReadBlobs, and each directory on a page of GetTree, are
 /// what their digests say; and a result that GetActionResult gives is the instance's own, of which
 /// each blob is there (remote_execution.proto).

@@ -2,17 +2,12 @@
 //! nothing can be refused for want of memory any more.
 
 ghost use Rattle.std.specs.Prelude.{◌≡◌, [], ◌∷◌, ◌++◌, ℕ, map, IfOk, OnOk};
-ghost use Rattle.std.specs.List.{filter_map};
 ghost use Rattle.blob_pool.specs.Slots.{Slots};
-ghost use Rattle.job_queue.specs.Jobs.{Jobs};
-ghost use Rattle.executor.specs.Job.{JobValue};
-ghost use Rattle.executor.specs.Ordered.{told_shown};
-ghost use Rattle.executor.specs.Orders.{order_of};
+ghost use Rattle.executor.specs.Ordered.{orders_by, told_shown};
 ghost use Rattle.executor.specs.Taking.{step_shown, steps_shown};
 ghost use Rattle.instance_core.specs.Apart.{hears, replies_to};
 ghost use Rattle.instance_core.specs.ReplyHolders.{items_holders, replies_holders};
 ghost use Rattle.instance_core.specs.Shown.{reply_shown};
-ghost use Rattle.instance_core.specs.Turns.{HasOrders, orders_meant};
 ghost use Rattle.instance_core.specs.Watching.{replies_told, replies_to_watchers, told_reply};
 
 use crate::calls::{Call, Calls};
@@ -106,9 +101,8 @@ fn tell_watchers(
 
 /// Adds the order of a step, where it has one.
 fn add_order(orders: &mut Vec<Order>, step: &Step) -> Result<(), AllocError>
-    ensures { (after : Jobs JobValue) → OnOk result (orders_meant after orders.new.items
-        ≡ orders_meant after orders.old.items
-        ++ filter_map (order_of after) (step_shown step.now ∷ [])) }
+    ensures { OnOk result (orders.new.items
+        ≡ orders.old.items ++ orders_by (step_shown step.now ∷ [])) }
 {
     if let Some(order) = step.order() {
         orders.push(order)?;
@@ -127,7 +121,8 @@ pub fn make_ready(
     ensures replies { (p : Slots) → IfOk result (λ turn. map (reply_shown p) turn.replies.items
         ≡ replies_to only (replies_to_watchers calls.now (steps_shown steps.items))) }
     ensures given { (k : ℕ) → IfOk result (λ turn. replies_holders turn.replies.items k ≡ 0) }
-    ensures orders { IfOk result (λ turn. HasOrders (steps_shown steps.items) turn.orders.items) }
+    ensures orders { IfOk result
+        (λ turn. turn.orders.items ≡ orders_by (steps_shown steps.items)) }
     ensures steps { IfOk result (λ turn. turn.steps ≡ steps) }
 {
     let mut replies = Vec::new(alloc);

@@ -47,12 +47,13 @@ pub fn replies_are_the_instances()
 
 /// Each blob that is served in a run is named by the digest that was asked for: the hash is its
 /// SHA-256, or its SHA-512 where that is the digest's function, and the size its length. What a Read
-/// is given is a range of the text that the instance itself has under the digest in the resource
-/// name, from read_offset on and at most read_limit bytes (bytestream.proto). A reply to BatchReadBlobs has a response for each digest asked for, in
-/// order, and data with status OK are what that digest says. A message of a reply to GetTree is a
-/// page of the tree whose root was asked for, and each directory of it is what a digest of the
-/// tree's list names. A reply to GetActionResult is the result that the instance itself has of the
-/// action, and each blob that it names is there (remote_execution.proto).
+/// is given is a range of the text that the instance sees under the digest in the resource name,
+/// from read_offset on and at most read_limit bytes (bytestream.proto). A reply to BatchReadBlobs
+/// has a response for each digest asked for, in order, and data with status OK are what that digest
+/// says. A message of a reply to GetTree is a page of the tree whose root was asked for, and each
+/// directory of it is what a digest of the tree's list names. A reply to GetActionResult is the
+/// result that the instance itself has of the action, and each blob that it names is there
+/// (remote_execution.proto).
 pub fn blobs_served_are_named()
     ensures answers { (family : Family) (events : List FamilyEvent) → AreLimited family
         → AllByRecursion IsNarrow (map event_in events)

@@ -1,13 +1,13 @@
 -- What an event does, by its kind, where all connections were seen through a slice.
-use Rattle.std.proofs.Common.{◌≡◌, List, [], Result, Ok, Err, sym, ap, ◌∙◌, subst}
+use Rattle.std.proofs.Common.{◌≡◌, List, [], map, Some, Result, Ok, Err, sym, ap, ◌∙◌, subst}
 use Rattle.std.specs.Prelude.{IfOk, OnOk}
 use Rattle.std.specs.declared.alloc.Global.{Global}
 use Rattle.std.specs.declared.vec.Vec.{Vec}
 use Rattle.blob_pool.specs.Slots.{Slots}
 use Rattle.executor.specs.declared.orders.Order.{Order}
+use Rattle.executor.specs.Ordered.{order_meant}
 use Rattle.instance_core.specs.InstanceViewShown.{ViewValue}
 use Rattle.instance_core.specs.Slots.{InstanceSlots, state_in}
-use Rattle.instance_core.specs.Turns.{orders_meant}
 use Rattle.server_events.specs.Events.{WhatValue}
 use Rattle.served_instance.specs.declared.open_connection.OpenConnection.{OpenConnection}
 use Rattle.served_instance.specs.Acts.{ActsAtRest, HasOrdersOf}
@@ -29,4 +29,4 @@ orders_between (Err x) parent p q i j os xs w v a e h = tt
 -- an event that orders nothing
 pub orders_none : (parent : ViewValue) (p q : Slots) (i j : InstanceSlots) (os : List OpenConnection) (w v : WhatValue) (orders : Vec Order Global) → w ≡ v → orders.items ≡ [] → ((l : LoneInstance) → orders_of_what v l ≡ []) → HasOrdersOf parent p i os q j w orders
 orders_none parent p q i j os w v orders e none all = λ l st.
-    ap (orders_meant (state_in q j).jobs) none ∙ sym (ap (λ (y : WhatValue). orders_of_what y l) e ∙ all l)
+    ap (map (order_meant (state_in q j).jobs)) none ∙ sym (ap (λ (y : WhatValue). map Some (orders_of_what y l)) e ∙ ap (map Some) (all l))

@@ -1,19 +1,18 @@
 -- What the parent of an instance has stays while the instance does something.
-use Rattle.std.proofs.Common.{◌≡◌, ◌≤◌, ◌+◌, ◌<◌, ℕ, List, map, refl, sym, ap, subst, ◌∙◌, arith}
+use Rattle.std.proofs.Common.{◌≡◌, List, sym, ap, subst, ◌∙◌, arith}
 use Rattle.std.specs.List.{AllByRecursion}
-use Rattle.blob_pool.specs.Slots.{Slots, count_at, text_at}
-use Rattle.blob_pool.specs.Moves.{Moves, Holders, no_holders}
+use Rattle.blob_pool.specs.Slots.{Slots}
+use Rattle.blob_pool.specs.Moves.{Moves, no_holders}
 use Rattle.instance_core.specs.Naming.{Names}
 use Rattle.instance_core.specs.Visible.{Blob}
-use Rattle.instance_core.specs.InstanceViewShown.{ViewValue, visible_in, holders}
-use Rattle.instance_core.specs.State.{InstanceState, seeing}
-use Rattle.instance_core.specs.Slots.{InstanceSlots, state_in, state_beside, holders_of_instance, IsBeside}
+use Rattle.instance_core.specs.InstanceViewShown.{ViewValue, visible_in}
+use Rattle.instance_core.specs.State.{seeing}
+use Rattle.instance_core.specs.Slots.{InstanceSlots, state_in, state_beside, IsBeside}
 use Rattle.instance_core.proofs.Sees.{parent_same}
 use Rattle.served_instance.specs.declared.open_connection.OpenConnection.{OpenConnection}
 use Rattle.served_instance.specs.StandsFor.{ServedConnection}
 use Rattle.served_instance.specs.Slots.{ServedSlots, holders_of, IsServedInPool, IsServedBeside}
-use Rattle.served_instance.specs.Ranges.{Releases, range_holders}
-use Rattle.served_instance.specs.Shown.{connection_shown}
+use Rattle.served_instance.specs.Ranges.{Releases}
 use Rattle.served_instance.specs.Acts.{slots_of}
 use Rattle.served_instance.proofs.Kept.{slots_at, same_state}
 

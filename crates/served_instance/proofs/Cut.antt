@@ -2,13 +2,12 @@
 use Rattle.std.proofs.Common.{◌≡◌, refl, sym, ap, ◌∙◌, subst, zero, suc, arith, get_or, take, drop, ◌≤◌, ◌+◌, add-one}
 use Rattle.std.proofs.Math.ListN.{set}
 use Rattle.std.specs.Prelude.{ℕ, ◌==◌, if◌then◌else◌, Bool, true, false, List, [], ◌∷◌, ◌++◌, map, option_map, Option, Some, None, position}
-use Rattle.std.specs.List.{AllByRecursion}
 use Rattle.std.proofs.lemmas.Bool.{cond-false, cond-true}
 use Rattle.grpc_sending.specs.Sources.{count_of}
 use Rattle.grpc_sending.specs.StoredSending.{SourceTexts, AgreeOn, sources_of}
 use Rattle.grpc_sending.proofs.Agreeing.{count_append}
 use Rattle.conn_core.specs.StandsFor.{ConnectionValue, IsConnection}
-use Rattle.blob_pool.specs.Slots.{Slots, text_at}
+use Rattle.blob_pool.specs.Slots.{Slots}
 use Rattle.instance_core.specs.declared.event.Reply.{Reply}
 use Rattle.served_instance.specs.declared.open_connection.OpenConnection.{OpenConnection}
 use Rattle.served_instance.specs.Connections.{LoneConnection, open_ones, with_closed}

@@ -1,8 +1,7 @@
 -- What received bytes bring to calls, event after event, and what stands where one is refused for want of memory.
 use Rattle.std.proofs.Common.{◌≡◌, refl, sym, ap, ◌∙◌, subst, inl, inr, append_assoc}
 use Rattle.std.proofs.Math.Seq.{drop-append_seam, drop-length}
-use Rattle.std.specs.Prelude.{ℕ, Bool, true, false, List, [], ◌∷◌, ◌++◌, length, map, drop, Option, Some, None, ◌⊎◌, Result, Ok, Err, cond}
-use Rattle.std.specs.Option.{option_map_or}
+use Rattle.std.specs.Prelude.{ℕ, true, false, List, [], ◌∷◌, ◌++◌, length, map, drop, Option, Some, None, Result, Ok, Err}
 use Rattle.std.proofs.lemmas.Bool.{cond-false, cond-true}
 use Rattle.grpc_sending.proofs.Histories.{append-nil}
 use Rattle.grpc_sending.specs.StoredSending.{SourceTexts}
@@ -20,7 +19,6 @@ use Rattle.conn_core.specs.Past.{Past, with_frame, with_fault}
 use Rattle.conn_core.specs.StandsFor.{ConnectionValue, StandsAfterNext, IsNextFault}
 use Rattle.instance_core.specs.Answer.{answer, state_after}
 use Rattle.instance_core.specs.Calls.{CallEventValue}
-use Rattle.instance_core.specs.Changes.{MadeInPart}
 use Rattle.instance_core.specs.State.{InstanceState}
 use Rattle.served_instance.specs.declared.open_connection.OpenConnection.{OpenConnection}
 use Rattle.served_instance.specs.Acts.{present_at, with_present, BecomesAt, Pops, ReadsFrame, ActsBy, StandsBy}
@@ -30,10 +28,10 @@ use Rattle.served_instance.specs.Cuts.{CutsShortBy, CutLeadsBy}
 use Rattle.served_instance.specs.Events.{due_events, frame_taken, fault_met, frame_events, events_of_frames, fault_events, end_events, reading_events, rest_events}
 use Rattle.served_instance.specs.Lone.{LoneInstance, after_call_event, after_call_events, due_at, without_due, after_due_on, after_frame_on, is_over, after_frames_on}
 use Rattle.served_instance.specs.Short.{IsMadeInPart, IsCutShort}
-use Rattle.served_instance.proofs.Changes.{kept_or_not, changed_there, changed_nowhere, open_past, no_past}
-use Rattle.served_instance.proofs.Commutes.{Wire, wire, given}
-use Rattle.served_instance.proofs.Frames.{happened_is, with_due, due_of, due_is, due_left, stepped_wire, over_is, raw_more, failed_now, over_rest}
-use Rattle.served_instance.proofs.Leads.{stepped_served, keeps_still, unchanged_stands}
+use Rattle.served_instance.proofs.Changes.{kept_or_not, changed_there, open_past}
+use Rattle.served_instance.proofs.Commutes.{Wire, wire}
+use Rattle.served_instance.proofs.Frames.{happened_is, with_due, due_is, due_left, stepped_wire, over_is, raw_more, failed_now}
+use Rattle.served_instance.proofs.Leads.{stepped_served, keeps_still}
 
 -- ---- lists of events
 

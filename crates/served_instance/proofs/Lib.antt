@@ -31,6 +31,7 @@ mod Answered
 mod CutEvents
 mod BrokenOff
 pub mod Losses
+mod KeptJobs
 pub mod Watches
 pub use Rattle.grpc_sending.proofs.Agreeing
 pub use Rattle.grpc_sending.proofs.Histories

@@ -22,7 +22,8 @@ use Rattle.served_instance.specs.Connections.{open_ones, open_at}
 use Rattle.instance_core.specs.Visible.{Blob}
 use Rattle.instance_core.specs.State.{seeing, InstanceState, at_moment}
 use Rattle.served_instance.specs.Lone.{LoneInstance, lone_at_moment, after_event, orders_of_what}
-use Rattle.executor.specs.Orders.{OrderValue}
+use Rattle.executor.specs.declared.orders.Order.{Order}
+use Rattle.instance_core.specs.Turns.{AreOrders}
 use Rattle.served_instance.specs.declared.instance.TheConstants.{CONNECTION_LIMIT}
 use Rattle.served_instance.specs.Refusals.{refusal_of, refusal_of_what, after_event_unless, lone_step, orders_unless, lone_orders, IsRefusalOutcome}
 use Rattle.served_instance.specs.StandsFor.{ServedConnection, ServedState, IsServedInstance, AreSettled, connection_at}
@@ -174,10 +175,10 @@ settled_accepted parent p e v l h fit s a =
     let P : Option EventRefusal → Type 0 = λ o. AreSettled (after_event_unless parent e l o) in
     subst P (sym (no_reason p e v l h fit s)) a
 
-pub orders_accepted : (parent : List Blob) (p : Slots) (e : EventValue) (v : ServedSlots) (l : LoneInstance) (orders : List OrderValue) → None ≡ refusal_by e v → RangesEndWithin (text_at p) v.connections → IsServedInstance (served_state_in p v) l → orders ≡ orders_of_what e.what (lone_at_moment e.moment parent l) → orders ≡ lone_orders parent e l
-orders_accepted parent p e v l orders h fit s is =
-    let P : Option EventRefusal → Type 0 = λ o. orders ≡ orders_unless parent e l o in
-    subst P (sym (no_reason p e v l h fit s)) is
+pub orders_accepted : (parent : List Blob) (p : Slots) (e : EventValue) (v : ServedSlots) (l : LoneInstance) (after : Jobs JobValue) (orders : List Order) → None ≡ refusal_by e v → RangesEndWithin (text_at p) v.connections → IsServedInstance (served_state_in p v) l → AreOrders after orders (orders_of_what e.what (lone_at_moment e.moment parent l)) → AreOrders after orders (lone_orders parent e l)
+orders_accepted parent p e v l after orders h fit s are =
+    let P : Option EventRefusal → Type 0 = λ o. AreOrders after orders (orders_unless parent e l o) in
+    subst P (sym (no_reason p e v l h fit s)) are
 
 -- an event comes
 pub came_stands : (parent : List Blob) (texts : SourceTexts) (m : ℕ) (s t : InstanceState) (os : List OpenConnection) (l : LoneInstance) → t ≡ at_moment m s → StandsBy texts s os l → StandsBy texts (seeing parent t) os (lone_at_moment m parent l)

@@ -15,7 +15,7 @@ use Rattle.served_instance.specs.Slots.{ServedSlots, served_state_in, StandsIn, 
 use Rattle.served_instance.proofs.Besides.{released_beside}
 use Rattle.served_instance.specs.Shown.{connection_shown}
 use Rattle.served_instance.specs.Acts.{Acts, ActsIn, StandsBy, FindAlike, slots_of}
-use Rattle.served_instance.proofs.Kept.{release_finds, same_state}
+use Rattle.served_instance.proofs.Kept.{release_finds}
 use Rattle.served_instance.proofs.Refuses.{came_stands}
 use Rattle.served_instance.proofs.Exact.{held_by_all}
 use Rattle.served_instance.proofs.Ranges.{seen_served, plain_served, served_agreed}

@@ -1,5 +1,5 @@
 -- What comes of jobs that end and start at the end of an event.
-use Rattle.std.proofs.Common.{◌≡◌, ◌+◌, ◌≤◌, ℕ, List, [], ◌∷◌, ◌++◌, map, Option, Some, None, Result, Ok, Err, refl, sym, ap, ◌∙◌, subst, arith}
+use Rattle.std.proofs.Common.{◌≡◌, ℕ, List, [], ◌∷◌, ◌++◌, map, Option, Some, None, Result, Ok, Err, refl, sym, ap, ◌∙◌, subst, arith}
 use Rattle.std.specs.Prelude.{IfOk, OnOk, OnErr}
 use Rattle.std.specs.declared.alloc.Global.{Global}
 use Rattle.std.specs.declared.vec.Vec.{Vec}
@@ -25,9 +25,8 @@ use Rattle.instance_core.specs.Replies.{ReplyValue}
 use Rattle.instance_core.specs.Shown.{reply_shown}
 use Rattle.instance_core.specs.Slots.{InstanceSlots, state_in, state_beside, holders_of_instance}
 use Rattle.instance_core.specs.State.{InstanceState, IsInstanceWithin, seeing}
-use Rattle.instance_core.specs.Turns.{orders_meant}
+use Rattle.instance_core.specs.Turns.{AreOrders}
 use Rattle.instance_core.specs.Visible.{Blob}
-use Rattle.instance_core.specs.Watching.{WatchAtRest}
 use Rattle.instance_core.proofs.EndingJobs.{ending_keeps_jobs}
 use Rattle.instance_core.proofs.EventLimits.{after_keeps}
 use Rattle.instance_core.proofs.Sees.{after_seeing, parent_same}
@@ -49,7 +48,7 @@ use Rattle.served_instance.proofs.Commutes.{given}
 use Rattle.served_instance.proofs.Frames.{happened_is}
 use Rattle.served_instance.proofs.Gives.{AreGiven}
 use Rattle.served_instance.proofs.Happens.{IsAnswered, answered_kept, answered_moves, asked_finds, replied_at, replies_same}
-use Rattle.served_instance.proofs.Kept.{few_connections, instance_kept}
+use Rattle.served_instance.proofs.Kept.{few_connections}
 use Rattle.served_instance.proofs.Ranges.{served_agreed}
 use Rattle.served_instance.proofs.Taking.{take_none}
 use Rattle.served_instance.proofs.Watches.{all_done, told_alone}
@@ -137,10 +136,11 @@ after_ending s t u n outcome ss e is done =
 
 -- ---- what is ordered
 
-pub orders_are : (s : InstanceState) (what : CallEventValue) (ss : List StepValue) (after : Jobs JobValue) (made orders : Vec Order Global) → orders ≡ made → orders_meant (jobs_after_steps (steps_at s what) s.jobs) made.items ≡ orders_at s what → ss ≡ steps_at s what → after ≡ jobs_after_steps ss s.jobs → orders_meant after orders.items ≡ orders_at s what
+pub orders_are : (s : InstanceState) (what : CallEventValue) (ss : List StepValue) (after : Jobs JobValue) (made orders : Vec Order Global) → orders ≡ made → AreOrders (jobs_after_steps (steps_at s what) s.jobs) made.items (orders_at s what) → ss ≡ steps_at s what → after ≡ jobs_after_steps ss s.jobs → AreOrders after orders.items (orders_at s what)
 orders_are s what ss after made orders same h is done =
-    ap (λ (o : Vec Order Global). orders_meant after o.items) same
-    ∙ ap (λ (js : Jobs JobValue). orders_meant js made.items) (done ∙ ap (λ (xs : List StepValue). jobs_after_steps xs s.jobs) is) ∙ h
+    let jobs : after ≡ jobs_after_steps (steps_at s what) s.jobs = done ∙ ap (λ (xs : List StepValue). jobs_after_steps xs s.jobs) is in
+    subst (λ (o : Vec Order Global). AreOrders after o.items (orders_at s what)) (sym same)
+    (subst (λ (js : Jobs JobValue). AreOrders js made.items (orders_at s what)) (sym jobs) h)
 
 -- ---- what an event leaves
 
@@ -190,12 +190,12 @@ starts_act x c bytes parent p q r i j k os ns xs rs ss h replies is moves find =
     turns start_jobs parent q r k ns xs rs m came.connections gives find all after)
 
 pub starts_ordered : {E : Type 0} (x : Result (Vec Order Global) E) (c : ℕ) (bytes : List ℕ) (parent : ViewValue) (p q r : Slots) (i j k : InstanceSlots) (os ns : List OpenConnection) (ss : List StepValue) (made : Vec Order Global) → ActsIn parent p i os q j ns (after_bytes_on c bytes) →
-    orders_meant (jobs_after_steps (steps_at (state_in q j) start_jobs) (state_in q j).jobs) made.items ≡ orders_at (state_in q j) start_jobs → ss ≡ steps_at (state_in q j) start_jobs →
+    AreOrders (jobs_after_steps (steps_at (state_in q j) start_jobs) (state_in q j).jobs) made.items (orders_at (state_in q j) start_jobs) → ss ≡ steps_at (state_in q j) start_jobs →
     OnOk x (state_in r k ≡ state_after_change (Settles ss) (state_in q j)) → IfOk x (λ orders. orders ≡ made) → IfOk x (HasOrdersOf parent p i os r k (received c bytes))
 starts_ordered x c bytes parent p q r i j k os ns ss made acts h is = ok_if x (λ orders. orders ≡ made) (HasOrdersOf parent p i os r k (received c bytes)) (λ orders done same l st.
     let came = acts l st in
     orders_are (state_in q j) start_jobs ss (state_in r k).jobs made orders same h is (ap (λ (s : InstanceState). s.jobs) done)
-    ∙ ap (λ (s : InstanceState). orders_at s start_jobs) came.state)
+    ∙ ap (λ (s : InstanceState). map Some (orders_at s start_jobs)) came.state)
 
 pub starts_cut : (c : ℕ) (bytes : List ℕ) (parent : ViewValue) (p q r : Slots) (i j k : InstanceSlots) (os ns xs : List OpenConnection) → HaveCome c bytes parent p q i j os ns → Moves q r (holders_of (slots_of j ns)) (holders_of (slots_of k xs)) → state_in r k ≡ state_in q j → CutsShort parent p i os r k (bytes_events c bytes)
 starts_cut c bytes parent p q r i j k os ns xs h moves same = λ l st.
@@ -233,12 +233,12 @@ late_ends_act x p q i j k os ns rs ss same ticked replies is moves find = ok_bot
     turns end_late_jobs parent p q k os ns rs m came.connections gives find all after)
 
 pub late_ends_ordered : {E : Type 0} (x : Result (Vec Order Global) E) (p q : Slots) (i j k : InstanceSlots) (os : List OpenConnection) (ss : List StepValue) (made : Vec Order Global) → IsTicked p i j →
-    orders_meant (jobs_after_steps (steps_at (state_in p j) end_late_jobs) (state_in p j).jobs) made.items ≡ orders_at (state_in p j) end_late_jobs → ss ≡ steps_at (state_in p j) end_late_jobs →
+    AreOrders (jobs_after_steps (steps_at (state_in p j) end_late_jobs) (state_in p j).jobs) made.items (orders_at (state_in p j) end_late_jobs) → ss ≡ steps_at (state_in p j) end_late_jobs →
     OnOk x (state_in q k ≡ state_after_change (Settles ss) (state_in p j)) → IfOk x (λ orders. orders ≡ made) → IfOk x (λ orders. (parent : ViewValue) → HasOrdersOf parent p i os q k tick orders)
 late_ends_ordered x p q i j k os ss made ticked h is = ok_if x (λ orders. orders ≡ made) (λ orders. (parent : ViewValue) → HasOrdersOf parent p i os q k tick orders) (λ orders done same parent l st.
     let came : state_beside p parent j ≡ state_after l.state time_passes = ticked (visible_in p parent) ∙ ap (λ (s : InstanceState). state_after s time_passes) st.state in
     orders_are (state_in p j) end_late_jobs ss (state_in q k).jobs made orders same h is (ap (λ (s : InstanceState). s.jobs) done)
-    ∙ ap (λ (s : InstanceState). orders_at s end_late_jobs) came)
+    ∙ ap (λ (s : InstanceState). map Some (orders_at s end_late_jobs)) came)
 
 pub late_ends_cut : (p q : Slots) (i j k : InstanceSlots) (os ns : List OpenConnection) → ((n : ℕ) → holders_of_instance j n ≡ holders_of_instance i n) → IsTicked p i j → Moves p q (holders_of (slots_of j os)) (holders_of (slots_of k ns)) → state_in q k ≡ state_in p j →
     (parent : ViewValue) → IsServedBeside p parent (slots_of i os) → CutsAct tick parent p i os q k
@@ -323,14 +323,14 @@ end_acts x n outcome p q r i j k os ns rs ss h replies is moves find = ok_both x
     turns what parent q r k os ns rs l (admitted_served p q i j os l h.kept h.moves h.within st.connections) gives find all after)
 
 pub end_ordered : {E : Type 0} (x : Result (Vec Order Global) E) (n : ℕ) (outcome : OutcomeValue) (p q r : Slots) (i j k : InstanceSlots) (os : List OpenConnection) (ss : List StepValue) (made : Vec Order Global) → IsAdmitted (state_in p i) n outcome (state_in q j) →
-    orders_meant (jobs_after_steps (steps_at (state_in p i) (end_job n outcome)) (state_in p i).jobs) made.items ≡ orders_at (state_in p i) (end_job n outcome) → ss ≡ steps_at (state_in p i) (end_job n outcome) →
+    AreOrders (jobs_after_steps (steps_at (state_in p i) (end_job n outcome)) (state_in p i).jobs) made.items (orders_at (state_in p i) (end_job n outcome)) → ss ≡ steps_at (state_in p i) (end_job n outcome) →
     OnOk x (state_in r k ≡ state_after_change (Settles ss) (state_in q j)) → IfOk x (λ orders. orders ≡ made) → IfOk x (λ orders. (parent : ViewValue) → HasOrdersOf parent p i os r k (ended n outcome) orders)
 end_ordered x n outcome p q r i j k os ss made e h is = ok_if x (λ orders. orders ≡ made) (λ orders. (parent : ViewValue) → HasOrdersOf parent p i os r k (ended n outcome) orders) (λ orders done same parent l st.
     let s = state_in p i in
     let after : (state_in r k).jobs ≡ jobs_after_steps ss s.jobs = ap (λ (t : InstanceState). t.jobs) done ∙ ap (jobs_after_steps ss) (same_jobs s (state_in q j) n outcome e) in
     orders_are s (end_job n outcome) ss (state_in r k).jobs made orders same h is after
-    ∙ sym (orders_seeing (visible_in p parent) s n outcome)
-    ∙ ap (λ (t : InstanceState). orders_at t (end_job n outcome)) st.state)
+    ∙ ap (map Some) (sym (orders_seeing (visible_in p parent) s n outcome))
+    ∙ ap (λ (t : InstanceState). map Some (orders_at t (end_job n outcome))) st.state)
 
 -- a front was made, and what the parent has stays
 front_beside : (parent : ViewValue) (p q : Slots) (i j : InstanceSlots) (os ns : List OpenConnection) (n : ℕ) (outcome : OutcomeValue) → Moves p q (holders_of (slots_of i os)) (holders_of (slots_of j ns)) → IsServedBeside p parent (slots_of i os) →

@@ -18,7 +18,7 @@ use Rattle.std.specs.declared.alloc.Global.{Global}
 use Rattle.std.specs.declared.vec.Vec.{Vec}
 use Rattle.executor.specs.declared.orders.Order.{Order}
 use Rattle.instance_core.specs.Slots.{InstanceSlots, state_beside, state_in}
-use Rattle.instance_core.specs.Turns.{orders_meant}
+use Rattle.instance_core.specs.Turns.{AreOrders}
 use Rattle.instance_core.specs.Watching.{WatchAtRest}
 use Rattle.server_events.specs.Events.{WhatValue}
 use Rattle.instance_core.specs.InstanceViewShown.{ViewValue}
@@ -120,7 +120,7 @@ abbrev pub HasOrdersOf : ViewValue → Slots → InstanceSlots → List OpenConn
     InstanceSlots → WhatValue → Vec Order Global → Type 0
 HasOrdersOf parent p i os q j what orders =
     (l : LoneInstance) → StandsBy (text_at p) (state_beside p parent i) os l →
-    orders_meant (state_in q j).jobs orders.items ≡ orders_of_what what l
+    AreOrders (state_in q j).jobs orders.items (orders_of_what what l)
 
 -- an instance with its connections, as the code keeps it
 abbrev pub slots_of : InstanceSlots → List OpenConnection → ServedSlots

@@ -1,6 +1,6 @@
 -- What events leave where memory is refused. For the code alone, but for `broken_by`, which the code
 -- and the record of a run name.
-use Rattle.std.specs.Prelude.{◌≡◌, ◌==◌, if◌then◌else◌, ℕ, List, [], ◌∷◌, Option, Some, None}
+use Rattle.std.specs.Prelude.{◌≡◌, ◌==◌, if◌then◌else◌, ℕ, List, [], ◌∷◌}
 use Rattle.grpc_sending.specs.StoredSending.{SourceTexts}
 use Rattle.instance_core.specs.Apart.{calls_apart}
 use Rattle.job_queue.specs.Jobs.{running_job}

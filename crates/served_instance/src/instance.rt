@@ -19,7 +19,7 @@ ghost use Rattle.grpc_sending.specs.StoredSending.{SourceTexts};
 ghost use Rattle.job_queue.specs.declared.queue.TheConstants.{MOST_RUNNING};
 ghost use Rattle.executor.specs.InPool.{task_in};
 ghost use Rattle.executor.specs.Orders.{task_of};
-ghost use Rattle.instance_core.specs.Turns.{orders_meant};
+ghost use Rattle.instance_core.specs.Turns.{AreOrders};
 ghost use Rattle.served_instance.specs.Ranges.{AreTidy, HaveFewSources, RangesEndWithin, Releases, range_holders};
 ghost use Rattle.instance_core.specs.State.{InstanceState};
 ghost use Rattle.instance_core.specs.Slots.{state_in, holders_of_instance, IsInstanceInPool};
@@ -151,8 +151,8 @@ impl ServedInstance {
         // The orders are those of the event.
         ensures orders { IfOk result (λ orders. (l : LoneInstance) →
             IsServedInstance (served_state_in pool.old self.old) l
-            → orders_meant (state_in pool.new self.new.instance).jobs orders.items
-            ≡ lone_orders (visible_in pool.old parent.now) (event_value event) l) }
+            → AreOrders (state_in pool.new self.new.instance).jobs orders.items
+            (lone_orders (visible_in pool.old parent.now) (event_value event) l)) }
         // No source is held of a range that is over.
         ensures tidy { AreTidy self.new.connections }
         ensures moves { Moves pool.old pool.new (holders_of self.old) (holders_of self.new) }

@@ -28,7 +28,7 @@ use Rattle.executor.specs.Keeping.{kept_entries, kept_entry}
 use Rattle.executor.specs.Orders.{OrderValue}
 use Rattle.executor.proofs.Calling.{jobs_same}
 use Rattle.instance_core.specs.Slots.{state_in}
-use Rattle.instance_core.specs.Turns.{orders_meant}
+use Rattle.instance_core.specs.Turns.{AreOrders}
 use Rattle.instance_core.specs.Visible.{Blob}
 use Rattle.instance_core.specs.Naming.{Names}
 use Rattle.instance_view.specs.Shown.{ViewValue, ViewEntry, blobs_in, holders, entry_holders}
@@ -295,10 +295,10 @@ pub stands_after : (q : Slots) (xs : List ServedSlots) (i : ℕ) (a b : ServedSl
 stands_after q xs i a b l at st = (served_state_in q b, here q (set xs i b) i b (get-set_same xs i b (slice_get_within xs i a at)), st)
 
 -- its orders, with what its jobs have
-pub orders_after : (q : Slots) (xs : List ServedSlots) (i : ℕ) (a b : ServedSlots) (orders : Vec Order Global) (meant : List OrderValue) → slice_get xs i ≡ Some a → orders_meant (state_in q b.instance).jobs orders.items ≡ meant → OrdersStand i (all_in q (set xs i b)) orders meant
+pub orders_after : (q : Slots) (xs : List ServedSlots) (i : ℕ) (a b : ServedSlots) (orders : Vec Order Global) (meant : List OrderValue) → slice_get xs i ≡ Some a → AreOrders (state_in q b.instance).jobs orders.items meant → OrdersStand i (all_in q (set xs i b)) orders meant
 orders_after q xs i a b orders meant at given v there =
     let is : v ≡ served_state_in q b = same_Some v (served_state_in q b) (sym there ∙ here q (set xs i b) i b (get-set_same xs i b (slice_get_within xs i a at))) in
-    subst (λ (w : ServedState). orders_meant w.state.jobs orders.items ≡ meant) (sym is) given
+    subst (λ (w : ServedState). AreOrders w.state.jobs orders.items meant) (sym is) given
 
 -- an instance that is not there stands for nothing
 pub nobody_there : (p : Slots) (xs : List ServedSlots) (i : ℕ) (l : LoneInstance) → length xs ≤ i → StandsAt i (all_in p xs) l → ⊥

@@ -1,6 +1,6 @@
 -- The pool's counts are those of the texts that instances hold.
 use Rattle.std.proofs.Common.{◌≡◌, ◌≢◌, ℕ, ◌+◌, ◌<◌, ◌==◌, Bool, true, false, cond, List, [], ◌∷◌, map, refl, sym, ap, ◌∙◌, arith, inl, inr}
-use Rattle.std.specs.Prelude.{Option, None}
+use Rattle.std.specs.Prelude.{None}
 use Rattle.std.specs.Str.{bytes_eq}
 use Rattle.std.proofs.lemmas.Bool.Decides.{nat_tests}
 use Rattle.std.proofs.lemmas.Slice.Eq.{bytes_eq-Decides}
@@ -59,8 +59,8 @@ in_texts t (x ∷ xs) some = go (bytes_eq x t) refl (in_texts t xs) where
       let none : number (bytes_eq x t) ≡ number false = ap number is in
       inr (later (omega (arith, some, none)))
 
-pub is_pool_of : (p : Slots) (xs : List ServedSlots) (parents : List (Option ℕ)) → IsServer p xs → IsShared p → ((k : ℕ) → held_text_at p k ≢ None → 0 < count_at p k) → IsPoolOf p (record { instances = all_in p xs; parents = parents })
-is_pool_of p xs parents s shared held = record {
+pub is_pool_of : (p : Slots) (xs : List ServedSlots) → IsServer p xs → IsShared p → ((k : ℕ) → held_text_at p k ≢ None → 0 < count_at p k) → IsPoolOf p (texts_of_all (all_in p xs))
+is_pool_of p xs s shared held = record {
   all = λ t some.
       let r : IsHeldAt p (slots_of_all xs) t = all_slot p xs t (in_texts t (texts_of_all (all_in p xs)) some) in
       record { slot = r.slot; held = omega (arith, s.exact r.slot, holders_are xs r.slot, r.some); text = r.text };

@@ -9,7 +9,7 @@ use Rattle.std.proofs.lemmas.Bool.{cases_eq, eq-eqb, ne_eqb, lt-ltb, le-ltb, con
 use Rattle.std.proofs.lemmas.Option.{slice_get_within, get_or_from_slice_get, none-some, same_Some}
 use Rattle.executor.specs.declared.orders.Order.{Order}
 use Rattle.instance_core.specs.Slots.{state_in}
-use Rattle.instance_core.specs.Turns.{orders_meant}
+use Rattle.instance_core.specs.Turns.{AreOrders}
 use Rattle.instance_core.specs.Visible.{Blob}
 use Rattle.server_events.specs.Events.{EventValue}
 use Rattle.served_instance.specs.declared.refusal.EventRefusal.{EventRefusal}
@@ -62,7 +62,7 @@ OrdersGiven bs outcome e vs ws =
 
 -- with what its jobs have in a pool
 abbrev pub OrdersAre : List Blob → Result (Vec Order Global) EventRefusal → EventValue → Slots → ServedSlots → LoneInstance → Type 0
-OrdersAre bs outcome e p served l = IfOk outcome (λ orders. orders_meant (state_in p served.instance).jobs orders.items ≡ lone_orders bs e l)
+OrdersAre bs outcome e p served l = IfOk outcome (λ orders. AreOrders (state_in p served.instance).jobs orders.items (lone_orders bs e l))
 
 pub orders_noted : (bs : List Blob) (outcome : Result (Vec Order Global) EventRefusal) (e : EventValue) (vs ws : List ServedState) (p : Slots) (served : ServedSlots) (l : LoneInstance) → instance_at e.instance ws ≡ Some (served_state_in p served) → OrdersGiven bs outcome e vs ws → StandsAt e.instance vs l → OrdersAre bs outcome e p served l
 orders_noted bs (Ok orders) e vs ws p served l here given s = given l s (served_state_in p served) here

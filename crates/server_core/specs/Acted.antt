@@ -7,7 +7,7 @@ use Rattle.blob_pool.specs.Slots.{Slots}
 use Rattle.blob_pool.specs.Moves.{Moves}
 use Rattle.executor.specs.declared.orders.Order.{Order}
 use Rattle.instance_core.specs.Slots.{state_in}
-use Rattle.instance_core.specs.Turns.{orders_meant}
+use Rattle.instance_core.specs.Turns.{AreOrders}
 use Rattle.instance_core.specs.Visible.{Blob}
 use Rattle.server_events.specs.Events.{EventValue}
 use Rattle.served_instance.specs.declared.refusal.EventRefusal.{EventRefusal}
@@ -37,7 +37,7 @@ pub record IsActed (p : Slots) (parent : List Blob) (a : ServedSlots) (q : Slots
       → AreSettled (lone_step parent e l))
   pub orders : IfOk result (λ orders. (l : LoneInstance)
       → IsServedInstance (served_state_in p a) l
-      → orders_meant (state_in q b.instance).jobs orders.items ≡ lone_orders parent e l)
+      → AreOrders (state_in q b.instance).jobs orders.items (lone_orders parent e l))
   pub moves : Moves p q (holders_of a) (holders_of b)
   pub kept : IsServedInPool q b
   pub tidy : AreTidy b.connections

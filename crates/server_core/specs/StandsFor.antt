@@ -4,7 +4,7 @@ use Rattle.std.specs.declared.alloc.Global.{Global}
 use Rattle.std.specs.declared.vec.Vec.{Vec}
 use Rattle.executor.specs.declared.orders.Order.{Order}
 use Rattle.executor.specs.Orders.{OrderValue}
-use Rattle.instance_core.specs.Turns.{orders_meant}
+use Rattle.instance_core.specs.Turns.{AreOrders}
 use Rattle.std.specs.List.{slice_get}
 use Rattle.served_instance.specs.Lone.{LoneInstance}
 use Rattle.served_instance.specs.StandsFor.{ServedState, IsServedInstance}
@@ -27,7 +27,7 @@ AllStand [] [] = Unit {0}
 AllStand (v ∷ vs) (l ∷ ls) = IsServedInstance v l × AllStand vs ls
 AllStand vs ls = ⊥
 
--- these orders of the instance of this number are those orders, with what its jobs have
+-- these orders of the instance of this number are those orders, one by one, with what its jobs have
 abbrev pub OrdersStand : ℕ → List ServedState → Vec Order Global → List OrderValue → Type 0
 OrdersStand i vs orders meant =
-    (v : ServedState) → instance_at i vs ≡ Some v → orders_meant v.state.jobs orders.items ≡ meant
+    (v : ServedState) → instance_at i vs ≡ Some v → AreOrders v.state.jobs orders.items meant

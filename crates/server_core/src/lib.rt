@@ -16,5 +16,5 @@ pub use laws::{
 pub use orders::{OrderedAt, RunOrder, RunTask, TaskText};
 pub use outputs::{InstanceOutput, RefusedEvent, SentBytes};
 pub use record::{ConnectionChange, InstanceRecord};
-pub use server::{LentTask, Server};
+pub use server::{LentTask, Server, StoredTexts};
 pub use whole_run::{Outputs, ServerRun, run, run_on};

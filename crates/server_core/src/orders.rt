@@ -1,6 +1,6 @@
 //! What a run ordered of whoever runs jobs, with all that it names.
 
-ghost use Rattle.std.specs.Prelude.{◌≡◌, Some, map, option_map, IfOk};
+ghost use Rattle.std.specs.Prelude.{◌≡◌, map, option_map, IfOk};
 ghost use Rattle.blob_pool.specs.Slots.{Slots};
 ghost use Rattle.instance_view.specs.Shown.{blobs_in};
 ghost use Rattle.tree_plan.specs.Shown.{kind_shown, node_shown, nodes_shown};
@@ -134,7 +134,7 @@ pub(crate) fn copy_order(
     order: Order,
 ) -> Result<Option<RunOrder>, AllocError>
     ensures { IfOk result (λ found. option_map order_shown found
-        ≡ order_meant (state_in pool.now instance.now.instance).jobs (Some order)) }
+        ≡ order_meant (state_in pool.now instance.now.instance).jobs order) }
 {
     match order {
         Order::Kill { job } => Ok(Some(RunOrder::Kill { job })),

@@ -11,7 +11,7 @@ ghost use Rattle.served_instance.specs.Slots.{HasConnections};
 ghost use Rattle.server_core.specs.Runs.{Run, new_run, orders_at, run_step, output_of_run};
 ghost use Rattle.server_core.specs.Shown.{sent_shown, ordered_shown, instance_output_shown};
 ghost use Rattle.instance_core.specs.Slots.{state_in};
-ghost use Rattle.instance_core.specs.Turns.{orders_meant};
+ghost use Rattle.instance_core.specs.Turns.{AreOrders, orders_meant};
 ghost use Rattle.instance_core.specs.Visible.{Blob};
 ghost use Rattle.served_instance.specs.Cuts.{broken_by};
 ghost use Rattle.server_core.specs.Marked.{IsShortStep};
@@ -123,8 +123,8 @@ impl InstanceRecord {
             → IsRefusalOutcome outcome (refusal_of event r.lone)
             → HasConnections instance.now (lone_step parent event r.lone)
             → IfOk outcome (λ orders.
-            orders_meant (state_in pool.now instance.now.instance).jobs orders.items
-            ≡ lone_orders parent event r.lone)
+            AreOrders (state_in pool.now instance.now.instance).jobs orders.items
+            (lone_orders parent event r.lone))
             → IsRecord self.new (run_step parent r event)) }
         ensures count { self.new.count ≡ self.old.count + 1 }
         ensures err { OnErr result (self.new.refusals ≡ self.old.refusals) }

@@ -1,7 +1,7 @@
 //! The server, event by event.
 
 ghost use Rattle.std.specs.Prelude.{◌≡◌, ◌≢◌, ◌<◌, ◌≤◌, ◌↔◌, ℕ, List, [], length, Option, option_map, Some, None, IfSome, IfOk, IfErr, OnOk, Err};
-ghost use Rattle.std.specs.List.{AllByRecursion};
+ghost use Rattle.std.specs.List.{AllByRecursion, flat_map};
 ghost use Rattle.server_events.specs.Configs.{ConfigValue, parents_of};
 ghost use Rattle.server_events.specs.Faults.{AreParents};
 ghost use Rattle.server_events.specs.Shown.{event_value};
@@ -21,9 +21,9 @@ ghost use Rattle.server_core.specs.Lent.{lent_shown};
 ghost use Rattle.server_core.specs.LoneOutput.{config_at};
 ghost use Rattle.server_core.specs.Parents.{AreParentsOf, parent_at, texts_at, texts_of_one, parent_texts};
 ghost use Rattle.server_core.specs.Shared.{all_in, IsServer};
-ghost use Rattle.server_core.specs.StandsFor.{OrdersStand, StandsAt, instance_at};
+ghost use Rattle.server_core.specs.StandsFor.{AllStand, OrdersStand, StandsAt, instance_at};
 ghost use Rattle.server_core.specs.Marked.{StandsShortAt};
-ghost use Rattle.server_core.specs.Stored.{AreStored, texts_held, texts_of_all};
+ghost use Rattle.server_core.specs.Stored.{AreStored, lone_texts, texts_held};
 ghost use Rattle.server_core.specs.Pooled.{IsPoolOf};
 ghost use Rattle.blob_pool.specs.Slots.{Slots, text_at};
 ghost use Rattle.served_instance.specs.Ranges.{RangesEndWithin};
@@ -41,6 +41,17 @@ use std::mem::swap;
 pub struct LentTask<'a> {
     pub task: &'a Task,
     pub pool: &'a Pool,
+}
+
+/// What a server has stored.
+#[derive(Clone, Copy)]
+pub struct StoredTexts<'a> {
+    /// Each text stands in one of its slots.
+    pub pool: &'a Pool,
+    /// How many different texts there are.
+    pub texts: u64,
+    /// How many bytes they have together.
+    pub bytes: u128,
 }
 
 /// A server with its instances, by their numbers, over one pool of texts: a text that several
@@ -183,22 +194,35 @@ impl Server {
         self.instance(instance)?.has_calls(connection)
     }
 
-    /// How many different texts the instances hold, and how many bytes these have together. An
-    /// instance holds the texts of its blobs, those that its jobs keep which wait or run, and each
-    /// text of which a range is still to be put. One that is held several times counts once.
-    pub fn stored(&self) -> (u64, u128)
-        ensures { AreStored (texts_held self.now) result.0 result.1 }
+    /// The texts that the instances hold: those of their blobs, those that their jobs keep which wait
+    /// or run, and each text of which a range is still to be put. After every event, also a refused
+    /// one, the pool has each of them in one slot, which counts how often they hold it, and nothing
+    /// else.
+    pub fn stored_texts(&self) -> StoredTexts<'_>
+        ensures pool { IsPoolOf result.pool.now (texts_held self.now) }
+        ensures count { AreStored (texts_held self.now) result.texts result.bytes }
+        // What the instances hold is what each has by itself.
+        ensures alone { (ls : List LoneInstance) → AllStand self.now.instances ls
+            → IsPoolOf result.pool.now (flat_map lone_texts ls) }
     {
-        stored_of(&self.pool, &self.instances)
+        let (texts, bytes) = self.pool.stored();
+        StoredTexts {
+            pool: &self.pool,
+            texts,
+            bytes,
+        }
     }
 
-    /// The pool of texts. After every event, also a refused one, it has each text that an instance
-    /// holds in one slot, which counts how often the instances hold it, for blobs, for jobs and for
-    /// ranges, and nothing else.
-    pub fn pool(&self) -> &Pool
-        ensures { IsPoolOf result.now self.now }
+    /// How many different texts the instances hold, and how many bytes these have together. One that
+    /// is held several times counts once.
+    pub fn stored(&self) -> (u64, u128)
+        ensures held { AreStored (texts_held self.now) result.0 result.1 }
+        // What the instances hold is what each has by itself.
+        ensures alone { (ls : List LoneInstance) → AllStand self.now.instances ls
+            → AreStored (flat_map lone_texts ls) result.0 result.1 }
     {
-        pool_of(&self.pool, &self.instances)
+        let stored = self.stored_texts();
+        (stored.texts, stored.bytes)
     }
 
     /// The task of the job that runs under a number at an instance, where one does, with the pool in
@@ -233,29 +257,6 @@ impl Server {
     {
         self.instances.get(number as usize)
     }
-}
-
-/// How many texts the pool has, and how many bytes these have together.
-fn stored_of(pool: &Pool, instances: &[ServedInstance]) -> (u64, u128)
-    requires { IsServer pool.now instances.now }
-    ensures { AreStored (texts_of_all (all_in pool.now instances.now)) result.0 result.1 }
-{
-    // Naming the instances has no effect; it is there for the proof.
-    let _instances = instances;
-    pool.stored()
-}
-
-/// The pool, which has the texts of the instances.
-fn pool_of<'a>(pool: &'a Pool, instances: &[ServedInstance]) -> &'a Pool
-    requires { IsServer pool.now instances.now }
-    ensures pool { result.now ≡ pool.now }
-    ensures texts { (parents : List (Option ℕ)) → IsPoolOf result.now
-        (record { instances = all_in pool.now instances.now; parents = parents }) }
-{
-    // Neither statement has an effect; they are there for the proof.
-    let _instances = instances;
-    pool.stored();
-    pool
 }
 
 /// An instance that has nothing.

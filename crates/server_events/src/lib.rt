@@ -1,6 +1,6 @@
 //! What a server is started with and what happens to it: the configurations of its instances, which
 //! names, quotas, slot counts and parents these may have, and the events of its connections and its
-//! clock, and of the runs of jobs, of which it has none yet.
+//! clock, and of the runs of jobs.
 #![tactic(auto)]
 
 mod configs;

@@ -1,4 +1,4 @@
-use Rattle.std.proofs.Common.{◌≡◌, ℕ, List, ap, ◌∙◌}
+use Rattle.std.proofs.Common.{ℕ, List, ap, ◌∙◌}
 use Rattle.digest.specs.declared.Digest.{Digest}
 use Rattle.instance_view.specs.Shown.{visible_in}
 use Rattle.input_tree.specs.Uses.{visible_after_uses}

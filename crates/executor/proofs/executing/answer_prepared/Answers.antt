@@ -1,6 +1,5 @@
-use Rattle.std.proofs.Common.{◌≡◌, List, sym, ap, subst, ◌∙◌}
-use Rattle.std.specs.Prelude.{OnOk, Ok, Err, Result}
-use Rattle.digest.specs.declared.Digest.{Digest}
+use Rattle.std.proofs.Common.{◌≡◌, sym, ap, subst, ◌∙◌}
+use Rattle.std.specs.Prelude.{OnOk, Ok, Err}
 use Rattle.cas_service.specs.Answers.{Answers}
 use Rattle.executor.specs.Answers.{answer_shown}
 use Rattle.executor.specs.Changes.{after_changes}

@@ -1,4 +1,4 @@
-use Rattle.std.proofs.Common.{◌≡◌, ℕ, false, List, Option, Some, None, nat_eq, nat_lt, sym, ap, subst, ◌∙◌, rules}
+use Rattle.std.proofs.Common.{◌≡◌, ℕ, false, List, Some, None, nat_eq, nat_lt, sym, ap, subst, ◌∙◌, rules}
 use Rattle.std.specs.Prelude.{OnOk, option_map}
 use Rattle.digest.specs.declared.Digest.{Digest}
 use Rattle.cas_service.specs.Answers.{Answers}

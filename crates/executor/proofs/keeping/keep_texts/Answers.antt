@@ -1,7 +1,7 @@
-use Rattle.std.proofs.Common.{◌≡◌, ◌≤◌, ◌<◌, ◌+◌, ◌^◌, ℕ, length, arith, rules}
+use Rattle.std.proofs.Common.{◌≡◌, ◌≤◌, ◌<◌, ◌+◌, ℕ, arith, rules}
 use Rattle.std.proofs.lemmas.List.{length-map}
 use Rattle.instance_view.proofs.Held.{holders-few}
-use Rattle.executor.specs.Keeping.{kept_entry, kept_entries}
+use Rattle.executor.specs.Keeping.{kept_entries}
 use Rattle.executor.proofs.keeping.keep_texts.Goals as goal
 
 room : (now before held few most limit : ℕ) → now + 0 ≡ before + held → held ≤ few → few < most → before + most < limit → now < limit

@@ -1,4 +1,4 @@
-use Rattle.std.proofs.Common.{List, []}
+use Rattle.std.proofs.Common.{[]}
 use Rattle.executor.specs.Steps.{ending_of, timings_out}
 use Rattle.job_queue.specs.Jobs.{running_job}
 use Rattle.executor.proofs.Timings.{tick-ends, outcome-ends, nothing-ends}

@@ -1,5 +1,4 @@
 use Rattle.std.proofs.Common.{◌≡◌, List, ap, ◌∙◌}
-use Rattle.digest.specs.declared.Digest.{Digest}
 use Rattle.blob_pool.specs.Slots.{Slots}
 use Rattle.instance_view.specs.Visible.{Blob}
 use Rattle.instance_view.specs.Shown.{ViewEntry, blobs_in, entry_holders}

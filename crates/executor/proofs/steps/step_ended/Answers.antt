@@ -1,8 +1,6 @@
-use Rattle.std.proofs.Common.{rules, ◌≡◌, List, [], ◌∷◌, ◌∙◌, ℕ, ap}
-use Rattle.operations.specs.Operations.{completed_text}
+use Rattle.std.proofs.Common.{rules, ◌≡◌, List, [], ◌∷◌, ◌∙◌, ℕ}
 use Rattle.operations.specs.Shown.{end_shown}
-use Rattle.executor.specs.declared.job.Job.{Job}
-use Rattle.executor.specs.Steps.{StepValue, ends}
+use Rattle.executor.specs.Steps.{ends}
 use Rattle.executor.specs.Taking.{steps_shown}
 use Rattle.executor.proofs.Taken.{ended_some}
 use Rattle.executor.proofs.steps.step_ended.Goals as goal

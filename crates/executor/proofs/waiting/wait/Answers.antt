@@ -1,13 +1,12 @@
-use Rattle.std.proofs.Common.{◌≡◌, ℕ, Option, sym, ap, subst, ◌∙◌}
+use Rattle.std.proofs.Common.{ℕ, Option, sym, ap, subst, ◌∙◌}
 use Rattle.std.specs.Prelude.{Result, option_map}
 use Rattle.rpc.specs.declared.refusal.Refusal.{Refusal}
 use Rattle.cas_service.specs.Answers.{Answers}
-use Rattle.job_queue.specs.Jobs.{Jobs, StageValue, stage_of}
+use Rattle.job_queue.specs.Jobs.{Jobs, StageValue}
 use Rattle.executor.specs.declared.job.Job.{Job}
-use Rattle.executor.specs.Job.{JobValue}
 use Rattle.executor.specs.Answers.{wait_shown}
 use Rattle.executor.specs.InPool.{jobs_in, stage_in}
-use Rattle.executor.specs.Waiting.{WaitAnswer, wait, wait_answer, wait_for}
+use Rattle.executor.specs.Waiting.{WaitAnswer, wait_answer, wait_for}
 use Rattle.executor.proofs.Calling.{stage_same}
 use Rattle.executor.proofs.waiting.wait.Goals as goal
 

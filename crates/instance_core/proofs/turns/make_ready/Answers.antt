@@ -1,12 +1,11 @@
 use Rattle.std.proofs.Common.{◌≡◌, ◌-◌, ◌++◌, List, ◌∷◌, length, drop, take, map, ap, ◌∙◌}
-use Rattle.std.specs.List.{filter_map}
-use Rattle.executor.specs.Orders.{ToldValue, order_of}
+use Rattle.executor.specs.Orders.{ToldValue}
+use Rattle.executor.specs.Ordered.{orders_by}
 use Rattle.executor.specs.Taking.{step_shown, steps_shown}
 use Rattle.executor.specs.declared.steps.Step.{Step}
 use Rattle.instance_core.specs.Apart.{replies_to}
 use Rattle.instance_core.specs.Calls.{Calls}
 use Rattle.instance_core.specs.Shown.{reply_shown}
-use Rattle.instance_core.specs.Turns.{orders_meant}
 use Rattle.instance_core.specs.Watching.{replies_told, replies_to_watchers}
 use Rattle.instance_core.proofs.Telling.{orders_next, steps_front, watchers_next}
 use Rattle.instance_core.proofs.turns.make_ready.Goals as goal
@@ -21,5 +20,5 @@ loop-left-preserved c =
     record {
       replies = λ p. watchers_next c.args.only calls (step_shown x) (steps_shown left) (steps_shown rest) (map (reply_shown p) c.loop-left.replies.items) (map (reply_shown p) c.tell_watchers.new.replies.items) (replies_to c.args.only (replies_to_watchers calls (steps_shown c.args.steps.items))) front (c.in_ok-tell_watchers.ensures.replies p ∙ ap (λ (t : ToldValue). map (reply_shown p) c.loop-left.replies.items ++ replies_to c.args.only (replies_told calls t)) c.told.ensures) (c.loop-left.invariant.replies p);
       given = λ k. c.in_ok-tell_watchers.ensures.given k ∙ c.loop-left.invariant.given k;
-      orders = λ after. orders_next after (step_shown x) (steps_shown left) (steps_shown rest) (orders_meant after c.loop-left.orders.items) (orders_meant after c.add_order.new.orders.items) (filter_map (order_of after) (steps_shown c.args.steps.items)) front (c.in_ok-add_order.ensures after) (c.loop-left.invariant.orders after);
+      orders = orders_next (step_shown x) (steps_shown left) (steps_shown rest) c.loop-left.orders.items c.add_order.new.orders.items (orders_by (steps_shown c.args.steps.items)) front c.in_ok-add_order.ensures c.loop-left.invariant.orders;
     }

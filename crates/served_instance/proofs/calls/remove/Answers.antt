@@ -1,8 +1,7 @@
-use Rattle.std.proofs.Common.{sym, ap, ◌∙◌, map}
+use Rattle.std.proofs.Common.{sym, ap, ◌∙◌}
 use Rattle.std.specs.Prelude.{position}
 use Rattle.blob_pool.specs.Slots.{count_at}
 use Rattle.served_instance.specs.Present.{is_numbered}
-use Rattle.served_instance.specs.Shown.{connection_shown}
 use Rattle.served_instance.proofs.Cut.{others_all, others_removed}
 use Rattle.served_instance.proofs.Releasing.{closed_few, releases_closed}
 use Rattle.served_instance.proofs.calls.remove.Goals as goal

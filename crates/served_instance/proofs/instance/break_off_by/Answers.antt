@@ -1,6 +1,5 @@
-use Rattle.std.proofs.Common.{◌≡◌, ◌∙◌, [], refl, sym, ap, map, length, arith}
+use Rattle.std.proofs.Common.{◌∙◌, [], refl, sym, ap, map, length, arith}
 use Rattle.blob_pool.proofs.Moves.{moves_none, moves_trans}
-use Rattle.blob_pool.specs.Slots.{text_at}
 use Rattle.instance_core.specs.Apart.{calls_apart}
 use Rattle.instance_core.specs.Slots.{state_in}
 use Rattle.instance_core.specs.State.{InstanceState}

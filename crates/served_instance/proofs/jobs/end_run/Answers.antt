@@ -1,4 +1,4 @@
-use Rattle.std.proofs.Common.{◌∙◌, refl, map}
+use Rattle.std.proofs.Common.{refl}
 use Rattle.blob_pool.specs.Moves.{Moves}
 use Rattle.blob_pool.proofs.Moves.{moves_trans}
 use Rattle.executor.specs.Taking.{steps_shown}

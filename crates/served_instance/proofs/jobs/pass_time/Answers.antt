@@ -1,4 +1,4 @@
-use Rattle.std.proofs.Common.{◌∙◌, ◌+◌, refl, map, arith}
+use Rattle.std.proofs.Common.{refl, map, arith}
 use Rattle.blob_pool.specs.Moves.{Moves}
 use Rattle.blob_pool.proofs.Moves.{moves_none, moves_trans}
 use Rattle.executor.specs.Taking.{steps_shown}

@@ -1,4 +1,4 @@
-use Rattle.std.proofs.Common.{◌∙◌, refl, sym, subst, map}
+use Rattle.std.proofs.Common.{◌∙◌, refl}
 use Rattle.blob_pool.proofs.Moves.{moves_none, moves_trans}
 use Rattle.executor.specs.Taking.{steps_shown}
 use Rattle.instance_core.specs.Slots.{state_in}

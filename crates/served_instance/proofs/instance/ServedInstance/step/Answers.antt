@@ -1,9 +1,9 @@
-use Rattle.std.proofs.Common.{◌≡◌, ◌≤◌, ◌+◌, refl, sym, ap, ◌∙◌, subst, arith}
+use Rattle.std.proofs.Common.{◌≡◌, refl, sym, ap, ◌∙◌, subst, arith}
 use Rattle.job_queue.specs.Jobs.{Jobs}
 use Rattle.job_queue.specs.Order.{AreJobs}
 use Rattle.executor.specs.Job.{JobValue}
 use Rattle.instance_core.specs.State.{InstanceState}
-use Rattle.instance_core.specs.Turns.{orders_meant}
+use Rattle.instance_core.specs.Turns.{AreOrders}
 use Rattle.instance_core.specs.Watching.{WatchAtRest}
 use Rattle.served_instance.specs.declared.broken.Broken.{Broken}
 use Rattle.served_instance.proofs.Watches.{accepted_watched, short_watched}
@@ -93,9 +93,9 @@ returns-in-Ok-clause-orders c = λ l s.
     let after = c.pump.ensures.stands k here in
     let same : (state_in c.pump.new.pool c.pump.new.self.instance).jobs ≡ (state_in q j).jobs = ap (λ (x : InstanceState). x.jobs) after.state ∙ sym (ap (λ (x : InstanceState). x.jobs) here.state) in
     let orders = c.in-Ok.orders.items in
-    let is : orders_meant (state_in c.pump.new.pool c.pump.new.self.instance).jobs orders ≡ orders_of_what e.what m =
-    ap (λ (js : Jobs JobValue). orders_meant js orders) same ∙ c.in-Ok.ensures.orders m came in
-    orders_accepted seen p e c.args.self.now l (orders_meant (state_in c.pump.new.pool c.pump.new.self.instance).jobs orders) (sym c.in_default.is ∙ c.refusal.ensures) c.requires.kept.fit s is
+    let are : AreOrders (state_in c.pump.new.pool c.pump.new.self.instance).jobs orders (orders_of_what e.what m) =
+    subst (λ (js : Jobs JobValue). AreOrders js orders (orders_of_what e.what m)) (sym same) (c.in-Ok.ensures.orders m came) in
+    orders_accepted seen p e c.args.self.now l (state_in c.pump.new.pool c.pump.new.self.instance).jobs orders (sym c.in_default.is ∙ c.refusal.ensures) c.requires.kept.fit s are
 
 pub act-requires : goal.act-requires
 act-requires c =

@@ -7,7 +7,8 @@ use Rattle.std.proofs.lemmas.Result.{on_ok_weaker}
 use Rattle.executor.specs.declared.orders.Order.{Order}
 use Rattle.std.proofs.lemmas.List.{map_push, with_items_is}
 use Rattle.instance_core.specs.Slots.{state_in}
-use Rattle.instance_core.specs.Turns.{orders_meant}
+use Rattle.instance_core.specs.Turns.{AreOrders, orders_meant}
+use Rattle.instance_core.proofs.OrdersMeant.{all_meant}
 use Rattle.served_instance.specs.declared.refusal.EventRefusal.{EventRefusal}
 use Rattle.served_instance.specs.Refusals.{refusal_of, lone_orders, lone_step, IsRefusalOutcome}
 use Rattle.server_core.specs.declared.record.ConnectionChange.{ConnectionChange}
@@ -38,8 +39,9 @@ returns-in_ok-gather-in-Ok-clause-stands c = on_ok_weaker c.add_orders.result (�
     c.count_untaken.ensures m served apart ∙ ap (map (record_after_noting m)) (c.deref_mut.ensures.value ∙ live) in
     let written : (with_items c.follow.new.live c.count_untaken.new.live).items ≡ c.count_untaken.new.live = with_items_is c.follow.new.live c.count_untaken.new.live (c.count_untaken.auto.live ∙ c.deref_mut.ensures.len) in
     let jobs = (state_in c.args.pool.now c.args.instance.now.instance).jobs in
-    let gave : orders_meant jobs c.in-Ok.orders.items ≡ lone_orders bs e r.lone =
-    subst (λ (o : Result (Vec Order Global) EventRefusal). IfOk o (λ orders. orders_meant jobs orders.items ≡ lone_orders bs e r.lone)) c.in-Ok.is ordered in
+    let are : AreOrders jobs c.in-Ok.orders.items (lone_orders bs e r.lone) =
+    subst (λ (o : Result (Vec Order Global) EventRefusal). IfOk o (λ orders. AreOrders jobs orders.items (lone_orders bs e r.lone))) c.in-Ok.is ordered in
+    let gave : orders_meant jobs c.in-Ok.orders.items ≡ lone_orders bs e r.lone = all_meant jobs c.in-Ok.orders.items (lone_orders bs e r.lone) are in
     let added : map ordered_shown c.add_orders.new.ordered.items ≡ v.orders ++ orders_at (v.count + 1) (orders_meant jobs c.in-Ok.orders.items) =
     more ∙ ap (λ (os : List Order). v.orders ++ orders_at (v.count + 1) (orders_meant jobs os)) c.deref-in-Ok.ensures.value in
     noted v r bs e (orders_meant jobs c.in-Ok.orders.items) (map ordered_shown c.add_orders.new.ordered.items) (map sent_shown c.gather.new.sent.items) (with_items c.follow.new.live c.count_untaken.new.live).items st0 none gave added sent (written ∙ counted))

@@ -10,3 +10,4 @@ pub mod Lists
 pub mod Popped
 pub mod WentOn
 pub mod Trees
+pub mod Stopped

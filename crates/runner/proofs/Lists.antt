@@ -1,5 +1,5 @@
 -- A list and its first, and keys.
-use Rattle.std.proofs.Common.{◌≡◌, ℕ, ◌≤◌, ◌<◌, ◌-◌, List, [], ◌∷◌, length, take, drop, get_or, nat_eq, Bool, true, refl, ap, sym, ◌∙◌, arith}
+use Rattle.std.proofs.Common.{◌≡◌, ℕ, ◌≤◌, ◌<◌, ◌-◌, List, [], ◌∷◌, length, take, drop, get_or, nat_eq, Bool, true, false, refl, ap, sym, ◌∙◌, arith}
 use Rattle.std.proofs.Math.Seq.{take-length}
 use Rattle.std.specs.Prelude.{vec_len}
 use Rattle.std.specs.Global.{Vec}
@@ -21,6 +21,9 @@ key_of i j = record { instance = i; job = j }
 
 pub key_same : (a b : RunKey) → a.instance ≡ b.instance → a.job ≡ b.job → a ≡ b
 key_same a b i j = ap (λ x. key_of x a.job) i ∙ ap (λ y. key_of b.instance y) j
+
+pub some_piece : (v : Vec ℕ) (b : Bool) → b ≡ nat_eq (vec_len v) 0 → b ≡ false → v.items ≡ [] → ⊥
+some_piece v b is so none = let e = ap length none in grind (arith, is, so, v.ok, e)
 
 pub no_piece : (v : Vec ℕ) (b : Bool) → b ≡ nat_eq (vec_len v) 0 → b ≡ true → v.items ≡ []
 no_piece v b is so = no_items v.items (grind (arith, is, so, v.ok))

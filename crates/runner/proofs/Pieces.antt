@@ -2,16 +2,18 @@
 use Rattle.std.proofs.Common.{◌≡◌, List, [], ◌∷◌, ◌++◌, sym, ap, ◌∙◌, append-nil, append_assoc}
 
 -- the file was read to its end, and stands among what is whole
-pub read_whole : {A : Type 0} (old new file items : List A) → new ≡ old ++ file → items ≡ [] → new ≡ (old ++ file) ++ items
-read_whole old new file items is none = is ∙ sym (append-nil (old ++ file)) ∙ ap (λ zs. (old ++ file) ++ zs) (sym none)
+pub read_whole : {A : Type 0} (old new file end items : List A) → new ≡ old ++ (file ++ end) → items ≡ end → new ≡ (old ++ file) ++ items
+read_whole old new file end items is last = is ∙ sym (append_assoc old file end) ∙ ap (λ zs. (old ++ file) ++ zs) (sym last)
 
 -- a piece was read
 pub read_more : {A : Type 0} (old : List A) (first : A) (content new items : List A) → new ≡ content ++ items → old ++ (first ∷ new) ≡ (old ++ (first ∷ content)) ++ items
 read_more old first content new items is = ap (λ zs. old ++ (first ∷ zs)) is ∙ sym (append_assoc old (first ∷ content) items)
 
 -- a file within what is whole was read to its end
-pub read_inside : {A : Type 0} (old tree new file items : List A) → new ≡ tree ++ file → items ≡ [] → old ++ new ≡ (old ++ (tree ++ file)) ++ items
-read_inside old tree new file items is none = ap (λ zs. old ++ zs) is ∙ sym (append-nil (old ++ (tree ++ file))) ∙ ap (λ zs. (old ++ (tree ++ file)) ++ zs) (sym none)
+pub read_inside : {A : Type 0} (old tree new file end items : List A) → new ≡ tree ++ (file ++ end) → items ≡ end → old ++ new ≡ (old ++ (tree ++ file)) ++ items
+read_inside old tree new file end items is last =
+    ap (λ zs. old ++ zs) (is ∙ sym (append_assoc tree file end)) ∙ sym (append_assoc old (tree ++ file) end)
+    ∙ ap (λ zs. (old ++ (tree ++ file)) ++ zs) (sym last)
 
 -- one more stands behind
 pub one_behind : {A : Type 0} (old tree new items : List A) → new ≡ tree ++ items → old ++ new ≡ (old ++ tree) ++ items

@@ -1,5 +1,5 @@
 -- A list and its first, and what steps of making and reading add.
-use Rattle.std.proofs.Common.{◌≡◌, ℕ, ◌+◌, ◌-◌, Bool, List, [], ◌∷◌, ◌++◌, map, take, drop, length, refl, ap, sym, ◌∙◌, append_assoc, arith}
+use Rattle.std.proofs.Common.{◌≡◌, ℕ, ◌+◌, ◌-◌, Bool, List, [], ◌∷◌, ◌++◌, map, take, drop, length, refl, ap, sym, ◌∙◌, append-nil, append_assoc, arith}
 use Rattle.std.specs.Prelude.{ℤ, Option, Some, None, Result, Ok, Err, string_bytes}
 use Rattle.std.specs.Option.{option_to_list}
 use Rattle.std.specs.Global.{Vec}
@@ -13,8 +13,8 @@ use Rattle.runner.specs.Values.{PlaceValue, kind_shown}
 use Rattle.runner.specs.Faults.{FolderAnswered, ProgramsAnswered}
 use Rattle.runner.specs.Calls.{ProgramQuestion, ProgramAnswer, kill_asked, read_asked, bytes_asked, killed, killed_of, bytes_of, folder_bytes_of}
 use Rattle.runner.specs.Made.{MadeItem, node_item, kind_made, nodes_made, names_at, above_then}
-use Rattle.runner.specs.Gathered.{ItemValue, numbered, call_items}
-use Rattle.runner.specs.Told.{ToldItem, code_item, killed_item, stream_bytes, call_told, kill_told, answer_told}
+use Rattle.runner.specs.Gathered.{ItemValue, numbered, part_items, call_items}
+use Rattle.runner.specs.Told.{ToldItem, code_item, killed_item, stream_bytes, stream_end, whole_stream, part_told, call_told, kill_told, answer_told}
 use Rattle.runner.specs.Steps.{above_behind}
 use Rattle.runner.proofs.Items.{behind_is_then, stream_append, numbered_append}
 
@@ -87,8 +87,13 @@ pub kill_says : {E : Type 0} (run : RunKey) (r : Result Bool E) (b : Bool) → r
 kill_says run r b is = ap (λ x. call_told (kill_asked run) (killed_of x)) is
 
 pub read_says : {E : Type 0} (run : RunKey) (s : Stream) (from most : ℕ) (r : Result (Vec ℕ) E) (v : Vec ℕ) (piece : List ℕ) → r ≡ Ok v → v.items ≡ piece
-    → call_told (read_asked run s from most) (bytes_of r) ≡ stream_bytes run s from piece
-read_says run s from most r v piece is items = ap (λ x. call_told (read_asked run s from most) (bytes_of x)) is ∙ ap (stream_bytes run s from) items
+    → call_told (read_asked run s from most) (bytes_of r) ≡ part_told run s from most piece
+read_says run s from most r v piece is items = ap (λ x. call_told (read_asked run s from most) (bytes_of x)) is ∙ ap (part_told run s from most) items
+
+-- something came
+pub some_told : (run : RunKey) (s : Stream) (from most : ℕ) (piece : List ℕ) → (piece ≡ [] → ⊥) → part_told run s from most piece ≡ stream_bytes run s from piece
+some_told run s from most [] some = absurd (some refl)
+some_told run s from most (b ∷ bs) some = refl
 
 pub more_read : (run : RunKey) (s : Stream) (content new piece : List ℕ) (from : ℕ) (items : List ToldItem)
     → new ≡ content ++ piece → from ≡ length content → items ≡ stream_bytes run s from piece → stream_bytes run s 0 new ≡ stream_bytes run s 0 content ++ items
@@ -98,19 +103,25 @@ more_read run s content new piece from items new_is from_is items_is =
     ∙ ap (λ n. stream_bytes run s 0 content ++ stream_bytes run s n piece) e ∙ ap (λ is. stream_bytes run s 0 content ++ is) (sym items_is)
 
 -- standard output was read to its end
-pub output_whole : (run : RunKey) (code : ℤ) (content whole err : List ℕ) (items : List ToldItem) → whole ≡ content → err ≡ [] → items ≡ []
-    → code_item run code ∷ killed_item run ∷ (stream_bytes run streams.Output 0 whole ++ stream_bytes run streams.Error 0 err)
+pub output_whole : (run : RunKey) (code : ℤ) (content whole err : List ℕ) (items : List ToldItem) → whole ≡ content → err ≡ [] → items ≡ stream_end run streams.Output ∷ []
+    → code_item run code ∷ killed_item run ∷ (whole_stream run streams.Output whole ++ stream_bytes run streams.Error 0 err)
     ≡ (code_item run code ∷ killed_item run ∷ stream_bytes run streams.Output 0 content) ++ items
 output_whole run code content whole err items whole_is err_is items_is =
-    ap (λ w. code_item run code ∷ killed_item run ∷ (stream_bytes run streams.Output 0 w ++ stream_bytes run streams.Error 0 err)) whole_is
-    ∙ ap (λ e. code_item run code ∷ killed_item run ∷ (stream_bytes run streams.Output 0 content ++ stream_bytes run streams.Error 0 e)) err_is
+    ap (λ w. code_item run code ∷ killed_item run ∷ (whole_stream run streams.Output w ++ stream_bytes run streams.Error 0 err)) whole_is
+    ∙ ap (λ e. code_item run code ∷ killed_item run ∷ (whole_stream run streams.Output content ++ stream_bytes run streams.Error 0 e)) err_is
+    ∙ ap (λ is. code_item run code ∷ killed_item run ∷ is) (append-nil (whole_stream run streams.Output content))
     ∙ ap (λ is. (code_item run code ∷ killed_item run ∷ stream_bytes run streams.Output 0 content) ++ is) (sym items_is)
 
 -- ---- what is gathered
 
 pub bytes_say : {E : Type 0} (place : PlaceValue) (path : List ℕ) (names : List (List ℕ)) (from most : ℕ) (r : Result (Vec ℕ) E) (v : Vec ℕ) (piece : List ℕ)
-    → r ≡ Ok v → v.items ≡ piece → call_items (bytes_asked place path names from most) (folder_bytes_of r) ≡ numbered place path names from piece
-bytes_say place path names from most r v piece is items = ap (λ x. call_items (bytes_asked place path names from most) (folder_bytes_of x)) is ∙ ap (numbered place path names from) items
+    → r ≡ Ok v → v.items ≡ piece → call_items (bytes_asked place path names from most) (folder_bytes_of r) ≡ part_items place path names from most piece
+bytes_say place path names from most r v piece is items = ap (λ x. call_items (bytes_asked place path names from most) (folder_bytes_of x)) is ∙ ap (part_items place path names from most) items
+
+-- something came
+pub some_items : (place : PlaceValue) (path : List ℕ) (names : List (List ℕ)) (from most : ℕ) (piece : List ℕ) → (piece ≡ [] → ⊥) → part_items place path names from most piece ≡ numbered place path names from piece
+some_items place path names from most [] some = absurd (some refl)
+some_items place path names from most (b ∷ bs) some = refl
 
 pub more_gathered : (place : PlaceValue) (path : List ℕ) (names : List (List ℕ)) (content new piece : List ℕ) (from : ℕ) (items : List ItemValue)
     → new ≡ content ++ piece → from ≡ length content → items ≡ numbered place path names from piece → numbered place path names 0 new ≡ numbered place path names 0 content ++ items

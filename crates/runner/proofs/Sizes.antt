@@ -1,6 +1,6 @@
 -- How many bytes are held after what was asked.
 use Rattle.std.proofs.Common.{◌≡◌, ◌≤◌, ℕ, ◌+◌, true, false, List, [], ◌∷◌, ◌++◌, length, refl, ap, ◌∙◌, subst, arith}
-use Rattle.std.specs.Prelude.{Option, Some, None, string_bytes}
+use Rattle.std.specs.Prelude.{Option, Some, None, zero, suc, string_bytes}
 use Rattle.runner.specs.declared.task.RunKey.{RunKey}
 use Rattle.runner.specs.declared.folder.Found.TheVariants as founds
 use Rattle.runner.specs.declared.outcome.Exited.{Exited}
@@ -19,8 +19,8 @@ use Rattle.runner.specs.declared.stage.Step.TheVariants as steps
 use Rattle.runner.specs.Values.{PlaceValue}
 use Rattle.runner.specs.Calls.{FolderQuestion, FolderAnswer, root_asked, node_asked, text_asked, directory_asked, parents_asked, look_asked, file_asked, list_asked, bytes_asked, removal_asked, done, found, facts, entries, file_bytes, gone, ProgramQuestion, ProgramAnswer, start_asked, end_asked, kill_asked, length_asked, read_asked, forget_asked, program_done, running, ended, killed, written, bytes, RunCall, of_folder, of_programs, folder_calls, program_calls}
 use Rattle.runner.specs.Made.{names_at}
-use Rattle.runner.specs.Gathered.{ItemValue, file_item, byte_at, directory_item, numbered, node_items, nodes_items, above_after, kind_items, output_items, call_items, items_answered}
-use Rattle.runner.specs.Told.{ToldItem, code_item, killed_item, stream_byte, stream_bytes, call_told, items_told}
+use Rattle.runner.specs.Gathered.{ItemValue, file_item, byte_at, end_item, found_item, directory_item, numbered, whole_file, node_items, nodes_items, above_after, kind_items, output_items, call_items, items_answered}
+use Rattle.runner.specs.Told.{ToldItem, code_item, killed_item, stream_byte, stream_end, stream_bytes, whole_stream, call_told, items_told}
 use Rattle.runner.specs.Steps.{exited_told, file_items, tree_items, tree_file_items, has_gathered, has_told, then_gathered, then_told}
 use Rattle.runner.specs.Sizes.{most_bytes, node_length, nodes_length, output_length, outputs_length, exited_length, held, then_held, folder_read, program_read, read, all_read, Fits}
 
@@ -29,6 +29,8 @@ use Rattle.runner.specs.Sizes.{most_bytes, node_length, nodes_length, output_len
 abbrev item_count : ItemValue → ℕ
 item_count (file_item place path names is_executable) = 0
 item_count (byte_at place path names at b) = 1
+item_count (end_item place path names) = 0
+item_count (found_item place path) = 0
 item_count (directory_item place path names) = 0
 
 abbrev items_count : List ItemValue → ℕ
@@ -39,6 +41,7 @@ abbrev told_count : ToldItem → ℕ
 told_count (code_item run code) = 0
 told_count (killed_item run) = 0
 told_count (stream_byte run stream at b) = 1
+told_count (stream_end run stream) = 0
 
 abbrev tolds_count : List ToldItem → ℕ
 tolds_count [] = 0
@@ -60,8 +63,20 @@ stream_count : (run : RunKey) (s : Stream) (from : ℕ) (bs : List ℕ) → told
 stream_count run s from [] = refl
 stream_count run s from (b ∷ bs) = let e = stream_count run s (from + 1) bs in omega (arith, e)
 
+whole_count : (place : PlaceValue) (path : List ℕ) (names : List (List ℕ)) (bs : List ℕ) → items_count (whole_file place path names bs) ≡ length bs
+whole_count place path names bs =
+    let split = items_append (numbered place path names 0 bs) (end_item place path names ∷ []) in
+    let one = numbered_count place path names 0 bs in
+    omega (arith, split, one)
+
+whole_stream_count : (run : RunKey) (s : Stream) (bs : List ℕ) → tolds_count (whole_stream run s bs) ≡ length bs
+whole_stream_count run s bs =
+    let split = tolds_append (stream_bytes run s 0 bs) (stream_end run s ∷ []) in
+    let one = stream_count run s 0 bs in
+    omega (arith, split, one)
+
 node_count : (place : PlaceValue) (path : List ℕ) (names : List (List ℕ)) (k : OutputNodeKind) → items_count (node_items place path names k) ≡ node_length k
-node_count place path names (node_kinds.File content is_executable) = let e = numbered_count place path names 0 content.text in omega (arith, e)
+node_count place path names (node_kinds.File content is_executable) = let e = whole_count place path names content.text in omega (arith, e)
 node_count place path names node_kinds.Directory = omega arith
 
 nodes_count : (place : PlaceValue) (path : List ℕ) (above : List (List ℕ)) (ns : List OutputNode) → items_count (nodes_items place path above ns) ≡ nodes_length ns
@@ -75,7 +90,7 @@ nodes_count place path above (n ∷ ns) =
     omega (arith, split, one, more)
 
 kind_count : (place : PlaceValue) (path : List ℕ) (k : OutputKind) → items_count (kind_items place path k) ≡ output_length k
-kind_count place path (kinds.File content is_executable) = let e = numbered_count place path [] 0 content.text in omega (arith, e)
+kind_count place path (kinds.File content is_executable) = let e = whole_count place path [] content.text in omega (arith, e)
 kind_count place path (kinds.Tree nodes) = let e = nodes_count place path [] nodes.items in omega (arith, e)
 
 outputs_count : (place : PlaceValue) (os : List Output) → items_count (output_items place os) ≡ outputs_length os
@@ -91,11 +106,11 @@ outputs_count place (o ∷ os) =
 
 streams_count : (place : PlaceValue) (e : Exited) → tolds_count (exited_told place e) ≡ length e.stdout.text + length e.stderr.text
 streams_count place e =
-    let out = stream_bytes place.run streams.Output 0 e.stdout.text in
-    let err = stream_bytes place.run streams.Error 0 e.stderr.text in
+    let out = whole_stream place.run streams.Output e.stdout.text in
+    let err = whole_stream place.run streams.Error e.stderr.text in
     let split = tolds_append out err in
-    let one = stream_count place.run streams.Output 0 e.stdout.text in
-    let other = stream_count place.run streams.Error 0 e.stderr.text in
+    let one = whole_stream_count place.run streams.Output e.stdout.text in
+    let other = whole_stream_count place.run streams.Error e.stderr.text in
     omega (arith, split, one, other)
 
 exited_count : (place : PlaceValue) (e : Exited) → tolds_count (exited_told place e) + items_count (output_items place e.outputs.items) ≡ exited_length e
@@ -113,8 +128,8 @@ held_count place (stages.Output e out) =
     let one = stream_count place.run streams.Output 0 out in
     omega (arith, one)
 held_count place (stages.Error e out err) =
-    let split = tolds_append (stream_bytes place.run streams.Output 0 out.text) (stream_bytes place.run streams.Error 0 err) in
-    let one = stream_count place.run streams.Output 0 out.text in
+    let split = tolds_append (whole_stream place.run streams.Output out.text) (stream_bytes place.run streams.Error 0 err) in
+    let one = whole_stream_count place.run streams.Output out.text in
     let other = stream_count place.run streams.Error 0 err in
     omega (arith, split, one, other)
 held_count place (stages.Outputs g) = exited_count place g.exited
@@ -123,7 +138,10 @@ held_count place (stages.File g f) =
     let exited = exited_count place g.exited in
     let file = numbered_count place (string_bytes f.path) [] 0 f.content in
     omega (arith, split, exited, file)
-held_count place (stages.Listing g path) = exited_count place g.exited
+held_count place (stages.Listing g path) =
+    let split = items_append (output_items place g.exited.outputs.items) (found_item place (string_bytes path) ∷ []) in
+    let exited = exited_count place g.exited in
+    omega (arith, split, exited)
 held_count place (stages.Tree g t) =
     let split = items_append (output_items place g.exited.outputs.items) (tree_items place t) in
     let exited = exited_count place g.exited in
@@ -150,7 +168,9 @@ part_count place path names from most (Some done) = refl
 part_count place path names from most (Some (found f)) = refl
 part_count place path names from most (Some (facts f)) = refl
 part_count place path names from most (Some (entries es)) = refl
-part_count place path names from most (Some (file_bytes bs)) = numbered_count place path names from bs
+part_count place path names from zero (Some (file_bytes [])) = refl
+part_count place path names from (suc most) (Some (file_bytes [])) = omega arith
+part_count place path names from most (Some (file_bytes (b ∷ bs))) = numbered_count place path names from (b ∷ bs)
 part_count place path names from most (Some (gone b)) = refl
 
 look_count : (place : PlaceValue) (path : List ℕ) (a : Option FolderAnswer) → items_count (call_items (look_asked place path) a) ≡ 0
@@ -159,7 +179,7 @@ look_count place path (Some done) = refl
 look_count place path (Some (found (founds.File f))) = omega arith
 look_count place path (Some (found founds.Nothing)) = refl
 look_count place path (Some (found founds.Other)) = refl
-look_count place path (Some (found founds.Directory)) = refl
+look_count place path (Some (found founds.Directory)) = omega arith
 look_count place path (Some (facts f)) = refl
 look_count place path (Some (entries es)) = refl
 look_count place path (Some (file_bytes bs)) = refl
@@ -229,7 +249,9 @@ read_count run s from most (Some running) = refl
 read_count run s from most (Some (ended code)) = refl
 read_count run s from most (Some (killed b)) = refl
 read_count run s from most (Some (written n)) = refl
-read_count run s from most (Some (bytes bs)) = stream_count run s from bs
+read_count run s from zero (Some (bytes [])) = refl
+read_count run s from (suc most) (Some (bytes [])) = omega arith
+read_count run s from most (Some (bytes (b ∷ bs))) = stream_count run s from (b ∷ bs)
 
 program_count : (q : ProgramQuestion) (a : Option ProgramAnswer) → tolds_count (call_told q a) ≡ program_read q a
 program_count (start_asked place command) None = refl

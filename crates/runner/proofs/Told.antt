@@ -1,9 +1,7 @@
 -- What answers tell of, and what is too large.
-use Rattle.std.proofs.Common.{◌≡◌, ◌≤◌, ◌<◌, ℕ, ◌+◌, List, [], ◌∷◌, ◌++◌, length, length-append, ap, sym, ◌∙◌, subst, arith}
-use Rattle.std.specs.Prelude.{Option, Some, Result, Ok, Err, Bool, true, false, MatchBool}
+use Rattle.std.proofs.Common.{◌≡◌, ◌≤◌, ◌<◌, ℕ, ◌+◌, List, [], ◌∷◌, ◌++◌, length, length-append, ap, ◌∙◌, subst, arith}
+use Rattle.std.specs.Prelude.{Option, Some, Result, Ok, Bool, true, false, MatchBool}
 use Rattle.std.specs.Global.{Vec}
-use Rattle.runner.specs.declared.fault.RunFault.{RunFault}
-use Rattle.runner.specs.declared.fault.RunFault.TheVariants.{Folder, Start, TooLarge, NoMemory}
 use Rattle.runner.specs.declared.folder.Found.{Found}
 use Rattle.runner.specs.declared.folder.Found.TheVariants.{File}
 use Rattle.runner.specs.declared.folder.FileFacts.{FileFacts}
@@ -11,17 +9,9 @@ use Rattle.runner.specs.declared.outcome.Output.{Output}
 use Rattle.runner.specs.declared.outcome.OutputNode.{OutputNode}
 use Rattle.runner.specs.declared.programs.Stream.{Stream}
 use Rattle.runner.specs.declared.task.RunKey.{RunKey}
-use Rattle.runner.specs.declared.stage.Stage.{Stage}
-use Rattle.runner.specs.Faults.{IsFolderFault, IsProgramsFault}
-use Rattle.runner.specs.Calls.{FolderCall, FolderQuestion, FolderAnswer, look_asked, file_asked, bytes_asked, found_of, facts_of, folder_bytes_of, call, ProgramCall, ProgramQuestion, ProgramAnswer, length_asked, read_asked, length_of, bytes_of, called, of_folder, of_programs, Adds}
-use Rattle.runner.specs.Sizes.{most_bytes, node_length, nodes_length, output_length, outputs_length, held, folder_told, program_told, Fits, IsTaken, Sized, StaysCounted, Surpasses, SurpassesWhere}
-use Rattle.runner.specs.declared.folder.Place.{Place}
-use Rattle.runner.specs.declared.stage.Step.{Step}
-use Rattle.runner.specs.declared.stage.Step.TheVariants as steps
-use Rattle.runner.specs.Values.{PlaceValue, place_shown}
-use Rattle.runner.specs.Steps.{Goes}
-use Rattle.runner.specs.Runs.{FailsBy}
-use Rattle.runner.proofs.Calls.{after_none}
+use Rattle.runner.specs.Calls.{look_asked, file_asked, bytes_asked, found_of, facts_of, folder_bytes_of, length_asked, read_asked, length_of, bytes_of}
+use Rattle.runner.specs.Sizes.{most_bytes, node_length, nodes_length, output_length, outputs_length, folder_told, program_told, IsTaken}
+use Rattle.runner.specs.Values.{PlaceValue}
 
 pub found_says : {E : Type 0} (place : PlaceValue) (path : List ℕ) (r : Result Found E) (f : FileFacts)
     → r ≡ Ok (File f) → folder_told (look_asked place path) (found_of r) ≡ f.size
@@ -46,39 +36,6 @@ stream_says run s from most r v is = ap (λ x. program_told (read_asked run s fr
 
 pub fits_told : (n t k : ℕ) → t ≡ k → n + k ≤ most_bytes → n + t ≤ most_bytes
 fits_told n t k is le = omega (arith, is, le)
-
-pub folder_surpasses : (from : Stage) (f g : Option (List FolderCall)) (p : Option (List ProgramCall)) (q : FolderQuestion) (a : Option FolderAnswer) (k : ℕ)
-    → Adds f g (call q a) → folder_told q a ≡ k → most_bytes < held from + k → Surpasses from f g p p
-folder_surpasses from f g p q a k adds is more = record {
-  calls = of_folder record { question = q; answer = a } ∷ [];
-  folder_asked = adds;
-  programs_asked = sym (after_none p);
-  too_large = λ fits. let le = fits.0 in omega (arith, le, is, more);
-}
-
-pub program_surpasses : (from : Stage) (f : Option (List FolderCall)) (p s : Option (List ProgramCall)) (q : ProgramQuestion) (a : Option ProgramAnswer) (k : ℕ)
-    → Adds p s (called q a) → program_told q a ≡ k → most_bytes < held from + k → Surpasses from f f p s
-program_surpasses from f p s q a k adds is more = record {
-  calls = of_programs record { question = q; answer = a } ∷ [];
-  folder_asked = sym (after_none f);
-  programs_asked = adds;
-  too_large = λ fits. let le = fits.0 in omega (arith, le, is, more);
-}
-
--- a fault of a call says nothing of sizes
-pub folder_faults : (fault : RunFault) (from : Stage) (f g : Option (List FolderCall)) (p s : Option (List ProgramCall))
-    → IsFolderFault fault → SurpassesWhere fault from f g p s
-folder_faults Folder from f g p s is = tt
-folder_faults Start from f g p s is = tt
-folder_faults TooLarge from f g p s is = absurd is
-folder_faults NoMemory from f g p s is = tt
-
-pub program_faults : (fault : RunFault) (from : Stage) (f g : Option (List FolderCall)) (p s : Option (List ProgramCall))
-    → IsProgramsFault fault → SurpassesWhere fault from f g p s
-program_faults Folder from f g p s is = tt
-program_faults Start from f g p s is = tt
-program_faults TooLarge from f g p s is = absurd is
-program_faults NoMemory from f g p s is = tt
 
 -- ---- what is counted
 
@@ -121,24 +78,6 @@ begins e new is = let none = ap length is in omega (arith, none)
 pub begins_inside : (e t : ℕ) (new : List ℕ) → new ≡ [] → e + (t + length new) ≡ e + t
 begins_inside e t new is = let none = ap length is in omega (arith, none)
 
--- ---- of a step
-
-pub stays_sized : (r : Result Step RunFault) (from : Stage) (f g : Option (List FolderCall)) (p s : Option (List ProgramCall))
-    → StaysCounted r → Sized r from f g p s
-stays_sized (Ok step) from f g p s stays = stays
-stays_sized (Err Folder) from f g p s stays = tt
-stays_sized (Err Start) from f g p s stays = tt
-stays_sized (Err TooLarge) from f g p s stays = absurd stays
-stays_sized (Err NoMemory) from f g p s stays = tt
-
-pub fails_by : (text : ℕ → List ℕ) (place : Place) (stage reached : Stage) (cost : ℕ) (fault : RunFault)
-    (f g h : Option (List FolderCall)) (p s t : Option (List ProgramCall))
-    → Goes text (place_shown place) stage (steps.Goes reached cost) f g p s → SurpassesWhere fault reached g h s t → FailsBy text place stage fault f h p t
-fails_by text place stage reached cost Folder f g h p s t goes more = tt
-fails_by text place stage reached cost Start f g h p s t goes more = tt
-fails_by text place stage reached cost TooLarge f g h p s t goes more = (reached, cost, g, s, goes, more)
-fails_by text place stage reached cost NoMemory f g h p s t goes more = tt
-
 -- ---- of lists that grow
 
 nodes_append : (xs : List OutputNode) (n : OutputNode) → nodes_length (xs ++ n ∷ []) ≡ nodes_length xs + node_length n.kind
@@ -166,17 +105,3 @@ taken_on t now n m taken same is =
 
 pub directory_size : (old new : List OutputNode) (n : OutputNode) → new ≡ old ++ n ∷ [] → node_length n.kind ≡ 0 → nodes_length new ≡ nodes_length old
 directory_size old new n is size = let more = node_added old new n 0 is size in omega (arith, more)
-
--- of a stage that holds as much
-pub sized_from : (r : Result Step RunFault) (from same : Stage) (f g : Option (List FolderCall)) (p s : Option (List ProgramCall))
-    → held from ≡ held same → Sized r same f g p s → Sized r from f g p s
-sized_from (Ok step) from same f g p s holds sized = sized
-sized_from (Err Folder) from same f g p s holds sized = tt
-sized_from (Err Start) from same f g p s holds sized = tt
-sized_from (Err TooLarge) from same f g p s holds sized = record {
-  calls = sized.calls;
-  folder_asked = sized.folder_asked;
-  programs_asked = sized.programs_asked;
-  too_large = λ fits. sized.too_large (subst (λ n. Fits n sized.calls) holds fits);
-}
-sized_from (Err NoMemory) from same f g p s holds sized = tt

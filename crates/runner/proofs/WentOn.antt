@@ -8,15 +8,21 @@ use Rattle.runner.specs.declared.outcome.Outcome.{Outcome}
 use Rattle.runner.specs.declared.stage.Stage.{Stage}
 use Rattle.runner.specs.declared.stage.Ending.{Ending}
 use Rattle.runner.specs.declared.stage.State.{State}
-use Rattle.runner.specs.declared.stage.State.TheVariants.{Live}
+use Rattle.runner.specs.declared.stage.State.TheVariants.{Live, Over}
 use Rattle.runner.specs.declared.stage.Run.{Run}
 use Rattle.runner.specs.Calls.{FolderCall, ProgramCall}
-use Rattle.runner.specs.Faults.{Counted, OnlyWhereFailed}
-use Rattle.runner.specs.Runs.{run_of, run_left, ending_of, EndsBy, Ends, GoesOn, HasGone, IsAsked}
+use Rattle.runner.specs.Runs.{run_of, run_left, ending_of, EndsBy, Ends, IsOver, GoesOn, HasGone, IsAsked}
 
-pub only_where : {A : Type 0} (r : Result A RunFault) (a b p q : ℕ) → Counted r a b p q → OnlyWhereFailed r a b p q
-only_where (Ok x) a b p q counted = tt
-only_where (Err f) a b p q counted = counted
+pub is_over : (key : RunKey) (e : Ending) (old new : List Run) (f g : Option (List FolderCall)) (p q : Option (List ProgramCall))
+    → Ends key (Over e) old new f g p q → IsOver key old
+is_over key e old new f g p q ends = record {
+  earlier = ends.earlier;
+  later = ends.later;
+  place = ends.place;
+  ending = e;
+  there = ends.there;
+  same_key = ends.same_key;
+}
 
 pub went : (text : ℕ → List ℕ) (key : RunKey) (r : Result (Option Outcome) RunFault) (old new : List Run)
     (f g : Option (List FolderCall)) (p q : Option (List ProgramCall)) → GoesOn text key r old new f g p q → IsAsked text key r old new f g p q

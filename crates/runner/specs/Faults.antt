@@ -72,10 +72,6 @@ FaultFailed Start f_old f_new p_old p_new = Rises p_old p_new
 FaultFailed TooLarge f_old f_new p_old p_new = Unit {0}
 FaultFailed NoMemory f_old f_new p_old p_new = Unit {0}
 
-abbrev pub OnlyWhereFailed : {A : Type 0} → Result A RunFault → ℕ → ℕ → ℕ → ℕ → Type 0
-OnlyWhereFailed (Ok x) f_old f_new p_old p_new = Unit {0}
-OnlyWhereFailed (Err f) f_old f_new p_old p_new = FaultFailed f f_old f_new p_old p_new
-
 -- the count did not go down, nor from its highest
 abbrev pub StaysOrRises : ℕ → ℕ → Type 0
 StaysOrRises old new = (new ≡ old) ⊎ (new ≡ risen old)

@@ -1,5 +1,5 @@
--- What is gathered: files and directories, and the bytes of files.
-use Rattle.std.specs.Prelude.{ℕ, ◌+◌, ◌-◌, Bool, List, [], ◌∷◌, ◌++◌, take, string_bytes, Option, Some, None}
+-- What is gathered: files and directories, and the bytes of files, to the end of each.
+use Rattle.std.specs.Prelude.{ℕ, zero, suc, ◌+◌, ◌-◌, Bool, List, [], ◌∷◌, ◌++◌, take, string_bytes, Option, Some, None}
 use Rattle.runner.specs.declared.folder.Found.{Found}
 use Rattle.runner.specs.declared.folder.Found.TheVariants as founds
 use Rattle.runner.specs.declared.folder.FileFacts.{FileFacts}
@@ -19,6 +19,11 @@ pub data ItemValue : Type 0 where
   file_item : PlaceValue → List ℕ → List (List ℕ) → Bool → ItemValue
   -- the byte of a file at a place in it
   byte_at : PlaceValue → List ℕ → List (List ℕ) → ℕ → ℕ → ItemValue
+  -- nothing more is in a file
+  end_item : PlaceValue → List ℕ → List (List ℕ) → ItemValue
+  -- an output is a directory
+  found_item : PlaceValue → List ℕ → ItemValue
+  -- a directory was listed
   directory_item : PlaceValue → List ℕ → List (List ℕ) → ItemValue
 
 -- the bytes of a file from a place on
@@ -26,13 +31,23 @@ abbrev pub numbered : PlaceValue → List ℕ → List (List ℕ) → ℕ → Li
 numbered place path names from [] = []
 numbered place path names from (b ∷ bs) = byte_at place path names from b ∷ numbered place path names (from + 1) bs
 
+-- the bytes of a file, to its end
+abbrev pub whole_file : PlaceValue → List ℕ → List (List ℕ) → List ℕ → List ItemValue
+whole_file place path names bs = numbered place path names 0 bs ++ end_item place path names ∷ []
+
 -- ---- of answers
+
+-- bytes of a file from a place on, or its end, where bytes were wanted and none are there
+abbrev pub part_items : PlaceValue → List ℕ → List (List ℕ) → ℕ → ℕ → List ℕ → List ItemValue
+part_items place path names from zero [] = []
+part_items place path names from (suc most) [] = end_item place path names ∷ []
+part_items place path names from most (b ∷ bs) = numbered place path names from (b ∷ bs)
 
 abbrev pub found_items : PlaceValue → List ℕ → Found → List ItemValue
 found_items place path (founds.File f) = file_item place path [] f.is_executable ∷ []
 found_items place path founds.Nothing = []
 found_items place path founds.Other = []
-found_items place path founds.Directory = []
+found_items place path founds.Directory = found_item place path ∷ []
 
 abbrev pub facts_items : PlaceValue → List ℕ → List (List ℕ) → Option FileFacts → List ItemValue
 facts_items place path names (Some f) = file_item place path names f.is_executable ∷ []
@@ -50,9 +65,9 @@ abbrev pub list_items : PlaceValue → List ℕ → List (List ℕ) → FolderAn
 list_items place path names (entries es) = directory_item place path names ∷ []
 list_items place path names a = []
 
-abbrev pub bytes_items : PlaceValue → List ℕ → List (List ℕ) → ℕ → FolderAnswer → List ItemValue
-bytes_items place path names from (file_bytes bs) = numbered place path names from bs
-bytes_items place path names from a = []
+abbrev pub bytes_items : PlaceValue → List ℕ → List (List ℕ) → ℕ → ℕ → FolderAnswer → List ItemValue
+bytes_items place path names from most (file_bytes bs) = part_items place path names from most bs
+bytes_items place path names from most a = []
 
 abbrev pub answer_items : FolderQuestion → FolderAnswer → List ItemValue
 answer_items (root_asked run) a = []
@@ -63,14 +78,14 @@ answer_items (parents_asked place path) a = []
 answer_items (look_asked place path) a = look_items place path a
 answer_items (file_asked place path names) a = fact_items place path names a
 answer_items (list_asked place path names most) a = list_items place path names a
-answer_items (bytes_asked place path names from most) a = bytes_items place path names from a
+answer_items (bytes_asked place path names from most) a = bytes_items place path names from most a
 answer_items (removal_asked run) a = []
 
 abbrev pub call_items : FolderQuestion → Option FolderAnswer → List ItemValue
 call_items q None = []
 call_items q (Some a) = answer_items q a
 
--- the files that were found, with the bytes read of them, and the directories that were listed
+-- the files that were found, with the bytes read of them, and the directories that were found and listed
 abbrev pub items_answered : List FolderCall → List ItemValue
 items_answered calls = collect (λ c. call_items c.question c.answer) calls
 
@@ -78,7 +93,7 @@ items_answered calls = collect (λ c. call_items c.question c.answer) calls
 
 abbrev pub node_items : PlaceValue → List ℕ → List (List ℕ) → OutputNodeKind → List ItemValue
 node_items place path names (node_kinds.File content is_executable) =
-    file_item place path names is_executable ∷ numbered place path names 0 content.text
+    file_item place path names is_executable ∷ whole_file place path names content.text
 node_items place path names node_kinds.Directory = directory_item place path names ∷ []
 
 -- the directory that is reached with a node
@@ -98,8 +113,9 @@ nodes_items place path above (n ∷ ns) =
 
 abbrev pub kind_items : PlaceValue → List ℕ → OutputKind → List ItemValue
 kind_items place path (kinds.File content is_executable) =
-    file_item place path [] is_executable ∷ numbered place path [] 0 content.text
-kind_items place path (kinds.Tree nodes) = directory_item place path [] ∷ nodes_items place path [] nodes.items
+    file_item place path [] is_executable ∷ whole_file place path [] content.text
+kind_items place path (kinds.Tree nodes) =
+    found_item place path ∷ directory_item place path [] ∷ nodes_items place path [] nodes.items
 
 abbrev pub output_items : PlaceValue → List Output → List ItemValue
 output_items place [] = []

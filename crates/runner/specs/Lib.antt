@@ -6,5 +6,7 @@ pub mod Made
 pub mod Gathered
 pub mod Told
 pub mod Sizes
+pub mod Listed
 pub mod Steps
+pub mod Stops
 pub mod Runs

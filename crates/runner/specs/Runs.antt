@@ -1,10 +1,10 @@
 -- The runs of a runner, and what its calls make of them.
-use Rattle.std.specs.Prelude.{◌≡◌, ◌==◌, ◌&&◌, ◌⊎◌, ℕ, Bool, List, [], ◌∷◌, ◌++◌, take, drop, Option, Some, None, Result, Ok, Err}
+use Rattle.std.specs.Prelude.{◌≡◌, ◌==◌, ◌&&◌, ◌⊎◌, ℕ, Bool, true, false, List, [], ◌∷◌, ◌++◌, take, drop, Option, Some, None, Result, Ok, Err}
+use Rattle.std.specs.List.{list_any}
 use Rattle.runner.specs.declared.task.RunKey.{RunKey}
 use Rattle.runner.specs.declared.task.Task.{Task}
 use Rattle.runner.specs.declared.folder.Place.{Place}
 use Rattle.runner.specs.declared.fault.RunFault.{RunFault}
-use Rattle.runner.specs.declared.fault.RunFault.TheVariants.{TooLarge}
 use Rattle.runner.specs.declared.outcome.Outcome.{Outcome}
 use Rattle.runner.specs.declared.outcome.Outcome.TheVariants as outcomes
 use Rattle.runner.specs.declared.stage.Making.{Making}
@@ -18,15 +18,19 @@ use Rattle.runner.specs.declared.stage.State.{State}
 use Rattle.runner.specs.declared.stage.State.TheVariants.{Live, Over}
 use Rattle.runner.specs.declared.stage.Run.{Run}
 use Rattle.runner.specs.Values.{place_shown}
-use Rattle.runner.specs.Calls.{FolderCall, FolderAnswer, removal_asked, call, ProgramCall, ProgramAnswer, program_done, kill_asked, forget_asked, called, Adds}
-use Rattle.runner.specs.Sizes.{Surpasses}
+use Rattle.runner.specs.Calls.{FolderCall, FolderAnswer, removal_asked, gone, call, ProgramCall, ProgramAnswer, program_done, killed, kill_asked, forget_asked, called, Adds}
 use Rattle.runner.specs.Steps.{Goes}
+use Rattle.runner.specs.Stops.{Stops}
 
 abbrev pub run_of : Place → State → Run
 run_of place state = record { place = place; state = state }
 
 abbrev pub is_run_of : RunKey → Run → Bool
 is_run_of key run = run.place.run.instance == key.instance && run.place.run.job == key.job
+
+-- no run has this key
+abbrev pub HasNone : RunKey → List Run → Type 0
+HasNone key runs = list_any (is_run_of key) runs ≡ false
 
 -- the first run of a key stands there
 pub record IsAt (key : RunKey) (runs : List Run) (at : ℕ) : Type 0 where
@@ -53,11 +57,29 @@ abbrev pub IsStarted : RunKey → Task → Run → Type 0
 IsStarted key t run =
     (run.place ≡ record { run = key; directory = t.working_directory; function = t.function }) × IsStateOf run.state t
 
+-- whether it can go on at once: it waits for no program, neither to end nor to be killed
+abbrev pub can_go_on : State → Bool
+can_go_on (Live (stages.Running outputs)) = false
+can_go_on (Live (stages.Stopping e)) = false
+can_go_on (Live s) = true
+can_go_on (Over Killing) = false
+can_go_on (Over Removing) = true
+
 -- ---- of runs that are over
 
 abbrev pub ending_of : State → Ending
 ending_of (Live s) = Killing
 ending_of (Over e) = e
+
+-- what is left once a program was to be ended: the answer says whether it is
+abbrev pub left_of_kill : Option ProgramAnswer → Ending
+left_of_kill (Some (killed true)) = Removing
+left_of_kill a = Killing
+
+-- what is left once a folder was to be removed, which is tried until nothing is left, or it fails
+abbrev pub left_of_removal : Option FolderAnswer → Option Ending
+left_of_removal (Some (gone false)) = Some Removing
+left_of_removal a = None
 
 -- what is let go of where a program is ended
 abbrev pub forgotten : RunKey → Option Ending → List ProgramCall
@@ -69,9 +91,11 @@ forgotten key None = []
 abbrev pub EndsBy : RunKey → Ending → Option Ending → Option (List FolderCall) → Option (List FolderCall) →
     Option (List ProgramCall) → Option (List ProgramCall) → Type 0
 EndsBy key Killing left f_before f_now p_before p_now =
-    (a : Option ProgramAnswer) × (f_now ≡ f_before) × Adds p_before p_now (called (kill_asked key) a ++ forgotten key left)
+    (a : Option ProgramAnswer) × (left ≡ Some (left_of_kill a)) × (f_now ≡ f_before)
+    × Adds p_before p_now (called (kill_asked key) a ++ forgotten key left)
 EndsBy key Removing left f_before f_now p_before p_now =
-    (a : Option FolderAnswer) × Adds f_before f_now (call (removal_asked key) a) × (p_now ≡ p_before)
+    (a : Option FolderAnswer) × (left ≡ left_of_removal a) × Adds f_before f_now (call (removal_asked key) a)
+    × (p_now ≡ p_before)
 
 -- a run that is over, where something is left to do for it
 abbrev pub run_left : Place → Option Ending → List Run
@@ -90,32 +114,36 @@ pub record Ends (key : RunKey) (state : State) (old new : List Run)
   pub same_key : place.run ≡ key
   pub by : EndsBy key (ending_of state) left f_before f_now p_before p_now
 
--- nothing was asked, and the runs are as they were
-abbrev pub Stands : List Run → List Run → Option (List FolderCall) → Option (List FolderCall) →
+-- no run has this key, nothing was asked, and the runs are as they were
+abbrev pub Stands : RunKey → List Run → List Run → Option (List FolderCall) → Option (List FolderCall) →
     Option (List ProgramCall) → Option (List ProgramCall) → Type 0
-Stands old new f_before f_now p_before p_now = (new ≡ old) × (f_now ≡ f_before) × (p_now ≡ p_before)
+Stands key old new f_before f_now p_before p_now =
+    HasNone key old × (new ≡ old) × (f_now ≡ f_before) × (p_now ≡ p_before)
 
 abbrev pub IsKilled : RunKey → List Run → List Run → Option (List FolderCall) → Option (List FolderCall) →
     Option (List ProgramCall) → Option (List ProgramCall) → Type 0
 IsKilled key old new f_before f_now p_before p_now =
-    Stands old new f_before f_now p_before p_now
+    Stands key old new f_before f_now p_before p_now
     ⊎ ((state : State) × Ends key state old new f_before f_now p_before p_now)
+
+-- one of these runs, which has this key, is over
+pub record IsOver (key : RunKey) (runs : List Run) : Type 0 where
+  pub earlier : List Run
+  pub later : List Run
+  pub place : Place
+  pub ending : Ending
+  pub there : runs ≡ earlier ++ run_of place (Over ending) ∷ later
+  pub same_key : place.run ≡ key
 
 -- ---- of runs that are not
 
--- it came to a stage, and what was asked then told of more than is taken
-abbrev pub GrowsTooLarge : (ℕ → List ℕ) → Place → Stage → Option (List FolderCall) → Option (List FolderCall) →
-    Option (List ProgramCall) → Option (List ProgramCall) → Type 0
-GrowsTooLarge text place stage f_before f_now p_before p_now =
-    (reached : Stage) × (cost : ℕ) × (f_mid : Option (List FolderCall)) × (p_mid : Option (List ProgramCall))
-    × Goes text (place_shown place) stage (steps.Goes reached cost) f_before f_mid p_before p_mid
-    × Surpasses reached f_mid f_now p_mid p_now
-
+-- it came to a stage, and stopped there
 abbrev pub FailsBy : (ℕ → List ℕ) → Place → Stage → RunFault → Option (List FolderCall) → Option (List FolderCall) →
     Option (List ProgramCall) → Option (List ProgramCall) → Type 0
-FailsBy text place stage TooLarge f_before f_now p_before p_now =
-    GrowsTooLarge text place stage f_before f_now p_before p_now
-FailsBy text place stage fault f_before f_now p_before p_now = Unit {0}
+FailsBy text place stage fault f_before f_now p_before p_now =
+    (reached : Stage) × (cost : ℕ) × (f_mid : Option (List FolderCall)) × (p_mid : Option (List ProgramCall))
+    × Goes text (place_shown place) stage (steps.Goes reached cost) f_before f_mid p_before p_mid
+    × Stops text (place_shown place) reached fault f_mid f_now p_mid p_now
 
 -- what becomes of a run that is not over: it goes on, or it is over with an outcome, or with a fault
 abbrev pub Becomes : (ℕ → List ℕ) → Place → Stage → Result (Option Outcome) RunFault → State →
@@ -156,7 +184,7 @@ pub record GoesOn (text : ℕ → List ℕ) (key : RunKey) (result : Result (Opt
 abbrev pub IsAsked : (ℕ → List ℕ) → RunKey → Result (Option Outcome) RunFault → List Run → List Run →
     Option (List FolderCall) → Option (List FolderCall) → Option (List ProgramCall) → Option (List ProgramCall) → Type 0
 IsAsked text key (Ok None) old new f_before f_now p_before p_now =
-    Stands old new f_before f_now p_before p_now
+    Stands key old new f_before f_now p_before p_now
     ⊎ (((e : Ending) × Ends key (Over e) old new f_before f_now p_before p_now)
     ⊎ GoesOn text key (Ok None) old new f_before f_now p_before p_now)
 IsAsked text key (Ok (Some o)) old new f_before f_now p_before p_now =

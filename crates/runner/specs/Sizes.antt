@@ -1,7 +1,5 @@
 -- How many bytes a run holds, how many more an answer tells of, and the most that are taken.
-use Rattle.std.specs.Prelude.{◌≡◌, ◌≤◌, ◌+◌, ℕ, List, [], ◌∷◌, length, Option, Some, Result, Ok, Err}
-use Rattle.runner.specs.declared.fault.RunFault.{RunFault}
-use Rattle.runner.specs.declared.fault.RunFault.TheVariants.{TooLarge}
+use Rattle.std.specs.Prelude.{◌≡◌, ◌≤◌, ◌+◌, ℕ, List, [], ◌∷◌, length, Option, Some}
 use Rattle.runner.specs.declared.folder.Found.TheVariants as founds
 use Rattle.runner.specs.declared.outcome.Exited.{Exited}
 use Rattle.runner.specs.declared.outcome.Output.{Output}
@@ -14,7 +12,7 @@ use Rattle.runner.specs.declared.stage.Stage.{Stage}
 use Rattle.runner.specs.declared.stage.Stage.TheVariants as stages
 use Rattle.runner.specs.declared.stage.Step.{Step}
 use Rattle.runner.specs.declared.stage.Step.TheVariants as steps
-use Rattle.runner.specs.Calls.{FolderCall, FolderQuestion, FolderAnswer, look_asked, file_asked, bytes_asked, found, facts, file_bytes, ProgramCall, ProgramQuestion, ProgramAnswer, length_asked, read_asked, written, bytes, RunCall, of_folder, of_programs, folder_calls, program_calls, Adds}
+use Rattle.runner.specs.Calls.{FolderQuestion, FolderAnswer, look_asked, file_asked, bytes_asked, found, facts, file_bytes, ProgramQuestion, ProgramAnswer, length_asked, read_asked, written, bytes, RunCall, of_folder, of_programs}
 
 -- of standard output, standard error and output files together
 abbrev pub most_bytes : ℕ
@@ -119,16 +117,6 @@ abbrev pub Fits : ℕ → List RunCall → Type 0
 Fits n [] = Unit {0}
 Fits n (c ∷ cs) = (n + told c ≤ most_bytes) × Fits (n + read c) cs
 
--- ---- the fault of what is too large
-
--- what was asked of a run at this stage told of too much
-pub record Surpasses (from : Stage) (f_before f_now : Option (List FolderCall))
-    (p_before p_now : Option (List ProgramCall)) : Type 0 where
-  pub calls : List RunCall
-  pub folder_asked : Adds f_before f_now (folder_calls calls)
-  pub programs_asked : Adds p_before p_now (program_calls calls)
-  pub too_large : Fits (held from) calls → ⊥
-
 -- ---- what was taken is counted, and is not too large
 
 abbrev pub IsTaken : ℕ → ℕ → Type 0
@@ -150,32 +138,3 @@ IsCounted (stages.TreeFile g t f) = IsTaken g.taken (held (stages.TreeFile g t f
 abbrev pub IsCountedThen : Step → Type 0
 IsCountedThen (steps.Goes s cost) = IsCounted s
 IsCountedThen (steps.Exits e) = exited_length e ≤ most_bytes
-
--- ---- of a step
-
-abbrev pub IsSizeless : RunFault → Type 0
-IsSizeless TooLarge = ⊥
-IsSizeless f = Unit {0}
-
--- of one that asks for no size and no bytes
-abbrev pub StaysCounted : Result Step RunFault → Type 0
-StaysCounted (Ok step) = IsCountedThen step
-StaysCounted (Err fault) = IsSizeless fault
-
-abbrev pub SurpassesWhere : RunFault → Stage → Option (List FolderCall) → Option (List FolderCall) →
-    Option (List ProgramCall) → Option (List ProgramCall) → Type 0
-SurpassesWhere TooLarge from f_before f_now p_before p_now = Surpasses from f_before f_now p_before p_now
-SurpassesWhere f from f_before f_now p_before p_now = Unit {0}
-
-abbrev pub Sized : Result Step RunFault → Stage → Option (List FolderCall) → Option (List FolderCall) →
-    Option (List ProgramCall) → Option (List ProgramCall) → Type 0
-Sized (Ok step) from f_before f_now p_before p_now = IsCountedThen step
-Sized (Err fault) from f_before f_now p_before p_now = SurpassesWhere fault from f_before f_now p_before p_now
-
--- of one that asks folders alone
-abbrev pub FolderSized : Result Step RunFault → Stage → Option (List FolderCall) → Option (List FolderCall) → Type 0
-FolderSized result from f_before f_now = (p : Option (List ProgramCall)) → Sized result from f_before f_now p p
-
--- of one that asks programs alone
-abbrev pub ProgramSized : Result Step RunFault → Stage → Option (List ProgramCall) → Option (List ProgramCall) → Type 0
-ProgramSized result from p_before p_now = (f : Option (List FolderCall)) → Sized result from f f p_before p_now

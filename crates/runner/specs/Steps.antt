@@ -1,5 +1,5 @@
 -- A run that is not over: what is still to be done of it, what it has gathered, and what a call adds.
-use Rattle.std.specs.Prelude.{◌≡◌, ℕ, ◌-◌, List, [], ◌∷◌, ◌++◌, map, take, drop, length, string_bytes, Option}
+use Rattle.std.specs.Prelude.{◌≡◌, ◌≤◌, ◌+◌, ◌⊎◌, ℕ, ◌-◌, List, [], ◌∷◌, ◌++◌, map, take, drop, length, string_bytes, Option}
 use Rattle.runner.specs.declared.outcome.Exited.{Exited}
 use Rattle.runner.specs.declared.programs.Stream.TheVariants as streams
 use Rattle.runner.specs.declared.stage.Prepared.{Prepared}
@@ -18,9 +18,10 @@ use Rattle.runner.specs.declared.task.NodeKind.TheVariants as node_kinds
 use Rattle.runner.specs.Values.{PlaceValue, command_shown}
 use Rattle.runner.specs.Calls.{FolderCall, FolderQuestion, ProgramCall, ProgramQuestion, start_asked, look_asked, root_asked, node_asked, text_asked, directory_asked, parents_asked, file_asked, list_asked, bytes_asked, removal_asked, RunCall, folder_calls, program_calls, Adds, collect}
 use Rattle.runner.specs.Made.{MadeItem, root_item, byte_item, directory_item, parents_item, nodes_made, made}
-use Rattle.runner.specs.Gathered.{ItemValue, items_answered, file_item, numbered, nodes_items, output_items}
+use Rattle.runner.specs.Gathered.{ItemValue, items_answered, file_item, found_item, numbered, nodes_items, output_items}
 use Rattle.runner.specs.Gathered as Gathered
-use Rattle.runner.specs.Told.{ToldItem, code_item, killed_item, stream_bytes, items_told, starts}
+use Rattle.runner.specs.Told.{ToldItem, code_item, killed_item, stream_bytes, whole_stream, items_told, starts}
+use Rattle.runner.specs.Listed.{most_nodes, all_told, all_met, entries_left, then_entries_left, nodes_among}
 use Rattle.runner.specs.Sizes.{held, Fits}
 
 -- ---- what is still to be made, to be started and to be looked at
@@ -98,7 +99,7 @@ file_items place f =
 
 abbrev pub tree_items : PlaceValue → Tree → List ItemValue
 tree_items place t =
-    Gathered.directory_item place (string_bytes t.path) []
+    found_item place (string_bytes t.path) ∷ Gathered.directory_item place (string_bytes t.path) []
     ∷ nodes_items place (string_bytes t.path) [] t.nodes.nodes
 
 abbrev pub tree_file_items : PlaceValue → Tree → TreeFile → List ItemValue
@@ -116,7 +117,8 @@ has_gathered place (stages.Output e out) = []
 has_gathered place (stages.Error e out err) = []
 has_gathered place (stages.Outputs g) = output_items place g.exited.outputs.items
 has_gathered place (stages.File g f) = output_items place g.exited.outputs.items ++ file_items place f
-has_gathered place (stages.Listing g path) = output_items place g.exited.outputs.items
+has_gathered place (stages.Listing g path) =
+    output_items place g.exited.outputs.items ++ found_item place (string_bytes path) ∷ []
 has_gathered place (stages.Tree g t) = output_items place g.exited.outputs.items ++ tree_items place t
 has_gathered place (stages.TreeFile g t f) =
     output_items place g.exited.outputs.items ++ (tree_items place t ++ tree_file_items place t f)
@@ -125,8 +127,8 @@ has_gathered place (stages.TreeFile g t f) =
 abbrev pub exited_told : PlaceValue → Exited → List ToldItem
 exited_told place e =
     code_item place.run e.code ∷ killed_item place.run
-    ∷ (stream_bytes place.run streams.Output 0 e.stdout.text
-    ++ stream_bytes place.run streams.Error 0 e.stderr.text)
+    ∷ (whole_stream place.run streams.Output e.stdout.text
+    ++ whole_stream place.run streams.Error e.stderr.text)
 
 abbrev pub has_told : PlaceValue → Stage → List ToldItem
 has_told place (stages.Making m) = []
@@ -137,7 +139,7 @@ has_told place (stages.Output e out) =
     code_item place.run e.code ∷ killed_item place.run ∷ stream_bytes place.run streams.Output 0 out
 has_told place (stages.Error e out err) =
     code_item place.run e.code ∷ killed_item place.run
-    ∷ (stream_bytes place.run streams.Output 0 out.text ++ stream_bytes place.run streams.Error 0 err)
+    ∷ (whole_stream place.run streams.Output out.text ++ stream_bytes place.run streams.Error 0 err)
 has_told place (stages.Outputs g) = exited_told place g.exited
 has_told place (stages.File g f) = exited_told place g.exited
 has_told place (stages.Listing g path) = exited_told place g.exited
@@ -184,8 +186,9 @@ looks calls = collect (λ c. look_of c.question) calls
 
 -- What was asked meanwhile, in some order of both kinds of calls, is a front of what was to be made,
 -- to be started and to be looked at, and what was answered is what was gathered and told since; none
--- of it was too large.
-pub record Goes (text : ℕ → List ℕ) (place : PlaceValue) (from : Stage) (to : Step)
+-- of it was too large. As many entries of output directories are met as were left and told of, but
+-- for those that are left and those that are dropped, where so many nodes are gathered.
+pub record GoesWith (left : ℕ) (text : ℕ → List ℕ) (place : PlaceValue) (from : Stage) (to : Step)
     (f_before f_now : Option (List FolderCall)) (p_before p_now : Option (List ProgramCall)) : Type 0 where
   pub calls : List RunCall
   pub folder_asked : Adds f_before f_now (folder_calls calls)
@@ -196,11 +199,24 @@ pub record Goes (text : ℕ → List ℕ) (place : PlaceValue) (from : Stage) (t
   pub gathers : then_gathered place to ≡ has_gathered place from ++ items_answered (folder_calls calls)
   pub is_told : then_told place to ≡ has_told place from ++ items_told (program_calls calls)
   pub fits : Fits (held from) calls
+  pub dropped : ℕ
+  pub meets : left + all_told (folder_calls calls) ≡ all_met (folder_calls calls) + (dropped + then_entries_left to)
+  pub is_full : (dropped ≡ 0) ⊎ (most_nodes ≤ nodes_among (then_gathered place to))
+
+abbrev pub Goes : (ℕ → List ℕ) → PlaceValue → Stage → Step → Option (List FolderCall) → Option (List FolderCall) →
+    Option (List ProgramCall) → Option (List ProgramCall) → Type 0
+Goes text place from to f_before f_now p_before p_now =
+    GoesWith (entries_left from) text place from to f_before f_now p_before p_now
 
 -- the same of a step that asks folders alone, and for any texts
 abbrev pub FolderGoes : PlaceValue → Stage → Step → Option (List FolderCall) → Option (List FolderCall) → Type 0
 FolderGoes place from to f_before f_now =
     (text : ℕ → List ℕ) → (p : Option (List ProgramCall)) → Goes text place from to f_before f_now p p
+
+-- of one from a stage of which so many entries are left
+abbrev pub FolderGoesWith : ℕ → PlaceValue → Stage → Step → Option (List FolderCall) → Option (List FolderCall) → Type 0
+FolderGoesWith left place from to f_before f_now =
+    (text : ℕ → List ℕ) → (p : Option (List ProgramCall)) → GoesWith left text place from to f_before f_now p p
 
 -- of one that asks programs alone
 abbrev pub ProgramGoes : PlaceValue → Stage → Step → Option (List ProgramCall) → Option (List ProgramCall) → Type 0

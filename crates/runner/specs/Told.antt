@@ -1,5 +1,6 @@
--- What is told of a program: its code, that it and all that it started are ended, and what it wrote.
-use Rattle.std.specs.Prelude.{ℕ, ◌+◌, ℤ, true, List, [], ◌∷◌, Option, Some, None}
+-- What is told of a program: its code, that it and all that it started are ended, and what it wrote,
+-- to the end of each stream.
+use Rattle.std.specs.Prelude.{ℕ, zero, suc, ◌+◌, ℤ, true, List, [], ◌∷◌, ◌++◌, Option, Some, None}
 use Rattle.runner.specs.declared.task.RunKey.{RunKey}
 use Rattle.runner.specs.declared.programs.Stream.{Stream}
 use Rattle.runner.specs.Calls.{ProgramCall, ProgramQuestion, ProgramAnswer, start_asked, end_asked, kill_asked, length_asked, read_asked, forget_asked, ended, killed, bytes, collect}
@@ -9,10 +10,22 @@ pub data ToldItem : Type 0 where
   killed_item : RunKey → ToldItem
   -- the byte of a stream at a place in it
   stream_byte : RunKey → Stream → ℕ → ℕ → ToldItem
+  -- nothing more is in a stream
+  stream_end : RunKey → Stream → ToldItem
 
 abbrev pub stream_bytes : RunKey → Stream → ℕ → List ℕ → List ToldItem
 stream_bytes run stream from [] = []
 stream_bytes run stream from (b ∷ bs) = stream_byte run stream from b ∷ stream_bytes run stream (from + 1) bs
+
+-- the bytes of a stream, to its end
+abbrev pub whole_stream : RunKey → Stream → List ℕ → List ToldItem
+whole_stream run stream bs = stream_bytes run stream 0 bs ++ stream_end run stream ∷ []
+
+-- bytes of a stream from a place on, or its end, where bytes were wanted and none are there
+abbrev pub part_told : RunKey → Stream → ℕ → ℕ → List ℕ → List ToldItem
+part_told run stream from zero [] = []
+part_told run stream from (suc most) [] = stream_end run stream ∷ []
+part_told run stream from most (b ∷ bs) = stream_bytes run stream from (b ∷ bs)
 
 abbrev pub end_told : RunKey → ProgramAnswer → List ToldItem
 end_told run (ended code) = code_item run code ∷ []
@@ -22,16 +35,16 @@ abbrev pub kill_told : RunKey → ProgramAnswer → List ToldItem
 kill_told run (killed true) = killed_item run ∷ []
 kill_told run a = []
 
-abbrev pub read_told : RunKey → Stream → ℕ → ProgramAnswer → List ToldItem
-read_told run stream from (bytes bs) = stream_bytes run stream from bs
-read_told run stream from a = []
+abbrev pub read_told : RunKey → Stream → ℕ → ℕ → ProgramAnswer → List ToldItem
+read_told run stream from most (bytes bs) = part_told run stream from most bs
+read_told run stream from most a = []
 
 abbrev pub answer_told : ProgramQuestion → ProgramAnswer → List ToldItem
 answer_told (start_asked place command) a = []
 answer_told (end_asked run) a = end_told run a
 answer_told (kill_asked run) a = kill_told run a
 answer_told (length_asked run) a = []
-answer_told (read_asked run stream from most) a = read_told run stream from a
+answer_told (read_asked run stream from most) a = read_told run stream from most a
 answer_told (forget_asked run) a = []
 
 abbrev pub call_told : ProgramQuestion → Option ProgramAnswer → List ToldItem

@@ -1,11 +1,13 @@
 //! Gathering what a run left at its outputs' paths, step by step.
 
-ghost use Rattle.std.specs.Prelude.{◌≡◌, ◌++◌, ◌+◌, IfOk, length};
-ghost use Rattle.runner.specs.Values.{PlaceValue, place_shown};
-ghost use Rattle.runner.specs.Steps.{FolderGoes, exited_told, file_items, tree_file_items, tree_items};
-ghost use Rattle.runner.specs.Gathered.{output_items};
+ghost use Rattle.std.specs.Prelude.{◌≡◌, [], ◌∷◌, ◌++◌, ◌+◌, IfErr, IfOk, OnOk, length, map, reverse, string_bytes};
+ghost use Rattle.runner.specs.Values.{PlaceValue, entry_shown, place_shown};
+ghost use Rattle.runner.specs.Steps.{FolderGoes, FolderGoesWith, exited_told, file_items, tree_file_items, tree_items};
+ghost use Rattle.runner.specs.Listed.{IsNext, directory_names, file_names, inner_name, tree_entries};
+ghost use Rattle.runner.specs.Gathered.{end_item, output_items};
 ghost use Rattle.runner.specs.Faults.{FolderCounts};
-ghost use Rattle.runner.specs.Sizes.{FolderSized, IsCounted, StaysCounted, exited_length, nodes_length};
+ghost use Rattle.runner.specs.Sizes.{IsCounted, IsCountedThen, exited_length, nodes_length};
+ghost use Rattle.runner.specs.Stops.{FolderStops};
 ghost use Rattle.runner.specs.declared.stage.Stage.TheVariants as Stages;
 
 use crate::content::{Content, is_too_large};
@@ -36,8 +38,9 @@ pub(crate) fn next_output<F: Folder>(
     ensures goes { IfOk result (λ step. FolderGoes (place_shown place.now)
         (Stages.Outputs gathering) step (F.asked folder.old) (F.asked folder.new)) }
     ensures counts { FolderCounts result (F.failures folder.old) (F.failures folder.new) }
-    ensures sized { FolderSized result (Stages.Outputs gathering)
-        (F.asked folder.old) (F.asked folder.new) }
+    ensures counted { IfOk result IsCountedThen }
+    ensures stops { IfErr result (λ fault. FolderStops (place_shown place.now)
+        (Stages.Outputs gathering) fault (F.asked folder.old) (F.asked folder.new)) }
 {
     let mut gathering = gathering;
     let Some(path) = gathering.left.pop_front() else {
@@ -72,8 +75,9 @@ pub(crate) fn read_file<F: Folder>(
     ensures goes { IfOk result (λ step. FolderGoes (place_shown place.now)
         (Stages.File gathering file) step (F.asked folder.old) (F.asked folder.new)) }
     ensures counts { FolderCounts result (F.failures folder.old) (F.failures folder.new) }
-    ensures sized { FolderSized result (Stages.File gathering file)
-        (F.asked folder.old) (F.asked folder.new) }
+    ensures counted { IfOk result IsCountedThen }
+    ensures stops { IfErr result (λ fault. FolderStops (place_shown place.now)
+        (Stages.File gathering file) fault (F.asked folder.old) (F.asked folder.new)) }
 {
     let mut gathering = gathering;
     let mut file = file;
@@ -96,7 +100,8 @@ pub(crate) fn read_file<F: Folder>(
 fn with_file(gathering: Gathering, file: OutputFile) -> Result<Gathering, AllocError>
     ensures items { IfOk result (λ added. (place : PlaceValue) →
         output_items place added.exited.outputs.items
-        ≡ output_items place gathering.exited.outputs.items ++ file_items place file) }
+        ≡ output_items place gathering.exited.outputs.items
+        ++ (file_items place file ++ end_item place (string_bytes file.path) [] ∷ [])) }
     ensures length { IfOk result (λ added. exited_length added.exited
         ≡ exited_length gathering.exited + length file.content) }
     ensures told { IfOk result (λ added. (place : PlaceValue) →
@@ -126,7 +131,15 @@ fn set_apart(
     level: u32,
     files: &mut VecDeque<String>,
     todo: &mut Vec<Inner>,
-) -> Result<(), AllocError> {
+) -> Result<(), AllocError>
+    ensures files { OnOk result (map string_bytes files.new.items
+        ≡ file_names (map entry_shown entries.items) ++ map string_bytes files.old.items) }
+    ensures directories { OnOk result (map inner_name todo.new.items
+        ≡ map inner_name todo.old.items
+        ++ reverse (directory_names (map entry_shown entries.items))) }
+    ensures all { OnOk result (length files.new.items + length todo.new.items
+        ≡ length entries.items + (length files.old.items + length todo.old.items)) }
+{
     let mut rest = entries;
     'entries: while let Some(Entry { name, is_directory }) = rest.pop() {
         if is_directory {
@@ -150,7 +163,9 @@ pub(crate) fn list_output<F: Folder>(
     ensures goes { IfOk result (λ step. FolderGoes (place_shown place.now)
         (Stages.Listing gathering path) step (F.asked folder.old) (F.asked folder.new)) }
     ensures counts { FolderCounts result (F.failures folder.old) (F.failures folder.new) }
-    ensures sized { StaysCounted result }
+    ensures counted { IfOk result IsCountedThen }
+    ensures stops { IfErr result (λ fault. FolderStops (place_shown place.now)
+        (Stages.Listing gathering path) fault (F.asked folder.old) (F.asked folder.new)) }
 {
     let entries = of_folder(folder.list(place, path.as_str(), &[], MOST_NODES))?;
     let mut files = VecDeque::new(alloc);
@@ -204,8 +219,9 @@ pub(crate) fn next_in_tree<F: Folder>(
     ensures goes { IfOk result (λ step. FolderGoes (place_shown place.now)
         (Stages.Tree gathering tree) step (F.asked folder.old) (F.asked folder.new)) }
     ensures counts { FolderCounts result (F.failures folder.old) (F.failures folder.new) }
-    ensures sized { FolderSized result (Stages.Tree gathering tree)
-        (F.asked folder.old) (F.asked folder.new) }
+    ensures counted { IfOk result IsCountedThen }
+    ensures stops { IfErr result (λ fault. FolderStops (place_shown place.now)
+        (Stages.Tree gathering tree) fault (F.asked folder.old) (F.asked folder.new)) }
 {
     let mut tree = tree;
     match next_of(&mut tree.files, &mut tree.todo, tree.nodes.count()) {
@@ -227,7 +243,10 @@ enum Next {
 }
 
 /// What is next in an output directory of which so many nodes are gathered.
-fn next_of(files: &mut VecDeque<String>, todo: &mut Vec<Inner>, count: usize) -> Next {
+fn next_of(files: &mut VecDeque<String>, todo: &mut Vec<Inner>, count: usize) -> Next
+    ensures { IsNext result count (map string_bytes files.old.items)
+        (map string_bytes files.new.items) todo.old.items todo.new.items }
+{
     if count >= MOST_NODES {
         return Next::Nothing;
     }
@@ -250,11 +269,13 @@ fn look_in_tree<F: Folder>(
     name: String,
 ) -> Result<Step, RunFault>
     requires counted { IsCounted (Stages.Tree gathering tree) }
-    ensures goes { IfOk result (λ step. FolderGoes (place_shown place.now)
+    ensures goes { IfOk result (λ step. FolderGoesWith (tree_entries tree + 1)
+        (place_shown place.now)
         (Stages.Tree gathering tree) step (F.asked folder.old) (F.asked folder.new)) }
     ensures counts { FolderCounts result (F.failures folder.old) (F.failures folder.new) }
-    ensures sized { FolderSized result (Stages.Tree gathering tree)
-        (F.asked folder.old) (F.asked folder.new) }
+    ensures counted { IfOk result IsCountedThen }
+    ensures stops { IfErr result (λ fault. FolderStops (place_shown place.now)
+        (Stages.Tree gathering tree) fault (F.asked folder.old) (F.asked folder.new)) }
 {
     let names = tree.nodes.names(name.as_str())?;
     let Some(facts) = of_folder(folder.file(place, tree.path.as_str(), &names))? else {
@@ -280,10 +301,13 @@ fn list_in_tree<F: Folder>(
     inner: Inner,
 ) -> Result<Step, RunFault>
     requires counted { IsCounted (Stages.Tree gathering tree) }
-    ensures goes { IfOk result (λ step. FolderGoes (place_shown place.now)
+    ensures goes { IfOk result (λ step. FolderGoesWith (tree_entries tree + 1)
+        (place_shown place.now)
         (Stages.Tree gathering tree) step (F.asked folder.old) (F.asked folder.new)) }
     ensures counts { FolderCounts result (F.failures folder.old) (F.failures folder.new) }
-    ensures sized { StaysCounted result }
+    ensures counted { IfOk result IsCountedThen }
+    ensures stops { IfErr result (λ fault. FolderStops (place_shown place.now)
+        (Stages.Tree gathering tree) fault (F.asked folder.old) (F.asked folder.new)) }
 {
     let Tree {
         path,
@@ -316,8 +340,9 @@ pub(crate) fn read_in_tree<F: Folder>(
     ensures goes { IfOk result (λ step. FolderGoes (place_shown place.now)
         (Stages.TreeFile gathering tree file) step (F.asked folder.old) (F.asked folder.new)) }
     ensures counts { FolderCounts result (F.failures folder.old) (F.failures folder.new) }
-    ensures sized { FolderSized result (Stages.TreeFile gathering tree file)
-        (F.asked folder.old) (F.asked folder.new) }
+    ensures counted { IfOk result IsCountedThen }
+    ensures stops { IfErr result (λ fault. FolderStops (place_shown place.now)
+        (Stages.TreeFile gathering tree file) fault (F.asked folder.old) (F.asked folder.new)) }
 {
     let mut gathering = gathering;
     let mut file = file;
@@ -340,9 +365,12 @@ pub(crate) fn read_in_tree<F: Folder>(
 /// Adds a file to an output directory.
 fn with_file_read(tree: Tree, file: TreeFile) -> Result<Tree, AllocError>
     ensures items { IfOk result (λ added. (place : PlaceValue) →
-        tree_items place added ≡ tree_items place tree ++ tree_file_items place tree file) }
+        tree_items place added ≡ tree_items place tree ++ (tree_file_items place tree file
+        ++ end_item place (string_bytes tree.path) (tree.nodes.above ++ string_bytes file.name ∷ [])
+        ∷ [])) }
     ensures length { IfOk result (λ added. nodes_length added.nodes.nodes
         ≡ nodes_length tree.nodes.nodes + length file.content) }
+    ensures left { IfOk result (λ added. tree_entries added ≡ tree_entries tree) }
 {
     let Tree {
         path,

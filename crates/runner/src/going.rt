@@ -2,6 +2,8 @@
 
 ghost use Rattle.std.specs.Prelude.{◌≡◌};
 ghost use Rattle.runner.specs.Sizes.{IsCounted};
+ghost use Rattle.runner.specs.Runs.{can_go_on};
+ghost use Rattle.runner.specs.declared.stage.State.TheVariants.{Live};
 
 use crate::stage::Stage;
 use std::marker::Model;
@@ -41,7 +43,9 @@ impl Going {
     }
 
     /// Whether it can go on at once: it waits for no program, neither to end nor to be killed.
-    pub(crate) fn can_go_on(&self) -> bool {
+    pub(crate) fn can_go_on(&self) -> bool
+        ensures { result ≡ can_go_on (Live self.now) }
+    {
         !matches!(self.stage, Stage::Running(_) | Stage::Stopping(_))
     }
 }

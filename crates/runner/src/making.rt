@@ -1,12 +1,13 @@
 //! Making the folder of a run, and starting its program there, step by step.
 
-ghost use Rattle.std.specs.Prelude.{◌≡◌, ◌++◌, ◌-◌, ◌∷◌, [], ℕ, List, Option, IfOk, length, map, take, string_bytes};
+ghost use Rattle.std.specs.Prelude.{◌≡◌, ◌++◌, ◌-◌, ◌∷◌, [], ℕ, List, Option, IfErr, IfOk, length, map, take, string_bytes};
 ghost use Rattle.runner.specs.Values.{PlaceValue, place_shown, command_shown};
 ghost use Rattle.runner.specs.Calls.{ProgramCall, start_asked};
 ghost use Rattle.runner.specs.Made.{kind_made};
 ghost use Rattle.runner.specs.Steps.{Goes, FolderGoes, ProgramGoes, above_behind, making_left, making_outputs, making_starts, nodes_left};
 ghost use Rattle.runner.specs.Faults.{Counted, FolderCounts, ProgramsCounts};
-ghost use Rattle.runner.specs.Sizes.{StaysCounted};
+ghost use Rattle.runner.specs.Sizes.{IsCountedThen};
+ghost use Rattle.runner.specs.Stops.{Stops, FolderStops, ProgramStops};
 ghost use Rattle.runner.specs.declared.stage.Stage.TheVariants as Stages;
 ghost use Rattle.runner.specs.declared.stage.Making.TheVariants as Makings;
 
@@ -39,7 +40,9 @@ fn make_root<F: Folder>(folder: &mut F, place: &Place, nodes: Nodes) -> Result<S
     ensures goes { IfOk result (λ step. FolderGoes (place_shown place.now)
         (Stages.Making (Makings.Root nodes)) step (F.asked folder.old) (F.asked folder.new)) }
     ensures counts { FolderCounts result (F.failures folder.old) (F.failures folder.new) }
-    ensures sized { StaysCounted result }
+    ensures counted { IfOk result IsCountedThen }
+    ensures stops { IfErr result (λ fault. FolderStops (place_shown place.now)
+        (Stages.Making (Makings.Root nodes)) fault (F.asked folder.old) (F.asked folder.new)) }
 {
     of_folder(folder.make_root(place.run))?;
     Ok(Step::Goes(Stage::Making(Making::Nodes(nodes)), COST_OF_NODE))
@@ -88,7 +91,9 @@ fn make_node<F: Folder>(folder: &mut F, place: &Place, nodes: Nodes) -> Result<S
     ensures goes { IfOk result (λ step. FolderGoes (place_shown place.now)
         (Stages.Making (Makings.Nodes nodes)) step (F.asked folder.old) (F.asked folder.new)) }
     ensures counts { FolderCounts result (F.failures folder.old) (F.failures folder.new) }
-    ensures sized { StaysCounted result }
+    ensures counted { IfOk result IsCountedThen }
+    ensures stops { IfErr result (λ fault. FolderStops (place_shown place.now)
+        (Stages.Making (Makings.Nodes nodes)) fault (F.asked folder.old) (F.asked folder.new)) }
 {
     let Nodes {
         mut above,
@@ -117,7 +122,10 @@ fn write_part<F: Folder, T: Texts>(
         Goes (T.text_of texts.now) (place_shown place.now)
         (Stages.Making (Makings.Writing writing)) step (F.asked folder.old) (F.asked folder.new) p p) }
     ensures counts { FolderCounts result (F.failures folder.old) (F.failures folder.new) }
-    ensures sized { StaysCounted result }
+    ensures counted { IfOk result IsCountedThen }
+    ensures stops { IfErr result (λ fault. (p : Option (List ProgramCall)) →
+        Stops (T.text_of texts.now) (place_shown place.now) (Stages.Making (Makings.Writing writing))
+        fault (F.asked folder.old) (F.asked folder.new) p p) }
 {
     let Writing { text, from, nodes } = writing;
     let part = texts.part(text, from, PIECE);
@@ -141,7 +149,9 @@ fn make_directory<F: Folder>(
         (Stages.Making (Makings.Directory prepared)) step
         (F.asked folder.old) (F.asked folder.new)) }
     ensures counts { FolderCounts result (F.failures folder.old) (F.failures folder.new) }
-    ensures sized { StaysCounted result }
+    ensures counted { IfOk result IsCountedThen }
+    ensures stops { IfErr result (λ fault. FolderStops (place_shown place.now)
+        (Stages.Making (Makings.Directory prepared)) fault (F.asked folder.old) (F.asked folder.new)) }
 {
     of_folder(folder.make_working_directory(place))?;
     let Prepared { command, outputs } = prepared;
@@ -164,7 +174,9 @@ fn make_parents<F: Folder>(
     ensures goes { IfOk result (λ step. FolderGoes (place_shown place.now)
         (Stages.Making (Makings.Parents parents)) step (F.asked folder.old) (F.asked folder.new)) }
     ensures counts { FolderCounts result (F.failures folder.old) (F.failures folder.new) }
-    ensures sized { StaysCounted result }
+    ensures counted { IfOk result IsCountedThen }
+    ensures stops { IfErr result (λ fault. FolderStops (place_shown place.now)
+        (Stages.Making (Makings.Parents parents)) fault (F.asked folder.old) (F.asked folder.new)) }
 {
     let Parents {
         command,
@@ -192,7 +204,9 @@ fn start<P: Programs>(programs: &mut P, place: &Place, prepared: Prepared) -> Re
         (Stages.Making (Makings.Starting prepared)) step
         (P.asked programs.old) (P.asked programs.new)) }
     ensures counts { ProgramsCounts result (P.failures programs.old) (P.failures programs.new) }
-    ensures sized { StaysCounted result }
+    ensures counted { IfOk result IsCountedThen }
+    ensures stops { IfErr result (λ fault. ProgramStops (place_shown place.now)
+        (Stages.Making (Makings.Starting prepared)) fault (P.asked programs.old) (P.asked programs.new)) }
 {
     of_programs(programs.start(place, &prepared.command))?;
     let Prepared { command, outputs } = prepared;
@@ -213,7 +227,10 @@ pub(crate) fn make<F: Folder, P: Programs, T: Texts>(
         (P.asked programs.old) (P.asked programs.new)) }
     ensures faults { Counted result (F.failures folder.old) (F.failures folder.new)
         (P.failures programs.old) (P.failures programs.new) }
-    ensures sized { StaysCounted result }
+    ensures counted { IfOk result IsCountedThen }
+    ensures stops { IfErr result (λ fault. Stops (T.text_of texts.now) (place_shown place.now)
+        (Stages.Making making) fault (F.asked folder.old) (F.asked folder.new)
+        (P.asked programs.old) (P.asked programs.new)) }
 {
     match making {
         Making::Root(nodes) => make_root(folder, place, nodes),

@@ -1,10 +1,13 @@
 //! Asking a program, ending it, and reading what it wrote, step by step.
 
-ghost use Rattle.std.specs.Prelude.{◌≡◌, [], IfOk};
+ghost use Rattle.std.specs.Prelude.{◌≡◌, [], ◌∷◌, ◌++◌, IfErr, IfOk};
 ghost use Rattle.runner.specs.Values.{PlaceValue, place_shown};
-ghost use Rattle.runner.specs.Steps.{ProgramGoes, exited_told, has_told};
+ghost use Rattle.runner.specs.Steps.{ProgramGoes, exited_told};
 ghost use Rattle.runner.specs.Faults.{ProgramsCounts};
-ghost use Rattle.runner.specs.Sizes.{IsCounted, ProgramSized, StaysCounted};
+ghost use Rattle.runner.specs.Sizes.{IsCounted, IsCountedThen};
+ghost use Rattle.runner.specs.Stops.{ProgramStops};
+ghost use Rattle.runner.specs.Told.{code_item, killed_item, whole_stream};
+ghost use Rattle.runner.specs.declared.programs.Stream.TheVariants as Streams;
 ghost use Rattle.runner.specs.declared.stage.Stage.TheVariants as Stages;
 ghost use Rattle.runner.specs.declared.stage.Step.TheVariants.{Goes};
 
@@ -28,7 +31,9 @@ pub(crate) fn ask<P: Programs>(
     ensures goes { IfOk result (λ step. ProgramGoes (place_shown place.now)
         (Stages.Running outputs) step (P.asked programs.old) (P.asked programs.new)) }
     ensures counts { ProgramsCounts result (P.failures programs.old) (P.failures programs.new) }
-    ensures sized { StaysCounted result }
+    ensures counted { IfOk result IsCountedThen }
+    ensures stops { IfErr result (λ fault. ProgramStops (place_shown place.now)
+        (Stages.Running outputs) fault (P.asked programs.old) (P.asked programs.new)) }
 {
     match of_programs(programs.ask(place.run))? {
         None => Ok(Step::Goes(Stage::Running(outputs), u32::MAX)),
@@ -51,7 +56,9 @@ pub(crate) fn stop<P: Programs>(
     ensures goes { IfOk result (λ step. ProgramGoes (place_shown place.now)
         (Stages.Stopping ended) step (P.asked programs.old) (P.asked programs.new)) }
     ensures counts { ProgramsCounts result (P.failures programs.old) (P.failures programs.new) }
-    ensures sized { StaysCounted result }
+    ensures counted { IfOk result IsCountedThen }
+    ensures stops { IfErr result (λ fault. ProgramStops (place_shown place.now)
+        (Stages.Stopping ended) fault (P.asked programs.old) (P.asked programs.new)) }
 {
     let is_killed = of_programs(programs.kill(place.run))?;
     if is_killed {
@@ -71,8 +78,9 @@ pub(crate) fn measure<P: Programs>(
     ensures goes { IfOk result (λ step. ProgramGoes (place_shown place.now)
         (Stages.Measuring ended) step (P.asked programs.old) (P.asked programs.new)) }
     ensures counts { ProgramsCounts result (P.failures programs.old) (P.failures programs.new) }
-    ensures sized { ProgramSized result (Stages.Measuring ended)
-        (P.asked programs.old) (P.asked programs.new) }
+    ensures counted { IfOk result IsCountedThen }
+    ensures stops { IfErr result (λ fault. ProgramStops (place_shown place.now)
+        (Stages.Measuring ended) fault (P.asked programs.old) (P.asked programs.new)) }
 {
     let length = of_programs(programs.length(place.run))?;
     if length > MOST_BYTES {
@@ -93,8 +101,9 @@ pub(crate) fn read_output<P: Programs>(
     ensures goes { IfOk result (λ step. ProgramGoes (place_shown place.now)
         (Stages.Output ended content) step (P.asked programs.old) (P.asked programs.new)) }
     ensures counts { ProgramsCounts result (P.failures programs.old) (P.failures programs.new) }
-    ensures sized { ProgramSized result (Stages.Output ended content)
-        (P.asked programs.old) (P.asked programs.new) }
+    ensures counted { IfOk result IsCountedThen }
+    ensures stops { IfErr result (λ fault. ProgramStops (place_shown place.now)
+        (Stages.Output ended content) fault (P.asked programs.old) (P.asked programs.new)) }
 {
     let mut content = content;
     let from = content.length();
@@ -123,8 +132,9 @@ pub(crate) fn read_error<P: Programs>(
     ensures goes { IfOk result (λ step. ProgramGoes (place_shown place.now)
         (Stages.Error ended stdout content) step (P.asked programs.old) (P.asked programs.new)) }
     ensures counts { ProgramsCounts result (P.failures programs.old) (P.failures programs.new) }
-    ensures sized { ProgramSized result (Stages.Error ended stdout content)
-        (P.asked programs.old) (P.asked programs.new) }
+    ensures counted { IfOk result IsCountedThen }
+    ensures stops { IfErr result (λ fault. ProgramStops (place_shown place.now)
+        (Stages.Error ended stdout content) fault (P.asked programs.old) (P.asked programs.new)) }
 {
     let mut content = content;
     let from = content.length();
@@ -144,7 +154,9 @@ pub(crate) fn read_error<P: Programs>(
 fn both_read(alloc: Global, ended: Ended, stdout: Draft, stderr: Content) -> Gathering
     requires counted { IsCounted (Stages.Error ended stdout stderr) }
     ensures told { (place : PlaceValue) →
-        exited_told place result.exited ≡ has_told place (Stages.Error ended stdout stderr) }
+        exited_told place result.exited ≡ code_item place.run ended.code ∷ killed_item place.run
+        ∷ (whole_stream place.run Streams.Output stdout.text
+        ++ whole_stream place.run Streams.Error stderr) }
     ensures outputs { result.exited.outputs.items ≡ [] }
     ensures left { result.left ≡ ended.outputs }
     ensures counted { IsCounted (Stages.Outputs result) }

@@ -1,10 +1,10 @@
 //! Runs, from their start to their end.
 
-ghost use Rattle.std.specs.Prelude.{◌≡◌, ◌<◌, ◌≤◌, ◌++◌, ◌∷◌, [], List, IfOk, IfSome, IfNone, OnOk, OnErr, length, vec_len, vec_capacity, take, drop, insert};
+ghost use Rattle.std.specs.Prelude.{◌≡◌, ◌<◌, ◌≤◌, ◌++◌, ◌∷◌, ◌⊎◌, [], None, Ok, List, IfOk, IfSome, IfNone, OnOk, OnErr, length, vec_len, vec_capacity, take, drop, insert, option_map, slice_get};
 ghost use Rattle.std.specs.List.{list_any};
-ghost use Rattle.runner.specs.Faults.{Counted, OnlyWhereFailed};
+ghost use Rattle.runner.specs.Faults.{Counted};
 ghost use Rattle.runner.specs.Sizes.{IsCounted};
-ghost use Rattle.runner.specs.Runs.{EndsBy, HasGone, ending_of, IsAt, IsAsked, IsKilled, IsStarted, is_run_of, run_left};
+ghost use Rattle.runner.specs.Runs.{EndsBy, HasGone, HasNone, can_go_on, ending_of, IsAt, IsAsked, IsKilled, IsOver, IsStarted, is_run_of, run_left};
 ghost use Rattle.runner.specs.declared.stage.Run.{Run};
 
 use crate::fault::RunFault;
@@ -25,7 +25,9 @@ fn is_run_of(key: RunKey, run: &Run) -> bool
 }
 
 /// Whether a run can go on at once: it waits for no program, neither to end nor to be killed.
-fn can_go_on(state: &State) -> bool {
+fn can_go_on(state: &State) -> bool
+    ensures { result ≡ can_go_on state.now }
+{
     match state {
         State::Live(going) => going.can_go_on(),
         State::Over(Ending::Killing) => false,
@@ -35,7 +37,8 @@ fn can_go_on(state: &State) -> bool {
 
 /// Where the run of a key stands.
 fn place_of(runs: &[Run], key: RunKey) -> Option<usize>
-    ensures { IfSome result (λ at. IsAt key runs.now at) }
+    ensures first { IfSome result (λ at. IsAt key runs.now at) }
+    ensures none { IfNone result (HasNone key runs.now) }
 {
     let mut at = 0;
     let mut left = runs;
@@ -56,7 +59,8 @@ fn take_out(runs: &mut Vec<Run>, key: RunKey) -> Option<(usize, Run)>
     ensures key { IfSome result (λ found. found.1.place.run ≡ key) }
     ensures inside { IfSome result (λ found. found.0 ≤ vec_len runs.new) }
     ensures room { IfSome result (λ found. vec_len runs.new < vec_capacity runs.new) }
-    ensures none { IfNone result (runs.new ≡ runs.old) }
+    ensures none { IfNone result (HasNone key runs.old.items) }
+    ensures same { IfNone result (runs.new ≡ runs.old) }
 {
     let at = place_of(runs, key)?;
     let run = runs.remove(at);
@@ -163,9 +167,11 @@ impl<F: Folder + Drop, P: Programs + Drop> Runner<F, P> {
             result self.old.runs.items self.new.runs.items
             (F.asked self.old.folder) (F.asked self.new.folder)
             (P.asked self.old.programs) (P.asked self.new.programs) }
-        ensures faults { OnlyWhereFailed result
+        ensures faults { Counted result
             (F.failures self.old.folder) (F.failures self.new.folder)
-            (P.failures self.old.programs) (P.failures self.new.programs) }
+            (P.failures self.old.programs) (P.failures self.new.programs)
+            ⊎ (IsOver (record { instance = instance; job = job }) self.old.runs.items
+            × (result ≡ Ok None)) }
     {
         let key = RunKey { instance, job };
         let Some((at, run)) = take_out(&mut self.runs, key) else {
@@ -255,7 +261,10 @@ impl<F: Folder + Drop, P: Programs + Drop> Runner<F, P> {
     }
 
     /// The run of this number, counted from 0.
-    pub fn run(&self, at: usize) -> Option<RunKey> {
+    pub fn run(&self, at: usize) -> Option<RunKey>
+        ensures { result ≡ option_map (λ (run : Run). run.place.run)
+            (slice_get self.now.runs.items at) }
+    {
         let run = self.runs.get(at)?;
         Some(run.place.run)
     }
@@ -270,7 +279,9 @@ impl<F: Folder + Drop, P: Programs + Drop> Runner<F, P> {
     }
 
     /// Whether a run can go on at once, without waiting for a program.
-    pub fn is_busy(&self) -> bool {
+    pub fn is_busy(&self) -> bool
+        ensures { result ≡ list_any (λ (run : Run). can_go_on run.state) self.now.runs.items }
+    {
         self.runs.iter().any(|run| can_go_on(&run.state))
     }
 

@@ -2,7 +2,7 @@
 
 ghost use Rattle.std.specs.Prelude.{◌≡◌, ◌+◌, ◌-◌, ◌++◌, ◌∷◌, [], List, ℕ, IfOk, length, map, string_bytes};
 ghost use Rattle.runner.specs.Values.{PlaceValue};
-ghost use Rattle.runner.specs.Gathered.{nodes_items, file_item, directory_item, numbered};
+ghost use Rattle.runner.specs.Gathered.{nodes_items, file_item, directory_item, whole_file};
 ghost use Rattle.runner.specs.Sizes.{nodes_length};
 
 use crate::outcome::{OutputNode, OutputNodeKind};
@@ -66,7 +66,9 @@ impl TreeNodes {
         &self.above
     }
 
-    pub(crate) fn count(&self) -> usize {
+    pub(crate) fn count(&self) -> usize
+        ensures { result ≡ length self.now.nodes }
+    {
         self.nodes.len()
     }
 
@@ -91,7 +93,7 @@ impl TreeNodes {
         ensures items { IfOk result (λ tree. (place : PlaceValue) → (path : List ℕ) →
             nodes_items place path [] tree.nodes ≡ nodes_items place path [] self.nodes
             ++ file_item place path (self.above ++ string_bytes name ∷ []) is_executable
-            ∷ numbered place path (self.above ++ string_bytes name ∷ []) 0 content.text) }
+            ∷ whole_file place path (self.above ++ string_bytes name ∷ []) content.text) }
         ensures length { IfOk result (λ tree. nodes_length tree.nodes
             ≡ nodes_length self.nodes + length content.text) }
     {

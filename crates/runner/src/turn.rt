@@ -5,7 +5,8 @@ ghost use Rattle.runner.specs.Values.{place_shown};
 ghost use Rattle.runner.specs.Steps.{Goes};
 ghost use Rattle.runner.specs.Faults.{Counted};
 ghost use Rattle.runner.specs.Runs.{FailsBy};
-ghost use Rattle.runner.specs.Sizes.{IsCounted, IsCountedThen, Sized};
+ghost use Rattle.runner.specs.Sizes.{IsCounted, IsCountedThen};
+ghost use Rattle.runner.specs.Stops.{Stops};
 
 use crate::fault::RunFault;
 use crate::folder::{Folder, Place};
@@ -34,8 +35,10 @@ fn step<F: Folder, P: Programs, T: Texts>(
         (F.asked folder.old) (F.asked folder.new) (P.asked programs.old) (P.asked programs.new)) }
     ensures faults { Counted result (F.failures folder.old) (F.failures folder.new)
         (P.failures programs.old) (P.failures programs.new) }
-    ensures sized { Sized result stage (F.asked folder.old) (F.asked folder.new)
-        (P.asked programs.old) (P.asked programs.new) }
+    ensures counted { IfOk result IsCountedThen }
+    ensures stops { IfErr result (λ fault. Stops (T.text_of texts.now) (place_shown place.now) stage
+        fault (F.asked folder.old) (F.asked folder.new)
+        (P.asked programs.old) (P.asked programs.new)) }
 {
     match stage {
         Stage::Making(making) => make(folder, programs, texts, place, making),

@@ -1,12 +1,15 @@
-use Rattle.std.proofs.Common.{[], ◌∷◌, refl, ap, ◌∙◌}
+use Rattle.std.proofs.Common.{[], ◌∷◌, refl, ap, ◌∙◌, arith}
 use Rattle.std.specs.Prelude.{string_bytes}
-use Rattle.runner.specs.Values.{place_shown}
+use Rattle.std.proofs.lemmas.List.{length-map}
+use Rattle.runner.specs.Values.{entry_shown, place_shown}
 use Rattle.runner.specs.Calls.{list_asked, entries_of}
-use Rattle.runner.specs.Gathered.{call_items, directory_item, output_items, nodes_items}
+use Rattle.runner.specs.Gathered.{call_items, found_item, directory_item, output_items, nodes_items}
 use Rattle.runner.proofs.Collect.{goes_folder}
 use Rattle.runner.proofs.Popped.{was_ok}
-use Rattle.runner.proofs.Pieces.{begun}
+use Rattle.runner.proofs.Pieces.{begun_inside}
+use Rattle.runner.specs.Listed.{entries_told}
 use Rattle.runner.proofs.Sizes.{fits_still}
+use Rattle.runner.proofs.Stopped.{folder_failed, folder_stops, memory_failed}
 use Rattle.runner.proofs.gathering.list_output.Goals as goal
 
 pub returns-clause-goes : goal.returns-clause-goes
@@ -16,6 +19,15 @@ returns-clause-goes g c = λ text p.
     let q = list_asked (place_shown c.args.place.now) c.as_str.result.now [] 10001 in
     let items = ap (λ r. call_items (list_asked (place_shown c.args.place.now) c.as_str.result.now [] 10001) (entries_of r)) is ∙ ap (λ s. directory_item (place_shown c.args.place.now) s [] ∷ []) c.as_str.ensures.value in
     goes_folder text (place_shown c.args.place.now) _ _ _ _ p q _ c.list.ensures.adds refl refl refl
-    (begun (output_items (place_shown c.args.place.now) c.args.gathering.exited.outputs.items) (directory_item (place_shown c.args.place.now) path []) _ _ (ap (nodes_items (place_shown c.args.place.now) path []) c.new.ensures.nodes) items)
+    (begun_inside (output_items (place_shown c.args.place.now) c.args.gathering.exited.outputs.items) (found_item (place_shown c.args.place.now) path ∷ []) (directory_item (place_shown c.args.place.now) path []) _ _ (ap (nodes_items (place_shown c.args.place.now) path []) c.new.ensures.nodes) items)
     refl
     (fits_still _ _ c.requires.counted.1 refl)
+    (omega (arith, ap (λ r. entries_told (list_asked (place_shown c.args.place.now) c.as_str.result.now [] 10001) (entries_of r)) is, length-map c.in_ok-entries.entries.items entry_shown, c.in_ok-set_apart.ensures.all))
+
+pub returns-in_err-entries-clause-stops : goal.returns-in_err-entries-clause-stops
+returns-in_err-entries-clause-stops g c = folder_failed c.from_residual.result _ _ _ _ c.from_residual.ensures.1 c.of_folder.ensures c.in_err-entries.was (λ fault small text p.
+    folder_stops text (place_shown c.args.place.now) _ fault _ _ p (list_asked (place_shown c.args.place.now) c.as_str.result.now [] 10001) _ small c.list.ensures.adds (refl, c.as_str.ensures.value))
+
+pub returns-in_err-set_apart-clause-stops : goal.returns-in_err-set_apart-clause-stops
+returns-in_err-set_apart-clause-stops g c = memory_failed c.from_residual-in_err-set_apart.result _ c.from_residual-in_err-set_apart.ensures.1 (λ fault small text p.
+    folder_stops text (place_shown c.args.place.now) _ fault _ _ p (list_asked (place_shown c.args.place.now) c.as_str.result.now [] 10001) _ small c.list.ensures.adds (refl, c.as_str.ensures.value))

@@ -4,6 +4,7 @@ use Rattle.runner.specs.Values.{place_shown}
 use Rattle.runner.specs.Calls.{directory_asked, look_asked}
 use Rattle.runner.proofs.Collect.{goes_folder, quiet}
 use Rattle.runner.proofs.Sizes.{fits_none}
+use Rattle.runner.proofs.Stopped.{folder_failed, folder_stops}
 use Rattle.runner.proofs.making.make_directory.Goals as goal
 
 pub returns-clause-goes : goal.returns-clause-goes
@@ -13,3 +14,8 @@ returns-clause-goes g c = λ text p.
     goes_folder text place _ _ _ _ p q _ c.make_working_directory.ensures.adds refl refl
     (ap (λ made. map (look_asked place) (map string_bytes made ++ map string_bytes c.args.prepared.outputs.items)) (sym c.new-made.ensures.items))
     (sym (quiet q _ (λ x. refl))) refl (fits_none _ refl)
+    refl
+
+pub returns-in_err-of_folder-clause-stops : goal.returns-in_err-of_folder-clause-stops
+returns-in_err-of_folder-clause-stops g c = folder_failed c.from_residual.result _ _ _ _ c.from_residual.ensures.1 c.of_folder.ensures c.in_err-of_folder.was (λ fault small text p.
+    folder_stops text (place_shown c.args.place.now) _ fault _ _ p (directory_asked (place_shown c.args.place.now)) _ small c.make_working_directory.ensures.adds (_, refl))

@@ -7,6 +7,7 @@ use Rattle.runner.specs.Steps.{prepared_left}
 use Rattle.runner.proofs.Collect.{goes_alone, goes_folder, quiet}
 use Rattle.runner.proofs.Popped.{popped, popped_none, named, node_step}
 use Rattle.runner.proofs.Sizes.{fits_none}
+use Rattle.runner.proofs.Stopped.{folder_failed, folder_stops}
 use Rattle.runner.proofs.making.make_node.Goals as goal
 
 pub returns-in_default-clause-goes : goal.returns-in_default-clause-goes
@@ -15,6 +16,7 @@ returns-in_default-clause-goes g c = λ text p.
     (ap (λ ns. nodes_made text c.args.place.now.run (map string_bytes c.args.nodes.above.items) ns ++ prepared_left (place_shown c.args.place.now) c.args.nodes.next)
     (popped_none _ _ _ c.pop_front.ensures.items c.pop_front.ensures.rest c.in_default.is))
     refl refl refl refl
+    refl
 
 pub returns-clause-goes : goal.returns-clause-goes
 returns-clause-goes g c = λ text p.
@@ -30,3 +32,16 @@ returns-clause-goes g c = λ text p.
     (sym (c.after_node-making.ensures.starts (place_shown c.args.place.now)))
     (ap (map (look_asked (place_shown c.args.place.now))) (sym c.after_node-making.ensures.outputs))
     (sym (quiet q _ (λ x. refl))) refl (fits_none _ refl)
+    refl
+
+pub returns-in_err-of_folder-clause-stops : goal.returns-in_err-of_folder-clause-stops
+returns-in_err-of_folder-clause-stops g c = folder_failed c.from_residual-in_err-of_folder.result _ _ _ _ c.from_residual-in_err-of_folder.ensures.1 c.of_folder.ensures c.in_err-of_folder.was (λ fault small text p.
+    folder_stops text (place_shown c.args.place.now) _ fault _ _ p (node_asked c.args.place.now.run (map string_bytes c.push.new.self.items) (kind_shown c.in-Some.node.kind)) _ small
+    (subst (λ ns. Adds (g.F.Folder.asked c.args.folder.now) (g.F.Folder.asked c.make_node.new.self) (call (node_asked c.args.place.now.run (map string_bytes ns) (kind_shown c.in-Some.node.kind)) (done_of c.make_node.result)))
+    c.deref.ensures.value c.make_node.ensures.adds) (
+      _,
+      node_step text c.args.place.now.run (map string_bytes c.args.nodes.above.items) (map string_bytes c.push.new.self.items) c.in-Some.node _ _ _ _
+          (popped _ _ _ _ c.pop_front.ensures.items c.in-Some.is)
+          (named string_bytes _ _ _ _ _ _ c.in_ok-push.ensures.items c.truncate.ensures.items c.saturating_sub.ensures)
+          refl,
+    ))

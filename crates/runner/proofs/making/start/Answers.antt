@@ -4,9 +4,15 @@ use Rattle.runner.specs.Calls.{start_asked}
 use Rattle.runner.proofs.Collect.{goes_program}
 use Rattle.runner.proofs.Popped.{quiet_told}
 use Rattle.runner.proofs.Sizes.{fits_none}
+use Rattle.runner.proofs.Stopped.{program_stops, programs_failed}
 use Rattle.runner.proofs.making.start.Goals as goal
 
 pub returns-clause-goes : goal.returns-clause-goes
 returns-clause-goes g c = λ text f.
     let q = start_asked (place_shown c.args.place.now) (command_shown c.args.prepared.command) in
     goes_program text (place_shown c.args.place.now) _ _ f _ _ q _ c.start.ensures.adds refl refl refl refl (sym (quiet_told q _ (λ x. refl))) (fits_none _ refl)
+    refl
+
+pub returns-in_err-of_programs-clause-stops : goal.returns-in_err-of_programs-clause-stops
+returns-in_err-of_programs-clause-stops g c = programs_failed c.from_residual.result _ _ _ _ c.from_residual.ensures.1 c.of_programs.ensures c.in_err-of_programs.was (λ fault small text f.
+    program_stops text (place_shown c.args.place.now) _ fault f _ _ (start_asked (place_shown c.args.place.now) (command_shown c.args.prepared.command)) _ small c.start.ensures.adds refl)

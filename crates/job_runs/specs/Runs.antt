@@ -1,5 +1,8 @@
 -- How the runs of a server's jobs are those of a runner.
-use Rattle.std.specs.Prelude.{◌≡◌, ℕ, List, [], ◌∷◌, ◌++◌, Option, Some, None, Result, Ok, Err}
+use Rattle.std.specs.Prelude.{◌≡◌, ◌≤◌, ◌⊎◌, ℕ, List, [], ◌∷◌, ◌++◌, vec_capacity, vec_len, Option, Some, None, Result, Ok, Err}
+use Rattle.std.specs.Option.{option_map_or}
+use Rattle.std.specs.declared.alloc.Global.{Global}
+use Rattle.std.specs.declared.vec.Vec.{Vec}
 use Rattle.outcomes.specs.declared.outcome.Outcome.{Outcome}
 use Rattle.outcomes.specs.Shown.{outcome_shown}
 use Rattle.executor.specs.Job.{TaskValue}
@@ -13,6 +16,7 @@ use Rattle.runner.specs.Calls.{FolderCall, ProgramCall}
 use Rattle.runner.specs.Runs.{IsAsked, IsStarted}
 use Rattle.run_tasks.specs.Given.{outcome_given}
 use Rattle.run_tasks.specs.Tasks.{IsTaskOf}
+use Rattle.run_tasks.specs.Texts.{numbered_text}
 
 -- a run of this task was added
 pub record IsBegun (run : RunKey) (task : TaskValue) (old new : List Run) : Type 0 where
@@ -21,6 +25,18 @@ pub record IsBegun (run : RunKey) (task : TaskValue) (old new : List Run) : Type
   pub of_task : IsTaskOf task made
   pub started : IsStarted run made begun
   pub added : new ≡ old ++ begun ∷ []
+
+-- no run was added, for want of memory, and that is noted, unless as many are noted as there is room
+-- for
+abbrev pub IsNoted : RunKey → List Run → List Run → Vec RunKey Global → Vec RunKey Global → Type 0
+IsNoted run old new before now =
+    (new ≡ old)
+    × ((now.items ≡ before.items ++ run ∷ [])
+    ⊎ ((now.items ≡ before.items) × (vec_capacity before ≤ vec_len before)))
+
+-- the text of a number, of the task that is lent
+abbrev pub lent_text : Option TaskValue → ℕ → List ℕ
+lent_text task = numbered_text (option_map_or (λ t. t.texts) task [])
 
 -- the server is told what the run gave; or that memory was refused, where it gave an outcome and no
 -- room was there for what is told of it

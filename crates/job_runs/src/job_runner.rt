@@ -1,9 +1,12 @@
 //! Runs that a runner carries out.
 
-ghost use Rattle.std.specs.Prelude.{◌≡◌, ◌++◌, ◌∷◌, [], OnOk, OnErr};
+ghost use Rattle.std.specs.Prelude.{◌≡◌, ◌⊎◌, ◌++◌, ◌∷◌, [], Contains, Err, OnOk, OnErr, IfSome};
+ghost use Rattle.std.specs.Bool.{OnTrue};
+ghost use Rattle.std.specs.Option.{option_map, option_map_or};
+ghost use Rattle.runner.specs.Runs.{IsKilled};
+ghost use Rattle.runner.specs.declared.fault.RunFault.TheVariants.{NoMemory};
 ghost use Rattle.server_core.specs.Lent.{lent_shown};
-ghost use Rattle.run_tasks.specs.Texts.{numbered_text};
-ghost use Rattle.job_runs.specs.Runs.{IsAnswered, IsBegun, IsTold};
+ghost use Rattle.job_runs.specs.Runs.{IsAnswered, IsBegun, IsNoted, IsTold, lent_text};
 
 use outcomes::Outcome;
 use run_tasks::{LentTexts, outcome_told, run_task};
@@ -66,30 +69,38 @@ impl<F: Folder + Drop, P: Programs + Drop> JobRunner<F, P> {
             (self.new.runner.runs.items ≡ self.old.runner.runs.items) }
         ensures folder { self.new.runner.folder ≡ self.old.runner.folder }
         ensures programs { self.new.runner.programs ≡ self.old.runner.programs }
+        ensures unbegun { self.new.unbegun ≡ self.old.unbegun }
     {
         let made = run_task(self.alloc, task.task)?;
         self.runner.start(run.instance, run.job, made)
     }
 
-    /// Asks a run, to which these texts are lent.
-    fn ask_run(&mut self, run: RunKey, texts: &LentTexts<'_>) -> Result<Option<Outcome>, RunFault>
-        ensures answered { IsAnswered (numbered_text texts.now) run result
+    /// Asks a run that was begun, to which this task is lent.
+    fn ask_run(
+        &mut self,
+        run: RunKey,
+        task: Option<LentTask<'_>>,
+    ) -> Result<Option<Outcome>, RunFault>
+        ensures answered { IsAnswered (lent_text (option_map lent_shown task.entry)) run result
             self.old.runner.runs.items self.new.runner.runs.items
             (F.asked self.old.runner.folder) (F.asked self.new.runner.folder)
             (P.asked self.old.runner.programs) (P.asked self.new.runner.programs) }
     {
-        let answer = self.runner.ask(run.instance, run.job, texts);
+        let answer = self.runner.ask(run.instance, run.job, &texts_for(task));
         told(self.alloc, answer)
     }
 
     /// Where a job stands among those whose run could not be begun.
-    fn place_unbegun(&self, run: RunKey) -> Option<usize> {
+    fn place_unbegun(&self, run: RunKey) -> Option<usize>
+        ensures { IfSome result (λ place. Contains self.now.unbegun.items run) }
+    {
         self.unbegun.iter().position(|unbegun| *unbegun == run)
     }
 
     /// Whether a job's run could not be begun. It is told once.
     fn take_unbegun(&mut self, run: RunKey) -> bool
-        ensures { self.new.runner ≡ self.old.runner }
+        ensures runner { self.new.runner ≡ self.old.runner }
+        ensures unbegun { OnTrue result (Contains self.old.unbegun.items run) }
     {
         match self.place_unbegun(run) {
             None => false,
@@ -100,6 +111,16 @@ impl<F: Folder + Drop, P: Programs + Drop> JobRunner<F, P> {
                 true
             }
         }
+    }
+}
+
+/// The texts of a task that is lent, and none where none is.
+fn texts_for<'a>(task: Option<LentTask<'a>>) -> LentTexts<'a>
+    ensures { result ≡ option_map_or (λ t. t.texts) (option_map lent_shown task.entry) [] }
+{
+    match task {
+        Some(lent) => LentTexts::new(lent.pool, &lent.task.texts),
+        None => LentTexts::none(),
     }
 }
 
@@ -121,14 +142,27 @@ fn told(
 }
 
 impl<F: Folder + Drop, P: Programs + Drop> Runs for JobRunner<F, P> {
-    fn start(&mut self, run: RunKey, task: LentTask<'_>) {
+    fn start(&mut self, run: RunKey, task: LentTask<'_>)
+        ensures begun { IsBegun run (lent_shown task.entry)
+            self.old.runner.runs.items self.new.runner.runs.items
+            ⊎ IsNoted run self.old.runner.runs.items self.new.runner.runs.items
+            self.old.unbegun self.new.unbegun }
+        ensures folder { self.new.runner.folder ≡ self.old.runner.folder }
+        ensures programs { self.new.runner.programs ≡ self.old.runner.programs }
+    {
         if self.begin(run, task).is_err() {
             // There is room for each job that may run at a time.
             let _room_is_there = self.unbegun.push(run);
         }
     }
 
-    fn kill(&mut self, run: RunKey) {
+    fn kill(&mut self, run: RunKey)
+        ensures killed { IsKilled run
+            self.old.runner.runs.items self.new.runner.runs.items
+            (F.asked self.old.runner.folder) (F.asked self.new.runner.folder)
+            (P.asked self.old.runner.programs) (P.asked self.new.runner.programs)
+            ⊎ (Contains self.old.unbegun.items run × (self.new.runner ≡ self.old.runner)) }
+    {
         if !self.take_unbegun(run) {
             self.runner.kill(run.instance, run.job);
         }
@@ -151,18 +185,18 @@ impl<F: Folder + Drop, P: Programs + Drop> Runs for JobRunner<F, P> {
         self.unbegun.get(place - of_runner).copied()
     }
 
-    fn ask(
-        &mut self,
-        run: RunKey,
-        task: Option<LentTask<'_>>,
-    ) -> Result<Option<Outcome>, RunFault> {
+    fn ask(&mut self, run: RunKey, task: Option<LentTask<'_>>) -> Result<Option<Outcome>, RunFault>
+        ensures answered { IsAnswered (lent_text (option_map lent_shown task.entry)) run result
+            self.old.runner.runs.items self.new.runner.runs.items
+            (F.asked self.old.runner.folder) (F.asked self.new.runner.folder)
+            (P.asked self.old.runner.programs) (P.asked self.new.runner.programs)
+            ⊎ (Contains self.old.unbegun.items run × (result ≡ Err NoMemory)
+            × (self.new.runner ≡ self.old.runner)) }
+    {
         if self.take_unbegun(run) {
             return Err(RunFault::NoMemory);
         }
-        match task {
-            Some(lent) => self.ask_run(run, &LentTexts::new(lent.pool, &lent.task.texts)),
-            None => self.ask_run(run, &LentTexts::none()),
-        }
+        self.ask_run(run, task)
     }
 
     fn is_busy(&self) -> bool {

@@ -19,6 +19,7 @@ use Rattle.executor.specs.declared.orders.Order.{Order}
 use Rattle.executor.specs.Orders.{OrderValue}
 use Rattle.executor.specs.Ordered.{order_meant}
 use Rattle.instance_core.specs.Turns.{orders_meant}
+use Rattle.instance_core.proofs.OrdersMeant.{all_meant}
 use Rattle.served_instance.specs.Bytes.{pending_bytes}
 use Rattle.served_instance.specs.Past.{Past}
 use Rattle.instance_core.specs.State.{InstanceState}
@@ -64,7 +65,7 @@ runs_on (Some h) mid after xs ys one two = two ∙ ap (option_map (λ (g : List 
 -- one order, and then the others
 pub carried_more : (i : ℕ) (vs : List ServedState) (v : ServedState) (o : Order) (os : List Order) (before mid after : Option (List RunEvent)) → AreCarriedOut i vs (o ∷ []) before mid → instance_at i vs ≡ Some v → AddsRuns mid after (map (ordered i) (orders_meant v.state.jobs os)) → AddsRuns before after (map (ordered i) (orders_meant v.state.jobs (o ∷ os)))
 carried_more i vs v o os before mid after one is rest =
-    let meant : Order → Option OrderValue = λ x. order_meant v.state.jobs (Some x) in
+    let meant : Order → Option OrderValue = order_meant v.state.jobs in
     let split : map (ordered i) (orders_meant v.state.jobs (o ∷ os)) ≡ map (ordered i) (orders_meant v.state.jobs (o ∷ [])) ++ map (ordered i) (orders_meant v.state.jobs os) =
     ap (map (ordered i)) (filter_map-append meant (o ∷ []) os) ∙ map-append (ordered i) (orders_meant v.state.jobs (o ∷ [])) (orders_meant v.state.jobs os) in
     subst (λ (xs : List RunEvent). AddsRuns before after xs) (sym split)
@@ -158,7 +159,7 @@ accepted_taken e server next orders before after v is own given others parents s
   carried = so v is;
   own = λ l s. record {
     now = lone_step (parent_texts e.instance server) e l;
-    may = inl (ap (with_orders (lone_step (parent_texts e.instance server) e l)) (given l s v is));
+    may = inl (ap (with_orders (lone_step (parent_texts e.instance server) e l)) (all_meant v.state.jobs orders.items (lone_orders (parent_texts e.instance server) e l) (given l s v is)));
     stands = own l s;
   };
   others = others;

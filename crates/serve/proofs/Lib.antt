@@ -1,5 +1,7 @@
 mod Happenings
 mod Keeps
+mod Lending
 mod Beginning
 mod Ticks
 mod Silence
+mod Numbers

@@ -8,15 +8,15 @@ use Rattle.std.proofs.lemmas.List.{map-append}
 use Rattle.std.proofs.lemmas.List.Sums.{fold_push}
 use Rattle.server_events.specs.Configs.{ConfigValue, parent_of}
 use Rattle.server_events.specs.Events.{EventValue, tick}
-use Rattle.served_instance.specs.Lone.{LoneInstance}
-use Rattle.server_core.specs.Families.{Family, family_in}
+use Rattle.server_core.specs.Families.{family_in}
 use Rattle.server_core.specs.StandsFor.{ServerState}
 use Rattle.serve.specs.SocketEvents.{SocketEvent, clock, moment_after, moment_of, Adds}
 use Rattle.serve.specs.RunEvents.{RunEvent, ordered}
 use Rattle.serve.specs.Happenings.{Happening, at_sockets, told, at_runs, all_told, all_timed, with_times, moment_behind}
-use Rattle.serve.specs.Served.{ParentMayHappen, StandsBeside, StandsServing, IsServerAt, IsServing, TakesEvent, at_rest, begun}
-use Rattle.serve.proofs.Happenings.{AreOf, parts_of, parts_on, parts_ordered, moment_more, moment_together, may_serve_on}
-use Rattle.serve.proofs.Keeps.{AllServing, each_more, event_told, none_serves, rests, told_for}
+use Rattle.serve.specs.Served.{IsServerAt, IsServing, TakesEvent}
+use Rattle.serve.proofs.Happenings.{AreOf, parts_of, parts_on, parts_ordered, moment_more, moment_together}
+use Rattle.serve.proofs.Keeps.{AllServing, each_more, event_told, none_serves, told_for}
+use Rattle.serve.proofs.Lending.{clock_for, nobody_more}
 
 -- so many instances were told the time
 abbrev told_so_far : ℕ → List Happening
@@ -47,31 +47,8 @@ still_unknown was before after e server next t unknown = λ is. t.carried ∙ ap
 
 -- ---- the clock is read
 
-clock_passes : (p : Option ℕ) (m n : ℕ) (l : Option LoneInstance) → ParentMayHappen p m (rests l) (at_sockets (clock n)) (rests l)
-clock_passes p m n None = refl
-clock_passes None m n (Some l) = tt
-clock_passes (Some k) m n (Some l) = (refl, tt, refl)
-
-beside_later : (p : Option ℕ) (server : ServerState) (m n : ℕ) (l : Option LoneInstance) → m ≤ n → StandsBeside p server.instances m l → StandsBeside p server.instances n l
-beside_later None server m n l le stands = stands
-beside_later (Some p) server m n None le stands = absurd stands
-beside_later (Some p) server m n (Some l) le stands = (stands.0, (let late = stands.1 in omega (arith, le, late)))
-
 clock_moment : (h : List Happening) (n : ℕ) → moment_behind (h ++ at_sockets (clock n) ∷ []) ≡ n
 clock_moment h n = moment_more h (at_sockets (clock n)) []
-
-at_clock : (family : Family) (i : ℕ) (p : Option ℕ) (h : List Happening) (server : ServerState) (n : ℕ) → moment_behind h ≤ n → StandsServing family i p h server.instances → StandsServing family i p (h ++ at_sockets (clock n) ∷ []) server.instances
-at_clock family i p h server n rises a =
-    let late = a.times in
-    record {
-      now = a.now;
-      beside = a.beside;
-      serves = may_serve_on h (at_sockets (clock n) ∷ []) i p 0 (at_rest (begun family.own) (option_map begun family.parent)) (at_rest a.now a.beside) (at_rest a.now a.beside) a.serves
-          (at_rest a.now a.beside, record { own = (refl, tt, refl); parent = clock_passes p (moment_behind h) n a.beside }, refl);
-      times = subst (λ (m : ℕ). a.now.state.moment ≤ m) (sym (clock_moment h n)) (omega (arith, rises, late));
-      stands = a.stands;
-      stands_beside = beside_later p server (moment_behind h) (moment_behind (h ++ at_sockets (clock n) ∷ [])) a.beside (subst (λ (m : ℕ). moment_behind h ≤ m) (sym (clock_moment h n)) rises) a.stands_beside;
-    }
 
 pub none_ticked : (configs : List ConfigValue) (known : Option (List SocketEvent)) (was : Option (List RunEvent)) (server : ServerState) (m n : ℕ) → Rises known n → IsServing configs known was server m → IsTicking configs known was n 0 server was
 none_ticked configs None was server m n rises at = tt
@@ -84,7 +61,7 @@ none_ticked configs (Some s) (Some r) server m n rises at =
       more = [];
       parts = parts_on (all_timed count s) (at_sockets (clock n) ∷ []) r [] at.h (at_sockets (clock n) ∷ []) (parts_of count s r at.h at.together) (record { timed_so = refl; runs_so = refl });
       runs_now = ap Some (sym (append-nil r));
-      all = record { parents = at.parents; each = λ i config is. at_clock (family_in configs config) i (parent_of configs config) at.h server n late (at.each i config is) };
+      all = record { parents = at.parents; each = λ i config is. nobody_more (family_in configs config) i (parent_of configs config) at.h server.instances (at_sockets (clock n)) (clock_for n) late (λ m j l stands before. tt) (at.each i config is) };
       moment = clock_moment at.h n;
     }
 

@@ -4,7 +4,7 @@ use Rattle.std.specs.Prelude.{ℕ, ◌==◌, if◌then◌else◌, List, [], ◌�
 use Rattle.std.specs.List.{filter_map, flat_map, range_with_len}
 use Rattle.server_events.specs.Events.{EventValue, WhatValue, tick, ended}
 use Rattle.serve.specs.SocketEvents.{SocketEvent, clock, port, what_of, moment_after}
-use Rattle.serve.specs.RunEvents.{RunEvent, ordered, gave}
+use Rattle.serve.specs.RunEvents.{RunEvent, ordered, lent, gave}
 
 pub data Happening : Type 0 where
   at_sockets : SocketEvent → Happening
@@ -65,4 +65,5 @@ event_for i m (at_sockets (clock n)) = None
 event_for i m (at_sockets (port j p)) = own_event i m j (what_of p)
 event_for i m (told j) = own_event i m j tick
 event_for i m (at_runs (ordered j o)) = None
+event_for i m (at_runs (lent j job task)) = None
 event_for i m (at_runs (gave j job outcome)) = own_event i m j (ended job outcome)

@@ -2,4 +2,5 @@ pub mod SocketEvents
 pub mod RunEvents
 pub mod Happenings
 pub mod Served
+pub mod Numbers
 pub mod Silence

@@ -4,7 +4,7 @@ use Rattle.std.specs.Prelude.{◌≡◌, ◌≢◌, ◌≤◌, ◌⊎◌, ℕ, L
 use Rattle.std.specs.Option.{option_map, option_map_or}
 use Rattle.std.specs.Io.{StartsWith}
 use Rattle.executor.specs.declared.orders.Order.{Order}
-use Rattle.executor.specs.Orders.{OrderValue}
+use Rattle.executor.specs.Orders.{OrderValue, task_of}
 use Rattle.instance_core.specs.Turns.{orders_meant}
 use Rattle.instance_core.specs.Visible.{Blob}
 use Rattle.served_instance.specs.Bytes.{pending_bytes}
@@ -21,7 +21,7 @@ use Rattle.server_core.specs.Families.{Family, family_in}
 use Rattle.server_core.specs.Parents.{parent_texts}
 use Rattle.server_core.specs.StandsFor.{ServerState, StandsAt, instance_at}
 use Rattle.serve.specs.SocketEvents.{SocketEvent, port, accepted, written, moment_of}
-use Rattle.serve.specs.RunEvents.{RunEvent, ordered, gave, AddsRuns}
+use Rattle.serve.specs.RunEvents.{RunEvent, ordered, lent, gave, AddsRuns}
 use Rattle.serve.specs.Happenings.{Happening, at_sockets, told, at_runs, timed_events, all_timed, run_events, moment_then, moment_behind, event_for}
 
 -- ---- what an instance may come to by itself
@@ -47,7 +47,7 @@ abbrev pub MayTake : List Blob → Option EventValue → LoneInstance → AtWork
 MayTake parent None l w = w ≡ with_orders l []
 MayTake parent (Some e) l w = MayStep parent e l w
 
--- ---- what is right at the port of an instance
+-- ---- what is right at the port of an instance, and at its runs
 
 -- the connection is open, and these are the first of the bytes that wait on it
 abbrev pub AreNextOn : ℕ → LoneInstance → List ℕ → Type 0
@@ -60,16 +60,18 @@ AreBytesWritten m i c bytes l =
     AreNextOn c l bytes ×
     (refusal_of (record { moment = m; instance = i; what = took c (length bytes) }) l ≡ None)
 
--- a connection is accepted under a number that no open one has, and what is written to one is what
--- the instance has waiting on it then, and counts as taken
+-- a connection is accepted under a number that no open one has; what is written to one is what the
+-- instance has waiting on it then, and counts as taken; and what a run is lent is the task, with its
+-- texts, of the job of its number that runs then, and nothing where none does
 abbrev pub IsFaithful : ℕ → ℕ → LoneInstance → Happening → Type 0
 IsFaithful i m l (at_sockets (port j (written c bytes))) = j ≡ i → AreBytesWritten m i c bytes l
 IsFaithful i m l (at_sockets (port j (accepted c))) = j ≡ i → open_at c l.connections ≡ None
+IsFaithful i m l (at_runs (lent j job task)) = j ≡ i → task ≡ task_of job l.state.jobs
 IsFaithful i m l x = Unit {0}
 
 -- ---- what happens to an instance
 
--- it has carried out all its orders, what happens is right at its port, and it takes its event of it
+-- it has carried out all its orders, what happens is right for it, and it takes its event of it
 abbrev pub Comes : List Blob → ℕ → ℕ → AtWork → Happening → AtWork → Type 0
 Comes parent i m w x v =
     (w.orders ≡ []) × IsFaithful i m w.instance x × MayTake parent (event_for i m x) w.instance v
@@ -82,6 +84,8 @@ IsCarriedOut o w v = w ≡ with_orders v.instance (o ∷ v.orders)
 abbrev pub MayHappen : List Blob → ℕ → ℕ → AtWork → Happening → AtWork → Type 0
 MayHappen parent i m w (at_sockets s) v = Comes parent i m w (at_sockets s) v
 MayHappen parent i m w (told j) v = Comes parent i m w (told j) v
+MayHappen parent i m w (at_runs (lent j job task)) v =
+    Comes parent i m w (at_runs (lent j job task)) v
 MayHappen parent i m w (at_runs (gave j job outcome)) v =
     Comes parent i m w (at_runs (gave j job outcome)) v
 MayHappen parent i m w (at_runs (ordered j o)) v = (j ≡ i → IsCarriedOut o w v) × (j ≢ i → v ≡ w)

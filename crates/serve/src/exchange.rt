@@ -1,6 +1,7 @@
 //! What is moved between one connection's socket and the server.
 
 ghost use Rattle.std.specs.Prelude.{◌≡◌, ◌≤◌, length, take, IfOk};
+ghost use Rattle.serve.specs.Numbers.{StayOpen, StayOpenBut, StayOpenUnless};
 ghost use Rattle.serve.specs.Served.{KeepsServing};
 
 use crate::carrying::tell;
@@ -70,23 +71,25 @@ fn receive<S: Sockets, R: Runs>(
     sockets: &mut S,
     runs: &mut R,
     moment: u64,
-    open: &mut OpenSocket,
+    opened: &mut OpenSocket,
     room: &mut Vec<u8>,
 ) -> Tried
     ensures serving { KeepsServing
         (S.happened sockets.old) (R.happened runs.old) server.old moment
         (S.happened sockets.new) (R.happened runs.new) server.new moment }
+    ensures stays { StayOpen (S.happened sockets.old) (S.happened sockets.new) }
+    ensures socket { opened.new.socket ≡ opened.old.socket }
 {
     if !has_room(alloc, room) {
         return Tried::NotReady;
     }
-    let socket = open.socket;
+    let socket = opened.socket;
     match sockets.read(socket, room) {
         Ok(count) => {
             let bytes = piece_of(alloc, room, count);
             let came = What::Bytes(socket.connection, bytes);
             let _ = tell(server, runs, moment, socket.instance, came);
-            open.hear(moment, count);
+            opened.hear(moment, count);
             if count == 0 {
                 Tried::Over
             } else {
@@ -110,6 +113,7 @@ fn send<S: Sockets, R: Runs>(
     ensures serving { KeepsServing
         (S.happened sockets.old) (R.happened runs.old) server.old moment
         (S.happened sockets.new) (R.happened runs.new) server.new moment }
+    ensures stays { StayOpen (S.happened sockets.old) (S.happened sockets.new) }
 {
     let bytes = match server.pending(socket.instance, socket.connection) {
         Some(bytes) if !bytes.is_empty() => bytes,
@@ -154,6 +158,7 @@ pub(crate) fn close<S: Sockets, R: Runs>(
     ensures serving { KeepsServing
         (S.happened sockets.old) (R.happened runs.old) server.old moment
         (S.happened sockets.new) (R.happened runs.new) server.new moment }
+    ensures closes { StayOpenBut socket (S.happened sockets.old) (S.happened sockets.new) }
 {
     sockets.close(socket);
     let gone = What::Closed(socket.connection);
@@ -169,15 +174,18 @@ pub(crate) fn exchange<S: Sockets, R: Runs>(
     sockets: &mut S,
     runs: &mut R,
     moment: u64,
-    open: &mut OpenSocket,
+    opened: &mut OpenSocket,
     room: &mut Vec<u8>,
 ) -> Tried
     ensures serving { KeepsServing
         (S.happened sockets.old) (R.happened runs.old) server.old moment
         (S.happened sockets.new) (R.happened runs.new) server.new moment }
+    ensures stays { StayOpenUnless result opened.old.socket
+        (S.happened sockets.old) (S.happened sockets.new) }
+    ensures socket { opened.new.socket ≡ opened.old.socket }
 {
-    let received = receive(alloc, server, sockets, runs, moment, open, room);
-    let socket = open.socket;
+    let received = receive(alloc, server, sockets, runs, moment, opened, room);
+    let socket = opened.socket;
     let sent = send(server, sockets, runs, moment, socket);
     if received == Tried::Over || sent == Tried::Over || is_finished(server, socket) {
         close(server, sockets, runs, moment, socket);

@@ -10,7 +10,7 @@ use server_core::LentTask;
 pub trait Runs {
     ghost use Rattle.executor.specs.Orders.{start, kill};
     ghost use Rattle.server_core.specs.Lent.{lent_shown};
-    ghost use Rattle.serve.specs.RunEvents.{RunEvent, ordered, outcome_events, AddsRuns};
+    ghost use Rattle.serve.specs.RunEvents.{RunEvent, ordered, asked_events, AddsRuns};
 
     // All that happened at the runs, in order, where it is known.
     ghost happened: { Self → Option (List RunEvent) } = { λ _. None };
@@ -37,7 +37,7 @@ pub trait Runs {
     /// Its task is lent as long as its job runs. With an outcome or a fault the run is over.
     fn ask(&mut self, run: RunKey, task: Option<LentTask<'_>>) -> Result<Option<Outcome>, RunFault>
         ensures adds { AddsRuns (happened self.old) (happened self.new)
-            (outcome_events run result) };
+            (asked_events run task.entry result) };
 
     /// Whether a run can go on at once, without waiting for a program.
     fn is_busy(&self) -> bool;

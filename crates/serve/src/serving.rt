@@ -1,6 +1,9 @@
 //! The turns.
 
-ghost use Rattle.std.specs.Prelude.{◌≡◌, ℕ, [], length, Some, IfSome, IfOk, IfErr};
+ghost use Rattle.std.specs.Prelude.{◌≡◌, ◌==◌, ℕ, [], length, Some, IfSome, IfOk, IfErr};
+ghost use Rattle.std.specs.List.{list_any};
+ghost use Rattle.serve.specs.Numbers.{IsNext, KeepsOpen, NumbersAreApart, sockets_of};
+ghost use Rattle.serve.specs.SocketEvents.{Adds};
 ghost use Rattle.serve.specs.Served.{IsServing, KeepsServing, KeepsServingAll, WasServed};
 
 use crate::asking::ask_all;
@@ -17,26 +20,30 @@ use std::io::Write;
 
 /// Whether an open socket has this number, of whichever instance. The server may have let go of its
 /// connection.
-fn is_taken(connections: &[OpenSocket], number: u32) -> bool {
-    for open in connections {
-        if open.socket.connection == number {
-            return true;
-        }
-    }
-    false
+fn is_taken(connections: &[OpenSocket], number: u32) -> bool
+    ensures { result ≡ list_any (λ c. c.socket.connection == number) connections.now }
+{
+    connections
+        .iter()
+        .any(|open| open.socket.connection == number)
 }
 
-/// The next number that no open socket has.
-fn number_after(connections: &[OpenSocket], number: u32) -> u32 {
-    let mut next = number.wrapping_add(1);
-    // Of one number more than there are sockets one is free.
-    for _ in 0..connections.len() {
-        if !is_taken(connections, next) {
-            break;
-        }
+/// The next number that no open socket has. There is one: of one number more than there are sockets
+/// one is free.
+fn number_after(connections: &[OpenSocket], number: u32) -> Option<u32>
+    ensures { IsNext number (sockets_of connections.now) result }
+{
+    let mut next = number;
+    for _ in 0..=connections.len() {
         next = next.wrapping_add(1);
+        if next == number {
+            return None;
+        }
+        if !is_taken(connections, next) {
+            return Some(next);
+        }
     }
-    next
+    None
 }
 
 /// A server, and its open connections.
@@ -52,7 +59,7 @@ struct Serving {
     /// In order of opening.
     connections: Vec<OpenSocket>,
     /// The number for the next connection, which no open socket has.
-    next: u32,
+    next: Option<u32>,
     room: Vec<u8>,
 }
 
@@ -62,6 +69,7 @@ impl Serving {
         ensures serving { IfOk result (λ s. IsServing configs.now
             (Some []) (Some []) s.server s.moment) }
         ensures instances { IfOk result (λ s. s.instances ≡ length configs.now) }
+        ensures none { IfOk result (λ s. s.connections.items ≡ []) }
     {
         Ok(Serving {
             server: Server::new(alloc, configs)?,
@@ -69,7 +77,7 @@ impl Serving {
             moment: 0,
             tried: None,
             connections: Vec::new(alloc),
-            next: 0,
+            next: Some(0),
             room: vec![in alloc; 0; READ_LIMIT]?,
         })
     }
@@ -89,6 +97,8 @@ impl Serving {
             (S.happened sockets.new) (R.happened runs.new)
             self.new.server self.new.moment }
         ensures instances { self.new.instances ≡ self.old.instances }
+        ensures numbers { KeepsOpen self.old (S.happened sockets.old)
+            self.new (S.happened sockets.new) }
     {
         self.keep_time(sockets, runs);
         let mut moved = false;
@@ -111,6 +121,8 @@ impl Serving {
             (S.happened sockets.new) (R.happened runs.new)
             self.new.server self.new.moment }
         ensures instances { self.new.instances ≡ self.old.instances }
+        ensures numbers { KeepsOpen self.old (S.happened sockets.old)
+            self.new (S.happened sockets.new) }
     {
         if sockets.is_later(self.moment) {
             self.tick(sockets, runs);
@@ -125,6 +137,8 @@ impl Serving {
             (S.happened sockets.new) (R.happened runs.new)
             self.new.server self.new.moment }
         ensures instances { self.new.instances ≡ self.old.instances }
+        ensures numbers { KeepsOpen self.old (S.happened sockets.old)
+            self.new (S.happened sockets.new) }
     {
         self.moment = sockets.now();
         for instance in 0..self.instances {
@@ -140,6 +154,8 @@ impl Serving {
             (S.happened sockets.new) (R.happened runs.new)
             self.new.server self.new.moment }
         ensures instances { self.new.instances ≡ self.old.instances }
+        ensures numbers { KeepsOpen self.old (S.happened sockets.old)
+            self.new (S.happened sockets.new) }
     {
         let mut opened = false;
         for instance in 0..self.instances {
@@ -160,8 +176,12 @@ impl Serving {
             (S.happened sockets.new) (R.happened runs.new)
             self.new.server self.new.moment }
         ensures instances { self.new.instances ≡ self.old.instances }
+        ensures numbers { KeepsOpen self.old (S.happened sockets.old)
+            self.new (S.happened sockets.new) }
     {
-        let connection = self.next;
+        let Some(connection) = self.next else {
+            return false;
+        };
         let socket = Socket {
             instance,
             connection,
@@ -183,7 +203,7 @@ impl Serving {
         match tell(&mut self.server, runs, self.moment, instance, what) {
             Ok(()) => {
                 let opened = OpenSocket::new(socket, self.moment);
-                let _room_was_reserved = self.connections.push(opened);
+                self.connections.push_reserved(opened);
             }
             Err(refusal) => {
                 close(&mut self.server, sockets, runs, self.moment, socket);
@@ -204,6 +224,8 @@ impl Serving {
             (S.happened sockets.new) (R.happened runs.new)
             self.new.server self.new.moment }
         ensures instances { self.new.instances ≡ self.old.instances }
+        ensures numbers { KeepsOpen self.old (S.happened sockets.old)
+            self.new (S.happened sockets.new) }
     {
         let found = longest_silent(&self.server, &self.connections, instance, self.moment);
         let Some(place) = found else {
@@ -222,6 +244,8 @@ impl Serving {
             (S.happened sockets.new) (R.happened runs.new)
             self.new.server self.new.moment }
         ensures instances { self.new.instances ≡ self.old.instances }
+        ensures numbers { KeepsOpen self.old (S.happened sockets.old)
+            self.new (S.happened sockets.new) }
     {
         let alloc = *self.connections.allocator();
         let mut moved = false;
@@ -255,6 +279,19 @@ impl Serving {
     }
 }
 
+/// Rests where nothing moved in a turn, and says how many turns in which nothing moved went by since
+/// something did.
+fn rest_unless<S: Sockets>(sockets: &mut S, has_moved: bool, idle_turns: u64) -> u64
+    ensures adds { Adds (S.happened sockets.old) (S.happened sockets.new) [] }
+{
+    if has_moved {
+        return 0;
+    }
+    sockets.rest(idle_turns);
+    // There are no more idle turns than turns, which fit in 64 bits.
+    idle_turns.saturating_add(1)
+}
+
 /// Serves instances with these configurations for so many turns, over sockets at which nothing has
 /// happened yet, and over runs of which there are none.
 ///
@@ -272,13 +309,18 @@ impl Serving {
 /// until the clock goes on. A fault of a run is the outcome of a job that failed, and is written to
 /// `errors`.
 ///
+/// `numbers`: between two connections that are accepted under one number at the port of an instance
+/// the first is closed.
+///
 /// `served`: a connection is accepted under a number that no open one of its instance has, and what
 /// is written to one is each time what its instance alone, by its own events, has waiting on it
-/// then; and what is begun and ended at the runs is what that instance alone orders, each order once
-/// and in order. Its own events are those of its port, the time, and what the runs of its own jobs
-/// gave; of these some may have been carried out in part, for want of memory. An instance that
-/// builds on another is alone with that one, and reads what it has by then. No fault of a socket or
-/// a run and no such refusal ends the turns: an error is want of memory before the first.
+/// then; what is begun and ended at the runs is what that instance alone orders, each order once and
+/// in order; and what a run is lent, each time that it is asked, is the task, with its texts, of its
+/// own job, and nothing once that runs no more. Its own events are those of its port, the time, and
+/// what the runs of its own jobs gave; of these some may have been carried out in part, for want of
+/// memory. An instance that builds on another is alone with that one, and reads what it has by then.
+/// No fault of a socket or a run and no such refusal ends the turns: an error is want of memory
+/// before the first.
 pub fn serve<S: Sockets, R: Runs, E: Write>(
     alloc: Global,
     configs: &Configs,
@@ -290,19 +332,15 @@ pub fn serve<S: Sockets, R: Runs, E: Write>(
     requires fresh { IfSome (S.happened sockets.old) (λ h. h ≡ []) }
     requires unrun { IfSome (R.happened runs.old) (λ h. h ≡ []) }
     ensures served { WasServed configs.now (S.happened sockets.new) (R.happened runs.new) }
+    ensures numbers { IfSome (S.happened sockets.new) NumbersAreApart }
     // Where memory is refused later than at the beginning, the turns go on.
     ensures unbegun { IfErr result (λ error. S.happened sockets.new ≡ S.happened sockets.old) }
 {
     let mut serving = Serving::new(alloc, configs)?;
     let mut idle_turns: u64 = 0;
     for _ in 0..turns {
-        if serving.turn(configs, sockets, runs, errors) {
-            idle_turns = 0;
-        } else {
-            sockets.rest(idle_turns);
-            // There are no more idle turns than turns, which fit in 64 bits.
-            idle_turns = idle_turns.saturating_add(1);
-        }
+        let has_moved = serving.turn(configs, sockets, runs, errors);
+        idle_turns = rest_unless(sockets, has_moved, idle_turns);
     }
     Ok(())
 }

@@ -1,5 +1,6 @@
 use Rattle.std.proofs.Common.{◌≡◌, List}
 use Rattle.server_events.specs.Configs.{ConfigValue}
+use Rattle.serve.specs.Numbers.{KeepsOpen}
 use Rattle.serve.specs.Served.{IsServing}
 use Rattle.serve.proofs.serving.Serving.open_all.Given as goal
 
@@ -7,4 +8,5 @@ abbrev pub invariant-loop-instance : goal.invariant-loop-instance
 invariant-loop-instance g l = record {
   serving : (configs : List ConfigValue) → IsServing configs (g.S.Sockets.happened l.fn.sockets) (g.R.Runs.happened l.fn.runs) l.fn.self.server l.fn.self.moment → IsServing configs (g.S.Sockets.happened l.sockets) (g.R.Runs.happened l.runs) l.self.server l.self.moment;
   instances : l.self.instances ≡ l.fn.self.instances;
+  numbers : KeepsOpen l.fn.self (g.S.Sockets.happened l.fn.sockets) l.self (g.S.Sockets.happened l.sockets);
 }

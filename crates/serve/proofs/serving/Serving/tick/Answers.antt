@@ -1,4 +1,6 @@
 use Rattle.std.proofs.Common.{arith, refl}
+use Rattle.serve.specs.Numbers.{sockets_of}
+use Rattle.serve.proofs.Numbers.{clock_stays, same_open}
 use Rattle.serve.proofs.Ticks.{none_ticked, one_ticked, all_ticked, still_unknown}
 use Rattle.serve.proofs.serving.Serving.tick.Goals as goal
 
@@ -9,6 +11,7 @@ loop-instance-init g c = record {
   adds = c.now-self.ensures.adds;
   rises = c.now-self.ensures.rises;
   instances = refl;
+  numbers = same_open _ _ (sockets_of c.args.self.now.connections.items) _ c.args.self.now.next refl (clock_stays _ _ _ c.now-self.ensures.adds);
 }
 
 pub loop-instance-preserved : goal.loop-instance-preserved
@@ -18,6 +21,7 @@ loop-instance-preserved g c = record {
   adds = c.loop-instance.invariant.adds;
   rises = c.loop-instance.invariant.rises;
   instances = c.loop-instance.invariant.instances;
+  numbers = c.loop-instance.invariant.numbers;
 }
 
 pub returns-clause-serving : goal.returns-clause-serving

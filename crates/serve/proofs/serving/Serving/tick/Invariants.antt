@@ -1,6 +1,7 @@
 use Rattle.std.proofs.Common.{◌≡◌, List, ◌∷◌, []}
 use Rattle.server_events.specs.Configs.{ConfigValue}
 use Rattle.serve.specs.SocketEvents.{clock, Adds}
+use Rattle.serve.specs.Numbers.{KeepsOpen}
 use Rattle.serve.specs.Served.{IsServing}
 use Rattle.serve.proofs.Ticks.{IsTicking, Rises, StaysUnknown}
 use Rattle.serve.proofs.serving.Serving.tick.Given as goal
@@ -12,4 +13,5 @@ invariant-loop-instance g l = record {
   adds : Adds (g.S.Sockets.happened l.fn.sockets) (g.S.Sockets.happened l.sockets) (clock l.self.moment ∷ []);
   rises : Rises (g.S.Sockets.happened l.fn.sockets) l.self.moment;
   instances : l.self.instances ≡ l.fn.self.instances;
+  numbers : KeepsOpen l.fn.self (g.S.Sockets.happened l.fn.sockets) l.self (g.S.Sockets.happened l.sockets);
 }

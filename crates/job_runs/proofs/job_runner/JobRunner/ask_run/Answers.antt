@@ -1,0 +1,14 @@
+use Rattle.std.proofs.Common.{ℕ, List, ap, subst}
+use Rattle.runner.specs.Runs.{IsAsked}
+use Rattle.run_tasks.specs.Texts.{numbered_text}
+use Rattle.job_runs.proofs.job_runner.JobRunner.ask_run.Goals as goal
+
+pub returns : goal.returns
+returns g c = record {
+  answered = record {
+    answer = c.ask-answer.result;
+    asked = subst (λ (text : ℕ → List ℕ). IsAsked text c.args.run c.ask-answer.result c.args.self.now.runner.runs.items c.ask-answer.new.self.runs.items (g.F.Folder.asked c.args.self.now.runner.folder) (g.F.Folder.asked c.ask-answer.new.self.folder) (g.P.Programs.asked c.args.self.now.runner.programs) (g.P.Programs.asked c.ask-answer.new.self.programs))
+        (ap numbered_text c.texts_for.ensures) c.ask-answer.ensures.asked;
+    is_told = c.told.ensures;
+  };
+}

@@ -11,10 +11,18 @@ use std::alloc::{AllocError, Global};
 use std::marker::Model;
 
 /// A text that is hashed as it comes, and is not in a pool yet.
-#[derive(Drop)]
 pub struct Draft {
     text: PagedText,
     progress: Progress,
+}
+
+// Written out, so that no crate above proves again that each part of it may be dropped.
+impl Drop for Draft {
+    fn drop(self) {
+        let Draft { text, progress } = self;
+        drop(text);
+        drop(progress);
+    }
 }
 
 impl Model for Draft {

@@ -57,7 +57,7 @@ fn check_begin(table: &Table, quota: u64, key: &UploadKey) -> Result<(), UploadE
     if key.digest().size > quota {
         return Err(UploadError::OverQuota);
     }
-    if find(table, key).is_none() && table.len() >= MOST_UPLOADS {
+    if table.len() >= MOST_UPLOADS && find(table, key).is_none() {
         return Err(UploadError::TooMany);
     }
     Ok(())

@@ -6,7 +6,7 @@ use Rattle.runner.specs.Calls.{FolderCall, FolderQuestion, FolderAnswer, Program
 use Rattle.runner.specs.Made.{made, made_by}
 use Rattle.runner.specs.Gathered.{ItemValue, items_answered, call_items, answer_items}
 use Rattle.runner.specs.Told.{items_told, call_told, starts, start_of}
-use Rattle.runner.specs.Listed.{most_nodes, item_nodes, nodes_among, entries_told, entries_met, all_told, all_met, entries_left, then_entries_left}
+use Rattle.runner.specs.Listed.{most_nodes, nodes_among, entries_told, entries_met, all_told, all_met, entries_left, then_entries_left}
 use Rattle.runner.specs.Steps.{GoesWith, Goes, to_make, to_start, to_look, has_gathered, has_told, then_to_make, then_to_start, then_to_look, then_gathered, then_told, looks, look_of}
 use Rattle.runner.specs.declared.stage.Stage.{Stage}
 use Rattle.runner.specs.declared.stage.Step.{Step}

@@ -7,7 +7,7 @@ use digest::HashFunction;
 use std::io;
 
 /// A run, the directory in its folder in which its program runs, and how what it leaves is hashed.
-#[derive(Drop, Debug)]
+#[derive(Drop)]
 pub struct Place {
     pub run: RunKey,
     /// From the root on, with `/` between names; empty for the root itself.
@@ -16,7 +16,7 @@ pub struct Place {
 }
 
 /// What is told of a file.
-#[derive(Clone, Copy, Debug, PartialEq, Eq)]
+#[derive(Clone, Copy, PartialEq, Eq)]
 pub struct FileFacts {
     /// In bytes.
     pub size: u64,
@@ -24,7 +24,7 @@ pub struct FileFacts {
 }
 
 /// What stands at a path.
-#[derive(Clone, Copy, Debug, PartialEq, Eq)]
+#[derive(Clone, Copy, PartialEq, Eq)]
 pub enum Found {
     Nothing,
     /// Neither a file nor a directory, as a symbolic link.
@@ -34,7 +34,7 @@ pub enum Found {
 }
 
 /// A file or a directory in a directory.
-#[derive(Drop, Debug)]
+#[derive(Drop)]
 pub struct Entry {
     pub name: String,
     pub is_directory: bool,

@@ -14,7 +14,6 @@ use crate::content::{Content, is_too_large};
 use crate::fault::{RunFault, of_folder};
 use crate::folder::{Entry, Folder, Found, Place};
 use crate::making::{PIECE, cost_of};
-use crate::outcome::{Output, OutputKind};
 use crate::stage::{Gathering, OutputFile, Stage, Step, TreeFile};
 use crate::tree::{Inner, Tree, TreeNodes};
 use std::alloc::{AllocError, Global};
@@ -44,7 +43,7 @@ pub(crate) fn next_output<F: Folder>(
 {
     let mut gathering = gathering;
     let Some(path) = gathering.left.pop_front() else {
-        return Ok(Step::Exits(gathering.exited));
+        return Ok(Step::Exits(gathering.exited()));
     };
     match of_folder(folder.look(place, path.as_str()))? {
         Found::File(facts) => {
@@ -110,17 +109,7 @@ fn with_file(gathering: Gathering, file: OutputFile) -> Result<Gathering, AllocE
     ensures taken { IfOk result (λ added. added.taken ≡ gathering.taken) }
 {
     let mut gathering = gathering;
-    let OutputFile {
-        path,
-        is_executable,
-        content,
-    } = file;
-    let content = content.whole();
-    let kind = OutputKind::File {
-        content,
-        is_executable,
-    };
-    gathering.exited.outputs.push(Output { path, kind })?;
+    gathering.exited.outputs.push(file.output())?;
     Ok(gathering)
 }
 
@@ -193,17 +182,7 @@ fn with_tree(gathering: Gathering, tree: Tree) -> Result<Gathering, AllocError>
     ensures taken { IfOk result (λ added. added.taken ≡ gathering.taken) }
 {
     let mut gathering = gathering;
-    let Tree {
-        path,
-        nodes,
-        files,
-        todo,
-    } = tree;
-    drop(files);
-    drop(todo);
-    let nodes = nodes.whole();
-    let kind = OutputKind::Tree { nodes };
-    gathering.exited.outputs.push(Output { path, kind })?;
+    gathering.exited.outputs.push(tree.output())?;
     Ok(gathering)
 }
 
@@ -309,22 +288,11 @@ fn list_in_tree<F: Folder>(
     ensures stops { IfErr result (λ fault. FolderStops (place_shown place.now)
         (Stages.Tree gathering tree) fault (F.asked folder.old) (F.asked folder.new)) }
 {
-    let Tree {
-        path,
-        nodes,
-        mut files,
-        mut todo,
-    } = tree;
-    let Inner { name, level } = inner;
-    let nodes = nodes.with_directory(name, level)?;
-    let entries = of_folder(folder.list(place, path.as_str(), nodes.above(), MOST_NODES))?;
-    set_apart(entries, level.saturating_add(1), &mut files, &mut todo)?;
-    let tree = Tree {
-        path,
-        nodes,
-        files,
-        todo,
-    };
+    let level = inner.level.saturating_add(1);
+    let mut tree = tree.with_directory(inner)?;
+    let names = tree.nodes.above();
+    let entries = of_folder(folder.list(place, tree.path.as_str(), names, MOST_NODES))?;
+    set_apart(entries, level, &mut tree.files, &mut tree.todo)?;
     Ok(Step::Goes(Stage::Tree(gathering, tree), COST_OF_DIRECTORY))
 }
 
@@ -350,7 +318,7 @@ pub(crate) fn read_in_tree<F: Folder>(
     let from = file.content.length();
     let piece = of_folder(folder.read(place, tree.path.as_str(), &names, from, PIECE))?;
     if piece.is_empty() {
-        let tree = with_file_read(tree, file)?;
+        let tree = tree.with_file(file)?;
         return Ok(Step::Goes(Stage::Tree(gathering, tree), 1));
     }
     let count = piece.len() as u64;
@@ -360,34 +328,4 @@ pub(crate) fn read_in_tree<F: Folder>(
     gathering.taken += count;
     file.content.push(&piece)?;
     Ok(Step::Goes(Stage::TreeFile(gathering, tree, file), cost_of(piece.len())))
-}
-
-/// Adds a file to an output directory.
-fn with_file_read(tree: Tree, file: TreeFile) -> Result<Tree, AllocError>
-    ensures items { IfOk result (λ added. (place : PlaceValue) →
-        tree_items place added ≡ tree_items place tree ++ (tree_file_items place tree file
-        ++ end_item place (string_bytes tree.path) (tree.nodes.above ++ string_bytes file.name ∷ [])
-        ∷ [])) }
-    ensures length { IfOk result (λ added. nodes_length added.nodes.nodes
-        ≡ nodes_length tree.nodes.nodes + length file.content) }
-    ensures left { IfOk result (λ added. tree_entries added ≡ tree_entries tree) }
-{
-    let Tree {
-        path,
-        nodes,
-        files,
-        todo,
-    } = tree;
-    let TreeFile {
-        name,
-        is_executable,
-        content,
-    } = file;
-    let nodes = nodes.with_file(name, content.whole(), is_executable)?;
-    Ok(Tree {
-        path,
-        nodes,
-        files,
-        todo,
-    })
 }

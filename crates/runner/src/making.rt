@@ -17,7 +17,6 @@ use crate::programs::Programs;
 use crate::stage::{Making, Nodes, Parents, Prepared, Stage, Step, Writing};
 use crate::task::{NodeKind, TaskNode};
 use crate::texts::Texts;
-use std::collections::VecDeque;
 
 /// How many bytes of a file are written or read at most by a step.
 pub(crate) const PIECE: u32 = 65_536;
@@ -77,13 +76,9 @@ fn left_above(nodes: Nodes) -> Nodes
         (map string_bytes nodes.above.items)) nodes }
     ensures next { result.next ≡ nodes.next }
 {
-    let Nodes {
-        mut above,
-        left,
-        next,
-    } = nodes;
-    above.pop();
-    Nodes { above, left, next }
+    let mut nodes = nodes;
+    nodes.above.pop();
+    nodes
 }
 
 /// Makes the next node.
@@ -95,19 +90,15 @@ fn make_node<F: Folder>(folder: &mut F, place: &Place, nodes: Nodes) -> Result<S
     ensures stops { IfErr result (λ fault. FolderStops (place_shown place.now)
         (Stages.Making (Makings.Nodes nodes)) fault (F.asked folder.old) (F.asked folder.new)) }
 {
-    let Nodes {
-        mut above,
-        mut left,
-        next,
-    } = nodes;
-    let Some(node) = left.pop_front() else {
-        return Ok(Step::Goes(Stage::Making(Making::Directory(next)), 1));
+    let mut nodes = nodes;
+    let Some(node) = nodes.left.pop_front() else {
+        return Ok(Step::Goes(Stage::Making(Making::Directory(nodes.next())), 1));
     };
     let TaskNode { name, level, kind } = node;
-    above.truncate(level.saturating_sub(1));
-    above.push(name)?;
-    of_folder(folder.make_node(place.run, &above, &kind))?;
-    let making = after_node(Nodes { above, left, next }, kind);
+    nodes.above.truncate(level.saturating_sub(1));
+    nodes.above.push(name)?;
+    of_folder(folder.make_node(place.run, &nodes.above, &kind))?;
+    let making = after_node(nodes, kind);
     Ok(Step::Goes(Stage::Making(making), COST_OF_NODE))
 }
 
@@ -154,14 +145,7 @@ fn make_directory<F: Folder>(
         (Stages.Making (Makings.Directory prepared)) fault (F.asked folder.old) (F.asked folder.new)) }
 {
     of_folder(folder.make_working_directory(place))?;
-    let Prepared { command, outputs } = prepared;
-    let made = VecDeque::new(*outputs.allocator());
-    let left = outputs;
-    let parents = Parents {
-        command,
-        made,
-        left,
-    };
+    let parents = prepared.parents();
     Ok(Step::Goes(Stage::Making(Making::Parents(parents)), COST_OF_NODE))
 }
 
@@ -178,23 +162,12 @@ fn make_parents<F: Folder>(
     ensures stops { IfErr result (λ fault. FolderStops (place_shown place.now)
         (Stages.Making (Makings.Parents parents)) fault (F.asked folder.old) (F.asked folder.new)) }
 {
-    let Parents {
-        command,
-        mut made,
-        mut left,
-    } = parents;
-    let Some(path) = left.pop_front() else {
-        let outputs = made;
-        let prepared = Prepared { command, outputs };
-        return Ok(Step::Goes(Stage::Making(Making::Starting(prepared)), 1));
+    let mut parents = parents;
+    let Some(path) = parents.left.pop_front() else {
+        return Ok(Step::Goes(Stage::Making(Making::Starting(parents.prepared())), 1));
     };
     of_folder(folder.make_parents(place, path.as_str()))?;
-    made.push_back(path)?;
-    let parents = Parents {
-        command,
-        made,
-        left,
-    };
+    parents.made.push_back(path)?;
     Ok(Step::Goes(Stage::Making(Making::Parents(parents)), COST_OF_NODE))
 }
 
@@ -209,9 +182,7 @@ fn start<P: Programs>(programs: &mut P, place: &Place, prepared: Prepared) -> Re
         (Stages.Making (Makings.Starting prepared)) fault (P.asked programs.old) (P.asked programs.new)) }
 {
     of_programs(programs.start(place, &prepared.command))?;
-    let Prepared { command, outputs } = prepared;
-    drop(command);
-    Ok(Step::Goes(Stage::Running(outputs), u32::MAX))
+    Ok(Step::Goes(Stage::Running(prepared.outputs()), u32::MAX))
 }
 
 /// The next step of a folder that is being made.

@@ -1,29 +1,89 @@
 //! How far a run has come.
 
+ghost use Rattle.std.specs.Prelude.{◌≡◌, [], ◌∷◌, ◌++◌, length, string_bytes};
+ghost use Rattle.runner.specs.Values.{PlaceValue};
+ghost use Rattle.runner.specs.Gathered.{end_item, kind_items};
+ghost use Rattle.runner.specs.Steps.{file_items};
+ghost use Rattle.runner.specs.Sizes.{output_length};
+
 use crate::content::Content;
 use crate::folder::Place;
 use crate::going::Going;
-use crate::outcome::Exited;
+use crate::outcome::{Exited, Output, OutputKind};
 use crate::task::{Command, TaskNode};
 use crate::tree::Tree;
 use blob_pool::Draft;
 use std::collections::VecDeque;
 
 /// What is to be done once a tree is made.
-#[derive(Drop)]
 pub(crate) struct Prepared {
     pub(crate) command: Command,
     pub(crate) outputs: VecDeque<String>,
 }
 
+// The drops of what many functions own are written out, so that each of their exits has one call
+// in place of one for each part.
+impl Drop for Prepared {
+    fn drop(self) {
+        let Prepared { command, outputs } = self;
+        drop(command);
+        drop(outputs);
+    }
+}
+
+impl Prepared {
+    /// The directories above its outputs, of which none is made yet.
+    pub(crate) fn parents(self) -> Parents
+        ensures command { result.command ≡ self.command }
+        ensures made { result.made.items ≡ [] }
+        ensures left { result.left ≡ self.outputs }
+    {
+        let Prepared { command, outputs } = self;
+        Parents {
+            command,
+            made: VecDeque::new(*outputs.allocator()),
+            left: outputs,
+        }
+    }
+
+    /// The outputs, once the command was started.
+    pub(crate) fn outputs(self) -> VecDeque<String>
+        ensures { result ≡ self.outputs }
+    {
+        let Prepared { command, outputs } = self;
+        drop(command);
+        outputs
+    }
+}
+
 /// A tree that is being made.
-#[derive(Drop)]
 pub(crate) struct Nodes {
     /// The names of the directory that was reached.
     pub(crate) above: Vec<String>,
     /// Those that are still to be made.
     pub(crate) left: VecDeque<TaskNode>,
     pub(crate) next: Prepared,
+}
+
+impl Drop for Nodes {
+    fn drop(self) {
+        let Nodes { above, left, next } = self;
+        drop(above);
+        drop(left);
+        drop(next);
+    }
+}
+
+impl Nodes {
+    /// What is to be done once the tree is made.
+    pub(crate) fn next(self) -> Prepared
+        ensures { result ≡ self.next }
+    {
+        let Nodes { above, left, next } = self;
+        drop(above);
+        drop(left);
+        next
+    }
 }
 
 /// A file that was made, and whose text is being written: `nodes.above` are its own names.
@@ -35,12 +95,43 @@ pub(crate) struct Writing {
 }
 
 /// Directories above outputs that are being made.
-#[derive(Drop)]
 pub(crate) struct Parents {
     pub(crate) command: Command,
     /// Those outputs for which they are made.
     pub(crate) made: VecDeque<String>,
     pub(crate) left: VecDeque<String>,
+}
+
+impl Drop for Parents {
+    fn drop(self) {
+        let Parents {
+            command,
+            made,
+            left,
+        } = self;
+        drop(command);
+        drop(made);
+        drop(left);
+    }
+}
+
+impl Parents {
+    /// The start of the program, once they are made.
+    pub(crate) fn prepared(self) -> Prepared
+        ensures command { result.command ≡ self.command }
+        ensures outputs { result.outputs ≡ self.made }
+    {
+        let Parents {
+            command,
+            made,
+            left,
+        } = self;
+        drop(left);
+        Prepared {
+            command,
+            outputs: made,
+        }
+    }
 }
 
 /// A folder that is being made, and the start of its program.
@@ -62,7 +153,6 @@ pub(crate) struct Ended {
 }
 
 /// What was gathered.
-#[derive(Drop)]
 pub(crate) struct Gathering {
     pub(crate) exited: Exited,
     /// The outputs at which it was not looked yet.
@@ -71,20 +161,107 @@ pub(crate) struct Gathering {
     pub(crate) taken: u64,
 }
 
+impl Drop for Gathering {
+    fn drop(self) {
+        let Gathering {
+            exited,
+            left,
+            taken: _,
+        } = self;
+        drop(exited);
+        drop(left);
+    }
+}
+
+impl Gathering {
+    /// All that the program left, once it was looked at each output.
+    pub(crate) fn exited(self) -> Exited
+        ensures { result ≡ self.exited }
+    {
+        let Gathering {
+            exited,
+            left,
+            taken: _,
+        } = self;
+        drop(left);
+        exited
+    }
+}
+
 /// An output that is a file, and is being read.
-#[derive(Drop)]
 pub(crate) struct OutputFile {
     pub(crate) path: String,
     pub(crate) is_executable: bool,
     pub(crate) content: Content,
 }
 
+impl Drop for OutputFile {
+    fn drop(self) {
+        let OutputFile {
+            path,
+            is_executable: _,
+            content,
+        } = self;
+        drop(path);
+        drop(content);
+    }
+}
+
+impl OutputFile {
+    /// The output, once the file was read to its end.
+    pub(crate) fn output(self) -> Output
+        ensures items { (place : PlaceValue) →
+            kind_items place (string_bytes result.path) result.kind
+            ≡ file_items place self ++ end_item place (string_bytes self.path) [] ∷ [] }
+        ensures length { output_length result.kind ≡ length self.content }
+    {
+        let OutputFile {
+            path,
+            is_executable,
+            content,
+        } = self;
+        let content = content.whole();
+        let kind = OutputKind::File {
+            content,
+            is_executable,
+        };
+        Output { path, kind }
+    }
+}
+
 /// A file of an output directory that is being read.
-#[derive(Drop)]
 pub(crate) struct TreeFile {
     pub(crate) name: String,
     pub(crate) is_executable: bool,
     pub(crate) content: Content,
+}
+
+impl Drop for TreeFile {
+    fn drop(self) {
+        let TreeFile {
+            name,
+            is_executable: _,
+            content,
+        } = self;
+        drop(name);
+        drop(content);
+    }
+}
+
+impl TreeFile {
+    /// Its name, its text, and whether it is executable, once it was read to its end.
+    pub(crate) fn whole(self) -> (String, Draft, bool)
+        ensures name { result.0 ≡ self.name }
+        ensures text { result.1.text ≡ self.content }
+        ensures is_executable { result.2 ≡ self.is_executable }
+    {
+        let TreeFile {
+            name,
+            is_executable,
+            content,
+        } = self;
+        (name, content.whole(), is_executable)
+    }
 }
 
 /// How far a run has come that is not over.
@@ -109,7 +286,7 @@ pub(crate) enum Stage {
 }
 
 /// What is still to be done for a run that is over.
-#[derive(Clone, Copy, Debug, PartialEq, Eq)]
+#[derive(Clone, Copy)]
 pub(crate) enum Ending {
     /// Its program is to be ended.
     Killing,

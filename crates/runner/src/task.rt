@@ -4,7 +4,7 @@ use digest::HashFunction;
 use std::collections::VecDeque;
 
 /// A run: a job of an instance.
-#[derive(Clone, Copy, Debug, PartialEq, Eq)]
+#[derive(Clone, Copy, PartialEq, Eq)]
 pub struct RunKey {
     /// The instance's number, counted from 0.
     pub instance: u32,
@@ -12,7 +12,7 @@ pub struct RunKey {
 }
 
 /// What a node is.
-#[derive(Drop, Debug)]
+#[derive(Drop)]
 pub enum NodeKind {
     /// A file, by the number of its text among those that are lent (`Texts`).
     File { text: usize, is_executable: bool },
@@ -21,7 +21,7 @@ pub enum NodeKind {
 }
 
 /// A node of a task's tree.
-#[derive(Drop, Debug)]
+#[derive(Drop)]
 pub struct TaskNode {
     /// Its name in the directory that it stands in.
     pub name: String,
@@ -31,14 +31,14 @@ pub struct TaskNode {
 }
 
 /// A variable of the environment.
-#[derive(Drop, Debug)]
+#[derive(Drop)]
 pub struct Variable {
     pub name: String,
     pub value: String,
 }
 
 /// A program, and what it is given.
-#[derive(Drop, Debug)]
+#[derive(Drop)]
 pub struct Command {
     /// The program is the first.
     pub arguments: Vec<String>,

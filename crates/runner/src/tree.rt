@@ -2,10 +2,13 @@
 
 ghost use Rattle.std.specs.Prelude.{◌≡◌, ◌+◌, ◌-◌, ◌++◌, ◌∷◌, [], List, ℕ, IfOk, length, map, string_bytes};
 ghost use Rattle.runner.specs.Values.{PlaceValue};
-ghost use Rattle.runner.specs.Gathered.{nodes_items, file_item, directory_item, whole_file};
-ghost use Rattle.runner.specs.Sizes.{nodes_length};
+ghost use Rattle.runner.specs.Gathered.{directory_item, end_item, file_item, kind_items, nodes_items, whole_file};
+ghost use Rattle.runner.specs.Listed.{tree_entries};
+ghost use Rattle.runner.specs.Sizes.{nodes_length, output_length};
+ghost use Rattle.runner.specs.Steps.{tree_file_items, tree_items};
 
-use crate::outcome::{OutputNode, OutputNodeKind};
+use crate::outcome::{Output, OutputKind, OutputNode, OutputNodeKind};
+use crate::stage::TreeFile;
 use blob_pool::Draft;
 use std::alloc::{AllocError, Global};
 use std::collections::VecDeque;
@@ -15,11 +18,20 @@ use std::marker::Model;
 const DEEPEST: u32 = 4_294_967_294;
 
 /// The nodes of an output directory that were gathered.
-#[derive(Drop)]
 pub(crate) struct TreeNodes {
     /// The names of the directory that was listed last.
     above: Vec<String>,
     nodes: Vec<OutputNode>,
+}
+
+// Written out, so that each exit of a function that owns it has one call in place of one for each
+// part; so is that of a tree.
+impl Drop for TreeNodes {
+    fn drop(self) {
+        let TreeNodes { above, nodes } = self;
+        drop(above);
+        drop(nodes);
+    }
 }
 
 impl Model for TreeNodes {
@@ -146,7 +158,6 @@ pub(crate) struct Inner {
 }
 
 /// An output directory that is being gathered.
-#[derive(Drop)]
 pub(crate) struct Tree {
     /// The output's path.
     pub(crate) path: String,
@@ -155,4 +166,92 @@ pub(crate) struct Tree {
     pub(crate) files: VecDeque<String>,
     /// Directories that are to be listed, the next one last.
     pub(crate) todo: Vec<Inner>,
+}
+
+impl Drop for Tree {
+    fn drop(self) {
+        let Tree {
+            path,
+            nodes,
+            files,
+            todo,
+        } = self;
+        drop(path);
+        drop(nodes);
+        drop(files);
+        drop(todo);
+    }
+}
+
+impl Tree {
+    /// Adds a file that was read to its end.
+    pub(crate) fn with_file(self, file: TreeFile) -> Result<Tree, AllocError>
+        ensures items { IfOk result (λ added. (place : PlaceValue) →
+            tree_items place added ≡ tree_items place self ++ (tree_file_items place self file
+            ++ end_item place (string_bytes self.path)
+            (self.nodes.above ++ string_bytes file.name ∷ []) ∷ [])) }
+        ensures length { IfOk result (λ added. nodes_length added.nodes.nodes
+            ≡ nodes_length self.nodes.nodes + length file.content) }
+        ensures left { IfOk result (λ added. tree_entries added ≡ tree_entries self) }
+    {
+        let Tree {
+            path,
+            nodes,
+            files,
+            todo,
+        } = self;
+        let (name, content, is_executable) = file.whole();
+        let nodes = nodes.with_file(name, content, is_executable)?;
+        Ok(Tree {
+            path,
+            nodes,
+            files,
+            todo,
+        })
+    }
+
+    /// Adds a directory, which is to be listed next.
+    pub(crate) fn with_directory(self, inner: Inner) -> Result<Tree, AllocError>
+        ensures items { IfOk result (λ added. (place : PlaceValue) → tree_items place added
+            ≡ tree_items place self
+            ++ directory_item place (string_bytes self.path) added.nodes.above ∷ []) }
+        ensures length { IfOk result (λ added. nodes_length added.nodes.nodes
+            ≡ nodes_length self.nodes.nodes) }
+        ensures path { IfOk result (λ added. added.path ≡ self.path) }
+        ensures left { IfOk result (λ added. tree_entries added ≡ tree_entries self) }
+    {
+        let Tree {
+            path,
+            nodes,
+            files,
+            todo,
+        } = self;
+        let Inner { name, level } = inner;
+        let nodes = nodes.with_directory(name, level)?;
+        Ok(Tree {
+            path,
+            nodes,
+            files,
+            todo,
+        })
+    }
+
+    /// The output, once the directory was gathered.
+    pub(crate) fn output(self) -> Output
+        ensures items { (place : PlaceValue) →
+            kind_items place (string_bytes result.path) result.kind ≡ tree_items place self }
+        ensures length { output_length result.kind ≡ nodes_length self.nodes.nodes }
+    {
+        let Tree {
+            path,
+            nodes,
+            files,
+            todo,
+        } = self;
+        drop(files);
+        drop(todo);
+        let nodes = nodes.whole();
+        let kind = OutputKind::Tree { nodes };
+        Output { path, kind }
+    }
 }

@@ -8,7 +8,7 @@ use Rattle.runner.proofs.Collect.{goes_folder_with}
 use Rattle.runner.proofs.Popped.{was_ok}
 use Rattle.runner.proofs.Pieces.{nothing_more, begun_inside}
 use Rattle.runner.specs.Sizes.{folder_told}
-use Rattle.runner.specs.Listed.{entries_told, tree_entries}
+use Rattle.runner.specs.Listed.{tree_entries}
 use Rattle.runner.proofs.Sizes.{fits_still}
 use Rattle.runner.proofs.Told.{facts_say, fits_told, more_than, at_most}
 use Rattle.runner.proofs.Stopped.{folder_failed, folder_stops, folder_surpasses}

@@ -2,6 +2,7 @@ use Rattle.std.proofs.Common.{[], ◌∷◌, ◌++◌, refl, sym, ap, ◌∙◌,
 use Rattle.std.specs.Prelude.{Ok, string_bytes}
 use Rattle.runner.specs.Values.{place_shown}
 use Rattle.runner.specs.Calls.{look_asked, found_of}
+use Rattle.runner.specs.Steps.{exited_told}
 use Rattle.runner.specs.Gathered.{call_items, file_item, found_item, numbered, output_items}
 use Rattle.runner.proofs.Collect.{goes_alone, goes_folder}
 use Rattle.runner.proofs.Popped.{was_ok, popped, popped_none}
@@ -17,7 +18,8 @@ pub returns-in_default-clause-goes : goal.returns-in_default-clause-goes
 returns-in_default-clause-goes g c = λ text p.
     goes_alone text (place_shown c.args.place.now) _ _ _ p refl refl
     (ap (λ l. map (look_asked (place_shown c.args.place.now)) (map string_bytes l)) (popped_none _ _ _ c.pop_front.ensures.items c.pop_front.ensures.rest c.in_default.is))
-    refl refl
+    (ap (λ e. output_items (place_shown c.args.place.now) e.outputs.items) c.exited.ensures)
+    (ap (exited_told (place_shown c.args.place.now)) c.exited.ensures)
     refl
 
 pub returns-else-is_too_large-clause-goes : goal.returns-else-is_too_large-clause-goes

@@ -1,7 +1,8 @@
-use Rattle.std.proofs.Common.{◌++◌, refl, sym, ap, map}
+use Rattle.std.proofs.Common.{[], ◌∷◌, ◌++◌, ◌∙◌, refl, sym, ap, map}
 use Rattle.std.specs.Prelude.{string_bytes}
-use Rattle.runner.specs.Values.{place_shown}
-use Rattle.runner.specs.Calls.{directory_asked, look_asked}
+use Rattle.runner.specs.Values.{place_shown, command_shown}
+use Rattle.runner.specs.Calls.{directory_asked, look_asked, start_asked}
+use Rattle.runner.specs.Made.{directory_item, parents_item}
 use Rattle.runner.proofs.Collect.{goes_folder, quiet}
 use Rattle.runner.proofs.Sizes.{fits_none}
 use Rattle.runner.proofs.Stopped.{folder_failed, folder_stops}
@@ -11,8 +12,12 @@ pub returns-clause-goes : goal.returns-clause-goes
 returns-clause-goes g c = λ text p.
     let place = place_shown c.args.place.now in
     let q = directory_asked place in
-    goes_folder text place _ _ _ _ p q _ c.make_working_directory.ensures.adds refl refl
-    (ap (λ made. map (look_asked place) (map string_bytes made ++ map string_bytes c.args.prepared.outputs.items)) (sym c.new-made.ensures.items))
+    let to = c.parents-parents.ensures in
+    goes_folder text place _ _ _ _ p q _ c.make_working_directory.ensures.adds
+    (ap (λ l. directory_item place ∷ map (λ o. parents_item place (string_bytes o)) l.items) (sym to.left))
+    (ap (λ m. start_asked place (command_shown m) ∷ []) (sym to.command))
+    (ap (λ l. map (look_asked place) (map string_bytes l.items)) (sym to.left)
+    ∙ ap (λ made. map (look_asked place) (map string_bytes made ++ map string_bytes c.parents-parents.result.left.items)) (sym to.made))
     (sym (quiet q _ (λ x. refl))) refl (fits_none _ refl)
     refl
 

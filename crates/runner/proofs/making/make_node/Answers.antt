@@ -1,7 +1,7 @@
-use Rattle.std.proofs.Common.{refl, sym, ap, subst, map, ◌++◌}
+use Rattle.std.proofs.Common.{[], ◌∷◌, ◌∙◌, refl, sym, ap, subst, map, ◌++◌}
 use Rattle.std.specs.Prelude.{string_bytes}
-use Rattle.runner.specs.Values.{place_shown, kind_shown}
-use Rattle.runner.specs.Calls.{node_asked, look_asked, call, Adds, done_of}
+use Rattle.runner.specs.Values.{place_shown, kind_shown, command_shown}
+use Rattle.runner.specs.Calls.{start_asked, node_asked, look_asked, call, Adds, done_of}
 use Rattle.runner.specs.Made.{nodes_made}
 use Rattle.runner.specs.Steps.{prepared_left}
 use Rattle.runner.proofs.Collect.{goes_alone, goes_folder, quiet}
@@ -14,8 +14,11 @@ pub returns-in_default-clause-goes : goal.returns-in_default-clause-goes
 returns-in_default-clause-goes g c = λ text p.
     goes_alone text (place_shown c.args.place.now) _ _ _ p
     (ap (λ ns. nodes_made text c.args.place.now.run (map string_bytes c.args.nodes.above.items) ns ++ prepared_left (place_shown c.args.place.now) c.args.nodes.next)
-    (popped_none _ _ _ c.pop_front.ensures.items c.pop_front.ensures.rest c.in_default.is))
-    refl refl refl refl
+    (popped_none _ _ _ c.pop_front.ensures.items c.pop_front.ensures.rest c.in_default.is)
+    ∙ ap (prepared_left (place_shown c.args.place.now)) (sym c.next.ensures))
+    (ap (λ n. start_asked (place_shown c.args.place.now) (command_shown n.command) ∷ []) (sym c.next.ensures))
+    (ap (λ n. map (look_asked (place_shown c.args.place.now)) (map string_bytes n.outputs.items)) (sym c.next.ensures))
+    refl refl
     refl
 
 pub returns-clause-goes : goal.returns-clause-goes

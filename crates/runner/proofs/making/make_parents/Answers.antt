@@ -1,7 +1,7 @@
-use Rattle.std.proofs.Common.{refl, sym, ap, ◌∙◌, subst, map, ◌++◌, append-nil}
+use Rattle.std.proofs.Common.{[], ◌∷◌, refl, sym, ap, ◌∙◌, subst, map, ◌++◌, append-nil}
 use Rattle.std.specs.Prelude.{string_bytes}
-use Rattle.runner.specs.Values.{place_shown}
-use Rattle.runner.specs.Calls.{parents_asked, look_asked, call, Adds, done_of}
+use Rattle.runner.specs.Values.{place_shown, command_shown}
+use Rattle.runner.specs.Calls.{start_asked, parents_asked, look_asked, call, Adds, done_of}
 use Rattle.runner.specs.Made.{parents_item}
 use Rattle.runner.proofs.Collect.{goes_alone, goes_folder, quiet}
 use Rattle.runner.proofs.Popped.{popped, popped_none, moved}
@@ -14,9 +14,10 @@ returns-in_default-clause-goes g c = λ text p.
     let none = popped_none _ _ _ c.pop_front.ensures.items c.pop_front.ensures.rest c.in_default.is in
     goes_alone text (place_shown c.args.place.now) _ _ _ p
     (ap (map (λ o. parents_item (place_shown c.args.place.now) (string_bytes o))) none)
-    refl
+    (ap (λ m. start_asked (place_shown c.args.place.now) (command_shown m) ∷ []) (sym c.prepared.ensures.command))
     (ap (λ l. map (look_asked (place_shown c.args.place.now)) (map string_bytes c.args.parents.made.items ++ map string_bytes l)) none
-    ∙ ap (map (look_asked (place_shown c.args.place.now))) (append-nil (map string_bytes c.args.parents.made.items)))
+    ∙ ap (map (look_asked (place_shown c.args.place.now))) (append-nil (map string_bytes c.args.parents.made.items))
+    ∙ ap (λ l. map (look_asked (place_shown c.args.place.now)) (map string_bytes l.items)) (sym c.prepared.ensures.outputs))
     refl refl
     refl
 

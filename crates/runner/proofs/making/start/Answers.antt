@@ -1,6 +1,7 @@
-use Rattle.std.proofs.Common.{refl, sym}
+use Rattle.std.proofs.Common.{refl, sym, ap, map}
+use Rattle.std.specs.Prelude.{string_bytes}
 use Rattle.runner.specs.Values.{place_shown, command_shown}
-use Rattle.runner.specs.Calls.{start_asked}
+use Rattle.runner.specs.Calls.{start_asked, look_asked}
 use Rattle.runner.proofs.Collect.{goes_program}
 use Rattle.runner.proofs.Popped.{quiet_told}
 use Rattle.runner.proofs.Sizes.{fits_none}
@@ -10,7 +11,9 @@ use Rattle.runner.proofs.making.start.Goals as goal
 pub returns-clause-goes : goal.returns-clause-goes
 returns-clause-goes g c = λ text f.
     let q = start_asked (place_shown c.args.place.now) (command_shown c.args.prepared.command) in
-    goes_program text (place_shown c.args.place.now) _ _ f _ _ q _ c.start.ensures.adds refl refl refl refl (sym (quiet_told q _ (λ x. refl))) (fits_none _ refl)
+    goes_program text (place_shown c.args.place.now) _ _ f _ _ q _ c.start.ensures.adds refl refl
+    (ap (λ l. map (look_asked (place_shown c.args.place.now)) (map string_bytes l.items)) (sym c.outputs.ensures))
+    refl (sym (quiet_told q _ (λ x. refl))) (fits_none _ refl)
     refl
 
 pub returns-in_err-of_programs-clause-stops : goal.returns-in_err-of_programs-clause-stops

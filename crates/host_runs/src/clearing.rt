@@ -2,7 +2,7 @@
 
 use crate::programs::{ERROR_ENDING, OUTPUT_ENDING};
 use crate::removing::remove_some;
-use std::fs;
+use std::fs::{self, DirEntry};
 use std::io::{self, ErrorKind};
 
 /// Removes from a directory the folders of runs, and the files that were beside them: what has a
@@ -11,14 +11,18 @@ use std::io::{self, ErrorKind};
 pub fn clear_work(rt: &HostRuntime, work: &str) -> io::Result<()> {
     let mut moved = 0u64;
     for entry in fs::read_dir(rt, work)? {
-        match entry {
-            Ok(entry) => clear_entry(rt, entry.path().as_str(), entry.file_name(), &mut moved)?,
-            // The name is no text, so it is none of ours.
-            Err(error) if error.kind() == ErrorKind::InvalidFilename => {}
-            Err(error) => return Err(error),
-        }
+        clear_listed(rt, entry, &mut moved)?;
     }
     Ok(())
+}
+
+fn clear_listed(rt: &HostRuntime, entry: io::Result<DirEntry>, moved: &mut u64) -> io::Result<()> {
+    match entry {
+        Ok(entry) => clear_entry(rt, entry.path().as_str(), entry.file_name(), moved),
+        // The name is no text, so it is none of ours.
+        Err(error) if error.kind() == ErrorKind::InvalidFilename => Ok(()),
+        Err(error) => Err(error),
+    }
 }
 
 fn clear_entry(rt: &HostRuntime, path: &str, name: &str, moved: &mut u64) -> io::Result<()> {

@@ -4,7 +4,7 @@ ghost use Rattle.std.specs.Prelude.{◌≡◌, ◌≤◌, IfOk, length};
 
 use runner::{Entry, FileFacts, Found};
 use std::alloc::Global;
-use std::fs::{self, File, Metadata, OpenOptions};
+use std::fs::{self, DirEntry, File, Metadata, OpenOptions, ReadDir};
 use std::io::{self, ErrorKind};
 use std::os::unix::fs::{FileExt, PermissionsExt};
 use std::rt::Files;
@@ -75,22 +75,38 @@ pub(crate) fn list_at(rt: &HostRuntime, path: &str, most: usize) -> io::Result<V
     }
     let mut entries = Vec::new(rt.alloc());
     let mut listing = fs::read_dir(rt, path)?;
+    add_entries(rt.alloc(), &mut listing, most, &mut entries)?;
+    Ok(in_order(entries))
+}
+
+/// Adds what is listed, until there are so many.
+fn add_entries(
+    alloc: Global,
+    listing: &mut ReadDir,
+    most: usize,
+    entries: &mut Vec<Entry>,
+) -> io::Result<()> {
     for _ in 0..MOST_SEEN {
         if entries.len() >= most {
-            return Ok(in_order(entries));
+            return Ok(());
         }
         let Some(next) = listing.next() else {
-            return Ok(in_order(entries));
+            return Ok(());
         };
-        let next = next?;
-        let kind = next.file_type()?;
-        if kind.is_dir() || kind.is_file() {
-            let name = String::from_str(rt.alloc(), next.file_name())?;
-            let is_directory = kind.is_dir();
-            entries.push(Entry { name, is_directory })?;
-        }
+        add_entry(alloc, &next?, entries)?;
     }
     Err(io::Error::from(ErrorKind::InvalidData))
+}
+
+/// Adds an entry where it is a file or a directory.
+fn add_entry(alloc: Global, entry: &DirEntry, entries: &mut Vec<Entry>) -> io::Result<()> {
+    let kind = entry.file_type()?;
+    let is_directory = kind.is_dir();
+    if is_directory || kind.is_file() {
+        let name = String::from_str(alloc, entry.file_name())?;
+        entries.push(Entry { name, is_directory })?;
+    }
+    Ok(())
 }
 
 fn in_order(entries: Vec<Entry>) -> Vec<Entry> {

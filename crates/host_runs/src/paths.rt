@@ -20,6 +20,11 @@ pub(crate) fn beside_path(
     format!(in alloc; "{work}/{instance}-{job}{ending}")
 }
 
+/// Where a directory of a folder is moved in order to be removed.
+pub(crate) fn moved_path(alloc: Global, root: &str, number: u64) -> Result<String, AllocError> {
+    format!(in alloc; "{root}/.removed-{number}")
+}
+
 /// What has these names from the folder of a run on.
 pub(crate) fn node_path(
     alloc: Global,

@@ -1,6 +1,6 @@
 //! Which processes there are on this host, and in which session each is.
 
-use std::fs::{self, DirEntry, File};
+use std::fs::{self, DirEntry, File, ReadDir};
 use std::io::{self, ErrorKind, Read};
 use std::os::unix::fs::DirEntryExt;
 
@@ -63,24 +63,33 @@ impl<'a> Processes<'a> {
             }
             Err(error) => return Err(error),
         };
+        self.find_in(entries, &mut found)?;
+        self.known = found;
+        Ok(())
+    }
+
+    /// Adds the processes that are listed.
+    fn find_in(&self, entries: ReadDir, found: &mut Vec<Known>) -> io::Result<()> {
         for entry in entries {
             match self.known_at(entry)? {
                 Some(known) => found.push(known)?,
                 None => {}
             }
         }
-        self.known = found;
         Ok(())
     }
 
     /// The process that an entry stands for, if it does for one that has not gone.
     fn known_at(&self, entry: io::Result<DirEntry>) -> io::Result<Option<Known>> {
-        let entry = match entry {
-            Ok(entry) => entry,
+        match entry {
+            Ok(entry) => self.known_of(&entry),
             // The name is no text, so it is no number.
-            Err(error) if error.kind() == ErrorKind::InvalidFilename => return Ok(None),
-            Err(error) => return Err(error),
-        };
+            Err(error) if error.kind() == ErrorKind::InvalidFilename => Ok(None),
+            Err(error) => Err(error),
+        }
+    }
+
+    fn known_of(&self, entry: &DirEntry) -> io::Result<Option<Known>> {
         let Ok(process) = entry.file_name().parse::<u32>() else {
             return Ok(None);
         };
@@ -151,9 +160,13 @@ fn status_of(rt: &HostRuntime, process: u32) -> io::Result<Option<Status>> {
     }
 }
 
-fn read_status(rt: &HostRuntime, process: u32) -> io::Result<Option<Status>> {
+fn open_status(rt: &HostRuntime, process: u32) -> io::Result<File> {
     let path = format!(in rt.alloc(); "{PROCESSES}/{process}/stat")?;
-    let mut file = File::open(rt, path.as_str())?;
+    File::open(rt, path.as_str())
+}
+
+fn read_status(rt: &HostRuntime, process: u32) -> io::Result<Option<Status>> {
+    let mut file = open_status(rt, process)?;
     let mut room = [0u8; MOST_SHOWN];
     let count = file.read(&mut room)?;
     match room.get(..count) {
@@ -165,13 +178,15 @@ fn read_status(rt: &HostRuntime, process: u32) -> io::Result<Option<Status>> {
 /// What a line tells: behind the program's name, which may be any text in brackets, stand a letter
 /// for the state and the numbers of the parent, of the group and of the session.
 fn status_by(line: &[u8]) -> Option<Status> {
-    let bracket = line.iter().rposition(|byte| *byte == b')')?;
-    let rest = line.get(bracket..)?.get(1..)?;
-    let mut words = str::from_utf8(rest).ok()?.split_ascii_whitespace();
+    let mut words = behind_name(line)?.split_ascii_whitespace();
     let state = words.next()?;
-    let _parent = words.next()?;
-    let _group = words.next()?;
-    let session = words.next()?.parse::<u32>().ok()?;
+    let session = words.nth(2)?.parse::<u32>().ok()?;
     let is_alive = !matches!(state, "Z" | "X");
     Some(Status { session, is_alive })
+}
+
+fn behind_name(line: &[u8]) -> Option<&str> {
+    let bracket = line.iter().rposition(|byte| *byte == b')')?;
+    let rest = line.get(bracket..)?.get(1..)?;
+    str::from_utf8(rest).ok()
 }

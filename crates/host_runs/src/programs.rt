@@ -73,6 +73,22 @@ fn nameless_file(rt: &HostRuntime, work: &str, run: RunKey, ending: &str) -> io:
     Ok(file)
 }
 
+fn add_arguments(command: &mut Command, arguments: &[String]) -> io::Result<()> {
+    for argument in arguments {
+        command.arg(argument.as_str())?;
+    }
+    Ok(())
+}
+
+/// Makes a program write into these files, and read nothing.
+fn set_streams(command: &mut Command, stdout: &File, stderr: &File) -> io::Result<()> {
+    command
+        .stdin(Stdio::null())
+        .stdout(stdout.try_clone()?)
+        .stderr(stderr.try_clone()?);
+    Ok(())
+}
+
 /// The programs that were started.
 #[derive(Drop)]
 struct Table<'a> {
@@ -110,20 +126,47 @@ impl<'a> Table<'a> {
     }
 
     fn start(&mut self, place: &Place, ordered: &Ordered) -> io::Result<()> {
-        let mut command = self.command(place, ordered)?;
+        let alloc = self.rt.alloc();
+        let directory = output_path(alloc, self.work.as_str(), place, "", &[])?;
+        let first = self.first_word(ordered, directory.as_str())?;
+        let mut command = Command::new(alloc, first)?;
+        self.launch(place.run, &mut command, ordered, directory.as_str())
+    }
+
+    /// What is started first: the program, where it is found, or what makes it a session of its own
+    /// where the host can do that.
+    fn first_word<'b>(&self, ordered: &'b Ordered, directory: &str) -> io::Result<&'b str> {
+        let Some(program) = ordered.arguments.first() else {
+            return Err(io::Error::from(ErrorKind::InvalidInput));
+        };
+        // Otherwise its absence would show as the code of `setsid`.
+        if !can_start(self.rt, directory, program.as_str(), ordered)? {
+            return Err(io::Error::from(ErrorKind::NotFound));
+        }
+        if self.has_sessions {
+            Ok(SESSION)
+        } else {
+            Ok(program.as_str())
+        }
+    }
+
+    /// Starts a command that has its first word alone.
+    fn launch(
+        &mut self,
+        run: RunKey,
+        command: &mut Command,
+        ordered: &Ordered,
+        directory: &str,
+    ) -> io::Result<()> {
+        self.fill(command, ordered, directory)?;
         let work = self.work.as_str();
-        let stdout = nameless_file(self.rt, work, place.run, OUTPUT_ENDING)?;
-        let stderr = nameless_file(self.rt, work, place.run, ERROR_ENDING)?;
-        command
-            .stdin(Stdio::null())
-            .stdout(stdout.try_clone()?)
-            .stderr(stderr.try_clone()?);
-        // There has to be room for each program once it is forgotten.
-        self.started.reserve(1)?;
-        self.left.reserve(self.started.len().saturating_add(1))?;
+        let stdout = nameless_file(self.rt, work, run, OUTPUT_ENDING)?;
+        let stderr = nameless_file(self.rt, work, run, ERROR_ENDING)?;
+        set_streams(command, &stdout, &stderr)?;
+        self.make_room()?;
         let child = command.spawn(self.rt)?;
         self.started.push(Started {
-            run: place.run,
+            run,
             child,
             stdout,
             stderr,
@@ -132,38 +175,27 @@ impl<'a> Table<'a> {
         Ok(())
     }
 
-    /// The command as the system takes it, but for its streams.
-    fn command(&self, place: &Place, ordered: &Ordered) -> io::Result<Command> {
-        let alloc = self.rt.alloc();
-        let directory = output_path(alloc, self.work.as_str(), place, "", &[])?;
-        let Some((program, arguments)) = ordered.arguments.split_first() else {
-            return Err(io::Error::from(ErrorKind::InvalidInput));
-        };
-        // Otherwise its absence would show as the code of `setsid`.
-        if !can_start(self.rt, directory.as_str(), program.as_str(), ordered)? {
-            return Err(io::Error::from(ErrorKind::NotFound));
-        }
-        let mut command = self.begun(program.as_str())?;
-        for argument in arguments {
-            command.arg(argument.as_str())?;
+    /// Adds all to a command but its streams.
+    fn fill(&self, command: &mut Command, ordered: &Ordered, directory: &str) -> io::Result<()> {
+        if self.has_sessions {
+            command.arg("--")?;
+            add_arguments(command, &ordered.arguments)?;
+        } else {
+            add_arguments(command, ordered.arguments.get(1..).unwrap_or(&[]))?;
         }
         command.env_clear();
         for variable in ordered.variables.iter() {
             command.env(variable.name.as_str(), variable.value.as_str())?;
         }
-        command.current_dir(directory.as_str())?;
-        Ok(command)
+        command.current_dir(directory)?;
+        Ok(())
     }
 
-    /// The program, in a session of its own where the host can do that.
-    fn begun(&self, program: &str) -> io::Result<Command> {
-        let alloc = self.rt.alloc();
-        if !self.has_sessions {
-            return Ok(Command::new(alloc, program)?);
-        }
-        let mut command = Command::new(alloc, SESSION)?;
-        command.arg("--")?.arg(program)?;
-        Ok(command)
+    /// Makes room for a program, and for it once it is forgotten.
+    fn make_room(&mut self) -> io::Result<()> {
+        self.started.reserve(1)?;
+        self.left.reserve(self.started.len().saturating_add(1))?;
+        Ok(())
     }
 
     fn ask(&mut self, run: RunKey) -> io::Result<Option<i32>>

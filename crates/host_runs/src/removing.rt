@@ -6,6 +6,7 @@
 //! followed.
 
 use crate::files::found_at;
+use crate::paths::moved_path;
 use std::fs::{self, Permissions, ReadDir};
 use std::io::{self, ErrorKind};
 use std::os::unix::fs::PermissionsExt;
@@ -119,12 +120,16 @@ impl<'a> Removal<'a> {
     /// Removes some of the folder. Whether nothing is left of it.
     fn empty_root(&mut self) -> io::Result<bool> {
         let mut listing = opened(self.rt, self.root)?;
+        self.empty_listed_root(&mut listing)
+    }
+
+    fn empty_listed_root(&mut self, listing: &mut ReadDir) -> io::Result<bool> {
         let mut has_unnamed = false;
         for _ in 0..u64::MAX {
             if self.is_enough() {
                 return Ok(false);
             }
-            match next_of(self.rt, &mut listing)? {
+            match next_of(self.rt, listing)? {
                 Next::Entry(path) => self.remove_entry(path.as_str())?,
                 Next::Unnamed => has_unnamed = true,
                 Next::End => break,
@@ -147,12 +152,16 @@ impl<'a> Removal<'a> {
     /// Removes a directory that stands in the folder, or some of it.
     fn empty(&mut self, path: &str) -> io::Result<()> {
         let mut listing = opened(self.rt, path)?;
+        self.empty_listed(path, &mut listing)
+    }
+
+    fn empty_listed(&mut self, path: &str, listing: &mut ReadDir) -> io::Result<()> {
         let mut has_unnamed = false;
         for _ in 0..u64::MAX {
             if self.is_enough() {
                 return Ok(());
             }
-            match next_of(self.rt, &mut listing)? {
+            match next_of(self.rt, listing)? {
                 Next::Entry(inner) => self.take_out(inner.as_str())?,
                 Next::Unnamed => has_unnamed = true,
                 Next::End => break,
@@ -183,9 +192,7 @@ impl<'a> Removal<'a> {
         }
         allow(self.rt, path)?;
         *self.moved = self.moved.wrapping_add(1);
-        let root = self.root;
-        let number = *self.moved;
-        let target = format!(in self.rt.alloc(); "{root}/.removed-{number}")?;
+        let target = moved_path(self.rt.alloc(), self.root, *self.moved)?;
         match fs::rename(self.rt, path, target.as_str()) {
             Ok(()) => {
                 self.count();

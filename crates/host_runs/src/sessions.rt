@@ -55,8 +55,18 @@ fn keep_from_waiting<P: AsRawFd>(end: &P) -> io::Result<()> {
     }
 }
 
+/// Starts the shell, as what `SESSION` is told to start.
+fn launch(rt: &HostRuntime, command: &mut Command) -> io::Result<Child> {
+    command.arg("--")?.arg(SHELL)?.arg("-c")?.arg(SCRIPT)?;
+    command.env_clear();
+    command
+        .stdin(Stdio::piped())
+        .stdout(Stdio::piped())
+        .stderr(Stdio::null());
+    command.spawn(rt)
+}
+
 /// The shell, and the pipes to it and from it. It ends when the first is closed.
-#[derive(Drop)]
 struct Shell {
     child: Child,
     questions: ChildStdin,
@@ -65,28 +75,44 @@ struct Shell {
     answered: u64,
 }
 
+// Written out, so that each exit of a function that owns it has one call in place of one for each
+// part.
+impl Drop for Shell {
+    fn drop(self) {
+        let Shell {
+            child,
+            questions,
+            answers,
+            asked: _,
+            answered: _,
+        } = self;
+        drop(child);
+        drop(questions);
+        drop(answers);
+    }
+}
+
 impl Shell {
     fn start(rt: &HostRuntime) -> io::Result<Shell> {
-        let mut command = Command::new(rt.alloc(), SESSION)?;
-        command.arg("--")?.arg(SHELL)?.arg("-c")?.arg(SCRIPT)?;
-        command.env_clear();
-        command
-            .stdin(Stdio::piped())
-            .stdout(Stdio::piped())
-            .stderr(Stdio::null());
-        let mut child = command.spawn(rt)?;
+        let mut child = Shell::spawned(rt)?;
         let (Some(questions), Some(answers)) = (child.stdin.take(), child.stdout.take()) else {
             return Err(io::Error::from(ErrorKind::BrokenPipe));
         };
-        keep_from_waiting(&questions)?;
-        keep_from_waiting(&answers)?;
-        Ok(Shell {
+        let shell = Shell {
             child,
             questions,
             answers,
             asked: 0,
             answered: 0,
-        })
+        };
+        keep_from_waiting(&shell.questions)?;
+        keep_from_waiting(&shell.answers)?;
+        Ok(shell)
+    }
+
+    fn spawned(rt: &HostRuntime) -> io::Result<Child> {
+        let mut command = Command::new(rt.alloc(), SESSION)?;
+        launch(rt, &mut command)
     }
 
     fn has_ended(&mut self) -> bool {

@@ -213,8 +213,8 @@ fn admit_blob(
     ensures kept { IsViewInPool quota pool.new view.new }
     ensures limit { view.new.limit ≡ view.old.limit }
 {
-    let OutputBlob { digest, text } = blob;
-    match text {
+    let digest = blob.digest;
+    match blob.into_text() {
         BlobText::Draft(draft) => admit_given(view, pool, quota, &digest, draft),
         BlobText::Bytes(bytes) => admit_tree(view, pool, quota, &digest, &bytes),
     }

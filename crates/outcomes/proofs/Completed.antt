@@ -1,18 +1,17 @@
 -- What a run comes to.
-use Rattle.std.proofs.Common.{◌≡◌, ℕ, ℤ, Bool, true, false, ◌&&◌, List, [], ◌∷◌, ◌++◌, length, map, nat_le, Option, Some, None, refl, sym, ap, ◌∙◌, if◌then◌else◌}
+use Rattle.std.proofs.Common.{◌≡◌, ℕ, Bool, true, false, ◌&&◌, List, ◌∷◌, ◌++◌, length, map, nat_le, Some, None, refl, sym, ap, ◌∙◌}
 use Rattle.std.specs.List.{flat_map, list_all}
 use Rattle.digest.specs.declared.Digest.{Digest}
 use Rattle.input_tree.specs.Directories.{is_directory}
 use Rattle.instance_view.specs.Visible.{Blob}
 use Rattle.message_fields.specs.Parts.{text_for}
-use Rattle.reapi_messages.specs.Digests.{DigestValue}
 use Rattle.tree_messages.specs.Directories.{DirectoryValue, tree_records}
 use Rattle.tree_messages.specs.Results.{OutputDirectoryValue, OutputFileValue, action_result_records}
 use Rattle.action_reading.specs.Commands.{AskedOutput}
 use Rattle.outcomes.specs.Asked.{are_asked}
 use Rattle.outcomes.specs.Completing.{CollectionValue, no_outputs, with_outputs}
 use Rattle.outcomes.specs.Outcomes.{ExitedValue, OutputNodeValue}
-use Rattle.outcomes.specs.Results.{CompletionValue, completion_of, file_blobs, file_results, is_output, result_with, stream_blobs, stream_digest, tree_blobs, tree_results}
+use Rattle.outcomes.specs.Results.{completion_of, file_blobs, file_results, is_output, result_with, stream_blobs, stream_digest, tree_blobs, tree_results}
 use Rattle.std.proofs.lemmas.Bool.{and_parts}
 use Rattle.tree_plan.specs.declared.walking.TheConstants.{MOST_NODES}
 use Rattle.outcomes.specs.declared.gathering.Gathering.{Gathering}
@@ -20,7 +19,7 @@ use Rattle.outcomes.specs.Gathering.{IsGathered, down_to, open_shown}
 use Rattle.outcomes.specs.Trees.{are_walked, below_root, children_of, is_shallow, keeps_walk, root_of, tree_of}
 use Rattle.outcomes.proofs.Gathered.{root_found}
 use Rattle.outcomes.proofs.Walked.{first_low}
-use Rattle.outcomes.proofs.Collected.{AreAll, all_collected}
+use Rattle.outcomes.proofs.Collected.{all_collected}
 
 -- ---- trees
 
@@ -55,15 +54,13 @@ no_walk like nodes denied = rw denied refl
 
 -- ---- runs
 
-pub completed : (like : Digest) (asked : List AskedOutput) (x : ExitedValue) (c : CollectionValue) (blobs : List Blob) (result : List ℕ) (out err : Option DigestValue) → are_asked asked x.outputs ≡ true → list_all (is_output like) x.outputs ≡ true → c ≡ with_outputs like no_outputs x.outputs → out ≡ stream_digest like x.stdout → err ≡ stream_digest like x.stderr → result ≡ text_for action_result_records (result_with x.code c.files c.trees out err) → blobs ≡ c.file_blobs ++ c.tree_blobs ++ stream_blobs like x.stdout ++ stream_blobs like x.stderr → Some (record { blobs = blobs; result = result }) ≡ completion_of like asked x
-completed like asked x c blobs result out err known taken is out_is err_is written joined =
+pub completed : (like : Digest) (asked : List AskedOutput) (x : ExitedValue) (c : CollectionValue) (blobs : List Blob) (result : List ℕ) → are_asked asked x.outputs ≡ true → list_all (is_output like) x.outputs ≡ true → c ≡ with_outputs like no_outputs x.outputs → result ≡ text_for action_result_records (result_with x.code c.files c.trees (stream_digest like x.stdout) (stream_digest like x.stderr)) → blobs ≡ c.file_blobs ++ c.tree_blobs ++ stream_blobs like x.stdout ++ stream_blobs like x.stderr → Some (record { blobs = blobs; result = result }) ≡ completion_of like asked x
+completed like asked x c blobs result known taken is written joined =
     let all = all_collected like x.outputs c is in
     let text : result ≡ text_for action_result_records (result_with x.code (flat_map (file_results like) x.outputs) (flat_map (tree_results like) x.outputs) (stream_digest like x.stdout) (stream_digest like x.stderr)) =
     written
-    ∙ ap (λ (fs : List OutputFileValue). text_for action_result_records (result_with x.code fs c.trees out err)) all.files
-    ∙ ap (λ (ts : List OutputDirectoryValue). text_for action_result_records (result_with x.code (flat_map (file_results like) x.outputs) ts out err)) all.trees
-    ∙ ap (λ (d : Option DigestValue). text_for action_result_records (result_with x.code (flat_map (file_results like) x.outputs) (flat_map (tree_results like) x.outputs) d err)) out_is
-    ∙ ap (λ (d : Option DigestValue). text_for action_result_records (result_with x.code (flat_map (file_results like) x.outputs) (flat_map (tree_results like) x.outputs) (stream_digest like x.stdout) d)) err_is in
+    ∙ ap (λ (fs : List OutputFileValue). text_for action_result_records (result_with x.code fs c.trees (stream_digest like x.stdout) (stream_digest like x.stderr))) all.files
+    ∙ ap (λ (ts : List OutputDirectoryValue). text_for action_result_records (result_with x.code (flat_map (file_results like) x.outputs) ts (stream_digest like x.stdout) (stream_digest like x.stderr))) all.trees in
     let bytes : blobs ≡ flat_map (file_blobs like) x.outputs ++ flat_map (tree_blobs like) x.outputs ++ stream_blobs like x.stdout ++ stream_blobs like x.stderr =
     joined
     ∙ ap (λ (bs : List Blob). bs ++ c.tree_blobs ++ stream_blobs like x.stdout ++ stream_blobs like x.stderr) all.blobs_of_files

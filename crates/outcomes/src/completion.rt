@@ -27,7 +27,6 @@ use operations::WrittenDigest;
 use reapi_messages as messages;
 use std::alloc::{AllocError, Global};
 use std::collections::VecDeque;
-use std::mem;
 use tree_messages::{ActionResult, OutputDirectory, OutputFile};
 
 /// The text of a blob that a run leaves.
@@ -40,10 +39,27 @@ pub enum BlobText {
 }
 
 /// A blob that a run leaves, under the digest that names it.
-#[derive(Drop)]
 pub struct OutputBlob {
     pub digest: Digest,
     pub text: BlobText,
+}
+
+// Written out, so that no crate above proves again that each part of it may be dropped.
+impl Drop for OutputBlob {
+    fn drop(self) {
+        let OutputBlob { digest: _, text } = self;
+        drop(text);
+    }
+}
+
+impl OutputBlob {
+    /// Its text, without the digest.
+    pub fn into_text(self) -> BlobText
+        ensures { result ≡ self.text }
+    {
+        let OutputBlob { digest: _, text } = self;
+        text
+    }
 }
 
 /// What a run comes to.
@@ -71,12 +87,44 @@ struct NamedTree {
 }
 
 /// What was collected of outputs.
-#[derive(Drop)]
 struct Collection {
     files: Vec<NamedOutput>,
     trees: Vec<NamedTree>,
     file_blobs: Vec<OutputBlob>,
     tree_blobs: Vec<OutputBlob>,
+}
+
+// Written out, so that each exit of a function that owns it has one call in place of one for each
+// part.
+impl Drop for Collection {
+    fn drop(self) {
+        let Collection {
+            files,
+            trees,
+            file_blobs,
+            tree_blobs,
+        } = self;
+        drop(files);
+        drop(trees);
+        drop(file_blobs);
+        drop(tree_blobs);
+    }
+}
+
+impl Collection {
+    /// The blobs of files, and those of directories.
+    fn into_blobs(self) -> (Vec<OutputBlob>, Vec<OutputBlob>)
+        ensures files { result.0 ≡ self.file_blobs }
+        ensures trees { result.1 ≡ self.tree_blobs }
+    {
+        let Collection {
+            files: _,
+            trees: _,
+            file_blobs,
+            tree_blobs,
+        } = self;
+        (file_blobs, tree_blobs)
+    }
 }
 
 /// A text as a blob.
@@ -110,8 +158,7 @@ fn push_node(like: &Digest, blobs: &mut Vec<OutputBlob>, node: OutputNode) -> Re
     ensures { OnOk result (map blob_shown blobs.new.items
         ≡ map blob_shown blobs.old.items ++ node_blob like.now (node_shown node).kind) }
 {
-    let OutputNode { kind, .. } = node;
-    if let NodeKind::File { content, .. } = kind {
+    if let NodeKind::File { content, .. } = node.into_kind() {
         blobs.push(content_blob(like, content))?;
     }
     Ok(())
@@ -198,7 +245,7 @@ fn collect_output(
         × (taken ≡ true → Collects like.now (output_shown output)
         collection.old collection.new)) }
 {
-    let Output { path, kind } = output;
+    let (path, kind) = output.into_parts();
     match kind {
         OutputKind::File {
             content,
@@ -307,26 +354,45 @@ fn stream_message(written: &Option<WrittenDigest>) -> Option<messages::Digest<'_
 /// The text of a result.
 fn write_result(
     alloc: Global,
-    exited: &Exited,
+    code: i32,
     collection: &Collection,
     stdout: &Option<WrittenDigest>,
     stderr: &Option<WrittenDigest>,
 ) -> Result<Vec<u8>, AllocError>
     ensures { IfOk result (λ text. text.items ≡ text_for action_result_records
-        (result_with exited.now.code (map named_output_shown collection.now.files.items)
+        (result_with code (map named_output_shown collection.now.files.items)
         (map named_tree_shown collection.now.trees.items)
         (option_map written_shown stdout.now) (option_map written_shown stderr.now))) }
 {
     let result = ActionResult {
         output_files: file_messages(alloc, &collection.files)?,
         output_directories: tree_messages(alloc, &collection.trees)?,
-        exit_code: exited.code,
+        exit_code: code,
         stdout_raw: &[],
         stdout_digest: stream_message(stdout),
         stderr_raw: &[],
         stderr_digest: stream_message(stderr),
     };
     result.encode(alloc)
+}
+
+/// The text of the result of a run: its exit code, what it wrote, and what was collected.
+fn result_text(
+    alloc: Global,
+    like: &Digest,
+    code: i32,
+    streams: &Streams,
+    collection: &Collection,
+) -> Result<Vec<u8>, AllocError>
+    ensures { IfOk result (λ text. text.items ≡ text_for action_result_records
+        (result_with code (map named_output_shown collection.now.files.items)
+        (map named_tree_shown collection.now.trees.items)
+        (stream_digest like.now streams.now.stdout)
+        (stream_digest like.now streams.now.stderr))) }
+{
+    let out = name_stream(alloc, like, &streams.stdout)?;
+    let err = name_stream(alloc, like, &streams.stderr)?;
+    write_result(alloc, code, collection, &out, &err)
 }
 
 /// All blobs: of files, of directories, and of what was written to the streams.
@@ -340,11 +406,7 @@ fn join_blobs(
         ≡ map blob_shown collection.file_blobs.items ++ map blob_shown collection.tree_blobs.items
         ++ stream_blobs like.now stdout ++ stream_blobs like.now stderr) }
 {
-    let Collection {
-        file_blobs,
-        tree_blobs,
-        ..
-    } = collection;
+    let (file_blobs, tree_blobs) = collection.into_blobs();
     let mut blobs = file_blobs;
     let mut left = VecDeque::from_vec(tree_blobs);
     while let Some(blob) = left.pop_front() {
@@ -371,15 +433,12 @@ pub fn complete(
     if !are_asked(asked, &exited.outputs) {
         return Ok(None);
     }
-    let mut exited = exited;
-    let outputs = mem::replace(&mut exited.outputs, Vec::new(alloc));
+    let (code, streams, outputs) = exited.into_parts();
     let Some(collection) = collect(alloc, action, outputs)? else {
         return Ok(None);
     };
-    let out = name_stream(alloc, action, &exited.streams.stdout)?;
-    let err = name_stream(alloc, action, &exited.streams.stderr)?;
-    let result = write_result(alloc, &exited, &collection, &out, &err)?;
-    let Streams { stdout, stderr } = Box::into_inner(exited.streams);
+    let result = result_text(alloc, action, code, &streams, &collection)?;
+    let Streams { stdout, stderr } = Box::into_inner(streams);
     let blobs = join_blobs(action, collection, stdout, stderr)?;
     Ok(Some(Completion { blobs, result }))
 }

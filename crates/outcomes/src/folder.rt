@@ -3,7 +3,7 @@
 ghost use Rattle.std.specs.Prelude.{◌≡◌, map, IfOk};
 ghost use Rattle.input_tree.specs.Directories.{is_directory};
 ghost use Rattle.tree_messages.specs.Directories.{directory_node_shown, directory_shown, file_node_shown};
-ghost use Rattle.outcomes.specs.Gathering.{folder_shown, named_directory_shown, named_file_shown};
+ghost use Rattle.outcomes.specs.Gathering.{folder_shown, named_directory_shown, named_file_shown, open_shown};
 ghost use Rattle.outcomes.specs.Trees.{directory_text};
 
 use message_fields::Message;
@@ -28,17 +28,48 @@ pub(crate) struct NamedDirectory<'a> {
 }
 
 /// A directory, to whose front more may be added.
-#[derive(Drop)]
 pub(crate) struct OpenFolder<'a> {
     pub files: VecDeque<NamedFile<'a>>,
     pub directories: VecDeque<NamedDirectory<'a>>,
 }
 
+// Written out, so that each exit of a function that owns it has one call in place of one for each
+// part.
+impl<'a> Drop for OpenFolder<'a> {
+    fn drop(self) {
+        let OpenFolder { files, directories } = self;
+        drop(files);
+        drop(directories);
+    }
+}
+
+impl<'a> OpenFolder<'a> {
+    /// The same directory, to which no more is added.
+    pub(crate) fn close(self) -> Folder<'a>
+        ensures { folder_shown result ≡ open_shown self.entry }
+    {
+        let OpenFolder { files, directories } = self;
+        Folder {
+            files: files.into_vec(),
+            directories: directories.into_vec(),
+        }
+    }
+}
+
 /// A directory of which all is there.
-#[derive(Drop)]
 pub(crate) struct Folder<'a> {
     pub files: Vec<NamedFile<'a>>,
     pub directories: Vec<NamedDirectory<'a>>,
+}
+
+// Written out, so that each exit of a function that owns it has one call in place of one for each
+// part.
+impl<'a> Drop for Folder<'a> {
+    fn drop(self) {
+        let Folder { files, directories } = self;
+        drop(files);
+        drop(directories);
+    }
 }
 
 fn file_messages<'b>(

@@ -21,7 +21,6 @@ use std::alloc::{AllocError, Global};
 use std::collections::VecDeque;
 
 /// What was gathered of nodes.
-#[derive(Drop)]
 pub(crate) struct Gathering<'a> {
     /// The directories in which the nodes go on, the deepest first.
     pub going: VecDeque<OpenFolder<'a>>,
@@ -29,6 +28,34 @@ pub(crate) struct Gathering<'a> {
     pub closed: VecDeque<Folder<'a>>,
     /// Whether all that are closed are taken.
     pub are_taken: bool,
+}
+
+// Written out, so that each exit of a function that owns it has one call in place of one for each
+// part.
+impl<'a> Drop for Gathering<'a> {
+    fn drop(self) {
+        let Gathering {
+            going,
+            closed,
+            are_taken: _,
+        } = self;
+        drop(going);
+        drop(closed);
+    }
+}
+
+impl<'a> Gathering<'a> {
+    /// The directories whose own nodes were met, in walk order.
+    pub(crate) fn into_closed(self) -> VecDeque<Folder<'a>>
+        ensures { result ≡ self.entry.closed }
+    {
+        let Gathering {
+            going: _,
+            closed,
+            are_taken: _,
+        } = self;
+        closed
+    }
 }
 
 /// Opens empty directories down to a level.
@@ -104,17 +131,6 @@ fn add_directory<'a>(
     Ok(())
 }
 
-/// No more is added to a directory.
-pub(crate) fn close<'a>(folder: OpenFolder<'a>) -> Folder<'a>
-    ensures { folder_shown result ≡ open_shown folder.entry }
-{
-    let OpenFolder { files, directories } = folder;
-    Folder {
-        files: files.into_vec(),
-        directories: directories.into_vec(),
-    }
-}
-
 /// The digest of a directory's text.
 fn name_folder(
     alloc: Global,
@@ -141,9 +157,9 @@ fn close_directory<'a>(
     ensures { OnOk result (IsClosed like.now name.now level gathering.old gathering.new) }
 {
     let inside = take_open(alloc, &mut gathering.going, level + 1)?;
-    let folder = close(inside);
-    let digest = name_folder(alloc, like, &folder)?;
+    let folder = inside.close();
     let is_taken = is_taken(alloc, &folder)?;
+    let digest = name_folder(alloc, like, &folder)?;
     add_directory(
         alloc,
         &mut gathering.going,

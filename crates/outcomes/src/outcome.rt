@@ -19,13 +19,39 @@ pub enum NodeKind {
 }
 
 /// A node of an output directory.
-#[derive(Drop)]
 pub struct OutputNode {
     /// Its name in the directory that it stands in.
     pub name: String,
     /// The level of the directory that it stands in: 1 for nodes of the output directory itself.
     pub level: u32,
     pub kind: NodeKind,
+}
+
+// Written out, so that no crate above proves again that each part of it may be dropped.
+impl Drop for OutputNode {
+    fn drop(self) {
+        let OutputNode {
+            name,
+            level: _,
+            kind,
+        } = self;
+        drop(name);
+        drop(kind);
+    }
+}
+
+impl OutputNode {
+    /// What it is, without its name and its level.
+    pub fn into_kind(self) -> NodeKind
+        ensures { result ≡ self.kind }
+    {
+        let OutputNode {
+            name: _,
+            level: _,
+            kind,
+        } = self;
+        kind
+    }
 }
 
 /// What stands at an output's path.
@@ -43,15 +69,33 @@ pub enum OutputKind {
 }
 
 /// An output that a run gave.
-#[derive(Drop)]
 pub struct Output {
     /// As the command asks for it.
     pub path: String,
     pub kind: OutputKind,
 }
 
+// Written out, so that no crate above proves again that each part of it may be dropped.
+impl Drop for Output {
+    fn drop(self) {
+        let Output { path, kind } = self;
+        drop(path);
+        drop(kind);
+    }
+}
+
+impl Output {
+    /// Its path, and what stands there.
+    pub fn into_parts(self) -> (String, OutputKind)
+        ensures path { result.0 ≡ self.path }
+        ensures kind { result.1 ≡ self.kind }
+    {
+        let Output { path, kind } = self;
+        (path, kind)
+    }
+}
+
 /// What a run gave that came to its end.
-#[derive(Drop)]
 pub struct Exited {
     pub code: i32,
     /// Behind a pointer, so that every event is small, whatever it tells of.
@@ -65,6 +109,19 @@ pub struct Exited {
 pub struct Streams {
     pub stdout: Content,
     pub stderr: Content,
+}
+
+// Written out, so that no crate above proves again that each part of it may be dropped.
+impl Drop for Exited {
+    fn drop(self) {
+        let Exited {
+            code: _,
+            streams,
+            outputs,
+        } = self;
+        drop(streams);
+        drop(outputs);
+    }
 }
 
 impl Exited {
@@ -88,6 +145,20 @@ impl Exited {
             streams,
             outputs,
         })
+    }
+
+    /// Its exit code, what it wrote, and its outputs.
+    pub fn into_parts(self) -> (i32, Box<Streams>, Vec<Output>)
+        ensures code { result.0 ≡ self.code }
+        ensures streams { result.1 ≡ self.streams }
+        ensures outputs { result.2 ≡ self.outputs }
+    {
+        let Exited {
+            code,
+            streams,
+            outputs,
+        } = self;
+        (code, streams, outputs)
     }
 }
 

@@ -9,7 +9,7 @@ ghost use Rattle.outcomes.specs.Shown.{node_shown, nodes_shown};
 ghost use Rattle.outcomes.specs.Trees.{are_walked, has_place, is_shallow, keeps_walk, level_behind, tree_of, with_child, with_children};
 
 use crate::folder::{Folder, directory_message, folder_text, is_taken};
-use crate::gathering::{Gathering, close, gather_nodes, take_open};
+use crate::gathering::{gather_nodes, take_open};
 use crate::outcome::{NodeKind, OutputNode};
 use digest::Digest;
 use indexmap::IndexSet;
@@ -155,6 +155,21 @@ fn write_tree(
     tree.encode(alloc)
 }
 
+/// The text of the Tree of a root and the directories below it, each text once, in their order.
+fn whole_tree(
+    alloc: Global,
+    root: &Folder<'_>,
+    below: VecDeque<Folder<'_>>,
+) -> Result<Vec<u8>, AllocError>
+    ensures { IfOk result (λ text. text.items ≡ text_for tree_records (record {
+      root = Some (folder_shown root.now);
+      children = with_children [] (map folder_shown below.entry.items);
+    })) }
+{
+    let children = distinct_folders(alloc, below)?;
+    write_tree(alloc, root, &children)
+}
+
 /// The text of the Tree of nodes that keep the order and the limits of a walk, where its
 /// directories are taken.
 fn gathered_tree(
@@ -167,16 +182,14 @@ fn gathered_tree(
         ≡ tree_of like.now (nodes_shown nodes.now)) }
 {
     let mut gathering = gather_nodes(alloc, like, nodes)?;
-    let root = close(take_open(alloc, &mut gathering.going, 1)?);
+    let root = take_open(alloc, &mut gathering.going, 1)?.close();
     if !is_taken(alloc, &root)? {
         return Ok(None);
     }
     if !gathering.are_taken {
         return Ok(None);
     }
-    let Gathering { closed, .. } = gathering;
-    let children = distinct_folders(alloc, closed)?;
-    let text = write_tree(alloc, &root, &children)?;
+    let text = whole_tree(alloc, &root, gathering.into_closed())?;
     Ok(Some(text))
 }
 

@@ -11,7 +11,6 @@ use std::marker::Model;
 pub const INSTANCE_LIMIT: usize = 256;
 
 /// How an instance is configured.
-#[derive(Drop)]
 pub struct InstanceConfig {
     pub name: String,
     /// The most bytes that it stores.
@@ -21,6 +20,21 @@ pub struct InstanceConfig {
     /// The name of the instance on which it builds, its parent: it reads the parent's blobs as its
     /// own, and changes nothing of it. A parent builds on none.
     pub parent: Option<String>,
+}
+
+// Written out, so that each exit of a function that owns it has one call in place of one for each
+// part.
+impl Drop for InstanceConfig {
+    fn drop(self) {
+        let InstanceConfig {
+            name,
+            quota: _,
+            slots: _,
+            parent,
+        } = self;
+        drop(name);
+        drop(parent);
+    }
 }
 
 /// The configurations of a server's instances: at most [`INSTANCE_LIMIT`], each with a name, a

@@ -1,8 +1,9 @@
-use Rattle.std.proofs.Common.{rules, ◌≡◌, true, false, List, [], Some, map, ap, ◌∙◌}
+use Rattle.std.proofs.Common.{rules, ◌≡◌, true, false, List, [], map, ap, ◌∙◌}
+use Rattle.std.specs.Global.{Global}
+use Rattle.std.specs.declared.collections.VecDeque.{VecDeque}
 use Rattle.std.specs.List.{list_all}
-use Rattle.message_fields.specs.Parts.{text_for}
 use Rattle.input_tree.specs.Directories.{is_directory}
-use Rattle.tree_messages.specs.Directories.{DirectoryValue, tree_records}
+use Rattle.tree_messages.specs.Directories.{DirectoryValue}
 use Rattle.outcomes.specs.declared.folder.Folder.{Folder}
 use Rattle.outcomes.specs.Gathering.{folder_shown, open_shown}
 use Rattle.outcomes.specs.Shown.{nodes_shown}
@@ -28,6 +29,6 @@ returns c =
     root_is c.args.like.now (nodes_shown c.args.nodes.now) c.in_ok-gathering.gathering (open_shown c.in_ok-take_open.field-0) (folder_shown c.close-root.result) (map open_shown c.take_open.new.going.items) c.requires c.in_ok-gathering.ensures c.close-root.ensures c.in_ok-take_open.ensures in
     let taken : is_directory (folder_shown c.close-root.result) ≡ true = search (rules, c.in_ok-is_taken.ensures, c.if-not-branch.false) in
     let below : list_all is_directory (below_root c.args.like.now (nodes_shown c.args.nodes.now)) ≡ true = search (rules, c.in_ok-gathering.ensures.taken, c.if-not-gathering.false) in
-    let all : map folder_shown c.in_ok-children.children.items ≡ children_of c.args.like.now (nodes_shown c.args.nodes.now) = c.in_ok-children.ensures ∙ ap (λ (vs : List DirectoryValue). with_children [] vs) c.in_ok-gathering.ensures.closed in
-    tree_found c.args.like.now (nodes_shown c.args.nodes.now) (folder_shown c.close-root.result) (map folder_shown c.in_ok-children.children.items) c.in_ok-text.text.items c.requires root taken below all
-    (c.in_ok-text.ensures ∙ ap (λ (fs : List Folder). text_for tree_records (record { root = Some (folder_shown c.close-root.result); children = map folder_shown fs })) c.deref.ensures.value)
+    let children : List DirectoryValue = with_children [] (map folder_shown c.into_closed.result.items) in
+    let all : children ≡ children_of c.args.like.now (nodes_shown c.args.nodes.now) = ap (λ (fs : VecDeque Folder Global). with_children [] (map folder_shown fs.items)) c.into_closed.ensures ∙ ap (λ (vs : List DirectoryValue). with_children [] vs) c.in_ok-gathering.ensures.closed in
+    tree_found c.args.like.now (nodes_shown c.args.nodes.now) (folder_shown c.close-root.result) children c.in_ok-text.text.items c.requires root taken below all c.in_ok-text.ensures

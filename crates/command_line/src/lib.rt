@@ -1,10 +1,10 @@
 //! The command line of `remoted`.
 #![tactic(auto)]
 
-ghost use Rattle.std.specs.Prelude.{◌≡◌, ◌≢◌, ◌⊎◌, ℕ, List, Some, None, map, string_bytes, IfOk, IfErr, option_map};
-ghost use Rattle.clap.specs.Words.{all_of, app_of, first_of, found_of, kind_of, new_app, rows_of, subcommand_rows_of};
+ghost use Rattle.std.specs.Prelude.{◌≡◌, ◌≢◌, ◌⊎◌, ℕ, List, Some, None, true, map, string_bytes, IfOk, IfErr, option_map};
+ghost use Rattle.clap.specs.Words.{App, Shape, all_of, app_of, first_of, found_of, kind_of, new_app, new_rule, rows_of, subcommand_rows_of, with_subcommand};
 ghost use Rattle.clap.specs.declared.error.kind.ErrorKind.TheVariants.{DisplayHelp, DisplayVersion};
-ghost use Rattle.command_line.specs.CommandLine.{command_line, file_rule, long_option, number_of, port_rule, send_rule, want_rule, turns_rule, script_command, probe_command, probe_of, work_rule, instances_rule, with_scripts, serve_command, serve_of, file_or_probe_by, invocation_by, invocation_of};
+ghost use Rattle.command_line.specs.CommandLine.{command_line, file_rule, long_option, count_parser, number_of, port_rule, send_rule, want_rule, turns_rule, script_command, probe_command, probe_of, work_rule, instances_rule, serve_command, serve_of, file_or_probe_by, invocation_by, invocation_of};
 ghost use Rattle.command_line.specs.Shown.{invocation_value, invocation_asked, HasApp, HasNoFault, HasRule, HasShape, IsFaultOf, IsFrom};
 
 use clap::error::ErrorKind;
@@ -60,72 +60,95 @@ pub enum Invocation<'a> {
     },
 }
 
+/// An argument that has to be given, and goes by its place.
+fn positional<'a>(alloc: Global, name: &'a str, help: &'a str, action: ArgAction) -> Arg<'a>
+    ensures { HasRule (record (new_rule name.entry.now)
+        { required = true; action = Some action }) result }
+{
+    Arg::new(alloc, name)
+        .help(help)
+        .required(true)
+        .action(action)
+}
+
 fn file<'a>(alloc: Global, lines: &'a str) -> Arg<'a>
     ensures { HasRule file_rule result }
 {
-    Arg::new(alloc, "FILE")
-        .help(lines)
-        .required(true)
-        .action(ArgAction::Set)
-}
-
-/// An option `--NAME VALUE`.
-fn long_option<'a>(alloc: Global, name: &'a str, value: &'a str, help: &'a str) -> Arg<'a>
-    ensures { HasRule (long_option name.entry.now) result }
-{
-    Arg::new(alloc, name)
-        .long(name)
-        .value_name(value)
-        .help(help)
-        .action(ArgAction::Set)
+    positional(alloc, "FILE", lines, ArgAction::Set)
 }
 
 fn instances<'a>(alloc: Global) -> Arg<'a>
     ensures { HasRule instances_rule result }
 {
-    Arg::new(alloc, INSTANCES)
-        .help(
-            "An instance: name, port, quota in bytes, most actions at once, and perhaps its parent",
-        )
-        .required(true)
-        .action(ArgAction::Append)
+    let help =
+        "An instance: name, port, quota in bytes, most actions at once, and perhaps its parent";
+    positional(alloc, INSTANCES, help, ArgAction::Append)
+}
+
+/// An option `--NAME VALUE`.
+fn long_option<'a>(
+    alloc: Global,
+    name: &'a str,
+    value: &'a str,
+    help: &'a str,
+    required: bool,
+) -> Arg<'a>
+    ensures { HasRule (record (long_option name.entry.now) { required = required }) result }
+{
+    Arg::new(alloc, name)
+        .long(name)
+        .value_name(value)
+        .help(help)
+        .required(required)
+        .action(ArgAction::Set)
+}
+
+/// An option `--NAME VALUE` whose value is a whole number from 0 to 2^63 - 1.
+fn count_option<'a>(
+    alloc: Global,
+    name: &'a str,
+    value: &'a str,
+    help: &'a str,
+    required: bool,
+) -> Arg<'a>
+    ensures { HasRule (record (long_option name.entry.now)
+        { required = required; parser = Some count_parser }) result }
+{
+    let option = long_option(alloc, name, value, help, required);
+    option.value_parser(value_parser!(u64).range(..=i64::MAX))
 }
 
 fn send<'a>(alloc: Global) -> Arg<'a>
     ensures { HasRule send_rule result }
 {
-    long_option(alloc, "send", "FILE", "The file whose bytes are sent").required(true)
+    long_option(alloc, "send", "FILE", "The file whose bytes are sent", true)
 }
 
 fn work<'a>(alloc: Global) -> Arg<'a>
     ensures { HasRule work_rule result }
 {
     let help = "The folder for the work of actions; it is made if it is not there";
-    long_option(alloc, "work", "DIR", help).required(true)
+    long_option(alloc, "work", "DIR", help, true)
 }
 
 fn port<'a>(alloc: Global) -> Arg<'a>
     ensures { HasRule port_rule result }
 {
-    long_option(alloc, "port", "P", "The port of 127.0.0.1 to connect to")
-        .required(true)
-        .value_parser(value_parser!(u16).range(1..))
+    let help = "The port of 127.0.0.1 to connect to";
+    long_option(alloc, "port", "P", help, true).value_parser(value_parser!(u16).range(1..))
 }
 
 fn turns<'a>(alloc: Global) -> Arg<'a>
     ensures { HasRule turns_rule result }
 {
-    long_option(alloc, "turns", "T", "How many turns to take at most")
-        .value_parser(value_parser!(u64).range(..=i64::MAX))
-        .default_value("1000000000")
+    let help = "How many turns to take at most";
+    count_option(alloc, "turns", "T", help, false).default_value("1000000000")
 }
 
 fn want<'a>(alloc: Global) -> Arg<'a>
     ensures { HasRule want_rule result }
 {
-    long_option(alloc, "want", "N", "How many bytes to wait for")
-        .required(true)
-        .value_parser(value_parser!(u64).range(..=i64::MAX))
+    count_option(alloc, "want", "N", "How many bytes to wait for", true)
 }
 
 /// A command that has no arguments yet.
@@ -150,29 +173,40 @@ fn script_command<'a>(
 fn probe<'a>(alloc: Global) -> Result<Command<'a>, AllocError>
     ensures { IfOk result (HasShape probe_command) }
 {
-    described(alloc, "probe", PROBE_ABOUT)
-        .arg(port(alloc))?
-        .arg(send(alloc))?
-        .arg(want(alloc))?
-        .arg(turns(alloc))
+    let args = vec![in alloc; port(alloc), send(alloc), want(alloc), turns(alloc)]?;
+    described(alloc, "probe", PROBE_ABOUT).args(args)
 }
 
 fn serve<'a>(alloc: Global) -> Result<Command<'a>, AllocError>
     ensures { IfOk result (HasShape serve_command) }
 {
-    described(alloc, "serve", SERVE_ABOUT)
-        .arg(work(alloc))?
-        .arg(turns(alloc))?
-        .arg(instances(alloc))
+    let args = vec![in alloc; work(alloc), turns(alloc), instances(alloc)]?;
+    described(alloc, "serve", SERVE_ABOUT).args(args)
 }
 
-/// The command with the two that carry out scripts.
-fn with_scripts<'a>(alloc: Global, command: Command<'a>) -> Result<Command<'a>, AllocError>
-    ensures { IfOk result (λ c. app_of c ≡ with_scripts (app_of command.entry)) }
+/// The command with one more below it, where both were made.
+fn with_command<'a>(
+    command: Result<Command<'a>, AllocError>,
+    made: Result<Command<'a>, AllocError>,
+) -> Result<Command<'a>, AllocError>
+    ensures { (app : App) → (shape : Shape) → IfOk command.entry (λ c. app_of c ≡ app)
+        → IfOk made.entry (HasShape shape)
+        → IfOk result (λ c. app_of c ≡ with_subcommand app shape) }
 {
-    command
-        .subcommand(script_command(alloc, "unary", UNARY_ABOUT, UNARY_LINES)?)?
-        .subcommand(script_command(alloc, "replay", REPLAY_ABOUT, REPLAY_LINES)?)
+    // A `drop` is one call, where a `?` that lets a command go has one for each part of it.
+    match command {
+        Ok(command) => match made {
+            Ok(made) => command.subcommand(made),
+            Err(refused) => {
+                drop(command);
+                Err(refused)
+            }
+        },
+        Err(refused) => {
+            drop(made);
+            Err(refused)
+        }
+    }
 }
 
 fn command<'a>(alloc: Global) -> Result<Command<'a>, AllocError>
@@ -181,9 +215,12 @@ fn command<'a>(alloc: Global) -> Result<Command<'a>, AllocError>
     let command = Command::new(alloc, "remoted").version("0.1.0").about(
         "A remote build cache for Bazel. Without a command it carries out the script on standard input",
     );
-    with_scripts(alloc, command)?
-        .subcommand(probe(alloc)?)?
-        .subcommand(serve(alloc)?)
+    let unary = script_command(alloc, "unary", UNARY_ABOUT, UNARY_LINES);
+    let command = with_command(Ok(command), unary);
+    let replay = script_command(alloc, "replay", REPLAY_ABOUT, REPLAY_LINES);
+    let command = with_command(command, replay);
+    let command = with_command(command, probe(alloc));
+    with_command(command, serve(alloc))
 }
 
 fn text<'a>(found: &ArgMatches<'a>, name: &str) -> Option<&'a str>
@@ -347,7 +384,9 @@ fn asked<'a>(
         Ok(matches) => matches,
         Err(error) => return Err(CommandLineError::from(error)),
     };
-    match requested(alloc, &matches)? {
+    let requested = requested(alloc, &matches);
+    drop(matches);
+    match requested? {
         Some(invocation) => Ok(invocation),
         None => Err(missing(command)),
     }
@@ -361,7 +400,9 @@ pub fn parse<'a>(alloc: Global, words: &'a [String]) -> Result<Invocation<'a>, C
     ensures fault { IfErr result (IsFaultOf (map string_bytes words.entry.now)) }
 {
     let mut command = command(alloc)?;
-    asked(alloc, &mut command, words)
+    let asked = asked(alloc, &mut command, words);
+    drop(command);
+    asked
 }
 
 /// The status with which the program ends once an error was printed: 0 after help and the version,

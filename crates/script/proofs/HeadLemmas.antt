@@ -65,14 +65,18 @@ head_of-after_line : (all : List ConfigValue) (s : ReplayScriptValue) (line : Li
 head_of-after_line all s [] = refl
 head_of-after_line all s (byte ∷ line) = head_of-after_words all s (words_of (byte ∷ line))
 
+-- an empty line has no kind
+no_kind : (kind : List ℕ) (arguments : List (List ℕ)) → words_of [] ≡ kind ∷ arguments → bytes_eq kind (codes "instance") ≡ true → ⊥
+no_kind kind arguments words is =
+    let empty : [] ≡ kind = cc in
+    let clash : false ≡ true = ap (λ k. bytes_eq k (codes "instance")) empty ∙ is in
+    cc
+
 -- a line that configures an instance
 pub configures_line : (head : ReplayHeadValue) (line kind : List ℕ) (arguments : List (List ℕ)) (config : ConfigValue) → words_of line ≡ kind ∷ arguments
     → bytes_eq kind (codes "instance") ≡ true → head.has_events ≡ false → option_and_then (config_if_good head.all head.configs) (config_of arguments) ≡ Some config
     → after_head_line head line ≡ Some (head_with_config head config)
-configures_line head [] kind arguments config words is early read =
-    let empty : [] ≡ kind = cc in
-    let clash : false ≡ true = ap (λ k. bytes_eq k (codes "instance")) empty ∙ is in
-    cc
+configures_line head [] kind arguments config words is early read = absurd (no_kind kind arguments words is)
 configures_line head (byte ∷ line) kind arguments config words is early read =
     ap (after_head_words head) words
     ∙ ap (λ b. cond b (cond head.has_events None (option_map (head_with_config head) (option_and_then (config_if_good head.all head.configs) (config_of arguments)))) (option_map (head_with_event head) (event_of kind arguments))) is

@@ -1,14 +1,14 @@
-use Rattle.std.proofs.Common.{◌≡◌, ◌∙◌, ap, ap₂, codes}
-use Rattle.std.proofs.lemmas.Result.{IfOk-weaker}
-use Rattle.clap.specs.Words.{app_of, new_app, with_subcommand}
+use Rattle.std.proofs.Common.{◌≡◌, ◌∙◌, ap, codes}
+use Rattle.clap.specs.Words.{app_of, new_app}
 use Rattle.clap.specs.Simple.{app_of_fields}
-use Rattle.command_line.specs.CommandLine.{with_scripts, with_version}
+use Rattle.command_line.specs.CommandLine.{probe_command, script_command, serve_command, with_version}
 use Rattle.command_line.proofs.command.Goals as goal
 
 pub returns : goal.returns
 returns c =
     let named : app_of c.about-command.result ≡ with_version (new_app (codes "remoted")) =
     ap app_of_fields c.about-command.ensures ∙ ap app_of_fields c.version.ensures ∙ ap with_version c.new.ensures.app in
-    let scripts = c.in_ok-with_scripts.ensures ∙ ap with_scripts named in
-    let third = c.in_ok-subcommand.ensures.shape c.in_ok-probe.ensures.1 ∙ ap₂ with_subcommand scripts c.in_ok-probe.ensures.0 in
-    IfOk-weaker c.subcommand-2.result _ _ (λ m h. h.shape c.in_ok-serve.ensures.1 ∙ ap₂ with_subcommand third c.in_ok-serve.ensures.0) c.subcommand-2.ensures
+    let calls = c.with_command-command.ensures _ (script_command (codes "unary")) named c.script_command-unary.ensures in
+    let events = c.with_command-command-2.ensures _ (script_command (codes "replay")) calls c.script_command-replay.ensures in
+    let probing = c.with_command-command-3.ensures _ probe_command events c.probe.ensures in
+    c.with_command.ensures _ serve_command probing c.serve.ensures

@@ -56,7 +56,6 @@ pub struct StoredTexts<'a> {
 
 /// A server with its instances, by their numbers, over one pool of texts: a text that several
 /// instances have stands there once.
-#[derive(Drop)]
 pub struct Server {
     pool: Pool,
     /// An instance that nothing happens to. It stands in the place of one that takes an event and
@@ -66,6 +65,23 @@ pub struct Server {
     instances: Vec<ServedInstance>,
     /// The number of each one's parent, if it has one.
     parents: Vec<Option<usize>>,
+}
+
+// Written out, so that each exit of a function that owns it has one call in place of one for each
+// part.
+impl Drop for Server {
+    fn drop(self) {
+        let Server {
+            pool,
+            spare,
+            instances,
+            parents,
+        } = self;
+        drop(pool);
+        drop(spare);
+        drop(instances);
+        drop(parents);
+    }
 }
 
 impl Model for Server {

@@ -35,12 +35,27 @@ pub struct Outputs {
 }
 
 /// A run of a server so far: the server, what it put and what it refused.
-#[derive(Drop)]
 pub struct ServerRun {
     server: Server,
     records: Vec<InstanceRecord>,
     strays: Vec<u64>,
     count: u64,
+}
+
+// Written out, so that each exit of a function that owns it has one call in place of one for each
+// part.
+impl Drop for ServerRun {
+    fn drop(self) {
+        let ServerRun {
+            server,
+            records,
+            strays,
+            count: _,
+        } = self;
+        drop(server);
+        drop(records);
+        drop(strays);
+    }
 }
 
 impl Model for ServerRun {
@@ -78,10 +93,13 @@ impl ServerRun {
             → HasTaken configs events self
             → HasTaken configs (events ++ event_value event ∷ []) run) }
     {
-        let count = self.count + 1;
-        let mut server = self.server;
-        let mut records = self.records;
-        let mut strays = self.strays;
+        let ServerRun {
+            mut server,
+            mut records,
+            mut strays,
+            count,
+        } = self;
+        let count = count + 1;
         step_and_note(&mut server, &mut records, &mut strays, event, count)?;
         Ok(ServerRun {
             server,
@@ -99,10 +117,13 @@ impl ServerRun {
             → HasPassed configs events self
             → HasPassed configs (events ++ event_value event ∷ []) run) }
     {
-        let count = self.count + 1;
-        let mut server = self.server;
-        let mut records = self.records;
-        let mut strays = self.strays;
+        let ServerRun {
+            mut server,
+            mut records,
+            mut strays,
+            count,
+        } = self;
+        let count = count + 1;
         step_on_and_note(&mut server, &mut records, &mut strays, event, count)?;
         Ok(ServerRun {
             server,
@@ -149,10 +170,15 @@ impl ServerRun {
             (events : List EventValue) → HasPassed configs events self
             → outputs.strays.items ≡ strays configs events) }
     {
-        Ok(Outputs {
-            instances: outputs_of(alloc, self.records)?,
-            strays: self.strays,
-        })
+        let ServerRun {
+            server,
+            records,
+            strays,
+            count: _,
+        } = self;
+        drop(server);
+        let instances = outputs_of(alloc, records)?;
+        Ok(Outputs { instances, strays })
     }
 }
 

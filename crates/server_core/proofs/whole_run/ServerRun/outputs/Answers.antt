@@ -14,11 +14,11 @@ returns-clause-may c = λ configs events h i config is.
     let own = here.own i config is in
     record {
       output = output_of_run own.came.run.own;
-      there = c.in_ok-outputs_of.ensures.outputs i own.came.run.own own.there.own.noted;
+      there = c.in_ok-instances.ensures.outputs i own.came.run.own own.there.own.noted;
       runs = record {
         came = own.came;
         gives = refl;
-        parent_gives = parent_given c.self.inside.server.instances c.self.inside.records.items c.in_ok-outputs_of.field-0.items (parent_of configs config) own.came.run.parent own.there.beside c.in_ok-outputs_of.ensures.outputs;
+        parent_gives = parent_given c.self.inside.server.instances c.self.inside.records.items c.in_ok-instances.instances.items (parent_of configs config) own.came.run.parent own.there.beside c.in_ok-instances.ensures.outputs;
       };
     }
 
@@ -26,7 +26,7 @@ pub returns-clause-alone : goal.returns-clause-alone
 returns-clause-alone c = λ configs events h i config is.
     let v : RunValue = record { server = c.self.inside.server; records = c.self.inside.records.items; strays = c.self.inside.strays.items; count = c.self.inside.count } in
     let here : HasTaken configs events v = subst (HasTaken configs events) (sym c.self.view_is) h in
-    c.in_ok-outputs_of.ensures.outputs i (run_of_family (family_in configs config) (family_events i (parent_of configs config) events)).own (here.alone i config is).own.noted
+    c.in_ok-instances.ensures.outputs i (run_of_family (family_in configs config) (family_events i (parent_of configs config) events)).own (here.alone i config is).own.noted
 
 pub returns-clause-within : goal.returns-clause-within
 returns-clause-within c = λ configs events h i config is.

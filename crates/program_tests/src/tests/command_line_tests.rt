@@ -1,21 +1,28 @@
 //! What command lines ask for, and which are refused.
 
 use crate::tests::cases::{Case, all_hold};
+use crate::tests::command_line_tests::Wanted::{Asks, Ends};
 use command_line::*;
 use std::alloc::{AllocError, Global};
 use std::test::*;
 
-/// The words of a command line, with one space between two.
-fn words(alloc: Global, line: &str) -> Result<Vec<String>, AllocError> {
-    let mut words = Vec::new(alloc);
+/// Adds the words of a command line, with one space between two.
+fn add_words(alloc: Global, words: &mut Vec<String>, line: &str) -> Result<(), AllocError> {
     for word in line.split(' ') {
         words.push(String::from_str(alloc, word)?)?;
     }
-    Ok(words)
+    Ok(())
+}
+
+/// What comes of a command line.
+enum Wanted {
+    Asks(Task),
+    /// The status with which it ends, where it asks for nothing.
+    Ends(u8),
 }
 
 /// The invocation that a command line asks for.
-struct Asks {
+struct Task {
     kind: &'static str,
     /// Its file or folder.
     file: Option<&'static str>,
@@ -24,7 +31,7 @@ struct Asks {
     instances: &'static [&'static str],
 }
 
-impl Asks {
+impl Task {
     fn is(
         &self,
         kind: &str,
@@ -57,81 +64,87 @@ impl Asks {
     }
 }
 
-impl Case for Asks {
-    fn holds(&self, host: &HostRuntime, line: &str) -> bool {
-        let Ok(words) = words(host.alloc(), line) else {
-            return false;
-        };
-        match parse(host.alloc(), &words) {
-            Ok(invocation) => self.is_invocation(&invocation),
-            Err(_) => false,
+impl Wanted {
+    fn is(&self, outcome: &Result<Invocation<'_>, CommandLineError>) -> bool {
+        match (self, outcome) {
+            (Asks(task), Ok(invocation)) => task.is_invocation(invocation),
+            (Ends(number), Err(CommandLineError::Answered(error))) => status(error) == *number,
+            _ => false,
         }
     }
 }
 
-static TASKS: [(&str, Asks); 7] = [
+impl Case for Wanted {
+    fn holds(&self, host: &HostRuntime, line: &str) -> bool {
+        let alloc = host.alloc();
+        let mut words = Vec::new(alloc);
+        add_words(alloc, &mut words, line).is_ok() && self.is(&parse(alloc, &words))
+    }
+}
+
+static TASKS: [(&str, Wanted); 7] = [
     (
         "remoted",
-        Asks {
+        Asks(Task {
             kind: "unary",
             file: None,
             numbers: (0, 0, 0),
             instances: &[],
-        },
+        }),
     ),
     (
         "remoted unary calls.txt",
-        Asks {
+        Asks(Task {
             kind: "unary",
             file: Some("calls.txt"),
             numbers: (0, 0, 0),
             instances: &[],
-        },
+        }),
     ),
     (
         "remoted replay events.txt",
-        Asks {
+        Asks(Task {
             kind: "replay",
             file: Some("events.txt"),
             numbers: (0, 0, 0),
             instances: &[],
-        },
+        }),
     ),
     (
         "remoted probe --port 1 --send in.bin --want 0",
-        Asks {
+        Asks(Task {
             kind: "probe",
             file: Some("in.bin"),
             numbers: (1, 0, 1000000000),
             instances: &[],
-        },
+        }),
     ),
     (
         "remoted probe --turns 0 --want 9223372036854775807 --send in.bin --port 65535",
-        Asks {
+        Asks(Task {
             kind: "probe",
             file: Some("in.bin"),
             numbers: (65535, 9223372036854775807, 0),
             instances: &[],
-        },
+        }),
     ),
     (
         "remoted serve --work here a:1:2:3",
-        Asks {
+        Asks(Task {
             kind: "serve",
             file: Some("here"),
             numbers: (1000000000, 0, 0),
             instances: &["a:1:2:3"],
-        },
+        }),
     ),
     (
         "remoted serve a:1:2:3 --turns 5 --work here b:4:5:6 no-instance",
-        Asks {
+        Asks(Task {
             kind: "serve",
             file: Some("here"),
             numbers: (5, 0, 0),
             instances: &["a:1:2:3", "b:4:5:6", "no-instance"],
-        },
+        }),
     ),
 ];
 
@@ -140,22 +153,7 @@ fn invocations(rt: HostRuntime) {
     all_hold(&rt, &rt, &TASKS);
 }
 
-/// The status of a command line that asks for nothing.
-struct Ends(u8);
-
-impl Case for Ends {
-    fn holds(&self, host: &HostRuntime, line: &str) -> bool {
-        let Ok(words) = words(host.alloc(), line) else {
-            return false;
-        };
-        match parse(host.alloc(), &words) {
-            Err(CommandLineError::Answered(error)) => status(&error) == self.0,
-            _ => false,
-        }
-    }
-}
-
-static MISTAKES_AND_HELP: [(&str, Ends); 22] = [
+static MISTAKES_AND_HELP: [(&str, Wanted); 22] = [
     ("remoted unary", Ends(2)),
     ("remoted unary one two", Ends(2)),
     ("remoted replay", Ends(2)),

@@ -29,42 +29,48 @@ const LONG_TEXT: &[u8] =
 const SHA512_TWO_BLOCKS: &str =
     "8e959b75dae313da8cf4f72814fc143f8f7779c6eb9f7fa17299aeadb6889018501d289e4900f7e4331b99dec4b5433ac7d329eeb6dd26545e96e55b874be909";
 
-/// Whether the digest of this hash and of the text's size names the text, and no longer text does.
-fn is_named(hash: &str, text: &[u8]) -> bool {
-    let Some(written) = Digest::parse(hash, text.len() as i64) else {
-        return false;
-    };
-    let longer = Digest {
-        size: written.size + 1,
-        ..written
-    };
-    let own = Digest::by(written.function(), text);
-    own == written
-        && is_same(&own, &written)
-        && matches(&written, text)
-        && !matches(&written, b"abd")
-        && written.is_empty() == text.is_empty()
-        && !matches(&longer, text)
-        && !is_same(&written, &longer)
-        && !longer.is_empty()
+/// A text that the digest of a hash and of the text's size names, and that no digest of a longer
+/// text names.
+struct Names(&'static [u8]);
+
+impl Case for Names {
+    fn holds(&self, _host: &HostRuntime, hash: &str) -> bool {
+        let text = self.0;
+        let Some(written) = Digest::parse(hash, text.len() as i64) else {
+            return false;
+        };
+        let longer = Digest {
+            size: written.size + 1,
+            ..written
+        };
+        let own = Digest::by(written.function(), text);
+        own == written
+            && is_same(&own, &written)
+            && matches(&written, text)
+            && !matches(&written, b"abd")
+            && written.is_empty() == text.is_empty()
+            && !matches(&longer, text)
+            && !is_same(&written, &longer)
+            && !longer.is_empty()
+    }
 }
 
-fn names_texts() -> bool {
-    is_named(ABC, b"abc")
-        && is_named(EMPTY, b"")
-        && is_named(
-            TWO_BLOCKS,
-            b"abcdbcdecdefdefgefghfghighijhijkijkljklmklmnlmnomnopnopq",
-        )
-        && is_named(SHA512_ABC, b"abc")
-        && is_named(SHA512_EMPTY, b"")
-        && is_named(SHA512_TWO_BLOCKS, LONG_TEXT)
-        && !is_same(&Digest::of(b""), &Digest::by(HashFunction::Sha512, b""))
-}
+static TEXTS: [(&str, Names); 6] = [
+    (ABC, Names(b"abc")),
+    (EMPTY, Names(b"")),
+    (
+        TWO_BLOCKS,
+        Names(b"abcdbcdecdefdefgefghfghighijhijkijkljklmklmnlmnomnopnopq"),
+    ),
+    (SHA512_ABC, Names(b"abc")),
+    (SHA512_EMPTY, Names(b"")),
+    (SHA512_TWO_BLOCKS, Names(LONG_TEXT)),
+];
 
 #[test]
 fn known_texts(rt: HostRuntime) {
-    assert!(rt; names_texts());
+    all_hold(&rt, &rt, &TEXTS);
+    assert!(rt; !is_same(&Digest::of(b""), &Digest::by(HashFunction::Sha512, b"")));
 }
 
 /// A size, and whether a digest of it is read.
@@ -153,6 +159,7 @@ fn joins_pieces(whole: &Digest) -> bool {
 
 #[test]
 fn pieces(rt: HostRuntime) {
-    assert!(rt; joins_pieces(&Digest::of(b"abc")));
-    assert!(rt; joins_pieces(&Digest::by(HashFunction::Sha512, b"abc")));
+    assert!(rt;
+        joins_pieces(&Digest::of(b"abc")) && joins_pieces(&Digest::by(HashFunction::Sha512, b"abc"))
+    );
 }

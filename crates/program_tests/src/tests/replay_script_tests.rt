@@ -52,17 +52,21 @@ fn is_failure(event: &Event) -> bool {
     }
 }
 
-fn is_next_exit(alloc: Global, events: &mut EventReader) -> bool {
-    match events.next_event(alloc) {
-        Ok(Some(event)) => is_exit(&event),
+/// Whether this is the script's event of this number.
+fn is_event(number: usize, event: &Event) -> bool {
+    match number {
+        0 => is_exit(event),
+        1 => is_failure(event),
         _ => false,
     }
 }
 
-fn is_next_failure(alloc: Global, events: &mut EventReader) -> bool {
+/// Whether the script's event of this number comes next, or after the last one the end.
+fn is_next(alloc: Global, events: &mut EventReader, number: usize) -> bool {
     match events.next_event(alloc) {
-        Ok(Some(event)) => is_failure(&event),
-        _ => false,
+        Ok(Some(event)) => is_event(number, &event),
+        Ok(None) => number == 2,
+        Err(_) => false,
     }
 }
 
@@ -70,9 +74,7 @@ const SCRIPT: &[u8] =
     b"exit 9 0 18446744073709551615 -2147483648 - 6f75 a/b=61 x=y=- =0000\nfail 9 0 3\n";
 
 fn reads_outcomes(alloc: Global, events: &mut EventReader) -> bool {
-    is_next_exit(alloc, events)
-        && is_next_failure(alloc, events)
-        && matches!(events.next_event(alloc), Ok(None))
+    is_next(alloc, events, 0) && is_next(alloc, events, 1) && is_next(alloc, events, 2)
 }
 
 fn is_read(alloc: Global) -> bool {

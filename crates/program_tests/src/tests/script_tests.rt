@@ -3,7 +3,7 @@
 use crate::tests::cases::{Case, all_hold};
 use decimals::decimal;
 use script::*;
-use std::alloc::AllocError;
+use std::alloc::Global;
 use std::test::*;
 
 fn are(parts: Parts, wanted: &[&str]) -> bool {
@@ -126,15 +126,18 @@ fn bytes_in_hexadecimal(rt: HostRuntime) {
     all_hold(&rt, &rt, &BYTES);
 }
 
-fn write(out: &mut Vec<u8>) -> Result<(), AllocError> {
-    write_hex(out, b"")?;
-    out.push(b' ')?;
-    write_hex(out, &[0, 10, 171, 255])
+fn writes(out: &mut Vec<u8>) -> bool {
+    write_hex(out, b"").is_ok()
+        && out.push(b' ').is_ok()
+        && write_hex(out, &[0, 10, 171, 255]).is_ok()
+}
+
+fn are_written(alloc: Global) -> bool {
+    let mut out = Vec::new(alloc);
+    writes(&mut out) && out.as_slice() == b"- 000aabff".as_slice()
 }
 
 #[test]
 fn bytes_are_written(rt: HostRuntime) {
-    let mut out = Vec::new(rt.alloc());
-    let written = write(&mut out).is_ok();
-    assert!(rt; written && out.as_slice() == b"- 000aabff".as_slice());
+    assert!(rt; are_written(rt.alloc()));
 }

@@ -32,23 +32,25 @@ fn taking(count: u32) -> Event {
     }
 }
 
-/// Whether the server refuses an event for this reason.
-fn refuses(server: &mut Server, event: Event, reason: EventRefusal) -> bool {
-    match server.step(event) {
-        Ok(_) => false,
-        Err(refusal) => refusal == reason,
-    }
+/// Whether the server refuses an event for this reason, or takes it where there is none.
+fn answers(server: &mut Server, event: Event, reason: Option<EventRefusal>) -> bool {
+    server.step(event).err() == reason
+}
+
+/// Whether this is pending at connection 7 of an instance, and it has ended or not; where it is not
+/// open there is neither.
+fn is_at(server: &Server, instance: u32, pending: Option<&[u8]>, ended: Option<bool>) -> bool {
+    server.pending(instance, 7) == pending && server.ended(instance, 7) == ended
 }
 
 /// Connection 7 of instance 1 is opened. Then an event is a stray, and one is refused.
 fn is_begun(server: &mut Server) -> bool {
-    server.pending(1, 7).is_none()
-        && server.step(opening(1)).is_ok()
-        && server.pending(1, 7) == Some(GREETING)
-        && server.ended(1, 7) == Some(false)
-        && refuses(server, opening(2), EventRefusal::NoSuchInstance)
-        && refuses(server, taking(16), EventRefusal::TookTooMuch)
-        && server.pending(1, 7) == Some(GREETING)
+    is_at(server, 1, None, None)
+        && answers(server, opening(1), None)
+        && is_at(server, 1, Some(GREETING), Some(false))
+        && answers(server, opening(2), Some(EventRefusal::NoSuchInstance))
+        && answers(server, taking(16), Some(EventRefusal::TookTooMuch))
+        && is_at(server, 1, Some(GREETING), Some(false))
 }
 
 fn wrong(alloc: Global) -> Result<Event, AllocError> {
@@ -62,7 +64,7 @@ fn wrong(alloc: Global) -> Result<Event, AllocError> {
 /// The connection gets what no client sends first.
 fn is_ended(alloc: Global, server: &mut Server) -> bool {
     match wrong(alloc) {
-        Ok(wrong) => server.step(wrong).is_ok() && server.ended(1, 7) == Some(true),
+        Ok(wrong) => answers(server, wrong, None) && server.ended(1, 7) == Some(true),
         Err(_) => false,
     }
 }
@@ -71,10 +73,8 @@ fn is_ended(alloc: Global, server: &mut Server) -> bool {
 fn is_apart(server: &Server) -> bool {
     server.instance(1).is_some()
         && server.instance(2).is_none()
-        && server.pending(0, 7).is_none()
-        && server.ended(0, 7).is_none()
-        && server.pending(2, 7).is_none()
-        && server.ended(2, 7).is_none()
+        && is_at(server, 0, None, None)
+        && is_at(server, 2, None, None)
 }
 
 /// Two instances, `a` and `b`.

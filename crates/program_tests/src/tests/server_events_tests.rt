@@ -5,25 +5,30 @@ use server_events::*;
 use std::alloc::{AllocError, Global};
 use std::test::*;
 
-/// An instance's name, quota and slots.
-type Wanted = (&'static str, u64, u32);
+/// An instance's name, quota, slots and its parent's name.
+type Wanted = (&'static str, u64, u32, Option<&'static str>);
 
 fn config(alloc: Global, wanted: &Wanted) -> Result<InstanceConfig, AllocError> {
-    let (name, quota, slots) = *wanted;
+    let (name, quota, slots, parent) = *wanted;
+    let parent = match parent {
+        Some(parent) => Some(String::from_str(alloc, parent)?),
+        None => None,
+    };
     Ok(InstanceConfig {
         name: String::from_str(alloc, name)?,
         quota,
         slots,
-        parent: None,
+        parent,
     })
 }
 
-fn configs(alloc: Global, wanted: &[Wanted]) -> Result<Vec<InstanceConfig>, AllocError> {
-    let mut configs = Vec::new(alloc);
+type Instances = Vec<InstanceConfig>;
+
+fn add(alloc: Global, instances: &mut Instances, wanted: &[Wanted]) -> Result<(), AllocError> {
     for one in wanted {
-        configs.push(config(alloc, one)?)?;
+        instances.push(config(alloc, one)?)?;
     }
-    Ok(configs)
+    Ok(())
 }
 
 /// A word for a fault, and its instance.
@@ -52,10 +57,11 @@ struct Configured(&'static [Wanted], Option<Told>);
 
 impl Case for Configured {
     fn holds(&self, host: &HostRuntime, _name: &str) -> bool {
-        match configs(host.alloc(), self.0) {
-            Ok(configs) => told_of(Configs::new(configs).err()) == self.1,
-            Err(_) => false,
+        let mut instances = Vec::new(host.alloc());
+        if add(host.alloc(), &mut instances, self.0).is_err() {
+            return false;
         }
+        told_of(Configs::new(instances).err()) == self.1
     }
 }
 
@@ -63,40 +69,46 @@ static CASES: [(&str, Configured); 9] = [
     ("none", Configured(&[], None)),
     (
         "least and most",
-        Configured(&[("a", 0, 0), ("b", 1 << 40, 64)], None),
+        Configured(&[("a", 0, 0, None), ("b", 1 << 40, 64, None)], None),
     ),
     (
         "a name with a capital",
-        Configured(&[("a", 1, 1), ("A", u64::MAX, u32::MAX)], Some(("name", 1))),
+        Configured(
+            &[("a", 1, 1, None), ("A", u64::MAX, u32::MAX, None)],
+            Some(("name", 1)),
+        ),
     ),
     (
         "a word of resource names",
-        Configured(&[("blobs", 1, 1), ("", 1, 1)], Some(("name", 0))),
+        Configured(
+            &[("blobs", 1, 1, None), ("", 1, 1, None)],
+            Some(("name", 0)),
+        ),
     ),
     (
         "a quota and slots",
-        Configured(&[("a", (1 << 40) + 1, 65)], Some(("quota", 0))),
+        Configured(&[("a", (1 << 40) + 1, 65, None)], Some(("quota", 0))),
     ),
     (
         "slots and a name once more",
-        Configured(&[("a", 1, 1), ("a", 1, 65)], Some(("slots", 1))),
+        Configured(&[("a", 1, 1, None), ("a", 1, 65, None)], Some(("slots", 1))),
     ),
     (
         "a name once more",
         Configured(
-            &[("a", 1, 1), ("b", 1, 1), ("a", 2, 2)],
+            &[("a", 1, 1, None), ("b", 1, 1, None), ("a", 2, 2, None)],
             Some(("duplicate", 2)),
         ),
     ),
     // The first instance that has a fault, whatever the later ones have.
     (
         "slots before a name",
-        Configured(&[("a", 1, 65), ("B", 1, 1)], Some(("slots", 0))),
+        Configured(&[("a", 1, 65, None), ("B", 1, 1, None)], Some(("slots", 0))),
     ),
     (
         "a name once more before another",
         Configured(
-            &[("a", 1, 1), ("a", 1, 1), ("B", 1, 1)],
+            &[("a", 1, 1, None), ("a", 1, 1, None), ("B", 1, 1, None)],
             Some(("duplicate", 1)),
         ),
     ),
@@ -107,18 +119,17 @@ fn faults(rt: HostRuntime) {
     all_hold(&rt, &rt, &CASES);
 }
 
-/// Instances of these names: 256 of their numbers, and perhaps one in front of them.
-fn numbered(alloc: Global, front: &[Wanted]) -> Result<Vec<InstanceConfig>, AllocError> {
-    let mut all = configs(alloc, front)?;
+/// Adds 256 instances, whose names are their numbers.
+fn add_numbered(alloc: Global, instances: &mut Instances) -> Result<(), AllocError> {
     for number in 0..256u32 {
-        all.push(InstanceConfig {
+        instances.push(InstanceConfig {
             name: number.to_string(alloc)?,
             quota: 1,
             slots: 1,
             parent: None,
         })?;
     }
-    Ok(all)
+    Ok(())
 }
 
 fn are_numbered(configs: &Configs) -> bool {
@@ -129,21 +140,25 @@ fn are_numbered(configs: &Configs) -> bool {
 }
 
 fn takes_256(alloc: Global) -> bool {
-    match numbered(alloc, &[]) {
-        Ok(configs) => match Configs::new(configs) {
-            Ok(configs) => are_numbered(&configs),
-            Err(_) => false,
-        },
+    let mut instances = Vec::new(alloc);
+    if add_numbered(alloc, &mut instances).is_err() {
+        return false;
+    }
+    match Configs::new(instances) {
+        Ok(configs) => are_numbered(&configs),
         Err(_) => false,
     }
 }
 
 /// There are too many before any other fault.
 fn takes_no_more(alloc: Global) -> bool {
-    match numbered(alloc, &[("A", 1, 1)]) {
-        Ok(configs) => told_of(Configs::new(configs).err()) == Some(("many", 0)),
-        Err(_) => false,
+    let mut instances = Vec::new(alloc);
+    if add(alloc, &mut instances, &[("A", 1, 1, None)]).is_err()
+        || add_numbered(alloc, &mut instances).is_err()
+    {
+        return false;
     }
+    told_of(Configs::new(instances).err()) == Some(("many", 0))
 }
 
 #[test]
@@ -151,25 +166,38 @@ fn too_many(rt: HostRuntime) {
     assert!(rt; takes_256(rt.alloc()) && takes_no_more(rt.alloc()));
 }
 
-/// Instances, one after them, and its fault.
-struct After(&'static [Wanted], Wanted, Option<Told>);
+/// Instances, and the fault of the last one after the others.
+struct LastAfter(&'static [Wanted], Option<Told>);
 
-impl Case for After {
+impl Case for LastAfter {
     fn holds(&self, host: &HostRuntime, _name: &str) -> bool {
-        match (configs(host.alloc(), self.0), config(host.alloc(), &self.1)) {
-            (Ok(others), Ok(last)) => told_of(own_fault(&others, &last)) == self.2,
-            _ => false,
+        let mut instances = Vec::new(host.alloc());
+        if add(host.alloc(), &mut instances, self.0).is_err() {
+            return false;
+        }
+        match instances.as_slice() {
+            [others @ .., last] => told_of(own_fault(others, last)) == self.1,
+            [] => false,
         }
     }
 }
 
-static OWN_FAULTS: [(&str, After); 3] = [
-    ("another name", After(&[("a", 1, 1)], ("b", 1, 1), None)),
+static OWN_FAULTS: [(&str, LastAfter); 3] = [
+    (
+        "another name",
+        LastAfter(&[("a", 1, 1, None), ("b", 1, 1, None)], None),
+    ),
     (
         "the same name",
-        After(&[("a", 1, 1)], ("a", 1, 1), Some(("duplicate", 1))),
+        LastAfter(
+            &[("a", 1, 1, None), ("a", 1, 1, None)],
+            Some(("duplicate", 1)),
+        ),
     ),
-    ("slots", After(&[], ("a", 1, 65), Some(("slots", 0)))),
+    (
+        "slots",
+        LastAfter(&[("a", 1, 65, None)], Some(("slots", 0))),
+    ),
 ];
 
 #[test]
@@ -177,69 +205,62 @@ fn faults_of_one(rt: HostRuntime) {
     all_hold(&rt, &rt, &OWN_FAULTS);
 }
 
-/// An instance's name and its parent's.
-type Child = (&'static str, Option<&'static str>);
-
-fn child(alloc: Global, wanted: &Child) -> Result<InstanceConfig, AllocError> {
-    let mut made = config(alloc, &(wanted.0, 1, 1))?;
-    if let Some(parent) = wanted.1 {
-        made.parent = Some(String::from_str(alloc, parent)?);
-    }
-    Ok(made)
-}
-
-fn children(alloc: Global, wanted: &[Child]) -> Result<Vec<InstanceConfig>, AllocError> {
-    let mut configs = Vec::new(alloc);
-    for one in wanted {
-        configs.push(child(alloc, one)?)?;
-    }
-    Ok(configs)
-}
-
-/// Instances that may build on others, and their fault.
-struct Family(&'static [Child], Option<Told>);
-
-impl Case for Family {
-    fn holds(&self, host: &HostRuntime, _name: &str) -> bool {
-        match children(host.alloc(), self.0) {
-            Ok(configs) => told_of(Configs::new(configs).err()) == self.1,
-            Err(_) => false,
-        }
-    }
-}
-
-static FAMILIES: [(&str, Family); 7] = [
+/// Instances that may build on others.
+static FAMILIES: [(&str, Configured); 7] = [
     (
         "two children, one before their parent",
-        Family(&[("a", Some("p")), ("p", None), ("b", Some("p"))], None),
+        Configured(
+            &[
+                ("a", 1, 1, Some("p")),
+                ("p", 1, 1, None),
+                ("b", 1, 1, Some("p")),
+            ],
+            None,
+        ),
     ),
     (
         "no such name",
-        Family(&[("a", None), ("b", Some("c"))], Some(("parent", 1))),
+        Configured(
+            &[("a", 1, 1, None), ("b", 1, 1, Some("c"))],
+            Some(("parent", 1)),
+        ),
     ),
     (
         "the own name",
-        Family(&[("a", Some("a"))], Some(("parent", 0))),
+        Configured(&[("a", 1, 1, Some("a"))], Some(("parent", 0))),
     ),
     (
         "a parent that has a parent",
-        Family(
-            &[("p", None), ("b", Some("a")), ("a", Some("p"))],
+        Configured(
+            &[
+                ("p", 1, 1, None),
+                ("b", 1, 1, Some("a")),
+                ("a", 1, 1, Some("p")),
+            ],
             Some(("parent", 1)),
         ),
     ),
     (
         "two that build on each other",
-        Family(&[("a", Some("b")), ("b", Some("a"))], Some(("parent", 0))),
+        Configured(
+            &[("a", 1, 1, Some("b")), ("b", 1, 1, Some("a"))],
+            Some(("parent", 0)),
+        ),
     ),
     (
         "no name",
-        Family(&[("p", None), ("a", Some(""))], Some(("parent", 1))),
+        Configured(
+            &[("p", 1, 1, None), ("a", 1, 1, Some(""))],
+            Some(("parent", 1)),
+        ),
     ),
     // A fault of an instance by itself comes first, wherever it stands.
     (
         "a later name before a parent",
-        Family(&[("a", Some("c")), ("B", None)], Some(("name", 1))),
+        Configured(
+            &[("a", 1, 1, Some("c")), ("B", 1, 1, None)],
+            Some(("name", 1)),
+        ),
     ),
 ];
 
@@ -248,17 +269,41 @@ fn parents(rt: HostRuntime) {
     all_hold(&rt, &rt, &FAMILIES);
 }
 
-/// The number of the last instance's parent.
-fn last_parent(alloc: Global, wanted: &[Child]) -> Option<usize> {
-    let configs = Configs::new(children(alloc, wanted).ok()?).ok()?;
+/// Instances, and the number of the last one's parent.
+struct LastParent(&'static [Wanted], Option<usize>);
+
+fn last_parent(configs: &Configs) -> Option<usize> {
     configs.parent_of(configs.instances().last()?)
 }
 
+impl Case for LastParent {
+    fn holds(&self, host: &HostRuntime, _name: &str) -> bool {
+        let mut instances = Vec::new(host.alloc());
+        if add(host.alloc(), &mut instances, self.0).is_err() {
+            return false;
+        }
+        match Configs::new(instances) {
+            Ok(configs) => last_parent(&configs) == self.1,
+            Err(_) => false,
+        }
+    }
+}
+
+static PARENTS: [(&str, LastParent); 2] = [
+    (
+        "a child",
+        LastParent(
+            &[("o", 1, 1, None), ("p", 1, 1, None), ("a", 1, 1, Some("p"))],
+            Some(1),
+        ),
+    ),
+    (
+        "no parent",
+        LastParent(&[("p", 1, 1, None), ("o", 1, 1, None)], None),
+    ),
+];
+
 #[test]
 fn numbers_of_parents(rt: HostRuntime) {
-    let alloc = rt.alloc();
-    assert!(rt;
-        last_parent(alloc, &[("o", None), ("p", None), ("a", Some("p"))]) == Some(1)
-            && last_parent(alloc, &[("p", None), ("o", None)]).is_none()
-    );
+    all_hold(&rt, &rt, &PARENTS);
 }

@@ -2,7 +2,7 @@
 
 use crate::tests::cases::{Case, all_hold};
 use program_status::Status;
-use std::alloc::{AllocError, Global};
+use std::alloc::Global;
 use std::io;
 use std::test::*;
 use unary::*;
@@ -26,24 +26,23 @@ struct Upload {
     printed: &'static str,
 }
 
-fn write_upload(script: &mut Vec<u8>, upload: &Upload, zeros: &[u8]) -> Result<(), AllocError> {
-    script.extend_from_slice(b"instance a 10000000\ncall a BatchUpdateBlobs ")?;
-    script.extend_from_slice(upload.front.as_bytes())?;
-    script.extend_from_slice(zeros)?;
-    script.extend_from_slice(b"\n")
-}
-
-fn script_of(alloc: Global, upload: &Upload) -> Result<Vec<u8>, AllocError> {
-    let zeros = vec![in alloc; b'0'; upload.digits]?;
-    let mut script = Vec::new(alloc);
-    write_upload(&mut script, upload, &zeros)?;
-    Ok(script)
+fn writes_upload(script: &mut Vec<u8>, upload: &Upload, zeros: &[u8]) -> bool {
+    let start = b"instance a 10000000\ncall a BatchUpdateBlobs ";
+    script.extend_from_slice(start).is_ok()
+        && script.extend_from_slice(upload.front.as_bytes()).is_ok()
+        && script.extend_from_slice(zeros).is_ok()
+        && script.push(b'\n').is_ok()
 }
 
 impl Case for Upload {
     fn holds(&self, host: &HostRuntime, _name: &str) -> bool {
-        match script_of(host.alloc(), self) {
-            Ok(script) => prints(host.alloc(), &script, self.printed.as_bytes()),
+        let alloc = host.alloc();
+        let mut script = Vec::new(alloc);
+        match vec![in alloc; b'0'; self.digits] {
+            Ok(zeros) => {
+                writes_upload(&mut script, self, &zeros)
+                    && prints(alloc, &script, self.printed.as_bytes())
+            }
             Err(_) => false,
         }
     }
@@ -95,18 +94,20 @@ impl io::Write for Broken {
 
 const FAILURE: &[u8] = b"remoted: input or output failed\n";
 
+/// Whether a run fails, and tells so.
+fn tells_failure<I: io::Read, O: io::Write>(alloc: Global, input: &mut I, output: &mut O) -> bool {
+    let mut told = Vec::new(alloc);
+    unary(alloc, input, output, &mut told) == Status::Failed && told.as_slice() == FAILURE
+}
+
 fn tells_of_a_broken_reader(alloc: Global) -> bool {
     let mut written = Vec::new(alloc);
-    let mut told = Vec::new(alloc);
-    let ended = unary(alloc, &mut Broken, &mut written, &mut told);
-    ended == Status::Failed && written.is_empty() && told.as_slice() == FAILURE
+    tells_failure(alloc, &mut Broken, &mut written) && written.is_empty()
 }
 
 fn tells_of_a_broken_writer(alloc: Global) -> bool {
     let mut input = b"instance a 1\nput a -\n".as_slice();
-    let mut told = Vec::new(alloc);
-    let ended = unary(alloc, &mut input, &mut Broken, &mut told);
-    ended == Status::Failed && told.as_slice() == FAILURE
+    tells_failure(alloc, &mut input, &mut Broken)
 }
 
 fn fails_where_nothing_can_be_told(alloc: Global) -> bool {

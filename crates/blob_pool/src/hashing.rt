@@ -145,7 +145,7 @@ pub fn end(progress: &mut Progress) -> Digests
     };
     let digests = match mem::replace(progress, Progress::Ended(nothing)) {
         Progress::Going(hashing) => hashing.finish(),
-        Progress::Ended(digests) => digests,
+        Progress::Ended(_) => unreachable!(),
     };
     *progress = Progress::Ended(digests);
     digests

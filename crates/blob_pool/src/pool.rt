@@ -11,7 +11,7 @@ use crate::draft::Draft;
 use crate::hold::{Hold, Kept, keep};
 use crate::index::Index;
 use crate::slot::Slot;
-use crate::slots::{hold_again, put_text, take_text, text};
+use crate::slots::{hold_again, put_text, take_text, text, totals};
 use digest::{Digest, HashFunction};
 use slab::Slab;
 use std::alloc::{AllocError, Global};
@@ -22,7 +22,6 @@ pub struct Pool {
     alloc: Global,
     slots: Slab<Slot>,
     index: Index,
-    bytes: u128,
 }
 
 // Written out, so that no crate above proves again that each part of it may be dropped.
@@ -32,7 +31,6 @@ impl Drop for Pool {
             slots,
             index,
             alloc: _,
-            bytes: _,
         } = self;
         drop(slots);
         drop(index);
@@ -47,7 +45,7 @@ impl Model for Pool {
 
     ghost view = { λ p. p.slots.slots };
 
-    ghost invariant = { λ p. IsPool p.slots.slots p.index p.bytes };
+    ghost invariant = { λ p. IsPool p.slots.slots p.index };
 }
 
 impl Pool {
@@ -59,7 +57,6 @@ impl Pool {
             alloc,
             slots: Slab::new(alloc),
             index: Index::new(alloc),
-            bytes: 0,
         }
     }
 
@@ -72,7 +69,7 @@ impl Pool {
         // Nothing stands there that nobody holds.
         ensures held { (k : ℕ) → held_text_at self.now k ≢ None → 0 < count_at self.now k }
     {
-        (self.slots.len() as u64, self.bytes)
+        totals(&self.slots)
     }
 
     /// Bytes that a digest is known to name, to be sealed here. Under one by SHA-256 they are not
@@ -98,7 +95,7 @@ impl Pool {
         ensures err { OnErr result (self.new ≡ self.old) }
         ensures back { IfErr result (λ given. given.text ≡ draft.text) }
     {
-        match put_text(&mut self.slots, &mut self.index, &mut self.bytes, draft) {
+        match put_text(&mut self.slots, &mut self.index, draft) {
             Ok(slot) => Ok(Hold::of(slot)),
             Err(draft) => Err(draft),
         }
@@ -152,7 +149,7 @@ impl Pool {
         ensures { Moves self.old self.new (one_at hold) no_holders }
     {
         let slot = keep(hold).number();
-        take_text(&mut self.slots, &mut self.index, &mut self.bytes, slot);
+        take_text(&mut self.slots, &mut self.index, slot);
     }
 
     /// The right that was kept. It takes no memory.

@@ -3,6 +3,7 @@
 ghost use Rattle.std.specs.Prelude.{◌≡◌, ◌+◌, ◌-◌, ◌<◌, ◌≤◌, ◌^◌, ◌↔◌, ℕ, [], length, Some, None, IsTrue, IfSome, IfNone, IfOk, IfErr, OnErr, slice_index_or};
 ghost use Rattle.std.specs.Option.{option_copied};
 ghost use Rattle.digest.specs.Naming.{digest_of};
+ghost use Rattle.slab.specs.Slab.{slab_len};
 ghost use Rattle.paged_text.specs.declared.text.TheConstants.{MOST_BYTES};
 ghost use Rattle.blob_pool.specs.Slots.{held_text_at, text_at, count_at, Puts, bytes_stored};
 ghost use Rattle.blob_pool.specs.Moves.{Moves, HasRoom, no_holders, one_at};
@@ -21,7 +22,7 @@ fn has_text(slots: &Slab<Slot>, slot: usize, text: &PagedText) -> bool
         × (text_at slots.now.slots slot ≡ text.now)) }
 {
     match slots.get(slot) {
-        Some(held) => held.count() > 0 && held.text().is_same(text),
+        Some(held) => held.text().is_same(text),
         None => false,
     }
 }
@@ -68,18 +69,14 @@ fn add_holder(slots: &mut Slab<Slot>, slot: usize)
               slot + 1;
         })) }
 {
-    // A slot with a holder is there; for any other there is nothing to do.
-    if let Some(held) = slots.get_mut(slot) {
-        held.add_holder();
-    }
+    slots[slot].add_holder();
 }
 
 /// Holds a text of a pool that is held already.
 pub fn hold_again(slots: &mut Slab<Slot>, slot: usize)
     requires held { 0 < count_at slots.old.slots slot }
     requires room { count_at slots.old.slots slot < 2 ^ 127 }
-    ensures pool { (index : Listing) (bytes : ℕ) → IsPool slots.old.slots index bytes →
-        IsPool slots.new.slots index bytes }
+    ensures pool { (index : Listing) → IsPool slots.old.slots index → IsPool slots.new.slots index }
     ensures moves { Moves slots.old.slots slots.new.slots no_holders (one_at slot) }
     ensures text { text_at slots.new.slots slot ≡ text_at slots.old.slots slot }
 {
@@ -96,33 +93,15 @@ fn take_holder(slots: &mut Slab<Slot>, slot: usize)
               slot - 1;
         })) }
 {
-    // A slot with two holders is there; for any other there is nothing to do.
-    if let Some(held) = slots.get_mut(slot) {
-        held.take_holder();
-    }
-}
-
-/// How many holders a slot has.
-fn count(slots: &Slab<Slot>, slot: usize) -> u128
-    ensures { result ≡ count_at slots.now.slots slot }
-{
-    match slots.get(slot) {
-        Some(held) => held.count(),
-        None => 0,
-    }
+    slots[slot].take_holder();
 }
 
 /// Holds a text: in the slot that has it already, or in a free one. The draft is given back for
 /// want of memory only.
-pub fn put_text(
-    slots: &mut Slab<Slot>,
-    index: &mut Index,
-    bytes: &mut u128,
-    draft: Draft,
-) -> Result<usize, Draft>
-    requires pool { IsPool slots.old.slots index.old bytes.old }
+pub fn put_text(slots: &mut Slab<Slot>, index: &mut Index, draft: Draft) -> Result<usize, Draft>
+    requires pool { IsPool slots.old.slots index.old }
     requires room { HasRoom slots.old.slots }
-    ensures pool { IsPool slots.new.slots index.new bytes.new }
+    ensures pool { IsPool slots.new.slots index.new }
     ensures moves { IfOk result (λ k. Moves slots.old.slots slots.new.slots no_holders (one_at k)) }
     ensures text { IfOk result (λ k. text_at slots.new.slots k ≡ draft.text) }
     ensures same { IfOk result (λ k. (j : ℕ) → 0 < count_at slots.old.slots j →
@@ -135,7 +114,7 @@ pub fn put_text(
         hold_again(slots, slot);
         return Ok(slot);
     }
-    match add_text(slots, index, bytes, text, digest) {
+    match add_text(slots, index, text, digest) {
         Ok(slot) => Ok(slot),
         Err(text) => Err(Draft::close(text, digest)),
     }
@@ -145,16 +124,15 @@ pub fn put_text(
 fn add_text(
     slots: &mut Slab<Slot>,
     index: &mut Index,
-    bytes: &mut u128,
     text: PagedText,
     digest: Digest,
 ) -> Result<usize, PagedText>
-    requires pool { IsPool slots.old.slots index.old bytes.old }
+    requires pool { IsPool slots.old.slots index.old }
     requires absent { (k : ℕ) → 0 < count_at slots.old.slots k → text_at slots.old.slots k ≡ text →
         ⊥ }
     requires digest { digest ≡ digest_of text }
     requires short { length text ≤ MOST_BYTES }
-    ensures pool { IsPool slots.new.slots index.new bytes.new }
+    ensures pool { IsPool slots.new.slots index.new }
     ensures moves { IfOk result (λ k. Moves slots.old.slots slots.new.slots no_holders (one_at k)) }
     ensures text { IfOk result (λ k. text_at slots.new.slots k ≡ text) }
     ensures err { OnErr result (slots.new.slots ≡ slots.old.slots) }
@@ -167,47 +145,32 @@ fn add_text(
     if index.list(&digest, slot).is_err() {
         return Err(text);
     }
-    *bytes = more_bytes(slots, *bytes, &text);
     Ok(slots.insert_reserved(Slot::new(text, digest)))
 }
 
-/// How many bytes there are with another text.
-fn more_bytes(slots: &Slab<Slot>, bytes: u128, text: &PagedText) -> u128
-    requires short { (k : ℕ) → length (text_at slots.now.slots k) ≤ MOST_BYTES }
-    requires bytes { bytes ≡ bytes_stored slots.now.slots }
-    ensures { result ≡ bytes + length text.now }
-{
-    // A call with the slots is where the prover learns that they are fewer than 2^64.
-    let _texts = slots.len();
-    bytes + text.len() as u128
-}
-
 /// Lets go of a text: one holder less, and a text without holders goes.
-pub fn take_text(slots: &mut Slab<Slot>, index: &mut Index, bytes: &mut u128, slot: usize)
-    requires pool { IsPool slots.old.slots index.old bytes.old }
+pub fn take_text(slots: &mut Slab<Slot>, index: &mut Index, slot: usize)
+    requires pool { IsPool slots.old.slots index.old }
     requires held { 0 < count_at slots.old.slots slot }
-    ensures pool { IsPool slots.new.slots index.new bytes.new }
+    ensures pool { IsPool slots.new.slots index.new }
     ensures moves { Moves slots.old.slots slots.new.slots (one_at slot) no_holders }
 {
-    if count(slots, slot) > 1 {
+    if slots[slot].count() > 1 {
         take_holder(slots, slot);
     } else {
-        drop_text(slots, index, bytes, slot);
+        drop_text(slots, index, slot);
     }
 }
 
 /// Takes out a text that has one holder.
-fn drop_text(slots: &mut Slab<Slot>, index: &mut Index, bytes: &mut u128, slot: usize)
-    requires pool { IsPool slots.old.slots index.old bytes.old }
+fn drop_text(slots: &mut Slab<Slot>, index: &mut Index, slot: usize)
+    requires pool { IsPool slots.old.slots index.old }
     requires last { count_at slots.old.slots slot ≡ 1 }
-    ensures pool { IsPool slots.new.slots index.new bytes.new }
+    ensures pool { IsPool slots.new.slots index.new }
     ensures moves { Moves slots.old.slots slots.new.slots (one_at slot) no_holders }
 {
-    // A slot with a holder is there; for any other there is nothing to do.
-    if let Some(held) = slots.try_remove(slot) {
-        index.unlist(&held.digest(), slot);
-        *bytes -= held.text().len() as u128;
-    }
+    let held = slots.remove(slot);
+    index.unlist(&held.digest(), slot);
 }
 
 /// The text of a slot, where one stands there.
@@ -217,4 +180,18 @@ pub fn text(slots: &Slab<Slot>, slot: usize) -> Option<&PagedText>
 {
     let held = slots.get(slot)?;
     Some(held.text())
+}
+
+/// How many texts there are, and how many bytes they have together.
+pub fn totals(slots: &Slab<Slot>) -> (u64, u128)
+    requires { (k : ℕ) → length (text_at slots.now.slots k) ≤ MOST_BYTES }
+    ensures texts { result.0 ≡ slab_len slots.now }
+    ensures bytes { result.1 ≡ bytes_stored slots.now.slots }
+{
+    let texts = slots.len() as u64;
+    let mut bytes = 0;
+    for (_, held) in slots.iter() {
+        bytes += held.text().len() as u128;
+    }
+    (texts, bytes)
 }

@@ -1,15 +1,13 @@
 -- What a frame whose answer fits leaves.
-use Rattle.std.proofs.Common.{◌≡◌, ℕ, List, [], ◌∷◌, ◌++◌, length, refl, ap, ◌∙◌, sym, subst, append_assoc, inl, inr}
+use Rattle.std.proofs.Common.{◌≡◌, ℕ, List, [], ◌∷◌, ◌++◌, length, refl, ap, ◌∙◌, sym, subst, append_assoc}
 use Rattle.grpc_sending.specs.StoredSending.{ForgetsEnded}
 use Rattle.std.specs.Prelude.{Bool, true, false, not, map, cond, ◌==◌, ◌&&◌, ◌||◌, Result, Ok, Err}
-use Rattle.std.specs.List.{list_any}
-use Rattle.std.proofs.lemmas.Bool.{cases_Bool}
+use Rattle.std.specs.List.{list_any, AllByRecursion}
 use Rattle.std.proofs.lemmas.List.Elements.{filter_map-append}
 use Rattle.http2_frames.specs.declared.codes.ErrorCode.{ErrorCode}
 use Rattle.http2_frames.specs.declared.codes.ErrorCode.TheVariants.{EnhanceYourCalm}
 use Rattle.http2_frames.specs.declared.frame.RawFrame.{RawFrame}
 use Rattle.http2_frames.specs.declared.frame.Frame.{Frame}
-use Rattle.http2_frames.specs.declared.frame.Frame.TheVariants.{Data, Headers, Priority, RstStream, Settings, PushPromise, Ping, GoAway, WindowUpdate, Continuation, Unknown}
 use Rattle.http2_frames.specs.declared.reader.TheConstants.{CLIENT_PREFACE}
 use Rattle.http2_frames.specs.Reader.{IsReader}
 use Rattle.http2_streams.specs.declared.event.StreamEvent.{StreamEvent}
@@ -32,12 +30,14 @@ use Rattle.conn_core.specs.StandsFor.{AreForLive}
 use Rattle.conn_core.specs.Past.{Past}
 use Rattle.conn_core.specs.StandsFor.{ConnectionValue}
 use Rattle.conn_core.specs.Step.{AreCalls, ChangesStreams, HasBrought, after_frame}
-use Rattle.conn_core.specs.Putting.{Puts, AwaitsItsAnswer, has_answer_form, have_answer_form}
+use Rattle.conn_core.specs.Putting.{Puts, AwaitsItsAnswer}
 use Rattle.conn_core.proofs.Events.{raw_out}
 use Rattle.conn_core.proofs.Pumps.{failed_same}
 use Rattle.conn_core.proofs.Putting.{fitting_all, with_sending}
 use Rattle.http2_streams.proofs.EventLaw.{live_after_frame, event_on_stream}
 use Rattle.http2_streams.proofs.LiveLaw.{listed_is_live, live_falls}
+use Rattle.http2_streams.specs.ControlAnswers.{IsControlAnswer}
+use Rattle.http2_streams.proofs.ControlLaw.{answer_elim}
 use Rattle.conn_core.proofs.StreamsLaws.{answers_are, in_live}
 use Rattle.conn_core.proofs.Opened.{call_opened, idle}
 
@@ -66,55 +66,25 @@ in_front d f fs = sym (append_assoc d (In f ∷ []) (map Out fs))
 sent_in : (d : List Entry) (f : RawFrame) → sent_frames (d ++ In f ∷ []) ≡ sent_frames d
 sent_in d f = filter_map-append frame_out d (In f ∷ []) ∙ append-nil (sent_frames d)
 
-no_goaway : (f : Frame) → has_answer_form f ≡ true → is_goaway f ≡ false
-no_goaway (GoAway s c b) h = cc
-no_goaway (Data s e b) h = refl
-no_goaway (Headers s e x b) h = refl
-no_goaway (Priority s p) h = refl
-no_goaway (RstStream s c) h = refl
-no_goaway (Settings a ss) h = refl
-no_goaway (PushPromise f s p) h = refl
-no_goaway (Ping a o) h = refl
-no_goaway (WindowUpdate s n) h = refl
-no_goaway (Continuation s x b) h = refl
-no_goaway (Unknown k f s p) h = refl
+no_goaway : (f : Frame) → IsControlAnswer f → is_goaway f ≡ false
+no_goaway = answer_elim (λ f. is_goaway f ≡ false) (λ ack settings h. refl) (λ ack o h. refl) (λ s n. refl) (λ s code. refl)
 
-pub answers_quiet : (fs : List Frame) → have_answer_form fs ≡ true → list_any is_goaway fs ≡ false
+pub answers_quiet : (fs : List Frame) → AllByRecursion IsControlAnswer fs → list_any is_goaway fs ≡ false
 answers_quiet [] h = refl
-answers_quiet (f ∷ fs) h = elim (cases_Bool (has_answer_form f)) [
-  | inl is ↦
-      let h' : have_answer_form fs ≡ true = rw is at h in
-      ap (λ b. b || list_any is_goaway fs) (no_goaway f is) ∙ answers_quiet fs h'
-  | inr other ↦ let no : false ≡ true = rw other at h in cc
-]
+answers_quiet (f ∷ fs) h = ap (λ b. b || list_any is_goaway fs) (no_goaway f h.0) ∙ answers_quiet fs h.1
 
 pub failed_after : (d : List Entry) (f : RawFrame) (fs : List Frame) → list_any is_goaway fs ≡ false → has_failed (d ++ In f ∷ map Out fs) ≡ has_failed d
 failed_after d f fs quiet = ap has_failed (in_front d f fs) ∙ failed_same (d ++ In f ∷ []) fs quiet ∙ ap (λ (gs : List Frame). list_any is_goaway gs) (sent_in d f)
 
-no_end : (s : ℕ) (f : Frame) → has_answer_form f ≡ true → ends s f ≡ false
-no_end s (GoAway t c b) h = refl
-no_end s (Data t e b) h = cc
-no_end s (Headers t e x b) h = cc
-no_end s (Priority t p) h = refl
-no_end s (RstStream t c) h = refl
-no_end s (Settings a ss) h = refl
-no_end s (PushPromise f t p) h = refl
-no_end s (Ping a o) h = refl
-no_end s (WindowUpdate t n) h = refl
-no_end s (Continuation t x b) h = refl
-no_end s (Unknown k f t p) h = refl
+no_end : (s : ℕ) (f : Frame) → IsControlAnswer f → ends s f ≡ false
+no_end s = answer_elim (λ f. ends s f ≡ false) (λ ack settings h. refl) (λ ack o h. refl) (λ t n. refl) (λ t code. refl)
 
-answers_end : (s : ℕ) (fs : List Frame) → have_answer_form fs ≡ true → list_any (ends s) fs ≡ false
+answers_end : (s : ℕ) (fs : List Frame) → AllByRecursion IsControlAnswer fs → list_any (ends s) fs ≡ false
 answers_end s [] h = refl
-answers_end s (f ∷ fs) h = elim (cases_Bool (has_answer_form f)) [
-  | inl is ↦
-      let h' : have_answer_form fs ≡ true = rw is at h in
-      ap (λ b. b || list_any (ends s) fs) (no_end s f is) ∙ answers_end s fs h'
-  | inr other ↦ let no : false ≡ true = rw other at h in cc
-]
+answers_end s (f ∷ fs) h = ap (λ b. b || list_any (ends s) fs) (no_end s f h.0) ∙ answers_end s fs h.1
 
 -- the answers to a frame end no stream
-ends_after : (d : List Entry) (f : RawFrame) (fs : List Frame) (s : ℕ) → have_answer_form fs ≡ true → is_ended_by_server (d ++ In f ∷ map Out fs) s ≡ is_ended_by_server d s
+ends_after : (d : List Entry) (f : RawFrame) (fs : List Frame) (s : ℕ) → AllByRecursion IsControlAnswer fs → is_ended_by_server (d ++ In f ∷ map Out fs) s ≡ is_ended_by_server d s
 ends_after d f fs s h =
     ap (λ (x : List Entry). is_ended_by_server x s) (in_front d f fs)
     ∙ ap (list_any (ends s)) (sent_more (d ++ In f ∷ []) fs)

@@ -34,8 +34,7 @@ use Rattle.conn_core.specs.Received.{received_raw_frames, may_put_all, fits}
 use Rattle.conn_core.specs.Past.{Past, with_frame}
 use Rattle.conn_core.specs.StandsFor.{ConnectionValue, IsConnection, IsAlive, StandsAfterReading, ReadsOneFrame, IsNextFrame, unread_length, call_stream}
 use Rattle.conn_core.specs.Step.{IsTaking, HasBrought, TakesFrame, with_reader}
-use Rattle.conn_core.specs.Putting.{Puts, PutsUnless, Fails, AwaitsItsAnswer, ended_calls, have_answer_form}
-use Rattle.conn_core.proofs.StreamsLaws.{answers_are}
+use Rattle.conn_core.specs.Putting.{Puts, PutsUnless, Fails, AwaitsItsAnswer, ended_calls}
 use Rattle.conn_core.proofs.Answered.{answered_fits, fits_of}
 use Rattle.conn_core.proofs.Ends.{answered_cut, taken_fault, read_fault}
 
@@ -85,20 +84,15 @@ all_put : (flood all b : Bool) → b ≡ true → b ≡ (all && not flood) → a
 all_put flood true b fits is = refl
 all_put flood false b fits is = cc
 
-abbrev pub PutsUnlessIf : Bool → ConnectionValue → List Frame → Bool → ConnectionValue → Type 0
-PutsUnlessIf flood v fs b w = have_answer_form fs ≡ true → PutsUnless flood v fs b w
-
-pub cut_by : (texts : SourceTexts) {T E : Type 0} (r : Result T E) (v w x : ConnectionValue) (a : StreamEvent) (flood : Bool) (reset : Option ℕ) (b : Bool) → b ≡ false → PutsUnlessIf flood v (control_frames a) b w → reset ≡ stream_of_event a.event → OnOk r (Fails w EnhanceYourCalm reset x) → OnOk r ((p : Past) (f : RawFrame) → AwaitsItsAnswer texts v p f a flood → IsConnection texts x (with_frame p f))
+pub cut_by : (texts : SourceTexts) {T E : Type 0} (r : Result T E) (v w x : ConnectionValue) (a : StreamEvent) (flood : Bool) (reset : Option ℕ) (b : Bool) → b ≡ false → PutsUnless flood v (control_frames a) b w → reset ≡ stream_of_event a.event → OnOk r (Fails w EnhanceYourCalm reset x) → OnOk r ((p : Past) (f : RawFrame) → AwaitsItsAnswer texts v p f a flood → IsConnection texts x (with_frame p f))
 cut_by texts (Err e) v w x a flood reset b cut put is fails = tt
-cut_by texts (Ok y) v w x a flood reset b cut put is fails = λ p f h.
-    let given = put (answers_are p.history f a h.causes) in
+cut_by texts (Ok y) v w x a flood reset b cut given is fails = λ p f h.
     let short = short_of flood given.all b (untaken_count p.history) a cut given.is (fits_of texts v p f a flood w given.all h given.puts) in
     answered_cut texts v w x p f a flood h given.all given.puts short (subst (λ (o : Option ℕ). Fails w EnhanceYourCalm o x) is fails)
 
-pub brought_by : (texts : SourceTexts) {T E : Type 0} (r : Result T E) (v w x : ConnectionValue) (a : StreamEvent) (flood : Bool) (b : Bool) → b ≡ true → PutsUnlessIf flood v (control_frames a) b w → OnOk r ((p : Past) (f : RawFrame) → HasBrought texts w p f a.event → IsConnection texts x (with_frame p f)) → OnOk r ((p : Past) (f : RawFrame) → AwaitsItsAnswer texts v p f a flood → IsConnection texts x (with_frame p f))
+pub brought_by : (texts : SourceTexts) {T E : Type 0} (r : Result T E) (v w x : ConnectionValue) (a : StreamEvent) (flood : Bool) (b : Bool) → b ≡ true → PutsUnless flood v (control_frames a) b w → OnOk r ((p : Past) (f : RawFrame) → HasBrought texts w p f a.event → IsConnection texts x (with_frame p f)) → OnOk r ((p : Past) (f : RawFrame) → AwaitsItsAnswer texts v p f a flood → IsConnection texts x (with_frame p f))
 brought_by texts (Err e) v w x a flood b fit put bring = tt
-brought_by texts (Ok y) v w x a flood b fit put bring = λ p f h.
-    let given = put (answers_are p.history f a h.causes) in
+brought_by texts (Ok y) v w x a flood b fit given bring = λ p f h.
     let puts : Puts v (control_frames a) true w = subst (λ (c : Bool). Puts v (control_frames a) c w) (all_put flood given.all b fit given.is) given.puts in
     let calm : AwaitsItsAnswer texts v p f a false = subst (λ (c : Bool). AwaitsItsAnswer texts v p f a c) (no_flood flood given.all b fit given.is) h in
     bring p f (answered_fits texts v w p f a calm puts)

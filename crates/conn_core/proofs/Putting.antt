@@ -16,7 +16,7 @@ use Rattle.grpc_sending.specs.StoredSending.{SourceTexts, StoredSending, IsStore
 use Rattle.grpc_sending.proofs.Histories.{append-nil, text_length}
 use Rattle.conn_core.specs.Received.{may_put, frames_to_put, may_put_all}
 use Rattle.conn_core.specs.StandsFor.{ConnectionValue}
-use Rattle.conn_core.specs.Putting.{Puts, has_answer_form, have_answer_form}
+use Rattle.conn_core.specs.Putting.{Puts}
 
 -- ---- the frames that fit, of two lists
 
@@ -143,46 +143,36 @@ puts_not v old f b is room-is room =
 
 -- ---- the four of an answer
 
-are_parts : (fs gs : List Frame) → have_answer_form (fs ++ gs) ≡ true → (have_answer_form fs ≡ true) × (have_answer_form gs ≡ true)
-are_parts [] gs h = (refl, h)
-are_parts (f ∷ fs) gs h = elim (cases_Bool (has_answer_form f)) [
-  | inl is ↦ let h' : have_answer_form (fs ++ gs) ≡ true = rw is at h in let p = are_parts fs gs h' in rw is (p.0, p.1)
-  | inr other ↦ let no : false ≡ true = rw other at h in cc
-]
+pub puts_next : (v w x : ConnectionValue) (fs gs : List Frame) (b c : Bool) → b ≡ true → Puts v fs b w → Puts w gs c x → Puts v (fs ++ gs) c x
+puts_next v w x fs gs true c is one two = puts_more v w x fs gs c one two
+puts_next v w x fs gs false c is one two = cc
 
-abbrev pub PutsIf : ConnectionValue → List Frame → Bool → ConnectionValue → Type 0
-PutsIf v fs b w = have_answer_form fs ≡ true → Puts v fs b w
+pub puts_stop : (v w : ConnectionValue) (fs gs : List Frame) (b : Bool) → b ≡ false → Puts v fs b w → Puts v (fs ++ gs) false w
+puts_stop v w fs gs true is one = cc
+puts_stop v w fs gs false is one = puts_short v w fs gs one
 
-pub puts_next : (v w x : ConnectionValue) (fs gs : List Frame) (b c : Bool) → b ≡ true → PutsIf v fs b w → PutsIf w gs c x → PutsIf v (fs ++ gs) c x
-puts_next v w x fs gs true c is one two h = let p = are_parts fs gs h in puts_more v w x fs gs c (one p.0) (two p.1)
-puts_next v w x fs gs false c is one two h = cc
-
-pub puts_stop : (v w : ConnectionValue) (fs gs : List Frame) (b : Bool) → b ≡ false → PutsIf v fs b w → PutsIf v (fs ++ gs) false w
-puts_stop v w fs gs true is one h = cc
-puts_stop v w fs gs false is one h = puts_short v w fs gs (one (are_parts fs gs h).0)
-
-abbrev first : StreamEvent → List Frame
+abbrev pub first : StreamEvent → List Frame
 first a = option_to_list a.acknowledgement
 
-abbrev second : StreamEvent → List Frame
+abbrev pub second : StreamEvent → List Frame
 second a = option_to_list a.connection_update
 
-abbrev third : StreamEvent → List Frame
+abbrev pub third : StreamEvent → List Frame
 third a = option_to_list a.stream_update
 
 abbrev fourth : StreamEvent → List Frame
 fourth a = option_to_list a.reset
 
-pub stops_first : (a : StreamEvent) (v w : ConnectionValue) (b : Bool) → b ≡ false → PutsIf v (first a) b w → PutsIf v (control_frames a) false w
+pub stops_first : (a : StreamEvent) (v w : ConnectionValue) (b : Bool) → b ≡ false → Puts v (first a) b w → Puts v (control_frames a) false w
 stops_first a v w b is one = puts_stop v w (first a) (second a ++ (third a ++ fourth a)) b is one
 
-pub stops_second : (a : StreamEvent) (v w x : ConnectionValue) (b c : Bool) → b ≡ true → c ≡ false → PutsIf v (first a) b w → PutsIf w (second a) c x → PutsIf v (control_frames a) false x
+pub stops_second : (a : StreamEvent) (v w x : ConnectionValue) (b c : Bool) → b ≡ true → c ≡ false → Puts v (first a) b w → Puts w (second a) c x → Puts v (control_frames a) false x
 stops_second a v w x b c is stops one two = puts_next v w x (first a) (second a ++ (third a ++ fourth a)) b false is one (puts_stop w x (second a) (third a ++ fourth a) c stops two)
 
-pub stops_third : (a : StreamEvent) (v w x y : ConnectionValue) (b c d : Bool) → b ≡ true → c ≡ true → d ≡ false → PutsIf v (first a) b w → PutsIf w (second a) c x → PutsIf x (third a) d y → PutsIf v (control_frames a) false y
+pub stops_third : (a : StreamEvent) (v w x y : ConnectionValue) (b c d : Bool) → b ≡ true → c ≡ true → d ≡ false → Puts v (first a) b w → Puts w (second a) c x → Puts x (third a) d y → Puts v (control_frames a) false y
 stops_third a v w x y b c d is is' stops one two three =
     puts_next v w y (first a) (second a ++ (third a ++ fourth a)) b false is one (puts_next w x y (second a) (third a ++ fourth a) c false is' two (puts_stop x y (third a) (fourth a) d stops three))
 
-pub comes_to_end : (a : StreamEvent) (v w x y z : ConnectionValue) (b c d e : Bool) → b ≡ true → c ≡ true → d ≡ true → PutsIf v (first a) b w → PutsIf w (second a) c x → PutsIf x (third a) d y → PutsIf y (fourth a) e z → PutsIf v (control_frames a) e z
+pub comes_to_end : (a : StreamEvent) (v w x y z : ConnectionValue) (b c d e : Bool) → b ≡ true → c ≡ true → d ≡ true → Puts v (first a) b w → Puts w (second a) c x → Puts x (third a) d y → Puts y (fourth a) e z → Puts v (control_frames a) e z
 comes_to_end a v w x y z b c d e is is' is'' one two three four =
     puts_next v w z (first a) (second a ++ (third a ++ fourth a)) b e is one (puts_next w x z (second a) (third a ++ fourth a) c e is' two (puts_next x y z (third a) (fourth a) d e is'' three four))

@@ -1,6 +1,6 @@
 -- What of the laws of http2_streams is used here, in the words of this crate.
 use Rattle.std.proofs.Common.{◌≡◌, ◌≢◌, ℕ, ◌<◌, ◌≤◌, List, [], ◌∷◌, ◌++◌, refl, ap, ◌∙◌, sym, subst, arith, inl, inr}
-use Rattle.std.specs.Prelude.{Bool, true, false, ◌==◌, ◌&&◌, ◌⊎◌, nat_lt, max, fold, map, Ok}
+use Rattle.std.specs.Prelude.{Bool, true, false, ◌==◌, ◌&&◌, ◌⊎◌, nat_lt, max, fold, map, Result, Ok, IfOk}
 use Rattle.std.specs.List.{list_any, AllByRecursion}
 use Rattle.std.proofs.lemmas.Bool.{cases_Bool, ltb-true, ltb-false, eqb-true}
 use Rattle.std.proofs.lemmas.Bool.Decides.{nat_tests}
@@ -10,8 +10,7 @@ use Rattle.std.proofs.lemmas.List.Sums.{fold-append}
 use Rattle.hpack.specs.Header.{Header}
 use Rattle.http2_frames.specs.declared.frame.RawFrame.{RawFrame}
 use Rattle.http2_frames.specs.declared.frame.Frame.{Frame}
-use Rattle.http2_frames.specs.declared.frame.Frame.TheVariants.{Settings}
-use Rattle.http2_frames.specs.declared.settings.Setting.{Setting}
+use Rattle.http2_streams.specs.ConnectionFault.{ConnectionFault}
 use Rattle.http2_streams.specs.HeaderBlock.{HeaderBlock}
 use Rattle.http2_streams.specs.declared.event.Event.{Event}
 use Rattle.http2_streams.specs.declared.event.Event.TheVariants.{Request}
@@ -25,24 +24,23 @@ use Rattle.http2_streams.specs.ControlAnswers.{IsControlAnswer}
 use Rattle.http2_streams.proofs.EventLaw.{event_on_stream, request_is_highest}
 use Rattle.http2_streams.proofs.LiveLaw.{blocks_stay}
 use Rattle.http2_streams.proofs.ControlLaw.{answer_elim, answers_are_control}
-use Rattle.conn_core.specs.Putting.{has_answer_form, have_answer_form}
+use Rattle.grpc_sending.specs.Step.{IsControl}
 use Rattle.conn_core.proofs.Numbers.{any_kept}
 
 -- ---- answers
 
-settings_one : (ack : Bool) (settings : List Setting) → IsControlAnswer (Settings ack settings) → has_answer_form (Settings ack settings) ≡ true
-settings_one ack [] h = refl
-settings_one ack (x ∷ xs) h = let none = h.1 in cc
+pub is_control : (f : Frame) → IsControlAnswer f → IsControl f
+is_control = answer_elim IsControl (λ ack settings h. tt) (λ ack o h. tt) (λ s n. tt) (λ s code. tt)
 
-is_one : (f : Frame) → IsControlAnswer f → has_answer_form f ≡ true
-is_one = answer_elim (λ f. has_answer_form f ≡ true) settings_one (λ ack o h. ap (λ (n : ℕ). n == 8) h.1) (λ s n. refl) (λ s code. refl)
+pub parts_are : (fs gs : List Frame) → AllByRecursion IsControlAnswer (fs ++ gs) → AllByRecursion IsControlAnswer fs × AllByRecursion IsControlAnswer gs
+parts_are [] gs h = (tt, h)
+parts_are (f ∷ fs) gs h = let p = parts_are fs gs h.1 in ((h.0, p.0), p.1)
 
-are_all : (fs : List Frame) → AllByRecursion IsControlAnswer fs → have_answer_form fs ≡ true
-are_all [] h = refl
-are_all (f ∷ fs) h = let is : has_answer_form f ≡ true = is_one f h.0 in rw is (are_all fs h.1)
+pub answers_are : (d : List Entry) (f : RawFrame) (a : StreamEvent) → answer_after d f ≡ Ok a → AllByRecursion IsControlAnswer (control_frames a)
+answers_are d f a h = answers_are_control (standing d) f a h
 
-pub answers_are : (d : List Entry) (f : RawFrame) (a : StreamEvent) → answer_after d f ≡ Ok a → have_answer_form (control_frames a) ≡ true
-answers_are d f a h = are_all (control_frames a) (answers_are_control (standing d) f a h)
+pub of_given : (r : Result StreamEvent ConnectionFault) (a : StreamEvent) → r ≡ Ok a → IfOk r (λ b. AllByRecursion IsControlAnswer (control_frames b)) → AllByRecursion IsControlAnswer (control_frames a)
+of_given r a is h = subst (λ (q : Result StreamEvent ConnectionFault). IfOk q (λ b. AllByRecursion IsControlAnswer (control_frames b))) is h
 
 pub in_live : (d : List Entry) (s : ℕ) → list_any (λ t. t == s) (live_streams d) ≡ (list_any (λ t. t == s) (opened_streams d) && is_not_closed d s)
 in_live d s = any_kept (is_not_closed d) s (opened_streams d)

@@ -1,13 +1,12 @@
 -- What is put for a frame, and what ends with the connection. For the code alone: no public
 -- contract speaks of them.
-use Rattle.std.specs.Prelude.{◌≡◌, ◌+◌, ◌==◌, ◌||◌, if◌then◌else◌, ℕ, Bool, true, false, not, ◌&&◌, List, [], ◌∷◌, ◌++◌, length, map, filter, Option, Some, None, Result, Ok}
+use Rattle.std.specs.Prelude.{◌≡◌, ◌+◌, ◌==◌, ◌||◌, ℕ, Bool, true, false, not, ◌&&◌, List, [], ◌∷◌, ◌++◌, length, map, filter, Option, Some, None, Result, Ok}
 use Rattle.std.specs.List.{list_any, flat_map}
 use Rattle.http2_frames.specs.declared.codes.ErrorCode.{ErrorCode}
 use Rattle.http2_frames.specs.declared.error.FrameError.{FrameError}
 use Rattle.http2_frames.specs.declared.reader.TheConstants.{CLIENT_PREFACE}
 use Rattle.http2_frames.specs.declared.frame.RawFrame.{RawFrame}
 use Rattle.http2_frames.specs.declared.frame.Frame.{Frame}
-use Rattle.http2_frames.specs.declared.frame.Frame.TheVariants.{RstStream, Settings, Ping, WindowUpdate}
 use Rattle.http2_frames.specs.Reader.{FrameReaderValue, IsReader}
 use Rattle.http2_frames.specs.Writing.{text_of}
 use Rattle.http2_streams.specs.declared.stream.Stream.{Stream}
@@ -26,18 +25,6 @@ use Rattle.conn_core.specs.Received.{received_raw_frames, frames_to_put, may_put
 use Rattle.conn_core.specs.Past.{Past, with_frame}
 use Rattle.conn_core.specs.StandsFor.{IsConnection, ConnectionValue, call_stream}
 use Rattle.conn_core.specs.Step.{AreCalls, with_reader}
-
--- a control frame that answers one
-abbrev pub has_answer_form : Frame → Bool
-has_answer_form (RstStream s code) = true
-has_answer_form (Settings ack []) = true
-has_answer_form (Ping ack opaque_data) = length opaque_data == 8
-has_answer_form (WindowUpdate s increment) = true
-has_answer_form _ = false
-
-abbrev pub have_answer_form : List Frame → Bool
-have_answer_form [] = true
-have_answer_form (f ∷ fs) = if has_answer_form f then have_answer_form fs else false
 
 -- of these frames those were put that fit, and all did or not
 pub record Puts (v : ConnectionValue) (fs : List Frame) (fit : Bool)

@@ -24,7 +24,7 @@ use Rattle.grpc_sending.specs.Step.{next_turn, without_first_at, without_front_a
 use Rattle.grpc_sending.specs.StoredSending.{SourceTexts, StoredSending, QueuesEndWithin, queue_in, sending_in, stored_on, stored_first_at, stored_front_at, front_bytes, next_due}
 use Rattle.grpc_sending.proofs.Takes.{stands_same}
 use Rattle.grpc_sending.proofs.Stored.{turn_none, turn_head, turn_content, block_removed, part_removed, front_is}
-use Rattle.grpc_sending.proofs.Rounds.{has_turn, head_turn, content_of, head_lives, HasPut, puts_block_by, puts_last_by, puts_part_by, rests_none, rests_lacking}
+use Rattle.grpc_sending.proofs.Rounds.{has_turn, head_turn, content_of, head_lives, HasPut, puts_block_by, puts_last_by, puts_part_by, rests_none}
 
 -- ---- the same pieces in other queues
 
@@ -69,7 +69,7 @@ given texts qs cw xs s n fit h =
     }
 
 pub puts_given : (texts : SourceTexts) (v v1 : Standing) (w old : StoredSending) (s n : ℕ) (bytes : List ℕ) (rs : List StoredQueue) → w ≡ old → v.failed ≡ false → length w.pending < 65536 → QueuesEndWithin texts w.queues → next_due w.queues (window_left v.connection_window) v.live ≡ Some (Gives s n) →
-    ((d : List Entry) (content : List ℕ) → length content ≡ n → AreStreams v d → AreStreams v1 (d ++ Out (Data s false content) ∷ [])) →
+    ((d : List Entry) (content : List ℕ) → length content ≡ n → CanSend v s n → AreStreams v d → AreStreams v1 (d ++ Out (Data s false content) ∷ [])) →
     bytes ≡ w.pending ++ text_of (Data s false (take n (front_bytes texts (stored_on s w.queues)))) → rs ≡ map (stored_front_at s n) w.queues →
     Puts v (sending_in texts old) v1 (record { pending = bytes; position = w.position; queues = map (queue_in texts) rs })
 puts_given texts v v1 w old s n bytes rs is alive room fit turn put new queues =
@@ -79,11 +79,6 @@ puts_given texts v v1 w old s n bytes rs is alive room fit turn put new queues =
     puts_same v v1 (sending_in texts old) bytes w.position (map (without_front_at s n) (map (queue_in texts) w.queues)) (map (queue_in texts) rs)
     (λ t. ap (λ (qs : List StoredQueue). pieces_on t (map (queue_in texts) qs)) queues ∙ i.removed t)
     (puts_part_by v v1 (sending_in texts w) (sending_in texts old) s n i.part bytes (map (without_front_at s n) (map (queue_in texts) w.queues)) (ap (sending_in texts) is) alive room i.turn (sym i.size) put b refl)
-
-pub rests_given : (texts : SourceTexts) (v : Standing) (w old : StoredSending) (s n : ℕ) → w ≡ old → v.failed ≡ false → QueuesEndWithin texts w.queues → next_due w.queues (window_left v.connection_window) v.live ≡ Some (Gives s n) → (CanSend v s n → ⊥) → Rests v (sending_in texts old)
-rests_given texts v w old s n is alive fit turn lacking =
-    let i = given texts w.queues (window_left v.connection_window) v.live s n fit turn in
-    subst (λ (x : StoredSending). Rests v (sending_in texts x)) is (rests_lacking v (sending_in texts w) s i.part alive i.turn (λ can. lacking (subst (λ m. CanSend v s m) i.size can)))
 
 pub rests_undue : (texts : SourceTexts) (v : Standing) (w old : StoredSending) → w ≡ old → v.failed ≡ false → length w.pending < 65536 → QueuesEndWithin texts w.queues → next_due w.queues (window_left v.connection_window) v.live ≡ None → Rests v (sending_in texts old)
 rests_undue texts v w old is alive room fit turn =

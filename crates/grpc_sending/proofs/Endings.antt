@@ -1,6 +1,6 @@
 -- What a turn ends is closed, and nothing is kept for it.
-use Rattle.std.proofs.Common.{◌≡◌, ℕ, ◌<◌, List, [], ◌∷◌, ◌++◌, length, refl, ap, ◌∙◌, sym, subst, arith, inl, inr, append_assoc}
-use Rattle.std.specs.Prelude.{Bool, true, false, not, ◌&&◌, ◌||◌, ◌==◌, map, Option, Some, None}
+use Rattle.std.proofs.Common.{◌≡◌, ℕ, ◌<◌, List, [], ◌∷◌, ◌++◌, length, refl, ap, ◌∙◌, sym, subst, inl, inr, append_assoc}
+use Rattle.std.specs.Prelude.{Bool, true, false, not, ◌&&◌, ◌||◌, ◌==◌, map, Some}
 use Rattle.std.specs.List.{list_any}
 use Rattle.std.proofs.lemmas.Bool.{cases_Bool, eqb-true}
 use Rattle.std.proofs.lemmas.List.Folds.{list_any-append}
@@ -15,11 +15,11 @@ use Rattle.grpc_calls.specs.declared.response.ResponseBlock.{ResponseBlock}
 use Rattle.grpc_calls.specs.Responses.{is_last}
 use Rattle.grpc_sending.specs.declared.queue.StoredQueue.{StoredQueue}
 use Rattle.grpc_sending.specs.declared.turn.Due.TheVariants.{Opens, Gives}
-use Rattle.grpc_sending.specs.Pieces.{Head, Content, Turn}
+use Rattle.grpc_sending.specs.Pieces.{Head, Content}
 use Rattle.grpc_sending.specs.Owed.{OwedItem}
 use Rattle.grpc_sending.specs.Pump.{block_frame, reset_after, next_frames, history_after_pump}
-use Rattle.grpc_sending.specs.StandsFor.{Sending, IsSending, pieces_on}
-use Rattle.grpc_sending.specs.Step.{next_turn, Rests}
+use Rattle.grpc_sending.specs.StandsFor.{IsSending, pieces_on}
+use Rattle.grpc_sending.specs.Step.{Rests}
 use Rattle.grpc_sending.specs.StoredSending.{SourceTexts, StoredSending, QueuesEndWithin, IsStoredSending, ForgetsEnded, EndsBy, PutsBy, stored_on, queue_in, sending_in, next_due}
 use Rattle.grpc_sending.proofs.Histories.{sent_more}
 use Rattle.grpc_sending.proofs.Turns.{frames_of, next_some}

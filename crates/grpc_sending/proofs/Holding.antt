@@ -1,6 +1,6 @@
 -- The sources that are held are those of the ranges that are not wholly put.
 use Rattle.std.proofs.Common.{◌≡◌, ℕ, zero, suc, ◌-◌, ◌<◌, ◌≤◌, List, [], ◌∷◌, ◌++◌, length, drop, refl, ap, ◌∙◌, sym, subst, arith, inl, inr, length-drop}
-use Rattle.std.specs.Prelude.{Bool, true, false, not, ◌==◌, ◌||◌, cond, nat_lt, map, filter}
+use Rattle.std.specs.Prelude.{Bool, true, false, ◌==◌, ◌||◌, cond, nat_lt, map, filter}
 use Rattle.std.specs.List.{flat_map, AllByRecursion}
 use Rattle.std.proofs.lemmas.Bool.{cases_Bool, ltb-true, ltb-false}
 use Rattle.std.proofs.lemmas.Bool.Decides.{nat_tests}

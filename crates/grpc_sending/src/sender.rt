@@ -299,10 +299,6 @@ impl Sender {
                 true
             }
             Some(Due::Gives { stream, count }) => {
-                // `next_due` gives no more than the windows allow: the test tells the prover so.
-                if !streams.can_send(stream, count as u32) {
-                    return false;
-                }
                 put_content(
                     &mut self.buffer,
                     self.backlog.queues(),
@@ -347,10 +343,6 @@ impl Sender {
         ensures grows { length self.old.pending ≤ length self.new.pending }
         ensures size { length self.new.pending ≤ length self.old.pending + (HEADER_LENGTH + 4) }
     {
-        // A stream that is reset was opened, so this does not end early.
-        if stream > streams.highest() {
-            return;
-        }
         self.put_control(&no_error(stream));
         streams.on_reset_put(stream);
     }
@@ -365,8 +357,7 @@ fn no_error(stream: u32) -> Frame<'static>
     }
 }
 
-/// Puts bytes of what comes first on the stream. There are so many (`there`): the cases without
-/// bytes, here and in `put_piece`, are not met.
+/// Puts bytes of what comes first on the stream, of which there are so many.
 fn put_content<P: Parts>(
     buffer: &mut OutBuffer,
     queues: &[StoredQueue],
@@ -387,7 +378,7 @@ fn put_content<P: Parts>(
 {
     let first = queue::first_on(queues, stream);
     match first {
-        None => {}
+        None => unreachable!(),
         Some(piece) => put_piece(buffer, stream, count, piece, parts),
     }
 }
@@ -409,7 +400,7 @@ fn put_piece<P: Parts>(
     ensures size { length buffer.new ≡ length buffer.old + (HEADER_LENGTH + count) }
 {
     match piece {
-        StoredPiece::Encoded(_) => {}
+        StoredPiece::Encoded(_) => unreachable!(),
         StoredPiece::Framed(message) => buffer.put_message(stream, count, message),
         StoredPiece::Ranged(range) => buffer.put_range(stream, count, range, parts),
     }

@@ -33,9 +33,8 @@ fn read_update(bytes: &[u8]) -> Result<(u32, &[u8]), HpackError>
     requires { spec.begins_update bytes.now ≡ true }
     ensures { Gives (λ x. (x.0, x.1.now)) result (update_at bytes.now) }
 {
-    // An update is not empty: the pattern alone wants the case.
     let [first, rest @ ..] = bytes else {
-        return Err(HpackError::SizeUpdate);
+        unreachable!();
     };
     let (maximum, rest) = read_integer(31, *first - 32, rest)?;
     if maximum > LARGEST_TABLE {

@@ -29,9 +29,8 @@ fn evict(entries: &mut VecDeque<Entry>, size: usize, room: usize) -> usize
 {
     let mut left = size;
     'entries: while left > room {
-        // Without entries nothing is left to be too large, so this does not end early.
         let Some(oldest) = entries.pop_back() else {
-            break;
+            unreachable!();
         };
         left -= oldest.size();
     }

@@ -89,8 +89,8 @@ pub(crate) fn lacks(live: &[Stream], number: u32, count: u32) -> bool
 }
 
 pub(crate) fn spend(live: &mut [Stream], number: u32, count: u32)
-    requires { list_any (lacks number count) live.old ≡ false }
-    ensures { live.new ≡ map (stream_after_spending number count) live.old }
+    ensures { list_any (lacks number count) live.old ≡ false →
+        live.new ≡ map (stream_after_spending number count) live.old }
 {
     for stream in live.iter_mut() {
         stream.spend(number, count);

@@ -105,11 +105,11 @@ impl Stream {
     }
 
     pub(crate) fn spend(&mut self, number: u32, count: u32)
-        requires { lacks number count self.old ≡ false }
-        ensures { self.new ≡ stream_after_spending number count self.old }
+        ensures { lacks number count self.old ≡ false →
+            self.new ≡ stream_after_spending number count self.old }
     {
         if self.number == number {
-            // The window is for so many bytes.
+            // Where nothing lacks, the window is for so many bytes.
             let _ = self.window.spend(count);
         }
     }

@@ -1,6 +1,7 @@
 //! The streams of one connection.
 
 ghost use Rattle.std.specs.Prelude.{◌≡◌, ◌<◌, ◌≤◌, ◌++◌, ◌∷◌, List, [], length, Bool, true, IfOk, OnErr, ℕ, IsTrue, ◌↔◌};
+ghost use Rattle.std.specs.List.{AllByRecursion};
 ghost use Rattle.http2_flow.specs.Credit.{window_left};
 ghost use Rattle.http2_frames.specs.Wire.{increment_limit};
 ghost use Rattle.http2_frames.specs.declared.frame.Frame.TheVariants.{Data, Headers, RstStream};
@@ -9,7 +10,8 @@ ghost use Rattle.http2_streams.specs.History.{Entry, Out, has_failed};
 ghost use Rattle.http2_streams.specs.Sending.{CanSend};
 ghost use Rattle.http2_streams.specs.StandsFor.{AreStreams, InMemory};
 ghost use Rattle.http2_streams.specs.Rules.{answer_after, answer_to, is_idle, is_live_at, is_in_turn, on_content};
-ghost use Rattle.http2_streams.specs.Entries.{entries_of};
+ghost use Rattle.http2_streams.specs.Entries.{entries_of, control_frames};
+ghost use Rattle.http2_streams.specs.ControlAnswers.{IsControlAnswer};
 ghost use Rattle.http2_streams.specs.Step.{step_by, after_answer, after_frame_in, after_server_end, after_data};
 
 mod answers;
@@ -123,6 +125,7 @@ impl Streams {
             Gives result (answer_after d frame.now) }
         ensures stands { InMemory result ((d : List Entry) → AreStreams self.old d →
             AreStreams self.new (d ++ entries_of d frame.now)) }
+        ensures answers { IfOk result (λ a. AllByRecursion IsControlAnswer (control_frames a)) }
 
         // After an error the streams stand as they did, for those who have to end them.
         ensures failed { OnErr result (self.new.failed ≡ true) }
@@ -182,11 +185,10 @@ impl Streams {
             && count as i64 <= self.connection_window.left()
     }
 
-    /// DATA of so many bytes was put, for which `can_send` holds.
+    /// DATA of so many bytes was put, for which `can_send` held.
     pub fn on_data_put(&mut self, stream: u32, count: u32, end_stream: bool)
-        requires { CanSend self.old stream count }
         ensures stands { (d : List Entry) (content : List ℕ) → length content ≡ count →
-            AreStreams self.old d →
+            CanSend self.old stream count → AreStreams self.old d →
             AreStreams self.new (d ++ Out (Data stream end_stream content) ∷ []) }
         ensures highest { self.new.highest ≡ self.old.highest }
     {
@@ -207,8 +209,8 @@ impl Streams {
     /// RST_STREAM was put, beside those that answer frames, on a stream whose number is not above
     /// the highest one that was opened. The stream is remembered.
     pub fn on_reset_put(&mut self, stream: u32)
-        requires { stream ≤ self.old.highest }
-        ensures stands { (d : List Entry) (code : ℕ) → AreStreams self.old d →
+        ensures stands { (d : List Entry) (code : ℕ) → stream ≤ self.old.highest →
+            AreStreams self.old d →
             AreStreams self.new (d ++ Out (RstStream stream code) ∷ []) }
         ensures highest { self.new.highest ≡ self.old.highest }
     {
@@ -226,11 +228,12 @@ impl Streams {
     }
 
     fn put_data(&mut self, stream: u32, count: u32, end_stream: bool)
-        requires { CanSend self.old stream count }
-        ensures { self.new ≡ after_server_end (after_data self.old stream count) stream end_stream }
+        ensures spent { CanSend self.old stream count →
+            self.new ≡ after_server_end (after_data self.old stream count) stream end_stream }
+        ensures highest { self.new.highest ≡ self.old.highest }
     {
         live::spend(&mut self.live, stream, count);
-        // `CanSend` says that the window is for so many bytes.
+        // Where `CanSend` holds, the window is for so many bytes.
         let _ = self.connection_window.spend(count);
         self.end_by_server(stream, end_stream);
     }

@@ -30,7 +30,6 @@ ghost use Rattle.served_instance.specs.Ranges.{RangesEndWithin};
 
 use blob_pool::Pool;
 use served_instance::{EventRefusal, Order, ServedInstance, Task};
-use server_events::laws::the_fault_is_the_first;
 use server_events::{Configs, Event, InstanceConfig};
 use std::alloc::{AllocError, Global};
 use std::marker::Model;
@@ -113,7 +112,6 @@ impl Server {
     {
         let parents = new_parents(alloc, configs)?;
         let configs = configs.instances();
-        the_fault_is_the_first(configs);
         let pool = Pool::new(alloc);
         let spare = new_spare(alloc)?;
         let mut instances = Vec::new(alloc);

@@ -1,11 +1,14 @@
 //! A received frame: its answer is put, and what it brings to calls is acted on.
 
 ghost use Rattle.std.specs.Prelude.{◌≡◌, ◌<◌, true, false, OnOk, length};
+ghost use Rattle.std.specs.List.{AllByRecursion};
 ghost use Rattle.http2_frames.specs.Reader.{HasFrame, text_left};
 ghost use Rattle.grpc_sending.specs.StoredSending.{KeepsFit, KeepsSources};
 ghost use Rattle.conn_core.specs.StandsFor.{ReadsOneFrame};
 ghost use Rattle.conn_core.specs.Step.{TakesFrame, BringsEvent, ChangesCalls};
 ghost use Rattle.conn_core.specs.Putting.{Answers};
+ghost use Rattle.http2_streams.specs.ControlAnswers.{IsControlAnswer};
+ghost use Rattle.http2_streams.specs.Entries.{control_frames};
 ghost use Rattle.http2_streams.specs.LiveStreams.{stream_of_event};
 ghost use Rattle.http2_streams.specs.declared.event.Event.TheVariants.{Request, Content, Trailers, Cancel};
 
@@ -63,7 +66,8 @@ impl Connection {
     /// Puts the answer to a frame, and acts on what it brought. An answer that does not fit is an
     /// error of the connection, and so is a flood.
     fn take_answer(&mut self, answer: StreamEvent<'_>, flood: bool) -> Result<(), AllocError>
-        requires { self.old.ended ≡ false }
+        requires open { self.old.ended ≡ false }
+        requires answers { AllByRecursion IsControlAnswer (control_frames answer) }
         ensures stands { OnOk result (Answers self.old answer.entry flood self.new) }
         ensures reader { OnOk result (self.new.reader ≡ self.old.reader) }
         ensures fit { KeepsFit self.old.sending self.new.sending }

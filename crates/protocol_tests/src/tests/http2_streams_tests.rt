@@ -110,7 +110,4 @@ fn passes(alloc: Global) -> bool {
 #[test]
 fn sending(rt: HostRuntime) {
     assert!(rt; passes(rt.alloc()));
-    live_streams_rise();
-    other_entries_change_nothing();
-    windows_follow_from_the_history();
 }

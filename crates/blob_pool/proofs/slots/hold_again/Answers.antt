@@ -3,4 +3,4 @@ use Rattle.blob_pool.proofs.Pools.{pool_counted}
 use Rattle.blob_pool.proofs.slots.hold_again.Goals as goal
 
 pub returns-clause-pool : goal.returns-clause-pool
-returns-clause-pool c = λ index bytes pool. pool_counted c.args.slots.now.slots c.add_holder.new.slots.slots index bytes c.args.slot _ pool c.add_holder.ensures c.requires.held (omega arith)
+returns-clause-pool c = λ index pool. pool_counted c.args.slots.now.slots c.add_holder.new.slots.slots index c.args.slot _ pool c.add_holder.ensures c.requires.held (omega arith)

@@ -1,4 +1,4 @@
 use Rattle.blob_pool.proofs.slots.put_text.Goals as goal
 
 pub returns-in-Some-clause-pool : goal.returns-in-Some-clause-pool
-returns-in-Some-clause-pool c = c.hold_again.ensures.pool _ _ c.requires.pool
+returns-in-Some-clause-pool c = c.hold_again.ensures.pool _ c.requires.pool

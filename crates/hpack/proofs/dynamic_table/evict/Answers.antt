@@ -22,6 +22,6 @@ entries-preserved c =
       len = omega (arith, c.in-Some.ensures.cases);
     }
 
-pub returns-after-entries-clause-entries : goal.returns-after-entries-clause-entries
-returns-after-entries-clause-entries c =
+pub returns-clause-entries : goal.returns-clause-entries
+returns-clause-entries c =
     sym (longest_all c.entries.entries.items c.args.room (omega arith)) ∙ c.entries.invariant.same

@@ -1,5 +1,18 @@
-use Rattle.conn_core.proofs.Putting.{stops_first, stops_second, stops_third, comes_to_end}
+use Rattle.conn_core.proofs.Putting.{first, second, third, stops_first, stops_second, stops_third, comes_to_end}
+use Rattle.conn_core.proofs.StreamsLaws.{parts_are}
 use Rattle.conn_core.proofs.connection.Connection.put_all.Goals as goal
+
+pub put_one-requires : goal.put_one-requires
+put_one-requires c = (parts_are (first c.args.answer.now) _ c.requires).0
+
+pub put_one-requires-2 : goal.put_one-requires-2
+put_one-requires-2 c = (parts_are (second c.args.answer.now) _ (parts_are (first c.args.answer.now) _ c.requires).1).0
+
+pub put_one-requires-3 : goal.put_one-requires-3
+put_one-requires-3 c = (parts_are (third c.args.answer.now) _ (parts_are (second c.args.answer.now) _ (parts_are (first c.args.answer.now) _ c.requires).1).1).0
+
+pub put_one-requires-4 : goal.put_one-requires-4
+put_one-requires-4 c = (parts_are (third c.args.answer.now) _ (parts_are (second c.args.answer.now) _ (parts_are (first c.args.answer.now) _ c.requires).1).1).1
 
 pub returns-then-not-put_one-clause-puts : goal.returns-then-not-put_one-clause-puts
 returns-then-not-put_one-clause-puts c = stops_first c.args.answer.now c.args.self.now c.put_one.new.self c.put_one.result c.if-not-put_one.true c.put_one.ensures.puts

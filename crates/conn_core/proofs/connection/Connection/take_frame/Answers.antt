@@ -3,7 +3,11 @@ use Rattle.conn_core.proofs.Frames.{taken_by, fault_by}
 use Rattle.conn_core.specs.Step.{with_reader}
 use Rattle.conn_core.proofs.Readers.{for_all, for_this, fails_beside}
 use Rattle.conn_core.proofs.Looks.{fit_by, fit_same}
+use Rattle.conn_core.proofs.StreamsLaws.{of_given}
 use Rattle.conn_core.proofs.connection.Connection.take_frame.Goals as goal
+
+pub take_answer-requires-clause-answers : goal.take_answer-requires-clause-answers
+take_answer-requires-clause-answers c = of_given c.on_frame.result c.in-Ok.answer c.in-Ok.is c.on_frame.ensures.answers
 
 pub returns-in-Ok-clause-stands : goal.returns-in-Ok-clause-stands
 returns-in-Ok-clause-stands c = for_all _ c.take_answer.result (λ reader texts. taken_by texts c.take_answer.result c.on_frame.result (record { reader = reader; streams = c.self.inside.streams; sending = c.self.inside.sender; calls = c.self.inside.calls.items; due = c.self.inside.due.items; ended = c.self.inside.ended; reset_count = c.self.inside.reset_count }) (with_reader reader c.args.self.now) (with_reader reader c.take_answer.new.self) c.on_frame.new.self c.after_frame-count.result c.args.frame.now c.in-Ok.answer c.is_flood-flood.result (record { resets = c.resets_live-resets.result; resets_is = c.resets_live-resets.ensures; floods = c.is_flood-flood.ensures; counted = c.after_frame-count.ensures.count }) (ap (with_reader reader) c.self.view_is) c.in-Ok.is c.on_frame.ensures.causes c.on_frame.ensures.stands (for_this _ c.take_answer.result c.take_answer.ensures.stands reader texts))

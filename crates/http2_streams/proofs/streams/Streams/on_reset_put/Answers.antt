@@ -2,4 +2,4 @@ use Rattle.http2_streams.proofs.PutLaw.{reset_put_law}
 use Rattle.http2_streams.proofs.streams.Streams.on_reset_put.Goals as goal
 
 pub returns-clause-stands : goal.returns-clause-stands
-returns-clause-stands c = λ d code h. reset_put_law _ _ d _ code c.requires c.reset.ensures h
+returns-clause-stands c = λ d code low h. reset_put_law _ _ d _ code low c.reset.ensures h

@@ -6,14 +6,14 @@ use Rattle.served_instance.specs.Slots.{served_state_in}
 use Rattle.std.proofs.lemmas.List.{length_push, length-map, take_all}
 use Rattle.server_core.specs.Shared.{all_in}
 use Rattle.server_core.proofs.Begins.{quota_in, slots_in, starts_more, all_pushed, within_pushed, nobody_pushed, tidy_pushed, server_begun}
-use Rattle.server_events.proofs.FaultLemmas.{parents_good}
+use Rattle.server_events.proofs.FaultLemmas.{none_is_good, parents_good}
 use Rattle.server_events.specs.Faults.{AreParents}
 use Rattle.server_core.proofs.server.Server.new.Goals as goal
 
 pub new-requires : goal.new-requires
 new-requires c =
     let good = ap config_fault c.instances-configs.ensures.instances ∙ c.instances-configs.ensures.good in
-    let each = (c.the_fault_is_the_first.ensures.none.0 good).good.each in
+    let each = ((none_is_good (map config_value c.instances-configs.result.now)).0 good).good.each in
     record {
       quota = quota_in _ _ _ c.loop-config-test.true c.config-item.is each;
       slots = slots_in _ _ _ c.loop-config-test.true c.config-item.is each;
@@ -46,7 +46,7 @@ invariant_of-result c =
     let ys = c.loop-config.instances.items in
     let good = ap config_fault c.instances-configs.ensures.instances ∙ c.instances-configs.ensures.good in
     let parents = c.in_ok-parents.ensures in
-    let some = (c.the_fault_is_the_first.ensures.none.0 good).few in
+    let some = ((none_is_good (map config_value c.instances-configs.result.now)).0 good).few in
     let few : length ys ≤ instance_limit = omega (arith, c.loop-config.invariant.count, c.loop-config.auto.config-index-end, length-map xs config_value, some) in (
       server_begun c.new-pool.result ys c.new-pool.ensures few c.loop-config.invariant.nobody (c.loop-config.invariant.within c.new-pool.result) c.loop-config.invariant.tidy,
       c.in_ok-spare.ensures,

@@ -1,1 +1,3 @@
 mod Pairs
+mod Trees
+mod Found

@@ -1,3 +1,4 @@
 pub mod Results
 pub mod Complete
 pub mod Answering
+pub mod LastTrees

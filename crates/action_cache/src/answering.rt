@@ -8,9 +8,9 @@ ghost use Rattle.instance_view.specs.Shown.{visible_in, holders};
 ghost use Rattle.instance_view.specs.Sight.{sight_of};
 ghost use Rattle.input_tree.specs.Texts.{texts_of};
 ghost use Rattle.input_tree.specs.Uses.{visible_after_uses};
-ghost use Rattle.action_cache.specs.Answering.{blobs_for, blobs_used, result_for, results_after};
+ghost use Rattle.action_cache.specs.Answering.{HaveSameUses, blobs_for, blobs_used, result_for, results_after};
 
-use crate::complete::blobs_of;
+use crate::complete::blobs_once;
 use crate::results::Results;
 use blob_pool::Pool;
 use digest::Digest;
@@ -23,7 +23,8 @@ use std::alloc::{AllocError, Global};
 pub struct FoundResult {
     /// A copy of its bytes, as they were stored.
     pub text: Vec<u8>,
-    /// The digests of the blobs that it names, in order.
+    /// The digests of the blobs that it names, in order. A tree and its files stand where it is
+    /// named last alone: their uses come to the same.
     pub blobs: Vec<Digest>,
 }
 
@@ -31,7 +32,7 @@ pub struct FoundResult {
 ///
 /// A result is complete where it can be read, its trees can, and each blob is there that it names:
 /// output files, trees with the files of their roots and children, and standard output and error
-/// where they are set.
+/// where they are set. Each tree is read once, however often it is named.
 pub fn find_result(
     alloc: Global,
     results: &Results,
@@ -41,13 +42,13 @@ pub fn find_result(
 ) -> Result<Option<FoundResult>, AllocError>
     ensures text { IfOk result (λ found. option_map (λ f. f.text.items) found
         ≡ result_for (texts_of pool.now view.now) action.now results.now) }
-    ensures blobs { IfOk result (λ found. option_map (λ f. f.blobs.items) found
-        ≡ blobs_for (texts_of pool.now view.now) action.now results.now) }
+    ensures blobs { IfOk result (λ found. HaveSameUses (option_map (λ f. f.blobs.items) found)
+        (blobs_for (texts_of pool.now view.now) action.now results.now)) }
 {
     let Some(text) = results.get(action) else {
         return Ok(None);
     };
-    let Some(blobs) = blobs_of(alloc, view, pool, text)? else {
+    let Some(blobs) = blobs_once(alloc, view, pool, text)? else {
         return Ok(None);
     };
     let text = Vec::from_slice(alloc, text)?;

@@ -1,15 +1,18 @@
 //! Which results are complete: those that can be read, whose trees can, and of which each blob is
 //! there.
 
-ghost use Rattle.std.specs.Prelude.{◌≡◌, List, Option, map, is_some, option_map, IfOk};
+ghost use Rattle.std.specs.Prelude.{◌≡◌, List, Option, map, reverse, is_some, option_map, IfOk};
 ghost use Rattle.message_fields.specs.Fields.{value_of_text};
 ghost use Rattle.reapi_messages.specs.Digests.{digest_shown};
 ghost use Rattle.tree_messages.specs.Directories.{directory_shown, tree_of};
 ghost use Rattle.digest.specs.declared.Digest.{Digest};
 ghost use Rattle.input_tree.specs.Listing.{Lookup};
 ghost use Rattle.input_tree.specs.Texts.{texts_of};
-ghost use Rattle.action_cache.specs.Complete.{with_blob, with_set, with_each, with_root, with_tree, blobs_of};
+ghost use Rattle.action_cache.specs.Complete.{with_blob, with_set, with_each, with_root, with_tree, with_output_directory};
+ghost use Rattle.action_cache.specs.LastTrees.{last_trees, blobs_once};
+ghost use Rattle.tree_messages.specs.Results.{output_directory_shown};
 
+use crate::last_trees::last_trees;
 use blob_pool::Pool;
 use digest::Digest;
 use input_tree::{digest_written, text_or_none};
@@ -200,16 +203,45 @@ fn name_tree(blobs: &Blobs<'_>, named: Vec<Digest>, text: &[u8]) -> Named
     name_each(blobs, named, &tree.children)
 }
 
-/// The digests of all blobs that a result names: its files, its trees, each followed by its files,
-/// what it printed. `None` where it or a tree cannot be read, or a blob is not there.
-pub fn blobs_of(
+/// Names the blobs of output directories, the last of which comes first.
+fn name_from_last(blobs: &Blobs<'_>, named: Vec<Digest>, outputs: Vec<OutputDirectory<'_>>) -> Named
+    ensures { IfOk result (λ all. option_map (λ v. v.items) all
+        ≡ with_each (with_output_directory (texts_of blobs.now.pool.now blobs.now.view.now))
+        named.items (reverse (map output_directory_shown outputs.entry.items))) }
+{
+    let mut named = named;
+    let mut outputs = outputs;
+    'outputs: while let Some(output) = outputs.pop() {
+        let Some(more) = output.name(blobs, named)? else {
+            return Ok(None);
+        };
+        named = more;
+    }
+    Ok(Some(named))
+}
+
+/// Names each tree that output directories name and its files, where it is named last.
+#[tactic(auto, using(crate::proofs::Trees::kept_are_last))]
+fn name_trees(blobs: &Blobs<'_>, named: Vec<Digest>, outputs: &[OutputDirectory<'_>]) -> Named
+    ensures { IfOk result (λ all. option_map (λ v. v.items) all
+        ≡ with_each (with_output_directory (texts_of blobs.now.pool.now blobs.now.view.now))
+        named.items (last_trees (map output_directory_shown outputs.now))) }
+{
+    let last = last_trees(blobs.alloc, outputs)?;
+    name_from_last(blobs, named, last)
+}
+
+/// The digests of the blobs that a result names: its files, its trees, each followed by its files
+/// where it is named last, what it printed. `None` where it or a tree cannot be read, or a blob is
+/// not there. Each tree is read once.
+pub fn blobs_once(
     alloc: Global,
     view: &Sight<'_>,
     pool: &Pool,
     text: &[u8],
 ) -> Result<Option<Vec<Digest>>, AllocError>
     ensures { IfOk result (λ all. option_map (λ v. v.items) all
-        ≡ blobs_of (texts_of pool.now view.now) text.now) }
+        ≡ blobs_once (texts_of pool.now view.now) text.now) }
 {
     let result = match ActionResult::decode(alloc, text) {
         Ok(result) => result,
@@ -220,7 +252,7 @@ pub fn blobs_of(
     let Some(files) = name_each(&blobs, Vec::new(alloc), &result.output_files)? else {
         return Ok(None);
     };
-    let Some(all) = name_each(&blobs, files, &result.output_directories)? else {
+    let Some(all) = name_trees(&blobs, files, &result.output_directories)? else {
         return Ok(None);
     };
     let Some(all) = name_set(&blobs, all, &result.stdout_digest)? else {

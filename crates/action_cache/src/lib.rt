@@ -3,8 +3,10 @@
 
 mod answering;
 mod complete;
+mod last_trees;
+mod laws;
 mod results;
 
 pub use answering::{FoundResult, find_result, get_result, use_result};
-pub use complete::blobs_of;
+pub use laws::the_last_of_each_tree_is_enough;
 pub use results::{MOST_RESULT_BYTES, MOST_RESULTS, Results};

@@ -1,5 +1,5 @@
 -- What calls of Execute and WaitExecution do, from what the functions do that they call.
-use Rattle.std.proofs.Common.{◌≡◌, ℕ, ◌+◌, ◌<◌, ◌≤◌, Bool, true, false, List, [], ◌∷◌, ◌++◌, length, map, Option, Some, None, refl, sym, ap, ◌∙◌, arith}
+use Rattle.std.proofs.Common.{◌≡◌, ℕ, ◌+◌, ◌<◌, ◌≤◌, Bool, true, false, List, [], ◌∷◌, ◌++◌, length, map, Option, Some, None, is_some, unwrap_or, refl, sym, ap, ◌∙◌, arith, if◌then◌else◌}
 use Rattle.std.specs.Prelude.{nat_eq, nat_le, nat_lt, option_map, Ok}
 use Rattle.std.specs.Map.{lookup}
 use Rattle.std.proofs.lemmas.Bool.Decides.{nat_tests}
@@ -15,7 +15,7 @@ use Rattle.instance_view.specs.Sight.{SightValue, seen_in, sight_holders, sight_
 use Rattle.instance_view.proofs.Held.{shown_same, shown_apart}
 use Rattle.input_tree.specs.Texts.{texts_of}
 use Rattle.input_tree.specs.Uses.{visible_after_uses}
-use Rattle.action_cache.specs.Answering.{blobs_for, blobs_used, results_after}
+use Rattle.action_cache.specs.Answering.{HaveSameUses, blobs_for, blobs_used, results_after}
 use Rattle.job_queue.specs.Jobs.{Jobs, waits, runs, has_ended, same_number, jobs_after_done, jobs_after_push, stage_of, or_else}
 use Rattle.job_queue.specs.Sums.{waiting_sum, running_sum}
 use Rattle.job_queue.specs.declared.queue.Running.{Running}
@@ -77,11 +77,20 @@ pub uses_first : (ds : List Digest) (cs : List ExecuteChange) (s : ExecutionStat
 uses_first [] cs s = refl
 uses_first (d ∷ ds) cs s = uses_first ds cs _
 
-pub found_after : (p : Slots) (view after parent : ViewValue) (results : List Blob) (jobs : Jobs Job) (d : Digest) (blobs : List Digest) (operation : List ℕ) → visible_in p after ≡ visible_after_uses blobs (visible_in p view) → Some blobs ≡ blobs_for (texts_of p (sight_of view parent)) d results → execution_in p (sight_of after parent) (with_match_first (same_digest d) results) (jobs_after_done operation jobs) ≡ after_changes (Keeps (results_after (texts_of p (sight_of view parent)) d results) ∷ (map Uses (blobs_used (texts_of p (sight_of view parent)) d results) ++ Does operation ∷ [])) (execution_in p (sight_of view parent) results jobs)
-found_after p view after parent results jobs d blobs operation used is =
-    let cs : List ExecuteChange = Does operation ∷ [] in
-    let first = uses_first blobs cs (execution_in p (sight_of view parent) (with_match_first (same_digest d) results) jobs) in
-    rw (← is, first, used) refl
+pub found_after : (p : Slots) (view after parent : ViewValue) (results : List Blob) (jobs : Jobs Job) (d : Digest) (blobs : List Digest) (operation : List ℕ) → visible_in p after ≡ visible_after_uses blobs (visible_in p view) → HaveSameUses (Some blobs) (blobs_for (texts_of p (sight_of view parent)) d results) → execution_in p (sight_of after parent) (with_match_first (same_digest d) results) (jobs_after_done operation jobs) ≡ after_changes (Keeps (results_after (texts_of p (sight_of view parent)) d results) ∷ (map Uses (blobs_used (texts_of p (sight_of view parent)) d results) ++ Does operation ∷ [])) (execution_in p (sight_of view parent) results jobs)
+found_after p view after parent results jobs d blobs operation used same = rw used (go (blobs_for (texts_of p (sight_of view parent)) d results) same) where
+  cs : List ExecuteChange
+  cs = Does operation ∷ []
+
+  s : ExecutionState
+  s = execution_in p (sight_of view parent) results jobs
+
+  after_uses : List Blob → ExecutionState
+  after_uses visible = record { visible = visible; parent = visible_in p parent; results = with_match_first (same_digest d) results; jobs = jobs_in p (jobs_after_done operation jobs) }
+
+  go : (o : Option (List Digest)) → HaveSameUses (Some blobs) o → after_uses (visible_after_uses blobs (visible_in p view)) ≡ after_changes (Keeps (if is_some o then with_match_first (same_digest d) results else results) ∷ (map Uses (unwrap_or o []) ++ cs)) s
+  go (Some ds) same = ap after_uses (same (visible_in p view)) ∙ sym (uses_first ds cs (record s { results = with_match_first (same_digest d) results }))
+  go None same = absurd same
 
 pub job_after : (p q : Slots) (view after parent : ViewValue) (results : List Blob) (jobs : Jobs Job) (d : Digest) (prepared : PreparedValue) (job : Job) → visible_in q after ≡ visible_after_uses (met d prepared) (visible_in q view) → visible_in q view ≡ visible_in p view → visible_in q parent ≡ visible_in p parent → jobs_in q jobs ≡ jobs_in p jobs → job_in q job ≡ job_of (texts_of p (sight_of view parent)) d prepared → execution_in q (sight_of after parent) results (jobs_after_push job jobs) ≡ after_changes (map Uses (met d prepared) ++ Pushes (job_of (texts_of p (sight_of view parent)) d prepared) ∷ []) (execution_in p (sight_of view parent) results jobs)
 job_after p q view after parent results jobs d prepared job used seen others same is =

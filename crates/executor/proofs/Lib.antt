@@ -7,3 +7,4 @@ pub mod Turns
 pub mod StartedJobs
 pub mod Taken
 pub mod Numbers
+pub mod Tasks

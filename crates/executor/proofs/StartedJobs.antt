@@ -11,7 +11,7 @@ use Rattle.operations.specs.Operations.{EndValue}
 use Rattle.executor.specs.declared.orders.Order.TheVariants.{Kill}
 use Rattle.executor.specs.Job.{JobValue, TaskValue}
 use Rattle.executor.specs.Ordered.{orders_by, order_meant}
-use Rattle.executor.specs.Orders.{OrderValue, start, order_of, orders_of, task_of}
+use Rattle.executor.specs.Orders.{OrderValue, start, order_of, orders_of, task_of, AreOrdered}
 use Rattle.executor.specs.Steps.{StepValue, times_out, ends, starts, jobs_after_steps, timings_out, starts_of, starts_at, then_starts, ending_of}
 use Rattle.executor.proofs.Turns.{steps-append}
 
@@ -127,3 +127,19 @@ pub turn-meant : (slots moment : ℕ) (first : List StepValue) (jobs : Jobs JobV
 turn-meant slots moment first jobs h =
     let steps : List StepValue = then_starts slots moment first jobs in
     meant (jobs_after_steps steps jobs) steps (turn-runs slots moment first jobs h)
+
+-- ---- no order is lost
+
+ordered : (after : Jobs JobValue) (steps : List StepValue) → AllByRecursion (HasStarted after) steps → AreOrdered after steps (filter_map (order_of after) steps)
+ordered after [] h = tt
+ordered after (times_out n operation ∷ steps) h = (refl, ordered after steps h.1)
+ordered after (ends n operation ∷ steps) h = ordered after steps h.1
+ordered after (starts n deadline operation ∷ steps) h =
+    let t = one-meant after n h.0 in
+    let here : order_of after (starts n deadline operation) ≡ Some (start n t.0) = ap (option_map (start n)) t.1 in
+    rw here ((t.0, t.1, refl), ordered after steps h.1)
+
+pub turn-ordered : (slots moment : ℕ) (first : List StepValue) (jobs : Jobs JobValue) → AllByRecursion IsEnd first → let steps = then_starts slots moment first jobs in AreOrdered (jobs_after_steps steps jobs) steps (orders_of steps jobs)
+turn-ordered slots moment first jobs h =
+    let steps : List StepValue = then_starts slots moment first jobs in
+    ordered (jobs_after_steps steps jobs) steps (turn-runs slots moment first jobs h)

@@ -7,7 +7,7 @@ ghost use Rattle.instance_view.specs.Visible.{Blob};
 ghost use Rattle.instance_view.specs.Shown.{ViewValue, holders};
 ghost use Rattle.instance_view.specs.Sight.{SightValue, sight_holders, sight_of};
 ghost use Rattle.input_tree.specs.Texts.{texts_of};
-ghost use Rattle.action_cache.specs.Answering.{blobs_for, result_for};
+ghost use Rattle.action_cache.specs.Answering.{HaveSameUses, blobs_for};
 ghost use Rattle.cas_service.specs.Answers.{Answers};
 ghost use Rattle.job_queue.specs.Jobs.{jobs_after_done};
 ghost use Rattle.job_queue.specs.declared.queue.TheConstants.{LAST_NUMBER};
@@ -24,7 +24,7 @@ use crate::asked::Asked;
 use crate::job::{Executions, Job};
 use crate::making::{digests_met, enqueue, make_job};
 use crate::preparing::{Prepared, Unprepared, prepare};
-use action_cache::{Results, blobs_of};
+use action_cache::{FoundResult, Results, find_result};
 use blob_pool::Pool;
 use cas_service::CallError;
 use digest::Digest;
@@ -35,52 +35,20 @@ use operations::{End, ExecutionStage, Fault, completed, unfinished};
 use rpc::Refusal;
 use std::alloc::{AllocError, Global};
 
-/// A stored result that is complete.
-#[derive(Drop)]
-struct Found {
-    text: Vec<u8>,
-    /// The digests of the blobs that it names, in order.
-    blobs: Vec<Digest>,
-}
-
-/// The stored result of an action, where it is complete. This is no use of it.
-fn find_result(
-    alloc: Global,
-    results: &Results,
-    view: &Sight<'_>,
-    pool: &Pool,
-    action: &Digest,
-) -> Result<Option<Found>, AllocError>
-    requires { (k : ℕ) → sight_holders view.now k ≤ count_at pool.now k }
-    ensures text { IfOk result (λ found. option_map (λ f. f.text.items) found
-        ≡ result_for (texts_of pool.now view.now) action.now results.now) }
-    ensures blobs { IfOk result (λ found. option_map (λ f. f.blobs.items) found
-        ≡ blobs_for (texts_of pool.now view.now) action.now results.now) }
-{
-    let Some(text) = results.get(action) else {
-        return Ok(None);
-    };
-    let Some(blobs) = blobs_of(alloc, view, pool, text)? else {
-        return Ok(None);
-    };
-    let text = Vec::from_slice(alloc, text)?;
-    Ok(Some(Found { text, blobs }))
-}
-
-/// The same, unless it is not to be looked up.
+/// The stored result of an action, where it is complete, unless it is not to be looked up. This is
+/// no use of it.
 fn look_up(
     alloc: Global,
     results: &Results,
     view: &Sight<'_>,
     pool: &Pool,
     asked: &Asked,
-) -> Result<Option<Found>, AllocError>
-    requires { (k : ℕ) → sight_holders view.now k ≤ count_at pool.now k }
+) -> Result<Option<FoundResult>, AllocError>
     ensures text { IfOk result (λ found. option_map (λ f. f.text.items) found
         ≡ looked_up asked.now.skips_lookup (texts_of pool.now view.now) asked.now.action
         results.now) }
-    ensures blobs { IfOk result (λ found. IfSome found (λ f. Some f.blobs.items
-        ≡ blobs_for (texts_of pool.now view.now) asked.now.action results.now)) }
+    ensures blobs { IfOk result (λ found. IfSome found (λ f. HaveSameUses (Some f.blobs.items)
+        (blobs_for (texts_of pool.now view.now) asked.now.action results.now))) }
 {
     if asked.skips_lookup {
         return Ok(None);
@@ -116,7 +84,7 @@ fn answer_found(
     view: &mut View,
     queue: &mut Queue<Job>,
     action: &Digest,
-    found: Found,
+    found: FoundResult,
 ) -> Result<ExecuteAnswer, CallError>
     requires next { queue.old.next ≤ LAST_NUMBER }
     requires size { action.now.size < 2 ^ 63 }
@@ -125,7 +93,8 @@ fn answer_found(
     ensures after { (p : Slots) (parent : ViewValue) →
         let sight = sight_of view.old parent in
         let state = execution_in p sight results.old queue.old in
-        Some found.blobs.items ≡ blobs_for (texts_of p sight) action.now results.old →
+        HaveSameUses (Some found.blobs.items)
+        (blobs_for (texts_of p sight) action.now results.old) →
         OnOk result (execution_in p (sight_of view.new parent) results.new queue.new
         ≡ after_changes (by_result state action.now found.text.items).changes state) }
     ensures err { OnErr result ((results.new ≡ results.old) × (view.new ≡ view.old)

@@ -2,3 +2,5 @@ mod Order
 mod Listed
 mod Using
 mod Paging
+pub mod Records
+pub mod LastUses

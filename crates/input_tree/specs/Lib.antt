@@ -6,3 +6,4 @@ pub mod Texts
 pub mod Pages
 pub mod Uses
 pub use Rattle.decimals.specs.Number
+pub mod Taking

@@ -12,10 +12,10 @@ ghost use Rattle.input_tree.specs.Pages.{text_or_none};
 
 use crate::names::{are_apart, are_rising, have_form};
 use crate::nodes::digest_written;
+use crate::taking::take_directory;
 use blob_pool::{Kept, Pool};
 use digest::Digest;
 use instance_view::{Seen, Sight, copy_of};
-use message_fields::{Message, MessageError};
 use std::alloc::{AllocError, Global};
 use tree_messages::{Directory, DirectoryNode};
 
@@ -30,7 +30,7 @@ fn has_nodes(directory: &Directory<'_>) -> bool
         && have_form(&directory.symlinks)
 }
 
-fn has_order(directory: &Directory<'_>) -> bool
+pub(crate) fn has_order(directory: &Directory<'_>) -> bool
     ensures { result ≡ has_order (directory_shown directory.now) }
 {
     are_rising(&directory.files)
@@ -72,13 +72,9 @@ pub fn children_in(alloc: Global, text: &[u8]) -> Result<Option<Vec<Digest>>, Al
     ensures { IfOk result (λ found. option_map (λ digests. digests.items) found
         ≡ children_in text.now) }
 {
-    if text.len() > MOST_DIRECTORY_BYTES {
-        return Ok(None);
-    }
-    match Directory::decode(alloc, text) {
-        Ok(directory) if check(&directory) => Ok(Some(digests_of(alloc, &directory.directories)?)),
-        Err(MessageError::NoMemory) => Err(AllocError),
-        _ => Ok(None),
+    match take_directory(alloc, text)? {
+        None => Ok(None),
+        Some(directory) => Ok(Some(digests_of(alloc, &directory.directories)?)),
     }
 }
 

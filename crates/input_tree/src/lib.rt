@@ -4,17 +4,21 @@
 
 mod directory;
 mod error;
+mod laws;
 mod listing;
 mod names;
 mod nodes;
 mod pages;
+mod taking;
 mod tree;
 mod uses;
 
 pub use directory::{MOST_DIRECTORY_BYTES, check, text_or_none};
 pub use error::{GetTreeError, TreeRefusal};
+pub use laws::only_the_last_use_counts;
 pub use listing::{MOST_DIRECTORIES, list_tree};
 pub use nodes::{digest_written, is_name};
 pub use pages::{MOST_PAGE_BYTES, MOST_PAGE_DIRECTORIES};
+pub use taking::{payload_of, take_directory};
 pub use tree::get_tree;
 pub use uses::use_all;

@@ -1,8 +1,8 @@
 //! The list of a tree's directories.
 
-ghost use Rattle.std.specs.Prelude.{◌≡◌, Ok, IfErr, OnOk};
+ghost use Rattle.std.specs.Prelude.{◌≡◌, ℕ, Ok, IfErr, OnOk};
 ghost use Rattle.input_tree.specs.Answers.{Fails, Lists};
-ghost use Rattle.input_tree.specs.Listing.{AreNone, children, listed_along, tree_list, with_listed, with_all_listed, with_children};
+ghost use Rattle.input_tree.specs.Listing.{AreDue, AreNone, children, listed_along, tree_list, with_listed, with_all_listed};
 ghost use Rattle.input_tree.specs.Texts.{texts_of};
 
 use crate::directory::children;
@@ -12,14 +12,18 @@ use digest::Digest;
 use indexmap::IndexSet;
 use instance_view::Sight;
 use std::alloc::{AllocError, Global};
+use std::collections::VecDeque;
 
 /// The most directories that a tree's list has.
 pub const MOST_DIRECTORIES: usize = 10_000;
 
-/// The directories that are listed, and digests of which it is known that they have none.
+/// The directories that are listed, and what is known of them and of others.
 #[derive(Drop)]
 pub struct Listing {
     pub listed: IndexSet<Digest>,
+    /// The digests of the directories in each listed directory from a place on.
+    pub due: VecDeque<Vec<Digest>>,
+    /// Digests of which it is known that they have no directory.
     pub others: IndexSet<Digest>,
 }
 
@@ -35,14 +39,22 @@ fn list_one(
     ensures listed { OnOk result (listing.new.listed.keys
         ≡ with_listed (texts_of pool.now view.now) listing.old.listed.keys digest.now) }
     ensures others { OnOk result (AreNone (texts_of pool.now view.now) listing.new.others.keys) }
+    ensures due { (place : ℕ) →
+        AreDue (texts_of pool.now view.now) place listing.old.listed.keys listing.old.due.items →
+        OnOk result (AreDue (texts_of pool.now view.now) place
+        listing.new.listed.keys listing.new.due.items) }
 {
     if listing.listed.contains(digest) || listing.others.contains(digest) {
         return Ok(());
     }
-    if children(alloc, view, pool, digest)?.is_some() {
-        listing.listed.insert(*digest)?;
-    } else {
-        listing.others.insert(*digest)?;
+    match children(alloc, view, pool, digest)? {
+        Some(inside) => {
+            listing.listed.insert(*digest)?;
+            listing.due.push_back(inside)?;
+        }
+        None => {
+            listing.others.insert(*digest)?;
+        }
     }
     Ok(())
 }
@@ -59,6 +71,10 @@ fn list_each(
     ensures listed { OnOk result (listing.new.listed.keys
         ≡ with_all_listed (texts_of pool.now view.now) listing.old.listed.keys digests.now) }
     ensures others { OnOk result (AreNone (texts_of pool.now view.now) listing.new.others.keys) }
+    ensures due { (place : ℕ) →
+        AreDue (texts_of pool.now view.now) place listing.old.listed.keys listing.old.due.items →
+        OnOk result (AreDue (texts_of pool.now view.now) place
+        listing.new.listed.keys listing.new.due.items) }
 {
     let mut left = digests;
     'digests: while let [first, rest @ ..] = left {
@@ -66,25 +82,6 @@ fn list_each(
         left = rest;
     }
     Ok(())
-}
-
-/// Lists what is in a directory.
-fn list_children(
-    alloc: Global,
-    view: &Sight<'_>,
-    pool: &Pool,
-    listing: &mut Listing,
-    digest: &Digest,
-) -> Result<(), AllocError>
-    requires others { AreNone (texts_of pool.now view.now) listing.old.others.keys }
-    ensures listed { OnOk result (listing.new.listed.keys
-        ≡ with_children (texts_of pool.now view.now) listing.old.listed.keys digest.now) }
-    ensures others { OnOk result (AreNone (texts_of pool.now view.now) listing.new.others.keys) }
-{
-    match children(alloc, view, pool, digest)? {
-        None => Ok(()),
-        Some(digests) => list_each(alloc, view, pool, listing, &digests),
-    }
 }
 
 /// Goes along the list to its end.
@@ -96,18 +93,19 @@ fn list_along(
     listing: &mut Listing,
 ) -> Result<(), GetTreeError>
     requires others { AreNone (texts_of pool.now view.now) listing.old.others.keys }
+    requires due { AreDue (texts_of pool.now view.now) 0 listing.old.listed.keys
+        listing.old.due.items }
     ensures ok { OnOk result (listed_along MOST_DIRECTORIES
         (texts_of pool.now view.now) listing.old.listed.keys 0 ≡ Ok listing.new.listed.keys) }
     ensures err { IfErr result (λ e. Fails e
         (listed_along MOST_DIRECTORIES (texts_of pool.now view.now) listing.old.listed.keys 0)) }
 {
     let mut place = 0;
-    'directories: while let Some(directory) = listing.listed.get_index(place) {
+    'directories: while let Some(inside) = listing.due.pop_front() {
         if place == MOST_DIRECTORIES {
             return Err(GetTreeError::Refused(TreeRefusal::TooMany));
         }
-        let digest = *directory;
-        list_children(alloc, view, pool, listing, &digest)?;
+        list_each(alloc, view, pool, listing, &inside)?;
         place += 1;
     }
     Ok(())
@@ -116,7 +114,7 @@ fn list_along(
 /// The digests of a tree's directories: the root's, and then, going along the list, those of each
 /// directory that a listed one has, can be read, is taken (`check`) and is not listed yet.
 ///
-/// A directory is read once for its own place, and once at most for all that name it.
+/// Each text is read once, however often it is named.
 pub fn list_tree(
     alloc: Global,
     view: &Sight<'_>,
@@ -128,14 +126,16 @@ pub fn list_tree(
     if !view.contains(root) {
         return Err(GetTreeError::Refused(TreeRefusal::NotFound));
     }
-    if children(alloc, view, pool, root)?.is_none() {
+    let Some(inside) = children(alloc, view, pool, root)? else {
         return Err(GetTreeError::Refused(TreeRefusal::BadDirectory));
-    }
+    };
     let mut listing = Listing {
         listed: IndexSet::new(alloc),
+        due: VecDeque::new(alloc),
         others: IndexSet::new(alloc),
     };
     listing.listed.insert(*root)?;
+    listing.due.push_back(inside)?;
     list_along(alloc, view, pool, &mut listing)?;
     Ok(listing.listed)
 }

@@ -10,7 +10,7 @@ use crate::nodes::Node;
 use std::cmp::Ordering;
 
 /// Whether each node has its form.
-pub fn have_form<N: Node>(nodes: &[N]) -> bool
+pub fn have_form<'a, N: Node<'a>>(nodes: &[N]) -> bool
     ensures { result ≡ list_all N.is_node (map N.shown nodes.now) }
 {
     let mut left = nodes;
@@ -30,7 +30,7 @@ fn compared(a: &str, b: &str) -> Ordering
 }
 
 /// Whether each name precedes the next.
-pub fn are_rising<N: Node>(nodes: &[N]) -> bool
+pub fn are_rising<'a, N: Node<'a>>(nodes: &[N]) -> bool
     ensures { result ≡ are_rising (map N.name_of (map N.shown nodes.now)) }
 {
     let mut left = nodes;
@@ -47,7 +47,7 @@ pub fn are_rising<N: Node>(nodes: &[N]) -> bool
 }
 
 /// The nodes from the first on whose name does not precede a name.
-fn from_name<'a, N: Node>(nodes: &'a [N], name: &str) -> &'a [N]
+fn from_name<'a, 'n, N: Node<'n>>(nodes: &'a [N], name: &str) -> &'a [N]
     ensures { map N.name_of (map N.shown result.now)
         ≡ from_name name.now (map N.name_of (map N.shown nodes.now)) }
 {
@@ -63,7 +63,7 @@ fn from_name<'a, N: Node>(nodes: &'a [N], name: &str) -> &'a [N]
 }
 
 /// Whether the first node has the name.
-fn begin_with<N: Node>(nodes: &[N], name: &str) -> bool
+fn begin_with<'a, N: Node<'a>>(nodes: &[N], name: &str) -> bool
     ensures { result ≡ begin_with name.now (map N.name_of (map N.shown nodes.now)) }
 {
     match nodes {
@@ -76,7 +76,7 @@ fn begin_with<N: Node>(nodes: &[N], name: &str) -> bool
 }
 
 /// Whether no name is met while both lists are gone along.
-fn never_meet<M: Node, N: Node>(some: &[M], others: &[N]) -> bool
+fn never_meet<'a, M: Node<'a>, N: Node<'a>>(some: &[M], others: &[N]) -> bool
     ensures { result ≡ never_meet (map M.name_of (map M.shown some.now))
         (map N.name_of (map N.shown others.now)) }
 {
@@ -93,7 +93,7 @@ fn never_meet<M: Node, N: Node>(some: &[M], others: &[N]) -> bool
 }
 
 /// Whether no name stands in both lists, each of which is in order.
-pub fn are_apart<M: Node, N: Node>(some: &[M], others: &[N]) -> bool
+pub fn are_apart<'a, M: Node<'a>, N: Node<'a>>(some: &[M], others: &[N]) -> bool
     requires some { are_rising (map M.name_of (map M.shown some.now)) ≡ true }
     requires others { are_rising (map N.name_of (map N.shown others.now)) ≡ true }
     ensures { result ≡ are_apart (map M.name_of (map M.shown some.now))

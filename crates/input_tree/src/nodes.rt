@@ -1,17 +1,23 @@
 //! The nodes of a directory: files, directories and symbolic links.
 
-ghost use Rattle.std.specs.Prelude.{◌≡◌, Bool, ℕ, List, option_map};
+ghost use Rattle.std.specs.Prelude.{◌≡◌, Bool, ℕ, List, Result, option_map};
 ghost use Rattle.std.specs.List.{list_all};
+ghost use Rattle.message_fields.specs.declared.error.MessageError.{MessageError};
+ghost use Rattle.message_fields.specs.Record.{Record};
+ghost use Rattle.message_fields.specs.Answers.{Means};
+ghost use Rattle.message_fields.specs.Fields.{value_of_text};
 ghost use Rattle.reapi_messages.specs.Digests.{digest_shown};
 ghost use Rattle.input_tree.specs.Directories.{written_digest};
 ghost use Rattle.input_tree.specs.Names as names;
 
 use digest::Digest;
+use message_fields::{Message, MessageError};
 use reapi_messages as messages;
+use std::alloc::Global;
 use tree_messages::{DirectoryNode, FileNode, SymlinkNode};
 
 /// A node of a directory.
-pub trait Node: Sized {
+pub trait Node<'a>: Sized + Drop {
     /// The node without where it lies in memory.
     ghost Value: { Type 0 };
 
@@ -21,6 +27,13 @@ pub trait Node: Sized {
 
     /// Whether its name, and its digest or target, have their form.
     ghost is_node: { Value → Bool };
+
+    /// What the records of a text mean.
+    ghost node_of: { List Record → Result Value MessageError };
+
+    /// The node that a text spells.
+    fn read(alloc: Global, text: &'a [u8]) -> Result<Self, MessageError>
+        ensures { Means shown result (value_of_text node_of text.now) };
 
     fn name(&self) -> &str
         ensures { result.now ≡ name_of (shown self.now) };
@@ -75,8 +88,8 @@ pub fn digest_written(digest: &Option<messages::Digest<'_>>) -> Option<Digest>
     }
 }
 
-impl<'a> Node for FileNode<'a> {
-    ghost use Rattle.tree_messages.specs.Directories.{FileNodeValue, file_node_shown};
+impl<'a> Node<'a> for FileNode<'a> {
+    ghost use Rattle.tree_messages.specs.Directories.{FileNodeValue, file_node_shown, file_node_of};
     ghost use Rattle.input_tree.specs.Directories.{is_file};
 
     ghost Value = { FileNodeValue };
@@ -87,6 +100,12 @@ impl<'a> Node for FileNode<'a> {
 
     ghost is_node = { is_file };
 
+    ghost node_of = { file_node_of };
+
+    fn read(alloc: Global, text: &'a [u8]) -> Result<Self, MessageError> {
+        FileNode::decode(alloc, text)
+    }
+
     fn name(&self) -> &str {
         self.name
     }
@@ -96,8 +115,8 @@ impl<'a> Node for FileNode<'a> {
     }
 }
 
-impl<'a> Node for DirectoryNode<'a> {
-    ghost use Rattle.tree_messages.specs.Directories.{DirectoryNodeValue, directory_node_shown};
+impl<'a> Node<'a> for DirectoryNode<'a> {
+    ghost use Rattle.tree_messages.specs.Directories.{DirectoryNodeValue, directory_node_shown, directory_node_of};
     ghost use Rattle.input_tree.specs.Directories.{is_child};
 
     ghost Value = { DirectoryNodeValue };
@@ -108,6 +127,12 @@ impl<'a> Node for DirectoryNode<'a> {
 
     ghost is_node = { is_child };
 
+    ghost node_of = { directory_node_of };
+
+    fn read(alloc: Global, text: &'a [u8]) -> Result<Self, MessageError> {
+        DirectoryNode::decode(alloc, text)
+    }
+
     fn name(&self) -> &str {
         self.name
     }
@@ -117,8 +142,8 @@ impl<'a> Node for DirectoryNode<'a> {
     }
 }
 
-impl<'a> Node for SymlinkNode<'a> {
-    ghost use Rattle.tree_messages.specs.Directories.{SymlinkNodeValue, symlink_node_shown};
+impl<'a> Node<'a> for SymlinkNode<'a> {
+    ghost use Rattle.tree_messages.specs.Directories.{SymlinkNodeValue, symlink_node_shown, symlink_node_of};
     ghost use Rattle.input_tree.specs.Directories.{is_symlink};
 
     ghost Value = { SymlinkNodeValue };
@@ -128,6 +153,12 @@ impl<'a> Node for SymlinkNode<'a> {
     ghost name_of = { λ n. n.name };
 
     ghost is_node = { is_symlink };
+
+    ghost node_of = { symlink_node_of };
+
+    fn read(alloc: Global, text: &'a [u8]) -> Result<Self, MessageError> {
+        SymlinkNode::decode(alloc, text)
+    }
 
     fn name(&self) -> &str {
         self.name

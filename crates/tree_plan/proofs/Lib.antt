@@ -1,4 +1,5 @@
 mod Walks
+mod Levels
 mod Trees
 mod Kept
 mod Places

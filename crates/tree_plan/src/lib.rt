@@ -5,6 +5,7 @@
 mod fault;
 mod laws;
 mod node;
+mod read_once;
 mod reading;
 mod walking;
 

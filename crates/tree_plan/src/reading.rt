@@ -15,9 +15,8 @@ use crate::fault::TreeFault;
 use crate::node::{NodeMessage, PlanNode};
 use blob_pool::{Kept, Pool};
 use digest::Digest;
-use input_tree::{MOST_DIRECTORY_BYTES, check};
+use input_tree::{MOST_DIRECTORY_BYTES, take_directory};
 use instance_view::{Seen, Sight};
-use message_fields::{Message, MessageError};
 use std::alloc::{AllocError, Global};
 use tree_messages::Directory;
 
@@ -62,13 +61,9 @@ fn nodes_in(alloc: Global, level: usize, text: &[u8]) -> Result<Option<Vec<PlanN
     ensures { IfOk result (λ found. option_map (λ nodes. nodes_shown nodes.items) found
         ≡ nodes_in level text.now) }
 {
-    if text.len() > MOST_DIRECTORY_BYTES {
-        return Ok(None);
-    }
-    match Directory::decode(alloc, text) {
-        Ok(directory) if check(&directory) => Ok(Some(nodes_of(alloc, level, &directory)?)),
-        Err(MessageError::NoMemory) => Err(AllocError),
-        _ => Ok(None),
+    match take_directory(alloc, text)? {
+        None => Ok(None),
+        Some(directory) => Ok(Some(nodes_of(alloc, level, &directory)?)),
     }
 }
 

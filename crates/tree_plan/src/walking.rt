@@ -4,13 +4,16 @@ ghost use Rattle.std.specs.Prelude.{◌≡◌, ◌++◌, [], reverse, IfOk, OnOk
 ghost use Rattle.input_tree.specs.Texts.{texts_of};
 ghost use Rattle.tree_plan.specs.Shown.{node_shown, nodes_shown};
 ghost use Rattle.tree_plan.specs.Walk.{digests_met, missing_among, nodes_inside, nodes_met, walk, walk_along, digest_of_node};
+ghost use Rattle.tree_plan.specs.ReadOnce.{AreRead};
 ghost use Rattle.tree_plan.specs.Answers.{Answers};
 
 use crate::fault::TreeFault;
 use crate::node::{NodeKind, PlanNode};
+use crate::read_once::{ReadDirectories, nodes_once};
 use crate::reading::directory_nodes;
 use blob_pool::Pool;
 use digest::Digest;
+use indexmap::IndexMap;
 use instance_view::Sight;
 use std::alloc::{AllocError, Global};
 
@@ -33,10 +36,13 @@ fn nodes_inside(
     alloc: Global,
     view: &Sight<'_>,
     pool: &Pool,
+    read: &mut ReadDirectories,
     node: &PlanNode,
 ) -> Result<Vec<PlanNode>, TreeFault>
-    ensures { Answers (λ nodes. nodes_shown nodes.items) result
+    requires read { AreRead (texts_of pool.now view.now) read.old.entries }
+    ensures nodes { Answers (λ nodes. nodes_shown nodes.items) result
         (nodes_inside (texts_of pool.now view.now) (node_shown node.now)) }
+    ensures read { OnOk result (AreRead (texts_of pool.now view.now) read.new.entries) }
 {
     let NodeKind::Directory { digest } = &node.kind else {
         return Ok(Vec::new(alloc));
@@ -44,7 +50,7 @@ fn nodes_inside(
     if node.level >= MOST_LEVELS {
         return Err(TreeFault::TooDeep);
     }
-    directory_nodes(alloc, view, pool, node.level + 1, digest)
+    nodes_once(alloc, view, pool, read, node.level + 1, digest)
 }
 
 /// Puts nodes on a stack, the first of them on top.
@@ -64,8 +70,10 @@ fn walk_along(
     alloc: Global,
     view: &Sight<'_>,
     pool: &Pool,
+    read: &mut ReadDirectories,
     todo: Vec<PlanNode>,
 ) -> Result<Vec<PlanNode>, TreeFault>
+    requires read { AreRead (texts_of pool.now view.now) read.old.entries }
     ensures { Answers (λ nodes. nodes_shown nodes.items) result
         (walk_along MOST_NODES (texts_of pool.now view.now) (reverse (nodes_shown todo.items)) []) }
 {
@@ -75,7 +83,7 @@ fn walk_along(
         if met.len() == MOST_NODES {
             return Err(TreeFault::TooMany);
         }
-        let inside = nodes_inside(alloc, view, pool, &node)?;
+        let inside = nodes_inside(alloc, view, pool, read, &node)?;
         stack(&mut todo, inside)?;
         met.push(node)?;
     }
@@ -95,7 +103,8 @@ fn nodes_met(
     let nodes = directory_nodes(alloc, view, pool, 1, root)?;
     let mut todo = Vec::new(alloc);
     stack(&mut todo, nodes)?;
-    walk_along(alloc, view, pool, todo)
+    let mut read = IndexMap::new(alloc);
+    walk_along(alloc, view, pool, &mut read, todo)
 }
 
 /// The digest of a file or directory.
@@ -141,8 +150,7 @@ fn missing_among(
 ///
 /// Each node is counted when it is met, then its level is tested, then its text is looked at; the
 /// first fault that is met is answered. What is missing is answered where the whole walk has no
-/// other fault. The work is bounded by the nodes that are counted: a directory that stands in many
-/// places is read once for each.
+/// other fault. A directory that stands in many places is read once.
 pub fn walk(alloc: Global, view: &Sight<'_>, pool: &Pool, root: &Digest) -> Result<Plan, TreeFault>
     ensures { Answers (λ plan. nodes_shown plan.nodes.items) result
         (walk (texts_of pool.now view.now) root.now) }

@@ -5,7 +5,7 @@ use Rattle.cas_service.specs.Answers.{Answers}
 use Rattle.input_tree.specs.Texts.{texts_of}
 use Rattle.instance_view.specs.Sight.{SightValue, sight_of}
 use Rattle.job_queue.specs.declared.queue.TheConstants.{LAST_NUMBER}
-use Rattle.executor.specs.declared.executing.Found.{Found}
+use Rattle.action_cache.specs.declared.answering.FoundResult.{FoundResult}
 use Rattle.executor.specs.Answers.{answer_shown}
 use Rattle.executor.specs.Changes.{after_changes}
 use Rattle.executor.specs.Execute.{ExecuteDone, ExecutionState, by_looking, by_result, execute, look_in, looked_up}
@@ -13,7 +13,7 @@ use Rattle.executor.specs.InPool.{execution_in}
 use Rattle.executor.proofs.Calling.{execute_looks}
 use Rattle.executor.proofs.executing.execute.Goals as goal
 
-abbrev text_items : Found → List ℕ
+abbrev text_items : FoundResult → List ℕ
 text_items f = f.text.items
 
 pub returns-in-Some-clause-answer : goal.returns-in-Some-clause-answer

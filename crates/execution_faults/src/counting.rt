@@ -12,7 +12,7 @@ use std::io::{self, ErrorKind};
 pub enum Deed {
     /// A run is prepared, begun or asked, or what it left is gathered.
     Work(RunKey),
-    /// The program of a run that is over is ended.
+    /// The program of a run is ended, or what it left running.
     Kill(RunKey),
     /// Some of the folder of a run that is over is removed.
     Remove(RunKey),

@@ -139,13 +139,8 @@ impl Programs for FakePrograms {
         Ok(asked(&mut self.programs, run))
     }
 
-    /// A program that has ended itself is ended to gather what it wrote.
     fn kill(&mut self, run: RunKey) -> io::Result<bool> {
-        let deed = match find(&self.programs, run) {
-            Some(program) if program.has_ended() => Deed::Work(run),
-            _ => Deed::Kill(run),
-        };
-        self.calls.next(deed)?;
+        self.calls.next(Deed::Kill(run))?;
         Ok(killed(&mut self.programs, run))
     }
 

@@ -49,8 +49,10 @@ fn watched(wrong: Option<Deed>, place: usize, client: &Client<'_>) -> Option<Run
 /// What is to be written to the errors.
 fn line(wrong: Option<Deed>, word: &str, output: &mut Output) -> String {
     let alloc = output.alloc;
-    let Some(RunKey { instance, job }) = failed_run(wrong) else {
-        return String::new(alloc);
+    let (RunKey { instance, job }, word) = match wrong {
+        Some(Deed::Work(run)) => (run, word),
+        Some(Deed::Remove(run)) => (run, "left"),
+        _ => return String::new(alloc),
     };
     let name = NAMES.get(instance as usize).copied().unwrap_or("");
     output.string(format!(in alloc; "remoted: run {name} {job} failed: {word}\n"))

@@ -3,7 +3,8 @@
 ghost use Rattle.std.specs.Prelude.{◌≡◌, ◌≤◌, ◌⊎◌, ◌+◌, ℕ, Bool, List, [], Some, None, Ok, Err, codes, length, map};
 ghost use Rattle.rpc.specs.declared.refusal.Refusal.{Refusal};
 ghost use Rattle.digest.specs.declared.Digest.{Digest};
-ghost use Rattle.job_queue.specs.Jobs.{Jobs};
+ghost use Rattle.job_queue.specs.Changes.{JobChange, jobs_after_all};
+ghost use Rattle.job_queue.specs.Jobs.{Jobs, jobs_after_push};
 ghost use Rattle.job_queue.specs.Order.{AreJobs};
 ghost use Rattle.job_queue.specs.declared.queue.TheConstants.{MOST_RUNNING};
 ghost use Rattle.operations.specs.Operations.{EndValue};
@@ -12,7 +13,8 @@ ghost use Rattle.input_tree.specs.Listing.{Lookup};
 ghost use Rattle.operations.specs.Once.{IsEachOnce};
 ghost use Rattle.executor.specs.Changes.{after_changes};
 ghost use Rattle.executor.specs.Execute.{ExecuteAnswer, ExecutionState, execute};
-ghost use Rattle.executor.specs.Job.{JobValue, kept_texts};
+ghost use Rattle.executor.specs.Job.{JobValue, TaskValue, kept_texts};
+ghost use Rattle.executor.specs.Orders.{AreOrdered, orders_of, task_of};
 ghost use Rattle.executor.specs.Steps.{end_steps, jobs_after_steps, start_steps, tick_steps};
 ghost use Rattle.executor.specs.Taking.{CanTake};
 ghost use Rattle.executor.specs.Waiting.{number_named};
@@ -82,6 +84,32 @@ pub fn no_slot_is_left_empty()
     ensures start { (slots moment : ℕ) (jobs : Jobs JobValue) →
         let after = jobs_after_steps (start_steps slots moment jobs) jobs in
         (slots ≤ length after.running) ⊎ (length after.waiting ≡ 0) }
+{}
+
+/// At an event each job that times out is ordered to be ended, and each that starts is ordered to be
+/// run, with its whole task; nothing else is ordered.
+pub fn each_start_is_ordered()
+    ensures tick { (slots moment : ℕ) (jobs : Jobs JobValue) →
+        let steps = tick_steps slots moment jobs in
+        AreOrdered (jobs_after_steps steps jobs) steps (orders_of steps jobs) }
+    ensures end { (slots moment n : ℕ) (e : EndValue) (jobs : Jobs JobValue) →
+        let steps = end_steps slots moment n e jobs in
+        AreOrdered (jobs_after_steps steps jobs) steps (orders_of steps jobs) }
+    ensures start { (slots moment : ℕ) (jobs : Jobs JobValue) →
+        let steps = start_steps slots moment jobs in
+        AreOrdered (jobs_after_steps steps jobs) steps (orders_of steps jobs) }
+{}
+
+/// The task of a number is that of the job that was pushed under it, whenever it runs: whatever
+/// becomes of the jobs between two moments, a number has the same task at both, or none.
+pub fn a_job_keeps_its_task()
+    ensures pushed { (job : JobValue) (changes : List (JobChange JobValue)) (jobs : Jobs JobValue)
+        (task : TaskValue) → AreJobs jobs →
+        task_of jobs.next (jobs_after_all changes (jobs_after_push job jobs)) ≡ Some task →
+        task ≡ job.task }
+    ensures same { (n : ℕ) (changes : List (JobChange JobValue)) (jobs : Jobs JobValue)
+        (task later : TaskValue) → AreJobs jobs → task_of n jobs ≡ Some task →
+        task_of n (jobs_after_all changes jobs) ≡ Some later → later ≡ task }
 {}
 
 /// Names of Operations are read so.

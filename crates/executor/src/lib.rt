@@ -21,9 +21,9 @@ pub use executing::execute;
 pub use job::{Executions, Job, Task};
 pub use keeping::KeptText;
 pub use laws::{
-    a_job_keeps_each_text_once, a_refused_call_changes_nothing, an_answer_takes_one_number,
-    at_most_slots_run, names_are_read_so, no_slot_is_left_empty, steps_can_be_taken,
-    steps_keep_jobs,
+    a_job_keeps_each_text_once, a_job_keeps_its_task, a_refused_call_changes_nothing,
+    an_answer_takes_one_number, at_most_slots_run, each_start_is_ordered, names_are_read_so,
+    no_slot_is_left_empty, steps_can_be_taken, steps_keep_jobs,
 };
 pub use orders::{Order, Told, task_of};
 pub use steps::{Step, end_steps, start_steps, tick_steps};

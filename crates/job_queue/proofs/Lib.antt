@@ -3,3 +3,4 @@ pub mod Orders
 pub mod Numbers
 pub mod Keeping
 pub mod Sums
+pub mod Same

@@ -1,7 +1,8 @@
 -- What may become of the jobs of an instance, one change after another.
-use Rattle.std.specs.Prelude.{◌≡◌, ◌<◌, ◌≤◌, ⊤, ℕ, zero, suc, ◌+◌, List, [], ◌∷◌, ◌++◌, length, Some}
+use Rattle.std.specs.Prelude.{◌≡◌, ◌<◌, ◌≤◌, ⊤, ℕ, zero, suc, ◌+◌, List, [], ◌∷◌, ◌++◌, length, Bool, false, Option, Some}
+use Rattle.std.specs.Map.{lookup}
 use Rattle.job_queue.specs.declared.queue.TheConstants.{LAST_NUMBER, MOST_WAITING, MOST_RUNNING}
-use Rattle.job_queue.specs.Jobs.{Jobs, jobs_after_push, jobs_after_done, jobs_after_start, jobs_after_end, jobs_without, running_job}
+use Rattle.job_queue.specs.Jobs.{Jobs, jobs_after_push, jobs_after_done, jobs_after_start, jobs_after_end, jobs_without, or_else, running_job, same_number}
 
 pub data JobChange (J : Type 0) : Type 0 where
   -- a new job waits
@@ -50,3 +51,22 @@ numbers_given (c ∷ cs) jobs = number_given c jobs ++ numbers_given cs (jobs_af
 abbrev pub consecutive : ℕ → ℕ → List ℕ
 consecutive n zero = []
 consecutive n (suc most) = n ∷ consecutive (n + 1) most
+
+-- ---- a job of one number
+
+-- these changes, one after another
+abbrev pub jobs_after_all : {J : Type 0} → List (JobChange J) → Jobs J → Jobs J
+jobs_after_all [] jobs = jobs
+jobs_after_all (c ∷ cs) jobs = jobs_after_all cs (jobs_after c jobs)
+
+-- the job of a number, while it waits or runs
+abbrev pub open_job : {J : Type 0} → ℕ → Jobs J → Option J
+open_job n jobs = or_else (running_job n jobs) (lookup (same_number n) jobs.waiting)
+
+-- the job that runs under this number ends, or is forgotten
+abbrev pub closes : {J : Type 0} → ℕ → JobChange J → Bool
+closes n (pushes job) = false
+closes n (does operation) = false
+closes n (starts deadline) = false
+closes n (ends m operation) = same_number n m
+closes n (forgets m) = same_number n m

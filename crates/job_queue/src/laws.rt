@@ -1,10 +1,10 @@
 //! What holds of the jobs of an instance, whatever becomes of them.
 
-ghost use Rattle.std.specs.Prelude.{◌≡◌, ◌≤◌, ◌+◌, ◌++◌, ◌^◌, ℕ, List, Some, length};
-ghost use Rattle.std.specs.List.{AllByRecursion};
+ghost use Rattle.std.specs.Prelude.{◌≡◌, ◌≤◌, ◌+◌, ◌++◌, ◌^◌, ℕ, List, Some, false, length};
+ghost use Rattle.std.specs.List.{AllByRecursion, list_any};
 ghost use Rattle.std.specs.Map.{keys_of};
 ghost use Rattle.job_queue.specs.Jobs.{Jobs, no_jobs, first_number, jobs_after_push, jobs_after_done, jobs_after_start, jobs_after_end, jobs_without, running_job};
-ghost use Rattle.job_queue.specs.Changes.{JobChange, CanHappen, consecutive, jobs_after, numbers_given};
+ghost use Rattle.job_queue.specs.Changes.{JobChange, CanHappen, closes, consecutive, jobs_after, jobs_after_all, numbers_given, open_job};
 ghost use Rattle.job_queue.specs.Order.{AreDistinct, AreJobs, AreRising, ended_numbers, open_numbers};
 ghost use Rattle.job_queue.specs.Sums.{jobs_sum};
 ghost use Rattle.job_queue.specs.declared.queue.TheConstants.{LAST_NUMBER, MOST_WAITING, MOST_RUNNING, MOST_ENDED};
@@ -34,6 +34,17 @@ pub fn a_job_is_in_one_stage<J>()
 pub fn the_least_numbered_starts<J>()
     ensures { (n : ℕ) (jobs : Jobs J) → AreJobs jobs → first_number jobs.waiting ≡ Some n →
         AllByRecursion (λ m. n ≤ m) (keys_of jobs.waiting) }
+{}
+
+/// A job is found under its number from its push until it ends or is forgotten, and no other ever is:
+/// what is found there later is the same job or none.
+pub fn a_job_stays_the_same<J>()
+    ensures pushed { (job : J) (changes : List (JobChange J)) (jobs : Jobs J) → AreJobs jobs →
+        list_any (closes jobs.next) changes ≡ false →
+        open_job jobs.next (jobs_after_all changes (jobs_after_push job jobs)) ≡ Some job }
+    ensures same { (n : ℕ) (job other : J) (changes : List (JobChange J)) (jobs : Jobs J) →
+        AreJobs jobs → open_job n jobs ≡ Some job →
+        open_job n (jobs_after_all changes jobs) ≡ Some other → other ≡ job }
 {}
 
 /// What the jobs that wait and run hold grows by what a new one holds, and falls by what one holds

@@ -9,7 +9,7 @@ mod queue;
 
 pub use error::JobError;
 pub use laws::{
-    a_job_is_in_one_stage, a_number_is_given_once, jobs_hold_what_they_keep, jobs_stay_in_order,
-    limits_of_jobs, the_least_numbered_starts,
+    a_job_is_in_one_stage, a_job_stays_the_same, a_number_is_given_once, jobs_hold_what_they_keep,
+    jobs_stay_in_order, limits_of_jobs, the_least_numbered_starts,
 };
 pub use queue::{LAST_NUMBER, MOST_ENDED, MOST_RUNNING, MOST_WAITING, Queue, Running, Stage};

@@ -1,1 +1,4 @@
 pub mod Begun
+pub mod Keys
+pub mod Once
+pub mod Killed

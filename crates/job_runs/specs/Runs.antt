@@ -1,6 +1,5 @@
 -- How the runs of a server's jobs are those of a runner.
-use Rattle.std.specs.Prelude.{◌≡◌, ◌≤◌, ◌⊎◌, ℕ, List, [], ◌∷◌, ◌++◌, vec_capacity, vec_len, Option, Some, None, Result, Ok, Err}
-use Rattle.std.specs.Option.{option_map_or}
+use Rattle.std.specs.Prelude.{◌≡◌, ◌≤◌, ◌⊎◌, ⊤, ℕ, zero, suc, List, [], ◌∷◌, ◌++◌, slice_get, vec_capacity, vec_len, Option, Some, None, Result, Ok, Err}
 use Rattle.std.specs.declared.alloc.Global.{Global}
 use Rattle.std.specs.declared.vec.Vec.{Vec}
 use Rattle.outcomes.specs.declared.outcome.Outcome.{Outcome}
@@ -13,7 +12,7 @@ use Rattle.runner.specs.declared.task.RunKey.{RunKey}
 use Rattle.runner.specs.declared.task.Task.{Task}
 use Rattle.runner.specs.declared.stage.Run.{Run}
 use Rattle.runner.specs.Calls.{FolderCall, ProgramCall}
-use Rattle.runner.specs.Runs.{IsAsked, IsStarted}
+use Rattle.runner.specs.Runs.{IsAsked, IsKilled, IsOver, IsStarted}
 use Rattle.run_tasks.specs.Given.{outcome_given}
 use Rattle.run_tasks.specs.Tasks.{IsTaskOf}
 use Rattle.run_tasks.specs.Texts.{numbered_text}
@@ -34,10 +33,6 @@ IsNoted run old new before now =
     × ((now.items ≡ before.items ++ run ∷ [])
     ⊎ ((now.items ≡ before.items) × (vec_capacity before ≤ vec_len before)))
 
--- the text of a number, of the task that is lent
-abbrev pub lent_text : Option TaskValue → ℕ → List ℕ
-lent_text task = numbered_text (option_map_or (λ t. t.texts) task [])
-
 -- the server is told what the run gave; or that memory was refused, where it gave an outcome and no
 -- room was there for what is told of it
 abbrev pub IsTold : Result (Option given.Outcome) RunFault → Result (Option Outcome) RunFault → Type 0
@@ -47,10 +42,59 @@ IsTold (Ok (Some o)) (Ok (Some t)) = outcome_shown t ≡ outcome_given o
 IsTold (Ok (Some o)) (Ok None) = ⊥
 IsTold (Ok (Some o)) (Err fault) = fault ≡ NoMemory
 
--- the runner was asked, with these texts, and what it answered is told
-pub record IsAnswered (text : ℕ → List ℕ) (run : RunKey) (told : Result (Option Outcome) RunFault)
+-- the runner was asked, with the texts of this task, and what it answered is told
+pub record IsAnswered (task : TaskValue) (run : RunKey) (told : Result (Option Outcome) RunFault)
     (old new : List Run) (f_before f_now : Option (List FolderCall))
     (p_before p_now : Option (List ProgramCall)) : Type 0 where
   pub answer : Result (Option given.Outcome) RunFault
-  pub asked : IsAsked text run answer old new f_before f_now p_before p_now
+  pub asked : IsAsked (numbered_text task.texts) run answer old new f_before f_now p_before p_now
   pub is_told : IsTold answer told
+
+-- a run was to be ended, whatever came of that
+abbrev pub IsEnded : RunKey → List Run → List Run →
+    Option (List FolderCall) → Option (List FolderCall) →
+    Option (List ProgramCall) → Option (List ProgramCall) → Type 0
+IsEnded run old new f_before f_now p_before p_now =
+    (told : Result ⊤ RunFault) × IsKilled run told old new f_before f_now p_before p_now
+
+-- that its folder is left, or nothing
+abbrev pub end_answer : Result ⊤ RunFault → Result (Option Outcome) RunFault
+end_answer (Ok x) = Ok None
+end_answer (Err fault) = Err fault
+
+-- .. or it was told to end the run, where no task is lent: the job that it was run for does not run
+abbrev pub IsAnsweredFor : Option TaskValue → RunKey → Result (Option Outcome) RunFault →
+    List Run → List Run → Option (List FolderCall) → Option (List FolderCall) →
+    Option (List ProgramCall) → Option (List ProgramCall) → Type 0
+IsAnsweredFor None run told old new f_before f_now p_before p_now =
+    (ended : Result ⊤ RunFault) × IsKilled run ended old new f_before f_now p_before p_now
+    × (told ≡ end_answer ended)
+IsAnsweredFor (Some task) run told old new f_before f_now p_before p_now =
+    IsAnswered task run told old new f_before f_now p_before p_now
+
+-- the run is over, or is to be
+abbrev pub IsOnlyEnded : Option TaskValue → RunKey → List Run → Type 0
+IsOnlyEnded None run runs = Unit {0}
+IsOnlyEnded (Some task) run runs = IsOver run runs
+
+-- ---- all runs
+
+-- this run is killed, where there is one
+abbrev pub IsKilledIf : Option Run → List Run → List Run →
+    Option (List FolderCall) → Option (List FolderCall) →
+    Option (List ProgramCall) → Option (List ProgramCall) → Type 0
+IsKilledIf None old new f_before f_now p_before p_now =
+    (new ≡ old) × (f_now ≡ f_before) × (p_now ≡ p_before)
+IsKilledIf (Some run) old new f_before f_now p_before p_now =
+    IsEnded run.place.run old new f_before f_now p_before p_now
+
+-- of the first so many runs each is killed, the last first
+abbrev pub AreKilled : ℕ → List Run → List Run →
+    Option (List FolderCall) → Option (List FolderCall) →
+    Option (List ProgramCall) → Option (List ProgramCall) → Type 0
+AreKilled zero old new f_before f_now p_before p_now =
+    (new ≡ old) × (f_now ≡ f_before) × (p_now ≡ p_before)
+AreKilled (suc place) old new f_before f_now p_before p_now =
+    (mid : List Run) × (f_mid : Option (List FolderCall)) × (p_mid : Option (List ProgramCall))
+    × IsKilledIf (slice_get old place) old mid f_before f_mid p_before p_mid
+    × AreKilled place mid new f_mid f_now p_mid p_now

@@ -1,12 +1,15 @@
 //! Runs that a runner carries out.
 
-ghost use Rattle.std.specs.Prelude.{◌≡◌, ◌⊎◌, ◌++◌, ◌∷◌, [], Contains, Err, OnOk, OnErr, IfSome};
-ghost use Rattle.std.specs.Bool.{OnTrue};
-ghost use Rattle.std.specs.Option.{option_map, option_map_or};
-ghost use Rattle.runner.specs.Runs.{IsKilled};
+ghost use Rattle.std.specs.Prelude.{◌≡◌, ◌≤◌, ◌⊎◌, ◌+◌, ◌++◌, ◌∷◌, ◌||◌, [], true, false, None, Ok, Err, OnOk, OnErr, IfOk, length, nat_lt, slice_get, vec_capacity, vec_len};
+ghost use Rattle.std.specs.List.{list_any};
+ghost use Rattle.std.specs.Option.{option_map};
+ghost use Rattle.runner.specs.Faults.{Counted};
+ghost use Rattle.runner.specs.Runs.{IsOver, can_go_on};
 ghost use Rattle.runner.specs.declared.fault.RunFault.TheVariants.{NoMemory};
+ghost use Rattle.runner.specs.declared.stage.Run.{Run};
 ghost use Rattle.server_core.specs.Lent.{lent_shown};
-ghost use Rattle.job_runs.specs.Runs.{IsAnswered, IsBegun, IsNoted, IsTold, lent_text};
+ghost use Rattle.job_runs.specs.Keys.{AreOnce, all_keys, count_of, has_key, is_key, turn_in, without_key};
+ghost use Rattle.job_runs.specs.Runs.{AreKilled, IsAnswered, IsAnsweredFor, IsBegun, IsEnded, IsNoted, IsOnlyEnded, IsTold};
 
 use outcomes::Outcome;
 use run_tasks::{LentTexts, outcome_told, run_task};
@@ -33,7 +36,13 @@ impl<F: Folder + Drop, P: Programs + Drop> JobRunner<F, P> {
         folder: F,
         programs: P,
         most: usize,
-    ) -> Result<JobRunner<F, P>, AllocError> {
+    ) -> Result<JobRunner<F, P>, AllocError>
+        ensures folder { IfOk result (λ r. r.runner.folder ≡ folder) }
+        ensures programs { IfOk result (λ r. r.runner.programs ≡ programs) }
+        ensures runs { IfOk result (λ r. r.runner.runs.items ≡ []) }
+        ensures unbegun { IfOk result (λ r. r.unbegun.items ≡ []) }
+        ensures room { IfOk result (λ r. most ≤ vec_capacity r.unbegun) }
+    {
         Ok(JobRunner {
             alloc,
             runner: Runner::new(alloc, folder, programs),
@@ -51,13 +60,16 @@ impl<F: Folder + Drop, P: Programs + Drop> JobRunner<F, P> {
 
     /// Ends what runs, by a bounded piece of work for each run, and says how many are left: it is
     /// to be called until none is.
-    pub fn end_all(&mut self) -> usize {
+    pub fn end_all(&mut self) -> usize
+        ensures killed { AreKilled (vec_len self.old.runner.runs)
+            self.old.runner.runs.items self.new.runner.runs.items
+            (F.asked self.old.runner.folder) (F.asked self.new.runner.folder)
+            (P.asked self.old.runner.programs) (P.asked self.new.runner.programs) }
+        ensures unbegun { self.new.unbegun.items ≡ [] }
+        ensures left { result ≡ vec_len self.new.runner.runs }
+    {
         self.unbegun.clear();
-        for place in (0..self.runner.count()).rev() {
-            if let Some(run) = self.runner.run(place) {
-                self.runner.kill(run.instance, run.job);
-            }
-        }
+        kill_each(&mut self.runner);
         self.runner.count()
     }
 
@@ -70,58 +82,67 @@ impl<F: Folder + Drop, P: Programs + Drop> JobRunner<F, P> {
         ensures folder { self.new.runner.folder ≡ self.old.runner.folder }
         ensures programs { self.new.runner.programs ≡ self.old.runner.programs }
         ensures unbegun { self.new.unbegun ≡ self.old.unbegun }
+        ensures next { self.new.next ≡ self.old.next }
     {
         let made = run_task(self.alloc, task.task)?;
         self.runner.start(run.instance, run.job, made)
     }
 
-    /// Asks a run that was begun, to which this task is lent.
-    fn ask_run(
-        &mut self,
-        run: RunKey,
-        task: Option<LentTask<'_>>,
-    ) -> Result<Option<Outcome>, RunFault>
-        ensures answered { IsAnswered (lent_text (option_map lent_shown task.entry)) run result
+    /// Asks a run to which this task is lent.
+    fn ask_run(&mut self, run: RunKey, task: LentTask<'_>) -> Result<Option<Outcome>, RunFault>
+        ensures answered { IsAnswered (lent_shown task.entry) run result
             self.old.runner.runs.items self.new.runner.runs.items
             (F.asked self.old.runner.folder) (F.asked self.new.runner.folder)
             (P.asked self.old.runner.programs) (P.asked self.new.runner.programs) }
+        ensures faults { Counted result
+            (F.failures self.old.runner.folder) (F.failures self.new.runner.folder)
+            (P.failures self.old.runner.programs) (P.failures self.new.runner.programs)
+            ⊎ (IsOver run self.old.runner.runs.items × (result ≡ Ok None)) }
+        ensures unbegun { self.new.unbegun ≡ self.old.unbegun }
+        ensures next { self.new.next ≡ self.old.next }
     {
-        let answer = self.runner.ask(run.instance, run.job, &texts_for(task));
+        let answer = self.runner.ask(run.instance, run.job, &texts_of(task));
         told(self.alloc, answer)
     }
+}
 
-    /// Where a job stands among those whose run could not be begun.
-    fn place_unbegun(&self, run: RunKey) -> Option<usize>
-        ensures { IfSome result (λ place. Contains self.now.unbegun.items run) }
-    {
-        self.unbegun.iter().position(|unbegun| *unbegun == run)
-    }
+fn is_key(key: RunKey, other: &RunKey) -> bool
+    ensures { result ≡ is_key key other.now }
+{
+    other.instance == key.instance && other.job == key.job
+}
 
-    /// Whether a job's run could not be begun. It is told once.
-    fn take_unbegun(&mut self, run: RunKey) -> bool
-        ensures runner { self.new.runner ≡ self.old.runner }
-        ensures unbegun { OnTrue result (Contains self.old.unbegun.items run) }
-    {
-        match self.place_unbegun(run) {
-            None => false,
-            Some(place) => {
-                if place < self.unbegun.len() {
-                    self.unbegun.swap_remove(place);
-                }
-                true
-            }
+/// Takes a job out of those whose run could not be begun. Whether it was among them.
+fn take(unbegun: &mut Vec<RunKey>, run: RunKey) -> bool
+    ensures was { result ≡ has_key run unbegun.old.items }
+    ensures others { unbegun.new.items ≡ without_key run unbegun.old.items }
+    ensures room { vec_capacity unbegun.new ≡ vec_capacity unbegun.old }
+{
+    let was_among = unbegun.iter().any(|other| is_key(run, other));
+    unbegun.retain(|other| !is_key(run, other));
+    was_among
+}
+
+/// Ends each run by a bounded piece of work, the last first.
+fn kill_each<F: Folder + Drop, P: Programs + Drop>(runner: &mut Runner<F, P>)
+    ensures { AreKilled (vec_len runner.old.runs) runner.old.runs.items runner.new.runs.items
+        (F.asked runner.old.folder) (F.asked runner.new.folder)
+        (P.asked runner.old.programs) (P.asked runner.new.programs) }
+{
+    let mut left = runner.count();
+    while left > 0 {
+        left -= 1;
+        if let Some(run) = runner.run(left) {
+            let _ended = runner.kill(run.instance, run.job);
         }
     }
 }
 
-/// The texts of a task that is lent, and none where none is.
-fn texts_for<'a>(task: Option<LentTask<'a>>) -> LentTexts<'a>
-    ensures { result ≡ option_map_or (λ t. t.texts) (option_map lent_shown task.entry) [] }
+/// The texts of a task that is lent.
+fn texts_of<'a>(task: LentTask<'a>) -> LentTexts<'a>
+    ensures { result ≡ (lent_shown task.entry).texts }
 {
-    match task {
-        Some(lent) => LentTexts::new(lent.pool, &lent.task.texts),
-        None => LentTexts::none(),
-    }
+    LentTexts::new(task.pool, &task.task.texts)
 }
 
 /// What the server is told of what a runner answered.
@@ -143,12 +164,18 @@ fn told(
 
 impl<F: Folder + Drop, P: Programs + Drop> Runs for JobRunner<F, P> {
     fn start(&mut self, run: RunKey, task: LentTask<'_>)
-        ensures begun { IsBegun run (lent_shown task.entry)
+        ensures begun { (IsBegun run (lent_shown task.entry)
             self.old.runner.runs.items self.new.runner.runs.items
+            × (self.new.unbegun ≡ self.old.unbegun))
             ⊎ IsNoted run self.old.runner.runs.items self.new.runner.runs.items
             self.old.unbegun self.new.unbegun }
+        ensures room { vec_capacity self.old.unbegun ≤ vec_capacity self.new.unbegun }
         ensures folder { self.new.runner.folder ≡ self.old.runner.folder }
         ensures programs { self.new.runner.programs ≡ self.old.runner.programs }
+        ensures next { self.new.next ≡ self.old.next }
+        ensures once { has_key run (all_keys self.old.runner.runs.items self.old.unbegun.items)
+            ≡ false → AreOnce (all_keys self.old.runner.runs.items self.old.unbegun.items)
+            → AreOnce (all_keys self.new.runner.runs.items self.new.unbegun.items) }
     {
         if self.begin(run, task).is_err() {
             // There is room for each job that may run at a time.
@@ -157,22 +184,38 @@ impl<F: Folder + Drop, P: Programs + Drop> Runs for JobRunner<F, P> {
     }
 
     fn kill(&mut self, run: RunKey)
-        ensures killed { IsKilled run
+        ensures noted { has_key run self.old.unbegun.items ≡ true →
+            self.new.runner ≡ self.old.runner }
+        ensures killed { has_key run self.old.unbegun.items ≡ false → IsEnded run
             self.old.runner.runs.items self.new.runner.runs.items
             (F.asked self.old.runner.folder) (F.asked self.new.runner.folder)
-            (P.asked self.old.runner.programs) (P.asked self.new.runner.programs)
-            ⊎ (Contains self.old.unbegun.items run × (self.new.runner ≡ self.old.runner)) }
+            (P.asked self.old.runner.programs) (P.asked self.new.runner.programs) }
+        ensures unbegun { self.new.unbegun.items ≡ without_key run self.old.unbegun.items }
+        ensures room { vec_capacity self.new.unbegun ≡ vec_capacity self.old.unbegun }
+        ensures next { self.new.next ≡ self.old.next }
+        ensures once { AreOnce (all_keys self.old.runner.runs.items self.old.unbegun.items)
+            → AreOnce (all_keys self.new.runner.runs.items self.new.unbegun.items) }
     {
-        if !self.take_unbegun(run) {
-            self.runner.kill(run.instance, run.job);
+        if !take(&mut self.unbegun, run) {
+            // A job that is ordered to be ended still runs, so that no folder is removed yet.
+            let _ended = self.runner.kill(run.instance, run.job);
         }
     }
 
-    fn count(&self) -> usize {
+    fn count(&self) -> usize
+        ensures { result ≡ count_of (all_keys self.now.runner.runs.items self.now.unbegun.items) }
+    {
         self.runner.count().saturating_add(self.unbegun.len())
     }
 
-    fn next(&mut self) -> Option<RunKey> {
+    fn next(&mut self) -> Option<RunKey>
+        ensures key { let keys = all_keys self.old.runner.runs.items self.old.unbegun.items in
+            result ≡ slice_get keys (turn_in (count_of keys) self.old.next) }
+        ensures next { let keys = all_keys self.old.runner.runs.items self.old.unbegun.items in
+            self.new.next ≡ turn_in (count_of keys) self.old.next + 1 }
+        ensures runner { self.new.runner ≡ self.old.runner }
+        ensures unbegun { self.new.unbegun ≡ self.old.unbegun }
+    {
         if self.next >= self.count() {
             self.next = 0;
         }
@@ -186,20 +229,41 @@ impl<F: Folder + Drop, P: Programs + Drop> Runs for JobRunner<F, P> {
     }
 
     fn ask(&mut self, run: RunKey, task: Option<LentTask<'_>>) -> Result<Option<Outcome>, RunFault>
-        ensures answered { IsAnswered (lent_text (option_map lent_shown task.entry)) run result
+        ensures noted { has_key run self.old.unbegun.items ≡ true →
+            (result ≡ Err NoMemory) × (self.new.runner ≡ self.old.runner) }
+        ensures answered { has_key run self.old.unbegun.items ≡ false →
+            IsAnsweredFor (option_map lent_shown task.entry) run result
             self.old.runner.runs.items self.new.runner.runs.items
             (F.asked self.old.runner.folder) (F.asked self.new.runner.folder)
-            (P.asked self.old.runner.programs) (P.asked self.new.runner.programs)
-            ⊎ (Contains self.old.unbegun.items run × (result ≡ Err NoMemory)
-            × (self.new.runner ≡ self.old.runner)) }
+            (P.asked self.old.runner.programs) (P.asked self.new.runner.programs) }
+        ensures faults { Counted result
+            (F.failures self.old.runner.folder) (F.failures self.new.runner.folder)
+            (P.failures self.old.runner.programs) (P.failures self.new.runner.programs)
+            ⊎ (IsOnlyEnded (option_map lent_shown task.entry) run self.old.runner.runs.items
+            × (result ≡ Ok None)) }
+        ensures unbegun { self.new.unbegun.items ≡ without_key run self.old.unbegun.items }
+        ensures room { vec_capacity self.new.unbegun ≡ vec_capacity self.old.unbegun }
+        ensures next { self.new.next ≡ self.old.next }
+        ensures once { AreOnce (all_keys self.old.runner.runs.items self.old.unbegun.items)
+            → AreOnce (all_keys self.new.runner.runs.items self.new.unbegun.items) }
     {
-        if self.take_unbegun(run) {
+        if take(&mut self.unbegun, run) {
             return Err(RunFault::NoMemory);
         }
-        self.ask_run(run, task)
+        match task {
+            Some(task) => self.ask_run(run, task),
+            None => {
+                // The job that it was run for does not run any more.
+                self.runner.kill(run.instance, run.job)?;
+                Ok(None)
+            }
+        }
     }
 
-    fn is_busy(&self) -> bool {
+    fn is_busy(&self) -> bool
+        ensures { result ≡ (list_any (λ (run : Run). can_go_on run.state) self.now.runner.runs.items
+            || nat_lt 0 (length self.now.unbegun.items)) }
+    {
         self.runner.is_busy() || !self.unbegun.is_empty()
     }
 }

@@ -1,12 +1,13 @@
 -- What calls give, one after another, and the steps of a run that they make.
-use Rattle.std.proofs.Common.{◌≡◌, ◌≤◌, ◌⊎◌, inl, inr, arith, ℕ, ◌+◌, List, [], ◌∷◌, ◌++◌, refl, ap, sym, ◌∙◌, append-nil, append_assoc, subst}
-use Rattle.std.specs.Prelude.{Option, Some, None}
+use Rattle.std.proofs.Common.{◌≡◌, ◌≤◌, inl, ℕ, ◌+◌, List, [], ◌∷◌, ◌++◌, refl, ap, sym, ◌∙◌, append-nil, append_assoc, subst}
+use Rattle.std.specs.Prelude.{Option, Result, Ok, Err}
 use Rattle.runner.specs.Values.{PlaceValue}
+use Rattle.std.specs.declared.io.ErrorKind.{ErrorKind}
 use Rattle.runner.specs.Calls.{FolderCall, FolderQuestion, FolderAnswer, ProgramCall, ProgramQuestion, ProgramAnswer, of_folder, of_programs, folder_call, program_call, folder_calls, program_calls, call, called, after, Adds, collect}
 use Rattle.runner.specs.Made.{made, made_by}
-use Rattle.runner.specs.Gathered.{ItemValue, items_answered, call_items, answer_items}
-use Rattle.runner.specs.Told.{items_told, call_told, starts, start_of}
-use Rattle.runner.specs.Listed.{most_nodes, nodes_among, entries_told, entries_met, all_told, all_met, entries_left, then_entries_left}
+use Rattle.runner.specs.Gathered.{items_answered, call_items, answer_items}
+use Rattle.runner.specs.Told.{items_told, call_told, starts, start_of, forgets, forget_of}
+use Rattle.runner.specs.Listed.{Walk, walk_at, walk_then, Closes, Meets}
 use Rattle.runner.specs.Steps.{GoesWith, Goes, to_make, to_start, to_look, has_gathered, has_told, then_to_make, then_to_start, then_to_look, then_gathered, then_told, looks, look_of}
 use Rattle.runner.specs.declared.stage.Stage.{Stage}
 use Rattle.runner.specs.declared.stage.Step.{Step}
@@ -14,6 +15,7 @@ use Rattle.runner.specs.declared.stage.Step.TheVariants as steps
 use Rattle.runner.specs.Sizes.{most_bytes, held, folder_told, program_told, Fits}
 use Rattle.runner.proofs.Calls.{adds_more, after_none}
 use Rattle.runner.proofs.Sizes.{fits_append, held_then}
+use Rattle.runner.proofs.Walks.{Moves, meets_one, meets_append}
 
 pub collect_append : {C A : Type 0} (f : C → List A) (xs ys : List C) → collect f (xs ++ ys) ≡ collect f xs ++ collect f ys
 collect_append f [] ys = refl
@@ -31,34 +33,15 @@ behinds f xs ys a b c first next =
     next ∙ ap (λ zs. zs ++ collect f ys) first ∙ append_assoc a (collect f xs) (collect f ys)
     ∙ ap (λ zs. a ++ zs) (sym (collect_append f xs ys))
 
--- ---- entries that were told of and met
-
-told_append : (xs ys : List FolderCall) → all_told (xs ++ ys) ≡ all_told xs + all_told ys
-told_append [] ys = omega arith
-told_append (x ∷ xs) ys = let e = told_append xs ys in omega (arith, e)
-
-met_append : (xs ys : List FolderCall) → all_met (xs ++ ys) ≡ all_met xs + all_met ys
-met_append [] ys = omega arith
-met_append (x ∷ xs) ys = let e = met_append xs ys in omega (arith, e)
-
-pub among_append : (xs ys : List ItemValue) → nodes_among (xs ++ ys) ≡ nodes_among xs + nodes_among ys
-among_append [] ys = omega arith
-among_append (x ∷ xs) ys = let e = among_append xs ys in omega (arith, e)
-
-full_later : (a b n m : ℕ) → (a ≡ 0) ⊎ (most_nodes ≤ n) → (b ≡ 0) ⊎ (most_nodes ≤ m) → n ≤ m → (a + b ≡ 0) ⊎ (most_nodes ≤ m)
-full_later a b n m (inl none) (inl nil) le = inl (omega (arith, none, nil))
-full_later a b n m (inl none) (inr full) le = inr full
-full_later a b n m (inr full) other le = inr (omega (arith, full, le))
-
 -- ---- steps
 
 -- nothing was asked
-pub goes_drops : (text : ℕ → List ℕ) (place : PlaceValue) (from : Stage) (to : Step) (f : Option (List FolderCall)) (p : Option (List ProgramCall)) (dropped : ℕ)
+pub goes_drops : (text : ℕ → List ℕ) (place : PlaceValue) (from : Stage) (to : Step) (f : Option (List FolderCall)) (p : Option (List ProgramCall))
     → to_make text place from ≡ then_to_make text place to → to_start place from ≡ then_to_start place to → to_look place from ≡ then_to_look place to
     → then_gathered place to ≡ has_gathered place from → then_told place to ≡ has_told place from
-    → entries_left from ≡ dropped + then_entries_left to → (dropped ≡ 0) ⊎ (most_nodes ≤ nodes_among (then_gathered place to))
+    → Closes (walk_at place from) (walk_then place to)
     → Goes text place from to f f p p
-goes_drops text place from to f p dropped makes starts_it looks_at gathers told left full = record {
+goes_drops text place from to f p makes starts_it looks_at gathers told closes = record {
   calls = [];
   folder_asked = sym (after_none f);
   programs_asked = sym (after_none p);
@@ -68,26 +51,25 @@ goes_drops text place from to f p dropped makes starts_it looks_at gathers told 
   gathers = gathers ∙ sym (append-nil (has_gathered place from));
   is_told = told ∙ sym (append-nil (has_told place from));
   fits = tt;
-  dropped = dropped;
-  meets = omega (arith, left);
-  is_full = full;
+  meets = closes;
+  keeps = refl;
 }
 
 pub goes_alone : (text : ℕ → List ℕ) (place : PlaceValue) (from : Stage) (to : Step) (f : Option (List FolderCall)) (p : Option (List ProgramCall))
     → to_make text place from ≡ then_to_make text place to → to_start place from ≡ then_to_start place to → to_look place from ≡ then_to_look place to
-    → then_gathered place to ≡ has_gathered place from → then_told place to ≡ has_told place from → entries_left from ≡ then_entries_left to
+    → then_gathered place to ≡ has_gathered place from → then_told place to ≡ has_told place from → walk_at place from ≡ walk_then place to
     → Goes text place from to f f p p
-goes_alone text place from to f p makes starts_it looks_at gathers told left =
-    goes_drops text place from to f p 0 makes starts_it looks_at gathers told (omega (arith, left)) (inl refl)
+goes_alone text place from to f p makes starts_it looks_at gathers told same =
+    goes_drops text place from to f p makes starts_it looks_at gathers told (inl (sym same))
 
 -- one thing was asked of folders
-pub goes_folder_with : (n : ℕ) (text : ℕ → List ℕ) (place : PlaceValue) (from : Stage) (to : Step) (f g : Option (List FolderCall)) (p : Option (List ProgramCall)) (q : FolderQuestion) (a : Option FolderAnswer)
+pub goes_folder_with : (before : Walk) (text : ℕ → List ℕ) (place : PlaceValue) (from : Stage) (to : Step) (f g : Option (List FolderCall)) (p : Option (List ProgramCall)) (q : FolderQuestion) (a : Result FolderAnswer ErrorKind)
     → Adds f g (call q a)
     → to_make text place from ≡ made_by q ++ then_to_make text place to → to_start place from ≡ then_to_start place to → to_look place from ≡ look_of q ++ then_to_look place to
     → then_gathered place to ≡ has_gathered place from ++ call_items q a → then_told place to ≡ has_told place from
-    → held from + folder_told q a ≤ most_bytes → n + entries_told q a ≡ entries_met q + then_entries_left to
-    → GoesWith n text place from to f g p p
-goes_folder_with n text place from to f g p q a adds makes starts_it looks_at gathers told fits left = record {
+    → held from + folder_told q a ≤ most_bytes → Moves before q a (walk_then place to)
+    → GoesWith before text place from to f g p p
+goes_folder_with before text place from to f g p q a adds makes starts_it looks_at gathers told fits moves = record {
   calls = of_folder record { question = q; answer = a } ∷ [];
   folder_asked = adds;
   programs_asked = sym (after_none p);
@@ -97,28 +79,27 @@ goes_folder_with n text place from to f g p q a adds makes starts_it looks_at ga
   gathers = gathers ∙ ap (λ zs. has_gathered place from ++ zs) (sym (append-nil (call_items q a)));
   is_told = told ∙ sym (append-nil (has_told place from));
   fits = (fits, tt);
-  dropped = 0;
-  meets = omega (arith, left);
-  is_full = inl refl;
+  meets = meets_one before (walk_then place to) q a moves;
+  keeps = refl;
 }
 
-pub goes_folder : (text : ℕ → List ℕ) (place : PlaceValue) (from : Stage) (to : Step) (f g : Option (List FolderCall)) (p : Option (List ProgramCall)) (q : FolderQuestion) (a : Option FolderAnswer)
+pub goes_folder : (text : ℕ → List ℕ) (place : PlaceValue) (from : Stage) (to : Step) (f g : Option (List FolderCall)) (p : Option (List ProgramCall)) (q : FolderQuestion) (a : Result FolderAnswer ErrorKind)
     → Adds f g (call q a)
     → to_make text place from ≡ made_by q ++ then_to_make text place to → to_start place from ≡ then_to_start place to → to_look place from ≡ look_of q ++ then_to_look place to
     → then_gathered place to ≡ has_gathered place from ++ call_items q a → then_told place to ≡ has_told place from
-    → held from + folder_told q a ≤ most_bytes → entries_left from + entries_told q a ≡ entries_met q + then_entries_left to
+    → held from + folder_told q a ≤ most_bytes → Moves (walk_at place from) q a (walk_then place to)
     → Goes text place from to f g p p
-goes_folder text place from to f g p q a adds makes starts_it looks_at gathers told fits left =
-    goes_folder_with (entries_left from) text place from to f g p q a adds makes starts_it looks_at gathers told fits left
+goes_folder text place from to f g p q a adds makes starts_it looks_at gathers told fits moves =
+    goes_folder_with (walk_at place from) text place from to f g p q a adds makes starts_it looks_at gathers told fits moves
 
 -- one thing was asked of programs
-pub goes_program : (text : ℕ → List ℕ) (place : PlaceValue) (from : Stage) (to : Step) (f : Option (List FolderCall)) (p s : Option (List ProgramCall)) (q : ProgramQuestion) (a : Option ProgramAnswer)
+pub goes_program : (text : ℕ → List ℕ) (place : PlaceValue) (from : Stage) (to : Step) (f : Option (List FolderCall)) (p s : Option (List ProgramCall)) (q : ProgramQuestion) (a : Result ProgramAnswer ErrorKind)
     → Adds p s (called q a)
     → to_make text place from ≡ then_to_make text place to → to_start place from ≡ start_of q ++ then_to_start place to → to_look place from ≡ then_to_look place to
     → then_gathered place to ≡ has_gathered place from → then_told place to ≡ has_told place from ++ call_told q a
-    → held from + program_told q a ≤ most_bytes → entries_left from ≡ then_entries_left to
+    → held from + program_told q a ≤ most_bytes → walk_at place from ≡ walk_then place to → forget_of q ≡ []
     → Goes text place from to f f p s
-goes_program text place from to f p s q a adds makes starts_it looks_at gathers told fits left = record {
+goes_program text place from to f p s q a adds makes starts_it looks_at gathers told fits same keeps = record {
   calls = of_programs record { question = q; answer = a } ∷ [];
   folder_asked = sym (after_none f);
   programs_asked = adds;
@@ -128,9 +109,8 @@ goes_program text place from to f p s q a adds makes starts_it looks_at gathers 
   gathers = gathers ∙ sym (append-nil (has_gathered place from));
   is_told = told ∙ ap (λ zs. has_told place from ++ zs) (sym (append-nil (call_told q a)));
   fits = (fits, tt);
-  dropped = 0;
-  meets = omega (arith, left);
-  is_full = inl refl;
+  meets = inl (sym same);
+  keeps = append-nil (forget_of q) ∙ keeps;
 }
 
 -- then more was asked
@@ -150,29 +130,26 @@ goes_on text place from mid cost to f g h p s t first next =
       is_told = behinds (λ c. call_told c.question c.answer) (program_calls first.calls) (program_calls next.calls) _ _ _ first.is_told next.is_told ∙ ap (λ cs. has_told place from ++ items_told cs) (sym programs);
       fits = fits_append (held from) first.calls next.calls first.fits
           (subst (λ n. Fits n next.calls) (held_then place from (steps.Goes mid cost) first.calls first.gathers first.is_told) next.fits);
-      dropped = first.dropped + next.dropped;
-      meets =
-          let told = ap all_told folders ∙ told_append (folder_calls first.calls) (folder_calls next.calls) in
-          let met = ap all_met folders ∙ met_append (folder_calls first.calls) (folder_calls next.calls) in
-          omega (arith, first.meets, next.meets, told, met);
-      is_full = full_later first.dropped next.dropped (nodes_among (has_gathered place mid)) (nodes_among (then_gathered place to)) first.is_full next.is_full
-          (let more = ap nodes_among next.gathers ∙ among_append (has_gathered place mid) (items_answered (folder_calls next.calls)) in omega (arith, more));
+      meets = subst (λ cs. Meets (walk_at place from) cs (walk_then place to)) (sym folders)
+          (meets_append (walk_at place from) (walk_at place mid) (walk_then place to) (folder_calls first.calls) (folder_calls next.calls) first.meets next.meets);
+      keeps = ap forgets programs ∙ collect_append (λ c. forget_of c.question) (program_calls first.calls) (program_calls next.calls)
+          ∙ ap (λ zs. zs ++ forgets (program_calls next.calls)) first.keeps ∙ next.keeps;
     }
 
 pub goes_nowhere : (text : ℕ → List ℕ) (place : PlaceValue) (stage : Stage) (cost : ℕ) (f : Option (List FolderCall)) (p : Option (List ProgramCall)) → Goes text place stage (steps.Goes stage cost) f f p p
 goes_nowhere text place stage cost f p = goes_alone text place stage (steps.Goes stage cost) f p refl refl refl refl refl refl
 
 -- what gives nothing whatever is answered
-pub quiet : (q : FolderQuestion) (a : Option FolderAnswer) → ((x : FolderAnswer) → answer_items q x ≡ []) → call_items q a ≡ []
-quiet q None h = refl
-quiet q (Some x) h = h x
+pub quiet : (q : FolderQuestion) (a : Result FolderAnswer ErrorKind) → ((x : FolderAnswer) → answer_items q x ≡ []) → call_items q a ≡ []
+quiet q (Err e) h = refl
+quiet q (Ok x) h = h x
 
 -- a stage of which the same is to be done, and which has gathered the same
-pub goes_from : (n : ℕ) (text : ℕ → List ℕ) (place : PlaceValue) (from same : Stage) (to : Step) (f g : Option (List FolderCall)) (p s : Option (List ProgramCall))
+pub goes_from : (before : Walk) (text : ℕ → List ℕ) (place : PlaceValue) (from same : Stage) (to : Step) (f g : Option (List FolderCall)) (p s : Option (List ProgramCall))
     → to_make text place from ≡ to_make text place same → to_start place from ≡ to_start place same → to_look place from ≡ to_look place same
     → has_gathered place from ≡ has_gathered place same → has_told place from ≡ has_told place same → held from ≡ held same
-    → GoesWith n text place same to f g p s → GoesWith n text place from to f g p s
-goes_from n text place from same to f g p s makes starts_it looks_at gathers told holds goes = record {
+    → GoesWith before text place same to f g p s → GoesWith before text place from to f g p s
+goes_from before text place from same to f g p s makes starts_it looks_at gathers told holds goes = record {
   calls = goes.calls;
   folder_asked = goes.folder_asked;
   programs_asked = goes.programs_asked;
@@ -182,9 +159,8 @@ goes_from n text place from same to f g p s makes starts_it looks_at gathers tol
   gathers = goes.gathers ∙ ap (λ zs. zs ++ items_answered (folder_calls goes.calls)) (sym gathers);
   is_told = goes.is_told ∙ ap (λ zs. zs ++ items_told (program_calls goes.calls)) (sym told);
   fits = subst (λ n. Fits n goes.calls) (sym holds) goes.fits;
-  dropped = goes.dropped;
   meets = goes.meets;
-  is_full = goes.is_full;
+  keeps = goes.keeps;
 }
 
 -- what a step cost is of no matter
@@ -199,9 +175,8 @@ recost text place from s a b f g p q goes = record {
   gathers = goes.gathers;
   is_told = goes.is_told;
   fits = goes.fits;
-  dropped = goes.dropped;
   meets = goes.meets;
-  is_full = goes.is_full;
+  keeps = goes.keeps;
 }
 
 pub goes_exits : (text : ℕ → List ℕ) (place : PlaceValue) (from mid : Stage) (cost : ℕ) (step to : Step) (f g h : Option (List FolderCall)) (p s t : Option (List ProgramCall))

@@ -1,4 +1,5 @@
 pub mod Calls
+pub mod Walks
 pub mod Sizes
 pub mod Told
 pub mod Collect
@@ -11,3 +12,4 @@ pub mod Popped
 pub mod WentOn
 pub mod Trees
 pub mod Stopped
+pub mod Whole

@@ -4,6 +4,7 @@ use Rattle.std.specs.Prelude.{ℤ, Option, Some, None, Result, Ok, Err, string_b
 use Rattle.std.specs.Option.{option_to_list}
 use Rattle.std.specs.Global.{Vec}
 use Rattle.std.proofs.lemmas.List.{map-append, take-map}
+use Rattle.std.specs.declared.io.Error.{Error}
 use Rattle.runner.specs.declared.task.RunKey.{RunKey}
 use Rattle.runner.specs.declared.task.TaskNode.{TaskNode}
 use Rattle.runner.specs.declared.fault.RunFault.{RunFault}
@@ -11,6 +12,7 @@ use Rattle.runner.specs.declared.programs.Stream.{Stream}
 use Rattle.runner.specs.declared.programs.Stream.TheVariants as streams
 use Rattle.runner.specs.Values.{PlaceValue, kind_shown}
 use Rattle.runner.specs.Faults.{FolderAnswered, ProgramsAnswered}
+use Rattle.std.specs.declared.io.ErrorKind.{ErrorKind}
 use Rattle.runner.specs.Calls.{ProgramQuestion, ProgramAnswer, kill_asked, read_asked, bytes_asked, killed, killed_of, bytes_of, folder_bytes_of}
 use Rattle.runner.specs.Made.{MadeItem, node_item, kind_made, nodes_made, names_at, above_then}
 use Rattle.runner.specs.Gathered.{ItemValue, numbered, part_items, call_items}
@@ -32,15 +34,13 @@ pub no_items : {A : Type 0} (xs : List A) → length xs ≡ 0 → xs ≡ []
 no_items [] e = refl
 no_items (x ∷ xs) e = absurd (omega (arith, e))
 
-pub was_ok : {A E : Type 0} (answer : Result A E) (result : Result A RunFault) (x : A) → FolderAnswered answer result → result ≡ Ok x → answer ≡ Ok x
+pub was_ok : {A : Type 0} (answer : Result A Error) (result : Result A RunFault) (x : A) → FolderAnswered answer result → result ≡ Ok x → answer ≡ Ok x
 was_ok (Ok y) result x same is = let e = sym same ∙ is in cc
-was_ok (Err e) (Ok y) x same is = absurd same
-was_ok (Err e) (Err f) x same is = cc
+was_ok (Err e) result x same is = let no = sym same ∙ is in cc
 
-pub programs_ok : {A E : Type 0} (answer : Result A E) (result : Result A RunFault) (x : A) → ProgramsAnswered answer result → result ≡ Ok x → answer ≡ Ok x
+pub programs_ok : {A : Type 0} (answer : Result A Error) (result : Result A RunFault) (x : A) → ProgramsAnswered answer result → result ≡ Ok x → answer ≡ Ok x
 programs_ok (Ok y) result x same is = ap Ok (let e = sym same ∙ is in cc)
-programs_ok (Err e) (Ok y) x same is = absurd same
-programs_ok (Err e) (Err f) x same is = cc
+programs_ok (Err e) result x same is = let no = sym same ∙ is in cc
 
 -- the names of a node: those above, cut, and its own
 pub named : {A : Type 0} (f : A → List ℕ) (above cut pushed : List A) (name : A) (k level : ℕ)
@@ -79,14 +79,17 @@ moved f made left made' rest x left_is made_is =
 
 -- ---- what is told
 
-pub quiet_told : (q : ProgramQuestion) (a : Option ProgramAnswer) → ((x : ProgramAnswer) → answer_told q x ≡ []) → call_told q a ≡ []
-quiet_told q None h = refl
-quiet_told q (Some x) h = h x
+pub quiet_told : (q : ProgramQuestion) (a : Result ProgramAnswer ErrorKind) → ((x : ProgramAnswer) → answer_told q x ≡ []) → call_told q a ≡ []
+quiet_told q (Err e) h = refl
+quiet_told q (Ok x) h = h x
 
-pub kill_says : {E : Type 0} (run : RunKey) (r : Result Bool E) (b : Bool) → r ≡ Ok b → call_told (kill_asked run) (killed_of r) ≡ kill_told run (killed b)
+pub kill_says : (run : RunKey) (r : Result Bool Error) (b : Bool) → r ≡ Ok b → call_told (kill_asked run) (killed_of r) ≡ kill_told run (killed b)
 kill_says run r b is = ap (λ x. call_told (kill_asked run) (killed_of x)) is
 
-pub read_says : {E : Type 0} (run : RunKey) (s : Stream) (from most : ℕ) (r : Result (Vec ℕ) E) (v : Vec ℕ) (piece : List ℕ) → r ≡ Ok v → v.items ≡ piece
+pub kill_fails : (run : RunKey) (r : Result Bool Error) (e : Error) → r ≡ Err e → call_told (kill_asked run) (killed_of r) ≡ []
+kill_fails run r e is = ap (λ x. call_told (kill_asked run) (killed_of x)) is
+
+pub read_says : (run : RunKey) (s : Stream) (from most : ℕ) (r : Result (Vec ℕ) Error) (v : Vec ℕ) (piece : List ℕ) → r ≡ Ok v → v.items ≡ piece
     → call_told (read_asked run s from most) (bytes_of r) ≡ part_told run s from most piece
 read_says run s from most r v piece is items = ap (λ x. call_told (read_asked run s from most) (bytes_of x)) is ∙ ap (part_told run s from most) items
 
@@ -103,7 +106,7 @@ more_read run s content new piece from items new_is from_is items_is =
     ∙ ap (λ n. stream_bytes run s 0 content ++ stream_bytes run s n piece) e ∙ ap (λ is. stream_bytes run s 0 content ++ is) (sym items_is)
 
 -- standard output was read to its end
-pub output_whole : (run : RunKey) (code : ℤ) (content whole err : List ℕ) (items : List ToldItem) → whole ≡ content → err ≡ [] → items ≡ stream_end run streams.Output ∷ []
+pub output_whole : (run : RunKey) (code : ℤ) (content whole err : List ℕ) (items : List ToldItem) → whole ≡ content → err ≡ [] → items ≡ stream_end run streams.Output (length content) ∷ []
     → code_item run code ∷ killed_item run ∷ (whole_stream run streams.Output whole ++ stream_bytes run streams.Error 0 err)
     ≡ (code_item run code ∷ killed_item run ∷ stream_bytes run streams.Output 0 content) ++ items
 output_whole run code content whole err items whole_is err_is items_is =
@@ -114,7 +117,7 @@ output_whole run code content whole err items whole_is err_is items_is =
 
 -- ---- what is gathered
 
-pub bytes_say : {E : Type 0} (place : PlaceValue) (path : List ℕ) (names : List (List ℕ)) (from most : ℕ) (r : Result (Vec ℕ) E) (v : Vec ℕ) (piece : List ℕ)
+pub bytes_say : (place : PlaceValue) (path : List ℕ) (names : List (List ℕ)) (from most : ℕ) (r : Result (Vec ℕ) Error) (v : Vec ℕ) (piece : List ℕ)
     → r ≡ Ok v → v.items ≡ piece → call_items (bytes_asked place path names from most) (folder_bytes_of r) ≡ part_items place path names from most piece
 bytes_say place path names from most r v piece is items = ap (λ x. call_items (bytes_asked place path names from most) (folder_bytes_of x)) is ∙ ap (part_items place path names from most) items
 

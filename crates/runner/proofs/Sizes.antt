@@ -1,6 +1,6 @@
 -- How many bytes are held after what was asked.
 use Rattle.std.proofs.Common.{◌≡◌, ◌≤◌, ℕ, ◌+◌, true, false, List, [], ◌∷◌, ◌++◌, length, refl, ap, ◌∙◌, subst, arith}
-use Rattle.std.specs.Prelude.{Option, Some, None, zero, suc, string_bytes}
+use Rattle.std.specs.Prelude.{Some, None, Result, Ok, Err, zero, suc, string_bytes}
 use Rattle.runner.specs.declared.task.RunKey.{RunKey}
 use Rattle.runner.specs.declared.folder.Found.TheVariants as founds
 use Rattle.runner.specs.declared.outcome.Exited.{Exited}
@@ -17,6 +17,7 @@ use Rattle.runner.specs.declared.stage.Stage.TheVariants as stages
 use Rattle.runner.specs.declared.stage.Step.{Step}
 use Rattle.runner.specs.declared.stage.Step.TheVariants as steps
 use Rattle.runner.specs.Values.{PlaceValue}
+use Rattle.std.specs.declared.io.ErrorKind.{ErrorKind}
 use Rattle.runner.specs.Calls.{FolderQuestion, FolderAnswer, root_asked, node_asked, text_asked, directory_asked, parents_asked, look_asked, file_asked, list_asked, bytes_asked, removal_asked, done, found, facts, entries, file_bytes, gone, ProgramQuestion, ProgramAnswer, start_asked, end_asked, kill_asked, length_asked, read_asked, forget_asked, program_done, running, ended, killed, written, bytes, RunCall, of_folder, of_programs, folder_calls, program_calls}
 use Rattle.runner.specs.Made.{names_at}
 use Rattle.runner.specs.Gathered.{ItemValue, file_item, byte_at, end_item, found_item, directory_item, numbered, whole_file, node_items, nodes_items, above_after, kind_items, output_items, call_items, items_answered}
@@ -29,7 +30,7 @@ use Rattle.runner.specs.Sizes.{most_bytes, node_length, nodes_length, output_len
 abbrev item_count : ItemValue → ℕ
 item_count (file_item place path names is_executable) = 0
 item_count (byte_at place path names at b) = 1
-item_count (end_item place path names) = 0
+item_count (end_item place path names at) = 0
 item_count (found_item place path) = 0
 item_count (directory_item place path names) = 0
 
@@ -41,7 +42,7 @@ abbrev told_count : ToldItem → ℕ
 told_count (code_item run code) = 0
 told_count (killed_item run) = 0
 told_count (stream_byte run stream at b) = 1
-told_count (stream_end run stream) = 0
+told_count (stream_end run stream at) = 0
 
 abbrev tolds_count : List ToldItem → ℕ
 tolds_count [] = 0
@@ -65,13 +66,13 @@ stream_count run s from (b ∷ bs) = let e = stream_count run s (from + 1) bs in
 
 whole_count : (place : PlaceValue) (path : List ℕ) (names : List (List ℕ)) (bs : List ℕ) → items_count (whole_file place path names bs) ≡ length bs
 whole_count place path names bs =
-    let split = items_append (numbered place path names 0 bs) (end_item place path names ∷ []) in
+    let split = items_append (numbered place path names 0 bs) (end_item place path names (length bs) ∷ []) in
     let one = numbered_count place path names 0 bs in
     omega (arith, split, one)
 
 whole_stream_count : (run : RunKey) (s : Stream) (bs : List ℕ) → tolds_count (whole_stream run s bs) ≡ length bs
 whole_stream_count run s bs =
-    let split = tolds_append (stream_bytes run s 0 bs) (stream_end run s ∷ []) in
+    let split = tolds_append (stream_bytes run s 0 bs) (stream_end run s (length bs) ∷ []) in
     let one = stream_count run s 0 bs in
     omega (arith, split, one)
 
@@ -161,108 +162,108 @@ then_count place (steps.Exits e) = exited_count place e
 
 -- ---- what was read
 
-part_count : (place : PlaceValue) (path : List ℕ) (names : List (List ℕ)) (from most : ℕ) (a : Option FolderAnswer)
+part_count : (place : PlaceValue) (path : List ℕ) (names : List (List ℕ)) (from most : ℕ) (a : Result FolderAnswer ErrorKind)
     → items_count (call_items (bytes_asked place path names from most) a) ≡ folder_read (bytes_asked place path names from most) a
-part_count place path names from most None = refl
-part_count place path names from most (Some done) = refl
-part_count place path names from most (Some (found f)) = refl
-part_count place path names from most (Some (facts f)) = refl
-part_count place path names from most (Some (entries es)) = refl
-part_count place path names from zero (Some (file_bytes [])) = refl
-part_count place path names from (suc most) (Some (file_bytes [])) = omega arith
-part_count place path names from most (Some (file_bytes (b ∷ bs))) = numbered_count place path names from (b ∷ bs)
-part_count place path names from most (Some (gone b)) = refl
+part_count place path names from most (Err e) = refl
+part_count place path names from most (Ok done) = refl
+part_count place path names from most (Ok (found f)) = refl
+part_count place path names from most (Ok (facts f)) = refl
+part_count place path names from most (Ok (entries es)) = refl
+part_count place path names from zero (Ok (file_bytes [])) = refl
+part_count place path names from (suc most) (Ok (file_bytes [])) = omega arith
+part_count place path names from most (Ok (file_bytes (b ∷ bs))) = numbered_count place path names from (b ∷ bs)
+part_count place path names from most (Ok (gone b)) = refl
 
-look_count : (place : PlaceValue) (path : List ℕ) (a : Option FolderAnswer) → items_count (call_items (look_asked place path) a) ≡ 0
-look_count place path None = refl
-look_count place path (Some done) = refl
-look_count place path (Some (found (founds.File f))) = omega arith
-look_count place path (Some (found founds.Nothing)) = refl
-look_count place path (Some (found founds.Other)) = refl
-look_count place path (Some (found founds.Directory)) = omega arith
-look_count place path (Some (facts f)) = refl
-look_count place path (Some (entries es)) = refl
-look_count place path (Some (file_bytes bs)) = refl
-look_count place path (Some (gone b)) = refl
+look_count : (place : PlaceValue) (path : List ℕ) (a : Result FolderAnswer ErrorKind) → items_count (call_items (look_asked place path) a) ≡ 0
+look_count place path (Err e) = refl
+look_count place path (Ok done) = refl
+look_count place path (Ok (found (founds.File f))) = omega arith
+look_count place path (Ok (found founds.Nothing)) = refl
+look_count place path (Ok (found founds.Other)) = refl
+look_count place path (Ok (found founds.Directory)) = omega arith
+look_count place path (Ok (facts f)) = refl
+look_count place path (Ok (entries es)) = refl
+look_count place path (Ok (file_bytes bs)) = refl
+look_count place path (Ok (gone b)) = refl
 
-facts_count : (place : PlaceValue) (path : List ℕ) (names : List (List ℕ)) (a : Option FolderAnswer) → items_count (call_items (file_asked place path names) a) ≡ 0
-facts_count place path names None = refl
-facts_count place path names (Some done) = refl
-facts_count place path names (Some (found f)) = refl
-facts_count place path names (Some (facts None)) = refl
-facts_count place path names (Some (facts (Some f))) = omega arith
-facts_count place path names (Some (entries es)) = refl
-facts_count place path names (Some (file_bytes bs)) = refl
-facts_count place path names (Some (gone b)) = refl
+facts_count : (place : PlaceValue) (path : List ℕ) (names : List (List ℕ)) (a : Result FolderAnswer ErrorKind) → items_count (call_items (file_asked place path names) a) ≡ 0
+facts_count place path names (Err e) = refl
+facts_count place path names (Ok done) = refl
+facts_count place path names (Ok (found f)) = refl
+facts_count place path names (Ok (facts None)) = refl
+facts_count place path names (Ok (facts (Some f))) = omega arith
+facts_count place path names (Ok (entries es)) = refl
+facts_count place path names (Ok (file_bytes bs)) = refl
+facts_count place path names (Ok (gone b)) = refl
 
-list_count : (place : PlaceValue) (path : List ℕ) (names : List (List ℕ)) (most : ℕ) (a : Option FolderAnswer) → items_count (call_items (list_asked place path names most) a) ≡ 0
-list_count place path names most None = refl
-list_count place path names most (Some done) = refl
-list_count place path names most (Some (found f)) = refl
-list_count place path names most (Some (facts f)) = refl
-list_count place path names most (Some (entries es)) = omega arith
-list_count place path names most (Some (file_bytes bs)) = refl
-list_count place path names most (Some (gone b)) = refl
+list_count : (place : PlaceValue) (path : List ℕ) (names : List (List ℕ)) (most : ℕ) (a : Result FolderAnswer ErrorKind) → items_count (call_items (list_asked place path names most) a) ≡ 0
+list_count place path names most (Err e) = refl
+list_count place path names most (Ok done) = refl
+list_count place path names most (Ok (found f)) = refl
+list_count place path names most (Ok (facts f)) = refl
+list_count place path names most (Ok (entries es)) = omega arith
+list_count place path names most (Ok (file_bytes bs)) = refl
+list_count place path names most (Ok (gone b)) = refl
 
-folder_count : (q : FolderQuestion) (a : Option FolderAnswer) → items_count (call_items q a) ≡ folder_read q a
-folder_count (root_asked run) None = refl
-folder_count (root_asked run) (Some a) = refl
-folder_count (node_asked run names kind) None = refl
-folder_count (node_asked run names kind) (Some a) = refl
-folder_count (text_asked run names bs) None = refl
-folder_count (text_asked run names bs) (Some a) = refl
-folder_count (directory_asked place) None = refl
-folder_count (directory_asked place) (Some a) = refl
-folder_count (parents_asked place path) None = refl
-folder_count (parents_asked place path) (Some a) = refl
+folder_count : (q : FolderQuestion) (a : Result FolderAnswer ErrorKind) → items_count (call_items q a) ≡ folder_read q a
+folder_count (root_asked run) (Err e) = refl
+folder_count (root_asked run) (Ok a) = refl
+folder_count (node_asked run names kind) (Err e) = refl
+folder_count (node_asked run names kind) (Ok a) = refl
+folder_count (text_asked run names bs) (Err e) = refl
+folder_count (text_asked run names bs) (Ok a) = refl
+folder_count (directory_asked place) (Err e) = refl
+folder_count (directory_asked place) (Ok a) = refl
+folder_count (parents_asked place path) (Err e) = refl
+folder_count (parents_asked place path) (Ok a) = refl
 folder_count (look_asked place path) a = look_count place path a
 folder_count (file_asked place path names) a = facts_count place path names a
 folder_count (list_asked place path names most) a = list_count place path names most a
 folder_count (bytes_asked place path names from most) a = part_count place path names from most a
-folder_count (removal_asked run) None = refl
-folder_count (removal_asked run) (Some a) = refl
+folder_count (removal_asked run) (Err e) = refl
+folder_count (removal_asked run) (Ok a) = refl
 
-end_count : (run : RunKey) (a : Option ProgramAnswer) → tolds_count (call_told (end_asked run) a) ≡ 0
-end_count run None = refl
-end_count run (Some program_done) = refl
-end_count run (Some running) = refl
-end_count run (Some (ended code)) = omega arith
-end_count run (Some (killed b)) = refl
-end_count run (Some (written n)) = refl
-end_count run (Some (bytes bs)) = refl
+end_count : (run : RunKey) (a : Result ProgramAnswer ErrorKind) → tolds_count (call_told (end_asked run) a) ≡ 0
+end_count run (Err e) = refl
+end_count run (Ok program_done) = refl
+end_count run (Ok running) = refl
+end_count run (Ok (ended code)) = omega arith
+end_count run (Ok (killed b)) = refl
+end_count run (Ok (written n)) = refl
+end_count run (Ok (bytes bs)) = refl
 
-kill_count : (run : RunKey) (a : Option ProgramAnswer) → tolds_count (call_told (kill_asked run) a) ≡ 0
-kill_count run None = refl
-kill_count run (Some program_done) = refl
-kill_count run (Some running) = refl
-kill_count run (Some (ended code)) = refl
-kill_count run (Some (killed true)) = omega arith
-kill_count run (Some (killed false)) = refl
-kill_count run (Some (written n)) = refl
-kill_count run (Some (bytes bs)) = refl
+kill_count : (run : RunKey) (a : Result ProgramAnswer ErrorKind) → tolds_count (call_told (kill_asked run) a) ≡ 0
+kill_count run (Err e) = refl
+kill_count run (Ok program_done) = refl
+kill_count run (Ok running) = refl
+kill_count run (Ok (ended code)) = refl
+kill_count run (Ok (killed true)) = omega arith
+kill_count run (Ok (killed false)) = refl
+kill_count run (Ok (written n)) = refl
+kill_count run (Ok (bytes bs)) = refl
 
-read_count : (run : RunKey) (s : Stream) (from most : ℕ) (a : Option ProgramAnswer)
+read_count : (run : RunKey) (s : Stream) (from most : ℕ) (a : Result ProgramAnswer ErrorKind)
     → tolds_count (call_told (read_asked run s from most) a) ≡ program_read (read_asked run s from most) a
-read_count run s from most None = refl
-read_count run s from most (Some program_done) = refl
-read_count run s from most (Some running) = refl
-read_count run s from most (Some (ended code)) = refl
-read_count run s from most (Some (killed b)) = refl
-read_count run s from most (Some (written n)) = refl
-read_count run s from zero (Some (bytes [])) = refl
-read_count run s from (suc most) (Some (bytes [])) = omega arith
-read_count run s from most (Some (bytes (b ∷ bs))) = stream_count run s from (b ∷ bs)
+read_count run s from most (Err e) = refl
+read_count run s from most (Ok program_done) = refl
+read_count run s from most (Ok running) = refl
+read_count run s from most (Ok (ended code)) = refl
+read_count run s from most (Ok (killed b)) = refl
+read_count run s from most (Ok (written n)) = refl
+read_count run s from zero (Ok (bytes [])) = refl
+read_count run s from (suc most) (Ok (bytes [])) = omega arith
+read_count run s from most (Ok (bytes (b ∷ bs))) = stream_count run s from (b ∷ bs)
 
-program_count : (q : ProgramQuestion) (a : Option ProgramAnswer) → tolds_count (call_told q a) ≡ program_read q a
-program_count (start_asked place command) None = refl
-program_count (start_asked place command) (Some a) = refl
+program_count : (q : ProgramQuestion) (a : Result ProgramAnswer ErrorKind) → tolds_count (call_told q a) ≡ program_read q a
+program_count (start_asked place command) (Err e) = refl
+program_count (start_asked place command) (Ok a) = refl
 program_count (end_asked run) a = end_count run a
 program_count (kill_asked run) a = kill_count run a
-program_count (length_asked run) None = refl
-program_count (length_asked run) (Some a) = refl
+program_count (length_asked run) (Err e) = refl
+program_count (length_asked run) (Ok a) = refl
 program_count (read_asked run s from most) a = read_count run s from most a
-program_count (forget_asked run) None = refl
-program_count (forget_asked run) (Some a) = refl
+program_count (forget_asked run) (Err e) = refl
+program_count (forget_asked run) (Ok a) = refl
 
 calls_count : (calls : List RunCall) → tolds_count (items_told (program_calls calls)) + items_count (items_answered (folder_calls calls)) ≡ all_read calls
 calls_count [] = refl

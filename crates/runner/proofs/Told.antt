@@ -2,6 +2,7 @@
 use Rattle.std.proofs.Common.{◌≡◌, ◌≤◌, ◌<◌, ℕ, ◌+◌, List, [], ◌∷◌, ◌++◌, length, length-append, ap, ◌∙◌, subst, arith}
 use Rattle.std.specs.Prelude.{Option, Some, Result, Ok, Bool, true, false, MatchBool}
 use Rattle.std.specs.Global.{Vec}
+use Rattle.std.specs.declared.io.Error.{Error}
 use Rattle.runner.specs.declared.folder.Found.{Found}
 use Rattle.runner.specs.declared.folder.Found.TheVariants.{File}
 use Rattle.runner.specs.declared.folder.FileFacts.{FileFacts}
@@ -13,22 +14,22 @@ use Rattle.runner.specs.Calls.{look_asked, file_asked, bytes_asked, found_of, fa
 use Rattle.runner.specs.Sizes.{most_bytes, node_length, nodes_length, output_length, outputs_length, folder_told, program_told, IsTaken}
 use Rattle.runner.specs.Values.{PlaceValue}
 
-pub found_says : {E : Type 0} (place : PlaceValue) (path : List ℕ) (r : Result Found E) (f : FileFacts)
+pub found_says : (place : PlaceValue) (path : List ℕ) (r : Result Found Error) (f : FileFacts)
     → r ≡ Ok (File f) → folder_told (look_asked place path) (found_of r) ≡ f.size
 found_says place path r f is = ap (λ x. folder_told (look_asked place path) (found_of x)) is
 
-pub facts_say : {E : Type 0} (place : PlaceValue) (path : List ℕ) (names : List (List ℕ)) (r : Result (Option FileFacts) E) (f : FileFacts)
+pub facts_say : (place : PlaceValue) (path : List ℕ) (names : List (List ℕ)) (r : Result (Option FileFacts) Error) (f : FileFacts)
     → r ≡ Ok (Some f) → folder_told (file_asked place path names) (facts_of r) ≡ f.size
 facts_say place path names r f is = ap (λ x. folder_told (file_asked place path names) (facts_of x)) is
 
-pub part_says : {E : Type 0} (place : PlaceValue) (path : List ℕ) (names : List (List ℕ)) (from most : ℕ) (r : Result (Vec ℕ) E) (v : Vec ℕ)
+pub part_says : (place : PlaceValue) (path : List ℕ) (names : List (List ℕ)) (from most : ℕ) (r : Result (Vec ℕ) Error) (v : Vec ℕ)
     → r ≡ Ok v → folder_told (bytes_asked place path names from most) (folder_bytes_of r) ≡ length v.items
 part_says place path names from most r v is = ap (λ x. folder_told (bytes_asked place path names from most) (folder_bytes_of x)) is
 
-pub written_says : {E : Type 0} (run : RunKey) (r : Result ℕ E) (n : ℕ) → r ≡ Ok n → program_told (length_asked run) (length_of r) ≡ n
+pub written_says : (run : RunKey) (r : Result ℕ Error) (n : ℕ) → r ≡ Ok n → program_told (length_asked run) (length_of r) ≡ n
 written_says run r n is = ap (λ x. program_told (length_asked run) (length_of x)) is
 
-pub stream_says : {E : Type 0} (run : RunKey) (s : Stream) (from most : ℕ) (r : Result (Vec ℕ) E) (v : Vec ℕ)
+pub stream_says : (run : RunKey) (s : Stream) (from most : ℕ) (r : Result (Vec ℕ) Error) (v : Vec ℕ)
     → r ≡ Ok v → program_told (read_asked run s from most) (bytes_of r) ≡ length v.items
 stream_says run s from most r v is = ap (λ x. program_told (read_asked run s from most) (bytes_of x)) is
 

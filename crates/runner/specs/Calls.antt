@@ -2,6 +2,9 @@
 use Rattle.std.specs.Prelude.{◌≡◌, ℕ, ℤ, Bool, List, [], ◌∷◌, ◌++◌, map, Option, Some, None, Result, Ok, Err, ⊤}
 use Rattle.std.specs.Option.{option_map}
 use Rattle.std.specs.Global.{Vec}
+use Rattle.std.specs.IoError.{error_kind}
+use Rattle.std.specs.declared.io.Error.{Error}
+use Rattle.std.specs.declared.io.ErrorKind.{ErrorKind}
 use Rattle.runner.specs.declared.task.RunKey.{RunKey}
 use Rattle.runner.specs.declared.folder.Found.{Found}
 use Rattle.runner.specs.declared.folder.FileFacts.{FileFacts}
@@ -42,37 +45,37 @@ pub data FolderAnswer : Type 0 where
   -- whether nothing is left
   gone : Bool → FolderAnswer
 
--- the answer is None where the call failed
+-- what was answered, or the kind of the error with which the call failed
 pub record FolderCall : Type 0 where
   pub question : FolderQuestion
-  pub answer : Option FolderAnswer
+  pub answer : Result FolderAnswer ErrorKind
 
-abbrev pub call : FolderQuestion → Option FolderAnswer → List FolderCall
+abbrev pub call : FolderQuestion → Result FolderAnswer ErrorKind → List FolderCall
 call q a = record { question = q; answer = a } ∷ []
 
-abbrev pub done_of : {E : Type 0} → Result ⊤ E → Option FolderAnswer
-done_of (Ok x) = Some done
-done_of (Err e) = None
+abbrev pub done_of : Result ⊤ Error → Result FolderAnswer ErrorKind
+done_of (Ok x) = Ok done
+done_of (Err e) = Err (error_kind e)
 
-abbrev pub found_of : {E : Type 0} → Result Found E → Option FolderAnswer
-found_of (Ok f) = Some (found f)
-found_of (Err e) = None
+abbrev pub found_of : Result Found Error → Result FolderAnswer ErrorKind
+found_of (Ok f) = Ok (found f)
+found_of (Err e) = Err (error_kind e)
 
-abbrev pub facts_of : {E : Type 0} → Result (Option FileFacts) E → Option FolderAnswer
-facts_of (Ok f) = Some (facts f)
-facts_of (Err e) = None
+abbrev pub facts_of : Result (Option FileFacts) Error → Result FolderAnswer ErrorKind
+facts_of (Ok f) = Ok (facts f)
+facts_of (Err e) = Err (error_kind e)
 
-abbrev pub entries_of : {E : Type 0} → Result (Vec Entry) E → Option FolderAnswer
-entries_of (Ok es) = Some (entries (map entry_shown es.items))
-entries_of (Err e) = None
+abbrev pub entries_of : Result (Vec Entry) Error → Result FolderAnswer ErrorKind
+entries_of (Ok es) = Ok (entries (map entry_shown es.items))
+entries_of (Err e) = Err (error_kind e)
 
-abbrev pub folder_bytes_of : {E : Type 0} → Result (Vec ℕ) E → Option FolderAnswer
-folder_bytes_of (Ok bytes) = Some (file_bytes bytes.items)
-folder_bytes_of (Err e) = None
+abbrev pub folder_bytes_of : Result (Vec ℕ) Error → Result FolderAnswer ErrorKind
+folder_bytes_of (Ok bytes) = Ok (file_bytes bytes.items)
+folder_bytes_of (Err e) = Err (error_kind e)
 
-abbrev pub gone_of : {E : Type 0} → Result Bool E → Option FolderAnswer
-gone_of (Ok is_gone) = Some (gone is_gone)
-gone_of (Err e) = None
+abbrev pub gone_of : Result Bool Error → Result FolderAnswer ErrorKind
+gone_of (Ok is_gone) = Ok (gone is_gone)
+gone_of (Err e) = Err (error_kind e)
 
 -- ---- of programs
 
@@ -98,34 +101,34 @@ pub data ProgramAnswer : Type 0 where
 
 pub record ProgramCall : Type 0 where
   pub question : ProgramQuestion
-  pub answer : Option ProgramAnswer
+  pub answer : Result ProgramAnswer ErrorKind
 
-abbrev pub called : ProgramQuestion → Option ProgramAnswer → List ProgramCall
+abbrev pub called : ProgramQuestion → Result ProgramAnswer ErrorKind → List ProgramCall
 called q a = record { question = q; answer = a } ∷ []
 
-abbrev pub started_of : {E : Type 0} → Result ⊤ E → Option ProgramAnswer
-started_of (Ok x) = Some program_done
-started_of (Err e) = None
+abbrev pub started_of : Result ⊤ Error → Result ProgramAnswer ErrorKind
+started_of (Ok x) = Ok program_done
+started_of (Err e) = Err (error_kind e)
 
 abbrev pub state_shown : Option ℤ → ProgramAnswer
 state_shown None = running
 state_shown (Some code) = ended code
 
-abbrev pub state_of : {E : Type 0} → Result (Option ℤ) E → Option ProgramAnswer
-state_of (Ok s) = Some (state_shown s)
-state_of (Err e) = None
+abbrev pub state_of : Result (Option ℤ) Error → Result ProgramAnswer ErrorKind
+state_of (Ok s) = Ok (state_shown s)
+state_of (Err e) = Err (error_kind e)
 
-abbrev pub killed_of : {E : Type 0} → Result Bool E → Option ProgramAnswer
-killed_of (Ok is_killed) = Some (killed is_killed)
-killed_of (Err e) = None
+abbrev pub killed_of : Result Bool Error → Result ProgramAnswer ErrorKind
+killed_of (Ok is_killed) = Ok (killed is_killed)
+killed_of (Err e) = Err (error_kind e)
 
-abbrev pub length_of : {E : Type 0} → Result ℕ E → Option ProgramAnswer
-length_of (Ok n) = Some (written n)
-length_of (Err e) = None
+abbrev pub length_of : Result ℕ Error → Result ProgramAnswer ErrorKind
+length_of (Ok n) = Ok (written n)
+length_of (Err e) = Err (error_kind e)
 
-abbrev pub bytes_of : {E : Type 0} → Result (Vec ℕ) E → Option ProgramAnswer
-bytes_of (Ok text) = Some (bytes text.items)
-bytes_of (Err e) = None
+abbrev pub bytes_of : Result (Vec ℕ) Error → Result ProgramAnswer ErrorKind
+bytes_of (Ok text) = Ok (bytes text.items)
+bytes_of (Err e) = Err (error_kind e)
 
 -- ---- in order
 

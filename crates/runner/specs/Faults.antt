@@ -1,7 +1,11 @@
 -- Counts of failures, and the faults that stand for them.
 use Rattle.std.specs.Prelude.{◌≡◌, ◌≤◌, ◌<◌, ◌+◌, ℕ, min, ◌⊎◌, Result, Ok, Err}
+use Rattle.std.specs.IoError.{error_kind}
+use Rattle.std.specs.declared.io.Error.{Error}
+use Rattle.std.specs.declared.io.ErrorKind.{ErrorKind}
+use Rattle.std.specs.declared.io.ErrorKind.TheVariants.{OutOfMemory}
 use Rattle.runner.specs.declared.fault.RunFault.{RunFault}
-use Rattle.runner.specs.declared.fault.RunFault.TheVariants.{Folder, Start, TooLarge, NoMemory}
+use Rattle.runner.specs.declared.fault.RunFault.TheVariants.{Folder, Start, TooLarge, NoMemory, Left}
 
 abbrev pub most_failures : ℕ
 most_failures = 18446744073709551615
@@ -21,25 +25,22 @@ Rises old new = (old < new) ⊎ (most_failures ≤ new)
 
 -- ---- what a fault of one call says
 
-abbrev pub IsFolderFault : RunFault → Type 0
-IsFolderFault Folder = Unit {0}
-IsFolderFault NoMemory = Unit {0}
-IsFolderFault f = ⊥
+-- want of memory is told apart
+abbrev pub folder_fault : ErrorKind → RunFault
+folder_fault OutOfMemory = NoMemory
+folder_fault kind = Folder
 
-abbrev pub IsProgramsFault : RunFault → Type 0
-IsProgramsFault Start = Unit {0}
-IsProgramsFault NoMemory = Unit {0}
-IsProgramsFault f = ⊥
+abbrev pub programs_fault : ErrorKind → RunFault
+programs_fault OutOfMemory = NoMemory
+programs_fault kind = Start
 
-abbrev pub FolderAnswered : {A E : Type 0} → Result A E → Result A RunFault → Type 0
+abbrev pub FolderAnswered : {A : Type 0} → Result A Error → Result A RunFault → Type 0
 FolderAnswered (Ok x) result = result ≡ Ok x
-FolderAnswered (Err e) (Ok x) = ⊥
-FolderAnswered (Err e) (Err f) = IsFolderFault f
+FolderAnswered (Err e) result = result ≡ Err (folder_fault (error_kind e))
 
-abbrev pub ProgramsAnswered : {A E : Type 0} → Result A E → Result A RunFault → Type 0
+abbrev pub ProgramsAnswered : {A : Type 0} → Result A Error → Result A RunFault → Type 0
 ProgramsAnswered (Ok x) result = result ≡ Ok x
-ProgramsAnswered (Err e) (Ok x) = ⊥
-ProgramsAnswered (Err e) (Err f) = IsProgramsFault f
+ProgramsAnswered (Err e) result = result ≡ Err (programs_fault (error_kind e))
 
 -- ---- what a fault says of the count of folders' failures, in parts that ask nothing of programs
 
@@ -48,6 +49,7 @@ FolderFaultCounts Folder old new = Rises old new
 FolderFaultCounts Start old new = ⊥
 FolderFaultCounts TooLarge old new = Unit {0}
 FolderFaultCounts NoMemory old new = Unit {0}
+FolderFaultCounts Left old new = ⊥
 
 abbrev pub FolderCounts : {A : Type 0} → Result A RunFault → ℕ → ℕ → Type 0
 FolderCounts (Ok x) old new = new ≡ old
@@ -58,6 +60,7 @@ ProgramsFaultCounts Start old new = Rises old new
 ProgramsFaultCounts Folder old new = ⊥
 ProgramsFaultCounts TooLarge old new = Unit {0}
 ProgramsFaultCounts NoMemory old new = Unit {0}
+ProgramsFaultCounts Left old new = ⊥
 
 abbrev pub ProgramsCounts : {A : Type 0} → Result A RunFault → ℕ → ℕ → Type 0
 ProgramsCounts (Ok x) old new = new ≡ old
@@ -65,18 +68,20 @@ ProgramsCounts (Err f) old new = ProgramsFaultCounts f old new
 
 -- ---- of a whole call
 
--- the folders' fault comes only where their count rose, and the programs' where theirs did
+-- the folders' fault comes only where their count rose, as does that a folder is left, and the programs'
+-- where theirs did
 abbrev pub FaultFailed : RunFault → ℕ → ℕ → ℕ → ℕ → Type 0
 FaultFailed Folder f_old f_new p_old p_new = Rises f_old f_new
 FaultFailed Start f_old f_new p_old p_new = Rises p_old p_new
 FaultFailed TooLarge f_old f_new p_old p_new = Unit {0}
 FaultFailed NoMemory f_old f_new p_old p_new = Unit {0}
+FaultFailed Left f_old f_new p_old p_new = Rises f_old f_new
 
--- the count did not go down, nor from its highest
 abbrev pub StaysOrRises : ℕ → ℕ → Type 0
-StaysOrRises old new = (new ≡ old) ⊎ (new ≡ risen old)
+StaysOrRises old new = (new ≡ old) ⊎ Rises old new
 
--- nothing failed where the call succeeded, and its fault is of what failed
+-- no call of the folders failed where the call succeeded, and none of the programs but to end one that
+-- has exited; its fault is of what failed
 abbrev pub Counted : {A : Type 0} → Result A RunFault → ℕ → ℕ → ℕ → ℕ → Type 0
-Counted (Ok x) f_old f_new p_old p_new = (f_new ≡ f_old) × (p_new ≡ p_old)
+Counted (Ok x) f_old f_new p_old p_new = (f_new ≡ f_old) × StaysOrRises p_old p_new
 Counted (Err f) f_old f_new p_old p_new = FaultFailed f f_old f_new p_old p_new

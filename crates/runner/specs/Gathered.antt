@@ -1,5 +1,5 @@
 -- What is gathered: files and directories, and the bytes of files, to the end of each.
-use Rattle.std.specs.Prelude.{ℕ, zero, suc, ◌+◌, ◌-◌, Bool, List, [], ◌∷◌, ◌++◌, take, string_bytes, Option, Some, None}
+use Rattle.std.specs.Prelude.{ℕ, zero, suc, ◌+◌, ◌-◌, Bool, List, [], ◌∷◌, ◌++◌, take, length, string_bytes, Option, Some, None, Result, Ok, Err}
 use Rattle.runner.specs.declared.folder.Found.{Found}
 use Rattle.runner.specs.declared.folder.Found.TheVariants as founds
 use Rattle.runner.specs.declared.folder.FileFacts.{FileFacts}
@@ -11,6 +11,7 @@ use Rattle.runner.specs.declared.outcome.OutputKind.TheVariants as kinds
 use Rattle.runner.specs.declared.outcome.Output.{Output}
 use Rattle.runner.specs.Values.{PlaceValue}
 use Rattle.runner.specs.Made.{names_at}
+use Rattle.std.specs.declared.io.ErrorKind.{ErrorKind}
 use Rattle.runner.specs.Calls.{FolderCall, FolderQuestion, FolderAnswer, root_asked, node_asked, text_asked, directory_asked, parents_asked, look_asked, file_asked, list_asked, bytes_asked, removal_asked, found, facts, entries, file_bytes, collect}
 
 -- of a run, at the path of an output and the names below it
@@ -19,8 +20,8 @@ pub data ItemValue : Type 0 where
   file_item : PlaceValue → List ℕ → List (List ℕ) → Bool → ItemValue
   -- the byte of a file at a place in it
   byte_at : PlaceValue → List ℕ → List (List ℕ) → ℕ → ℕ → ItemValue
-  -- nothing more is in a file
-  end_item : PlaceValue → List ℕ → List (List ℕ) → ItemValue
+  -- nothing more is in a file from a place on
+  end_item : PlaceValue → List ℕ → List (List ℕ) → ℕ → ItemValue
   -- an output is a directory
   found_item : PlaceValue → List ℕ → ItemValue
   -- a directory was listed
@@ -33,14 +34,14 @@ numbered place path names from (b ∷ bs) = byte_at place path names from b ∷ 
 
 -- the bytes of a file, to its end
 abbrev pub whole_file : PlaceValue → List ℕ → List (List ℕ) → List ℕ → List ItemValue
-whole_file place path names bs = numbered place path names 0 bs ++ end_item place path names ∷ []
+whole_file place path names bs = numbered place path names 0 bs ++ end_item place path names (length bs) ∷ []
 
 -- ---- of answers
 
 -- bytes of a file from a place on, or its end, where bytes were wanted and none are there
 abbrev pub part_items : PlaceValue → List ℕ → List (List ℕ) → ℕ → ℕ → List ℕ → List ItemValue
 part_items place path names from zero [] = []
-part_items place path names from (suc most) [] = end_item place path names ∷ []
+part_items place path names from (suc most) [] = end_item place path names from ∷ []
 part_items place path names from most (b ∷ bs) = numbered place path names from (b ∷ bs)
 
 abbrev pub found_items : PlaceValue → List ℕ → Found → List ItemValue
@@ -81,9 +82,9 @@ answer_items (list_asked place path names most) a = list_items place path names 
 answer_items (bytes_asked place path names from most) a = bytes_items place path names from most a
 answer_items (removal_asked run) a = []
 
-abbrev pub call_items : FolderQuestion → Option FolderAnswer → List ItemValue
-call_items q None = []
-call_items q (Some a) = answer_items q a
+abbrev pub call_items : FolderQuestion → Result FolderAnswer ErrorKind → List ItemValue
+call_items q (Err e) = []
+call_items q (Ok a) = answer_items q a
 
 -- the files that were found, with the bytes read of them, and the directories that were found and listed
 abbrev pub items_answered : List FolderCall → List ItemValue

@@ -5,8 +5,9 @@ pub mod Faults
 pub mod Made
 pub mod Gathered
 pub mod Told
-pub mod Sizes
 pub mod Listed
+pub mod Sizes
 pub mod Steps
 pub mod Stops
 pub mod Runs
+pub mod Whole

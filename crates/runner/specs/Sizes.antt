@@ -1,5 +1,5 @@
 -- How many bytes a run holds, how many more an answer tells of, and the most that are taken.
-use Rattle.std.specs.Prelude.{◌≡◌, ◌≤◌, ◌+◌, ℕ, List, [], ◌∷◌, length, Option, Some}
+use Rattle.std.specs.Prelude.{◌≡◌, ◌≤◌, ◌<◌, ◌+◌, ℕ, List, [], ◌∷◌, length, Some, Result, Ok}
 use Rattle.runner.specs.declared.folder.Found.TheVariants as founds
 use Rattle.runner.specs.declared.outcome.Exited.{Exited}
 use Rattle.runner.specs.declared.outcome.Output.{Output}
@@ -12,6 +12,8 @@ use Rattle.runner.specs.declared.stage.Stage.{Stage}
 use Rattle.runner.specs.declared.stage.Stage.TheVariants as stages
 use Rattle.runner.specs.declared.stage.Step.{Step}
 use Rattle.runner.specs.declared.stage.Step.TheVariants as steps
+use Rattle.runner.specs.Listed.{most_nodes, IsTreeStack}
+use Rattle.std.specs.declared.io.ErrorKind.{ErrorKind}
 use Rattle.runner.specs.Calls.{FolderQuestion, FolderAnswer, look_asked, file_asked, bytes_asked, found, facts, file_bytes, ProgramQuestion, ProgramAnswer, length_asked, read_asked, written, bytes, RunCall, of_folder, of_programs}
 
 -- of standard output, standard error and output files together
@@ -60,43 +62,43 @@ then_held (steps.Exits e) = exited_length e
 -- ---- what answers tell of
 
 -- bytes that were read
-abbrev pub part_length : Option FolderAnswer → ℕ
-part_length (Some (file_bytes bs)) = length bs
+abbrev pub part_length : Result FolderAnswer ErrorKind → ℕ
+part_length (Ok (file_bytes bs)) = length bs
 part_length a = 0
 
-abbrev pub folder_read : FolderQuestion → Option FolderAnswer → ℕ
+abbrev pub folder_read : FolderQuestion → Result FolderAnswer ErrorKind → ℕ
 folder_read (bytes_asked place path names from most) a = part_length a
 folder_read q a = 0
 
 -- the size of a file of which nothing is read yet
-abbrev pub found_size : Option FolderAnswer → ℕ
-found_size (Some (found (founds.File f))) = f.size
+abbrev pub found_size : Result FolderAnswer ErrorKind → ℕ
+found_size (Ok (found (founds.File f))) = f.size
 found_size a = 0
 
-abbrev pub facts_size : Option FolderAnswer → ℕ
-facts_size (Some (facts (Some f))) = f.size
+abbrev pub facts_size : Result FolderAnswer ErrorKind → ℕ
+facts_size (Ok (facts (Some f))) = f.size
 facts_size a = 0
 
-abbrev pub folder_told : FolderQuestion → Option FolderAnswer → ℕ
+abbrev pub folder_told : FolderQuestion → Result FolderAnswer ErrorKind → ℕ
 folder_told (look_asked place path) a = found_size a
 folder_told (file_asked place path names) a = facts_size a
 folder_told q a = folder_read q a
 
 -- the bytes of a stream that were read
-abbrev pub stream_length : Option ProgramAnswer → ℕ
-stream_length (Some (bytes bs)) = length bs
+abbrev pub stream_length : Result ProgramAnswer ErrorKind → ℕ
+stream_length (Ok (bytes bs)) = length bs
 stream_length a = 0
 
-abbrev pub program_read : ProgramQuestion → Option ProgramAnswer → ℕ
+abbrev pub program_read : ProgramQuestion → Result ProgramAnswer ErrorKind → ℕ
 program_read (read_asked run stream from most) a = stream_length a
 program_read q a = 0
 
 -- the size of both streams, of which nothing is read yet
-abbrev pub written_size : Option ProgramAnswer → ℕ
-written_size (Some (written n)) = n
+abbrev pub written_size : Result ProgramAnswer ErrorKind → ℕ
+written_size (Ok (written n)) = n
 written_size a = 0
 
-abbrev pub program_told : ProgramQuestion → Option ProgramAnswer → ℕ
+abbrev pub program_told : ProgramQuestion → Result ProgramAnswer ErrorKind → ℕ
 program_told (length_asked run) a = written_size a
 program_told q a = program_read q a
 
@@ -117,7 +119,7 @@ abbrev pub Fits : ℕ → List RunCall → Type 0
 Fits n [] = Unit {0}
 Fits n (c ∷ cs) = (n + told c ≤ most_bytes) × Fits (n + read c) cs
 
--- ---- what was taken is counted, and is not too large
+-- ---- what was taken is counted, and is not too large; directories that are to be listed are stacked
 
 abbrev pub IsTaken : ℕ → ℕ → Type 0
 IsTaken taken n = (taken ≡ n) × (n ≤ most_bytes)
@@ -132,8 +134,9 @@ IsCounted (stages.Error e out err) = held (stages.Error e out err) ≤ most_byte
 IsCounted (stages.Outputs g) = IsTaken g.taken (held (stages.Outputs g))
 IsCounted (stages.File g f) = IsTaken g.taken (held (stages.File g f))
 IsCounted (stages.Listing g path) = IsTaken g.taken (held (stages.Listing g path))
-IsCounted (stages.Tree g t) = IsTaken g.taken (held (stages.Tree g t))
-IsCounted (stages.TreeFile g t f) = IsTaken g.taken (held (stages.TreeFile g t f))
+IsCounted (stages.Tree g t) = IsTaken g.taken (held (stages.Tree g t)) × IsTreeStack t
+IsCounted (stages.TreeFile g t f) =
+    IsTaken g.taken (held (stages.TreeFile g t f)) × IsTreeStack t × (length t.nodes.nodes < most_nodes)
 
 abbrev pub IsCountedThen : Step → Type 0
 IsCountedThen (steps.Goes s cost) = IsCounted s

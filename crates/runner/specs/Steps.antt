@@ -1,5 +1,5 @@
 -- A run that is not over: what is still to be done of it, what it has gathered, and what a call adds.
-use Rattle.std.specs.Prelude.{◌≡◌, ◌≤◌, ◌+◌, ◌⊎◌, ℕ, ◌-◌, List, [], ◌∷◌, ◌++◌, map, take, drop, length, string_bytes, Option}
+use Rattle.std.specs.Prelude.{◌≡◌, ℕ, ◌-◌, List, [], ◌∷◌, ◌++◌, map, take, drop, length, string_bytes, Option}
 use Rattle.runner.specs.declared.outcome.Exited.{Exited}
 use Rattle.runner.specs.declared.programs.Stream.TheVariants as streams
 use Rattle.runner.specs.declared.stage.Prepared.{Prepared}
@@ -20,8 +20,8 @@ use Rattle.runner.specs.Calls.{FolderCall, FolderQuestion, ProgramCall, ProgramQ
 use Rattle.runner.specs.Made.{MadeItem, root_item, byte_item, directory_item, parents_item, nodes_made, made}
 use Rattle.runner.specs.Gathered.{ItemValue, items_answered, file_item, found_item, numbered, nodes_items, output_items}
 use Rattle.runner.specs.Gathered as Gathered
-use Rattle.runner.specs.Told.{ToldItem, code_item, killed_item, stream_bytes, whole_stream, items_told, starts}
-use Rattle.runner.specs.Listed.{most_nodes, all_told, all_met, entries_left, then_entries_left, nodes_among}
+use Rattle.runner.specs.Told.{ToldItem, code_item, killed_item, stream_bytes, whole_stream, items_told, starts, forgets}
+use Rattle.runner.specs.Listed.{Walk, walk_at, walk_then, Meets}
 use Rattle.runner.specs.Sizes.{held, Fits}
 
 -- ---- what is still to be made, to be started and to be looked at
@@ -186,9 +186,9 @@ looks calls = collect (λ c. look_of c.question) calls
 
 -- What was asked meanwhile, in some order of both kinds of calls, is a front of what was to be made,
 -- to be started and to be looked at, and what was answered is what was gathered and told since; none
--- of it was too large. As many entries of output directories are met as were left and told of, but
--- for those that are left and those that are dropped, where so many nodes are gathered.
-pub record GoesWith (left : ℕ) (text : ℕ → List ℕ) (place : PlaceValue) (from : Stage) (to : Step)
+-- of it was too large. Of output directories each entry is met that was left or told of, in order,
+-- until nothing is left or so many nodes are met. No program is let go of.
+pub record GoesWith (before : Walk) (text : ℕ → List ℕ) (place : PlaceValue) (from : Stage) (to : Step)
     (f_before f_now : Option (List FolderCall)) (p_before p_now : Option (List ProgramCall)) : Type 0 where
   pub calls : List RunCall
   pub folder_asked : Adds f_before f_now (folder_calls calls)
@@ -199,24 +199,23 @@ pub record GoesWith (left : ℕ) (text : ℕ → List ℕ) (place : PlaceValue) 
   pub gathers : then_gathered place to ≡ has_gathered place from ++ items_answered (folder_calls calls)
   pub is_told : then_told place to ≡ has_told place from ++ items_told (program_calls calls)
   pub fits : Fits (held from) calls
-  pub dropped : ℕ
-  pub meets : left + all_told (folder_calls calls) ≡ all_met (folder_calls calls) + (dropped + then_entries_left to)
-  pub is_full : (dropped ≡ 0) ⊎ (most_nodes ≤ nodes_among (then_gathered place to))
+  pub meets : Meets before (folder_calls calls) (walk_then place to)
+  pub keeps : forgets (program_calls calls) ≡ []
 
 abbrev pub Goes : (ℕ → List ℕ) → PlaceValue → Stage → Step → Option (List FolderCall) → Option (List FolderCall) →
     Option (List ProgramCall) → Option (List ProgramCall) → Type 0
 Goes text place from to f_before f_now p_before p_now =
-    GoesWith (entries_left from) text place from to f_before f_now p_before p_now
+    GoesWith (walk_at place from) text place from to f_before f_now p_before p_now
 
 -- the same of a step that asks folders alone, and for any texts
 abbrev pub FolderGoes : PlaceValue → Stage → Step → Option (List FolderCall) → Option (List FolderCall) → Type 0
 FolderGoes place from to f_before f_now =
     (text : ℕ → List ℕ) → (p : Option (List ProgramCall)) → Goes text place from to f_before f_now p p
 
--- of one from a stage of which so many entries are left
-abbrev pub FolderGoesWith : ℕ → PlaceValue → Stage → Step → Option (List FolderCall) → Option (List FolderCall) → Type 0
-FolderGoesWith left place from to f_before f_now =
-    (text : ℕ → List ℕ) → (p : Option (List ProgramCall)) → GoesWith left text place from to f_before f_now p p
+-- of one from a stage at which an output directory was gathered so far
+abbrev pub FolderGoesWith : Walk → PlaceValue → Stage → Step → Option (List FolderCall) → Option (List FolderCall) → Type 0
+FolderGoesWith before place from to f_before f_now =
+    (text : ℕ → List ℕ) → (p : Option (List ProgramCall)) → GoesWith before text place from to f_before f_now p p
 
 -- of one that asks programs alone
 abbrev pub ProgramGoes : PlaceValue → Stage → Step → Option (List ProgramCall) → Option (List ProgramCall) → Type 0

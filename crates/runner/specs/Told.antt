@@ -1,8 +1,9 @@
 -- What is told of a program: its code, that it and all that it started are ended, and what it wrote,
 -- to the end of each stream.
-use Rattle.std.specs.Prelude.{ℕ, zero, suc, ◌+◌, ℤ, true, List, [], ◌∷◌, ◌++◌, Option, Some, None}
+use Rattle.std.specs.Prelude.{ℕ, zero, suc, ◌+◌, ℤ, true, List, [], ◌∷◌, ◌++◌, length, Result, Ok, Err}
 use Rattle.runner.specs.declared.task.RunKey.{RunKey}
 use Rattle.runner.specs.declared.programs.Stream.{Stream}
+use Rattle.std.specs.declared.io.ErrorKind.{ErrorKind}
 use Rattle.runner.specs.Calls.{ProgramCall, ProgramQuestion, ProgramAnswer, start_asked, end_asked, kill_asked, length_asked, read_asked, forget_asked, ended, killed, bytes, collect}
 
 pub data ToldItem : Type 0 where
@@ -10,8 +11,8 @@ pub data ToldItem : Type 0 where
   killed_item : RunKey → ToldItem
   -- the byte of a stream at a place in it
   stream_byte : RunKey → Stream → ℕ → ℕ → ToldItem
-  -- nothing more is in a stream
-  stream_end : RunKey → Stream → ToldItem
+  -- nothing more is in a stream from a place on
+  stream_end : RunKey → Stream → ℕ → ToldItem
 
 abbrev pub stream_bytes : RunKey → Stream → ℕ → List ℕ → List ToldItem
 stream_bytes run stream from [] = []
@@ -19,12 +20,12 @@ stream_bytes run stream from (b ∷ bs) = stream_byte run stream from b ∷ stre
 
 -- the bytes of a stream, to its end
 abbrev pub whole_stream : RunKey → Stream → List ℕ → List ToldItem
-whole_stream run stream bs = stream_bytes run stream 0 bs ++ stream_end run stream ∷ []
+whole_stream run stream bs = stream_bytes run stream 0 bs ++ stream_end run stream (length bs) ∷ []
 
 -- bytes of a stream from a place on, or its end, where bytes were wanted and none are there
 abbrev pub part_told : RunKey → Stream → ℕ → ℕ → List ℕ → List ToldItem
 part_told run stream from zero [] = []
-part_told run stream from (suc most) [] = stream_end run stream ∷ []
+part_told run stream from (suc most) [] = stream_end run stream from ∷ []
 part_told run stream from most (b ∷ bs) = stream_bytes run stream from (b ∷ bs)
 
 abbrev pub end_told : RunKey → ProgramAnswer → List ToldItem
@@ -47,9 +48,9 @@ answer_told (length_asked run) a = []
 answer_told (read_asked run stream from most) a = read_told run stream from most a
 answer_told (forget_asked run) a = []
 
-abbrev pub call_told : ProgramQuestion → Option ProgramAnswer → List ToldItem
-call_told q None = []
-call_told q (Some a) = answer_told q a
+abbrev pub call_told : ProgramQuestion → Result ProgramAnswer ErrorKind → List ToldItem
+call_told q (Err e) = []
+call_told q (Ok a) = answer_told q a
 
 abbrev pub items_told : List ProgramCall → List ToldItem
 items_told calls = collect (λ c. call_told c.question c.answer) calls
@@ -65,3 +66,11 @@ start_of (forget_asked run) = []
 
 abbrev pub starts : List ProgramCall → List ProgramQuestion
 starts calls = collect (λ c. start_of c.question) calls
+
+-- the programs that are let go of among what was asked
+abbrev pub forget_of : ProgramQuestion → List ProgramQuestion
+forget_of (forget_asked run) = forget_asked run ∷ []
+forget_of q = []
+
+abbrev pub forgets : List ProgramCall → List ProgramQuestion
+forgets calls = collect (λ c. forget_of c.question) calls

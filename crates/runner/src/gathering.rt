@@ -1,13 +1,14 @@
 //! Gathering what a run left at its outputs' paths, step by step.
 
-ghost use Rattle.std.specs.Prelude.{◌≡◌, [], ◌∷◌, ◌++◌, ◌+◌, IfErr, IfOk, OnOk, length, map, reverse, string_bytes};
+ghost use Rattle.std.specs.Prelude.{◌≡◌, ◌≤◌, ◌<◌, [], ◌∷◌, ◌++◌, ◌+◌, IfErr, IfOk, OnOk, length, map, reverse, string_bytes};
 ghost use Rattle.runner.specs.Values.{PlaceValue, entry_shown, place_shown};
 ghost use Rattle.runner.specs.Steps.{FolderGoes, FolderGoesWith, exited_told, file_items, tree_file_items, tree_items};
-ghost use Rattle.runner.specs.Listed.{IsNext, directory_names, file_names, inner_name, tree_entries};
+ghost use Rattle.runner.specs.Calls.{file_asked};
+ghost use Rattle.runner.specs.Listed.{IsNext, IsStack, file_names, inner_asked, inner_shown, inners_of, most_nodes, stack_of, walk_before};
 ghost use Rattle.runner.specs.Gathered.{end_item, output_items};
 ghost use Rattle.runner.specs.Faults.{FolderCounts};
 ghost use Rattle.runner.specs.Sizes.{IsCounted, IsCountedThen, exited_length, nodes_length};
-ghost use Rattle.runner.specs.Stops.{FolderStops};
+ghost use Rattle.runner.specs.Stops.{FolderStops, FolderStopsWith};
 ghost use Rattle.runner.specs.declared.stage.Stage.TheVariants as Stages;
 
 use crate::content::{Content, is_too_large};
@@ -100,7 +101,8 @@ fn with_file(gathering: Gathering, file: OutputFile) -> Result<Gathering, AllocE
     ensures items { IfOk result (λ added. (place : PlaceValue) →
         output_items place added.exited.outputs.items
         ≡ output_items place gathering.exited.outputs.items
-        ++ (file_items place file ++ end_item place (string_bytes file.path) [] ∷ [])) }
+        ++ (file_items place file
+        ++ end_item place (string_bytes file.path) [] (length file.content) ∷ [])) }
     ensures length { IfOk result (λ added. exited_length added.exited
         ≡ exited_length gathering.exited + length file.content) }
     ensures told { IfOk result (λ added. (place : PlaceValue) →
@@ -123,11 +125,9 @@ fn set_apart(
 ) -> Result<(), AllocError>
     ensures files { OnOk result (map string_bytes files.new.items
         ≡ file_names (map entry_shown entries.items) ++ map string_bytes files.old.items) }
-    ensures directories { OnOk result (map inner_name todo.new.items
-        ≡ map inner_name todo.old.items
-        ++ reverse (directory_names (map entry_shown entries.items))) }
-    ensures all { OnOk result (length files.new.items + length todo.new.items
-        ≡ length entries.items + (length files.old.items + length todo.old.items)) }
+    ensures directories { OnOk result (map inner_shown todo.new.items
+        ≡ map inner_shown todo.old.items
+        ++ reverse (inners_of level (map entry_shown entries.items))) }
 {
     let mut rest = entries;
     'entries: while let Some(Entry { name, is_directory }) = rest.pop() {
@@ -248,12 +248,16 @@ fn look_in_tree<F: Folder>(
     name: String,
 ) -> Result<Step, RunFault>
     requires counted { IsCounted (Stages.Tree gathering tree) }
-    ensures goes { IfOk result (λ step. FolderGoesWith (tree_entries tree + 1)
-        (place_shown place.now)
+    requires few { length tree.nodes.nodes < most_nodes }
+    ensures goes { IfOk result (λ step. FolderGoesWith (walk_before (place_shown place.now) tree
+        (file_asked (place_shown place.now) (string_bytes tree.path)
+        (tree.nodes.above ++ string_bytes name ∷ []))) (place_shown place.now)
         (Stages.Tree gathering tree) step (F.asked folder.old) (F.asked folder.new)) }
     ensures counts { FolderCounts result (F.failures folder.old) (F.failures folder.new) }
     ensures counted { IfOk result IsCountedThen }
-    ensures stops { IfErr result (λ fault. FolderStops (place_shown place.now)
+    ensures stops { IfErr result (λ fault. FolderStopsWith (walk_before (place_shown place.now) tree
+        (file_asked (place_shown place.now) (string_bytes tree.path)
+        (tree.nodes.above ++ string_bytes name ∷ []))) (place_shown place.now)
         (Stages.Tree gathering tree) fault (F.asked folder.old) (F.asked folder.new)) }
 {
     let names = tree.nodes.names(name.as_str())?;
@@ -280,15 +284,23 @@ fn list_in_tree<F: Folder>(
     inner: Inner,
 ) -> Result<Step, RunFault>
     requires counted { IsCounted (Stages.Tree gathering tree) }
-    ensures goes { IfOk result (λ step. FolderGoesWith (tree_entries tree + 1)
-        (place_shown place.now)
+    requires stack { IsStack (length tree.nodes.above + 1)
+        (inner_shown inner ∷ stack_of tree.todo.items) }
+    requires files { map string_bytes tree.files.items ≡ [] }
+    requires few { length tree.nodes.nodes < most_nodes }
+    requires shallow { inner.level ≤ most_nodes }
+    ensures goes { IfOk result (λ step. FolderGoesWith (walk_before (place_shown place.now) tree
+        (inner_asked (place_shown place.now) (string_bytes tree.path) tree.nodes.above
+        (inner_shown inner))) (place_shown place.now)
         (Stages.Tree gathering tree) step (F.asked folder.old) (F.asked folder.new)) }
     ensures counts { FolderCounts result (F.failures folder.old) (F.failures folder.new) }
     ensures counted { IfOk result IsCountedThen }
-    ensures stops { IfErr result (λ fault. FolderStops (place_shown place.now)
+    ensures stops { IfErr result (λ fault. FolderStopsWith (walk_before (place_shown place.now) tree
+        (inner_asked (place_shown place.now) (string_bytes tree.path) tree.nodes.above
+        (inner_shown inner))) (place_shown place.now)
         (Stages.Tree gathering tree) fault (F.asked folder.old) (F.asked folder.new)) }
 {
-    let level = inner.level.saturating_add(1);
+    let level = inner.level + 1;
     let mut tree = tree.with_directory(inner)?;
     let names = tree.nodes.above();
     let entries = of_folder(folder.list(place, tree.path.as_str(), names, MOST_NODES))?;

@@ -2,10 +2,10 @@
 
 ghost use Rattle.std.specs.Prelude.{◌≡◌};
 ghost use Rattle.runner.specs.Sizes.{IsCounted};
-ghost use Rattle.runner.specs.Runs.{can_go_on};
+ghost use Rattle.runner.specs.Runs.{can_go_on, ending_at};
 ghost use Rattle.runner.specs.declared.stage.State.TheVariants.{Live};
 
-use crate::stage::Stage;
+use crate::stage::{Ending, Stage};
 use std::marker::Model;
 
 /// How far a run has come that is not over, where the bytes that were taken are counted, and are
@@ -40,6 +40,14 @@ impl Going {
     {
         let Going { stage } = self;
         stage
+    }
+
+    /// What is to be done for it where it is to be over.
+    pub(crate) fn ending(self) -> Option<Ending>
+        ensures { result ≡ ending_at self }
+    {
+        let Going { stage } = self;
+        stage.ending()
     }
 
     /// Whether it can go on at once: it waits for no program, neither to end nor to be killed.

@@ -6,6 +6,7 @@ mod fault;
 mod folder;
 mod gathering;
 mod going;
+mod laws;
 mod making;
 mod outcome;
 mod programs;
@@ -19,6 +20,7 @@ mod turn;
 
 pub use fault::RunFault;
 pub use folder::{Entry, FileFacts, Folder, Found, Place};
+pub use laws::a_run_is_whole;
 pub use outcome::{Exited, Outcome, Output, OutputKind, OutputNode, OutputNodeKind};
 pub use programs::{Programs, Stream};
 pub use runs::Runner;

@@ -15,7 +15,7 @@ pub enum Stream {
 
 /// The programs of runs, one for each. No call waits for a program.
 pub trait Programs {
-    ghost use Rattle.std.specs.Prelude.{Some};
+    ghost use Rattle.std.specs.Prelude.{Ok};
     ghost use Rattle.runner.specs.Calls.{ProgramCall, program_done, start_asked, end_asked, kill_asked, length_asked, read_asked, forget_asked, Adds, started_of, state_of, killed_of, length_of, bytes_of, called};
     ghost use Rattle.runner.specs.Values.{command_shown, place_shown, IsInRange};
     ghost use Rattle.runner.specs.Faults.{Counts};
@@ -64,7 +64,7 @@ pub trait Programs {
     /// Lets go of a program that was ended, and of what it wrote.
     fn forget(&mut self, run: RunKey)
         ensures adds { Adds (asked self.old) (asked self.new)
-            (called (forget_asked run) (Some program_done)) }
+            (called (forget_asked run) (Ok program_done)) }
         ensures counts { failures self.new ≡ failures self.old };
 
     /// How many calls failed, 2^64 - 1 at most.

@@ -3,7 +3,7 @@
 ghost use Rattle.std.specs.Prelude.{◌≡◌, [], ◌∷◌, ◌++◌, IfErr, IfOk};
 ghost use Rattle.runner.specs.Values.{PlaceValue, place_shown};
 ghost use Rattle.runner.specs.Steps.{ProgramGoes, exited_told};
-ghost use Rattle.runner.specs.Faults.{ProgramsCounts};
+ghost use Rattle.runner.specs.Faults.{ProgramsCounts, StaysOrRises};
 ghost use Rattle.runner.specs.Sizes.{IsCounted, IsCountedThen};
 ghost use Rattle.runner.specs.Stops.{ProgramStops};
 ghost use Rattle.runner.specs.Told.{code_item, killed_item, whole_stream};
@@ -47,24 +47,17 @@ fn ended(code: i32, outputs: VecDeque<String>) -> Step
     Step::Goes(Stage::Stopping(Ended { code, outputs }), 1)
 }
 
-/// Ends all that the program started.
-pub(crate) fn stop<P: Programs>(
-    programs: &mut P,
-    place: &Place,
-    ended: Ended,
-) -> Result<Step, RunFault>
-    ensures goes { IfOk result (λ step. ProgramGoes (place_shown place.now)
-        (Stages.Stopping ended) step (P.asked programs.old) (P.asked programs.new)) }
-    ensures counts { ProgramsCounts result (P.failures programs.old) (P.failures programs.new) }
-    ensures counted { IfOk result IsCountedThen }
-    ensures stops { IfErr result (λ fault. ProgramStops (place_shown place.now)
-        (Stages.Stopping ended) fault (P.asked programs.old) (P.asked programs.new)) }
+/// Ends all that the program started. Where that is not done, or fails, the next call tries again.
+pub(crate) fn stop<P: Programs>(programs: &mut P, place: &Place, ended: Ended) -> Step
+    ensures goes { ProgramGoes (place_shown place.now)
+        (Stages.Stopping ended) result (P.asked programs.old) (P.asked programs.new) }
+    ensures counts { StaysOrRises (P.failures programs.old) (P.failures programs.new) }
+    ensures counted { IsCountedThen result }
 {
-    let is_killed = of_programs(programs.kill(place.run))?;
-    if is_killed {
-        Ok(Step::Goes(Stage::Measuring(ended), 1))
-    } else {
-        Ok(Step::Goes(Stage::Stopping(ended), u32::MAX))
+    match programs.kill(place.run) {
+        Ok(true) => Step::Goes(Stage::Measuring(ended), 1),
+        Ok(false) => Step::Goes(Stage::Stopping(ended), u32::MAX),
+        Err(_) => Step::Goes(Stage::Stopping(ended), u32::MAX),
     }
 }
 

@@ -1,10 +1,10 @@
 //! Runs, from their start to their end.
 
-ghost use Rattle.std.specs.Prelude.{◌≡◌, ◌<◌, ◌≤◌, ◌++◌, ◌∷◌, ◌⊎◌, [], None, Ok, List, IfOk, IfSome, IfNone, OnOk, OnErr, length, vec_len, vec_capacity, take, drop, insert, option_map, slice_get};
+ghost use Rattle.std.specs.Prelude.{◌≡◌, ◌<◌, ◌≤◌, ◌++◌, ◌∷◌, ◌⊎◌, [], None, Ok, List, IfOk, IfErr, IfSome, IfNone, OnOk, OnErr, length, vec_len, vec_capacity, take, drop, insert, option_map, slice_get};
 ghost use Rattle.std.specs.List.{list_any};
-ghost use Rattle.runner.specs.Faults.{Counted};
+ghost use Rattle.runner.specs.Faults.{Counted, FaultFailed};
 ghost use Rattle.runner.specs.Sizes.{IsCounted};
-ghost use Rattle.runner.specs.Runs.{EndsBy, HasGone, HasNone, can_go_on, ending_of, IsAt, IsAsked, IsKilled, IsOver, IsStarted, is_run_of, run_left};
+ghost use Rattle.runner.specs.Runs.{EndsBy, HasGone, KillsBy, HasNone, can_go_on, ending_of, IsAt, IsAsked, IsKilled, IsOver, IsStarted, is_run_of, run_left};
 ghost use Rattle.runner.specs.declared.stage.Run.{Run};
 
 use crate::fault::RunFault;
@@ -12,7 +12,7 @@ use crate::folder::{Folder, Place};
 use crate::going::Going;
 use crate::outcome::Outcome;
 use crate::programs::Programs;
-use crate::stage::{Ending, Making, Nodes, Prepared, Run, Stage, State, Step};
+use crate::stage::{Ending, Making, Nodes, Prepared, Run, Stage, State, Step, Stopped};
 use crate::task::{RunKey, Task};
 use crate::texts::Texts;
 use crate::turn::turn;
@@ -156,7 +156,8 @@ impl<F: Folder + Drop, P: Programs + Drop> Runner<F, P> {
     /// Does a bounded piece of work for a job's run: makes some of its folder, starts its program or
     /// asks it, or gathers some of what it left. What came of the run, or `None` while it goes on.
     /// After an outcome or a fault the run is over; the calls that follow end what is left of its
-    /// program, remove its folder, and forget the run.
+    /// program, remove its folder, and forget the run. A folder that cannot be removed is left, which
+    /// is told as the fault `Left`.
     pub fn ask<T: Texts>(
         &mut self,
         instance: u32,
@@ -180,7 +181,7 @@ impl<F: Folder + Drop, P: Programs + Drop> Runner<F, P> {
         let Run { place, state } = run;
         match state {
             State::Over(ending) => {
-                let left = end(&mut self.folder, &mut self.programs, key, ending);
+                let left = end(&mut self.folder, &mut self.programs, key, Some(ending))?;
                 put_left(&mut self.runs, at, place, left);
                 Ok(None)
             }
@@ -227,30 +228,37 @@ impl<F: Folder + Drop, P: Programs + Drop> Runner<F, P> {
                 put_back(&mut self.runs, at, Run { place, state });
                 Ok(Some(Outcome::Exited(exited)))
             }
-            Err(fault) => {
-                let state = State::Over(Ending::Killing);
-                put_back(&mut self.runs, at, Run { place, state });
+            Err(Stopped { fault, ending }) => {
+                put_left(&mut self.runs, at, place, ending);
                 Err(fault)
             }
         }
     }
 
     /// A job's run is over, and gives no outcome. The first of what is to be done to end it is tried
-    /// at once, and the rest by the calls of `ask` that follow.
-    pub fn kill(&mut self, instance: u32, job: u64)
+    /// at once, and the rest by the calls that follow, of this or of `ask`.
+    ///
+    /// # Errors
+    ///
+    /// Its folder was to be removed, and that failed: it is left, and the run is forgotten.
+    pub fn kill(&mut self, instance: u32, job: u64) -> Result<(), RunFault>
         ensures killed { IsKilled (record { instance = instance; job = job })
-            self.old.runs.items self.new.runs.items
+            result self.old.runs.items self.new.runs.items
             (F.asked self.old.folder) (F.asked self.new.folder)
             (P.asked self.old.programs) (P.asked self.new.programs) }
+        ensures faults { IfErr result (λ fault. FaultFailed fault
+            (F.failures self.old.folder) (F.failures self.new.folder)
+            (P.failures self.old.programs) (P.failures self.new.programs)) }
     {
         let key = RunKey { instance, job };
         let Some((at, run)) = take_out(&mut self.runs, key) else {
-            return;
+            return Ok(());
         };
         let Run { place, state } = run;
         let ending = ending_of(state);
-        let left = end(&mut self.folder, &mut self.programs, key, ending);
+        let left = end(&mut self.folder, &mut self.programs, key, ending)?;
         put_left(&mut self.runs, at, place, left);
+        Ok(())
     }
 
     /// How many runs there are, those included that are only to be ended.
@@ -299,41 +307,50 @@ impl<F: Folder + Drop, P: Programs + Drop> Runner<F, P> {
 }
 
 /// What is to be done for a run that is to be over.
-fn ending_of(state: State) -> Ending
+fn ending_of(state: State) -> Option<Ending>
     ensures { result ≡ ending_of state }
 {
     match state {
-        State::Live(going) => {
-            drop(going);
-            Ending::Killing
-        }
-        State::Over(ending) => ending,
+        State::Live(going) => going.ending(),
+        State::Over(ending) => Some(ending),
     }
 }
 
-/// Does the next piece of what is to be done for a run that is over. What is left then, if anything.
-/// A folder that cannot be removed is left.
+/// Does the next piece of what is to be done for a run that is over. What is left then, if anything;
+/// a folder that cannot be removed is left.
 fn end<F: Folder, P: Programs>(
     folder: &mut F,
     programs: &mut P,
     key: RunKey,
-    ending: Ending,
-) -> Option<Ending>
-    ensures { EndsBy key ending result (F.asked folder.old) (F.asked folder.new)
+    ending: Option<Ending>,
+) -> Result<Option<Ending>, RunFault>
+    ensures by { EndsBy key ending result (F.asked folder.old) (F.asked folder.new)
         (P.asked programs.old) (P.asked programs.new) }
+    ensures faults { IfErr result (λ fault.
+        FaultFailed fault (F.failures folder.old) (F.failures folder.new)
+        (P.failures programs.old) (P.failures programs.new)) }
 {
     match ending {
-        Ending::Killing => match programs.kill(key) {
-            Ok(true) => {
-                programs.forget(key);
-                Some(Ending::Removing)
-            }
-            Ok(false) | Err(_) => Some(Ending::Killing),
+        None => Ok(None),
+        Some(Ending::Killing) => Ok(Some(kill_program(programs, key))),
+        Some(Ending::Removing) => match folder.remove(key) {
+            Ok(true) => Ok(None),
+            Ok(false) => Ok(Some(Ending::Removing)),
+            Err(_) => Err(RunFault::Left),
         },
-        Ending::Removing => match folder.remove(key) {
-            Ok(false) => Some(Ending::Removing),
-            Ok(true) | Err(_) => None,
-        },
+    }
+}
+
+/// Ends the program of a run that is over, and lets go of it once that is done. What is left then.
+fn kill_program<P: Programs>(programs: &mut P, key: RunKey) -> Ending
+    ensures { KillsBy key result (P.asked programs.old) (P.asked programs.new) }
+{
+    match programs.kill(key) {
+        Ok(true) => {
+            programs.forget(key);
+            Ending::Removing
+        }
+        Ok(false) | Err(_) => Ending::Killing,
     }
 }
 

@@ -4,9 +4,11 @@ ghost use Rattle.std.specs.Prelude.{◌≡◌, [], ◌∷◌, ◌++◌, length, 
 ghost use Rattle.runner.specs.Values.{PlaceValue};
 ghost use Rattle.runner.specs.Gathered.{end_item, kind_items};
 ghost use Rattle.runner.specs.Steps.{file_items};
+ghost use Rattle.runner.specs.Runs.{ending_at};
 ghost use Rattle.runner.specs.Sizes.{output_length};
 
 use crate::content::Content;
+use crate::fault::RunFault;
 use crate::folder::Place;
 use crate::going::Going;
 use crate::outcome::{Exited, Output, OutputKind};
@@ -212,7 +214,8 @@ impl OutputFile {
     pub(crate) fn output(self) -> Output
         ensures items { (place : PlaceValue) →
             kind_items place (string_bytes result.path) result.kind
-            ≡ file_items place self ++ end_item place (string_bytes self.path) [] ∷ [] }
+            ≡ file_items place self
+            ++ end_item place (string_bytes self.path) [] (length self.content) ∷ [] }
         ensures length { output_length result.kind ≡ length self.content }
     {
         let OutputFile {
@@ -292,6 +295,25 @@ pub(crate) enum Ending {
     Killing,
     /// Its folder is to be removed.
     Removing,
+}
+
+impl Stage {
+    /// What is to be done for a run that is over at this stage. Before its root is made it has no
+    /// folder, and no program.
+    pub(crate) fn ending(&self) -> Option<Ending>
+        ensures { result ≡ ending_at self.now }
+    {
+        match self {
+            Stage::Making(Making::Root(_)) => None,
+            _ => Some(Ending::Killing),
+        }
+    }
+}
+
+/// Why a run stopped, and what is to be done for it.
+pub(crate) struct Stopped {
+    pub(crate) fault: RunFault,
+    pub(crate) ending: Option<Ending>,
 }
 
 /// What a step comes to.

@@ -1,9 +1,10 @@
 //! An output directory, as far as it was gathered.
 
-ghost use Rattle.std.specs.Prelude.{◌≡◌, ◌+◌, ◌-◌, ◌++◌, ◌∷◌, [], List, ℕ, IfOk, length, map, string_bytes};
+ghost use Rattle.std.specs.Prelude.{◌≡◌, ◌≤◌, ◌<◌, ◌+◌, ◌-◌, ◌++◌, ◌∷◌, [], List, ℕ, IfOk, length, map, string_bytes};
 ghost use Rattle.runner.specs.Values.{PlaceValue};
 ghost use Rattle.runner.specs.Gathered.{directory_item, end_item, file_item, kind_items, nodes_items, whole_file};
-ghost use Rattle.runner.specs.Listed.{tree_entries};
+ghost use Rattle.runner.specs.Listed.{most_nodes};
+ghost use Rattle.runner.specs.Made.{names_at};
 ghost use Rattle.runner.specs.Sizes.{nodes_length, output_length};
 ghost use Rattle.runner.specs.Steps.{tree_file_items, tree_items};
 
@@ -13,9 +14,6 @@ use blob_pool::Draft;
 use std::alloc::{AllocError, Global};
 use std::collections::VecDeque;
 use std::marker::Model;
-
-/// The level of the deepest directory: those of its files are 32 bits, too.
-const DEEPEST: u32 = 4_294_967_294;
 
 /// The nodes of an output directory that were gathered.
 pub(crate) struct TreeNodes {
@@ -35,15 +33,14 @@ impl Drop for TreeNodes {
 }
 
 impl Model for TreeNodes {
-    ghost use Rattle.std.specs.Prelude.{◌≡◌, ◌≤◌, [], length, map, string_bytes};
+    ghost use Rattle.std.specs.Prelude.{◌≡◌, [], map, string_bytes};
     ghost use Rattle.runner.specs.Gathered.{TreeValue, above_all};
 
     ghost Value = { TreeValue };
 
     ghost view = { λ t. record { above = map string_bytes t.above.items; nodes = t.nodes.items } };
 
-    ghost invariant = { λ t. (map string_bytes t.above.items ≡ above_all [] t.nodes.items)
-        × (length t.above.items ≤ 4294967294) };
+    ghost invariant = { λ t. map string_bytes t.above.items ≡ above_all [] t.nodes.items };
 }
 
 /// A copy of names.
@@ -79,7 +76,8 @@ impl TreeNodes {
     }
 
     pub(crate) fn count(&self) -> usize
-        ensures { result ≡ length self.now.nodes }
+        ensures count { result ≡ length self.now.nodes }
+        ensures above { length self.now.above ≤ result }
     {
         self.nodes.len()
     }
@@ -102,12 +100,15 @@ impl TreeNodes {
         content: Draft,
         is_executable: bool,
     ) -> Result<TreeNodes, AllocError>
+        requires few { length self.nodes < most_nodes }
         ensures items { IfOk result (λ tree. (place : PlaceValue) → (path : List ℕ) →
             nodes_items place path [] tree.nodes ≡ nodes_items place path [] self.nodes
             ++ file_item place path (self.above ++ string_bytes name ∷ []) is_executable
             ∷ whole_file place path (self.above ++ string_bytes name ∷ []) content.text) }
         ensures length { IfOk result (λ tree. nodes_length tree.nodes
             ≡ nodes_length self.nodes + length content.text) }
+        ensures above { IfOk result (λ tree. tree.above ≡ self.above) }
+        ensures count { IfOk result (λ tree. length tree.nodes ≡ length self.nodes + 1) }
     {
         let TreeNodes { above, mut nodes } = self;
         let level = above.len() as u32 + 1;
@@ -119,19 +120,21 @@ impl TreeNodes {
         Ok(TreeNodes { above, nodes })
     }
 
-    /// Adds a directory at a level, or at the deepest that there is, which is to be listed next.
+    /// Adds a directory at a level, which is to be listed next.
     pub(crate) fn with_directory(self, name: String, level: u32) -> Result<TreeNodes, AllocError>
         ensures items { IfOk result (λ tree. (place : PlaceValue) → (path : List ℕ) →
             nodes_items place path [] tree.nodes ≡ nodes_items place path [] self.nodes
             ++ directory_item place path tree.above ∷ []) }
         ensures length { IfOk result (λ tree. nodes_length tree.nodes ≡ nodes_length self.nodes) }
+        ensures above { IfOk result (λ tree.
+            tree.above ≡ names_at self.above level (string_bytes name)) }
+        ensures count { IfOk result (λ tree. length tree.nodes ≡ length self.nodes + 1) }
     {
         let TreeNodes {
             mut above,
             mut nodes,
         } = self;
         let alloc = *nodes.allocator();
-        let level = level.min(DEEPEST);
         above.truncate((level as usize).saturating_sub(1));
         above.push(String::from_str(alloc, name.as_str())?)?;
         let kind = OutputNodeKind::Directory;
@@ -186,13 +189,19 @@ impl Drop for Tree {
 impl Tree {
     /// Adds a file that was read to its end.
     pub(crate) fn with_file(self, file: TreeFile) -> Result<Tree, AllocError>
+        requires few { length self.nodes.nodes < most_nodes }
         ensures items { IfOk result (λ added. (place : PlaceValue) →
             tree_items place added ≡ tree_items place self ++ (tree_file_items place self file
             ++ end_item place (string_bytes self.path)
-            (self.nodes.above ++ string_bytes file.name ∷ []) ∷ [])) }
+            (self.nodes.above ++ string_bytes file.name ∷ []) (length file.content) ∷ [])) }
         ensures length { IfOk result (λ added. nodes_length added.nodes.nodes
             ≡ nodes_length self.nodes.nodes + length file.content) }
-        ensures left { IfOk result (λ added. tree_entries added ≡ tree_entries self) }
+        ensures path { IfOk result (λ added. added.path ≡ self.path) }
+        ensures above { IfOk result (λ added. added.nodes.above ≡ self.nodes.above) }
+        ensures count { IfOk result (λ added.
+            length added.nodes.nodes ≡ length self.nodes.nodes + 1) }
+        ensures files { IfOk result (λ added. added.files ≡ self.files) }
+        ensures todo { IfOk result (λ added. added.todo ≡ self.todo) }
     {
         let Tree {
             path,
@@ -218,7 +227,12 @@ impl Tree {
         ensures length { IfOk result (λ added. nodes_length added.nodes.nodes
             ≡ nodes_length self.nodes.nodes) }
         ensures path { IfOk result (λ added. added.path ≡ self.path) }
-        ensures left { IfOk result (λ added. tree_entries added ≡ tree_entries self) }
+        ensures above { IfOk result (λ added. added.nodes.above
+            ≡ names_at self.nodes.above inner.level (string_bytes inner.name)) }
+        ensures count { IfOk result (λ added.
+            length added.nodes.nodes ≡ length self.nodes.nodes + 1) }
+        ensures files { IfOk result (λ added. added.files ≡ self.files) }
+        ensures todo { IfOk result (λ added. added.todo ≡ self.todo) }
     {
         let Tree {
             path,

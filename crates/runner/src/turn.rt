@@ -4,7 +4,7 @@ ghost use Rattle.std.specs.Prelude.{IfErr, IfOk};
 ghost use Rattle.runner.specs.Values.{place_shown};
 ghost use Rattle.runner.specs.Steps.{Goes};
 ghost use Rattle.runner.specs.Faults.{Counted};
-ghost use Rattle.runner.specs.Runs.{FailsBy};
+ghost use Rattle.runner.specs.Runs.{FailsBy, fault_of};
 ghost use Rattle.runner.specs.Sizes.{IsCounted, IsCountedThen};
 ghost use Rattle.runner.specs.Stops.{Stops};
 
@@ -14,7 +14,7 @@ use crate::gathering::{list_output, next_in_tree, next_output, read_file, read_i
 use crate::making::make;
 use crate::programs::Programs;
 use crate::running::{ask, measure, read_error, read_output, stop};
-use crate::stage::{Stage, Step};
+use crate::stage::{Stage, Step, Stopped};
 use crate::texts::Texts;
 use std::alloc::Global;
 
@@ -43,7 +43,7 @@ fn step<F: Folder, P: Programs, T: Texts>(
     match stage {
         Stage::Making(making) => make(folder, programs, texts, place, making),
         Stage::Running(outputs) => ask(programs, place, outputs),
-        Stage::Stopping(ended) => stop(programs, place, ended),
+        Stage::Stopping(ended) => Ok(stop(programs, place, ended)),
         Stage::Measuring(ended) => measure(alloc, programs, place, ended),
         Stage::Output(ended, content) => read_output(alloc, programs, place, ended, content),
         Stage::Error(ended, stdout, content) => {
@@ -67,20 +67,25 @@ pub(crate) fn turn<F: Folder, P: Programs, T: Texts>(
     texts: &T,
     place: &Place,
     stage: Stage,
-) -> Result<Step, RunFault>
+) -> Result<Step, Stopped>
     requires counted { IsCounted stage }
     ensures goes { IfOk result (λ step. Goes (T.text_of texts.now) (place_shown place.now) stage step
         (F.asked folder.old) (F.asked folder.new) (P.asked programs.old) (P.asked programs.new)) }
-    ensures faults { Counted result (F.failures folder.old) (F.failures folder.new)
+    ensures faults { Counted (fault_of result) (F.failures folder.old) (F.failures folder.new)
         (P.failures programs.old) (P.failures programs.new) }
     ensures counted { IfOk result IsCountedThen }
-    ensures fails { IfErr result (λ fault. FailsBy (T.text_of texts.now) place.now stage fault
+    ensures fails { IfErr result (λ stopped. FailsBy (T.text_of texts.now) place.now stage stopped
         (F.asked folder.old) (F.asked folder.new) (P.asked programs.old) (P.asked programs.new)) }
 {
     let mut reached = stage;
     let mut spent = 0u32;
     for _ in 0..MOST_COST {
-        match step(alloc, folder, programs, texts, place, reached)? {
+        let ending = reached.ending();
+        let stepped = match step(alloc, folder, programs, texts, place, reached) {
+            Ok(stepped) => stepped,
+            Err(fault) => return Err(Stopped { fault, ending }),
+        };
+        match stepped {
             Step::Exits(exited) => return Ok(Step::Exits(exited)),
             Step::Goes(next, cost) => {
                 spent = spent.saturating_add(cost);

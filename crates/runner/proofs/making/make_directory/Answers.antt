@@ -1,7 +1,7 @@
 use Rattle.std.proofs.Common.{[], ◌∷◌, ◌++◌, ◌∙◌, refl, sym, ap, map}
 use Rattle.std.specs.Prelude.{string_bytes}
 use Rattle.runner.specs.Values.{place_shown, command_shown}
-use Rattle.runner.specs.Calls.{directory_asked, look_asked, start_asked}
+use Rattle.runner.specs.Calls.{done_of, directory_asked, look_asked, start_asked}
 use Rattle.runner.specs.Made.{directory_item, parents_item}
 use Rattle.runner.proofs.Collect.{goes_folder, quiet}
 use Rattle.runner.proofs.Sizes.{fits_none}
@@ -19,8 +19,8 @@ returns-clause-goes g c = λ text p.
     (ap (λ l. map (look_asked place) (map string_bytes l.items)) (sym to.left)
     ∙ ap (λ made. map (look_asked place) (map string_bytes made ++ map string_bytes c.parents-parents.result.left.items)) (sym to.made))
     (sym (quiet q _ (λ x. refl))) refl (fits_none _ refl)
-    refl
+    (tt, [], refl, refl)
 
 pub returns-in_err-of_folder-clause-stops : goal.returns-in_err-of_folder-clause-stops
-returns-in_err-of_folder-clause-stops g c = folder_failed c.from_residual.result _ _ _ _ c.from_residual.ensures.1 c.of_folder.ensures c.in_err-of_folder.was (λ fault small text p.
+returns-in_err-of_folder-clause-stops g c = folder_failed c.from_residual.result _ _ _ _ c.from_residual.ensures.1 c.of_folder.ensures c.in_err-of_folder.was done_of (λ e. refl) (λ fault small text p.
     folder_stops text (place_shown c.args.place.now) _ fault _ _ p (directory_asked (place_shown c.args.place.now)) _ small c.make_working_directory.ensures.adds (_, refl))

@@ -35,10 +35,10 @@ returns-clause-goes g c = λ text p.
     (sym (c.after_node-making.ensures.starts (place_shown c.args.place.now)))
     (ap (map (look_asked (place_shown c.args.place.now))) (sym c.after_node-making.ensures.outputs))
     (sym (quiet q _ (λ x. refl))) refl (fits_none _ refl)
-    refl
+    (tt, [], refl, refl)
 
 pub returns-in_err-of_folder-clause-stops : goal.returns-in_err-of_folder-clause-stops
-returns-in_err-of_folder-clause-stops g c = folder_failed c.from_residual-in_err-of_folder.result _ _ _ _ c.from_residual-in_err-of_folder.ensures.1 c.of_folder.ensures c.in_err-of_folder.was (λ fault small text p.
+returns-in_err-of_folder-clause-stops g c = folder_failed c.from_residual-in_err-of_folder.result _ _ _ _ c.from_residual-in_err-of_folder.ensures.1 c.of_folder.ensures c.in_err-of_folder.was done_of (λ e. refl) (λ fault small text p.
     folder_stops text (place_shown c.args.place.now) _ fault _ _ p (node_asked c.args.place.now.run (map string_bytes c.push.new.self.items) (kind_shown c.in-Some.node.kind)) _ small
     (subst (λ ns. Adds (g.F.Folder.asked c.args.folder.now) (g.F.Folder.asked c.make_node.new.self) (call (node_asked c.args.place.now.run (map string_bytes ns) (kind_shown c.in-Some.node.kind)) (done_of c.make_node.result)))
     c.deref.ensures.value c.make_node.ensures.adds) (

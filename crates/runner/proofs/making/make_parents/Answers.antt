@@ -4,7 +4,7 @@ use Rattle.runner.specs.Values.{place_shown, command_shown}
 use Rattle.runner.specs.Calls.{start_asked, parents_asked, look_asked, call, Adds, done_of}
 use Rattle.runner.specs.Made.{parents_item}
 use Rattle.runner.proofs.Collect.{goes_alone, goes_folder, quiet}
-use Rattle.runner.proofs.Popped.{popped, popped_none, moved}
+use Rattle.runner.proofs.Popped.{popped, popped_none, moved, was_ok}
 use Rattle.runner.proofs.Sizes.{fits_none}
 use Rattle.runner.proofs.Stopped.{folder_failed, folder_stops, memory_failed}
 use Rattle.runner.proofs.making.make_parents.Goals as goal
@@ -32,17 +32,17 @@ returns-clause-goes g c = λ text p.
     refl
     (ap (map (look_asked (place_shown c.args.place.now))) (moved string_bytes _ _ _ _ _ first c.in_ok-push_back.ensures.items))
     (sym (quiet q _ (λ x. refl))) refl (fits_none _ refl)
-    refl
+    (tt, [], refl, refl)
 
 pub returns-in_err-of_folder-clause-stops : goal.returns-in_err-of_folder-clause-stops
-returns-in_err-of_folder-clause-stops g c = folder_failed c.from_residual.result _ _ _ _ c.from_residual.ensures.1 c.of_folder.ensures c.in_err-of_folder.was (λ fault small text p.
+returns-in_err-of_folder-clause-stops g c = folder_failed c.from_residual.result _ _ _ _ c.from_residual.ensures.1 c.of_folder.ensures c.in_err-of_folder.was done_of (λ e. refl) (λ fault small text p.
     folder_stops text (place_shown c.args.place.now) _ fault _ _ p (parents_asked (place_shown c.args.place.now) (string_bytes c.in-Some.path)) _ small
     (subst (λ s. Adds (g.F.Folder.asked c.args.folder.now) (g.F.Folder.asked c.make_parents.new.self) (call (parents_asked (place_shown c.args.place.now) s) (done_of c.make_parents.result)))
     c.as_str.ensures.value c.make_parents.ensures.adds)
     (_, ap (map (λ o. parents_item (place_shown c.args.place.now) (string_bytes o))) (popped _ _ _ _ c.pop_front.ensures.items c.in-Some.is)))
 
 pub returns-in_err-push_back-clause-stops : goal.returns-in_err-push_back-clause-stops
-returns-in_err-push_back-clause-stops g c = memory_failed c.from_residual-in_err-push_back.result _ c.from_residual-in_err-push_back.ensures.1 (λ fault small text p.
+returns-in_err-push_back-clause-stops g c = memory_failed c.from_residual-in_err-push_back.result _ _ _ (ap done_of (was_ok _ _ _ c.of_folder.ensures c.in_ok-of_folder.was)) c.from_residual-in_err-push_back.ensures.1 (λ fault small text p.
     folder_stops text (place_shown c.args.place.now) _ fault _ _ p (parents_asked (place_shown c.args.place.now) (string_bytes c.in-Some.path)) _ small
     (subst (λ s. Adds (g.F.Folder.asked c.args.folder.now) (g.F.Folder.asked c.make_parents.new.self) (call (parents_asked (place_shown c.args.place.now) s) (done_of c.make_parents.result)))
     c.as_str.ensures.value c.make_parents.ensures.adds)

@@ -1,7 +1,7 @@
 use Rattle.std.proofs.Common.{refl, sym, ap, map}
 use Rattle.std.specs.Prelude.{string_bytes}
 use Rattle.runner.specs.Values.{place_shown, command_shown}
-use Rattle.runner.specs.Calls.{start_asked, look_asked}
+use Rattle.runner.specs.Calls.{started_of, start_asked, look_asked}
 use Rattle.runner.proofs.Collect.{goes_program}
 use Rattle.runner.proofs.Popped.{quiet_told}
 use Rattle.runner.proofs.Sizes.{fits_none}
@@ -14,8 +14,8 @@ returns-clause-goes g c = λ text f.
     goes_program text (place_shown c.args.place.now) _ _ f _ _ q _ c.start.ensures.adds refl refl
     (ap (λ l. map (look_asked (place_shown c.args.place.now)) (map string_bytes l.items)) (sym c.outputs.ensures))
     refl (sym (quiet_told q _ (λ x. refl))) (fits_none _ refl)
-    refl
+    refl refl
 
 pub returns-in_err-of_programs-clause-stops : goal.returns-in_err-of_programs-clause-stops
-returns-in_err-of_programs-clause-stops g c = programs_failed c.from_residual.result _ _ _ _ c.from_residual.ensures.1 c.of_programs.ensures c.in_err-of_programs.was (λ fault small text f.
+returns-in_err-of_programs-clause-stops g c = programs_failed c.from_residual.result _ _ _ _ c.from_residual.ensures.1 c.of_programs.ensures c.in_err-of_programs.was started_of (λ e. refl) (λ fault small text f.
     program_stops text (place_shown c.args.place.now) _ fault f _ _ (start_asked (place_shown c.args.place.now) (command_shown c.args.prepared.command)) _ small c.start.ensures.adds refl)

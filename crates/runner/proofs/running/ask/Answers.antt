@@ -16,7 +16,7 @@ returns-in-None-clause-goes g c = λ text f.
     goes_program text (place_shown c.args.place.now) _ _ f _ _ (end_asked c.args.place.now.run) _ c.ask.ensures.adds refl refl refl refl
     (sym (ap (λ r. call_told (end_asked c.args.place.now.run) (state_of r)) is))
     (fits_none _ refl)
-    refl
+    refl refl
 
 pub returns-in-Some-clause-goes : goal.returns-in-Some-clause-goes
 returns-in-Some-clause-goes g c = λ text f.
@@ -25,5 +25,5 @@ returns-in-Some-clause-goes g c = λ text f.
     refl
 
 pub returns-in_err-of_programs-clause-stops : goal.returns-in_err-of_programs-clause-stops
-returns-in_err-of_programs-clause-stops g c = programs_failed c.from_residual.result _ _ _ _ c.from_residual.ensures.1 c.of_programs.ensures c.in_err-of_programs.was (λ fault small text f.
+returns-in_err-of_programs-clause-stops g c = programs_failed c.from_residual.result _ _ _ _ c.from_residual.ensures.1 c.of_programs.ensures c.in_err-of_programs.was state_of (λ e. refl) (λ fault small text f.
     program_stops text (place_shown c.args.place.now) _ fault f _ _ (end_asked c.args.place.now.run) _ small c.ask.ensures.adds refl)

@@ -1,33 +1,28 @@
-use Rattle.std.proofs.Common.{refl, subst, ◌∙◌}
-use Rattle.std.proofs.lemmas.Result.{err_from_is_err_and}
+use Rattle.std.proofs.Common.{refl, subst, inl, ◌∙◌}
 use Rattle.runner.specs.Sizes.{IsCountedThen}
 use Rattle.runner.proofs.Collect.{goes_nowhere, goes_exits, goes_next}
+use Rattle.runner.proofs.Counting.{stays_behind}
 use Rattle.runner.proofs.turn.turn.Goals as goal
 
 pub loop-init : goal.loop-init
-loop-init g c = record { goes = goes_nowhere _ _ _ 0 _ _; counted = c.requires.counted; folders = refl; programs = refl }
+loop-init g c = record { goes = goes_nowhere _ _ _ 0 _ _; counted = c.requires.counted; folders = refl; programs = inl refl }
 
 pub returns-in-Exits-clause-goes : goal.returns-in-Exits-clause-goes
-returns-in-Exits-clause-goes g c = goes_exits _ _ _ _ _ _ _ _ _ _ _ _ _ c.loop.invariant.goes c.in_ok-exited.ensures.goes c.in-Exits.is
+returns-in-Exits-clause-goes g c = goes_exits _ _ _ _ _ _ _ _ _ _ _ _ _ c.loop.invariant.goes c.in-Ok.ensures.goes c.in-Exits.is
 
 pub returns-in-Exits-clause-counted : goal.returns-in-Exits-clause-counted
-returns-in-Exits-clause-counted g c = subst IsCountedThen c.in-Exits.is c.in_ok-exited.ensures.counted
+returns-in-Exits-clause-counted g c = subst IsCountedThen c.in-Exits.is c.in-Ok.ensures.counted
 
 pub returns-then-spent-ge-MOST_COST-clause-goes : goal.returns-then-spent-ge-MOST_COST-clause-goes
-returns-then-spent-ge-MOST_COST-clause-goes g c = goes_next _ _ _ _ _ _ _ _ _ _ _ _ _ _ _ c.loop.invariant.goes c.in_ok-exited.ensures.goes c.in-Goes.is
+returns-then-spent-ge-MOST_COST-clause-goes g c = goes_next _ _ _ _ _ _ _ _ _ _ _ _ _ _ _ c.loop.invariant.goes c.in-Ok.ensures.goes c.in-Goes.is
 
 pub returns-then-spent-ge-MOST_COST-clause-counted : goal.returns-then-spent-ge-MOST_COST-clause-counted
-returns-then-spent-ge-MOST_COST-clause-counted g c = subst IsCountedThen c.in-Goes.is c.in_ok-exited.ensures.counted
+returns-then-spent-ge-MOST_COST-clause-counted g c = subst IsCountedThen c.in-Goes.is c.in-Ok.ensures.counted
 
 pub loop-preserved : goal.loop-preserved
 loop-preserved g c = record {
-  goes = goes_next _ _ _ _ _ _ _ _ _ _ _ _ _ _ _ c.loop.invariant.goes c.in_ok-exited.ensures.goes c.in-Goes.is;
-  counted = subst IsCountedThen c.in-Goes.is c.in_ok-exited.ensures.counted;
-  folders = c.in_ok-exited.ensures.faults.0 ∙ c.loop.invariant.folders;
-  programs = c.in_ok-exited.ensures.faults.1 ∙ c.loop.invariant.programs;
+  goes = goes_next _ _ _ _ _ _ _ _ _ _ _ _ _ _ _ c.loop.invariant.goes c.in-Ok.ensures.goes c.in-Goes.is;
+  counted = subst IsCountedThen c.in-Goes.is c.in-Ok.ensures.counted;
+  folders = c.in-Ok.ensures.faults.0 ∙ c.loop.invariant.folders;
+  programs = stays_behind _ _ _ c.loop.invariant.programs c.in-Ok.ensures.faults.1;
 }
-
-pub returns-in_err-exited-clause-fails : goal.returns-in_err-exited-clause-fails
-returns-in_err-exited-clause-fails g c =
-    let p = err_from_is_err_and c.from_residual.result c.from_residual.ensures.1 in
-    rw (p.1, p.2) (_, _, _, _, c.loop.invariant.goes, c.in_err-exited.ensures.stops)

@@ -1,5 +1,6 @@
 use Rattle.std.proofs.Common.{◌≡◌}
 use Rattle.runner.specs.Values.{place_shown}
+use Rattle.runner.specs.Faults.{StaysOrRises}
 use Rattle.runner.specs.Sizes.{IsCounted}
 use Rattle.runner.specs.Steps.{Goes}
 use Rattle.runner.specs.declared.stage.Step.TheVariants as steps
@@ -10,5 +11,5 @@ invariant-loop g l = record {
   goes : Goes (g.T.Texts.text_of l.texts) (place_shown l.place) l.fn.stage (steps.Goes l.reached l.spent) (g.F.Folder.asked l.fn.folder) (g.F.Folder.asked l.folder) (g.P.Programs.asked l.fn.programs) (g.P.Programs.asked l.programs);
   counted : IsCounted l.reached;
   folders : g.F.Folder.failures l.folder ≡ g.F.Folder.failures l.fn.folder;
-  programs : g.P.Programs.failures l.programs ≡ g.P.Programs.failures l.fn.programs;
+  programs : StaysOrRises (g.P.Programs.failures l.fn.programs) (g.P.Programs.failures l.programs);
 }

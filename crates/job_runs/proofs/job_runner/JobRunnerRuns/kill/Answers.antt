@@ -1,9 +1,10 @@
-use Rattle.std.proofs.Common.{inl}
-use Rattle.runner.specs.Runs.{IsKilled}
-use Rattle.job_runs.proofs.Begun.{of_same}
+use Rattle.job_runs.proofs.Keys.{taken-once}
+use Rattle.job_runs.proofs.Once.{after_killed}
 use Rattle.job_runs.proofs.job_runner.JobRunnerRuns.kill.Goals as goal
 
-pub returns-then-not-take_unbegun : goal.returns-then-not-take_unbegun
-returns-then-not-take_unbegun g c = record {
-  killed = inl (of_same c.take_unbegun.ensures.runner (λ r. IsKilled c.args.run r.runs.items c.kill.new.self.runs.items (g.F.Folder.asked r.folder) (g.F.Folder.asked c.kill.new.self.folder) (g.P.Programs.asked r.programs) (g.P.Programs.asked c.kill.new.self.programs)) c.kill.ensures.killed);
-}
+pub returns-then-not-take-clause-once : goal.returns-then-not-take-clause-once
+returns-then-not-take-clause-once g c =
+    after_killed c.args.run _ c.args.self.now.runner.runs.items c.kill-ended.new.self.runs.items _ _ _ _ c.args.self.now.unbegun c.take.new.unbegun c.take.ensures.others c.kill-ended.ensures.killed
+
+pub returns-else-not-take-clause-once : goal.returns-else-not-take-clause-once
+returns-else-not-take-clause-once g c = taken-once c.args.run c.args.self.now.runner.runs.items c.args.self.now.unbegun.items c.take.new.unbegun.items c.take.ensures.others

@@ -1,0 +1,18 @@
+use Rattle.job_runs.proofs.Keys.{taken-once}
+use Rattle.job_runs.proofs.Once.{after_asked, after_killed}
+use Rattle.job_runs.proofs.job_runner.JobRunnerRuns.ask.Goals as goal
+
+pub returns-then-take-clause-once : goal.returns-then-take-clause-once
+returns-then-take-clause-once g c = taken-once c.args.run c.args.self.now.runner.runs.items c.args.self.now.unbegun.items c.take.new.unbegun.items c.take.ensures.others
+
+pub returns-in-Some-clause-once : goal.returns-in-Some-clause-once
+returns-in-Some-clause-once g c =
+    after_asked _ c.args.run c.ask_run.result c.args.self.now.runner.runs.items c.ask_run.new.self.runner.runs.items _ _ _ _ c.args.self.now.unbegun c.take.new.unbegun c.ask_run.new.self.unbegun c.take.ensures.others c.ask_run.ensures.unbegun c.ask_run.ensures.answered
+
+pub returns-in_ok-kill-in-None-clause-once : goal.returns-in_ok-kill-in-None-clause-once
+returns-in_ok-kill-in-None-clause-once g c =
+    after_killed c.args.run _ c.args.self.now.runner.runs.items c.kill.new.self.runs.items _ _ _ _ c.args.self.now.unbegun c.take.new.unbegun c.take.ensures.others c.kill.ensures.killed
+
+pub returns-in_err-kill-in-None-clause-once : goal.returns-in_err-kill-in-None-clause-once
+returns-in_err-kill-in-None-clause-once g c =
+    after_killed c.args.run _ c.args.self.now.runner.runs.items c.kill.new.self.runs.items _ _ _ _ c.args.self.now.unbegun c.take.new.unbegun c.take.ensures.others c.kill.ensures.killed

@@ -1,0 +1,34 @@
+-- What is to be asked: runs, and the jobs whose run could not be begun.
+use Rattle.std.specs.Prelude.{◌≡◌, ◌==◌, ◌&&◌, ℕ, Bool, false, not, nat_lt, List, [], ◌∷◌, ◌++◌, length, map, min, if◌then◌else◌}
+use Rattle.std.specs.List.{filter, list_any}
+use Rattle.runner.specs.declared.task.RunKey.{RunKey}
+use Rattle.runner.specs.declared.stage.Run.{Run}
+
+abbrev pub is_key : RunKey → RunKey → Bool
+is_key key other = other.instance == key.instance && other.job == key.job
+
+abbrev pub has_key : RunKey → List RunKey → Bool
+has_key key keys = list_any (is_key key) keys
+
+abbrev pub without_key : RunKey → List RunKey → List RunKey
+without_key key keys = filter (λ other. not (is_key key other)) keys
+
+abbrev pub run_keys : List Run → List RunKey
+run_keys runs = map (λ (run : Run). run.place.run) runs
+
+-- the keys of runs, and behind them the jobs whose run could not be begun
+abbrev pub all_keys : List Run → List RunKey → List RunKey
+all_keys runs unbegun = run_keys runs ++ unbegun
+
+-- none stands twice
+abbrev pub AreOnce : List RunKey → Type 0
+AreOnce [] = Unit {0}
+AreOnce (k ∷ ks) = (has_key k ks ≡ false) × AreOnce ks
+
+-- how many there are, as far as they can be counted
+abbrev pub count_of : List RunKey → ℕ
+count_of keys = min (length keys) 18446744073709551615
+
+-- whose turn it is, of so many in a circle
+abbrev pub turn_in : ℕ → ℕ → ℕ
+turn_in count next = if nat_lt next count then next else 0

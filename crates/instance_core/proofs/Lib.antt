@@ -38,6 +38,9 @@ pub mod EndingJobs
 pub mod NamedReplies
 pub mod Losses
 mod EmptyBlob
+pub mod Room
+pub mod RoomMade
+pub mod Kept
 pub use Rattle.instance_view.proofs.Held
 pub use Rattle.quota_evict.proofs.Limits
 pub use Rattle.quota_evict.proofs.Steps

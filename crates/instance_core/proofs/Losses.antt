@@ -1,5 +1,5 @@
--- What any front of an event's changes leaves: what is lost is lost by a rule.
-use Rattle.std.proofs.Common.{◌≡◌, ℕ, ◌+◌, ◌<◌, Bool, true, false, cond, List, [], ◌∷◌, ◌++◌, length, map, Option, Some, None, Result, Ok, Err, refl, sym, ap, subst, ◌∙◌, arith}
+-- Each change of an event is by rule.
+use Rattle.std.proofs.Common.{◌≡◌, ℕ, ◌+◌, ◌<◌, Bool, true, false, cond, List, [], ◌∷◌, ◌++◌, length, map, Option, Some, None, Result, Ok, Err, refl, ap, subst, ◌∙◌, inl, inr, arith}
 use Rattle.std.specs.Prelude.{◌&&◌, not, is_some, nat_eq, nat_le, nat_lt}
 use Rattle.std.specs.List.{AllByRecursion}
 use Rattle.std.proofs.lemmas.Bool.Decides.{nat_tests}
@@ -26,108 +26,52 @@ use Rattle.executor.specs.Job.{JobValue}
 use Rattle.executor.specs.Preparing.{FaultValue, PreparedValue, prepared, met, job_of}
 use Rattle.executor.specs.Execute as Executor
 use Rattle.executor.specs.Execute.{ExecuteChange, ExecuteDone, queued, by_fault, by_job, by_looking, by_preparing, execute, look_in, looked_up, refused as refused_with}
-use Rattle.executor.specs.Steps.{StepValue, start_steps, tick_steps}
 use Rattle.outcomes.specs.Outcomes.{OutcomeValue}
 use Rattle.execution_calls.specs.Asking.{ExecuteAskedValue, execute_asked}
 use Rattle.execution_calls.specs.Ending.{admissions, results_with}
 use Rattle.tree_calls.specs.Asking.{ResultSentValue, action_asked, result_sent}
 use Rattle.tree_calls.specs.GetTree.{texts_seen, get_tree_changes}
-use Rattle.tree_calls.specs.Results.{get_action_result_changes, after_asking, after_get, after_sending, after_update}
+use Rattle.tree_calls.specs.Results.{get_action_result_changes, after_asking, after_sending}
 use Rattle.cas_service.specs.FindMissing.{find_missing_changes}
 use Rattle.cas_service.specs.BatchUpdate.{batch_update_changes}
 use Rattle.cas_service.specs.BatchRead.{batch_read_changes}
 use Rattle.bytestream.specs.Reading.{read_asked}
 use Rattle.bytestream.specs.Writing as Writing
-use Rattle.bytestream.specs.Writing.{OpenWriteValue, PartValue, WrittenValue, WriteState, FirstAsked, first_asked, next_asked, part_outcome, after_last_part, after_end, after_taking, after_part}
+use Rattle.bytestream.specs.Writing.{OpenWriteValue, PartValue, WrittenValue, WriteState, FirstAsked, first_asked, next_asked, part_outcome, after_last_part, after_end, after_taking}
 use Rattle.instance_core.specs.declared.event.CallId.{CallId}
-use Rattle.instance_core.specs.Calls.{Calls, ProgressValue, waits, has, writes, watches, CallValue, CallEventValue, head, message, fault, end, cancel, tick, start_jobs, end_late_jobs, end_job, call_at, with_call, without_call}
+use Rattle.instance_core.specs.Calls.{ProgressValue, waits, has, writes, watches, CallValue, CallEventValue, head, message, fault, end, cancel, tick, start_jobs, end_late_jobs, end_job, call_at}
 use Rattle.instance_core.specs.State.{InstanceState, most_blobs, seen}
-use Rattle.instance_core.specs.Changes.{InstanceChange, Text, Goes, Ends, Wrote, Keeps, Expires, Does, Pushes, Settles, state_after_change, state_after_changes, MadeInPart}
+use Rattle.instance_core.specs.Changes.{InstanceChange, Text, Goes, Ends, Keeps, Does, Pushes, Settles}
 use Rattle.instance_core.specs.Methods.{use_asked, answer_to, request_changes, execution_state, execution_change, execution_changes}
 use Rattle.instance_core.specs.Named.{StoresNamedText}
 use Rattle.instance_core.specs.Writes.{write_state, with_piece, part_changes, first_part_changes, changes_asked, first_changes, next_changes, first_outcome, next_outcome}
-use Rattle.instance_core.specs.Replies.{AnswerValue, one_message, messages, range, watching}
-use Rattle.instance_core.specs.Answer.{answer, call_change, state_after, ending_at, ending_changes, ending_steps, head_answer, first_write_answer, next_write_answer, first_message_answer, answer_by_progress, message_answer, fault_by_progress, fault_answer, end_answer_by_progress, request_end_answer}
-use Rattle.instance_core.specs.Losses.{ChangesByRule, CallsChange, BlobUsed, TextAdmitted, ResultUsed, ResultStored, PieceTaken, UploadFinished, UploadMisnamed, UploadTooLong, UploadsExpired, ExecutionDone, JobWaits, JobsSettle, LeadsThrough, LosesByRules}
-use Rattle.instance_core.proofs.NamedTexts.{find_named, update_named, batch_named, tree_named, get_named, read_named}
+use Rattle.instance_core.specs.Answer.{answer, call_change, ending_at, ending_changes, ending_steps, head_answer, first_write_answer, next_write_answer, first_message_answer, answer_by_progress, message_answer, fault_by_progress, fault_answer, end_answer_by_progress, request_end_answer}
+use Rattle.instance_core.specs.Losses.{BringsPiece, uploads_with, text_with, WritesByRule, NothingWritten, PieceTaken, UploadFinished, UploadMisnamed, UploadTooLong, ResultsByRule, ResultsStay, ResultUsed, ResultStored, IsByRule}
+use Rattle.instance_core.proofs.ChangesHeld.{call_holds}
+use Rattle.instance_core.proofs.NamedTexts.{all_append, find_named, update_named, batch_named, tree_named, get_named, read_named}
 use Rattle.instance_core.proofs.Outputs.{ending_stores}
 
--- ---- chains
-
-pub same_loses : (s t : InstanceState) → t ≡ s → LosesByRules s t
-same_loses s t same = record { states = []; leads = same }
-
-one_more : (s r t : InstanceState) (rs : List InstanceState) → LeadsThrough s rs r → ChangesByRule r t → LeadsThrough s (rs ++ t ∷ []) t
-one_more s r t [] is change = (subst (λ (x : InstanceState). ChangesByRule x t) is change, refl)
-one_more s r t (q ∷ rs) h change = (h.0, one_more q r t rs h.1 change)
-
-pub then_change : (s r t : InstanceState) → LosesByRules s r → ChangesByRule r t → LosesByRules s t
-then_change s r t h change = record { states = h.states ++ t ∷ []; leads = one_more s r t h.states h.leads change }
-
-both_lead : (s r t : InstanceState) (rs qs : List InstanceState) → LeadsThrough s rs r → LeadsThrough r qs t → LeadsThrough s (rs ++ qs) t
-both_lead s r t [] qs is more = subst (λ (x : InstanceState). LeadsThrough x qs t) is more
-both_lead s r t (q ∷ rs) qs h more = (h.0, both_lead q r t rs qs h.1 more)
-
-pub then_loses : (s r t : InstanceState) → LosesByRules s r → LosesByRules r t → LosesByRules s t
-then_loses s r t h more = record { states = h.states ++ more.states; leads = both_lead s r t h.states more.states h.leads more.leads }
-
-pub calls_change : (s t : InstanceState) (calls : Calls) → t ≡ record s { calls = calls } → LosesByRules s t
-calls_change s t calls is = record { states = t ∷ []; leads = (CallsChange calls is, refl) }
-
--- ---- after each front of some changes, made from state r on, s has lost by rules alone
-
-abbrev FrontsLose : InstanceState → InstanceState → List InstanceChange → Type 0
-FrontsLose s r [] = LosesByRules s r
-FrontsLose s r (c ∷ cs) = LosesByRules s r × FrontsLose s (state_after_change c r) cs
-
-front_loses : (s r : InstanceState) (made left : List InstanceChange) → FrontsLose s r (made ++ left) → LosesByRules s (state_after_changes made r)
-front_loses s r [] [] h = h
-front_loses s r [] (c ∷ left) h = h.0
-front_loses s r (c ∷ made) left h = front_loses s (state_after_change c r) made left h.1
-
-ends_lose : (s r : InstanceState) (id : CallId) → LosesByRules s r → FrontsLose s r (Ends id ∷ [])
-ends_lose s r id h = (h, then_change s r (state_after_change (Ends id) r) h (CallsChange (without_call id r.calls) refl))
-
-goes_lose : (s r : InstanceState) (id : CallId) (call : CallValue) → LosesByRules s r → FrontsLose s r (Goes id call ∷ [])
-goes_lose s r id call h = (h, then_change s r (state_after_change (Goes id call) r) h (CallsChange (with_call id call r.calls) refl))
-
-here : (s : InstanceState) → LosesByRules s s
-here s = same_loses s s refl
+abbrev AreByRule : InstanceState → CallEventValue → List InstanceChange → Type 0
+AreByRule s event cs = AllByRecursion (IsByRule s event) cs
 
 -- ---- the texts and the results that a request changes
 
-text_change : (s : InstanceState) (c : Texts.TextChange) → StoresNamedText c → ChangesByRule s (state_after_change (Text c) s)
-text_change s (Texts.Use d) named = BlobUsed d refl
-text_change s (Texts.Store d text) named = TextAdmitted d text named refl
+texts_by_rule : (s : InstanceState) (event : CallEventValue) (cs : List Texts.TextChange) → AllByRecursion StoresNamedText cs → AreByRule s event (map Text cs)
+texts_by_rule s event [] named = tt
+texts_by_rule s event (c ∷ cs) named = (named.0, texts_by_rule s event cs named.1)
 
--- texts, and then more
-texts_lose : (s r : InstanceState) (cs : List Texts.TextChange) (rest : List InstanceChange) → LosesByRules s r → AllByRecursion StoresNamedText cs → ((q : InstanceState) → LosesByRules s q → FrontsLose s q rest) → FrontsLose s r (map Text cs ++ rest)
-texts_lose s r [] rest h named more = more r h
-texts_lose s r (c ∷ cs) rest h named more =
-    let next = state_after_change (Text c) r in
-    (h, texts_lose s next cs rest (then_change s r next h (text_change r c named.0)) named.1 more)
-
-got : (s : InstanceState) (asked : Result Digest Refusal) → ChangesByRule s (state_after_change (Keeps (after_asking (seen s) s.results asked)) s)
+got : (s : InstanceState) (asked : Result Digest Refusal) → ResultsByRule s.results (after_asking (seen s) s.results asked)
 got s (Ok action) = go (is_some (blobs_for (texts_seen (seen s)) action s.results)) where
-  go : (b : Bool) → ChangesByRule s (record s { results = cond b (with_match_first (same_digest action) s.results) s.results })
+  go : (b : Bool) → ResultsByRule s.results (cond b (with_match_first (same_digest action) s.results) s.results)
   go true = ResultUsed action refl
-  go false = CallsChange s.calls refl
-got s (Err refusal) = CallsChange s.calls refl
+  go false = ResultsStay refl
+got s (Err refusal) = ResultsStay refl
 
-put : (s : InstanceState) (sent : Result ResultSentValue Refusal) → ChangesByRule s (state_after_change (Keeps (after_sending s.results sent)) s)
+put : (s : InstanceState) (sent : Result ResultSentValue Refusal) → ResultsByRule s.results (after_sending s.results sent)
 put s (Ok sent) = ResultStored sent.action sent.text refl
-put s (Err refusal) = CallsChange s.calls refl
+put s (Err refusal) = ResultsStay refl
 
--- a call ends, or watches a job
-call_loses : (s : InstanceState) (id : CallId) (method : Method) (o : Result AnswerValue Refusal) (r : InstanceState) → LosesByRules s r → FrontsLose s r (call_change id method o ∷ [])
-call_loses s id method (Ok (watching n operation)) r h = goes_lose s r id (record { method = method; progress = watches n }) h
-call_loses s id method (Ok (one_message bytes)) r h = ends_lose s r id h
-call_loses s id method (Ok (messages list)) r h = ends_lose s r id h
-call_loses s id method (Ok (range source)) r h = ends_lose s r id h
-call_loses s id method (Err refusal) r h = ends_lose s r id h
-
-abbrev LaterLose : InstanceState → List InstanceChange → Type 0
-LaterLose s rest = (r : InstanceState) → LosesByRules s r → FrontsLose s r rest
+-- ---- executions
 
 -- the results stay
 abbrev NoResults : List ExecuteChange → Type 0
@@ -137,109 +81,87 @@ NoResults (Executor.Keeps results ∷ changes) = ⊥
 NoResults (Executor.Does operation ∷ changes) = NoResults changes
 NoResults (Executor.Pushes job ∷ changes) = NoResults changes
 
-execution_loses : (s r : InstanceState) (changes : List ExecuteChange) (rest : List InstanceChange) → LosesByRules s r → NoResults changes → LaterLose s rest → FrontsLose s r (map execution_change changes ++ rest)
-execution_loses s r [] rest h few more = more r h
-execution_loses s r (Executor.Uses d ∷ changes) rest h few more =
-    let next = state_after_change (Text (Texts.Use d)) r in
-    (h, execution_loses s next changes rest (then_change s r next h (BlobUsed d refl)) few more)
-execution_loses s r (Executor.Keeps results ∷ changes) rest h few more = absurd few
-execution_loses s r (Executor.Does operation ∷ changes) rest h few more =
-    let next = state_after_change (Does operation) r in
-    (h, execution_loses s next changes rest (then_change s r next h (ExecutionDone operation refl)) few more)
-execution_loses s r (Executor.Pushes job ∷ changes) rest h few more =
-    let next = state_after_change (Pushes job) r in
-    (h, execution_loses s next changes rest (then_change s r next h (JobWaits job refl)) few more)
+execution_by_rule : (s : InstanceState) (event : CallEventValue) (changes : List ExecuteChange) → NoResults changes → AreByRule s event (map execution_change changes)
+execution_by_rule s event [] few = tt
+execution_by_rule s event (Executor.Uses d ∷ changes) few = (tt, execution_by_rule s event changes few)
+execution_by_rule s event (Executor.Keeps results ∷ changes) few = absurd few
+execution_by_rule s event (Executor.Does operation ∷ changes) few = (tt, execution_by_rule s event changes few)
+execution_by_rule s event (Executor.Pushes job ∷ changes) few = (tt, execution_by_rule s event changes few)
 
 uses_only : (ds : List Digest) (last : ExecuteChange) → NoResults (last ∷ []) → NoResults (map Executor.Uses ds ++ last ∷ [])
 uses_only [] last h = h
 uses_only (d ∷ ds) last h = uses_only ds last h
 
 -- the result that is used is the first change of all
-result_used : (s : InstanceState) (d : Digest) → ChangesByRule s (state_after_change (Keeps (results_after (look_in (execution_state s)) d s.results)) s)
+result_used : (s : InstanceState) (d : Digest) → ResultsByRule s.results (results_after (look_in (execution_state s)) d s.results)
 result_used s d = go (is_some (blobs_for (look_in (execution_state s)) d s.results)) where
-  go : (b : Bool) → ChangesByRule s (record s { results = cond b (with_match_first (same_digest d) s.results) s.results })
+  go : (b : Bool) → ResultsByRule s.results (cond b (with_match_first (same_digest d) s.results) s.results)
   go true = ResultUsed d refl
-  go false = CallsChange s.calls refl
+  go false = ResultsStay refl
 
-abbrev DoneLoses : InstanceState → ExecuteDone → List InstanceChange → Type 0
-DoneLoses s x rest = FrontsLose s s (map execution_change x.changes ++ rest)
+abbrev DoneByRule : InstanceState → CallEventValue → ExecuteDone → Type 0
+DoneByRule s event x = AreByRule s event (map execution_change x.changes)
 
-job_loses : (s : InstanceState) (d : Digest) (p : PreparedValue) (rest : List InstanceChange) → LaterLose s rest → DoneLoses s (by_job (execution_state s) d p) rest
-job_loses s d p rest more = go (nat_le MOST_WAITING (length s.jobs.waiting)) where
-  go : (b : Bool) → DoneLoses s (cond b (refused_with QueueFull) (record { answer = Ok (queued s.jobs.next (queued_text s.jobs.next d)); changes = map Executor.Uses (met d p) ++ Executor.Pushes (job_of (look_in (execution_state s)) d p) ∷ [] })) rest
-  go true = more s (here s)
+job_by_rule : (s : InstanceState) (event : CallEventValue) (d : Digest) (p : PreparedValue) → DoneByRule s event (by_job (execution_state s) d p)
+job_by_rule s event d p = go (nat_le MOST_WAITING (length s.jobs.waiting)) where
+  go : (b : Bool) → DoneByRule s event (cond b (refused_with QueueFull) (record { answer = Ok (queued s.jobs.next (queued_text s.jobs.next d)); changes = map Executor.Uses (met d p) ++ Executor.Pushes (job_of (look_in (execution_state s)) d p) ∷ [] }))
+  go true = tt
   go false =
-      execution_loses s s (map Executor.Uses (met d p) ++ Executor.Pushes (job_of (look_in (execution_state s)) d p) ∷ []) rest (here s)
-      (uses_only (met d p) (Executor.Pushes (job_of (look_in (execution_state s)) d p)) tt) more
+      execution_by_rule s event (map Executor.Uses (met d p) ++ Executor.Pushes (job_of (look_in (execution_state s)) d p) ∷ [])
+      (uses_only (met d p) (Executor.Pushes (job_of (look_in (execution_state s)) d p)) tt)
 
-looking_loses : (s : InstanceState) (d : Digest) (o : Option (List ℕ)) (rest : List InstanceChange) → LaterLose s rest → DoneLoses s (by_looking (execution_state s) d o) rest
-looking_loses s d (Some text) rest more =
-    let next = state_after_change (Keeps (results_after (look_in (execution_state s)) d s.results)) s in
+looking_by_rule : (s : InstanceState) (event : CallEventValue) (d : Digest) (o : Option (List ℕ)) → DoneByRule s event (by_looking (execution_state s) d o)
+looking_by_rule s event d (Some text) =
     let used = blobs_used (look_in (execution_state s)) d s.results in
     let last : ExecuteChange = Executor.Does (completed_text s.jobs.next d (finds text)) in
-    (here s, execution_loses s next (map Executor.Uses used ++ last ∷ []) rest (then_change s s next (here s) (result_used s d)) (uses_only used last tt) more)
-looking_loses s d None rest more = go (prepared (look_in (execution_state s)) d) where
-  go : (r : Result PreparedValue FaultValue) → DoneLoses s (by_preparing (execution_state s) d r) rest
-  go (Ok p) = job_loses s d p rest more
-  go (Err f) = execution_loses s s (by_fault (execution_state s) d f).changes rest (here s) tt more
+    (result_used s d, execution_by_rule s event (map Executor.Uses used ++ last ∷ []) (uses_only used last tt))
+looking_by_rule s event d None = go (prepared (look_in (execution_state s)) d) where
+  go : (r : Result PreparedValue FaultValue) → DoneByRule s event (by_preparing (execution_state s) d r)
+  go (Ok p) = job_by_rule s event d p
+  go (Err f) = execution_by_rule s event (by_fault (execution_state s) d f).changes tt
 
-done_loses : (s : InstanceState) (skip : Bool) (d : Digest) (rest : List InstanceChange) → LaterLose s rest → DoneLoses s (execute s.slots (execution_state s) skip d) rest
-done_loses s skip d rest more = off (nat_eq s.slots 0) (nat_lt LAST_NUMBER s.jobs.next) where
-  off : (a b : Bool) → DoneLoses s (cond a (refused_with ExecutionIsOff) (cond b (refused_with QueueFull) (by_looking (execution_state s) d (looked_up skip (look_in (execution_state s)) d s.results)))) rest
-  off true b = more s (here s)
-  off false true = more s (here s)
-  off false false = looking_loses s d (looked_up skip (look_in (execution_state s)) d s.results) rest more
+done_by_rule : (s : InstanceState) (event : CallEventValue) (skip : Bool) (d : Digest) → DoneByRule s event (execute s.slots (execution_state s) skip d)
+done_by_rule s event skip d = off (nat_eq s.slots 0) (nat_lt LAST_NUMBER s.jobs.next) where
+  off : (a b : Bool) → DoneByRule s event (cond a (refused_with ExecutionIsOff) (cond b (refused_with QueueFull) (by_looking (execution_state s) d (looked_up skip (look_in (execution_state s)) d s.results))))
+  off true b = tt
+  off false true = tt
+  off false false = looking_by_rule s event d (looked_up skip (look_in (execution_state s)) d s.results)
 
-executed_loses : (s : InstanceState) (asked : Result ExecuteAskedValue Refusal) (rest : List InstanceChange) → LaterLose s rest → FrontsLose s s (execution_changes s asked ++ rest)
-executed_loses s (Err refusal) rest more = more s (here s)
-executed_loses s (Ok asked) rest more = done_loses s asked.skips_lookup asked.action rest more
+executed_by_rule : (s : InstanceState) (event : CallEventValue) (asked : Result ExecuteAskedValue Refusal) → AreByRule s event (execution_changes s asked)
+executed_by_rule s event (Err refusal) = tt
+executed_by_rule s event (Ok asked) = done_by_rule s event asked.skips_lookup asked.action
 
-changes_lose : (s : InstanceState) (method : Method) (request : List ℕ) (rest : List InstanceChange) → LaterLose s rest → FrontsLose s s (request_changes method s request ++ rest)
-changes_lose s Called.FindMissingBlobs request rest more = texts_lose s s (find_missing_changes s.name request) rest (here s) (find_named s request) more
-changes_lose s Called.BatchUpdateBlobs request rest more = texts_lose s s (batch_update_changes s.name s.quota request) rest (here s) (update_named s request) more
-changes_lose s Called.BatchReadBlobs request rest more = texts_lose s s (batch_read_changes s.name request) rest (here s) (batch_named s request) more
-changes_lose s Called.GetTree request rest more = texts_lose s s (get_tree_changes s.name (seen s) request) rest (here s) (tree_named s request) more
-changes_lose s Called.GetActionResult request rest more =
-    let next = state_after_change (Keeps (after_get s.name (seen s) s.results request)) s in
-    (here s, texts_lose s next (get_action_result_changes s.name (seen s) s.results request) rest (then_change s s next (here s) (got s (action_asked s.name request))) (get_named s request) more)
-changes_lose s Called.UpdateActionResult request rest more =
-    let next = state_after_change (Keeps (after_update s.name s.results request)) s in
-    (here s, more next (then_change s s next (here s) (put s (result_sent s.name request))))
-changes_lose s Called.Read request rest more = texts_lose s s (use_asked (read_asked s.name request)) rest (here s) (read_named s request) more
-changes_lose s Called.Execute request rest more = executed_loses s (execute_asked s.name request) rest more
-changes_lose s method request rest more = more s (here s)
+-- ---- requests
 
-request_loses : (s : InstanceState) (id : CallId) (method : Method) (request : List ℕ) → FrontsLose s s (request_changes method s request ++ call_change id method (answer_to method s request) ∷ [])
-request_loses s id method request = changes_lose s method request (call_change id method (answer_to method s request) ∷ []) (call_loses s id method (answer_to method s request))
+changes_by_rule : (s : InstanceState) (event : CallEventValue) (method : Method) (request : List ℕ) → AreByRule s event (request_changes method s request)
+changes_by_rule s event Called.FindMissingBlobs request = texts_by_rule s event (find_missing_changes s.name request) (find_named s request)
+changes_by_rule s event Called.BatchUpdateBlobs request = texts_by_rule s event (batch_update_changes s.name s.quota request) (update_named s request)
+changes_by_rule s event Called.BatchReadBlobs request = texts_by_rule s event (batch_read_changes s.name request) (batch_named s request)
+changes_by_rule s event Called.GetTree request = texts_by_rule s event (get_tree_changes s.name (seen s) request) (tree_named s request)
+changes_by_rule s event Called.GetActionResult request =
+    (got s (action_asked s.name request), texts_by_rule s event (get_action_result_changes s.name (seen s) s.results request) (get_named s request))
+changes_by_rule s event Called.UpdateActionResult request = (put s (result_sent s.name request), tt)
+changes_by_rule s event Called.Read request = texts_by_rule s event (use_asked (read_asked s.name request)) (read_named s request)
+changes_by_rule s event Called.Execute request = executed_by_rule s event (execute_asked s.name request)
+changes_by_rule s event method request = tt
 
--- ---- what happens to jobs
+request_by_rule : (s : InstanceState) (event : CallEventValue) (id : CallId) (method : Method) (request : List ℕ) → AreByRule s event (request_changes method s request ++ call_change id method (answer_to method s request) ∷ [])
+request_by_rule s event id method request =
+    all_append (IsByRule s event) (request_changes method s request) (call_change id method (answer_to method s request) ∷ []) (changes_by_rule s event method request)
+    (call_holds (IsByRule s event) id method (answer_to method s request) (λ n. tt) tt, tt)
 
-settles_lose : (s r : InstanceState) (steps : List StepValue) → LosesByRules s r → FrontsLose s r (Settles steps ∷ [])
-settles_lose s r steps h = (h, then_change s r (state_after_change (Settles steps) r) h (JobsSettle steps refl))
+-- ---- the end of a job
 
--- a result that is stored, in a state with the results of the first
-stores_result : (r : InstanceState) (action : Digest) (stored : Option (List ℕ)) → ChangesByRule r (state_after_change (Keeps (results_with action stored r.results)) r)
-stores_result r action None = CallsChange r.calls refl
-stores_result r action (Some text) = ResultStored action text refl
+stores_result : (results : List Blob) (action : Digest) (stored : Option (List ℕ)) → ResultsByRule results (results_with action stored results)
+stores_result results action None = ResultsStay refl
+stores_result results action (Some text) = ResultStored action text refl
 
-abbrev result_kept : Digest → Option (List ℕ) → InstanceState → InstanceChange
-result_kept action stored s = Keeps (results_with action stored s.results)
-
--- admissions leave the results as they are
-admitted_lose : (s r : InstanceState) (cs : List Texts.TextChange) (action : Digest) (stored : Option (List ℕ)) (steps : List StepValue) → r.results ≡ s.results → LosesByRules s r → AllByRecursion StoresNamedText cs
-    → FrontsLose s r ((map Text cs ++ result_kept action stored s ∷ []) ++ Settles steps ∷ [])
-admitted_lose s r [] action stored steps same h named =
-    let next = state_after_change (result_kept action stored s) r in
-    let change : ChangesByRule r next = subst (λ (rs : List Blob). ChangesByRule r (state_after_change (Keeps (results_with action stored rs)) r)) same (stores_result r action stored) in
-    (h, settles_lose s next steps (then_change s r next h change))
-admitted_lose s r (c ∷ cs) action stored steps same h named =
-    let next = state_after_change (Text c) r in
-    (h, admitted_lose s next cs action stored steps same (then_change s r next h (text_change r c named.0)) named.1)
-
-end_job_loses : (s : InstanceState) (n : ℕ) (outcome : OutcomeValue) (o : Option JobValue) → FrontsLose s s (ending_changes s outcome o ++ Settles (ending_steps s n outcome o) ∷ [])
-end_job_loses s n outcome None = settles_lose s s [] (here s)
-end_job_loses s n outcome (Some job) =
-    admitted_lose s s (admissions (ending_at s outcome job).blobs) job.action (ending_at s outcome job).stored (ending_steps s n outcome (Some job)) refl (here s) (ending_stores s.quota s.visible job outcome)
+ending_by_rule : (s : InstanceState) (event : CallEventValue) (outcome : OutcomeValue) (o : Option JobValue) → AreByRule s event (ending_changes s outcome o)
+ending_by_rule s event outcome None = tt
+ending_by_rule s event outcome (Some job) =
+    let end = ending_at s outcome job in
+    all_append (IsByRule s event) (map Text (admissions end.blobs)) (Keeps (results_with job.action end.stored s.results) ∷ [])
+    (texts_by_rule s event (admissions end.blobs) (ending_stores s.quota s.visible job outcome)) (stores_result s.results job.action end.stored, tt)
 
 -- ---- a piece of an upload, and its end
 
@@ -276,10 +198,6 @@ long_part true quota part us is =
     (long_begun (nat_lt quota part.key.digest.size) (not (is_some (upload_at part.key us)) && nat_le MOST_UPLOADS (length us)) quota part.key part.piece us is)
 long_part false quota part us is = long_piece quota part.key part.piece us (long_added (is_some (upload_at part.key us)) quota part.key part.piece us is)
 
--- the instance with the texts and uploads that a message of a Write leaves
-abbrev wrote : WriteState → InstanceState → InstanceState
-wrote w s = state_after_change (Wrote w) s
-
 -- a digest passes the test of the bytes that it names
 names_same : (d : Digest) (bytes : List ℕ) → Names d bytes → is_digest_of d bytes ≡ true
 names_same d bytes names =
@@ -291,132 +209,128 @@ names_same d bytes names =
 misnamed : (d : Digest) (bytes : List ℕ) → is_digest_of d bytes ≡ false → Names d bytes → ⊥
 misnamed d bytes is names = let other = names_same d bytes names in absurd (cc)
 
-finish : (s : InstanceState) (key : KeyValue) → ChangesByRule s (wrote (after_last_part most_blobs s.quota key (finish_answer key s.uploads) (write_state s)) s)
-finish s key = go (is_digest_of key.digest (text_so_far key s.uploads)) refl where
-  go : (b : Bool) → is_digest_of key.digest (text_so_far key s.uploads) ≡ b
-      → ChangesByRule s (wrote (after_last_part most_blobs s.quota key (cond b (Ok tt) (Err Hash)) (write_state s)) s)
-  go true is = UploadFinished key (same_names key.digest (text_so_far key s.uploads) is) refl
-  go false is = UploadMisnamed key (misnamed key.digest (text_so_far key s.uploads) is) refl
+-- the state with a piece that was taken
+abbrev with_taken : PartValue → InstanceState → WriteState
+with_taken part s = record (write_state s) { uploads = uploads_with part s }
 
--- state r is s with a piece taken
-end_loses : (s r : InstanceState) (part : PartValue) → LosesByRules s r → LosesByRules s (wrote (after_end most_blobs r.quota part (write_state r)) r)
-end_loses s r part h = go part.is_last where
-  go : (last : Bool) → LosesByRules s (wrote (cond last (after_last_part most_blobs r.quota part.key (finish_answer part.key r.uploads) (write_state r)) (write_state r)) r)
-  go true = then_change s r (wrote (after_last_part most_blobs r.quota part.key (finish_answer part.key r.uploads) (write_state r)) r) h (finish r part.key)
-  go false = h
+last_by_rule : (s : InstanceState) (event : CallEventValue) (part : PartValue) → BringsPiece s event part → part.is_last ≡ true → WritesByRule s event (after_last_part most_blobs s.quota part.key (finish_answer part.key (uploads_with part s)) (with_taken part s))
+last_by_rule s event part brings last = go (is_digest_of part.key.digest (text_with part s)) refl where
+  go : (b : Bool) → is_digest_of part.key.digest (text_with part s) ≡ b → WritesByRule s event (after_last_part most_blobs s.quota part.key (cond b taken (refused Hash)) (with_taken part s))
+  go true is = UploadFinished part brings last (same_names part.key.digest (text_with part s) is) refl
+  go false is = UploadMisnamed part brings last (misnamed part.key.digest (text_with part s) is) refl
 
-piece_loses : (s : InstanceState) (part : PartValue) (r : Result Unit UploadError) → LosesByRules s (wrote (with_piece s.moment part r (write_state s)) s)
-piece_loses s part (Ok u) = then_change s s (wrote (with_piece s.moment part (Ok u) (write_state s)) s) (here s) (PieceTaken part.key part.piece.bytes refl)
-piece_loses s part (Err e) = here s
+end_by_rule : (s : InstanceState) (event : CallEventValue) (part : PartValue) → BringsPiece s event part → WritesByRule s event (after_end most_blobs s.quota part (with_taken part s))
+end_by_rule s event part brings = go part.is_last refl where
+  go : (last : Bool) → part.is_last ≡ last → WritesByRule s event (cond last (after_last_part most_blobs s.quota part.key (finish_answer part.key (uploads_with part s)) (with_taken part s)) (with_taken part s))
+  go true is = last_by_rule s event part brings is
+  go false is = PieceTaken part brings refl
 
-part_loses : (first : Bool) (s : InstanceState) (part : PartValue) (r : Result Unit UploadError) → part_outcome first s.quota part s.uploads ≡ r → LosesByRules s (wrote (after_taking most_blobs s.quota s.moment part r (write_state s)) s)
-part_loses first s part (Ok u) is = end_loses s (wrote (with_piece s.moment part (Ok u) (write_state s)) s) part (piece_loses s part (Ok u))
-part_loses first s part (Err Size) is =
-    then_change s s (wrote (after_taking most_blobs s.quota s.moment part (Err Size) (write_state s)) s) (here s)
-    (UploadTooLong part.key part.piece.bytes (long_part first s.quota part s.uploads is) refl)
-part_loses first s part (Err Offset) is = here s
-part_loses first s part (Err Hash) is = here s
-part_loses first s part (Err TooMany) is = here s
-part_loses first s part (Err OverQuota) is = here s
-part_loses first s part (Err NoMemory) is = here s
+piece_by_rule : (s : InstanceState) (event : CallEventValue) (part : PartValue) → BringsPiece s event part → (r : Result Unit UploadError) → WritesByRule s event (with_piece s.moment part r (write_state s))
+piece_by_rule s event part brings (Ok u) = PieceTaken part brings refl
+piece_by_rule s event part brings (Err e) = NothingWritten refl
+
+whole_by_rule : (first : Bool) (s : InstanceState) (event : CallEventValue) (part : PartValue) → BringsPiece s event part → (r : Result Unit UploadError) → part_outcome first s.quota part s.uploads ≡ r → WritesByRule s event (after_taking most_blobs s.quota s.moment part r (write_state s))
+whole_by_rule first s event part brings (Ok u) is = end_by_rule s event part brings
+whole_by_rule first s event part brings (Err Size) is = UploadTooLong part brings (long_part first s.quota part s.uploads is) refl
+whole_by_rule first s event part brings (Err Offset) is = NothingWritten refl
+whole_by_rule first s event part brings (Err Hash) is = NothingWritten refl
+whole_by_rule first s event part brings (Err TooMany) is = NothingWritten refl
+whole_by_rule first s event part brings (Err OverQuota) is = NothingWritten refl
+whole_by_rule first s event part brings (Err NoMemory) is = NothingWritten refl
+
+part_by_rule : (first : Bool) (s : InstanceState) (event : CallEventValue) (part : PartValue) → BringsPiece s event part → AreByRule s event (part_changes first s part)
+part_by_rule first s event part brings =
+    let r = part_outcome first s.quota part s.uploads in
+    (piece_by_rule s event part brings r, (whole_by_rule first s event part brings r refl, tt))
 
 -- ---- a message of a Write
 
-append_nil : (cs : List InstanceChange) → cs ≡ cs ++ []
-append_nil [] = refl
-append_nil (c ∷ cs) = ap (λ (xs : List InstanceChange). c ∷ xs) (append_nil cs)
+first_by_rule : (s : InstanceState) (id : CallId) (bytes : List ℕ) → AreByRule s (message id bytes) (first_changes s bytes)
+first_by_rule s id bytes = go (first_asked s.name bytes) refl where
+  seen_or_not : (asked : FirstAsked) → first_asked s.name bytes ≡ Ok asked → (b : Bool) → AreByRule s (message id bytes) (cond b (Text (Texts.Use asked.part.key.digest) ∷ []) (part_changes true s asked.part))
+  seen_or_not asked is true = (tt, tt)
+  seen_or_not asked is false = part_by_rule true s (message id bytes) asked.part (inl (record { name = asked.name; asks = is }))
 
--- the changes of a part, and then more; the second leaves what the whole part does, whatever the first
--- left
-part_changes_lose : (first : Bool) (s : InstanceState) (part : PartValue) (rest : List InstanceChange) → ((q : InstanceState) → LosesByRules s q → FrontsLose s q rest) → FrontsLose s s (part_changes first s part ++ rest)
-part_changes_lose first s part rest more =
-    let whole = part_loses first s part (part_outcome first s.quota part s.uploads) refl in
-    (here s, (piece_loses s part (part_outcome first s.quota part s.uploads), more (wrote (after_part first most_blobs s.quota s.moment part (write_state s)) s) whole))
+  go : (r : Result FirstAsked Refusal) → first_asked s.name bytes ≡ r → AreByRule s (message id bytes) (changes_asked (first_part_changes s) r)
+  go (Ok asked) is = seen_or_not asked is (is_some (visible_text asked.part.key.digest s.visible))
+  go (Err refusal) is = tt
 
-first_changes_lose : (s : InstanceState) (bytes : List ℕ) (rest : List InstanceChange) → ((q : InstanceState) → LosesByRules s q → FrontsLose s q rest) → FrontsLose s s (first_changes s bytes ++ rest)
-first_changes_lose s bytes rest more = go (first_asked s.name bytes) where
-  seen_or_not : (asked : FirstAsked) (b : Bool) → FrontsLose s s (cond b (Text (Texts.Use asked.part.key.digest) ∷ []) (part_changes true s asked.part) ++ rest)
-  seen_or_not asked true =
-      let next = state_after_change (Text (Texts.Use asked.part.key.digest)) s in
-      (here s, more next (then_change s s next (here s) (BlobUsed asked.part.key.digest refl)))
-  seen_or_not asked false = part_changes_lose true s asked.part rest more
+next_by_rule : (s : InstanceState) (id : CallId) (bytes : List ℕ) (call : CallValue) (write : OpenWriteValue) → call_at id s.calls ≡ Some call → call.progress ≡ writes write → AreByRule s (message id bytes) (next_changes s write bytes)
+next_by_rule s id bytes call write here writing = go (next_asked write bytes) refl where
+  go : (r : Result PartValue Refusal) → next_asked write bytes ≡ r → AreByRule s (message id bytes) (changes_asked (part_changes false s) r)
+  go (Ok part) is = part_by_rule false s (message id bytes) part (inr (record { call = call; in_course = here; write = write; is_written = writing; asks = is }))
+  go (Err refusal) is = tt
 
-  go : (r : Result FirstAsked Refusal) → FrontsLose s s (changes_asked (first_part_changes s) r ++ rest)
-  go (Ok asked) = seen_or_not asked (is_some (visible_text asked.part.key.digest s.visible))
-  go (Err refusal) = more s (here s)
+-- these, and then the call goes on or ends
+then_by_rule : (s : InstanceState) (event : CallEventValue) (cs : List InstanceChange) (c : InstanceChange) → AreByRule s event cs → IsByRule s event c → AreByRule s event (cs ++ c ∷ [])
+then_by_rule s event cs c all last = all_append (IsByRule s event) cs (c ∷ []) all (last, tt)
 
-next_changes_lose : (s : InstanceState) (write : OpenWriteValue) (bytes : List ℕ) (rest : List InstanceChange) → ((q : InstanceState) → LosesByRules s q → FrontsLose s q rest) → FrontsLose s s (next_changes s write bytes ++ rest)
-next_changes_lose s write bytes rest more = go (next_asked write bytes) where
-  go : (r : Result PartValue Refusal) → FrontsLose s s (changes_asked (part_changes false s) r ++ rest)
-  go (Ok part) = part_changes_lose false s part rest more
-  go (Err refusal) = more s (here s)
+first_write : (s : InstanceState) (event : CallEventValue) (id : CallId) (method : Method) (changes : List InstanceChange) → AreByRule s event changes → (r : Result WrittenValue Refusal) → AreByRule s event (first_write_answer id method changes r).changes
+first_write s event id method changes all (Ok (Writing.Goes write)) = then_by_rule s event changes (Goes id (record { method = method; progress = writes write })) all tt
+first_write s event id method changes all (Ok (Writing.Answered reply)) = then_by_rule s event changes (Ends id) all tt
+first_write s event id method changes all (Err refusal) = then_by_rule s event changes (Ends id) all tt
 
-first_lose : (s : InstanceState) (id : CallId) (method : Method) (bytes : List ℕ) (r : Result WrittenValue Refusal) → FrontsLose s s (first_write_answer id method (first_changes s bytes) r).changes
-first_lose s id method bytes (Ok (Writing.Goes write)) =
-    first_changes_lose s bytes (Goes id (record { method = method; progress = writes write }) ∷ []) (λ q. goes_lose s q id (record { method = method; progress = writes write }))
-first_lose s id method bytes (Ok (Writing.Answered reply)) = first_changes_lose s bytes (Ends id ∷ []) (λ q. ends_lose s q id)
-first_lose s id method bytes (Err refusal) = first_changes_lose s bytes (Ends id ∷ []) (λ q. ends_lose s q id)
-
-next_lose : (s : InstanceState) (id : CallId) (write : OpenWriteValue) (bytes : List ℕ) (r : Result (Option (List ℕ)) Refusal) → FrontsLose s s (next_write_answer id (next_changes s write bytes) r).changes
-next_lose s id write bytes (Ok None) = subst (FrontsLose s s) (sym (append_nil (next_changes s write bytes))) (next_changes_lose s write bytes [] (λ q h. h))
-next_lose s id write bytes (Ok (Some reply)) = next_changes_lose s write bytes (Ends id ∷ []) (λ q. ends_lose s q id)
-next_lose s id write bytes (Err refusal) = next_changes_lose s write bytes (Ends id ∷ []) (λ q. ends_lose s q id)
+next_write : (s : InstanceState) (event : CallEventValue) (id : CallId) (changes : List InstanceChange) → AreByRule s event changes → (r : Result (Option (List ℕ)) Refusal) → AreByRule s event (next_write_answer id changes r).changes
+next_write s event id changes all (Ok None) = all
+next_write s event id changes all (Ok (Some reply)) = then_by_rule s event changes (Ends id) all tt
+next_write s event id changes all (Err refusal) = then_by_rule s event changes (Ends id) all tt
 
 -- ---- an event, by its kinds
 
-head_loses : (s : InstanceState) (id : CallId) (method : Method) (o : Option CallValue) → FrontsLose s s (head_answer id method o).changes
-head_loses s id method (Some call) = here s
-head_loses s id method None = goes_lose s s id (record { method = method; progress = waits }) (here s)
+head_by_rule : (s : InstanceState) (id : CallId) (method : Method) (o : Option CallValue) → AreByRule s (head id method) (head_answer id method o).changes
+head_by_rule s id method (Some call) = tt
+head_by_rule s id method None = (tt, tt)
 
-first_message_loses : (s : InstanceState) (id : CallId) (method : Method) (bytes : List ℕ) → FrontsLose s s (first_message_answer s id method bytes).changes
-first_message_loses s id Called.Write bytes = first_lose s id Called.Write bytes (first_outcome s bytes)
-first_message_loses s id method bytes = goes_lose s s id (record { method = method; progress = has bytes }) (here s)
+first_message : (s : InstanceState) (id : CallId) (method : Method) (bytes : List ℕ) → AreByRule s (message id bytes) (first_message_answer s id method bytes).changes
+first_message s id Called.Write bytes = first_write s (message id bytes) id Called.Write (first_changes s bytes) (first_by_rule s id bytes) (first_outcome s bytes)
+first_message s id method bytes = (tt, tt)
 
-message_by_progress : (s : InstanceState) (id : CallId) (method : Method) (bytes : List ℕ) (p : ProgressValue) → FrontsLose s s (answer_by_progress s id method bytes p).changes
-message_by_progress s id method bytes waits = first_message_loses s id method bytes
-message_by_progress s id method bytes (has first) = ends_lose s s id (here s)
-message_by_progress s id method bytes (writes write) = next_lose s id write bytes (next_outcome s write bytes)
-message_by_progress s id method bytes (watches n) = here s
+by_progress : (s : InstanceState) (id : CallId) (bytes : List ℕ) (call : CallValue) → call_at id s.calls ≡ Some call → (p : ProgressValue) → call.progress ≡ p → AreByRule s (message id bytes) (answer_by_progress s id call.method bytes p).changes
+by_progress s id bytes call here waits is = first_message s id call.method bytes
+by_progress s id bytes call here (has first) is = (tt, tt)
+by_progress s id bytes call here (writes write) is = next_write s (message id bytes) id (next_changes s write bytes) (next_by_rule s id bytes call write here is) (next_outcome s write bytes)
+by_progress s id bytes call here (watches n) is = tt
 
-on_message : (s : InstanceState) (id : CallId) (bytes : List ℕ) (o : Option CallValue) → FrontsLose s s (message_answer s id bytes o).changes
-on_message s id bytes None = here s
-on_message s id bytes (Some call) = message_by_progress s id call.method bytes call.progress
+message_by_rule : (s : InstanceState) (id : CallId) (bytes : List ℕ) (o : Option CallValue) → call_at id s.calls ≡ o → AreByRule s (message id bytes) (message_answer s id bytes o).changes
+message_by_rule s id bytes None is = tt
+message_by_rule s id bytes (Some call) is = by_progress s id bytes call is call.progress refl
 
-fault_by : (s : InstanceState) (id : CallId) (refusal : Refusal) (p : ProgressValue) → FrontsLose s s (fault_by_progress id refusal p).changes
-fault_by s id refusal (watches n) = here s
-fault_by s id refusal waits = ends_lose s s id (here s)
-fault_by s id refusal (has first) = ends_lose s s id (here s)
-fault_by s id refusal (writes write) = ends_lose s s id (here s)
+fault_by : (s : InstanceState) (event : CallEventValue) (id : CallId) (refusal : Refusal) (p : ProgressValue) → AreByRule s event (fault_by_progress id refusal p).changes
+fault_by s event id refusal (watches n) = tt
+fault_by s event id refusal waits = (tt, tt)
+fault_by s event id refusal (has first) = (tt, tt)
+fault_by s event id refusal (writes write) = (tt, tt)
 
-on_fault : (s : InstanceState) (id : CallId) (refusal : Refusal) (o : Option CallValue) → FrontsLose s s (fault_answer id refusal o).changes
-on_fault s id refusal None = here s
-on_fault s id refusal (Some call) = fault_by s id refusal call.progress
+fault_by_rule : (s : InstanceState) (event : CallEventValue) (id : CallId) (refusal : Refusal) (o : Option CallValue) → AreByRule s event (fault_answer id refusal o).changes
+fault_by_rule s event id refusal None = tt
+fault_by_rule s event id refusal (Some call) = fault_by s event id refusal call.progress
 
-end_by_progress : (s : InstanceState) (id : CallId) (method : Method) (p : ProgressValue) → FrontsLose s s (end_answer_by_progress s id method p).changes
-end_by_progress s id method waits = ends_lose s s id (here s)
-end_by_progress s id method (has request) = request_loses s id method request
-end_by_progress s id method (writes write) = ends_lose s s id (here s)
-end_by_progress s id method (watches n) = here s
+ended_by : (s : InstanceState) (event : CallEventValue) (id : CallId) (method : Method) (p : ProgressValue) → AreByRule s event (end_answer_by_progress s id method p).changes
+ended_by s event id method waits = (tt, tt)
+ended_by s event id method (has request) = request_by_rule s event id method request
+ended_by s event id method (writes write) = (tt, tt)
+ended_by s event id method (watches n) = tt
 
-on_end : (s : InstanceState) (id : CallId) (o : Option CallValue) → FrontsLose s s (request_end_answer s id o).changes
-on_end s id None = here s
-on_end s id (Some call) = end_by_progress s id call.method call.progress
+ended_by_rule : (s : InstanceState) (event : CallEventValue) (id : CallId) (o : Option CallValue) → AreByRule s event (request_end_answer s id o).changes
+ended_by_rule s event id None = tt
+ended_by_rule s event id (Some call) = ended_by s event id call.method call.progress
 
-answer_loses : (s : InstanceState) (event : CallEventValue) → FrontsLose s s (answer s event).changes
-answer_loses s (head id method) = head_loses s id method (call_at id s.calls)
-answer_loses s (message id bytes) = on_message s id bytes (call_at id s.calls)
-answer_loses s (fault id refusal) = on_fault s id refusal (call_at id s.calls)
-answer_loses s (end id) = on_end s id (call_at id s.calls)
-answer_loses s (cancel id) = ends_lose s s id (here s)
-answer_loses s tick = (here s, then_change s s (state_after_change Expires s) (here s) (UploadsExpired refl))
-answer_loses s start_jobs = settles_lose s s (start_steps s.slots s.moment s.jobs) (here s)
-answer_loses s end_late_jobs = settles_lose s s (tick_steps s.slots s.moment s.jobs) (here s)
-answer_loses s (end_job n outcome) = end_job_loses s n outcome (running_job n s.jobs)
+pub changes_are_by_rule : (s : InstanceState) (event : CallEventValue) → AllByRecursion (IsByRule s event) (answer s event).changes
+changes_are_by_rule s (head id method) = head_by_rule s id method (call_at id s.calls)
+changes_are_by_rule s (message id bytes) = message_by_rule s id bytes (call_at id s.calls) refl
+changes_are_by_rule s (fault id refusal) = fault_by_rule s (fault id refusal) id refusal (call_at id s.calls)
+changes_are_by_rule s (end id) = ended_by_rule s (end id) id (call_at id s.calls)
+changes_are_by_rule s (cancel id) = (tt, tt)
+changes_are_by_rule s tick = (tt, tt)
+changes_are_by_rule s start_jobs = (refl, tt)
+changes_are_by_rule s end_late_jobs = (refl, tt)
+changes_are_by_rule s (end_job n outcome) =
+    then_by_rule s (end_job n outcome) (ending_changes s outcome (running_job n s.jobs)) (Settles (ending_steps s n outcome (running_job n s.jobs))) (ending_by_rule s (end_job n outcome) outcome (running_job n s.jobs)) refl
 
-pub front_loses_by_rules : (s t : InstanceState) (event : CallEventValue) → MadeInPart (answer s event).changes s t → LosesByRules s t
-front_loses_by_rules s t event h =
-    subst (λ (x : InstanceState). LosesByRules s x) (sym h.so_far)
-    (front_loses s s h.made h.left (subst (λ (cs : List InstanceChange). FrontsLose s s cs) h.front (answer_loses s event)))
+front_by : (s : InstanceState) (event : CallEventValue) (made left : List InstanceChange) → AreByRule s event (made ++ left) → AreByRule s event made
+front_by s event [] left rules = tt
+front_by s event (c ∷ made) left rules = (rules.0, front_by s event made left rules.1)
 
-pub event_loses_by_rules : (s : InstanceState) (event : CallEventValue) → LosesByRules s (state_after s event)
-event_loses_by_rules s event = front_loses_by_rules s (state_after s event) event (record { made = (answer s event).changes; left = []; front = append_nil (answer s event).changes; so_far = refl })
+-- so is each of a front of them
+pub front_is_by_rule : (s : InstanceState) (event : CallEventValue) (made left : List InstanceChange) → (answer s event).changes ≡ made ++ left → AllByRecursion (IsByRule s event) made
+front_is_by_rule s event made left front = front_by s event made left (subst (AreByRule s event) front (changes_are_by_rule s event))

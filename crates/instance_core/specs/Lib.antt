@@ -17,7 +17,9 @@ pub mod ReplyHolders
 pub mod Turns
 pub mod Named
 pub mod NamedReplies
+pub mod Kept
 pub mod Losses
+pub mod Room
 pub use Rattle.quota_evict.specs.InPool
 pub use Rattle.quota_evict.specs.Within
 pub use Rattle.instance_view.specs.Visible

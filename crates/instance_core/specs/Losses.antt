@@ -1,88 +1,118 @@
--- How what an instance keeps may change: its blobs, its results, its unfinished uploads and its
--- jobs. To be read from the last definition up: `LosesByRules` is a chain of changes, and
--- `ChangesByRule` has a case for each rule. A blob is lost to an admission alone, and a result to a
--- store alone; an upload is lost at its end, to a piece that would bring it past its size, or by
--- its age; and a job that waits starts, and one that runs ends, and neither is lost otherwise.
-use Rattle.std.specs.Prelude.{◌≡◌, ℕ, ◌+◌, ◌<◌, false, List, [], ◌∷◌, ◌++◌, length}
+-- How an event may change what an instance keeps: its blobs, its results, its unfinished uploads
+-- and its jobs. To be read from `IsByRule` up, which has a case for each kind of change and says
+-- which rule it follows: of the event's own changes, and of the state that the event met. A blob is
+-- lost to an admission alone (Room.antt says to which), and a result to a store alone; an upload is
+-- lost at its end, to a piece that would bring it past its size, or by its age; and a job that waits
+-- starts, and one that runs ends, and neither is lost otherwise.
+use Rattle.std.specs.Prelude.{◌≡◌, ◌⊎◌, ℕ, ◌+◌, ◌<◌, true, false, List, length, Some, Ok}
 use Rattle.std.specs.List.{AllByRecursion}
 use Rattle.digest.specs.declared.Digest.{Digest}
 use Rattle.digest.specs.Naming.{Names, same_digest, is_empty_digest}
-use Rattle.instance_view.specs.Visible.{Blob, visible_after_use, with_match_first}
+use Rattle.instance_view.specs.Visible.{Blob, with_match_first}
 use Rattle.quota_evict.specs.Admission.{visible_after_admission}
-use Rattle.uploads.specs.Uploads.{KeyValue, UploadList, with_upload, without_upload, text_so_far, uploads_at}
+use Rattle.uploads.specs.Uploads.{UploadList, without_upload, text_so_far}
+use Rattle.uploads.specs.Writing.{after_piece}
 use Rattle.action_cache.specs.Results.{results_after_store}
-use Rattle.instance_core.specs.Calls.{Calls}
-use Rattle.job_queue.specs.Jobs.{jobs_after_done, jobs_after_push}
-use Rattle.executor.specs.Job.{JobValue}
-use Rattle.executor.specs.Steps.{StepValue, jobs_after_steps}
+use Rattle.bytestream.specs.Writing.{OpenWriteValue, PartValue, WriteState, first_asked, next_asked}
+use Rattle.instance_core.specs.declared.event.CallId.{CallId}
+use Rattle.instance_core.specs.Answer.{steps_at}
+use Rattle.instance_core.specs.Calls.{Calls, CallValue, writes, CallEventValue, head, fault, end, cancel, tick, start_jobs, end_late_jobs, end_job, call_at}
+use Rattle.instance_core.specs.Calls as Comes
+use Rattle.instance_core.specs.Changes.{InstanceChange, Text, Goes, Ends, Wrote, Keeps, Expires, Does, Pushes, Settles}
+use Rattle.instance_core.specs.Named.{StoresNamedText}
 use Rattle.instance_core.specs.State.{InstanceState, most_blobs}
-use Rattle.instance_core.specs.Watching.{calls_after_steps}
+use Rattle.instance_core.specs.Writes.{write_state}
 
--- the texts after an admission, which drops the least recently used that find no room
-abbrev pub texts_with : Digest → List ℕ → InstanceState → List Blob
-texts_with d text s = visible_after_admission most_blobs s.quota d text s.visible
+-- ---- uploads
 
--- the uploads after a piece, which goes behind the text so far, or begins an upload
-abbrev pub uploads_with : KeyValue → List ℕ → InstanceState → UploadList
-uploads_with key bytes s =
-    with_upload key
-    (record { text = text_so_far key s.uploads ++ bytes; written = s.moment }) s.uploads
+-- the first message of a Write brings this piece
+pub record IsFirstPiece (own bytes : List ℕ) (part : PartValue) : Type 0 where
+  pub name : List ℕ
+  pub asks : first_asked own bytes ≡ Ok (record { name = name; part = part })
 
--- state t is state s after one change
-pub data ChangesByRule (s t : InstanceState) : Type 0 where
-  -- calls begin, go on or end: all that is kept stays
-  CallsChange : (calls : Calls) → t ≡ record s { calls = calls } → ChangesByRule s t
-  -- a blob becomes the most recently used
-  BlobUsed : (d : Digest) → t ≡ record s { visible = visible_after_use d s.visible } →
-      ChangesByRule s t
-  -- a text is admitted under the digest that names it
-  TextAdmitted : (d : Digest) (text : List ℕ) → Names d text →
-      t ≡ record s { visible = texts_with d text s } → ChangesByRule s t
+-- a later one does, of a call that is in course
+pub record IsNextPiece (calls : Calls) (id : CallId) (bytes : List ℕ) (part : PartValue) : Type 0
+  where
+    pub call : CallValue
+    pub in_course : call_at id calls ≡ Some call
+    pub write : OpenWriteValue
+    pub is_written : call.progress ≡ writes write
+    pub asks : next_asked write bytes ≡ Ok part
+
+-- the event brings this piece of an upload
+abbrev pub BringsPiece : InstanceState → CallEventValue → PartValue → Type 0
+BringsPiece s (Comes.message id bytes) part =
+    IsFirstPiece s.name bytes part ⊎ IsNextPiece s.calls id bytes part
+BringsPiece s (head id method) part = ⊥
+BringsPiece s (fault id refusal) part = ⊥
+BringsPiece s (end id) part = ⊥
+BringsPiece s (cancel id) part = ⊥
+BringsPiece s tick part = ⊥
+BringsPiece s start_jobs part = ⊥
+BringsPiece s end_late_jobs part = ⊥
+BringsPiece s (end_job n outcome) part = ⊥
+
+-- the uploads with a piece that is taken: behind the text so far, or an upload begins with it
+abbrev pub uploads_with : PartValue → InstanceState → UploadList
+uploads_with part s = after_piece s.moment part.key part.piece (Ok tt) s.uploads
+
+-- the text of its upload with it
+abbrev pub text_with : PartValue → InstanceState → List ℕ
+text_with part s = text_so_far part.key (uploads_with part s)
+
+-- what a message of a Write leaves of the texts and the uploads
+pub data WritesByRule (s : InstanceState) (event : CallEventValue) (w : WriteState) : Type 0 where
+  -- as they were
+  NothingWritten : w ≡ write_state s → WritesByRule s event w
+  -- a piece is taken
+  PieceTaken : (part : PartValue) → BringsPiece s event part →
+      w ≡ record (write_state s) { uploads = uploads_with part s } → WritesByRule s event w
+  -- the last piece is taken, and the digest of the upload names its text: this is admitted, and the
+  -- upload ends
+  UploadFinished : (part : PartValue) → BringsPiece s event part → part.is_last ≡ true →
+      Names part.key.digest (text_with part s) →
+      w ≡ record {
+        visible =
+            visible_after_admission most_blobs s.quota part.key.digest (text_with part s) s.visible;
+        uploads = without_upload part.key (uploads_with part s);
+      } → WritesByRule s event w
+  -- the last piece is taken, and the digest does not name the text: the upload ends
+  UploadMisnamed : (part : PartValue) → BringsPiece s event part → part.is_last ≡ true →
+      ¬ (Names part.key.digest (text_with part s)) →
+      w ≡ record (write_state s) { uploads = without_upload part.key (uploads_with part s) } →
+      WritesByRule s event w
+  -- the piece would bring its upload past its size: the upload is forgotten
+  UploadTooLong : (part : PartValue) → BringsPiece s event part →
+      part.key.digest.size < length (text_so_far part.key s.uploads) + length part.piece.bytes →
+      w ≡ record (write_state s) { uploads = without_upload part.key s.uploads } →
+      WritesByRule s event w
+
+-- ---- results
+
+pub data ResultsByRule (old new : List Blob) : Type 0 where
+  -- as they were
+  ResultsStay : new ≡ old → ResultsByRule old new
   -- a result becomes the most recently used
-  ResultUsed : (d : Digest) →
-      t ≡ record s { results = with_match_first (same_digest d) s.results } → ChangesByRule s t
+  ResultUsed : (d : Digest) → new ≡ with_match_first (same_digest d) old → ResultsByRule old new
   -- a result takes the place of an earlier one, and the oldest go past the limits
-  ResultStored : (d : Digest) (text : List ℕ) →
-      t ≡ record s { results = results_after_store d text s.results } → ChangesByRule s t
-  -- a piece of an upload is taken
-  PieceTaken : (key : KeyValue) (bytes : List ℕ) →
-      t ≡ record s { uploads = uploads_with key bytes s } → ChangesByRule s t
-  -- an upload whose text its digest names ends, and its text is admitted
-  UploadFinished : (key : KeyValue) → Names key.digest (text_so_far key s.uploads) →
-      t ≡ record s {
-        visible = texts_with key.digest (text_so_far key s.uploads) s;
-        uploads = without_upload key s.uploads;
-      } → ChangesByRule s t
-  -- an upload whose text its digest does not name ends
-  UploadMisnamed : (key : KeyValue) → ¬ (Names key.digest (text_so_far key s.uploads)) →
-      t ≡ record s { uploads = without_upload key s.uploads } → ChangesByRule s t
-  -- an upload is forgotten that a piece would bring past its size
-  UploadTooLong : (key : KeyValue) (bytes : List ℕ) →
-      key.digest.size < length (text_so_far key s.uploads) + length bytes →
-      t ≡ record s { uploads = without_upload key s.uploads } → ChangesByRule s t
-  -- uploads that were not written to for long are forgotten
-  UploadsExpired : t ≡ record s { uploads = uploads_at s.moment s.uploads } → ChangesByRule s t
-  -- an execution is done at once, and takes a number
-  ExecutionDone : (operation : List ℕ) →
-      t ≡ record s { jobs = jobs_after_done operation s.jobs } → ChangesByRule s t
-  -- a job waits under a new number
-  JobWaits : (job : JobValue) → t ≡ record s { jobs = jobs_after_push job s.jobs } →
-      ChangesByRule s t
-  -- jobs end and start, step by step
-  JobsSettle : (steps : List StepValue) → t ≡ record s {
-    jobs = jobs_after_steps steps s.jobs;
-    calls = calls_after_steps steps s.calls;
-  } → ChangesByRule s t
+  ResultStored : (d : Digest) (text : List ℕ) → new ≡ results_after_store d text old →
+      ResultsByRule old new
 
--- one change after another leads from s through these states to t
-abbrev pub LeadsThrough : InstanceState → List InstanceState → InstanceState → Type 0
-LeadsThrough s [] t = t ≡ s
-LeadsThrough s (r ∷ states) t = ChangesByRule s r × LeadsThrough r states t
+-- ---- a change of an event that the instance met in this state
 
--- what t lacks of what s kept was lost by these rules
-pub record LosesByRules (s t : InstanceState) : Type 0 where
-  pub states : List InstanceState
-  pub leads : LeadsThrough s states t
+-- a text is admitted under the digest that names it alone; jobs end and start as the event makes
+-- them; the other changes are themselves the rule (`state_after_change`): a call goes on or ends,
+-- old uploads are forgotten, an execution is done, or a job waits
+abbrev pub IsByRule : InstanceState → CallEventValue → InstanceChange → Type 0
+IsByRule s event (Text c) = StoresNamedText c
+IsByRule s event (Wrote w) = WritesByRule s event w
+IsByRule s event (Keeps results) = ResultsByRule s.results results
+IsByRule s event (Settles steps) = steps ≡ steps_at s event
+IsByRule s event (Goes id call) = Unit {0}
+IsByRule s event (Ends id) = Unit {0}
+IsByRule s event Expires = Unit {0}
+IsByRule s event (Does operation) = Unit {0}
+IsByRule s event (Pushes job) = Unit {0}
 
 -- ---- the empty blob
 

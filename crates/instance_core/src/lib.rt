@@ -27,8 +27,9 @@ pub use event::{CallEvent, CallId, GivenRange, Reply, ReplyItem};
 pub use executor::{Order, Step, Task};
 pub use instance::Instance;
 pub use laws::{
-    calls_lose_by_rules, calls_serve_named_blobs, calls_store_named_texts, orders_have_their_texts,
-    starts_are_told_on_one_connection,
+    calls_lose_blobs_for_room, calls_lose_by_rules, calls_serve_named_blobs,
+    calls_store_named_texts, orders_have_their_texts, requests_are_answered_as_they_came,
+    starts_are_told_on_one_connection, the_empty_blob_has_no_slot,
 };
 pub use limits::{
     limits_of_batches_and_trees, limits_of_results, limits_of_texts, limits_of_uploads,

@@ -10,3 +10,4 @@ pub mod Happens
 pub mod Texts
 pub mod Runs
 pub mod Takings
+pub mod Given

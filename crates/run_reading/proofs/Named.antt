@@ -74,21 +74,21 @@ each_turned P places (r ∷ rs) h =
     all_append (λ (g : GivenItems). AllByRecursion P g.items) (items_at_place (places r.call) r) (flat_map (λ (r : ReplyValue). items_at_place (places r.call) r) rs)
     (one_at P (places r.call) r h.0) (each_turned P places rs h.1)
 
-item_gift : (s : InstanceState) (request : Option Request) (item : ReplyItemValue) → IsNamedItem s request item → IsNamedGift (item_of item)
-item_gift s (Some request) (gives given) h = subst (λ (d : Digest). Names d given.text) (sym h.1.same_digest) h.1.named
-item_gift s None (gives given) h = absurd h
-item_gift s request begins h = tt
-item_gift s request (says bytes) h = tt
-item_gift s request ends h = tt
-item_gift s request (refuses refusal) h = tt
+item_gift : (s : InstanceState) (event : CallEventValue) (request : Option Request) (item : ReplyItemValue) → IsNamedItem s event request item → IsNamedGift (item_of item)
+item_gift s event (Some request) (gives given) h = subst (λ (d : Digest). Names d given.text) (sym h.1.same_digest) h.1.named
+item_gift s event None (gives given) h = absurd h
+item_gift s event request begins h = tt
+item_gift s event request (says bytes) h = tt
+item_gift s event request ends h = tt
+item_gift s event request (refuses refusal) h = tt
 
-items_gifts : (s : InstanceState) (request : Option Request) (items : List ReplyItemValue) → AreNamedItems s request items → AllByRecursion IsNamedGift (owed_items items)
-items_gifts s request [] h = tt
-items_gifts s request (item ∷ items) h = (item_gift s request item h.0, items_gifts s request items h.1)
+items_gifts : (s : InstanceState) (event : CallEventValue) (request : Option Request) (items : List ReplyItemValue) → AreNamedItems s event request items → AllByRecursion IsNamedGift (owed_items items)
+items_gifts s event request [] h = tt
+items_gifts s event request (item ∷ items) h = (item_gift s event request item h.0, items_gifts s event request items h.1)
 
-replies_gifts : (s : InstanceState) (request : Option Request) (replies : List ReplyValue) → AreNamedReplies s request replies → AllByRecursion (HasItems IsNamedGift) replies
-replies_gifts s request [] h = tt
-replies_gifts s request (r ∷ rs) h = (items_gifts s request r.items h.0, replies_gifts s request rs h.1)
+replies_gifts : (s : InstanceState) (event : CallEventValue) (request : Option Request) (replies : List ReplyValue) → AreNamedReplies s event request replies → AllByRecursion (HasItems IsNamedGift) replies
+replies_gifts s event request [] h = tt
+replies_gifts s event request (r ∷ rs) h = (items_gifts s event request r.items h.0, replies_gifts s event request rs h.1)
 
 request_gift : (item : Item) → IsShortItem item → IsNamedGift item
 request_gift (Headed block) h = tt
@@ -112,4 +112,4 @@ all_given P one replies s (JobsTurned places event ∷ hs) short w =
     (each_turned P places (answer s event).replies (replies s event short.0 w)) (all_given P one replies (state_after s event) hs short.1 (after_keeps s event short.0 w))
 
 pub all_gifts : (s : InstanceState) (hs : List Happening) → AllByRecursion IsShortHappening hs → IsInstanceWithin s → AllByRecursion GivesNamed (given_items_from s hs)
-all_gifts s hs short w = all_given IsNamedGift request_gift (λ t event e v. replies_gifts t (request_at t event) (answer t event).replies (serves_named t event v)) s hs short w
+all_gifts s hs short w = all_given IsNamedGift request_gift (λ t event e v. replies_gifts t event (request_at t event) (answer t event).replies (serves_named t event v)) s hs short w

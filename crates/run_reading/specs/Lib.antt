@@ -1,3 +1,4 @@
 pub mod Happenings
 pub mod Replies
 pub mod Named
+pub mod GivesWell

@@ -1,19 +1,56 @@
 //! What holds of every run of an instance, and of its parent if it has one, by themselves.
 
-ghost use Rattle.std.specs.Prelude.{◌≡◌, ◌++◌, ◌∷◌, [], None, List, map};
+ghost use Rattle.std.specs.Prelude.{◌≡◌, ◌++◌, ◌∷◌, [], ℕ, None, Some, List, map};
 ghost use Rattle.std.specs.List.{AllByRecursion};
 ghost use Rattle.instance_core.specs.Jobs.{IsWholeOrder};
 ghost use Rattle.served_instance.specs.Lone.{sent_bytes_on};
 ghost use Rattle.served_instance.specs.Narrow.{IsNarrow};
+ghost use Rattle.server_events.specs.Configs.{ConfigValue, parent_of};
 ghost use Rattle.server_events.specs.Events.{EventValue};
+ghost use Rattle.server_events.specs.Shown.{event_value};
 ghost use Rattle.served_instance.specs.Refusals.{refusal_of};
 ghost use Rattle.served_instance.specs.StandsFor.{AreSettled};
-ghost use Rattle.server_core.specs.Families.{Family, FamilyEvent, AreLimited, event_in, own_event};
+ghost use Rattle.server_core.specs.Families.{Family, FamilyEvent, AreLimited, event_in, family_events, family_in, own_event};
 ghost use Rattle.server_core.specs.Runs.{run_of_family};
-ghost use Rattle.server_core.specs.LoneOutput.{lone_output};
+ghost use Rattle.server_core.specs.LoneOutput.{config_at, lone_output};
 ghost use Rattle.run_reading.specs.Replies.{run_connections, run_given_items, run_state, AreConnectionsRead};
 ghost use Rattle.instance_core.specs.NamedReplies.{ServesNamed};
 ghost use Rattle.run_reading.specs.Named.{run_answered_events, GivesNamed};
+ghost use Rattle.run_reading.specs.GivesWell.{GivesWell};
+
+use server_events::{Configs, Event, Outcome, What};
+
+/// What each instance of a server gives in a run (`run`, server_core): its clients read the answers
+/// of the instance to what they asked, each blob that it serves is named by the digest that was
+/// asked for, what it orders to be run has what it needs, and behind each event that it accepts its
+/// connections are settled. Nothing is supposed of configurations and events but their types.
+pub fn what_a_run_gives(configs: &Configs, events: &[Event])
+    ensures { (i : ℕ) (config : ConfigValue) → config_at i configs.now ≡ Some config
+        → GivesWell (family_in configs.now config)
+        (family_events i (parent_of configs.now config) (map event_value events.now)) }
+{
+    let _instances = configs.instances();
+    statuses_are_narrow(events);
+}
+
+/// The status with which an event says that a run ended is one of 32 bits, as its type says.
+pub fn statuses_are_narrow(events: &[Event])
+    ensures { AllByRecursion IsNarrow (map event_value events.now) }
+{
+    let mut left = events;
+    while let [event, rest @ ..] = left {
+        status_is_narrow(event);
+        left = rest;
+    }
+}
+
+fn status_is_narrow(event: &Event)
+    ensures { IsNarrow (event_value event.now) }
+{
+    if let What::Outcome(_, Outcome::Exited(exited)) = &event.what {
+        let _code = exited.code;
+    }
+}
 
 /// On each connection of a run the client reads what the streams were given: frames as they were
 /// meant, HEADERS and DATA on live streams and within the windows, control frames that were caused,

@@ -31,6 +31,8 @@ mod Answered
 mod CutEvents
 mod BrokenOff
 pub mod Losses
+mod RoomLeft
+pub mod JobChanges
 mod KeptJobs
 pub mod Watches
 pub use Rattle.grpc_sending.proofs.Agreeing

@@ -14,6 +14,7 @@ pub mod Events
 pub mod Short
 pub mod Narrow
 pub mod Losses
+pub mod Room
 pub mod Cuts
 pub use Rattle.conn_core.specs.Writing
 pub use Rattle.conn_core.specs.History

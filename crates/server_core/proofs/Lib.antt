@@ -14,5 +14,7 @@ mod Begins
 mod Steps
 mod Ends
 mod Families
+mod Numberless
 mod Runs
 mod Marks
+mod SameTasks

@@ -40,6 +40,14 @@ abbrev pub event_in : FamilyEvent → EventValue
 event_in (own_event e) = e
 event_in (parent_event e) = e
 
+-- what happens, and when, without the number of the instance
+abbrev pub unnumbered : EventValue → EventValue
+unnumbered e = record e { instance = 0 }
+
+abbrev pub without_number : FamilyEvent → FamilyEvent
+without_number (own_event e) = own_event (unnumbered e)
+without_number (parent_event e) = parent_event (unnumbered e)
+
 -- what an event is to the instance of this number with that parent: to others than the two it is
 -- nothing
 abbrev pub family_event : ℕ → Option ℕ → EventValue → List FamilyEvent

@@ -1,29 +1,38 @@
 //! What follows from the definitions alone.
 
-ghost use Rattle.std.specs.Prelude.{◌≡◌, ◌≢◌, ℕ, List, Option, None, Some, IfSome, map, option_map};
+ghost use Rattle.std.specs.Prelude.{◌≡◌, ◌≢◌, ◌++◌, ℕ, List, Option, None, Some, IfSome, map, option_map};
 ghost use Rattle.std.specs.List.{AllByRecursion, flat_map};
+ghost use Rattle.executor.specs.Job.{TaskValue};
+ghost use Rattle.executor.specs.Orders.{task_of};
 ghost use Rattle.instance_core.specs.State.{IsInstanceWithin};
-ghost use Rattle.server_events.specs.Configs.{ConfigValue};
+ghost use Rattle.server_events.specs.Configs.{ConfigValue, parent_of};
 ghost use Rattle.server_events.specs.Events.{EventValue, own_events};
 ghost use Rattle.served_instance.specs.Narrow.{IsNarrow};
 ghost use Rattle.served_instance.specs.Lone.{LoneInstance};
-ghost use Rattle.server_core.specs.Families.{Family, FamilyEvent, AreLimited, without_parent, event_in, family_events};
-ghost use Rattle.server_core.specs.LoneOutput.{lone_output};
-ghost use Rattle.server_core.specs.Runs.{run_of, run_of_family, output_of_run};
+ghost use Rattle.server_core.specs.Families.{Family, FamilyEvent, AreLimited, without_number, without_parent, event_in, family_events, family_in};
+ghost use Rattle.server_core.specs.LoneOutput.{config_at, lone_output};
+ghost use Rattle.server_core.specs.Runs.{FamilyRun, run_of, run_of_family, output_of_run};
 ghost use Rattle.server_core.specs.Outputs.{InstanceOutputValue};
-ghost use Rattle.server_core.specs.Marked.{IsRunOutput, IsNotForMemory};
+ghost use Rattle.server_core.specs.Marked.{MarkedEvent, IsRun, IsRunOutput, IsNotForMemory};
 ghost use Rattle.server_core.specs.StandsFor.{ServerState, AllStand};
 ghost use Rattle.server_core.specs.Stored.{texts_held, lone_texts};
 
-/// No instance learns anything of another but its parent: two runs, of two servers, that agree on an
-/// instance's configuration and its parent's, and on the events of both in their common order, give
-/// it equal bytes on each connection, equal orders and equal refusals, whatever else happens.
+/// No instance learns anything of another but its parent, nor which place it has among them. Two
+/// servers may have any instances, to which anything happens: where in each an instance and its
+/// parent are configured alike, and the same happens to these two at the same moments and in the
+/// same order, it gives equal bytes on each connection, equal orders and equal refusals.
 pub fn equal_events_give_equal_outputs()
-    ensures { (this that : Family) (i j : ℕ) (parent other : Option ℕ)
-        (these those : List EventValue) → this ≡ that
-        → family_events i parent these ≡ family_events j other those
-        → lone_output this (family_events i parent these)
-        ≡ lone_output that (family_events j other those) }
+    ensures outputs { (these those : List ConfigValue) (i j : ℕ) (this that : ConfigValue)
+        (events others : List EventValue) → config_at i these ≡ Some this
+        → config_at j those ≡ Some that → family_in these this ≡ family_in those that
+        → map without_number (family_events i (parent_of these this) events)
+        ≡ map without_number (family_events j (parent_of those that) others)
+        → lone_output (family_in these this) (family_events i (parent_of these this) events)
+        ≡ lone_output (family_in those that) (family_events j (parent_of those that) others) }
+    // .. so also its state, from which all later answers follow.
+    ensures state { (this that : Family) (events others : List FamilyEvent) → this ≡ that
+        → map without_number events ≡ map without_number others
+        → run_of_family this events ≡ run_of_family that others }
 {}
 
 /// An instance that builds on no other gives what its own configuration and its own events alone
@@ -52,6 +61,22 @@ pub fn a_run_keeps_its_limits()
     ensures { (family : Family) (events : List FamilyEvent) → AreLimited family
         → AllByRecursion IsNarrow (map event_in events)
         → IsInstanceWithin (run_of_family family events).own.lone.state }
+{}
+
+/// A job keeps its task as long as it runs: whatever happens to an instance and to its parent
+/// between two moments at which a job of a number runs, that number has the same task at both. So
+/// all that a run is lent is of one task.
+pub fn a_job_keeps_its_task()
+    ensures run { (family : Family) (earlier later : List FamilyEvent) (n : ℕ)
+        (task other : TaskValue) → AreLimited family → AllByRecursion IsNarrow (map event_in earlier)
+        → task_of n (run_of_family family earlier).own.lone.state.jobs ≡ Some task
+        → task_of n (run_of_family family (earlier ++ later)).own.lone.state.jobs ≡ Some other
+        → other ≡ task }
+    // .. so also where some of these events were done in part, for want of memory.
+    ensures refused { (before after : FamilyRun) (events : List MarkedEvent) (n : ℕ)
+        (task other : TaskValue) → IsInstanceWithin before.own.lone.state
+        → IsRun before events after → task_of n before.own.lone.state.jobs ≡ Some task
+        → task_of n after.own.lone.state.jobs ≡ Some other → other ≡ task }
 {}
 
 /// Where none of an instance's events and none of its parent's is recorded as refused for want of

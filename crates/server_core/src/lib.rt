@@ -10,7 +10,8 @@ mod server;
 mod whole_run;
 
 pub use laws::{
-    a_parent_is_by_itself, a_run_keeps_its_limits, equal_events_give_equal_outputs,
+    a_job_keeps_its_task, a_parent_is_by_itself, a_run_keeps_its_limits,
+    equal_events_give_equal_outputs, what_is_held_is_what_instances_have,
     without_a_parent_it_is_by_itself, without_refusals_of_memory_it_is_alone,
 };
 pub use orders::{OrderedAt, RunOrder, RunTask, TaskText};

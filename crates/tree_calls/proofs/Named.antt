@@ -160,17 +160,17 @@ result_ok : (o : Option (List ℕ)) (t : List ℕ) → or_no_result o ≡ Ok t �
 result_ok None t h = absurd (cc)
 result_ok (Some u) t h = cc
 
+-- what is found is stored, and complete
+pub result_found : (look : Lookup) (action : Digest) (results : List Blob) (text : List ℕ) → result_for look action results ≡ Some text → (lookup (same_digest action) results ≡ Some text) × IsComplete look text
+result_found look action results text h =
+    let b = some_then (blobs_for look action results) (λ (all : List Digest). lookup (same_digest action) results) text h in
+    let s = some_then (lookup (same_digest action) results) (blobs_of look) b.0 b.1 in
+    let same_text : s.0 ≡ text = let x = s.1 in let y = b.2 in cc in
+    (b.2, subst (IsComplete look) same_text (is_complete look s.0 b.0 s.2))
+
 pub result_complete : (own : List ℕ) (visible results : List Blob) (request reply : List ℕ) → get_action_result_reply own visible results request ≡ Ok reply → IsCompleteReply own visible results request reply
 result_complete own visible results request reply h =
     let look = texts_seen visible in
     let a = bind_ok (action_asked own request) (λ action. or_no_result (result_for look action results)) reply h in
-    let found = result_ok (result_for look a.0 results) reply a.2 in
-    let b = some_then (blobs_for look a.0 results) (λ (all : List Digest). lookup (same_digest a.0) results) reply found in
-    let s = some_then (lookup (same_digest a.0) results) (blobs_of look) b.0 b.1 in
-    let same_text : s.0 ≡ reply = let x = s.1 in let y = b.2 in cc in
-    record {
-      action = a.0;
-      is_asked = a.1;
-      is_stored = b.2;
-      complete = subst (IsComplete look) same_text (is_complete look s.0 b.0 s.2);
-    }
+    let found = result_found look a.0 results reply (result_ok (result_for look a.0 results) reply a.2) in
+    record { action = a.0; is_asked = a.1; is_stored = found.0; complete = found.1 }

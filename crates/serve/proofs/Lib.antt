@@ -5,3 +5,6 @@ mod Beginning
 mod Ticks
 mod Silence
 mod Numbers
+mod Logs
+mod Written
+mod Did

@@ -9,8 +9,8 @@ use Rattle.std.proofs.lemmas.List.Elements.{Contains-append_left, Contains-appen
 use Rattle.std.proofs.lemmas.List.Folds.{list_any-append, list_any_at}
 use Rattle.serve.specs.declared.open_socket.OpenSocket.{OpenSocket}
 use Rattle.serve.specs.declared.sockets.Socket.{Socket}
-use Rattle.serve.specs.SocketEvents.{SocketEvent, PortEvent, clock, port, accepted, shut, Adds}
-use Rattle.serve.specs.Numbers.{NumbersAreApart, AreAmong, AreOpenAt, StayOpen, StayOpenBut, IsNext, HasOpen, is_taken, sockets_of}
+use Rattle.serve.specs.SocketEvents.{SocketEvent, PortEvent, clock, port, accepted, shut, Adds, AddsAll}
+use Rattle.serve.specs.Numbers.{AreWithin, NumbersAreApart, AreAmong, AreOpenAt, StayOpen, StayOpenBut, IsNext, HasOpen, is_taken, sockets_of}
 
 -- ---- one more that happened
 
@@ -66,19 +66,31 @@ more h x sockets next follows was = (
       ]),
 )
 
+on_known : (old new : Option (List SocketEvent)) (x : SocketEvent) (sockets next : List Socket) → AddsAll old new (x ∷ []) → Follows x sockets next → AreOpenAt sockets old → AreOpenAt next new
+on_known None new x sockets next adds follows was = subst (λ (o : Option (List SocketEvent)). AreOpenAt next o) (sym adds) tt
+on_known (Some h) new x sockets next adds follows was = subst (λ (o : Option (List SocketEvent)). AreOpenAt next o) (sym adds) (more h x sockets next follows was)
+
 on : (old new : Option (List SocketEvent)) (x : SocketEvent) (sockets next : List Socket) → Adds old new (x ∷ []) → Follows x sockets next → AreOpenAt sockets old → AreOpenAt next new
-on None new x sockets next adds follows was = subst (λ (o : Option (List SocketEvent)). AreOpenAt next o) (sym adds) tt
-on (Some h) new x sockets next adds follows was = subst (λ (o : Option (List SocketEvent)). AreOpenAt next o) (sym adds) (more h x sockets next follows was)
+on old new x sockets next adds follows was = elim adds [
+  | inl lost ↦ subst (λ (o : Option (List SocketEvent)). AreOpenAt next o) (sym lost) tt
+  | inr all ↦ on_known old new x sockets next all follows was
+]
 
 -- nothing happened
+none_known : (old new : Option (List SocketEvent)) (sockets : List Socket) → AddsAll old new [] → AreOpenAt sockets old → AreOpenAt sockets new
+none_known None new sockets adds was = subst (λ (o : Option (List SocketEvent)). AreOpenAt sockets o) (sym adds) tt
+none_known (Some h) new sockets adds was = subst (λ (o : Option (List SocketEvent)). AreOpenAt sockets o) (sym (adds ∙ ap Some (append-nil h))) was
+
 none_opens : (old new : Option (List SocketEvent)) (sockets : List Socket) → Adds old new [] → AreOpenAt sockets old → AreOpenAt sockets new
-none_opens None new sockets adds was = subst (λ (o : Option (List SocketEvent)). AreOpenAt sockets o) (sym adds) tt
-none_opens (Some h) new sockets adds was = subst (λ (o : Option (List SocketEvent)). AreOpenAt sockets o) (sym (adds ∙ ap Some (append-nil h))) was
+none_opens old new sockets adds was = elim adds [
+  | inl lost ↦ subst (λ (o : Option (List SocketEvent)). AreOpenAt sockets o) (sym lost) tt
+  | inr all ↦ none_known old new sockets all was
+]
 
 -- nothing happens
 pub no_event : (known : Option (List SocketEvent)) → Adds known known []
-no_event None = refl
-no_event (Some h) = ap Some (sym (append-nil h))
+no_event None = inr refl
+no_event (Some h) = inr (ap Some (sym (append-nil h)))
 
 pub rested : (old new : Option (List SocketEvent)) (sockets : List Socket) (next : Option ℕ) → Adds old new [] → HasOpen sockets next old → HasOpen sockets next new
 rested old new sockets next adds has = record { at_sockets = none_opens old new sockets adds has.at_sockets; free = has.free }
@@ -229,6 +241,39 @@ same_sockets cs k c d is same =
     let f : OpenSocket → Socket = λ x. x.socket in
     map-set f cs k d ∙ ap (λ (s : Socket). set (sockets_of cs) k s) same ∙ sym (map-set f cs k c)
     ∙ ap sockets_of (ap (λ (x : OpenSocket). set cs k x) is ∙ set-get_or cs k c)
+
+-- ---- of one of so many instances
+
+within_parts : (count : ℕ) (before after : List Socket) (s : Socket) → AreWithin count (before ++ s ∷ after) → (s.instance < count) × AreWithin count (before ++ after)
+within_parts count [] after s all = (all.0, all.1)
+within_parts count (x ∷ before) after s all =
+    let rest = within_parts count before after s all.1 in
+    (rest.0, (all.0, rest.1))
+
+within_push : (count : ℕ) (sockets : List Socket) (s : Socket) → s.instance < count → AreWithin count sockets → AreWithin count (sockets ++ s ∷ [])
+within_push count [] s lt all = (lt, tt)
+within_push count (x ∷ sockets) s lt all = (all.0, within_push count sockets s lt all.1)
+
+pub within_at : (count : ℕ) (cs : List OpenSocket) (k : ℕ) (c : OpenSocket) → k < length cs → c ≡ get_or cs k c → AreWithin count (sockets_of cs) → c.socket.instance < count
+within_at count cs k c lt is all =
+    (within_parts count (sockets_of (take k cs)) (sockets_of (drop (k + 1) cs)) c.socket (subst (λ (l : List Socket). AreWithin count l) (parted cs k c lt is) all)).0
+
+pub within_less : (count : ℕ) (cs left : List OpenSocket) (k : ℕ) (c : OpenSocket) → k < length cs → c ≡ get_or cs k c → left ≡ take k cs ++ drop (k + 1) cs → AreWithin count (sockets_of cs) → AreWithin count (sockets_of left)
+within_less count cs left k c lt is rest all =
+    subst (λ (l : List Socket). AreWithin count l) (sym (ap sockets_of rest ∙ joined cs k))
+    (within_parts count (sockets_of (take k cs)) (sockets_of (drop (k + 1) cs)) c.socket (subst (λ (l : List Socket). AreWithin count l) (parted cs k c lt is) all)).1
+
+pub within_same : (count : ℕ) (cs ds : List OpenSocket) → sockets_of ds ≡ sockets_of cs → AreWithin count (sockets_of cs) → AreWithin count (sockets_of ds)
+within_same count cs ds same all = subst (λ (l : List Socket). AreWithin count l) (sym same) all
+
+pub within_more : (count : ℕ) (cs held ds : List OpenSocket) (c : OpenSocket) (s : Socket) → held ≡ cs → ds ≡ held ++ c ∷ [] → c.socket ≡ s → s.instance < count → AreWithin count (sockets_of cs) → AreWithin count (sockets_of ds)
+within_more count cs held ds c s reserved is same lt all =
+    let f : OpenSocket → Socket = λ x. x.socket in
+    let whole : sockets_of ds ≡ sockets_of cs ++ s ∷ [] = ap sockets_of is ∙ map-append f held (c ∷ []) ∙ ap (λ (l : List OpenSocket). sockets_of l ++ c.socket ∷ []) reserved ∙ ap (λ (t : Socket). sockets_of cs ++ t ∷ []) same in
+    subst (λ (l : List Socket). AreWithin count l) (sym whole) (within_push count (sockets_of cs) s lt all)
+
+pub within_none : (count : ℕ) (cs : List OpenSocket) → cs ≡ [] → AreWithin count (sockets_of cs)
+within_none count cs none = subst (λ (l : List OpenSocket). AreWithin count (sockets_of l)) (sym none) tt
 
 pub apart : (known : Option (List SocketEvent)) (sockets : List Socket) (next : Option ℕ) → HasOpen sockets next known → IfSome known NumbersAreApart
 apart None sockets next has = tt

@@ -1,6 +1,6 @@
 -- One instance after another is told the time.
-use Rattle.std.proofs.Common.{◌≡◌, ℕ, zero, ◌+◌, ◌≤◌, List, [], ◌∷◌, ◌++◌, map, length, refl, ap, ◌∙◌, sym, subst, arith, add-one, append-nil, append_assoc}
-use Rattle.std.specs.Prelude.{suc, Option, Some, None, IfSome}
+use Rattle.std.proofs.Common.{◌≡◌, ℕ, zero, ◌+◌, ◌<◌, ◌≤◌, List, [], ◌∷◌, ◌++◌, map, length, refl, ap, ◌∙◌, sym, subst, arith, inl, inr, add-one, append-nil, append_assoc}
+use Rattle.std.specs.Prelude.{suc, false, Option, Some, None, IfSome}
 use Rattle.std.specs.Option.{option_map}
 use Rattle.std.specs.List.{range_with_len}
 use Rattle.std.proofs.lemmas.Grind.{flat_map-append}
@@ -9,13 +9,13 @@ use Rattle.std.proofs.lemmas.List.Sums.{fold_push}
 use Rattle.server_events.specs.Configs.{ConfigValue, parent_of}
 use Rattle.server_events.specs.Events.{EventValue, tick}
 use Rattle.server_core.specs.Families.{family_in}
-use Rattle.server_core.specs.StandsFor.{ServerState}
-use Rattle.serve.specs.SocketEvents.{SocketEvent, clock, moment_after, moment_of, Adds}
+use Rattle.serve.specs.declared.carrying.Counting.{Counting}
+use Rattle.serve.specs.SocketEvents.{SocketEvent, clock, moment_after, moment_of, Adds, AddsAll}
 use Rattle.serve.specs.RunEvents.{RunEvent, ordered}
-use Rattle.serve.specs.Happenings.{Happening, at_sockets, told, at_runs, all_told, all_timed, with_times, moment_behind}
-use Rattle.serve.specs.Served.{IsServerAt, IsServing, TakesEvent}
+use Rattle.serve.specs.Happenings.{Happening, MarkedHappening, at_sockets, told, ran, unmarked, cuts, all_told, all_timed, with_times, moment_behind}
+use Rattle.serve.specs.Served.{IsCount, IsServerAt, IsServing, TakesEvent}
 use Rattle.serve.proofs.Happenings.{AreOf, parts_of, parts_on, parts_ordered, moment_more, moment_together}
-use Rattle.serve.proofs.Keeps.{AllServing, each_more, event_told, none_serves, told_for}
+use Rattle.serve.proofs.Keeps.{AllServing, counted_more, still_lost, each_more, event_told, none_serves, told_for}
 use Rattle.serve.proofs.Lending.{clock_for, nobody_more}
 
 -- so many instances were told the time
@@ -23,16 +23,17 @@ abbrev told_so_far : ℕ → List Happening
 told_so_far k = map told (range_with_len 0 k)
 
 -- the clock showed n, the instances before number k were told it, and what they ordered was carried out
-pub record HasTicked (configs : List ConfigValue) (sockets : List SocketEvent) (runs : List RunEvent) (n k : ℕ) (server : ServerState) (now : Option (List RunEvent)) : Type 0 where
-  pub h : List Happening
+pub record HasTicked (configs : List ConfigValue) (sockets : List SocketEvent) (runs : List RunEvent) (n k : ℕ) (server : Counting) (now : Option (List RunEvent)) : Type 0 where
+  pub h : List MarkedHappening
   pub more : List RunEvent
-  pub parts : AreOf (all_timed (length configs) sockets ++ at_sockets (clock n) ∷ told_so_far k) (runs ++ more) h
+  pub parts : AreOf (length configs) (all_timed (length configs) sockets ++ at_sockets (clock n) ∷ told_so_far k) (runs ++ more) h
   pub runs_now : now ≡ Some (runs ++ more)
-  pub all : AllServing configs h server
+  pub counted : IsCount (cuts h) server.cut
+  pub all : AllServing configs h server.server
   pub moment : moment_behind h ≡ n
 
-abbrev pub IsTicking : List ConfigValue → Option (List SocketEvent) → Option (List RunEvent) → ℕ → ℕ → ServerState → Option (List RunEvent) → Type 0
-IsTicking configs known was n k server now = IfSome known (λ s. IfSome was (λ r. HasTicked configs s r n k server now))
+abbrev pub IsTicking : List ConfigValue → Option (List SocketEvent) → Option (List RunEvent) → ℕ → ℕ → Counting → Option (List RunEvent) → Type 0
+IsTicking configs known was n k server now = IfSome known (λ s. IfSome was (λ r. IfSome now (λ x. HasTicked configs s r n k server now)))
 
 -- the clock shows no less than it did
 abbrev pub Rises : Option (List SocketEvent) → ℕ → Type 0
@@ -42,26 +43,27 @@ Rises known n = IfSome known (λ h. moment_of h ≤ n)
 abbrev pub StaysUnknown : Option (List RunEvent) → Option (List RunEvent) → Type 0
 StaysUnknown was now = was ≡ None → now ≡ None
 
-pub still_unknown : (was before after : Option (List RunEvent)) (e : EventValue) (server next : ServerState) → TakesEvent e server next before after → StaysUnknown was before → StaysUnknown was after
-still_unknown was before after e server next t unknown = λ is. t.carried ∙ ap (option_map (λ (x : List RunEvent). x ++ map (ordered e.instance) t.orders)) (unknown is)
+pub still_unknown : (was before after : Option (List RunEvent)) (e : EventValue) (server next : Counting) → TakesEvent e server next before after → StaysUnknown was before → StaysUnknown was after
+still_unknown was before after e server next t unknown = λ is. still_lost before after (map (ordered e.instance) t.orders) (unknown is) t.carried
 
 -- ---- the clock is read
 
-clock_moment : (h : List Happening) (n : ℕ) → moment_behind (h ++ at_sockets (clock n) ∷ []) ≡ n
-clock_moment h n = moment_more h (at_sockets (clock n)) []
+clock_moment : (h : List MarkedHappening) (n : ℕ) → moment_behind (h ++ unmarked (at_sockets (clock n)) ∷ []) ≡ n
+clock_moment h n = moment_more h (unmarked (at_sockets (clock n))) []
 
-pub none_ticked : (configs : List ConfigValue) (known : Option (List SocketEvent)) (was : Option (List RunEvent)) (server : ServerState) (m n : ℕ) → Rises known n → IsServing configs known was server m → IsTicking configs known was n 0 server was
+pub none_ticked : (configs : List ConfigValue) (known : Option (List SocketEvent)) (was : Option (List RunEvent)) (server : Counting) (m n : ℕ) → Rises known n → IsServing configs known was server m → IsTicking configs known was n 0 server was
 none_ticked configs None was server m n rises at = tt
 none_ticked configs (Some s) None server m n rises at = tt
 none_ticked configs (Some s) (Some r) server m n rises at =
     let count : ℕ = length configs in
     let late : moment_behind at.h ≤ n = subst (λ (k : ℕ). k ≤ n) (sym (moment_together count s r at.h at.together)) rises in
     record {
-      h = at.h ++ at_sockets (clock n) ∷ [];
+      h = at.h ++ unmarked (at_sockets (clock n)) ∷ [];
       more = [];
-      parts = parts_on (all_timed count s) (at_sockets (clock n) ∷ []) r [] at.h (at_sockets (clock n) ∷ []) (parts_of count s r at.h at.together) (record { timed_so = refl; runs_so = refl });
+      parts = parts_on count (all_timed count s) (at_sockets (clock n) ∷ []) r [] at.h (unmarked (at_sockets (clock n)) ∷ []) (parts_of count s r at.h at.together) (record { timed_so = refl; runs_so = refl; of_these = (refl, tt) });
+      counted = counted_more at.h (at_sockets (clock n)) false [] server.cut server.cut refl at.counted;
       runs_now = ap Some (sym (append-nil r));
-      all = record { parents = at.parents; each = λ i config is. nobody_more (family_in configs config) i (parent_of configs config) at.h server.instances (at_sockets (clock n)) (clock_for n) late (λ m j l stands before. tt) (at.each i config is) };
+      all = record { parents = at.parents; each = λ i config is. nobody_more (family_in configs config) i (parent_of configs config) at.h server.server.instances (at_sockets (clock n)) (clock_for n) late (λ m j l stands before. tt) (at.each i config is) };
       moment = clock_moment at.h n;
     }
 
@@ -79,34 +81,48 @@ told_more k =
     ∙ ap (λ (x : ℕ). map told (range_with_len 0 k ++ x ∷ [])) (omega arith)
     ∙ ap (map told) (range_more 0 k ∙ ap (range_with_len 0) (sym (add-one k)))
 
-pub one_ticked : (configs : List ConfigValue) (known : Option (List SocketEvent)) (was before after : Option (List RunEvent)) (n k : ℕ) (server next : ServerState) → TakesEvent (event_told n k tick) server next before after → IsTicking configs known was n k server before → IsTicking configs known was n (k + 1) next after
-one_ticked configs None was before after n k server next t so = tt
-one_ticked configs (Some s) None before after n k server next t so = tt
-one_ticked configs (Some s) (Some r) before after n k server next t so =
+known_ticked : (configs : List ConfigValue) (s : List SocketEvent) (r b : List RunEvent) (after : Option (List RunEvent)) (n k : ℕ) (server next : Counting) → k < length configs → (so : HasTicked configs s r n k server (Some b)) → (moved : TakesEvent (event_told (moment_behind so.h) k tick) server next (Some b) after) → HasTicked configs s r n (k + 1) next (Some (b ++ map (ordered k) moved.orders))
+known_ticked configs s r b after n k server next lt so moved =
     let count : ℕ = length configs in
-    let moved : TakesEvent (event_told (moment_behind so.h) k tick) server next before after = subst (λ (m : ℕ). TakesEvent (event_told m k tick) server next before after) (sym so.moment) t in
     let orders : List RunEvent = map (ordered k) moved.orders in
+    let y : MarkedHappening = (told k, moved.marked) in
     let timed : List Happening = all_timed count s ++ at_sockets (clock n) ∷ told_so_far k in
-    let parts : AreOf (timed ++ told k ∷ []) ((r ++ so.more) ++ orders) (so.h ++ told k ∷ map at_runs orders) =
-    parts_on timed (told k ∷ []) (r ++ so.more) orders so.h (told k ∷ map at_runs orders) so.parts (parts_ordered (told k ∷ []) [] orders (told k) (record { timed_so = refl; runs_so = refl })) in
+    let one : AreOf count (told k ∷ []) [] (y ∷ []) = record { timed_so = refl; runs_so = refl; of_these = (lt, tt) } in
+    let parts : AreOf count (timed ++ told k ∷ []) ((r ++ so.more) ++ orders) (so.h ++ y ∷ map ran orders) =
+    parts_on count timed (told k ∷ []) (r ++ so.more) orders so.h (y ∷ map ran orders) so.parts (parts_ordered count k (told k ∷ []) [] moved.orders y lt one) in
     let longer : timed ++ told k ∷ [] ≡ all_timed count s ++ at_sockets (clock n) ∷ told_so_far (k + 1) =
     append_assoc (all_timed count s) (at_sockets (clock n) ∷ told_so_far k) (told k ∷ [])
     ∙ ap (λ (xs : List Happening). all_timed count s ++ at_sockets (clock n) ∷ xs) (told_more k) in
     record {
-      h = so.h ++ told k ∷ map at_runs orders;
+      h = so.h ++ y ∷ map ran orders;
       more = so.more ++ orders;
-      parts = record { timed_so = parts.timed_so ∙ longer; runs_so = parts.runs_so ∙ append_assoc r so.more orders };
-      runs_now = moved.carried ∙ ap (option_map (λ (x : List RunEvent). x ++ orders)) so.runs_now ∙ ap Some (append_assoc r so.more orders);
-      all = each_more configs so.h server next before after k tick (told k) (told_for k) moved so.all.parents (λ m j l stands late. tt) so.all;
-      moment = moment_more so.h (told k) orders ∙ so.moment;
+      parts = record { timed_so = parts.timed_so ∙ longer; runs_so = parts.runs_so ∙ append_assoc r so.more orders; of_these = parts.of_these };
+      runs_now = ap (option_map (λ (x : List RunEvent). x ++ orders)) so.runs_now ∙ ap Some (append_assoc r so.more orders);
+      counted = counted_more so.h (told k) moved.marked orders server.cut next.cut moved.counted so.counted;
+      all = each_more configs so.h server next (Some b) after k tick (told k) (told_for k) moved so.all.parents (λ m j l stands late. tt) so.all;
+      moment = moment_more so.h y orders ∙ so.moment;
     }
+
+pub one_ticked : (configs : List ConfigValue) (known : Option (List SocketEvent)) (was before after : Option (List RunEvent)) (n k : ℕ) (server next : Counting) → k < length configs → TakesEvent (event_told n k tick) server next before after → IsTicking configs known was n k server before → IsTicking configs known was n (k + 1) next after
+one_ticked configs None was before after n k server next lt t so = tt
+one_ticked configs (Some s) None before after n k server next lt t so = tt
+one_ticked configs (Some s) (Some r) None after n k server next lt t so =
+    subst (λ (o : Option (List RunEvent)). IsTicking configs (Some s) (Some r) n (k + 1) next o) (sym (still_lost None after (map (ordered k) t.orders) refl t.carried)) tt
+one_ticked configs (Some s) (Some r) (Some b) after n k server next lt t so =
+    let moved : TakesEvent (event_told (moment_behind so.h) k tick) server next (Some b) after = subst (λ (m : ℕ). TakesEvent (event_told m k tick) server next (Some b) after) (sym so.moment) t in
+    let Ticking : Option (List RunEvent) → Type 0 = λ o. IsTicking configs (Some s) (Some r) n (k + 1) next o in
+    elim moved.carried [
+      | inl lost ↦ subst Ticking (sym lost) tt
+      | inr all ↦ subst Ticking (sym all) (known_ticked configs s r b after n k server next lt so moved)
+    ]
 
 -- ---- all were told
 
-pub all_ticked : (configs : List ConfigValue) (known new : Option (List SocketEvent)) (was now : Option (List RunEvent)) (n k : ℕ) (server : ServerState) → Adds known new (clock n ∷ []) → StaysUnknown was now → length configs ≡ k → IsTicking configs known was n k server now → IsServing configs new now server n
-all_ticked configs None new was now n k server adds unknown all so = subst (λ (o : Option (List SocketEvent)). IsServing configs o now server n) (sym adds) tt
-all_ticked configs (Some s) new None now n k server adds unknown all so = subst (λ (o : Option (List RunEvent)). IsServing configs new o server n) (sym (unknown refl)) (none_serves configs new server n)
-all_ticked configs (Some s) new (Some r) now n k server adds unknown all so =
+known_all : (configs : List ConfigValue) (known new : Option (List SocketEvent)) (was now : Option (List RunEvent)) (n k : ℕ) (server : Counting) → AddsAll known new (clock n ∷ []) → StaysUnknown was now → length configs ≡ k → IsTicking configs known was n k server now → IsServing configs new now server n
+known_all configs None new was now n k server adds unknown all so = subst (λ (o : Option (List SocketEvent)). IsServing configs o now server n) (sym adds) tt
+known_all configs (Some s) new None now n k server adds unknown all so = subst (λ (o : Option (List RunEvent)). IsServing configs new o server n) (sym (unknown refl)) (none_serves configs new server n)
+known_all configs (Some s) new (Some r) None n k server adds unknown all so = none_serves configs new server n
+known_all configs (Some s) new (Some r) (Some b) n k server adds unknown all so =
     let count : ℕ = length configs in
     let timed : all_timed count s ++ at_sockets (clock n) ∷ told_so_far k ≡ all_timed count (s ++ clock n ∷ []) =
     ap (λ (x : ℕ). all_timed count s ++ at_sockets (clock n) ∷ told_so_far x) (sym all)
@@ -114,10 +130,17 @@ all_ticked configs (Some s) new (Some r) now n k server adds unknown all so =
     ∙ sym (flat_map-append (with_times count) s (clock n ∷ [])) in
     let at : IsServerAt configs (s ++ clock n ∷ []) (r ++ so.more) server n = record {
       h = so.h;
-      together = record { at_sockets_so = so.parts.timed_so ∙ timed; at_runs_so = so.parts.runs_so };
+      together = record { at_sockets_so = so.parts.timed_so ∙ timed; at_runs_so = so.parts.runs_so; of_these = so.parts.of_these };
+      counted = so.counted;
       parents = so.all.parents;
       each = so.all.each;
       moment = sym (fold_push moment_after 0 s (clock n));
     } in
-    subst (λ (o : Option (List SocketEvent)). IsServing configs o now server n) (sym adds)
+    subst (λ (o : Option (List SocketEvent)). IsServing configs o (Some b) server n) (sym adds)
     (subst (λ (o : Option (List RunEvent)). IsServing configs (Some (s ++ clock n ∷ [])) o server n) (sym so.runs_now) at)
+
+pub all_ticked : (configs : List ConfigValue) (known new : Option (List SocketEvent)) (was now : Option (List RunEvent)) (n k : ℕ) (server : Counting) → Adds known new (clock n ∷ []) → StaysUnknown was now → length configs ≡ k → IsTicking configs known was n k server now → IsServing configs new now server n
+all_ticked configs known new was now n k server adds unknown all so = elim adds [
+  | inl lost ↦ subst (λ (o : Option (List SocketEvent)). IsServing configs o now server n) (sym lost) tt
+  | inr added ↦ known_all configs known new was now n k server added unknown all so
+]

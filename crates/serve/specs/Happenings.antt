@@ -1,6 +1,6 @@
 -- What happens to a server: at its sockets and at the runs of its jobs, and that instances are told
 -- the time, in one order; and which event of it an instance is given.
-use Rattle.std.specs.Prelude.{ℕ, ◌==◌, if◌then◌else◌, List, [], ◌∷◌, map, fold, Option, Some, None}
+use Rattle.std.specs.Prelude.{◌≡◌, ◌<◌, ℕ, ◌==◌, ◌+◌, if◌then◌else◌, Bool, true, false, List, [], ◌∷◌, map, fold, Option, Some, None}
 use Rattle.std.specs.List.{filter_map, flat_map, range_with_len}
 use Rattle.server_events.specs.Events.{EventValue, WhatValue, tick, ended}
 use Rattle.serve.specs.SocketEvents.{SocketEvent, clock, port, what_of, moment_after}
@@ -12,22 +12,49 @@ pub data Happening : Type 0 where
   told : ℕ → Happening
   at_runs : RunEvent → Happening
 
+-- .. and whether it is marked: memory was refused in it to the instance whose event it is
+abbrev pub MarkedHappening : Type 0
+MarkedHappening = Happening × Bool
+
+abbrev pub unmarked : Happening → MarkedHappening
+unmarked x = (x, false)
+
+abbrev pub ran : RunEvent → MarkedHappening
+ran r = (at_runs r, false)
+
 -- what of it happened at the runs, and what not
-abbrev pub run_event : Happening → Option RunEvent
-run_event (at_sockets s) = None
-run_event (told i) = None
-run_event (at_runs r) = Some r
+abbrev pub run_event : MarkedHappening → Option RunEvent
+run_event (at_sockets s, b) = None
+run_event (told i, b) = None
+run_event (at_runs r, b) = Some r
 
-abbrev pub timed_event : Happening → Option Happening
-timed_event (at_sockets s) = Some (at_sockets s)
-timed_event (told i) = Some (told i)
-timed_event (at_runs r) = None
+abbrev pub timed_event : MarkedHappening → Option Happening
+timed_event (at_sockets s, b) = Some (at_sockets s)
+timed_event (told i, b) = Some (told i)
+timed_event (at_runs r, b) = None
 
-abbrev pub run_events : List Happening → List RunEvent
+abbrev pub run_events : List MarkedHappening → List RunEvent
 run_events h = filter_map run_event h
 
-abbrev pub timed_events : List Happening → List Happening
+abbrev pub timed_events : List MarkedHappening → List Happening
 timed_events h = filter_map timed_event h
+
+-- how many are marked
+abbrev pub cut_on : ℕ → MarkedHappening → ℕ
+cut_on n (x, true) = n + 1
+cut_on n (x, false) = n
+
+abbrev pub cuts : List MarkedHappening → ℕ
+cuts h = fold cut_on 0 h
+
+-- what happens is of one of so many instances, and where it is no event of it, it is not marked
+abbrev pub IsOfOne : ℕ → MarkedHappening → Type 0
+IsOfOne count (at_sockets (clock n), b) = b ≡ false
+IsOfOne count (at_sockets (port j p), b) = j < count
+IsOfOne count (told j, b) = j < count
+IsOfOne count (at_runs (ordered j o), b) = (j < count) × (b ≡ false)
+IsOfOne count (at_runs (lent j job task), b) = (j < count) × (b ≡ false)
+IsOfOne count (at_runs (gave j job outcome), b) = j < count
 
 -- each of so many instances, in order
 abbrev pub all_told : ℕ → List Happening
@@ -49,8 +76,11 @@ moment_then m (at_sockets s) = moment_after m s
 moment_then m (told i) = m
 moment_then m (at_runs r) = m
 
-abbrev pub moment_behind : List Happening → ℕ
-moment_behind h = fold moment_then 0 h
+abbrev pub moment_on : ℕ → MarkedHappening → ℕ
+moment_on m x = moment_then m x.0
+
+abbrev pub moment_behind : List MarkedHappening → ℕ
+moment_behind h = fold moment_on 0 h
 
 -- ---- an instance's own events
 

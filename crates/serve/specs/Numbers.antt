@@ -1,7 +1,7 @@
 -- Numbers of connections: under one number an instance's port has one connection at a time. To be
 -- read from `NumbersAreApart` down.
-use Rattle.std.specs.Prelude.{◌≡◌, ◌≢◌, ◌==◌, ◌⊎◌, ℕ, Bool, false, List, ◌∷◌, ◌++◌, map, Contains, Option, IfSome}
-use Rattle.std.specs.List.{list_any}
+use Rattle.std.specs.Prelude.{◌≡◌, ◌≢◌, ◌<◌, ◌==◌, ◌⊎◌, ℕ, Bool, false, List, ◌∷◌, ◌++◌, map, Contains, Option, IfSome}
+use Rattle.std.specs.List.{AllByRecursion, list_any}
 use Rattle.serve.specs.declared.exchange.Tried.{Tried}
 use Rattle.serve.specs.declared.exchange.Tried.TheVariants.{Moved, NotReady, Over}
 use Rattle.serve.specs.declared.open_socket.OpenSocket.{OpenSocket}
@@ -49,6 +49,10 @@ StayOpenUnless NotReady at old new = StayOpen old new
 
 abbrev pub sockets_of : List OpenSocket → List Socket
 sockets_of connections = map (λ c. c.socket) connections
+
+-- each is of one of so many instances
+abbrev pub AreWithin : ℕ → List Socket → Type 0
+AreWithin count sockets = AllByRecursion (λ s. s.instance < count) sockets
 
 -- whether one of them has this number, at whichever instance
 abbrev pub is_taken : ℕ → List Socket → Bool

@@ -1,12 +1,14 @@
 -- What happens at the runs of jobs.
-use Rattle.std.specs.Prelude.{◌≡◌, ℕ, List, [], ◌∷◌, ◌++◌, Option, Some, None, Result, Ok, Err}
+use Rattle.std.specs.Prelude.{◌≡◌, ◌⊎◌, ℕ, List, [], ◌∷◌, ◌++◌, Option, Some, None, IfSome, Result, Ok, Err}
 use Rattle.std.specs.Option.{option_map}
 use Rattle.outcomes.specs.declared.outcome.Outcome.{Outcome}
 use Rattle.outcomes.specs.Outcomes.{OutcomeValue, failed}
 use Rattle.outcomes.specs.Shown.{outcome_shown}
+use Rattle.runner.specs.declared.fault.RunFault.{RunFault}
+use Rattle.runner.specs.declared.fault.RunFault.TheVariants.{Left}
 use Rattle.runner.specs.declared.task.RunKey.{RunKey}
 use Rattle.executor.specs.Job.{TaskValue}
-use Rattle.executor.specs.Orders.{OrderValue}
+use Rattle.executor.specs.Orders.{OrderValue, start}
 use Rattle.server_core.specs.declared.server.LentTask.{LentTask}
 use Rattle.server_core.specs.Lent.{lent_shown}
 
@@ -22,17 +24,36 @@ abbrev pub gave_events : RunKey → Option Outcome → List RunEvent
 gave_events run None = []
 gave_events run (Some o) = gave run.instance run.job (outcome_shown o) ∷ []
 
--- what a question gave, by its answer: a fault is the outcome of a job that failed
-abbrev pub outcome_events : {E : Type 0} → RunKey → Result (Option Outcome) E → List RunEvent
+-- a fault is the outcome of a job that failed; that its folder is left is none, as its job has ended
+abbrev pub fault_events : RunKey → RunFault → List RunEvent
+fault_events run Left = []
+fault_events run fault = gave run.instance run.job failed ∷ []
+
+-- what a question gave, by its answer
+abbrev pub outcome_events : RunKey → Result (Option Outcome) RunFault → List RunEvent
 outcome_events run (Ok o) = gave_events run o
-outcome_events run (Err e) = gave run.instance run.job failed ∷ []
+outcome_events run (Err fault) = fault_events run fault
 
 -- what a question adds: a task is lent with it, or none
-abbrev pub asked_events : {E : Type 0} → RunKey → Option LentTask → Result (Option Outcome) E →
-    List RunEvent
+abbrev pub asked_events : RunKey → Option LentTask → Result (Option Outcome) RunFault → List RunEvent
 asked_events run task answer =
     lent run.instance run.job (option_map lent_shown task) ∷ outcome_events run answer
 
--- where it is known what happened, this happened next
+-- the run of a job was begun
+pub record IsBegun (run : RunKey) (h : List RunEvent) : Type 0 where
+  pub task : TaskValue
+  pub before : List RunEvent
+  pub after : List RunEvent
+  pub whole : h ≡ before ++ ordered run.instance (start run.job task) ∷ after
+
+-- .. where it is known what happened
+abbrev pub WasBegun : RunKey → Option (List RunEvent) → Type 0
+WasBegun run known = IfSome known (IsBegun run)
+
+-- this happened next
+abbrev pub AddsAllRuns : Option (List RunEvent) → Option (List RunEvent) → List RunEvent → Type 0
+AddsAllRuns before after more = after ≡ option_map (λ h. h ++ more) before
+
+-- where it is known then what happened, it was known before, and this happened next
 abbrev pub AddsRuns : Option (List RunEvent) → Option (List RunEvent) → List RunEvent → Type 0
-AddsRuns before after more = after ≡ option_map (λ h. h ++ more) before
+AddsRuns before after more = (after ≡ None) ⊎ AddsAllRuns before after more

@@ -1,5 +1,5 @@
 -- What happens at the sockets of a server, and which event of its instance it is.
-use Rattle.std.specs.Prelude.{◌≡◌, ℕ, List, [], ◌∷◌, ◌++◌, length, take, fold, Option, Result, Ok, Err, ⊤}
+use Rattle.std.specs.Prelude.{◌≡◌, ◌⊎◌, ℕ, List, [], ◌∷◌, ◌++◌, length, take, fold, Option, None, Result, Ok, Err, ⊤}
 use Rattle.std.specs.Option.{option_map}
 use Rattle.server_events.specs.Events.{WhatValue, opened, received, took, closed}
 use Rattle.serve.specs.declared.sockets.Socket.{Socket}
@@ -35,9 +35,13 @@ write_events at (Err e) bytes = []
 abbrev pub shutdown_events : Socket → List SocketEvent
 shutdown_events at = port at.instance (shut at.connection) ∷ []
 
--- where it is known what happened, this happened next
+-- this happened next
+abbrev pub AddsAll : Option (List SocketEvent) → Option (List SocketEvent) → List SocketEvent → Type 0
+AddsAll before after more = after ≡ option_map (λ h. h ++ more) before
+
+-- where it is known then what happened, it was known before, and this happened next
 abbrev pub Adds : Option (List SocketEvent) → Option (List SocketEvent) → List SocketEvent → Type 0
-Adds before after more = after ≡ option_map (λ h. h ++ more) before
+Adds before after more = (after ≡ None) ⊎ AddsAll before after more
 
 -- ---- what it is to the instance of the port
 

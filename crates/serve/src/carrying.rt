@@ -2,7 +2,7 @@
 
 ghost use Rattle.std.specs.Prelude.{◌≡◌, ◌∷◌, []};
 ghost use Rattle.server_events.specs.Shown.{what_value};
-ghost use Rattle.serve.specs.Served.{AreCarriedOut, TakesEvent};
+ghost use Rattle.serve.specs.Served.{AreCarriedOut, TakesEvent, cut_after, is_for_memory};
 
 use crate::runs::Runs;
 use runner::RunKey;
@@ -38,11 +38,29 @@ fn carry_out<R: Runs>(server: &Server, runs: &mut R, instance: u32, orders: &[Or
     }
 }
 
+/// A server, and how many of its events were cut short.
+#[derive(Drop)]
+pub(crate) struct Counting {
+    pub(crate) server: Server,
+    /// How many events were carried out in part, for want of memory; or 2^64 - 1 where it were more.
+    pub(crate) cut: u64,
+}
+
+/// How many events were cut short, after one more that was refused.
+fn cut_with(cut: u64, refusal: EventRefusal) -> u64
+    ensures { result ≡ cut_after cut (is_for_memory refusal) }
+{
+    match refusal {
+        EventRefusal::NoMemory => cut.saturating_add(1),
+        _ => cut,
+    }
+}
+
 /// Tells the server what happens to an instance, and carries out what the instance orders. Where
 /// memory is refused for bytes that came, their connection is gone, and where it is refused as time
 /// goes on, or for an outcome, all are.
 pub(crate) fn tell<R: Runs>(
-    server: &mut Server,
+    counting: &mut Counting,
     runs: &mut R,
     moment: u64,
     instance: u32,
@@ -50,14 +68,21 @@ pub(crate) fn tell<R: Runs>(
 ) -> Result<(), EventRefusal>
     ensures takes { TakesEvent
         (record { moment = moment; instance = instance; what = what_value what })
-        server.old server.new (R.happened runs.old) (R.happened runs.new) }
+        counting.old counting.new (R.happened runs.old) (R.happened runs.new) }
 {
     let event = Event {
         moment,
         instance,
         what,
     };
-    let orders = server.step(event)?;
-    carry_out(server, runs, instance, &orders);
-    Ok(())
+    match counting.server.step(event) {
+        Ok(orders) => {
+            carry_out(&counting.server, runs, instance, &orders);
+            Ok(())
+        }
+        Err(refusal) => {
+            counting.cut = cut_with(counting.cut, refusal);
+            Err(refusal)
+        }
+    }
 }

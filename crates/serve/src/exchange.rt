@@ -2,9 +2,9 @@
 
 ghost use Rattle.std.specs.Prelude.{◌≡◌, ◌≤◌, length, take, IfOk};
 ghost use Rattle.serve.specs.Numbers.{StayOpen, StayOpenBut, StayOpenUnless};
-ghost use Rattle.serve.specs.Served.{KeepsServing};
+ghost use Rattle.serve.specs.Served.{KeepsServingAt};
 
-use crate::carrying::tell;
+use crate::carrying::{Counting, tell};
 use crate::open_socket::OpenSocket;
 use crate::runs::Runs;
 use crate::sockets::{Socket, Sockets, is_not_ready};
@@ -67,16 +67,16 @@ fn has_room(alloc: Global, room: &mut Vec<u8>) -> bool {
 /// anything is read: where memory is refused for it, the bytes wait at the socket.
 fn receive<S: Sockets, R: Runs>(
     alloc: Global,
-    server: &mut Server,
+    counting: &mut Counting,
     sockets: &mut S,
     runs: &mut R,
     moment: u64,
     opened: &mut OpenSocket,
     room: &mut Vec<u8>,
 ) -> Tried
-    ensures serving { KeepsServing
-        (S.happened sockets.old) (R.happened runs.old) server.old moment
-        (S.happened sockets.new) (R.happened runs.new) server.new moment }
+    ensures serving { KeepsServingAt opened.old.socket.instance
+        (S.happened sockets.old) (R.happened runs.old) counting.old moment
+        (S.happened sockets.new) (R.happened runs.new) counting.new moment }
     ensures stays { StayOpen (S.happened sockets.old) (S.happened sockets.new) }
     ensures socket { opened.new.socket ≡ opened.old.socket }
 {
@@ -88,7 +88,7 @@ fn receive<S: Sockets, R: Runs>(
         Ok(count) => {
             let bytes = piece_of(alloc, room, count);
             let came = What::Bytes(socket.connection, bytes);
-            let _ = tell(server, runs, moment, socket.instance, came);
+            let _ = tell(counting, runs, moment, socket.instance, came);
             opened.hear(moment, count);
             if count == 0 {
                 Tried::Over
@@ -104,25 +104,25 @@ fn receive<S: Sockets, R: Runs>(
 /// Sends the bytes that wait for the client, as far as the socket takes them, and tells the server
 /// so.
 fn send<S: Sockets, R: Runs>(
-    server: &mut Server,
+    counting: &mut Counting,
     sockets: &mut S,
     runs: &mut R,
     moment: u64,
     socket: Socket,
 ) -> Tried
-    ensures serving { KeepsServing
-        (S.happened sockets.old) (R.happened runs.old) server.old moment
-        (S.happened sockets.new) (R.happened runs.new) server.new moment }
+    ensures serving { KeepsServingAt socket.instance
+        (S.happened sockets.old) (R.happened runs.old) counting.old moment
+        (S.happened sockets.new) (R.happened runs.new) counting.new moment }
     ensures stays { StayOpen (S.happened sockets.old) (S.happened sockets.new) }
 {
-    let bytes = match server.pending(socket.instance, socket.connection) {
+    let bytes = match counting.server.pending(socket.instance, socket.connection) {
         Some(bytes) if !bytes.is_empty() => bytes,
         _ => return Tried::NotReady,
     };
     match sockets.write(socket, bytes) {
         Ok(count) => {
             let took = What::Took(socket.connection, count as u32);
-            let _ = tell(server, runs, moment, socket.instance, took);
+            let _ = tell(counting, runs, moment, socket.instance, took);
             if count == 0 {
                 Tried::NotReady
             } else {
@@ -149,20 +149,20 @@ fn is_finished(server: &Server, socket: Socket) -> bool {
 
 /// Closes a connection, and tells the server so.
 pub(crate) fn close<S: Sockets, R: Runs>(
-    server: &mut Server,
+    counting: &mut Counting,
     sockets: &mut S,
     runs: &mut R,
     moment: u64,
     socket: Socket,
 )
-    ensures serving { KeepsServing
-        (S.happened sockets.old) (R.happened runs.old) server.old moment
-        (S.happened sockets.new) (R.happened runs.new) server.new moment }
+    ensures serving { KeepsServingAt socket.instance
+        (S.happened sockets.old) (R.happened runs.old) counting.old moment
+        (S.happened sockets.new) (R.happened runs.new) counting.new moment }
     ensures closes { StayOpenBut socket (S.happened sockets.old) (S.happened sockets.new) }
 {
     sockets.close(socket);
     let gone = What::Closed(socket.connection);
-    let _ = tell(server, runs, moment, socket.instance, gone);
+    let _ = tell(counting, runs, moment, socket.instance, gone);
 }
 
 /// Receives and sends, and closes the connection where its client is gone, where the server let go
@@ -170,25 +170,25 @@ pub(crate) fn close<S: Sockets, R: Runs>(
 /// connection is over.
 pub(crate) fn exchange<S: Sockets, R: Runs>(
     alloc: Global,
-    server: &mut Server,
+    counting: &mut Counting,
     sockets: &mut S,
     runs: &mut R,
     moment: u64,
     opened: &mut OpenSocket,
     room: &mut Vec<u8>,
 ) -> Tried
-    ensures serving { KeepsServing
-        (S.happened sockets.old) (R.happened runs.old) server.old moment
-        (S.happened sockets.new) (R.happened runs.new) server.new moment }
+    ensures serving { KeepsServingAt opened.old.socket.instance
+        (S.happened sockets.old) (R.happened runs.old) counting.old moment
+        (S.happened sockets.new) (R.happened runs.new) counting.new moment }
     ensures stays { StayOpenUnless result opened.old.socket
         (S.happened sockets.old) (S.happened sockets.new) }
     ensures socket { opened.new.socket ≡ opened.old.socket }
 {
-    let received = receive(alloc, server, sockets, runs, moment, opened, room);
+    let received = receive(alloc, counting, sockets, runs, moment, opened, room);
     let socket = opened.socket;
-    let sent = send(server, sockets, runs, moment, socket);
-    if received == Tried::Over || sent == Tried::Over || is_finished(server, socket) {
-        close(server, sockets, runs, moment, socket);
+    let sent = send(counting, sockets, runs, moment, socket);
+    if received == Tried::Over || sent == Tried::Over || is_finished(&counting.server, socket) {
+        close(counting, sockets, runs, moment, socket);
         return Tried::Over;
     }
     if received == Tried::Moved {

@@ -4,11 +4,15 @@
 mod asking;
 mod carrying;
 mod exchange;
+mod laws;
+mod logged;
 mod open_socket;
 mod runs;
 mod serving;
 mod sockets;
 
+pub use laws::what_serve_did;
+pub use logged::{LoggedSockets, SocketRecord};
 pub use runs::Runs;
-pub use serving::serve;
+pub use serving::{Tally, serve};
 pub use sockets::{Socket, Sockets, is_not_ready};

@@ -1,6 +1,6 @@
 //! Runs of jobs, none of which is waited for.
 
-ghost use Rattle.std.specs.Prelude.{List, Option, None, ◌∷◌, []};
+ghost use Rattle.std.specs.Prelude.{List, Option, None, IfSome, ◌∷◌, []};
 
 use outcomes::Outcome;
 use runner::{RunFault, RunKey};
@@ -10,7 +10,7 @@ use server_core::LentTask;
 pub trait Runs {
     ghost use Rattle.executor.specs.Orders.{start, kill};
     ghost use Rattle.server_core.specs.Lent.{lent_shown};
-    ghost use Rattle.serve.specs.RunEvents.{RunEvent, ordered, asked_events, AddsRuns};
+    ghost use Rattle.serve.specs.RunEvents.{RunEvent, ordered, asked_events, AddsRuns, WasBegun};
 
     // All that happened at the runs, in order, where it is known.
     ghost happened: { Self → Option (List RunEvent) } = { λ _. None };
@@ -29,8 +29,9 @@ pub trait Runs {
     fn count(&self) -> usize;
 
     /// The run whose turn it is to be asked: each in a circle, those included that are only to be
-    /// ended.
+    /// ended. It is one that was begun.
     fn next(&mut self) -> Option<RunKey>
+        ensures begun { IfSome result (λ run. WasBegun run (happened self.new)) }
         ensures adds { AddsRuns (happened self.old) (happened self.new) [] };
 
     /// Goes on with a run by a bounded piece of work. What came of it, or `None` while it goes on.

@@ -1,13 +1,13 @@
 //! The turns.
 
-ghost use Rattle.std.specs.Prelude.{◌≡◌, ◌==◌, ℕ, [], length, Some, IfSome, IfOk, IfErr};
+ghost use Rattle.std.specs.Prelude.{◌≡◌, ◌<◌, ◌==◌, ℕ, [], length, Some, IfSome, IfOk, IfErr};
 ghost use Rattle.std.specs.List.{list_any};
-ghost use Rattle.serve.specs.Numbers.{IsNext, KeepsOpen, NumbersAreApart, sockets_of};
+ghost use Rattle.serve.specs.Numbers.{AreWithin, IsNext, KeepsOpen, NumbersAreApart, sockets_of};
 ghost use Rattle.serve.specs.SocketEvents.{Adds};
-ghost use Rattle.serve.specs.Served.{IsServing, KeepsServing, KeepsServingAll, WasServed};
+ghost use Rattle.serve.specs.Served.{IsServing, KeepsServing, WasServed};
 
 use crate::asking::ask_all;
-use crate::carrying::tell;
+use crate::carrying::{Counting, tell};
 use crate::exchange::{READ_LIMIT, Tried, close, exchange};
 use crate::open_socket::{OpenSocket, longest_silent};
 use crate::runs::Runs;
@@ -49,7 +49,7 @@ fn number_after(connections: &[OpenSocket], number: u32) -> Option<u32>
 /// A server, and its open connections.
 #[derive(Drop)]
 struct Serving {
-    server: Server,
+    counting: Counting,
     /// How many instances it has.
     instances: u32,
     /// What the clock showed last, in milliseconds since the start.
@@ -67,12 +67,13 @@ impl Serving {
     /// A server of instances with these configurations, and no connections.
     fn new(alloc: Global, configs: &Configs) -> Result<Serving, AllocError>
         ensures serving { IfOk result (λ s. IsServing configs.now
-            (Some []) (Some []) s.server s.moment) }
+            (Some []) (Some []) s.counting s.moment) }
         ensures instances { IfOk result (λ s. s.instances ≡ length configs.now) }
         ensures none { IfOk result (λ s. s.connections.items ≡ []) }
     {
+        let server = Server::new(alloc, configs)?;
         Ok(Serving {
-            server: Server::new(alloc, configs)?,
+            counting: Counting { server, cut: 0 },
             instances: configs.instances().len() as u32,
             moment: 0,
             tried: None,
@@ -91,12 +92,16 @@ impl Serving {
         runs: &mut R,
         errors: &mut E,
     ) -> bool
-        ensures serving { KeepsServingAll self.old.instances
+        requires within { AreWithin self.old.instances
+            (sockets_of self.old.connections.items) }
+        ensures serving { KeepsServing self.old.instances
             (S.happened sockets.old) (R.happened runs.old)
-            self.old.server self.old.moment
+            self.old.counting self.old.moment
             (S.happened sockets.new) (R.happened runs.new)
-            self.new.server self.new.moment }
+            self.new.counting self.new.moment }
         ensures instances { self.new.instances ≡ self.old.instances }
+        ensures within { AreWithin self.new.instances
+            (sockets_of self.new.connections.items) }
         ensures numbers { KeepsOpen self.old (S.happened sockets.old)
             self.new (S.happened sockets.new) }
     {
@@ -107,20 +112,24 @@ impl Serving {
             moved = self.open_all(sockets, runs);
         }
         let exchanged = self.exchange_all(sockets, runs);
-        let server = &mut self.server;
-        let is_busy = ask_all(server, configs, sockets, runs, errors, self.moment);
+        let counting = &mut self.counting;
+        let is_busy = ask_all(counting, configs, sockets, runs, errors, self.moment);
         moved || exchanged || is_busy
     }
 
     /// Reads the clock where it went on. While it shows the same nothing is to be told, of which
     /// many turns of a busy server are spared.
     fn keep_time<S: Sockets, R: Runs>(&mut self, sockets: &mut S, runs: &mut R)
-        ensures serving { KeepsServingAll self.old.instances
+        requires within { AreWithin self.old.instances
+            (sockets_of self.old.connections.items) }
+        ensures serving { KeepsServing self.old.instances
             (S.happened sockets.old) (R.happened runs.old)
-            self.old.server self.old.moment
+            self.old.counting self.old.moment
             (S.happened sockets.new) (R.happened runs.new)
-            self.new.server self.new.moment }
+            self.new.counting self.new.moment }
         ensures instances { self.new.instances ≡ self.old.instances }
+        ensures within { AreWithin self.new.instances
+            (sockets_of self.new.connections.items) }
         ensures numbers { KeepsOpen self.old (S.happened sockets.old)
             self.new (S.happened sockets.new) }
     {
@@ -131,29 +140,37 @@ impl Serving {
 
     /// Time goes on for each instance.
     fn tick<S: Sockets, R: Runs>(&mut self, sockets: &mut S, runs: &mut R)
-        ensures serving { KeepsServingAll self.old.instances
+        requires within { AreWithin self.old.instances
+            (sockets_of self.old.connections.items) }
+        ensures serving { KeepsServing self.old.instances
             (S.happened sockets.old) (R.happened runs.old)
-            self.old.server self.old.moment
+            self.old.counting self.old.moment
             (S.happened sockets.new) (R.happened runs.new)
-            self.new.server self.new.moment }
+            self.new.counting self.new.moment }
         ensures instances { self.new.instances ≡ self.old.instances }
+        ensures within { AreWithin self.new.instances
+            (sockets_of self.new.connections.items) }
         ensures numbers { KeepsOpen self.old (S.happened sockets.old)
             self.new (S.happened sockets.new) }
     {
         self.moment = sockets.now();
         for instance in 0..self.instances {
-            let _ = tell(&mut self.server, runs, self.moment, instance, What::Tick);
+            let _ = tell(&mut self.counting, runs, self.moment, instance, What::Tick);
         }
     }
 
     /// Opens the next connection that waits, for each instance, and says whether there was any.
     fn open_all<S: Sockets, R: Runs>(&mut self, sockets: &mut S, runs: &mut R) -> bool
-        ensures serving { KeepsServing
+        requires within { AreWithin self.old.instances
+            (sockets_of self.old.connections.items) }
+        ensures serving { KeepsServing self.old.instances
             (S.happened sockets.old) (R.happened runs.old)
-            self.old.server self.old.moment
+            self.old.counting self.old.moment
             (S.happened sockets.new) (R.happened runs.new)
-            self.new.server self.new.moment }
+            self.new.counting self.new.moment }
         ensures instances { self.new.instances ≡ self.old.instances }
+        ensures within { AreWithin self.new.instances
+            (sockets_of self.new.connections.items) }
         ensures numbers { KeepsOpen self.old (S.happened sockets.old)
             self.new (S.happened sockets.new) }
     {
@@ -170,12 +187,17 @@ impl Serving {
     /// instance has as many as it may have or memory is refused. In the first case a silent one
     /// makes room for the next. It says whether there was any.
     fn open<S: Sockets, R: Runs>(&mut self, sockets: &mut S, runs: &mut R, instance: u32) -> bool
-        ensures serving { KeepsServing
+        requires one { instance < self.old.instances }
+        requires within { AreWithin self.old.instances
+            (sockets_of self.old.connections.items) }
+        ensures serving { KeepsServing self.old.instances
             (S.happened sockets.old) (R.happened runs.old)
-            self.old.server self.old.moment
+            self.old.counting self.old.moment
             (S.happened sockets.new) (R.happened runs.new)
-            self.new.server self.new.moment }
+            self.new.counting self.new.moment }
         ensures instances { self.new.instances ≡ self.old.instances }
+        ensures within { AreWithin self.new.instances
+            (sockets_of self.new.connections.items) }
         ensures numbers { KeepsOpen self.old (S.happened sockets.old)
             self.new (S.happened sockets.new) }
     {
@@ -187,7 +209,7 @@ impl Serving {
             connection,
         };
         // A connection of the server has this number still: in a later turn the next one is tried.
-        if let Some(_) = self.server.pending(instance, connection) {
+        if let Some(_) = self.counting.server.pending(instance, connection) {
             self.next = number_after(&self.connections, connection);
             return false;
         }
@@ -200,13 +222,13 @@ impl Serving {
         };
         self.next = number_after(&self.connections, connection);
         let what = What::Open(connection);
-        match tell(&mut self.server, runs, self.moment, instance, what) {
+        match tell(&mut self.counting, runs, self.moment, instance, what) {
             Ok(()) => {
                 let opened = OpenSocket::new(socket, self.moment);
                 self.connections.push_reserved(opened);
             }
             Err(refusal) => {
-                close(&mut self.server, sockets, runs, self.moment, socket);
+                close(&mut self.counting, sockets, runs, self.moment, socket);
                 if refusal == EventRefusal::TooManyConnections {
                     self.make_room(sockets, runs, instance);
                 }
@@ -218,32 +240,51 @@ impl Serving {
     /// Closes the connection of an instance that has been silent longest, if one may make room, for
     /// the next that waits.
     fn make_room<S: Sockets, R: Runs>(&mut self, sockets: &mut S, runs: &mut R, instance: u32)
-        ensures serving { KeepsServing
+        requires within { AreWithin self.old.instances
+            (sockets_of self.old.connections.items) }
+        ensures serving { KeepsServing self.old.instances
             (S.happened sockets.old) (R.happened runs.old)
-            self.old.server self.old.moment
+            self.old.counting self.old.moment
             (S.happened sockets.new) (R.happened runs.new)
-            self.new.server self.new.moment }
+            self.new.counting self.new.moment }
         ensures instances { self.new.instances ≡ self.old.instances }
+        ensures within { AreWithin self.new.instances
+            (sockets_of self.new.connections.items) }
         ensures numbers { KeepsOpen self.old (S.happened sockets.old)
             self.new (S.happened sockets.new) }
     {
-        let found = longest_silent(&self.server, &self.connections, instance, self.moment);
+        let found = longest_silent(
+            &self.counting.server,
+            &self.connections,
+            instance,
+            self.moment,
+        );
         let Some(place) = found else {
             return;
         };
         let silent = self.connections.remove(place);
-        close(&mut self.server, sockets, runs, self.moment, silent.socket);
+        close(
+            &mut self.counting,
+            sockets,
+            runs,
+            self.moment,
+            silent.socket,
+        );
     }
 
     /// Receives and sends on each connection that is due, and lets go of those that are over. It
     /// says whether anything moved.
     fn exchange_all<S: Sockets, R: Runs>(&mut self, sockets: &mut S, runs: &mut R) -> bool
-        ensures serving { KeepsServing
+        requires within { AreWithin self.old.instances
+            (sockets_of self.old.connections.items) }
+        ensures serving { KeepsServing self.old.instances
             (S.happened sockets.old) (R.happened runs.old)
-            self.old.server self.old.moment
+            self.old.counting self.old.moment
             (S.happened sockets.new) (R.happened runs.new)
-            self.new.server self.new.moment }
+            self.new.counting self.new.moment }
         ensures instances { self.new.instances ≡ self.old.instances }
+        ensures within { AreWithin self.new.instances
+            (sockets_of self.new.connections.items) }
         ensures numbers { KeepsOpen self.old (S.happened sockets.old)
             self.new (S.happened sockets.new) }
     {
@@ -256,8 +297,8 @@ impl Serving {
                 continue;
             }
             let mut open = self.connections[at];
-            let (server, room) = (&mut self.server, &mut self.room);
-            match exchange(alloc, server, sockets, runs, self.moment, &mut open, room) {
+            let (counting, room) = (&mut self.counting, &mut self.room);
+            match exchange(alloc, counting, sockets, runs, self.moment, &mut open, room) {
                 Tried::Over => {
                     self.connections.remove(at);
                     moved = true;
@@ -292,6 +333,14 @@ fn rest_unless<S: Sockets>(sockets: &mut S, has_moved: bool, idle_turns: u64) ->
     idle_turns.saturating_add(1)
 }
 
+/// What came of turns.
+#[derive(Clone, Copy, Debug, PartialEq, Eq)]
+pub struct Tally {
+    /// How many events were cut short: carried out in part, for want of memory. Where it were more
+    /// than 64 bits can say, 2^64 - 1.
+    pub cut: u64,
+}
+
 /// Serves instances with these configurations for so many turns, over sockets at which nothing has
 /// happened yet, and over runs of which there are none.
 ///
@@ -317,8 +366,8 @@ fn rest_unless<S: Sockets>(sockets: &mut S, has_moved: bool, idle_turns: u64) ->
 /// then; what is begun and ended at the runs is what that instance alone orders, each order once and
 /// in order; and what a run is lent, each time that it is asked, is the task, with its texts, of its
 /// own job, and nothing once that runs no more. Its own events are those of its port, the time, and
-/// what the runs of its own jobs gave; of these some may have been carried out in part, for want of
-/// memory. An instance that builds on another is alone with that one, and reads what it has by then.
+/// what the runs of its own jobs gave; of these as many were carried out in part, for want of memory,
+/// as the result says, and no others. Nothing happens at a number of no instance. An instance that builds on another is alone with that one, and reads what it has by then.
 /// No fault of a socket or a run and no such refusal ends the turns: an error is want of memory
 /// before the first.
 pub fn serve<S: Sockets, R: Runs, E: Write>(
@@ -328,13 +377,15 @@ pub fn serve<S: Sockets, R: Runs, E: Write>(
     runs: &mut R,
     errors: &mut E,
     turns: u64,
-) -> Result<(), AllocError>
+) -> Result<Tally, AllocError>
     requires fresh { IfSome (S.happened sockets.old) (λ h. h ≡ []) }
     requires unrun { IfSome (R.happened runs.old) (λ h. h ≡ []) }
-    ensures served { WasServed configs.now (S.happened sockets.new) (R.happened runs.new) }
+    ensures served { IfOk result (λ tally. WasServed configs.now
+        (S.happened sockets.new) (R.happened runs.new) tally.cut) }
     ensures numbers { IfSome (S.happened sockets.new) NumbersAreApart }
     // Where memory is refused later than at the beginning, the turns go on.
-    ensures unbegun { IfErr result (λ error. S.happened sockets.new ≡ S.happened sockets.old) }
+    ensures unbegun { IfErr result (λ error. (S.happened sockets.new ≡ S.happened sockets.old)
+        × (R.happened runs.new ≡ R.happened runs.old)) }
 {
     let mut serving = Serving::new(alloc, configs)?;
     let mut idle_turns: u64 = 0;
@@ -342,5 +393,7 @@ pub fn serve<S: Sockets, R: Runs, E: Write>(
         let has_moved = serving.turn(configs, sockets, runs, errors);
         idle_turns = rest_unless(sockets, has_moved, idle_turns);
     }
-    Ok(())
+    Ok(Tally {
+        cut: serving.counting.cut,
+    })
 }

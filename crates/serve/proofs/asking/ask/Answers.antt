@@ -3,10 +3,10 @@ use Rattle.serve.proofs.asking.ask.Goals as goal
 
 pub returns-in-Some : goal.returns-in-Some
 returns-in-Some g c = record {
-  serving = λ sockets configs at. asked_told configs sockets _ _ _ _ _ _ _ _ _ _ _ c.lend-task.ensures.task c.ask-answer.ensures.adds c.in-Some.ensures c.tell.ensures.takes at;
+  serving = λ sockets configs begun at. asked_told configs sockets _ _ _ _ _ _ _ _ _ _ begun c.lend-task.ensures.task c.ask-answer.ensures.adds c.in-Some.ensures c.tell.ensures.takes at;
 }
 
 pub returns-in_default : goal.returns-in_default
 returns-in_default g c = record {
-  serving = λ sockets configs at. asked_none configs sockets _ _ _ _ _ _ _ _ c.lend-task.ensures.task c.ask-answer.ensures.adds c.in_default.ensures at;
+  serving = λ sockets configs begun at. asked_none configs sockets _ _ _ _ _ _ _ begun c.lend-task.ensures.task c.ask-answer.ensures.adds c.in_default.ensures at;
 }

@@ -1,4 +1,4 @@
-use Rattle.std.proofs.Common.{List}
+use Rattle.std.proofs.Common.{ℕ, List}
 use Rattle.std.specs.Prelude.{Option}
 use Rattle.serve.specs.Served.{KeepsServing}
 use Rattle.serve.specs.SocketEvents.{SocketEvent}
@@ -6,6 +6,6 @@ use Rattle.serve.proofs.asking.ask_all.Given as goal
 
 abbrev pub invariant-loop : goal.invariant-loop
 invariant-loop g l =
-    (known : Option (List SocketEvent)) → KeepsServing
-    known (g.R.Runs.happened l.fn.runs) l.fn.server l.moment
-    known (g.R.Runs.happened l.runs) l.server l.moment
+    (count : ℕ) (known : Option (List SocketEvent)) → KeepsServing count
+    known (g.R.Runs.happened l.fn.runs) l.fn.counting l.moment
+    known (g.R.Runs.happened l.runs) l.counting l.moment

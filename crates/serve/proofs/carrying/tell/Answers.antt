@@ -1,4 +1,4 @@
-use Rattle.std.proofs.Common.{List, map, subst}
+use Rattle.std.proofs.Common.{refl, List, map, subst}
 use Rattle.std.specs.Prelude.{Option}
 use Rattle.executor.specs.declared.orders.Order.{Order}
 use Rattle.instance_core.specs.Turns.{orders_meant}
@@ -10,17 +10,17 @@ use Rattle.server_events.specs.Shown.{what_value}
 use Rattle.serve.proofs.Keeps.{event_told, refused_taken, accepted_by}
 use Rattle.serve.proofs.carrying.tell.Goals as goal
 
-pub returns-in_err-orders : goal.returns-in_err-orders
-returns-in_err-orders g c =
-    let did = c.in_err-orders.ensures in
-    record { takes = refused_taken _ c.in_err-orders.field-0.0 _ _ _ _ did.own did.short did.outcome did.others did.parents }
+pub returns-in-Err : goal.returns-in-Err
+returns-in-Err g c =
+    let did = c.in-Err.ensures in
+    record { takes = refused_taken _ c.in-Err.refusal _ _ _ _ did.own did.short did.outcome did.others did.parents c.cut_with-counting.ensures }
 
-pub returns : goal.returns
-returns g c =
-    let did = c.in_ok-orders.ensures in
+pub returns-in-Ok : goal.returns-in-Ok
+returns-in-Ok g c =
+    let did = c.in-Ok.ensures in
     let e : EventValue = event_told c.args.moment c.args.instance (what_value c.args.what) in
     let before : Option (List RunEvent) = g.R.Runs.happened c.args.runs.now in
     let after : Option (List RunEvent) = g.R.Runs.happened c.carry_out.new.runs in
     let ws : List ServedState = c.step.new.self.instances in
-    let carried : AreCarriedOut c.args.instance ws c.in_ok-orders.orders.items before after = λ v is. subst (λ (os : List Order). AddsRuns before after (map (ordered c.args.instance) (orders_meant v.state.jobs os))) c.deref.ensures.value (c.carry_out.ensures v is) in
-    record { takes = accepted_by c.in_ok-orders.orders e c.args.server.now c.step.new.self c.in_ok-orders.orders before after did.own did.orders did.others did.stray did.count did.parents carried }
+    let carried : AreCarriedOut c.args.instance ws c.in-Ok.orders.items before after = λ v is. subst (λ (os : List Order). AddsRuns before after (map (ordered c.args.instance) (orders_meant v.state.jobs os))) c.deref.ensures.value (c.carry_out.ensures v is) in
+    record { takes = accepted_by c.in-Ok.orders e c.args.counting.now _ c.in-Ok.orders before after did.own did.orders did.others did.stray did.count did.parents refl carried }

@@ -1,11 +1,12 @@
 use Rattle.std.proofs.Common.{◌≡◌, length}
-use Rattle.serve.specs.Numbers.{HasOpen, sockets_of}
+use Rattle.serve.specs.Numbers.{AreWithin, HasOpen, sockets_of}
 use Rattle.serve.specs.Served.{IsServing}
 use Rattle.serve.proofs.serving.serve.Given as goal
 
 abbrev pub invariant-loop : goal.invariant-loop
 invariant-loop g l = record {
-  serving : IsServing l.configs (g.S.Sockets.happened l.sockets) (g.R.Runs.happened l.runs) l.serving.server l.serving.moment;
+  serving : IsServing l.configs (g.S.Sockets.happened l.sockets) (g.R.Runs.happened l.runs) l.serving.counting l.serving.moment;
   instances : l.serving.instances ≡ length l.configs;
+  within : AreWithin l.serving.instances (sockets_of l.serving.connections.items);
   numbers : HasOpen (sockets_of l.serving.connections.items) l.serving.next (g.S.Sockets.happened l.sockets);
 }

@@ -1,20 +1,21 @@
+use Rattle.std.proofs.Common.{arith}
 use Rattle.serve.proofs.Keeps.{accepted_told}
 use Rattle.serve.specs.Numbers.{sockets_of}
 use Rattle.serve.proofs.Numbers.{accepted_by, added_closed, one_added}
 use Rattle.serve.proofs.serving.Serving.open.Goals as goal
 
 pub returns-in-Ok-tell-clause-serving : goal.returns-in-Ok-tell-clause-serving
-returns-in-Ok-tell-clause-serving g c = λ configs at.
-    accepted_told configs _ _ _ _ _ _ _ _ _ c.in_default-pending.ensures.bytes c.in-Ok.ensures.adds c.tell.ensures.takes at
+returns-in-Ok-tell-clause-serving g c = λ configs same at.
+    accepted_told configs _ _ _ _ _ _ _ _ _ (omega (arith, same, c.requires.one)) c.in_default-pending.ensures.bytes c.in-Ok.ensures.adds c.tell.ensures.takes at
 
 pub returns-then-eq-clause-serving : goal.returns-then-eq-clause-serving
-returns-then-eq-clause-serving g c = λ configs at.
-    c.make_room.ensures.serving configs
-    (c.close.ensures.serving configs (accepted_told configs _ _ _ _ _ _ _ _ _ c.in_default-pending.ensures.bytes c.in-Ok.ensures.adds c.tell.ensures.takes at))
+returns-then-eq-clause-serving g c = λ configs same at.
+    c.make_room.ensures.serving configs same
+    (c.close.ensures.serving configs (omega (arith, same, c.requires.one)) (accepted_told configs _ _ _ _ _ _ _ _ _ (omega (arith, same, c.requires.one)) c.in_default-pending.ensures.bytes c.in-Ok.ensures.adds c.tell.ensures.takes at))
 
 pub returns-else-eq-clause-serving : goal.returns-else-eq-clause-serving
-returns-else-eq-clause-serving g c = λ configs at.
-    c.close.ensures.serving configs (accepted_told configs _ _ _ _ _ _ _ _ _ c.in_default-pending.ensures.bytes c.in-Ok.ensures.adds c.tell.ensures.takes at)
+returns-else-eq-clause-serving g c = λ configs same at.
+    c.close.ensures.serving configs (omega (arith, same, c.requires.one)) (accepted_told configs _ _ _ _ _ _ _ _ _ (omega (arith, same, c.requires.one)) c.in_default-pending.ensures.bytes c.in-Ok.ensures.adds c.tell.ensures.takes at)
 
 pub returns-in-Ok-tell-clause-numbers : goal.returns-in-Ok-tell-clause-numbers
 returns-in-Ok-tell-clause-numbers g c = λ has.

@@ -1,12 +1,13 @@
-use Rattle.std.proofs.Common.{◌≡◌, List}
+use Rattle.std.proofs.Common.{◌≡◌, List, length}
 use Rattle.server_events.specs.Configs.{ConfigValue}
-use Rattle.serve.specs.Numbers.{KeepsOpen}
+use Rattle.serve.specs.Numbers.{AreWithin, KeepsOpen, sockets_of}
 use Rattle.serve.specs.Served.{IsServing}
 use Rattle.serve.proofs.serving.Serving.open_all.Given as goal
 
 abbrev pub invariant-loop-instance : goal.invariant-loop-instance
 invariant-loop-instance g l = record {
-  serving : (configs : List ConfigValue) → IsServing configs (g.S.Sockets.happened l.fn.sockets) (g.R.Runs.happened l.fn.runs) l.fn.self.server l.fn.self.moment → IsServing configs (g.S.Sockets.happened l.sockets) (g.R.Runs.happened l.runs) l.self.server l.self.moment;
+  serving : (configs : List ConfigValue) → length configs ≡ l.fn.self.instances → IsServing configs (g.S.Sockets.happened l.fn.sockets) (g.R.Runs.happened l.fn.runs) l.fn.self.counting l.fn.self.moment → IsServing configs (g.S.Sockets.happened l.sockets) (g.R.Runs.happened l.runs) l.self.counting l.self.moment;
   instances : l.self.instances ≡ l.fn.self.instances;
+  within : AreWithin l.self.instances (sockets_of l.self.connections.items);
   numbers : KeepsOpen l.fn.self (g.S.Sockets.happened l.fn.sockets) l.self (g.S.Sockets.happened l.sockets);
 }

@@ -41,6 +41,9 @@ turns_rule =
 abbrev pub work_rule : Rule
 work_rule = record (long_option (codes "work")) { required = true }
 
+abbrev pub launcher_rule : Rule
+launcher_rule = long_option (codes "launcher")
+
 -- one word or more for instances
 abbrev pub instances_rule : Rule
 instances_rule =
@@ -58,8 +61,9 @@ probe_command =
 
 abbrev pub serve_command : Shape
 serve_command =
-    (with_rule (with_rule (with_rule (new_app (codes "serve"))
-    work_rule) turns_rule) instances_rule).top
+    (with_rule (with_rule (with_rule (with_rule (new_app (codes "serve"))
+    work_rule) launcher_rule) turns_rule)
+    instances_rule).top
 
 -- a command that tells its version
 abbrev pub with_version : App → App
@@ -84,8 +88,9 @@ pub data InvocationValue : Type 0 where
   unary : Option Text → InvocationValue
   -- the script of events of a file
   replay : Text → InvocationValue
-  -- to serve the instances of these words, for so many turns
-  serve : (work : Text) (turns : ℕ) (instances : List Text) → InvocationValue
+  -- to serve the instances of these words, for so many turns, and to have programs started by a
+  -- launcher, or as they are
+  serve : (work : Text) (launcher : Option Text) (turns : ℕ) (instances : List Text) → InvocationValue
   -- to send a file's bytes to a port, and to wait for so many, for so many turns
   probe : (port : ℕ) (send : Text) (want turns : ℕ) → InvocationValue
 
@@ -114,7 +119,7 @@ probe_of given =
 abbrev pub serve_of : List Row → Option InvocationValue
 serve_of given =
     option_and_then (λ work. option_and_then (λ turns.
-    option_map (λ instances. serve work turns instances)
+    option_map (λ instances. serve work (first_of (codes "launcher") given) turns instances)
     (all_of (codes "NAME:PORT:QUOTA:SLOTS[:PARENT]") given))
     (number_of (codes "turns") given)) (first_of (codes "work") given)
 

@@ -17,8 +17,8 @@ use Rattle.command_line.specs.CommandLine.{InvocationValue, unary, replay, serve
 abbrev pub invocation_value : Invocation → InvocationValue
 invocation_value (invocation.Unary file) = unary (option_map (λ f. f.now) file)
 invocation_value (invocation.Replay file) = replay file.now
-invocation_value (invocation.Serve work turns instances) =
-    serve work.now turns (map (λ word. word.now) instances.items)
+invocation_value (invocation.Serve work launcher turns instances) =
+    serve work.now (option_map (λ l. l.now) launcher) turns (map (λ word. word.now) instances.items)
 invocation_value (invocation.Probe port send want turns) = probe port send.now want turns
 
 -- an argument with this rule, which is for its own command alone

@@ -4,7 +4,7 @@
 ghost use Rattle.std.specs.Prelude.{◌≡◌, ◌≢◌, ◌⊎◌, ℕ, List, Some, None, true, map, string_bytes, IfOk, IfErr, option_map};
 ghost use Rattle.clap.specs.Words.{App, Shape, all_of, app_of, first_of, found_of, kind_of, new_app, new_rule, rows_of, subcommand_rows_of, with_subcommand};
 ghost use Rattle.clap.specs.declared.error.kind.ErrorKind.TheVariants.{DisplayHelp, DisplayVersion};
-ghost use Rattle.command_line.specs.CommandLine.{command_line, file_rule, long_option, count_parser, number_of, port_rule, send_rule, want_rule, turns_rule, script_command, probe_command, probe_of, work_rule, instances_rule, serve_command, serve_of, file_or_probe_by, invocation_by, invocation_of};
+ghost use Rattle.command_line.specs.CommandLine.{command_line, file_rule, long_option, count_parser, number_of, port_rule, send_rule, want_rule, turns_rule, launcher_rule, script_command, probe_command, probe_of, work_rule, instances_rule, serve_command, serve_of, file_or_probe_by, invocation_by, invocation_of};
 ghost use Rattle.command_line.specs.Shown.{invocation_value, invocation_asked, HasApp, HasNoFault, HasRule, HasShape, IsFaultOf, IsFrom};
 
 use clap::error::ErrorKind;
@@ -46,6 +46,8 @@ pub enum Invocation<'a> {
     Serve {
         /// The folder for the work of actions.
         work: &'a str,
+        /// What starts the program of each action, where it is not started as it is.
+        launcher: Option<&'a str>,
         turns: u64,
         /// A word `NAME:PORT:QUOTA:SLOTS[:PARENT]` for each instance.
         instances: Vec<&'a str>,
@@ -131,6 +133,13 @@ fn work<'a>(alloc: Global) -> Arg<'a>
     long_option(alloc, "work", "DIR", help, true)
 }
 
+fn launcher<'a>(alloc: Global) -> Arg<'a>
+    ensures { HasRule launcher_rule result }
+{
+    let help = "The program that starts the program of each action, as in a sandbox or elsewhere";
+    long_option(alloc, "launcher", "PROGRAM", help, false)
+}
+
 fn port<'a>(alloc: Global) -> Arg<'a>
     ensures { HasRule port_rule result }
 {
@@ -180,7 +189,12 @@ fn probe<'a>(alloc: Global) -> Result<Command<'a>, AllocError>
 fn serve<'a>(alloc: Global) -> Result<Command<'a>, AllocError>
     ensures { IfOk result (HasShape serve_command) }
 {
-    let args = vec![in alloc; work(alloc), turns(alloc), instances(alloc)]?;
+    let args = vec![in alloc;
+        work(alloc),
+        launcher(alloc),
+        turns(alloc),
+        instances(alloc),
+    ]?;
     described(alloc, "serve", SERVE_ABOUT).args(args)
 }
 
@@ -278,6 +292,7 @@ fn requested_serve<'a>(
     match texts(alloc, found, INSTANCES)? {
         Some(instances) => Ok(Some(Invocation::Serve {
             work,
+            launcher: text(found, "launcher"),
             turns,
             instances,
         })),

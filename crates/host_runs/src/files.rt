@@ -1,12 +1,13 @@
-//! Looking at what stands at a path, and opening files there.
+//! Looking at what stands in a directory, and opening files there.
 
 ghost use Rattle.std.specs.Prelude.{◌≡◌, ◌≤◌, IfOk, length};
 
+use crate::directory::{Directory, Names};
 use runner::{Entry, FileFacts, Found};
 use std::alloc::Global;
-use std::fs::{self, DirEntry, File, Metadata, OpenOptions, ReadDir};
+use std::fs::{self, File, Metadata, OpenOptions};
 use std::io::{self, ErrorKind};
-use std::os::unix::fs::{FileExt, PermissionsExt};
+use std::os::unix::fs::{FileExt, MetadataExt, PermissionsExt};
 use std::rt::Files;
 
 /// Any of these says that a file may be executed.
@@ -24,17 +25,23 @@ pub(crate) fn found_at<R: Files>(rt: &R, path: &str) -> io::Result<Option<Metada
     }
 }
 
-fn is_absence(error: &io::Error) -> bool {
-    matches!(error.kind(), ErrorKind::NotFound | ErrorKind::NotADirectory)
+/// Whether a call failed since nothing is there, or since what is above it is no directory: a link is
+/// none.
+pub(crate) fn is_absence(error: &io::Error) -> bool {
+    matches!(
+        error.kind(),
+        ErrorKind::NotFound | ErrorKind::NotADirectory | ErrorKind::FilesystemLoop
+    )
 }
 
 pub(crate) fn is_executable(found: &Metadata) -> bool {
     found.is_file() && found.permissions().mode() & EXECUTABLE_BITS != 0
 }
 
-/// What stands at a path, a link not followed.
-pub(crate) fn look_at<R: Files>(rt: &R, path: &str) -> io::Result<Found> {
-    let Some(found) = found_at(rt, path)? else {
+/// What has this name in a directory, a link not followed.
+pub(crate) fn look_in(rt: &HostRuntime, directory: &Directory, name: &str) -> io::Result<Found> {
+    let path = directory.path_of(rt.alloc(), name)?;
+    let Some(found) = found_at(rt, path.as_str())? else {
         return Ok(Found::Nothing);
     };
     if found.is_dir() {
@@ -49,13 +56,62 @@ pub(crate) fn look_at<R: Files>(rt: &R, path: &str) -> io::Result<Found> {
     }))
 }
 
-/// Opens what stands at a path where it is a file and no link: anything else could wait for another
-/// program.
+/// Opens the file of this name in a directory to add to its end.
+pub(crate) fn open_to_add(rt: &HostRuntime, directory: &Directory, name: &str) -> io::Result<File> {
+    let path = directory.path_of(rt.alloc(), name)?;
+    open_regular(
+        rt,
+        path.as_str(),
+        OpenOptions::new().read(true).append(true),
+    )
+}
+
+/// Opens the file of this name in a directory to read it. Where it may not be opened to be written,
+/// it gets another name for that, in a directory that no program of an action reaches.
+pub(crate) fn open_to_read(
+    rt: &HostRuntime,
+    directory: &Directory,
+    name: &str,
+    aside: &str,
+) -> io::Result<File> {
+    let path = directory.path_of(rt.alloc(), name)?;
+    match open_regular(rt, path.as_str(), OpenOptions::new().read(true).write(true)) {
+        Err(error) if is_refused(&error) => open_linked(rt, path.as_str(), aside),
+        answer => answer,
+    }
+}
+
+/// Whether a file may not be opened to be written.
+fn is_refused(error: &io::Error) -> bool {
+    matches!(
+        error.kind(),
+        ErrorKind::PermissionDenied | ErrorKind::ReadOnlyFilesystem | ErrorKind::ExecutableFileBusy
+    )
+}
+
+/// Opens what stands at a path where it is a file and no link, and the same when it is open. What is
+/// opened to be read and written waits for no other program, whatever has come there in between: a
+/// FIFO is open at once.
 pub(crate) fn open_regular(rt: &HostRuntime, path: &str, how: &OpenOptions) -> io::Result<File> {
-    if !fs::symlink_metadata(rt, path)?.is_file() {
+    let found = fs::symlink_metadata(rt, path)?;
+    if !found.is_file() {
         return Err(io::Error::from(ErrorKind::InvalidInput));
     }
-    how.open(rt, path)
+    let file: File = how.open(rt, path)?;
+    let opened = file.metadata()?;
+    if !opened.is_file() || opened.dev() != found.dev() || opened.ino() != found.ino() {
+        return Err(io::Error::from(ErrorKind::InvalidInput));
+    }
+    Ok(file)
+}
+
+/// Opens what stands at a path by another name for it, which it has for that time alone. That name
+/// is given to what stands there itself, and not to what a link leads to.
+fn open_linked(rt: &HostRuntime, path: &str, aside: &str) -> io::Result<File> {
+    fs::hard_link(rt, path, aside)?;
+    let answer = open_regular(rt, aside, OpenOptions::new().read(true));
+    fs::remove_file(rt, aside)?;
+    answer
 }
 
 /// Bytes of a file from a place on, at most so many; none at its end alone.
@@ -69,20 +125,25 @@ pub(crate) fn read_part(alloc: Global, file: &File, from: u64, most: u32) -> io:
 }
 
 /// The files and directories in a directory, in the order of their names, at most so many.
-pub(crate) fn list_at(rt: &HostRuntime, path: &str, most: usize) -> io::Result<Vec<Entry>> {
-    if !fs::symlink_metadata(rt, path)?.is_dir() {
-        return Err(io::Error::from(ErrorKind::NotADirectory));
-    }
-    let mut entries = Vec::new(rt.alloc());
-    let mut listing = fs::read_dir(rt, path)?;
-    add_entries(rt.alloc(), &mut listing, most, &mut entries)?;
+pub(crate) fn list_in(
+    rt: &HostRuntime,
+    directory: &Directory,
+    most: usize,
+) -> io::Result<Vec<Entry>> {
+    let alloc = rt.alloc();
+    // What is listed is gone through once.
+    let listed = directory.again()?;
+    let mut names = listed.names(alloc)?;
+    let mut entries = Vec::new(alloc);
+    add_entries(rt, directory, &mut names, most, &mut entries)?;
     Ok(in_order(entries))
 }
 
 /// Adds what is listed, until there are so many.
 fn add_entries(
-    alloc: Global,
-    listing: &mut ReadDir,
+    rt: &HostRuntime,
+    directory: &Directory,
+    names: &mut Names<'_>,
     most: usize,
     entries: &mut Vec<Entry>,
 ) -> io::Result<()> {
@@ -90,21 +151,34 @@ fn add_entries(
         if entries.len() >= most {
             return Ok(());
         }
-        let Some(next) = listing.next() else {
+        let Some(name) = names.next()? else {
             return Ok(());
         };
-        add_entry(alloc, &next?, entries)?;
+        add_entry(rt, directory, name, entries)?;
     }
     Err(io::Error::from(ErrorKind::InvalidData))
 }
 
-/// Adds an entry where it is a file or a directory.
-fn add_entry(alloc: Global, entry: &DirEntry, entries: &mut Vec<Entry>) -> io::Result<()> {
-    let kind = entry.file_type()?;
-    let is_directory = kind.is_dir();
-    if is_directory || kind.is_file() {
-        let name = String::from_str(alloc, entry.file_name())?;
-        entries.push(Entry { name, is_directory })?;
+/// Adds what has this name, where it is a file or a directory.
+fn add_entry(
+    rt: &HostRuntime,
+    directory: &Directory,
+    name: Vec<u8>,
+    entries: &mut Vec<Entry>,
+) -> io::Result<()> {
+    let Ok(name) = String::from_utf8(name) else {
+        return Err(io::Error::from(ErrorKind::InvalidFilename));
+    };
+    match look_in(rt, directory, name.as_str())? {
+        Found::Directory => entries.push(Entry {
+            name,
+            is_directory: true,
+        })?,
+        Found::File(_) => entries.push(Entry {
+            name,
+            is_directory: false,
+        })?,
+        Found::Nothing | Found::Other => {}
     }
     Ok(())
 }

@@ -3,26 +3,33 @@
 ghost use Rattle.std.specs.Prelude.{◌≡◌, ◌≤◌, IfOk, length};
 ghost use Rattle.runner.specs.Faults.{Counts};
 
-use crate::files::{Kept, again, list_at, look_at, open_regular, read_part};
-use crate::paths::{node_path, output_path, root_path};
-use crate::removing::remove_some;
+use crate::directory::{COMMON_MODE, Directory, PRIVATE_MODE};
+use crate::entering::{Entered, Entrance};
+use crate::files::{
+    Kept, again, found_at, is_absence, list_in, look_in, open_to_add, open_to_read, read_part,
+};
+use crate::paths::{aside_name, left_path, node_path, parted, root_name};
+use crate::removing::Removal;
+use crate::work::Work;
 use runner::{Entry, FileFacts, Folder, Found, NodeKind, Place, RunKey};
-use std::fs::{self, DirBuilder, File, OpenOptions, Permissions};
+use std::fs::{File, OpenOptions, Permissions};
 use std::io::{self, Write};
-use std::os::unix::fs::{DirBuilderExt, OpenOptionsExt, PermissionsExt, symlink};
+use std::os::unix::fs::{OpenOptionsExt, PermissionsExt, symlink};
 
-/// How the folder of a run, a file, and one that may be executed can be used.
-const ROOT_MODE: u32 = 0o700;
-
+/// How a file, and one that may be executed, can be used.
 const FILE_MODE: u32 = 0o644;
 
 const EXECUTABLE_MODE: u32 = 0o755;
 
-/// Folders in a directory of this host, and the files there that are open.
+/// What a file is called for as long as it is opened by another name.
+const LINKED: &str = "linked";
+
+/// Folders in the folder of a start, and what is open there. Paths go from that on.
 #[derive(Drop)]
 struct Folders<'a> {
     rt: &'a HostRuntime,
-    work: String,
+    work: Work,
+    entrance: Entrance<'a>,
     /// The file that was made last. It is closed before a program starts, as one that is open to be
     /// written cannot be executed.
     made: Option<Kept>,
@@ -32,72 +39,138 @@ struct Folders<'a> {
     moved: u64,
 }
 
+fn make_file(rt: &HostRuntime, path: &str, is_executable: bool) -> io::Result<File> {
+    let mode = if is_executable {
+        EXECUTABLE_MODE
+    } else {
+        FILE_MODE
+    };
+    let file: File = OpenOptions::new()
+        .append(true)
+        .create_new(true)
+        .mode(mode)
+        .open(rt, path)?;
+    // Whatever the process's own mask takes away.
+    file.set_permissions(Permissions::from_mode(mode))?;
+    Ok(file)
+}
+
 impl<'a> Folders<'a> {
-    fn make_root(&self, run: RunKey) -> io::Result<()> {
-        let path = root_path(self.rt.alloc(), self.work.as_str(), run)?;
-        DirBuilder::new()
-            .mode(ROOT_MODE)
-            .create(self.rt, path.as_str())
+    /// Makes the folder of a run, and the one aside.
+    fn make_root(&mut self, run: RunKey) -> io::Result<()> {
+        self.work.clear_some(self.rt);
+        let alloc = self.rt.alloc();
+        let start = self.work.start()?;
+        let aside = aside_name(alloc, run)?;
+        start.make_dir(alloc, aside.as_str(), PRIVATE_MODE)?;
+        let root = root_name(alloc, run)?;
+        let answer = start.make_dir(alloc, root.as_str(), PRIVATE_MODE);
+        if answer.is_err() {
+            start.remove_dir(aside.as_bytes())?;
+        }
+        answer
     }
 
     fn make_node(&mut self, run: RunKey, names: &[String], kind: &NodeKind) -> io::Result<()> {
         self.made = None;
-        let path = node_path(self.rt.alloc(), self.work.as_str(), run, names)?;
-        match kind {
-            NodeKind::Directory => fs::create_dir(self.rt, path.as_str()),
-            NodeKind::Symlink { target } => symlink(self.rt, target.as_str(), path.as_str()),
-            NodeKind::File { is_executable, .. } => self.make_file(path, *is_executable),
+        let path = node_path(self.rt.alloc(), run, names)?;
+        let (above, name) = parted(path.as_str());
+        let entered = self.entrance.enter(self.work.start()?, above)?;
+        let answer = self.make_node_in(&entered.directory, name, kind);
+        self.entrance.keep(entered);
+        if let Some(file) = answer? {
+            self.made = Some(Kept::new(path, file));
         }
-    }
-
-    fn make_file(&mut self, path: String, is_executable: bool) -> io::Result<()> {
-        let mode = if is_executable {
-            EXECUTABLE_MODE
-        } else {
-            FILE_MODE
-        };
-        let file: File = OpenOptions::new()
-            .append(true)
-            .create_new(true)
-            .mode(mode)
-            .open(self.rt, path.as_str())?;
-        // Whatever the process's own mask takes away.
-        file.set_permissions(Permissions::from_mode(mode))?;
-        self.made = Some(Kept::new(path, file));
         Ok(())
     }
 
+    /// Makes a node in a directory. A file is open then, to be written.
+    fn make_node_in(
+        &self,
+        directory: &Directory,
+        name: &str,
+        kind: &NodeKind,
+    ) -> io::Result<Option<File>> {
+        let alloc = self.rt.alloc();
+        match kind {
+            NodeKind::Directory => directory.make_dir(alloc, name, COMMON_MODE)?,
+            NodeKind::Symlink { target } => {
+                let path = directory.path_of(alloc, name)?;
+                symlink(self.rt, target.as_str(), path.as_str())?;
+            }
+            NodeKind::File { is_executable, .. } => {
+                let path = directory.path_of(alloc, name)?;
+                return Ok(Some(make_file(self.rt, path.as_str(), *is_executable)?));
+            }
+        }
+        Ok(None)
+    }
+
     fn write(&mut self, run: RunKey, names: &[String], bytes: &[u8]) -> io::Result<()> {
-        let path = node_path(self.rt.alloc(), self.work.as_str(), run, names)?;
+        let path = node_path(self.rt.alloc(), run, names)?;
         let mut file = match again(self.made.take(), path.as_str()) {
             Some(file) => file,
-            None => open_regular(self.rt, path.as_str(), OpenOptions::new().append(true))?,
+            None => self.open_made(path.as_str())?,
         };
         file.write_all(bytes)?;
         self.made = Some(Kept::new(path, file));
         Ok(())
     }
 
+    /// Opens a file that was made, to add to it.
+    fn open_made(&mut self, path: &str) -> io::Result<File> {
+        let (above, name) = parted(path);
+        let entered = self.entrance.enter(self.work.start()?, above)?;
+        let answer = open_to_add(self.rt, &entered.directory, name);
+        self.entrance.keep(entered);
+        answer
+    }
+
     fn make_working_directory(&mut self, place: &Place) -> io::Result<()> {
         self.made = None;
-        let path = output_path(self.rt.alloc(), self.work.as_str(), place, "", &[])?;
-        fs::create_dir_all(self.rt, path.as_str())
+        let path = left_path(self.rt.alloc(), place, "", &[])?;
+        self.make_directory(path.as_str())
     }
 
-    fn make_parents(&self, place: &Place, path: &str) -> io::Result<()> {
-        let Some((above, _)) = path.rsplit_once('/') else {
-            return Ok(());
+    fn make_parents(&mut self, place: &Place, path: &str) -> io::Result<()> {
+        let (above, _) = parted(path);
+        let path = left_path(self.rt.alloc(), place, above, &[])?;
+        self.make_directory(path.as_str())
+    }
+
+    /// Makes a directory and those above it, where they are not there.
+    fn make_directory(&mut self, path: &str) -> io::Result<()> {
+        let entered = self.entrance.make(self.work.start()?, path)?;
+        self.entrance.keep(entered);
+        Ok(())
+    }
+
+    /// The directory at a path, unless something on the way is not there or no directory.
+    fn entered(&mut self, path: &str) -> io::Result<Option<Entered>> {
+        match self.entrance.enter(self.work.start()?, path) {
+            Ok(entered) => Ok(Some(entered)),
+            Err(error) if is_absence(&error) => Ok(None),
+            Err(error) => Err(error),
+        }
+    }
+
+    fn look(&mut self, place: &Place, path: &str, names: &[String]) -> io::Result<Found> {
+        let path = left_path(self.rt.alloc(), place, path, names)?;
+        let (above, name) = parted(path.as_str());
+        let Some(entered) = self.entered(above)? else {
+            return Ok(Found::Nothing);
         };
-        let path = output_path(self.rt.alloc(), self.work.as_str(), place, above, &[])?;
-        fs::create_dir_all(self.rt, path.as_str())
+        let answer = look_in(self.rt, &entered.directory, name);
+        self.entrance.keep(entered);
+        answer
     }
 
-    fn look(&self, place: &Place, path: &str, names: &[String]) -> io::Result<Found> {
-        let path = output_path(self.rt.alloc(), self.work.as_str(), place, path, names)?;
-        look_at(self.rt, path.as_str())
-    }
-
-    fn file(&self, place: &Place, path: &str, names: &[String]) -> io::Result<Option<FileFacts>> {
+    fn file(
+        &mut self,
+        place: &Place,
+        path: &str,
+        names: &[String],
+    ) -> io::Result<Option<FileFacts>> {
         match self.look(place, path, names)? {
             Found::File(facts) => Ok(Some(facts)),
             Found::Nothing | Found::Other | Found::Directory => Ok(None),
@@ -105,14 +178,17 @@ impl<'a> Folders<'a> {
     }
 
     fn list(
-        &self,
+        &mut self,
         place: &Place,
         path: &str,
         names: &[String],
         most: usize,
     ) -> io::Result<Vec<Entry>> {
-        let path = output_path(self.rt.alloc(), self.work.as_str(), place, path, names)?;
-        list_at(self.rt, path.as_str(), most)
+        let path = left_path(self.rt.alloc(), place, path, names)?;
+        let entered = self.entrance.enter(self.work.start()?, path.as_str())?;
+        let answer = list_in(self.rt, &entered.directory, most);
+        self.entrance.keep(entered);
+        answer
     }
 
     fn read(
@@ -126,10 +202,10 @@ impl<'a> Folders<'a> {
         ensures { IfOk result (λ bytes. length bytes.items ≤ most) }
     {
         let alloc = self.rt.alloc();
-        let path = output_path(alloc, self.work.as_str(), place, path, names)?;
+        let path = left_path(alloc, place, path, names)?;
         let file = match again(self.read.take(), path.as_str()) {
             Some(file) => file,
-            None => open_regular(self.rt, path.as_str(), OpenOptions::new().read(true))?,
+            None => self.open_left(place.run, path.as_str())?,
         };
         let bytes = read_part(alloc, &file, from, most)?;
         if !bytes.is_empty() {
@@ -138,16 +214,44 @@ impl<'a> Folders<'a> {
         Ok(bytes)
     }
 
+    /// Opens a file that a run left, to read it.
+    fn open_left(&mut self, run: RunKey, path: &str) -> io::Result<File> {
+        let alloc = self.rt.alloc();
+        let (above, name) = parted(path);
+        let start = self.work.start()?;
+        let entered = self.entrance.enter(start, above)?;
+        let aside = start.open_in(aside_name(alloc, run)?.as_bytes())?;
+        let linked = aside.path_of(alloc, LINKED)?;
+        let answer = open_to_read(self.rt, &entered.directory, name, linked.as_str());
+        self.entrance.keep(entered);
+        answer
+    }
+
     fn remove(&mut self, run: RunKey) -> io::Result<bool> {
         self.made = None;
         self.read = None;
-        let path = root_path(self.rt.alloc(), self.work.as_str(), run)?;
-        remove_some(self.rt, path.as_str(), &mut self.moved)
+        self.entrance.leave();
+        self.work.clear_some(self.rt);
+        let alloc = self.rt.alloc();
+        let start = self.work.start()?;
+        let aside = aside_name(alloc, run)?;
+        let root = root_name(alloc, run)?;
+        let mut removal = Removal {
+            alloc,
+            start,
+            aside: aside.as_str(),
+            moved: &mut self.moved,
+        };
+        let path = start.path_of(alloc, root.as_str())?;
+        match found_at(self.rt, path.as_str())? {
+            Some(_) => removal.remove(start, root.as_str()),
+            None => removal.remove_some(),
+        }
     }
 }
 
-/// Folders in a directory of this host: that of job 3 of instance 1 is `1-3` there. Where something
-/// of that name is there already, it is not made.
+/// Folders in that of a start: that of job 3 of instance 1 is `1-3` there. Where something of that
+/// name is there already, it is not made. No link is followed below it.
 #[derive(Drop)]
 pub struct HostFolder<'a> {
     folders: Folders<'a>,
@@ -155,12 +259,13 @@ pub struct HostFolder<'a> {
 }
 
 impl<'a> HostFolder<'a> {
-    /// Folders in this directory, which is there. `clear_work` removes what a former run left in it.
-    pub fn new(rt: &'a HostRuntime, work: String) -> HostFolder<'a> {
+    /// Folders where a start has its place.
+    pub fn new(rt: &'a HostRuntime, work: Work) -> HostFolder<'a> {
         HostFolder {
             folders: Folders {
                 rt,
                 work,
+                entrance: Entrance::new(rt),
                 made: None,
                 read: None,
                 moved: 0,

@@ -1,43 +1,74 @@
 //! Where things lie.
+//!
+//! A start has a folder, and in it each run has one, and one aside. A path that is no whole path goes
+//! from the folder of the start on: its first name is that of a run's folder.
+
+ghost use Rattle.std.specs.Prelude.{◌≡◌, IfOk, string_bytes};
+ghost use Rattle.host_runs.specs.Folders.{root_name, root_path};
 
 use runner::{Place, RunKey};
 use std::alloc::{AllocError, Global};
 
-/// The folder of a run: that of job 3 of instance 1 is `1-3`.
-pub(crate) fn root_path(alloc: Global, work: &str, run: RunKey) -> Result<String, AllocError> {
+/// The name of a run's folder: that of job 3 of instance 1 is `1-3`.
+pub(crate) fn root_name(alloc: Global, run: RunKey) -> Result<String, AllocError>
+    ensures { IfOk result (λ name. string_bytes name ≡ root_name run.instance run.job) }
+{
+    let RunKey { instance, job } = run;
+    format!(in alloc; "{instance}-{job}")
+}
+
+/// The name of the folder beside a run's own in which stands what is removed of it, and what of it
+/// has to have another name. The run's program has no path to it below its own folder.
+pub(crate) fn aside_name(alloc: Global, run: RunKey) -> Result<String, AllocError> {
+    let RunKey { instance, job } = run;
+    format!(in alloc; "{instance}-{job}.aside")
+}
+
+/// The whole path of the folder of a run.
+pub(crate) fn root_path(alloc: Global, work: &str, run: RunKey) -> Result<String, AllocError>
+    ensures { IfOk result (λ path. string_bytes path ≡ root_path work.now run.instance run.job) }
+{
     let RunKey { instance, job } = run;
     format!(in alloc; "{work}/{instance}-{job}")
 }
 
-/// A file beside that folder, which has its name and an ending.
+/// The whole path of a file beside that folder, which has its name and an ending.
 pub(crate) fn beside_path(
     alloc: Global,
     work: &str,
     run: RunKey,
     ending: &str,
 ) -> Result<String, AllocError> {
-    let RunKey { instance, job } = run;
-    format!(in alloc; "{work}/{instance}-{job}{ending}")
-}
-
-/// Where a directory of a folder is moved in order to be removed.
-pub(crate) fn moved_path(alloc: Global, root: &str, number: u64) -> Result<String, AllocError> {
-    format!(in alloc; "{root}/.removed-{number}")
+    let name = root_name(alloc, run)?;
+    format!(in alloc; "{work}/{name}{ending}")
 }
 
 /// What has these names from the folder of a run on.
 pub(crate) fn node_path(
     alloc: Global,
-    work: &str,
     run: RunKey,
     names: &[String],
 ) -> Result<String, AllocError> {
-    let mut whole = root_path(alloc, work, run)?;
+    let mut path = root_name(alloc, run)?;
+    add_names(&mut path, names)?;
+    Ok(path)
+}
+
+/// What has these names from an output on, whose own path is from the working directory on.
+pub(crate) fn left_path(
+    alloc: Global,
+    place: &Place,
+    path: &str,
+    names: &[String],
+) -> Result<String, AllocError> {
+    let mut whole = root_name(alloc, place.run)?;
+    add(&mut whole, place.directory.as_str())?;
+    add(&mut whole, path)?;
     add_names(&mut whole, names)?;
     Ok(whole)
 }
 
-/// What has these names from an output on, whose own path is from the working directory on.
+/// The same as a whole path.
 pub(crate) fn output_path(
     alloc: Global,
     work: &str,
@@ -45,11 +76,13 @@ pub(crate) fn output_path(
     path: &str,
     names: &[String],
 ) -> Result<String, AllocError> {
-    let mut whole = root_path(alloc, work, place.run)?;
-    add(&mut whole, place.directory.as_str())?;
-    add(&mut whole, path)?;
-    add_names(&mut whole, names)?;
-    Ok(whole)
+    let left = left_path(alloc, place, path, names)?;
+    format!(in alloc; "{work}/{left}")
+}
+
+/// The path of what a path leads to is in, and its name there.
+pub(crate) fn parted(path: &str) -> (&str, &str) {
+    path.rsplit_once('/').unwrap_or(("", path))
 }
 
 fn add_names(whole: &mut String, names: &[String]) -> Result<(), AllocError> {

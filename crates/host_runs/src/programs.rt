@@ -4,112 +4,40 @@ ghost use Rattle.std.specs.Prelude.{◌≡◌, ◌≤◌, IfOk, IfSome, length};
 ghost use Rattle.runner.specs.Faults.{Counts};
 ghost use Rattle.runner.specs.Values.{IsInRange};
 
-use crate::files::{found_at, read_part};
-use crate::paths::{beside_path, output_path};
-use crate::search::can_start;
-use crate::sessions::{Progress, SESSION, Sessions};
+use crate::children::reap;
+use crate::exec_size::check_size;
+use crate::files::found_at;
+use crate::launching::Launcher;
+use crate::paths::{output_path, root_path};
+use crate::search::{Search, search_from};
+use crate::sessions::{SESSION, Sessions};
+use crate::sought::Sought;
+use crate::started::{self, Started, StartedAs};
+use crate::starting::{add_variables, bare_command};
 use runner::{Command as Ordered, Place, Programs, RunKey, Stream};
-use std::fs::{self, File, OpenOptions};
 use std::io::{self, ErrorKind};
-use std::os::unix::fs::OpenOptionsExt;
-use std::os::unix::process::ExitStatusExt;
-use std::process::{Child, Command, ExitStatus, Stdio};
+use std::process::{Child, Command};
+use std::time::Instant;
 
-/// What follows a run's name in those of the files that take what its program writes.
-pub(crate) const OUTPUT_ENDING: &str = ".out";
-
-pub(crate) const ERROR_ENDING: &str = ".err";
-
-/// How those files can be used.
-const STREAM_MODE: u32 = 0o600;
-
-/// What a shell adds to a signal to say that a program was ended by it.
-const CODE_OF_SIGNALS: i32 = 128;
-
-/// The system's number for a program that was waited for already.
-const NO_CHILD: i32 = 10;
-
-/// A program that was started. What it writes goes into two files that have no names any more, so
-/// that nothing waits for whoever else writes there, and nothing is left of them.
-#[derive(Drop)]
-struct Started {
-    run: RunKey,
-    child: Child,
-    stdout: File,
-    stderr: File,
-    /// How far its session is ended.
-    progress: Progress,
-}
-
-/// The code with which a program ended.
-fn code_of(status: ExitStatus) -> i32
-    ensures { IsInRange result }
-{
-    match status.code() {
-        Some(code) => code,
-        None => status.signal().unwrap_or(0).saturating_add(CODE_OF_SIGNALS),
-    }
-}
-
-/// Whether a program has ended, and its number is the system's again.
-fn is_reaped(child: &mut Child) -> io::Result<bool> {
-    match child.try_wait() {
-        Ok(status) => Ok(status.is_some()),
-        Err(error) if error.raw_os_error() == Some(NO_CHILD) => Ok(true),
-        Err(error) => Err(error),
-    }
-}
-
-/// A new file with no name, to which all that is written is added. For a moment it has one.
-fn nameless_file(rt: &HostRuntime, work: &str, run: RunKey, ending: &str) -> io::Result<File> {
-    let path = beside_path(rt.alloc(), work, run, ending)?;
-    let file: File = OpenOptions::new()
-        .read(true)
-        .append(true)
-        .create_new(true)
-        .mode(STREAM_MODE)
-        .open(rt, path.as_str())?;
-    fs::remove_file(rt, path.as_str())?;
-    Ok(file)
-}
-
-fn add_arguments(command: &mut Command, arguments: &[String]) -> io::Result<()> {
-    for argument in arguments {
-        command.arg(argument.as_str())?;
-    }
-    Ok(())
-}
-
-/// Makes a program write into these files, and read nothing.
-fn set_streams(command: &mut Command, stdout: &File, stderr: &File) -> io::Result<()> {
-    command
-        .stdin(Stdio::null())
-        .stdout(stdout.try_clone()?)
-        .stderr(stderr.try_clone()?);
-    Ok(())
-}
-
-/// The programs that were started.
+/// The programs of runs, one for each.
 #[derive(Drop)]
 struct Table<'a> {
     rt: &'a HostRuntime,
     work: String,
     has_sessions: bool,
+    /// What starts programs, where they are not started as they are.
+    launcher: Option<Launcher>,
     sessions: Sessions<'a>,
+    sought: Vec<Sought>,
     started: Vec<Started>,
     /// Those of which nothing but their end is awaited.
     left: Vec<Child>,
 }
 
 impl<'a> Table<'a> {
-    fn position(&self, run: RunKey) -> Option<usize> {
-        self.started.iter().position(|started| {
-            started.run.instance == run.instance && started.run.job == run.job
-        })
-    }
-
     fn at(&mut self, run: RunKey) -> io::Result<&mut Started> {
-        let found = match self.position(run) {
+        let place = self.started.iter().position(|started| started.is_of(run));
+        let found = match place {
             Some(at) => self.started.get_mut(at),
             None => None,
         };
@@ -119,75 +47,69 @@ impl<'a> Table<'a> {
         }
     }
 
-    /// Lets go of programs that have ended since.
-    fn reap(&mut self) {
-        self.left
-            .retain_mut(|child| matches!(is_reaped(child), Ok(false)));
-    }
-
-    fn start(&mut self, place: &Place, ordered: &Ordered) -> io::Result<()> {
-        let alloc = self.rt.alloc();
-        let directory = output_path(alloc, self.work.as_str(), place, "", &[])?;
-        let first = self.first_word(ordered, directory.as_str())?;
-        let mut command = Command::new(alloc, first)?;
-        self.launch(place.run, &mut command, ordered, directory.as_str())
-    }
-
-    /// What is started first: the program, where it is found, or what makes it a session of its own
-    /// where the host can do that.
-    fn first_word<'b>(&self, ordered: &'b Ordered, directory: &str) -> io::Result<&'b str> {
-        let Some(program) = ordered.arguments.first() else {
-            return Err(io::Error::from(ErrorKind::InvalidInput));
-        };
-        // Otherwise its absence would show as the code of `setsid`.
-        if !can_start(self.rt, directory, program.as_str(), ordered)? {
-            return Err(io::Error::from(ErrorKind::NotFound));
-        }
+    /// Lets go of programs that have ended since, and sees to the shell.
+    fn refresh(&mut self) -> io::Result<()> {
+        reap(&mut self.left);
         if self.has_sessions {
-            Ok(SESSION)
-        } else {
-            Ok(program.as_str())
+            self.sessions.keep(Instant::now(self.rt)?)?;
         }
-    }
-
-    /// Starts a command that has its first word alone.
-    fn launch(
-        &mut self,
-        run: RunKey,
-        command: &mut Command,
-        ordered: &Ordered,
-        directory: &str,
-    ) -> io::Result<()> {
-        self.fill(command, ordered, directory)?;
-        let work = self.work.as_str();
-        let stdout = nameless_file(self.rt, work, run, OUTPUT_ENDING)?;
-        let stderr = nameless_file(self.rt, work, run, ERROR_ENDING)?;
-        set_streams(command, &stdout, &stderr)?;
-        self.make_room()?;
-        let child = command.spawn(self.rt)?;
-        self.started.push(Started {
-            run,
-            child,
-            stdout,
-            stderr,
-            progress: Progress::Alive,
-        })?;
         Ok(())
     }
 
-    /// Adds all to a command but its streams.
-    fn fill(&self, command: &mut Command, ordered: &Ordered, directory: &str) -> io::Result<()> {
-        if self.has_sessions {
-            command.arg("--")?;
-            add_arguments(command, &ordered.arguments)?;
-        } else {
-            add_arguments(command, ordered.arguments.get(1..).unwrap_or(&[]))?;
+    fn start(&mut self, place: &Place, ordered: &Ordered) -> io::Result<()> {
+        check_size(ordered)?;
+        self.refresh()?;
+        match &self.launcher {
+            Some(launcher) => {
+                let mut command = self.told(launcher, place, ordered)?;
+                self.launch(place.run, StartedAs::Launcher, &mut command)
+            }
+            None => self.seek(place, ordered),
         }
-        command.env_clear();
-        for variable in ordered.variables.iter() {
-            command.env(variable.name.as_str(), variable.value.as_str())?;
+    }
+
+    /// The command that starts a launcher. The program is not looked for: it may be there for the
+    /// launcher alone.
+    fn told(&self, launcher: &Launcher, place: &Place, ordered: &Ordered) -> io::Result<Command> {
+        let alloc = self.rt.alloc();
+        let root = root_path(alloc, self.work.as_str(), place.run)?;
+        launcher.command(alloc, self.has_sessions, place, root.as_str(), ordered)
+    }
+
+    /// Looks for a program, and starts it where it is found at once. Otherwise its absence would show
+    /// as the code of what is started first.
+    fn seek(&mut self, place: &Place, ordered: &Ordered) -> io::Result<()> {
+        let alloc = self.rt.alloc();
+        let directory = output_path(alloc, self.work.as_str(), place, "", &[])?;
+        match search_from(self.rt, directory.as_str(), ordered, 0)? {
+            Search::Found => self.start_found(place.run, directory.as_str(), ordered),
+            Search::Missing => Err(io::Error::from(ErrorKind::NotFound)),
+            Search::GoesOn(from) => {
+                let sought = Sought::new(alloc, place.run, ordered, directory, from)?;
+                self.sought.push(sought)?;
+                Ok(())
+            }
         }
-        command.current_dir(directory)?;
+    }
+
+    /// Starts a program that was found.
+    fn start_found(&mut self, run: RunKey, directory: &str, ordered: &Ordered) -> io::Result<()> {
+        let words = &ordered.arguments;
+        let mut command = bare_command(self.rt.alloc(), self.has_sessions, words, directory)?;
+        add_variables(&mut command, &ordered.variables)?;
+        self.launch(run, StartedAs::Itself, &mut command)
+    }
+
+    /// Starts a command that lacks its streams.
+    fn launch(
+        &mut self,
+        run: RunKey,
+        started_as: StartedAs,
+        command: &mut Command,
+    ) -> io::Result<()> {
+        self.make_room()?;
+        let started = started::start(self.rt, self.work.as_str(), run, started_as, command)?;
+        self.started.push(started)?;
         Ok(())
     }
 
@@ -198,76 +120,86 @@ impl<'a> Table<'a> {
         Ok(())
     }
 
+    /// Takes out a program that is still looked for.
+    fn take_sought(&mut self, run: RunKey) -> Option<Sought> {
+        let at = self.sought.iter().position(|sought| sought.is_of(run))?;
+        if at < self.sought.len() {
+            Some(self.sought.swap_remove(at))
+        } else {
+            None
+        }
+    }
+
+    /// Goes on looking for a program, and starts it where it is found.
+    fn go_on(&mut self, sought: Sought) -> io::Result<()> {
+        let mut sought = sought;
+        match sought.go_on(self.rt)? {
+            Search::Found => {
+                self.start_found(sought.run(), sought.directory(), sought.ordered())
+            }
+            Search::Missing => Err(io::Error::from(ErrorKind::NotFound)),
+            Search::GoesOn(_) => {
+                self.sought.push(sought)?;
+                Ok(())
+            }
+        }
+    }
+
     fn ask(&mut self, run: RunKey) -> io::Result<Option<i32>>
         ensures { IfOk result (λ state. IfSome state IsInRange) }
     {
-        self.reap();
-        let started = self.at(run)?;
-        match started.child.try_wait()? {
-            None => Ok(None),
-            Some(status) => Ok(Some(code_of(status))),
+        self.refresh()?;
+        match self.take_sought(run) {
+            Some(sought) => {
+                self.go_on(sought)?;
+                Ok(None)
+            }
+            None => self.at(run)?.ask(),
         }
     }
 
     fn kill(&mut self, run: RunKey) -> io::Result<bool> {
-        self.reap();
-        let Some(at) = self.position(run) else {
+        self.refresh()?;
+        if self.take_sought(run).is_some() {
+            return Ok(true);
+        }
+        let has_sessions = self.has_sessions;
+        let now = Instant::now(self.rt)?;
+        let place = self.started.iter().position(|started| started.is_of(run));
+        let Some(at) = place else {
             return Ok(true);
         };
-        let Some(started) = self.started.get_mut(at) else {
-            return Ok(true);
-        };
-        if let Progress::Alive = started.progress {
-            // Before it has a session of its own it would not be found in one.
-            kill_child(&mut started.child)?;
-        }
-        if !self.has_sessions {
-            return is_reaped(&mut started.child);
-        }
-        started.progress = self.sessions.end(started.child.id(), started.progress)?;
-        match started.progress {
-            Progress::Ended => is_reaped(&mut started.child),
-            Progress::Alive | Progress::Asked(..) => Ok(false),
+        match self.started.get_mut(at) {
+            None => Ok(true),
+            Some(started) if has_sessions => started.end(&mut self.sessions, now),
+            Some(started) => started.kill(),
         }
     }
 
     fn length(&mut self, run: RunKey) -> io::Result<u64> {
-        let started = self.at(run)?;
-        let output = started.stdout.metadata()?.len();
-        let error = started.stderr.metadata()?.len();
-        Ok(output.saturating_add(error))
+        self.at(run)?.length()
     }
 
     fn read(&mut self, run: RunKey, stream: Stream, from: u64, most: u32) -> io::Result<Vec<u8>>
         ensures { IfOk result (λ bytes. length bytes.items ≤ most) }
     {
         let alloc = self.rt.alloc();
-        let started = self.at(run)?;
-        match stream {
-            Stream::Output => read_part(alloc, &started.stdout, from, most),
-            Stream::Error => read_part(alloc, &started.stderr, from, most),
-        }
+        self.at(run)?.read(alloc, stream, from, most)
     }
 
     fn forget(&mut self, run: RunKey) {
-        let Some(at) = self.position(run) else {
+        drop(self.take_sought(run));
+        let place = self.started.iter().position(|started| started.is_of(run));
+        let Some(at) = place else {
             return;
         };
         if at >= self.started.len() {
             return;
         }
-        let Started { child, .. } = self.started.swap_remove(at);
+        let child = self.started.swap_remove(at).child();
         // There is room for it since it was started.
         let _ = self.left.push(child);
-        self.reap();
-    }
-}
-
-/// Ends a program alone, where it has not ended.
-fn kill_child(child: &mut Child) -> io::Result<()> {
-    match child.kill() {
-        Err(error) if error.raw_os_error() != Some(NO_CHILD) => Err(error),
-        _ => Ok(()),
+        reap(&mut self.left);
     }
 }
 
@@ -280,14 +212,17 @@ pub struct HostPrograms<'a> {
 }
 
 impl<'a> HostPrograms<'a> {
-    /// Programs in the folders of this directory.
-    pub fn new(rt: &'a HostRuntime, work: String) -> HostPrograms<'a> {
+    /// No programs yet. They are started in the folders of this directory, by a launcher, or as they
+    /// are.
+    pub fn new(rt: &'a HostRuntime, work: String, launcher: Option<Launcher>) -> HostPrograms<'a> {
         HostPrograms {
             table: Table {
                 rt,
                 work,
                 has_sessions: matches!(found_at(rt, SESSION), Ok(Some(_))),
+                launcher,
                 sessions: Sessions::new(rt),
+                sought: Vec::new(rt.alloc()),
                 started: Vec::new(rt.alloc()),
                 left: Vec::new(rt.alloc()),
             },

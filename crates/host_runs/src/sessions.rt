@@ -1,28 +1,19 @@
 //! Ending sessions of programs without waiting, by one shell that is kept for it.
 
 use crate::processes::Processes;
-use std::alloc::Global;
-use std::io::{self, ErrorKind, Read, Write};
-use std::os::fd::AsRawFd;
-use std::process::{Child, ChildStdin, ChildStdout, Command, Stdio};
+use crate::shell::Shell;
+use std::alloc::AllocError;
+use std::io::{self, ErrorKind};
+use std::time::{Duration, Instant};
 
 /// Makes a program the first of a session of its own, whose number is its own number.
 pub(crate) const SESSION: &str = "/usr/bin/setsid";
 
-const SHELL: &str = "/bin/sh";
-
-/// Ends the process of each number that it is told, or the group of one behind `-`, and writes one
-/// byte for it. It is nothing amiss where there is none.
-const SCRIPT: &str = "while read -r target; do
-  kill -s KILL -- \"$target\"
-  echo
-done";
-
-/// How many answers are read at a time.
-const MOST_ANSWERS: usize = 512;
-
 /// How often it is looked for what is left of a session, while anything is.
 const MOST_SEARCHES: u32 = 20;
+
+/// How long after it was tried to start a shell it is tried again, in milliseconds.
+const TRIED_AGAIN: u64 = 250;
 
 /// A question to a shell.
 #[derive(Clone, Copy)]
@@ -37,195 +28,123 @@ pub(crate) struct Question {
 #[derive(Clone, Copy)]
 pub(crate) enum Progress {
     Alive,
+    /// It was told then to end by itself.
+    Told(Instant),
     /// The shell was asked to end it, or what was found of it. So often it may be looked still.
     Asked(Question, u32),
     Ended,
 }
 
-/// Whether a call failed since it would have had to wait.
-fn would_wait(error: &io::Error) -> bool {
-    error.kind() == ErrorKind::WouldBlock
-}
-
-fn keep_from_waiting<P: AsRawFd>(end: &P) -> io::Result<()> {
-    if os::set_nonblocking(end.as_raw_fd(), true) == 0 {
-        Ok(())
-    } else {
-        Err(io::Error::from(ErrorKind::Other))
+/// The number of a session that can be ended: 0 and 1 would stand for others than those of programs.
+fn checked(session: u32) -> io::Result<u32> {
+    if session < 2 {
+        return Err(io::Error::from(ErrorKind::InvalidInput));
     }
-}
-
-/// Starts the shell, as what `SESSION` is told to start.
-fn launch(rt: &HostRuntime, command: &mut Command) -> io::Result<Child> {
-    command.arg("--")?.arg(SHELL)?.arg("-c")?.arg(SCRIPT)?;
-    command.env_clear();
-    command
-        .stdin(Stdio::piped())
-        .stdout(Stdio::piped())
-        .stderr(Stdio::null());
-    command.spawn(rt)
-}
-
-/// The shell, and the pipes to it and from it. It ends when the first is closed.
-struct Shell {
-    child: Child,
-    questions: ChildStdin,
-    answers: ChildStdout,
-    asked: u64,
-    answered: u64,
-}
-
-// Written out, so that each exit of a function that owns it has one call in place of one for each
-// part.
-impl Drop for Shell {
-    fn drop(self) {
-        let Shell {
-            child,
-            questions,
-            answers,
-            asked: _,
-            answered: _,
-        } = self;
-        drop(child);
-        drop(questions);
-        drop(answers);
-    }
-}
-
-impl Shell {
-    fn start(rt: &HostRuntime) -> io::Result<Shell> {
-        let mut child = Shell::spawned(rt)?;
-        let (Some(questions), Some(answers)) = (child.stdin.take(), child.stdout.take()) else {
-            return Err(io::Error::from(ErrorKind::BrokenPipe));
-        };
-        let shell = Shell {
-            child,
-            questions,
-            answers,
-            asked: 0,
-            answered: 0,
-        };
-        keep_from_waiting(&shell.questions)?;
-        keep_from_waiting(&shell.answers)?;
-        Ok(shell)
-    }
-
-    fn spawned(rt: &HostRuntime) -> io::Result<Child> {
-        let mut command = Command::new(rt.alloc(), SESSION)?;
-        launch(rt, &mut command)
-    }
-
-    fn has_ended(&mut self) -> bool {
-        !matches!(self.child.try_wait(), Ok(None))
-    }
-
-    /// Whether a question is answered.
-    fn has_answered(&mut self, place: u64) -> io::Result<bool> {
-        if place > self.answered {
-            self.take_answers()?;
-        }
-        Ok(place <= self.answered)
-    }
-
-    /// Counts answers that came.
-    fn take_answers(&mut self) -> io::Result<()> {
-        let mut room = [0u8; MOST_ANSWERS];
-        match self.answers.read(&mut room) {
-            Ok(count) => {
-                self.answered = self.answered.saturating_add(count as u64);
-                Ok(())
-            }
-            Err(error) if would_wait(&error) => Ok(()),
-            Err(error) => Err(error),
-        }
-    }
-
-    /// Tells it what to end. Which question that was, unless too many are not answered.
-    fn ask(&mut self, line: &str) -> io::Result<Option<u64>> {
-        match self.questions.write(line.as_bytes()) {
-            Ok(count) if count == line.len() => {
-                self.asked = self.asked.saturating_add(1);
-                Ok(Some(self.asked))
-            }
-            // A pipe takes so short a text whole or not at all.
-            Ok(_) => Err(io::Error::from(ErrorKind::WriteZero)),
-            Err(error) if would_wait(&error) => Ok(None),
-            Err(error) => Err(error),
-        }
-    }
-
-    /// Tells it the number of a session, to end the group of that number.
-    fn end_group(&mut self, alloc: Global, session: u32) -> io::Result<Option<u64>> {
-        let line = format!(in alloc; "-{session}\n")?;
-        self.ask(line.as_str())
-    }
-
-    /// Tells it processes to end, as many as it takes. Which question was the last of them, and
-    /// whether it took them all.
-    fn end_each(&mut self, alloc: Global, processes: &[u32]) -> io::Result<(u64, bool)> {
-        let mut last = self.answered;
-        for process in processes {
-            let line = format!(in alloc; "{process}\n")?;
-            match self.ask(line.as_str())? {
-                Some(place) => last = place,
-                None => return Ok((last, false)),
-            }
-        }
-        Ok((last, true))
-    }
+    Ok(session)
 }
 
 /// Ends sessions.
+///
+/// Whoever runs programs can end or stop the shell, or leave no room for a new one. So it is begun
+/// again when it has ended, and replaced when it does not answer; while there is none, all that is
+/// asked for is still to be done.
 #[derive(Drop)]
 pub(crate) struct Sessions<'a> {
     rt: &'a HostRuntime,
     shell: Option<Shell>,
     /// The number of the shell, or of the one that is started next.
     number: u64,
+    /// When it was tried last to start one.
+    tried: Option<Instant>,
+    /// Those that were killed, until they have ended.
+    killed: Vec<Shell>,
     processes: Processes<'a>,
     /// What was answered when it was looked for processes last.
     looked: Option<Question>,
 }
 
 impl<'a> Sessions<'a> {
+    /// No shell stands yet.
     pub(crate) fn new(rt: &'a HostRuntime) -> Sessions<'a> {
         Sessions {
             rt,
             shell: None,
             number: 0,
+            tried: None,
+            killed: Vec::new(rt.alloc()),
             processes: Processes::new(rt),
             looked: None,
+        }
+    }
+
+    /// Sees to it that a shell stands that has not ended and that answers, where one can be had now.
+    pub(crate) fn keep(&mut self, now: Instant) -> Result<(), AllocError> {
+        let shell = self.taken(now)?;
+        self.shell = shell;
+        Ok(())
+    }
+
+    /// Takes out the shell, where one can be had now.
+    fn taken(&mut self, now: Instant) -> Result<Option<Shell>, AllocError> {
+        self.killed.retain_mut(|shell| !shell.has_ended());
+        self.killed.reserve(1)?;
+        if let Some(mut shell) = self.shell.take() {
+            if shell.is_well(now) {
+                return Ok(Some(shell));
+            }
+            self.number = self.number.wrapping_add(1);
+            shell.kill();
+            // There is room for it.
+            let _ = self.killed.push(shell);
+        }
+        Ok(self.started(now))
+    }
+
+    /// A new shell, unless it cannot be started, or that was tried just before.
+    fn started(&mut self, now: Instant) -> Option<Shell> {
+        if let Some(tried) = self.tried {
+            if now.duration_since(tried) < Duration::from_millis(TRIED_AGAIN) {
+                return None;
+            }
+        }
+        self.tried = Some(now);
+        Shell::start(self.rt, now).ok()
+    }
+
+    /// Tells a session to end by itself, where that is possible now.
+    pub(crate) fn tell(&mut self, session: u32, now: Instant) -> io::Result<Progress> {
+        let session = checked(session)?;
+        let Some(mut shell) = self.taken(now)? else {
+            return Ok(Progress::Alive);
+        };
+        let answer = shell.tell_group(self.rt.alloc(), session);
+        self.shell = Some(shell);
+        if answer? {
+            Ok(Progress::Told(now))
+        } else {
+            Ok(Progress::Alive)
         }
     }
 
     /// Does the next of what is to be done to end a session, and tells how far that is. Its first
     /// process and the group of that are ended, and then all else that is found in it, until nothing
     /// is, or it was looked often.
-    pub(crate) fn end(&mut self, session: u32, progress: Progress) -> io::Result<Progress> {
-        // The numbers 0 and 1 would stand for other sessions than those of programs.
-        if session < 2 {
-            return Err(io::Error::from(ErrorKind::InvalidInput));
-        }
+    pub(crate) fn end(
+        &mut self,
+        session: u32,
+        progress: Progress,
+        now: Instant,
+    ) -> io::Result<Progress> {
+        let session = checked(session)?;
         if let Progress::Ended = progress {
             return Ok(Progress::Ended);
         }
-        let mut shell = match self.kept() {
-            Some(shell) => shell,
-            None => Shell::start(self.rt)?,
+        let Some(mut shell) = self.taken(now)? else {
+            return Ok(progress);
         };
         let answer = self.go_on(&mut shell, session, progress);
         self.shell = Some(shell);
         answer
-    }
-
-    /// Takes out the shell, where one is kept that has not ended.
-    fn kept(&mut self) -> Option<Shell> {
-        let mut shell = self.shell.take()?;
-        if shell.has_ended() {
-            self.number = self.number.wrapping_add(1);
-            return None;
-        }
-        Some(shell)
     }
 
     fn go_on(
@@ -236,7 +155,7 @@ impl<'a> Sessions<'a> {
     ) -> io::Result<Progress> {
         match progress {
             Progress::Asked(question, searches) if question.shell == self.number => {
-                if !shell.has_answered(question.place)? {
+                if question.place > shell.answered() {
                     return Ok(progress);
                 }
                 self.end_rest(shell, session, question, searches)
@@ -286,7 +205,7 @@ impl<'a> Sessions<'a> {
         self.processes.look()?;
         self.looked = Some(Question {
             shell: self.number,
-            place: shell.answered,
+            place: shell.answered(),
         });
         Ok(())
     }

@@ -1,7 +1,7 @@
 //! The program `remoted`.
 #![tactic(auto)]
 
-mod instances;
+mod beginning;
 mod serve_ports;
 
 use crate::serve_ports::{Served, serve_ports};
@@ -107,11 +107,13 @@ fn perform<O: Write, E: Write>(
         } => probe_with_file(rt, *port, send, (*want, *turns), output, errors),
         Invocation::Serve {
             work,
+            launcher,
             turns,
             instances,
         } => {
             let served = Served {
                 work,
+                launcher: *launcher,
                 turns: *turns,
                 words: instances,
             };

@@ -1,19 +1,22 @@
 //! `remoted serve`.
 
-use crate::instances::{Instances, InstancesFault, instances_of};
-use host_runs::{HostFolder, HostPrograms, clear_work};
+use crate::beginning::{begin, can_open, can_run, slots_of};
+use host_runs::{HostFolder, HostPrograms, Launcher, Work, launcher_path};
 use host_sockets::HostSockets;
+use instance_words::{Instances, InstancesFault, instances_of};
 use job_runs::JobRunner;
 use serve::serve;
 use std::io::{self, ErrorKind, Write};
+use std::thread;
 use std::time::Duration;
-use std::{fs, thread};
 
 /// What is served, and for how long.
 #[derive(Drop)]
 pub struct Served<'a> {
     /// The folder for the work of actions.
     pub work: &'a str,
+    /// What starts the program of each action, where it is not started as it is.
+    pub launcher: Option<&'a str>,
     pub turns: u64,
     /// A word `NAME:PORT:QUOTA:SLOTS[:PARENT]` for each instance.
     pub words: &'a [&'a str],
@@ -25,10 +28,11 @@ const FAILED: u8 = 1;
 
 const BAD_WORDS: u8 = 2;
 
-/// How often it is tried, once a millisecond, to end what runs, before the program ends.
-const MOST_ENDINGS: u32 = 5_000;
+/// How often it is tried, once a millisecond, to end what runs, before the program ends. A launcher
+/// that is told to end may take ten seconds.
+const MOST_ENDINGS: u32 = 15_000;
 
-fn is_memory(error: &io::Error) -> bool {
+pub fn is_memory(error: &io::Error) -> bool {
     error.kind() == ErrorKind::OutOfMemory
 }
 
@@ -58,8 +62,8 @@ fn listen<E: Write>(
         match sockets.listen(*port) {
             Ok(()) => {}
             Err(error) if is_memory(&error) => return Err(error),
-            Err(_) => {
-                writeln!(errors, "remoted: cannot listen on {port}")?;
+            Err(error) => {
+                writeln!(errors, "remoted: cannot listen on {port}: {error}")?;
                 return Ok(false);
             }
         }
@@ -76,35 +80,63 @@ fn announce<O: Write>(instances: &Instances, output: &mut O) -> io::Result<()> {
     output.flush()
 }
 
-/// Makes the folder for the work of actions, if it is not there; where it cannot, that is told, and
-/// the answer is no.
-fn make_folder<E: Write>(rt: &HostRuntime, work: &str, errors: &mut E) -> io::Result<bool> {
-    match fs::create_dir_all(rt, work) {
-        Ok(()) => Ok(true),
+/// What starts programs, with the instances' names; where it is no program, that is told, and there
+/// is no answer.
+fn launcher_of<E: Write>(
+    rt: &HostRuntime,
+    served: &Served<'_>,
+    instances: &Instances,
+    errors: &mut E,
+) -> io::Result<Option<Option<Launcher>>> {
+    let Some(program) = served.launcher else {
+        return Ok(Some(None));
+    };
+    match launcher_path(rt, program) {
+        Ok(path) => Ok(Some(Some(Launcher::new(path, names_of(rt, instances)?)))),
         Err(error) if is_memory(&error) => Err(error),
         Err(_) => {
-            writeln!(errors, "remoted: cannot make {work}")?;
-            Ok(false)
+            writeln!(errors, "remoted: cannot run {program}")?;
+            Ok(None)
         }
     }
 }
 
-/// Runs in this folder, of the jobs of these instances. What a former program left there is removed;
-/// what cannot be removed is in the way of the job of its name alone.
+fn names_of(rt: &HostRuntime, instances: &Instances) -> io::Result<Vec<String>> {
+    let mut names = Vec::new(rt.alloc());
+    for config in instances.configs.instances() {
+        names.push(String::from_str(rt.alloc(), config.name.as_str())?)?;
+    }
+    Ok(names)
+}
+
+/// A place for the runs of these instances. None where none of them runs any; where it cannot be had,
+/// that is told, and there is no answer.
+fn place_of<E: Write>(
+    rt: &HostRuntime,
+    path: &str,
+    instances: &Instances,
+    errors: &mut E,
+) -> io::Result<Option<Work>> {
+    if slots_of(instances) == 0 {
+        return Ok(Some(Work::nowhere(rt)));
+    }
+    if !can_run(rt, errors)? {
+        return Ok(None);
+    }
+    begin(rt, path, errors)
+}
+
+/// Runs in this place, of the jobs of these instances.
 fn job_runner<'a>(
     rt: &'a HostRuntime,
-    work: &str,
+    work: Work,
+    launcher: Option<Launcher>,
     instances: &Instances,
 ) -> io::Result<JobRunner<HostFolder<'a>, HostPrograms<'a>>> {
-    let _cleared: io::Result<()> = clear_work(rt, work);
-    let mut slots: usize = 0;
-    for config in instances.configs.instances() {
-        slots = slots.saturating_add(config.slots as usize);
-    }
-    let alloc = rt.alloc();
-    let folder = HostFolder::new(rt, String::from_str(alloc, work)?);
-    let programs = HostPrograms::new(rt, String::from_str(alloc, work)?);
-    Ok(JobRunner::new(alloc, folder, programs, slots)?)
+    let path = String::from_str(rt.alloc(), work.path())?;
+    let folder = HostFolder::new(rt, work);
+    let programs = HostPrograms::new(rt, path, launcher);
+    Ok(JobRunner::new(rt.alloc(), folder, programs, slots_of(instances))?)
 }
 
 /// Ends what runs, and removes its folders.
@@ -125,14 +157,20 @@ fn serve_instances<O: Write, E: Write>(
     output: &mut O,
     errors: &mut E,
 ) -> io::Result<u8> {
-    if !make_folder(rt, served.work, errors)? {
+    let Some(launcher) = launcher_of(rt, served, instances, errors)? else {
+        return Ok(FAILED);
+    };
+    if !can_open(instances, errors)? {
         return Ok(FAILED);
     }
     let mut sockets = HostSockets::new(rt, rt.alloc())?;
     if !listen(&mut sockets, &instances.ports, errors)? {
         return Ok(FAILED);
     }
-    let mut runs = job_runner(rt, served.work, instances)?;
+    let Some(work) = place_of(rt, served.work, instances, errors)? else {
+        return Ok(FAILED);
+    };
+    let mut runs = job_runner(rt, work, launcher, instances)?;
     announce(instances, output)?;
     let (alloc, configs) = (rt.alloc(), &instances.configs);
     let ended = serve(
@@ -144,7 +182,10 @@ fn serve_instances<O: Write, E: Write>(
         served.turns,
     );
     end_runs(rt, &mut runs);
-    ended?;
+    let cut = ended?.cut;
+    if cut > 0 {
+        writeln!(errors, "remoted: cut short for want of memory: {cut}")?;
+    }
     Ok(DONE)
 }
 
@@ -156,6 +197,10 @@ pub fn serve_ports<O: Write, E: Write>(
     output: &mut O,
     errors: &mut E,
 ) -> io::Result<u8> {
+    if served.work.is_empty() {
+        writeln!(errors, "remoted: --work names no folder")?;
+        return Ok(BAD_WORDS);
+    }
     match instances_of(rt.alloc(), served.words) {
         Ok(instances) => serve_instances(rt, served, &instances, output, errors),
         Err(fault) => tell_fault(served.words, fault, errors),

@@ -1,4 +1,10 @@
 //! The words for instances on the command line of `serve`.
+#![tactic(auto)]
+
+ghost use Rattle.std.specs.Prelude.{◌≡◌, ◌++◌, IfOk, IfSome, Some, codes, map, option_map, string_bytes};
+ghost use Rattle.decimals.specs.Number.{decimal_of};
+ghost use Rattle.server_events.specs.Shown.{config_value};
+ghost use Rattle.instance_words.specs.Words.{AreWordsOf, IsWordOf, parent_part, written};
 
 use decimals::decimal;
 use server_events::{ConfigFault, Configs, InstanceConfig};
@@ -55,24 +61,51 @@ struct Parts<'a> {
     parent: Option<&'a str>,
 }
 
+/// What stands before the first colon of a text, and behind it.
+fn cut(text: &str) -> Option<(&str, &str)>
+    ensures { IfSome result (λ parts. text.now ≡ parts.0.now ++ (codes ":" ++ parts.1.now)) }
+{
+    text.split_once(':')
+}
+
 /// The four parts of a word, or five.
-fn parts_of(word: &str) -> Option<Parts<'_>> {
-    let mut parts = word.split(':');
-    let found = Parts {
-        name: parts.next()?,
-        port: parts.next()?,
-        quota: parts.next()?,
-        slots: parts.next()?,
-        parent: parts.next(),
-    };
-    match parts.next() {
-        None => Some(found),
-        Some(_) => None,
+fn parts_of(word: &str) -> Option<Parts<'_>>
+    ensures { IfSome result (λ parts. word.now ≡ written parts.name.now parts.port.now
+        parts.quota.now parts.slots.now (option_map (λ parent. parent.now) parts.parent)) }
+{
+    let (name, rest) = cut(word)?;
+    let (port, rest) = cut(rest)?;
+    let (quota, rest) = cut(rest)?;
+    let (slots, parent) = slots_and_parent(rest)?;
+    Some(Parts {
+        name,
+        port,
+        quota,
+        slots,
+        parent,
+    })
+}
+
+/// The last part of a word, or the last two.
+fn slots_and_parent(rest: &str) -> Option<(&str, Option<&str>)>
+    ensures { IfSome result (λ parts. rest.now ≡ parts.0.now
+        ++ parent_part (option_map (λ parent. parent.now) parts.1)) }
+{
+    match cut(rest) {
+        None => Some((rest, None)),
+        Some((slots, parent)) => {
+            if parent.contains(':') {
+                return None;
+            }
+            Some((slots, Some(parent)))
+        }
     }
 }
 
 /// The port that digits write.
-fn port_of(digits: &str) -> Option<u16> {
+fn port_of(digits: &str) -> Option<u16>
+    ensures { IfSome result (λ port. decimal_of digits.now ≡ Some port) }
+{
     match u16::try_from(decimal(digits.as_bytes())?) {
         Ok(port) if port > 0 => Some(port),
         _ => None,
@@ -83,7 +116,9 @@ fn port_of(digits: &str) -> Option<u16> {
 const MOST_SLOTS: u32 = 64;
 
 /// The slots that digits write.
-fn slots_of(digits: &str) -> Option<u32> {
+fn slots_of(digits: &str) -> Option<u32>
+    ensures { IfSome result (λ slots. decimal_of digits.now ≡ Some slots) }
+{
     let slots = u32::try_from(decimal(digits.as_bytes())?).ok()?;
     if slots > MOST_SLOTS {
         return None;
@@ -92,7 +127,11 @@ fn slots_of(digits: &str) -> Option<u32> {
 }
 
 /// The port, the quota and the slots.
-fn numbers_of(parts: &Parts<'_>) -> Result<(u16, u64, u32), WordFault> {
+fn numbers_of(parts: &Parts<'_>) -> Result<(u16, u64, u32), WordFault>
+    ensures port { IfOk result (λ numbers. decimal_of parts.now.port.now ≡ Some numbers.0) }
+    ensures quota { IfOk result (λ numbers. decimal_of parts.now.quota.now ≡ Some numbers.1) }
+    ensures slots { IfOk result (λ numbers. decimal_of parts.now.slots.now ≡ Some numbers.2) }
+{
     let port = port_of(parts.port).ok_or(WordFault::Port)?;
     let quota = decimal(parts.quota.as_bytes()).ok_or(WordFault::Quota)?;
     let slots = slots_of(parts.slots).ok_or(WordFault::Slots)?;
@@ -100,7 +139,10 @@ fn numbers_of(parts: &Parts<'_>) -> Result<(u16, u64, u32), WordFault> {
 }
 
 /// The name of a parent, as a text of its own.
-fn owned(alloc: Global, parent: Option<&str>) -> Result<Option<String>, AllocError> {
+fn owned(alloc: Global, parent: Option<&str>) -> Result<Option<String>, AllocError>
+    ensures { IfOk result (λ owned. option_map string_bytes owned
+        ≡ option_map (λ parent. parent.now) parent.entry) }
+{
     match parent {
         None => Ok(None),
         Some(name) => Ok(Some(String::from_str(alloc, name)?)),
@@ -112,7 +154,9 @@ fn instance_of(
     alloc: Global,
     place: usize,
     word: &str,
-) -> Result<(u16, InstanceConfig), InstancesFault> {
+) -> Result<(u16, InstanceConfig), InstancesFault>
+    ensures { IfOk result (λ found. IsWordOf word.now found.0 (config_value found.1)) }
+{
     let Some(parts) = parts_of(word) else {
         return Err(InstancesFault::Bad(place, WordFault::Parts));
     };
@@ -144,16 +188,35 @@ fn fault_of(fault: ConfigFault) -> InstancesFault {
     }
 }
 
-/// The instances of the words, or the first fault: in a word by itself; else in the configurations;
-/// else a port that is given again.
-pub fn instances_of(alloc: Global, words: &[&str]) -> Result<Instances, InstancesFault> {
-    let mut configs = Vec::new(alloc);
+/// The ports and the configurations of the words, or the first fault of a word by itself.
+fn read_words(
+    alloc: Global,
+    words: &[&str],
+) -> Result<(Vec<u16>, Vec<InstanceConfig>), InstancesFault>
+    ensures { IfOk result (λ read. AreWordsOf (map (λ word. word.now) words.now) read.0.items
+        (map config_value read.1.items)) }
+{
     let mut ports: Vec<u16> = Vec::new(alloc);
-    for (place, word) in words.iter().enumerate() {
+    let mut configs = Vec::new(alloc);
+    let mut left = words;
+    let mut place = 0;
+    'words: while let [word, rest @ ..] = left {
         let (port, config) = instance_of(alloc, place, word)?;
         ports.push(port)?;
         configs.push(config)?;
+        left = rest;
+        place += 1;
     }
+    Ok((ports, configs))
+}
+
+/// The instances of the words, or the first fault: in a word by itself; else in the configurations;
+/// else a port that is given again.
+pub fn instances_of(alloc: Global, words: &[&str]) -> Result<Instances, InstancesFault>
+    ensures { IfOk result (λ instances. AreWordsOf (map (λ word. word.now) words.now)
+        instances.ports.items instances.configs) }
+{
+    let (ports, configs) = read_words(alloc, words)?;
     let configs = match Configs::new(configs) {
         Ok(configs) => configs,
         Err(fault) => return Err(fault_of(fault)),

@@ -1,0 +1,50 @@
+//! What this host offers to programs of actions.
+
+use crate::files::found_at;
+use crate::sessions::SESSION;
+use std::io;
+use std::process::{Command, Stdio};
+
+/// A program that every host has.
+const SHELL: &str = "/bin/sh";
+
+/// The system's number for a program that cannot be waited for.
+const NO_CHILD: i32 = 10;
+
+/// Whether programs can have sessions of their own, by which what they start is ended with them.
+pub fn has_sessions(rt: &HostRuntime) -> bool {
+    matches!(found_at(rt, SESSION), Ok(Some(_)))
+}
+
+/// Whether this process is told how its programs end: it is not where it was started with the signal
+/// of their end ignored. An error says that no program can be started.
+pub fn sees_ends(rt: &HostRuntime) -> io::Result<bool> {
+    let mut command = Command::new(rt.alloc(), SHELL)?;
+    command.arg("-c")?.arg(":")?;
+    command
+        .stdin(Stdio::null())
+        .stdout(Stdio::null())
+        .stderr(Stdio::null());
+    sees_end_of(rt, &mut command)
+}
+
+fn sees_end_of(rt: &HostRuntime, command: &mut Command) -> io::Result<bool> {
+    let mut child = command.spawn(rt)?;
+    match child.wait() {
+        Ok(_) => Ok(true),
+        Err(error) if error.raw_os_error() == Some(NO_CHILD) => Ok(false),
+        Err(error) => Err(error),
+    }
+}
+
+/// How many files this process may have open.
+pub fn most_open() -> io::Result<u64> {
+    let mut limit = libc::types::rlimit {
+        rlim_cur: 0,
+        rlim_max: 0,
+    };
+    if libc::getrlimit(libc::RLIMIT_NOFILE, &mut limit) < 0 {
+        return Err(io::Error::from_raw_os_error(os::errno()));
+    }
+    Ok(limit.rlim_cur)
+}

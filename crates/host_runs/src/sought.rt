@@ -1,0 +1,99 @@
+//! Programs that are looked for.
+
+ghost use Rattle.std.specs.Prelude.{◌≡◌, IfOk, map, string_bytes};
+ghost use Rattle.runner.specs.Values.{command_shown, variable_shown};
+
+use crate::search::{Search, search_from};
+use runner::{Command as Ordered, RunKey, Variable};
+use std::alloc::{AllocError, Global};
+use std::io;
+
+/// A program whose search path is so long that it is still looked for.
+#[derive(Drop)]
+pub(crate) struct Sought {
+    run: RunKey,
+    ordered: Ordered,
+    directory: String,
+    /// From which byte of the search path on it was not looked yet.
+    from: usize,
+}
+
+fn copy_of(alloc: Global, ordered: &Ordered) -> Result<Ordered, AllocError>
+    ensures { IfOk result (λ copy. command_shown copy ≡ command_shown ordered.now) }
+{
+    let arguments = copies_of(alloc, &ordered.arguments)?;
+    let variables = variables_of(alloc, &ordered.variables)?;
+    Ok(Ordered {
+        arguments,
+        variables,
+    })
+}
+
+fn copies_of(alloc: Global, texts: &[String]) -> Result<Vec<String>, AllocError>
+    ensures { IfOk result (λ copies. map string_bytes copies.items ≡ map string_bytes texts.now) }
+{
+    let mut copies = Vec::new(alloc);
+    let mut left = texts;
+    while let [first, rest @ ..] = left {
+        copies.push(first.clone()?)?;
+        left = rest;
+    }
+    Ok(copies)
+}
+
+fn variables_of(alloc: Global, variables: &[Variable]) -> Result<Vec<Variable>, AllocError>
+    ensures { IfOk result (λ copies. map variable_shown copies.items
+        ≡ map variable_shown variables.now) }
+{
+    let mut copies = Vec::new(alloc);
+    let mut left = variables;
+    while let [first, rest @ ..] = left {
+        let name = first.name.clone()?;
+        let value = first.value.clone()?;
+        copies.push(Variable { name, value })?;
+        left = rest;
+    }
+    Ok(copies)
+}
+
+impl Sought {
+    pub(crate) fn new(
+        alloc: Global,
+        run: RunKey,
+        ordered: &Ordered,
+        directory: String,
+        from: usize,
+    ) -> Result<Sought, AllocError> {
+        Ok(Sought {
+            run,
+            ordered: copy_of(alloc, ordered)?,
+            directory,
+            from,
+        })
+    }
+
+    pub(crate) fn is_of(&self, run: RunKey) -> bool {
+        self.run.instance == run.instance && self.run.job == run.job
+    }
+
+    pub(crate) fn run(&self) -> RunKey {
+        self.run
+    }
+
+    pub(crate) fn ordered(&self) -> &Ordered {
+        &self.ordered
+    }
+
+    pub(crate) fn directory(&self) -> &str {
+        self.directory.as_str()
+    }
+
+    /// Goes on with the search.
+    pub(crate) fn go_on(&mut self, rt: &HostRuntime) -> io::Result<Search> {
+        let found = search_from(rt, self.directory.as_str(), &self.ordered, self.from)?;
+        if let Search::GoesOn(from) = found {
+            self.from = from;
+        }
+        Ok(found)
+    }
+}

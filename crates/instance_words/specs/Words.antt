@@ -1,0 +1,31 @@
+-- What words say of instances: `NAME:PORT:QUOTA:SLOTS[:PARENT]`.
+use Rattle.std.specs.Prelude.{◌≡◌, ℕ, List, [], ◌∷◌, ◌++◌, Option, Some, None, codes, ⊤}
+use Rattle.decimals.specs.Number.{decimal_of}
+use Rattle.server_events.specs.Configs.{ConfigValue}
+
+-- what stands behind the slots
+abbrev pub parent_part : Option (List ℕ) → List ℕ
+parent_part None = []
+parent_part (Some name) = codes ":" ++ name
+
+-- the parts of a word, with `:` between them
+abbrev pub written : List ℕ → List ℕ → List ℕ → List ℕ → Option (List ℕ) → List ℕ
+written name port quota slots parent =
+    name ++ (codes ":" ++ (port ++ (codes ":" ++ (quota ++ (codes ":" ++ (slots ++ parent_part parent))))))
+
+-- a word says that an instance has a port and a configuration
+pub record IsWordOf (word : List ℕ) (port : ℕ) (config : ConfigValue) : Type 0 where
+  pub port_digits : List ℕ
+  pub quota_digits : List ℕ
+  pub slots_digits : List ℕ
+  pub is_written : word ≡ written config.name port_digits quota_digits slots_digits config.parent
+  pub is_port : decimal_of port_digits ≡ Some port
+  pub is_quota : decimal_of quota_digits ≡ Some config.quota
+  pub is_slots : decimal_of slots_digits ≡ Some config.slots
+
+-- the words say the ports and the configurations, in their order
+abbrev pub AreWordsOf : List (List ℕ) → List ℕ → List ConfigValue → Type 0
+AreWordsOf [] [] [] = ⊤
+AreWordsOf (word ∷ words) (port ∷ ports) (config ∷ configs) =
+    IsWordOf word port config × AreWordsOf words ports configs
+AreWordsOf _ _ _ = ⊥

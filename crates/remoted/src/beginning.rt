@@ -1,0 +1,113 @@
+//! What has to be there before instances are served, and what an operator is told of it.
+
+use crate::serve_ports::is_memory;
+use host_runs::{Complaint, Work, WorkFault, begin_work, has_sessions, most_open, sees_ends};
+use instance_words::Instances;
+use std::io::{self, Write};
+
+/// How many connections an instance has at most.
+const MOST_CONNECTIONS: u64 = 64;
+
+/// How many files are open for each action that runs: what it writes goes to two.
+const FILES_OF_RUN: u64 = 2;
+
+/// How many more a server has open, at most and at least.
+const OTHER_FILES: u64 = 64;
+
+const FEWEST_OTHER_FILES: u64 = 32;
+
+/// How many actions are run at a time, at most.
+pub fn slots_of(instances: &Instances) -> usize {
+    let mut slots: usize = 0;
+    for config in instances.configs.instances() {
+        slots = slots.saturating_add(config.slots as usize);
+    }
+    slots
+}
+
+/// Whether so many files may be open that the instances can be served at all; where these are fewer
+/// than may be needed, that is told.
+pub fn can_open<E: Write>(instances: &Instances, errors: &mut E) -> io::Result<bool> {
+    let most = most_open()?;
+    let count = instances.ports.len() as u64;
+    let runs = FILES_OF_RUN.saturating_mul(slots_of(instances) as u64);
+    let needed = count
+        .saturating_mul(MOST_CONNECTIONS + 1)
+        .saturating_add(runs)
+        .saturating_add(OTHER_FILES);
+    let fewest = count.saturating_mul(2).saturating_add(FEWEST_OTHER_FILES);
+    if most < needed {
+        writeln!(
+            errors,
+            "remoted: {most} files may be open, and up to {needed} are needed: raise the limit \
+             (ulimit -n {needed}, or LimitNOFILE={needed})"
+        )?;
+    }
+    Ok(most >= fewest)
+}
+
+/// Whether programs can be run on this host; what it lacks for that is told.
+pub fn can_run<E: Write>(rt: &HostRuntime, errors: &mut E) -> io::Result<bool> {
+    if !has_sessions(rt) {
+        writeln!(
+            errors,
+            "remoted: there is no /usr/bin/setsid, so what a program starts is not ended with it"
+        )?;
+    }
+    match sees_ends(rt) {
+        Ok(true) => Ok(true),
+        Ok(false) => {
+            writeln!(
+                errors,
+                "remoted: SIGCHLD is ignored, so how a program ends is not seen: start it by \
+                 env --default-signal=CHLD remoted"
+            )?;
+            Ok(false)
+        }
+        Err(error) if is_memory(&error) => Err(error),
+        Err(error) => {
+            writeln!(errors, "remoted: cannot start /bin/sh: {error}")?;
+            Ok(false)
+        }
+    }
+}
+
+/// A place for the runs of this start; where there is none, that is told, and there is no answer.
+pub fn begin<E: Write>(rt: &HostRuntime, path: &str, errors: &mut E) -> io::Result<Option<Work>> {
+    let mut complaints = Vec::new(rt.alloc());
+    let begun = begin_work(rt, path, &mut complaints);
+    for complaint in complaints.iter() {
+        tell(path, complaint, errors)?;
+    }
+    match begun {
+        Ok(work) => Ok(Some(work)),
+        Err(fault) => {
+            tell_fault(path, fault, errors)?;
+            Ok(None)
+        }
+    }
+}
+
+fn tell<E: Write>(path: &str, complaint: &Complaint, errors: &mut E) -> io::Result<()> {
+    match complaint {
+        Complaint::Unlocked(error) => writeln!(
+            errors,
+            "remoted: cannot tell whether another server works in {path}: {error}"
+        ),
+        Complaint::Left(left, error) => writeln!(errors, "remoted: cannot remove {left}: {error}"),
+    }
+}
+
+fn tell_fault<E: Write>(path: &str, fault: WorkFault, errors: &mut E) -> io::Result<()> {
+    match fault {
+        WorkFault::Unmade(error) if is_memory(&error) => Err(error),
+        WorkFault::Unusable(error) if is_memory(&error) => Err(error),
+        WorkFault::Unmade(error) => writeln!(errors, "remoted: cannot make {path}: {error}"),
+        WorkFault::Unusable(error) => writeln!(errors, "remoted: cannot work in {path}: {error}"),
+        WorkFault::Foreign => writeln!(
+            errors,
+            "remoted: {path} is not empty, and is not a folder of remoted's"
+        ),
+        WorkFault::InUse => writeln!(errors, "remoted: another server works in {path}"),
+    }
+}

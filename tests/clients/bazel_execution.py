@@ -1,5 +1,6 @@
 #!/usr/bin/env python3
-"""bazel_execution.py PROGRAM [--slots N] [--jobs N] [--seconds N] [--keep]: Bazel has a server build its actions.
+"""bazel_execution.py PROGRAM [--slots N] [--jobs N] [--seconds N] [--launcher L] [--keep]:
+Bazel has a server build its actions.
 
 PROGRAM is the built `remoted`. A workspace of some 200 actions is made: C++ libraries and programs that are compiled,
 linked and run, genrules (over one another, over directories, over 2,000 files, with outputs of 20 MB), rules whose
@@ -180,6 +181,7 @@ def build_all(folder, options):
         [("main", 2 * 10**9, options.slots), ("other", 2 * 10**9, options.slots)],
         2**62,
         heard=True,
+        launcher=options.launcher,
     ) as server:
         main, other = server.ports
         with Bazel(folder, os.path.join(folder, "here"), "base-here") as bazel:
@@ -228,6 +230,7 @@ def main():
     parser.add_argument("--slots", type=int, default=os.cpu_count())
     parser.add_argument("--jobs", type=int, default=20)
     parser.add_argument("--seconds", type=int, default=600)
+    parser.add_argument("--launcher")
     parser.add_argument("--keep", action="store_true")
     options = parser.parse_args()
     folder = tempfile.mkdtemp(prefix="bazel-execution-")

@@ -118,7 +118,7 @@ def working_directory(c):
         )
         number = done.name.rpartition("/")[2]
         told = peer.text(done.result.stdout).decode().split("\n")
-        expect(told, [f"{os.path.realpath(c.server.folder)}/0-{number}/w/d", "o", "p", "w", ""], "working directory")
+        expect(told, [f"{os.path.realpath(c.server.start())}/0-{number}/w/d", "o", "p", "w", ""], "working directory")
         expect(c.said(peer, shell("stat -c %a .")), b"700\n", "the mode of the folder")
     return "a folder of mode 0700 for each run; working directory and the outputs' parents are made"
 
@@ -229,7 +229,7 @@ def odd_trees(c):
         number = int(peer.execute(c.action(shell("exit 3"))).name.rpartition("/")[2])
         c.ran(peer, shell(f"mkdir ../0-{number + 2}; exit 4"), 4)
         c.failed(peer, shell("printf taken"), "folder")
-        stands = os.path.join(c.server.folder, f"0-{number + 2}")
+        stands = os.path.join(c.server.start(), f"0-{number + 2}")
         if os.path.isdir(stands):
             os.rmdir(stands)
         expect(c.said(peer, shell("printf again")), b"again", "the next job")

@@ -209,7 +209,7 @@ def settled(server, made):
     if stray:
         raise SystemExit(f"FAULT folders are left: {stray[:10]}")
     for name in server.entries():
-        os.rmdir(os.path.join(server.folder, name))
+        os.rmdir(os.path.join(server.start(), name))
     zombies = programs.settled(lambda: programs.zombies(server.process.pid))
     if zombies:
         raise SystemExit(f"FAULT {len(zombies)} ended programs were not waited for")
@@ -219,7 +219,7 @@ def settled(server, made):
 
 def is_made(server, name):
     """Whether an action made it: an empty folder of a run to come, or of one that then failed."""
-    path = os.path.join(server.folder, name)
+    path = os.path.join(server.start(), name)
     return (
         re.fullmatch(r"0-\d+", name)
         and os.path.isdir(path)

@@ -49,23 +49,24 @@ PLAIN_USER = [
 ]
 
 
-def make_leftovers(folder):
-    """What a run before may have left in the folder, and things of others, which stay."""
+def make_leftovers(program, folder):
+    """What starts before may have left in the folder, once one has taken it, and things of others, which stay."""
+    with Server(program, INSTANCES[:1], 2**62, folder=folder):
+        pass
     aside = os.path.join(folder, "aside")
-    for path in ["0-1/deep/er", "3-17", "aside", "0-x", "0-1-2"]:
+    for path in ["start-5/0-1/deep/er", "start-77/3-17", "aside", "2024-11", "0-1", "start-x", "start-07"]:
         os.makedirs(os.path.join(folder, path))
-    for path in ["0-1/deep/er/file", "1-9.out", "1-9.err", "aside/kept", "0-5.txt"]:
+    for path in ["start-5/0-1/deep/er/file", "start-77/1-9.code", "aside/kept", "start-5.txt"]:
         with open(os.path.join(folder, path), "w") as file:
             file.write("left")
-    os.symlink(aside, os.path.join(folder, "0-2"))
-    os.symlink(aside, os.path.join(folder, "3-17", "link"))
+    os.symlink(aside, os.path.join(folder, "start-6"))
+    os.symlink(aside, os.path.join(folder, "start-77", "3-17", "link"))
 
 
 def leftovers(context):
-    kept = ["0-1-2", "0-5.txt", "0-x", "aside"]
-    left = programs.settled(lambda: [name for name in context.server.entries() if name not in kept])
-    expect(left, [], "left of the run before")
-    expect(context.server.entries(), kept, "what is no run's")
+    kept = ["0-1", "2024-11", "aside", "remoted.lock", "start-07", "start-5.txt", "start-x"]
+    own = os.path.basename(context.server.start())
+    expect(sorted(os.listdir(context.server.folder)), sorted([*kept, own]), "what is no run's")
     expect(os.listdir(os.path.join(context.server.folder, "aside")), ["kept"], "what a link led to")
     return "what a run before left is removed at the start, through no link, and nothing else"
 
@@ -116,11 +117,11 @@ def as_root(program, options):
     """All checks on one server, whose umask lets nobody else read."""
     folder = tempfile.mkdtemp(prefix="executions-")
     if is_wanted("leftovers", options):
-        make_leftovers(folder)
+        make_leftovers(program, folder)
     every = [leftovers, *OF_INPUTS, *OF_ENDS, *([ends.largest] if options.large else []), nothing_left]
     try:
         with Server(program, INSTANCES, 2**62, {"SECRET": "of the server"}, folder, True, umask=0o077) as server:
-            return run_all(Context(server, ["0-1-2", "0-5.txt", "0-x", "aside"]), every, options)
+            return run_all(Context(server, []), every, options)
     finally:
         shutil.rmtree(folder, ignore_errors=True)
 

@@ -38,6 +38,14 @@ def running(folder, server=None):
     return found
 
 
+def helpers(folder, server):
+    """The children of a server that are no programs of actions: numbers and command lines."""
+    children = [int(name) for name in os.listdir("/proc") if name.isdigit() and _state(name)[1] == server]
+    actions = running(folder, server)
+    told = {each: _read(f"/proc/{each}/cmdline").replace(b"\0", b" ").decode(errors="replace") for each in children}
+    return {each: text for each, text in told.items() if text and each not in actions}
+
+
 def zombies(server):
     """The ended children of a server for which it has not asked."""
     return [int(name) for name in os.listdir("/proc") if name.isdigit() and _state(name) == ("Z", server)]

@@ -20,10 +20,13 @@ class Server:
     """A server with these instances: a name, a quota and maybe slots and a parent each. More may stand in its environment.
 
     It works in a folder of its own, or in `folder`, which is then left. What it says on standard error is kept where
-    it is `heard`. Further words are those of `Popen`.
+    it is `heard`. Programs are started by `launcher`, where one is given. Further words are those of `Popen`: `stderr`
+    among them is where standard error goes that is not kept.
     """
 
-    def __init__(self, program, instances, turns=None, environment=None, folder=None, heard=False, **more):
+    def __init__(
+        self, program, instances, turns=None, environment=None, folder=None, heard=False, launcher=None, **more
+    ):
         self.program, self.ports = program, free_ports(len(instances))
         self.work = None if folder else tempfile.TemporaryDirectory()
         self.folder = folder or self.work.name
@@ -35,25 +38,37 @@ class Server:
             ":".join(str(part) for part in (each[0], port, *word(*each))) for each, port in zip(instances, self.ports)
         ]
         turns = [] if turns is None else ["--turns", str(turns)]
+        launched = [] if launcher is None else ["--launcher", launcher]
         self.process = subprocess.Popen(
-            [program, "serve", "--work", self.folder, *turns, *words],
+            [program, "serve", "--work", self.folder, *launched, *turns, *words],
             stdout=subprocess.PIPE,
-            stderr=self.errors,
             text=True,
             env={**os.environ, **(environment or {})},
-            **more,
+            **{"stderr": self.errors, **more},
         )
-        for (name, *_), port in zip(instances, self.ports):
+        try:
+            self._hear_ports([name for name, *_ in instances])
+        except BaseException:
+            self.process.kill()
+            self.process.wait()
+            raise
+
+    def _hear_ports(self, names):
+        for name, port in zip(names, self.ports):
             line = self.process.stdout.readline()
             if line != f"listening {name} {port}\n":
-                raise SystemExit(f"no line for {name}: {line!r}")
+                raise SystemExit(f"no line for {name}: {line!r} {self.said() if self.errors else ''}")
 
     def __enter__(self):
         return self
 
     def __exit__(self, *_):
         self.process.terminate()
-        self.process.wait()
+        try:
+            self.process.wait(10)
+        except subprocess.TimeoutExpired:
+            self.process.kill()
+            self.process.wait()
         self.process.stdout.close()
         if self.work:
             self.work.cleanup()
@@ -66,9 +81,16 @@ class Server:
         size = os.fstat(self.errors.fileno()).st_size
         return os.pread(self.errors.fileno(), size, 0).decode().splitlines()
 
+    def start(self):
+        """The folder of the server's runs in that of `--work`, the one that was made last; None where there is none."""
+        starts = [os.path.join(self.folder, name) for name in os.listdir(self.folder) if name.startswith("start-")]
+        folders = [path for path in starts if path.rpartition("-")[2].isdecimal() and not os.path.islink(path)]
+        return max(folders, key=lambda path: int(path.rpartition("-")[2]), default=None)
+
     def entries(self):
-        """What stands in the folder of `--work`."""
-        return sorted(os.listdir(self.folder))
+        """What stands in that folder."""
+        start = self.start()
+        return sorted(os.listdir(start)) if start else []
 
     def descriptors(self):
         return len(os.listdir(self._proc("fd")))

@@ -52,14 +52,18 @@ pub fn serve_alone<S: Sockets>(configs: &Configs, sockets: &mut S, turns: u64, o
 {
     let mut runs = NoRuns { is_ordered: false };
     let mut errors: Vec<u8> = Vec::new(output.alloc);
-    output.expect(serve(
+    let served = serve(
         output.alloc,
         configs,
         sockets,
         &mut runs,
         &mut errors,
         turns,
-    ));
+    );
+    match served {
+        Ok(_tally) => {}
+        Err(_) => output.fail(Fault::OutOfMemory),
+    }
     if runs.is_ordered || !errors.is_empty() {
         output.fail(Fault::InputOrOutput);
     }

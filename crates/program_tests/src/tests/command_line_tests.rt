@@ -57,9 +57,16 @@ impl Task {
             } => self.is("probe", Some(*send), (u64::from(*port), *want, *turns), &[]),
             Invocation::Serve {
                 work,
+                launcher: None,
                 turns,
                 instances,
             } => self.is("serve", Some(*work), (*turns, 0, 0), instances),
+            Invocation::Serve {
+                work,
+                launcher: Some(launcher),
+                turns,
+                instances,
+            } => self.is(*launcher, Some(*work), (*turns, 0, 0), instances),
         }
     }
 }
@@ -82,7 +89,7 @@ impl Case for Wanted {
     }
 }
 
-static TASKS: [(&str, Wanted); 7] = [
+static TASKS: [(&str, Wanted); 8] = [
     (
         "remoted",
         Asks(Task {
@@ -144,6 +151,15 @@ static TASKS: [(&str, Wanted); 7] = [
             file: Some("here"),
             numbers: (5, 0, 0),
             instances: &["a:1:2:3", "b:4:5:6", "no-instance"],
+        }),
+    ),
+    (
+        "remoted serve --launcher bin/sandbox --work here a:1:2:3",
+        Asks(Task {
+            kind: "bin/sandbox",
+            file: Some("here"),
+            numbers: (1000000000, 0, 0),
+            instances: &["a:1:2:3"],
         }),
     ),
 ];

@@ -1,0 +1,220 @@
+#!/usr/bin/env python3
+"""command_line_faults.py PROGRAM [--slow FACTOR]: what `remoted` says where it cannot do what a command line asks for.
+
+PROGRAM is the built `remoted`. Each command line is run by itself, and its status, its standard output and its standard
+error are compared whole. Words that are wrong for an instance, ports that are taken, folders that cannot be made or
+taken, files that cannot be read, scripts with bad lines, ends of `probe`. What is said of the command line's own form
+(a missing option, `--help`) is not compared here. A line for each, `ok` or `FAILED` with what came; it ends with
+`N passed, M failed`, and with status 1 where one failed.
+"""
+
+import argparse
+import os
+import resource
+import shutil
+import signal
+import socket
+import subprocess
+import sys
+import tempfile
+import threading
+
+from server import Server, free_ports
+
+PARTS = "it is not NAME:PORT:QUOTA:SLOTS[:PARENT]"
+PORT = "the port is not a number from 1 to 65535"
+QUOTA = "the quota is not a number from 0 to 1099511627776"
+SLOTS = "the slots are not a number from 0 to 64"
+NAME = "the name is not 1 to 64 of a-z, 0-9 and -, or it is a word of resource names"
+NAME_AGAIN = "an instance before it has the name"
+PARENT = "the parent is not another instance, or it has a parent itself"
+PORT_AGAIN = "an instance before it has the port"
+
+# Words for instances, the one that is bad, and why.
+BAD_WORDS = [
+    (["red"], "red", PARTS),
+    ([""], "", PARTS),
+    (["red:1:2"], "red:1:2", PARTS),
+    (["red:1:2:3:blue:4"], "red:1:2:3:blue:4", PARTS),
+    (["red:0:100:0"], "red:0:100:0", PORT),
+    (["red:65536:100:0"], "red:65536:100:0", PORT),
+    (["red:+1:100:0"], "red:+1:100:0", PORT),
+    (["red::100:0"], "red::100:0", PORT),
+    (["red:1:x:0"], "red:1:x:0", QUOTA),
+    (["red:1:1099511627777:0"], "red:1:1099511627777:0", QUOTA),
+    (["red:1:99999999999999999999:0"], "red:1:99999999999999999999:0", QUOTA),
+    (["red:1:100:65"], "red:1:100:65", SLOTS),
+    (["red:1:100:-1"], "red:1:100:-1", SLOTS),
+    ([":1:100:0"], ":1:100:0", NAME),
+    (["Red:1:100:0"], "Red:1:100:0", NAME),
+    (["blobs:1:100:0"], "blobs:1:100:0", NAME),
+    (["n" * 65 + ":1:100:0"], "n" * 65 + ":1:100:0", NAME),
+    (["red:1:100:0", "red:2:100:0"], "red:2:100:0", NAME_AGAIN),
+    (["red:1:100:0:blue"], "red:1:100:0:blue", PARENT),
+    (["red:1:100:0:red"], "red:1:100:0:red", PARENT),
+    (["red:1:100:0:blue", "blue:2:100:0:ci", "ci:3:100:0"], "red:1:100:0:blue", PARENT),
+    (["red:1:100:0", "blue:1:100:0"], "blue:1:100:0", PORT_AGAIN),
+    # What is told first where more is wrong.
+    (["Red:1:100:0", "blue:0:1:0"], "blue:0:1:0", PORT),
+    (["Red:1:9999999999999:0"], "Red:1:9999999999999:0", NAME),
+    (["red:1:100:0:no", "blue:2:1099511627777:0"], "blue:2:1099511627777:0", QUOTA),
+    (["red:1:100:0:no", "blue:1:100:0"], "red:1:100:0:no", PARENT),
+]
+
+
+class Checks:
+    """Runs of the program, whose whole answers are compared."""
+
+    def __init__(self, program, folder, slow):
+        self.program, self.folder, self.slow = program, folder, slow
+        self.passed, self.failed = 0, 0
+
+    def ends(self, words, status, errors, output="", **more):
+        """What the program has to end with for these words."""
+        more.setdefault("stdin", subprocess.DEVNULL)
+        try:
+            done = subprocess.run(
+                [self.program, *words], capture_output=True, text=True, timeout=30 * self.slow, cwd=self.folder, **more
+            )
+            found = (done.returncode, done.stdout, done.stderr)
+        except subprocess.TimeoutExpired as late:
+            found = (None, late.stdout, late.stderr)
+        self.tell(" ".join(words), found, (status, output, errors))
+
+    def tell(self, what, found, wanted):
+        what = what.replace(self.folder, "..")
+        if found == wanted:
+            self.passed += 1
+            print(f"ok {what[:100]}: {wanted[0]} {wanted[2].strip()}", flush=True)
+        else:
+            self.failed += 1
+            print(f"FAILED {what[:100]}: found {found}, wanted {wanted}", flush=True)
+
+    def serve(self, *words):
+        return ["serve", "--turns", "20", "--work", *words]
+
+    def file(self, name, text):
+        path = os.path.join(self.folder, name)
+        with open(path, "w") as file:
+            file.write(text)
+        return path
+
+
+def words_for_instances(checks):
+    for words, word, reason in BAD_WORDS:
+        checks.ends(checks.serve("work", *words), 2, f"remoted: bad instance {word}: {reason}\n")
+    many = [f"i{n}:{n}:1:0" for n in range(1, 258)]
+    checks.ends(checks.serve("work", *many), 2, "remoted: there are more than 256 instances\n")
+    checks.tell("nothing was made", (0, os.path.lexists(os.path.join(checks.folder, "work")), ""), (0, False, ""))
+
+
+def ports(checks):
+    first, second = free_ports(2)
+    with socket.socket() as taken:
+        taken.bind(("127.0.0.1", second))
+        taken.listen()
+        words = [f"red:{first}:100:1", f"blue:{second}:100:1"]
+        told = f"remoted: cannot listen on {second}: Address already in use (os error 98)\n"
+        checks.ends(checks.serve("taken", *words), 1, told)
+    checks.tell("no folder was made", (0, os.path.lexists(os.path.join(checks.folder, "taken")), ""), (0, False, ""))
+    checks.ends(checks.serve("free", *words), 0, "", f"listening red {first}\nlistening blue {second}\n")
+
+
+def folders(checks):
+    word = lambda: f"red:{free_ports(1)[0]}:100:1"
+    checks.ends(["serve", "--work=", word()], 2, "remoted: --work names no folder\n")
+    checks.file("file", "")
+    checks.ends(checks.serve("file", word()), 1, "remoted: cannot make file: File exists (os error 17)\n")
+    checks.ends(checks.serve("file/in", word()), 1, "remoted: cannot make file/in: Not a directory (os error 20)\n")
+    long = "n" * 256
+    checks.ends(checks.serve(long, word()), 1, f"remoted: cannot make {long}: File name too long (os error 36)\n")
+    os.makedirs(os.path.join(checks.folder, "full", "2024-11"))
+    told = "remoted: full is not empty, and is not a folder of remoted's\n"
+    checks.ends(checks.serve("full", word()), 1, told)
+    work = os.path.join(checks.folder, "held")
+    with Server(checks.program, [("red", 100, 1)], 2**62, folder=work):
+        checks.ends(checks.serve("held", word()), 1, "remoted: another server works in held\n")
+    if os.geteuid() == 0:
+        os.mkdir(os.path.join(checks.folder, "closed"), 0o755)
+        plain = {"user": 65534, "group": 65534, "extra_groups": []}
+        told = "remoted: cannot work in closed: Permission denied (os error 13)\n"
+        checks.ends(checks.serve("closed", word()), 1, told, **plain)
+        told = "remoted: cannot make closed/new: Permission denied (os error 13)\n"
+        checks.ends(checks.serve("closed/new", word()), 1, told, **plain)
+    else:
+        print("skipped a folder of another user: it needs root")
+
+
+def launchers(checks):
+    port, path = free_ports(1)[0], checks.file("no-program", "")
+    for program in ["/no/such", path, checks.folder]:
+        words = ["--launcher", program, f"red:{port}:100:1"]
+        checks.ends(checks.serve("launched", *words), 1, f"remoted: cannot run {program}\n")
+
+
+def what_is_lacking(checks):
+    port = free_ports(1)[0]
+    ignoring = lambda: signal.signal(signal.SIGCHLD, signal.SIG_IGN)
+    told = "remoted: SIGCHLD is ignored, so how a program ends is not seen: "
+    told += "start it by env --default-signal=CHLD remoted\n"
+    checks.ends(checks.serve("lacking", f"red:{port}:100:1"), 1, told, preexec_fn=ignoring)
+    listening = f"listening red {port}\n"
+    checks.ends(checks.serve("lacking", f"red:{port}:100:0"), 0, "", listening, preexec_fn=ignoring)
+    few = lambda count: lambda: resource.setrlimit(resource.RLIMIT_NOFILE, (count, count))
+    told = (
+        "remoted: {} files may be open, and up to 133 are needed: raise the limit (ulimit -n 133, or LimitNOFILE=133)\n"
+    )
+    words = checks.serve("lacking", f"red:{port}:100:2")
+    checks.ends(words, 0, told.format(60), listening, preexec_fn=few(60))
+    checks.ends(words, 1, told.format(33), preexec_fn=few(33))
+    checks.ends(words, 0, "", listening, preexec_fn=few(133))
+
+
+def scripts(checks):
+    failed = "remoted: input or output failed\n"
+    checks.ends(["unary", "none"], 1, "remoted: cannot read none\n")
+    checks.ends(["replay", "."], 1, "remoted: cannot read .\n")
+    checks.ends(["probe", "--port", "1", "--send", "none", "--want", "1"], 1, "remoted: cannot read none\n")
+    checks.file("bad", "instance a 100\nput a 616263\n\nno line\n")
+    checks.ends(["unary", "bad"], 3, "remoted: bad line 4\n")
+    checks.file("worse", "instance a 100 0\nopen 0 0 7\nopen 1 0 eight\n")
+    checks.ends(["replay", "worse"], 3, "remoted: bad line 3\n")
+    with open(os.path.join(checks.folder, "bad")) as text:
+        checks.ends([], 3, "remoted: bad line 4\n", stdin=text)
+    checks.file("sent", "PRI")
+    port = free_ports(1)[0]
+    checks.ends(["probe", "--port", str(port), "--send", "sent", "--want", "1"], 1, failed)
+    with socket.socket() as closing:
+        closing.bind(("127.0.0.1", 0))
+        closing.listen()
+        words = ["probe", "--port", str(closing.getsockname()[1]), "--send", "sent", "--want", "3"]
+        threading.Thread(target=answer_two, args=(closing,), daemon=True).start()
+        checks.ends(words, 4, "remoted: 2 bytes came\n")
+
+
+def answer_two(listening):
+    connection, _ = listening.accept()
+    with connection:
+        connection.recv(3)
+        connection.sendall(b"ab")
+
+
+def main():
+    parser = argparse.ArgumentParser(description=__doc__, formatter_class=argparse.RawDescriptionHelpFormatter)
+    parser.add_argument("program")
+    parser.add_argument("--slow", type=float, default=1.0, metavar="FACTOR")
+    options = parser.parse_args()
+    folder = tempfile.mkdtemp(prefix="command-line-faults-")
+    os.chmod(folder, 0o755)
+    try:
+        program = shutil.copy(options.program, folder)
+        checks = Checks(program, folder, options.slow)
+        for each in [words_for_instances, ports, folders, launchers, what_is_lacking, scripts]:
+            each(checks)
+    finally:
+        shutil.rmtree(folder)
+    print(f"{checks.passed} passed, {checks.failed} failed", flush=True)
+    sys.exit(checks.failed > 0)
+
+
+main()

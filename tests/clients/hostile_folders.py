@@ -1,0 +1,382 @@
+"""What `hostile_actions.py` tries with folders, links, outputs and what is left to be removed."""
+
+import os
+import signal
+import subprocess
+import time
+
+import messages as m
+import programs
+from execution_context import expect
+from executing import Link
+from teams import PYTHON, TOP, Skipped, listed, victim
+
+SECRET = b"of somebody else"
+
+# Leaves a daemon behind that exchanges each pair of paths for some seconds.
+EXCHANGING = """import ctypes, os, sys, time
+system = ctypes.CDLL(None).renameat2
+if os.fork():
+    time.sleep(0.1)
+    os._exit(0)
+os.setsid()
+if os.fork():
+    os._exit(0)
+for number in range(3):
+    os.dup2(os.open("/dev/null", os.O_RDWR), number)
+paths = [os.fsencode(os.path.abspath(path)) for path in sys.argv[2:]]
+end = time.monotonic() + float(sys.argv[1])
+while time.monotonic() < end:
+    for one, other in zip(paths[::2], paths[1::2]):
+        system(-100, one, -100, other, 2)
+"""
+
+# Makes a chain of so many directories below one whose name is no text.
+CHAIN = """import os, sys
+os.mkdir(b"\\xff\\xfe")
+os.chdir(b"\\xff\\xfe")
+for level in range(int(sys.argv[1])):
+    os.mkdir("a")
+    os.chdir("a")
+open(b"\\xff", "w").close()
+"""
+
+# Holds a lease on a file, which makes whoever opens it wait.
+LEASING = """import fcntl, os, signal, time
+signal.signal(signal.SIGIO, signal.SIG_IGN)
+file = os.open("o", os.O_RDWR | os.O_CREAT, 0o644)
+os.write(file, b"leased")
+if os.fork():
+    time.sleep(0.3)
+    os._exit(0)
+os.setsid()
+if os.fork():
+    os._exit(0)
+fcntl.fcntl(file, fcntl.F_SETLEASE, fcntl.F_WRLCK)
+time.sleep(60)
+"""
+
+
+def python(script, *words):
+    return [PYTHON, "-c", script, *map(str, words)]
+
+
+# A start after another.
+
+
+def former_program(stage):
+    """Programs of a former server write on by their absolute paths, and make their folders again."""
+    old = 'while :; do echo "of the OLD action" > "$PWD/out"; done'
+    again = 'here=$PWD; cd /; while :; do mkdir -p "$here"; echo "of the OLD action" > "$here/out"; done'
+    new = 'echo "of the NEW action" > out; sleep 1'
+    for number in [signal.SIGTERM, signal.SIGKILL, signal.SIGHUP]:
+        with stage.serve() as (server, red):
+            for script in [old, again]:
+                red.start(stage.action(script))
+            running = lambda: programs.running(stage.folder, server.process.pid)
+            stage.waits(lambda: len(running()) >= 2, 20, "the old programs run")
+            time.sleep(0.3)
+            stage.stop(server, number)
+        begun = time.monotonic()
+        with stage.serve() as (server, red):
+            took = time.monotonic() - begun
+            for action in [stage.action(new, files=["out"]) for _ in range(2)]:
+                result = red.execute(action).result
+                text = result and {path: red.text(each[0]) for path, each in result.files.items()}
+                expect(text, {"out": b"of the NEW action\n"}, f"the output after signal {number}")
+            stage.blue_runs(server)
+        expect(took < 10 * stage.slow, True, f"the start took {took:.1f} s")
+        stage.end_programs()
+    return "their text is in no output of the new one's actions, after SIGTERM, SIGKILL and SIGHUP"
+
+
+# Links.
+
+
+def links_of_the_tree(stage):
+    """Links of an input tree stand above outputs, and in the way of the working directory."""
+    path = victim(stage)
+    before = listed(path)
+    with stage.serve() as (server, red), stage.blue_running(server, 8) as other:
+        to_victim = {"d": Link(TOP + path[1:])}
+        tried = [
+            ({"d": Link(TOP + "proc")}, {"files": ["d/self/environ"]}),
+            ({"d": Link(TOP + "proc/self")}, {"files": ["d/environ"]}),
+            ({"d": Link(TOP + "etc")}, {"files": ["d/hostname"]}),
+            ({"d": Link("..")}, {"files": [f"d/{other}/src"]}),
+            ({"d": Link("..")}, {"directories": [f"d/{other}"]}),
+            ({"d": Link("..")}, {"paths": [f"d/{other}", f"d/{other}/src"]}),
+            ({"a": {"d": Link("../..")}}, {"files": [f"a/d/{other}/src"]}),
+            (to_victim, {"files": ["d/file"]}),
+            (to_victim, {"directories": ["d/inner"]}),
+            (to_victim, {"files": ["d/made/by/server/x"]}),
+            (to_victim, {"files": ["inner/made/x"], "folder": "d"}),
+        ]
+        for tree, given in tried:
+            stage.fails(server, red, "folder", ["/bin/true"], tree=tree, **given)
+        for folder in ["d", "d/inner", "d/new"]:
+            stage.fails(server, red, "folder", "echo here > ran", tree=to_victim, folder=folder)
+        stage.fails(server, red, "folder", "echo here > ran", tree={"d": Link("..")}, folder=f"d/{other}")
+    expect(listed(path), before, "what the links led to")
+    return "each run fails with `folder`; nothing is read, made or run where they lead"
+
+
+def links_of_a_program(stage):
+    """A program puts links above its outputs, and in the place of them."""
+    path = victim(stage)
+    before = listed(path)
+    with stage.serve() as (server, red), stage.blue_running(server, 6) as other:
+        script = f"""rm -r a d e p; ln -s {path} d; ln -s ../{other} e; ln -s /proc/self p; mkdir a; ln -s {path} a/d
+            ln -s {path}/file f; mkdir o; ln -s {path} o/d; ln -s {path}/file o/f; printf abc > o/own"""
+        files = ["d/file", "d/inner/file", "e/src", "p/environ", "a/d/file", "f"]
+        result = stage.runs(red, script, files=files, directories=["d/inner", "a/d/inner", "d", "e", "o"])
+        trees = {path: red.tree(each) for path, each in result.trees.items()}
+        expect(result.files, {}, "output files")
+        expect(trees, {"o": {"own": (m.digest(b"abc"), False)}}, "output directories")
+        stage.nothing_left(server, is_kept=lambda name: name == other)
+    expect(listed(path), before, "what the links led to")
+    return "what they lead to is no output, and stays as it is"
+
+
+def root_replaced(stage):
+    """A program puts a link in the place of the folder of its run."""
+    path = victim(stage)
+    before = listed(path)
+    with stage.serve() as (server, red):
+        for command in ['mv "$R" "$R-aside"', 'rm -r "$R"']:
+            script = f'R=$PWD; cd /; {command}; ln -s {path} "$R"'
+            done = red.execute(stage.action(script, files=["file", "inner/file"], directories=["inner"]))
+            found = done.result and (done.result.files, done.result.trees)
+            expect(found in (None, ({}, {})), True, f"outputs {found}")
+        stage.runs(red, "printf abc > out", files=["out"])
+        stage.nothing_left(server, is_kept=lambda name: name.endswith("-aside"))
+    expect(listed(path), before, "what the link led to")
+    return "nothing is read there, and nothing removed"
+
+
+# What is exchanged while the server looks at it.
+
+
+def race(stage, commands, rest, outputs, right, seconds, is_kept=lambda name: False):
+    """Has actions leave daemons that exchange things while outputs are gathered, whose texts are known, and removed."""
+    words = ["/bin/sh", "-c", f'{commands}; exec {PYTHON} -c "$1" 1.5 {rest}', "sh", EXCHANGING]
+    end, results, failed = time.monotonic() + seconds, 0, 0
+    with stage.serve() as (server, red):
+        while time.monotonic() < end:
+            done = red.execute(stage.action(words, **outputs))
+            if done.result is None:
+                expect((done.status.code, done.status.text), (13, "run failed"), "a run")
+                failed += 1
+            else:
+                expect(done.result.code, 0, f"exit code: {red.stream_text(done.result.stderr)}")
+                expect(texts(red, done.result) - set(right), set(), "what outputs are that nobody wrote there")
+                results += 1
+        stage.end_programs()
+        took = stage.blue_runs(server)
+        stage.nothing_left(server, 60, is_kept)
+    return f"{results} results and {failed} failed runs, none wrong; then blue's action took {took:.1f} s"
+
+
+def texts(peer, result):
+    """All texts of a result's outputs."""
+
+    def of(tree):
+        inner = lambda each: of(each) if isinstance(each, dict) else {peer.text(each[0])}
+        return {text for each in tree.values() for text in inner(each)}
+
+    return of(result.files) | {text for each in result.trees.values() for text in of(peer.tree(each))}
+
+
+def fifos_exchanged(stage):
+    """A daemon exchanges an output with a FIFO."""
+    commands = "mkdir o; printf abc > o/a; mkfifo f"
+    return race(stage, commands, "o/a f", {"files": ["o/a"], "directories": ["o"]}, [b"abc"], stage.seconds)
+
+
+def links_exchanged(stage):
+    """A daemon exchanges a directory above an output, and an output, with links to somebody else's."""
+    path = victim(stage)
+    before = listed(path)
+    commands = f"""mkdir -p d/inner o; printf abc > d/file; printf abc > d/inner/file; printf abc > o/a
+        ln -s {path} l; ln -s {path}/file k"""
+    outputs = {"files": ["d/file", "d/inner/file", "o/a"], "directories": ["d/inner", "d", "o"]}
+    told = race(stage, commands, "d l o/a k", outputs, [b"abc"], stage.seconds / 2)
+    expect(listed(path), before, "what the links lead to")
+    return told
+
+
+def devices_exchanged(stage):
+    """A daemon exchanges an output with a device, of which there is no end, and with one that waits."""
+    if os.geteuid() or stage.user is not None:
+        raise Skipped("only root can make devices")
+    commands = "mkdir o; printf abc > o/a; printf abc > o/b; mknod z c 1 5; mknod t c 1 9; mkfifo f"
+    outputs = {"files": ["o/a", "o/b"], "directories": ["o"]}
+    return race(stage, commands, "o/a z o/b f", outputs, [b"abc"], stage.seconds / 3)
+
+
+def removal_exchanged(stage):
+    """A daemon exchanges directories that are to be removed with links to somebody else's."""
+    path = victim(stage)
+    before = listed(path)
+    commands = f"""mkdir d e; cd d; seq 2000 | xargs touch; cd ..; : > e/x; chmod 0 e
+        ln -s {path} l; ln -s {path} k; ln -s {path} "$PWD-l\""""
+    # Where the link stands at the end, the folder is beside it, or comes back: then it goes with the next start.
+    told = race(stage, commands, 'd l e k "$PWD" "$PWD-l"', {}, [], stage.seconds / 2, lambda name: True)
+    expect(listed(path), before, "what the links lead to")
+    first = max(os.path.join(stage.work, name) for name in os.listdir(stage.work) if name.startswith("start-"))
+    with stage.serve() as (server, red):
+        stage.former_removed(server, red, first)
+    expect(listed(path), before, "what the links led to")
+    return told
+
+
+def leased(stage):
+    """A daemon holds a lease on an output, so that opening it waits for up to 45 seconds."""
+    with stage.serve() as (server, red):
+        done = red.execute(stage.action(python(LEASING), files=["o"]))
+        expect(done.status.code in (0, 13), True, f"status {done.status.code}")
+        stage.end_programs()
+        stage.blue_runs(server)
+    return "nobody waits for it"
+
+
+# Outputs that are no files.
+
+
+def odd_outputs(stage):
+    """Outputs are FIFOs, sockets, links, and for root devices."""
+    script = f"""mkdir o; cd o; mkfifo f; ln -s f l; ln -s /dev/zero z; ln -s /proc/kmsg k; printf abc > a
+        {PYTHON} -c 'import socket; socket.socket(socket.AF_UNIX).bind("s")'
+        if [ "$(id -u)" = 0 ]; then mknod c c 1 5; mknod b b 7 0; fi; :"""
+    asked = [f"o/{name}" for name in "flzkscba"]
+    with stage.serve() as (server, red):
+        for given in [{"paths": [*asked, "o"]}, {"files": asked, "directories": ["o"]}]:
+            result = stage.runs(red, script, **given)
+            expect(result.files, {"o/a": (m.digest(b"abc"), False)}, "output files")
+            trees = {path: red.tree(each) for path, each in result.trees.items()}
+            expect(trees, {"o": {"a": (m.digest(b"abc"), False)}}, "output directories")
+        stage.blue_runs(server)
+        stage.nothing_left(server)
+    return "they are left out, and nothing waits"
+
+
+# Removal.
+
+
+def deep_chain(stage):
+    """Chains of 20,000 directories below a name that is no text are to be removed, after a run and at a start."""
+    with stage.serve() as (server, red):
+        begun = time.monotonic()
+        for _ in range(2):
+            stage.runs(red, python(CHAIN, 20_000))
+        stage.nothing_left(server, 120)
+        took = time.monotonic() - begun
+        number = red.start(stage.action(["/bin/sh", "-c", f'{PYTHON} -c "$1" 20000; sleep 600', "sh", CHAIN]))
+        red.next(number), red.next(number)
+        running = lambda: str(programs.running(stage.folder, server.process.pid))
+        stage.waits(lambda: "sleep 600" in running() and "python" not in running(), 60, "the chain is made")
+        first = server.start()
+        stage.stop(server, signal.SIGKILL)
+    stage.end_programs()
+    begun = time.monotonic()
+    with stage.serve() as (server, red):
+        start = time.monotonic() - begun
+        stage.blue_runs(server)
+        stage.former_removed(server, red, first, 120)
+        removed = time.monotonic() - begun
+    expect(start < 30 * stage.slow, True, f"the start took {start:.1f} s")
+    return f"two are gone after {took:.1f} s; a start took {start:.1f} s, and a third was gone after {removed:.1f} s"
+
+
+def wide_folders(stage):
+    """Directories with 10,000 entries each, whose names are no text, are to be removed."""
+    script = """import os
+os.mkdir(b"\\xff")
+for number in range(10_000):
+    os.close(os.open(b"\\xff/\\xfe%d" % number, os.O_CREAT))
+    os.mkdir(b"\\xff%d" % number)
+"""
+    with stage.serve() as (server, red):
+        stage.runs(red, python(script))
+        begun = time.monotonic()
+        stage.nothing_left(server, 120)
+        stage.blue_runs(server)
+    return f"they are gone {time.monotonic() - begun:.1f} s after the run"
+
+
+def names_of_removal(stage):
+    """Directories have the names that removal gives to what it moves, in the folder of the run and beside it."""
+    inside = """seq -f ".removed-%g/x" 3000 | xargs mkdir -p; seq -f ".aside/%g/x" 300 | xargs mkdir -p
+        seq -f "%g/x" 300 | xargs mkdir -p; mkdir -p a/b/c; chmod 0 a/b a"""
+    beside = """here=$PWD; above=$(dirname "$here"); next=$above/0-$((${here##*-} + 1))
+        for name in "$here" "$next"; do for ending in .removed .aside; do
+        seq -f "$name$ending/%g/x" 300 | xargs mkdir -p; done; done; mkdir -p "$above/former/x" """
+    with stage.serve() as (server, red):
+        for _ in range(2):
+            stage.runs(red, inside)
+        stage.nothing_left(server, 60)
+        for _ in range(2):
+            stage.runs(red, beside)
+        is_told = lambda name: any(name in line for line in server.said())
+        left = lambda: [name for name in server.entries() if name[2:].isdigit() and not is_told(name)]
+        programs.settled(left, 60 * stage.slow)
+        expect(left(), [], "folders that are left without a line")
+        stage.blue_runs(server)
+        first, count = server.start(), len(server.entries())
+    with stage.serve() as (server, red):
+        stage.former_removed(server, red, first)
+    return f"no folder is kept by what is in it; what was made beside ({count} things) goes with the next start"
+
+
+def not_removable(stage):
+    """Something in a folder cannot be removed."""
+    with stage.serve() as (server, red):
+        path = os.path.join(stage.folder, "told")
+        number = red.start(stage.action(f"mkdir d; : > d/f; until [ -e {path} ]; do sleep 0.05; done; printf abc"))
+        stage.waits(lambda: os.path.exists(os.path.join(server.start(), "0-1", "d", "f")), 20, "a folder")
+        name = "0-1"
+        inner = os.path.join(server.start(), name, "d")
+        if stage.user is None:
+            lock(inner)
+        try:
+            os.chown(inner, 0, 0)
+            with open(path, "w"):
+                pass
+            done = red.operations(number)[-1]
+            expect(done.result and done.result.code, 0, "the run")
+            for _ in range(3):
+                stage.runs(red, "printf abc > out", files=["out"])
+            stage.blue_runs(server)
+            is_told = lambda: any(name in line for line in server.said())
+            stage.waits(is_told, 10, f"a line that names {name}: {server.said()}")
+            stage.stop(server, signal.SIGTERM)
+        except BaseException:
+            unlock(stage, inner)
+            raise
+    try:
+        for path in ["start-1", "start-1/0-1", "start-1/0-1/d"]:
+            os.mkdir(os.path.join(stage.work, path))
+            os.chown(os.path.join(stage.work, path), *stage.owner())
+        with stage.serve() as (server, red):
+            stage.runs(red, "printf abc > out", files=["out"])
+            stage.blue_runs(server)
+            is_told = lambda: any("cannot remove" in line and stage.work in line for line in server.said())
+            stage.waits(is_told, 10, f"a line that says what cannot be removed: {server.said()}")
+            stage.former_removed(server, red, os.path.join(stage.work, "start-1"), 20, is_all=False)
+    finally:
+        unlock(stage, inner)
+    return "a line names it, after the run and at the next start; all else is removed, and others' runs go on"
+
+
+def lock(inner):
+    """Makes a file one that root cannot remove."""
+    if os.geteuid():
+        raise Skipped("only root can make what its own user cannot remove")
+    if subprocess.run(["chattr", "+i", os.path.join(inner, "f")], capture_output=True).returncode:
+        raise Skipped("no file can be made immutable (chattr +i) here")
+
+
+def unlock(stage, inner):
+    subprocess.run(["chattr", "-i", os.path.join(inner, "f")], capture_output=True)
+    if os.path.isdir(inner):
+        os.chown(inner, *stage.owner())

@@ -1,0 +1,193 @@
+"""What `hostile_actions.py` tries with processes: lines that nobody reads, what ends sessions, and long paths."""
+
+import contextlib
+import fcntl
+import os
+import re
+import resource
+import signal
+import time
+
+import programs
+from execution_context import expect
+from hostile_folders import python
+from teams import Skipped
+
+# The line of a run that failed, or one of another kind, as for lines that were dropped. None is within another one.
+LINE = re.compile(rb"remoted: (run red [1-9]\d* failed: start|(?!run ))((?!remoted: ).)*")
+SMALLEST_PIPE = 4096
+MOST_PROCESSES = 60
+
+# Forks as long as it is there, for so many seconds at most. Its processes are all in one session.
+BOMB = """import os, sys, time
+end = time.monotonic() + float(sys.argv[1])
+while time.monotonic() < end:
+    try:
+        os.fork()
+    except OSError:
+        time.sleep(0.02)
+"""
+
+# Kills the other children of the process that started it, before it goes on as a bomb.
+KILLING = """import os, signal
+for name in os.listdir("/proc"):
+    try:
+        parent = open("/proc/" + name + "/stat").read().rpartition(")")[2].split()[1]
+        if int(name) != os.getpid() and int(parent) == os.getppid():
+            os.kill(int(name), signal.SIGKILL)
+    except (OSError, ValueError, IndexError):
+        pass
+"""
+
+
+# Standard error.
+
+
+def lines_unread(stage):
+    """Standard error is a pipe that nobody reads, while runs fail again and again."""
+    reader, writer = os.pipe()
+    fcntl.fcntl(writer, fcntl.F_SETPIPE_SZ, SMALLEST_PIPE)
+    with open(reader, "rb") as told, open(writer, "wb") as pipe:
+        with stage.serve(heard=False, stderr=pipe) as (server, red):
+            for _ in range(300):
+                done = red.execute(stage.action(["/no/such"]))
+                expect((done.status.code, done.status.text), (13, "run failed"), "a run that fails")
+            stage.blue_runs(server)
+            first = os.read(reader, SMALLEST_PIPE)
+            expect(len(first) > SMALLEST_PIPE / 2, True, f"{len(first)} bytes were told")
+            for _ in range(10):
+                red.execute(stage.action(["/no/such"]))
+            pipe.close()
+        whole = (first + told.read()).splitlines()
+    expect([line for line in whole if not LINE.fullmatch(line)], [], "lines that are not whole")
+    return f"310 runs fail as they should, {len(whole)} lines were told, each of them whole"
+
+
+def lines_unheard(stage):
+    """The reader of standard error and of standard output has gone."""
+    reader, writer = os.pipe()
+    with open(writer, "wb") as pipe:
+        with stage.serve(heard=False, stderr=pipe) as (server, red):
+            os.close(reader)
+            server.process.stdout.close()
+            for _ in range(20):
+                done = red.execute(stage.action(["/no/such"]))
+                expect((done.status.code, done.status.text), (13, "run failed"), "a run that fails")
+            stage.runs(red, "printf abc")
+            stage.blue_runs(server)
+    return "the server goes on"
+
+
+# What ends sessions.
+
+
+def helper_stopped(stage):
+    """What ends sessions for the server is stopped (SIGSTOP)."""
+    with stage.serve() as (server, red):
+        stage.runs(red, "sleep 600 & printf abc")
+        helper = stage.helper(server)
+        told = programs.helpers(stage.folder, server.process.pid)[helper]
+        os.kill(helper, signal.SIGSTOP)
+        try:
+            took = [stage.blue_runs(server, 30) for _ in range(3)]
+            stage.runs(red, "sleep 600 & printf abc")
+            done = red.execute(stage.action("sleep 600 & sleep 600", seconds=1))
+            expect((done.status.code, done.status.text), (4, "timed out"), "a timeout")
+            stage.nothing_left(server)
+            expect(programs.settled(lambda: programs.running(stage.folder, server.process.pid), 10), {}, "programs")
+        finally:
+            if programs.helpers(stage.folder, server.process.pid).get(helper) == told:
+                os.kill(helper, signal.SIGKILL)
+    longest = max(took)
+    expect(longest < 15 * stage.slow, True, f"blue's action waited {longest:.1f} s")
+    return f"another one takes its place: blue's actions took {', '.join(f'{each:.1f} s' for each in took)}"
+
+
+def helper_killed(stage):
+    """What ends sessions for the server is killed, again and again."""
+    with stage.serve() as (server, red):
+        stage.runs(red, "sleep 600 & printf abc")
+        stage.helper(server)
+        killed, end = 0, time.monotonic() + 6
+        number = red.start(stage.action("sleep 600 & (trap '' TERM; sleep 600) & sleep 5", seconds=60))
+        while time.monotonic() < end:
+            for helper in programs.helpers(stage.folder, server.process.pid):
+                with contextlib.suppress(ProcessLookupError):
+                    os.kill(helper, signal.SIGKILL)
+                    killed += 1
+            time.sleep(0.2)
+        done = red.operations(number)[-1]
+        expect(done.result and done.result.code, 0, "red's action")
+        took = stage.blue_runs(server)
+        stage.runs(red, "sleep 600 & printf abc")
+        stage.nothing_left(server)
+        expect(programs.settled(lambda: programs.running(stage.folder, server.process.pid), 10), {}, "programs")
+    return f"killed {killed} times, it is there again each time: blue's action then took {took:.1f} s"
+
+
+def bomb(stage, script, seconds):
+    """A fork bomb as the first action of a server that may have some processes alone."""
+    if stage.user is None:
+        raise Skipped("a limit of processes does not bind root; it is tried with a server of a plain user")
+    limit = lambda: resource.setrlimit(resource.RLIMIT_NPROC, (MOST_PROCESSES, MOST_PROCESSES))
+    with stage.serve(slots=(1, 2), preexec_fn=limit) as (server, red):
+        begun = time.monotonic()
+        number = red.start(stage.action(python(script, seconds), seconds=3))
+        running = lambda: programs.running(stage.folder, server.process.pid)
+        stage.waits(lambda: len(running()) > MOST_PROCESSES / 2, 20, "the bomb goes off")
+        done = red.operations(number)[-1]
+        expect((done.status.code, done.status.text), (4, "timed out"), "the bomb's run")
+        stage.waits(lambda: not running(), seconds + 20, "the bomb is over")
+        over = time.monotonic() - begun
+        took = stage.blue_runs(server)
+        stage.runs(red, "sleep 600 & printf abc")
+        stage.nothing_left(server)
+    return over, took
+
+
+def fork_bomb(stage):
+    """A fork bomb is the first action of a server under a limit of processes."""
+    over, took = bomb(stage, BOMB, 60)
+    expect(over < 20 * stage.slow, True, f"the bomb was there for {over:.1f} s")
+    return f"its run is timed out after 3 s, and it is gone after {over:.1f} s; blue's action then took {took:.1f} s"
+
+
+def fork_bomb_alone(stage):
+    """A fork bomb kills what ends sessions first, so that no other one can be started beside it."""
+    over, took = bomb(stage, KILLING + BOMB, 30)
+    return f"its run is timed out after 3 s; it was there for {over:.1f} s, and blue's action then took {took:.1f} s"
+
+
+# Looking programs up.
+
+
+def long_path(stage):
+    """A PATH has 65,000 entries, and one has two million."""
+    path = lambda count: [("PATH", ":".join(["a"] * count))]
+    with stage.serve(slots=(8, 2)) as (server, red):
+        for _ in range(2):
+            numbers = [red.start(stage.action(["no-such-program"], variables=path(65_000))) for _ in range(8)]
+            stage.blue_runs(server)
+            for number in numbers:
+                done = red.operations(number)[-1]
+                expect((done.status.code, done.status.text), (13, "run failed"), "no program along the path")
+        for variables in [path(2_000_000), [(f"V{n}", "x" * 100_000) for n in range(100)]]:
+            stage.fails(server, red, "start", ["/bin/true"], variables=variables)
+        stage.fails(server, red, "start", ["/bin/echo", *("w" * 120_000 for _ in range(100))])
+        stage.runs(red, ["true"], variables=[("PATH", ":".join(["a"] * 60_000 + ["/bin"]))])
+        stage.blue_runs(server)
+        stage.nothing_left(server)
+    return "programs are looked for to the end of it, and what is too long for the system is refused"
+
+
+def own_streams(stage):
+    """A program reopens and truncates its streams, and a daemon in a session of its own goes on to write there."""
+    script = """(setsid sh -c 'while :; do echo more; sleep 0.01; done' &)
+        sleep 0.1; : > /proc/self/fd/1; printf abc >&2; exit 0"""
+    with stage.serve() as (server, red):
+        for _ in range(3):
+            result = stage.runs(red, script, seconds=20)
+            expect(red.stream_text(result.stderr), b"abc", "standard error")
+            stage.end_programs()
+        stage.blue_runs(server)
+    return "only its own output is another"

@@ -1,0 +1,201 @@
+"""What `launchers.py` looks at of `launchers/sandbox`: what an action of one team cannot reach of another's."""
+
+import os
+import shutil
+import signal
+import tempfile
+import time
+
+import programs
+from executing import PATH, Action, Link, Peer
+from server import Server
+
+HERE = os.path.dirname(os.path.abspath(__file__))
+SANDBOX = os.path.realpath(os.path.join(HERE, "..", "..", "launchers", "sandbox"))
+SECRET, SOURCE = "server-secret", b"the source of blue\n"
+ODD = ["a b", "", "-n", "*", "$HOME", "a\nb", "A=B", "'", '"']
+TOP = "../" * 24
+
+CONNECTING = """import socket, sys
+for port in sys.argv[1:]:
+    for host in ("127.0.0.1", "::1", "0.0.0.0"):
+        try:
+            socket.create_connection((host, int(port)), 2)
+            print("in")
+        except OSError:
+            pass
+"""
+
+
+class Told:
+    """What came of an action, with its texts."""
+
+    def __init__(self, peer, action):
+        operation = peer.execute(action)
+        self.status, result = operation.status.code, operation.result
+        self.code = result and result.code
+        self.stdout, self.stderr = [
+            peer.stream_text(digest).decode(errors="replace") if result else ""
+            for digest in ((result.stdout, result.stderr) if result else ("", ""))
+        ]
+        self.files = {path: peer.text(each[0]) for path, each in result.files.items()} if result else {}
+        self.trees = list(result.trees) if result else []
+
+    def __str__(self):
+        return f"status {self.status}, code {self.code}, {self.stdout!r}, {self.stderr!r}, {self.files}, {self.trees}"
+
+
+def folders_and_files(other, server):
+    """Reading and writing what is not the action's own."""
+    start, up = server.start(), TOP + server.start()[1:]
+    places = f"/x /usr/x /etc/x /dev/x /work/../x {start}/x {server.folder}/x {start}/{other}/x"
+    places += " /proc/sys/kernel/hostname"
+    elsewhere = f"for f in {places}; do (echo x > $f) 2>/dev/null && echo $f; done; true"
+    nothing = lambda t: not t.stdout and t.code is not None
+    return [
+        ("the other's folder, by its path", f"cat {start}/{other}/src; ls {start} {server.folder}", {}, nothing),
+        ("the other's folder, by ..", f"cat ../{other}/src ../../{other}/src {up}/{other}/src", {}, nothing),
+        ("the other's folder, by a link", f"ln -s {start}/{other} l; cat l/src", {}, nothing),
+        ("the host's files", "cat /etc/passwd /etc/hostname; ls /root /home /var /run /sys", {}, nothing),
+        ("other places to write", elsewhere, {}, lambda t: t.stdout == "" and t.code == 0),
+        ("/tmp, which is its own", "ls -A /tmp; echo x >/tmp/x; cat /tmp/x", {}, lambda t: t.stdout == "x\n"),
+        (
+            "a link that the program put above outputs",
+            "rmdir d p; ln -s ../../../../../../etc d; ln -s ../../../../../../proc/self p",
+            {"files": ["d/hostname", "p/environ"], "directories": ["d/ssl"]},
+            lambda t: t.code == 0 and not t.files and not t.trees,
+        ),
+        (
+            "a link of the tree above an output",
+            ["/bin/true"],
+            {"tree": {"d": Link("..")}, "files": [f"d/{other}/src"]},
+            lambda t: t.status == 13,
+        ),
+        (
+            "a link above an output directory",
+            ["/bin/true"],
+            {"tree": {"d": Link("..")}, "directories": [f"d/{other}"]},
+            lambda t: t.status == 13,
+        ),
+        (
+            "a link as the working directory",
+            ["/bin/pwd"],
+            {"tree": {"d": Link(f"../{other}")}, "folder": "d"},
+            lambda t: t.status == 13,
+        ),
+    ]
+
+
+def processes(helpers, server):
+    """Reaching the server and its helper, its ports, and rights."""
+    pids = " ".join(str(each) for each in [server.process.pid, *helpers])
+    ports = [str(port) for port in server.ports]
+    proc = f"for p in {pids} 1 $PPID; do cat /proc/$p/environ /proc/$p/cmdline; ls -l /proc/$p/fd /proc/$p/cwd; done"
+    memory = f"for p in {pids}; do head -c 1 /proc/$p/mem; head -c 9 /proc/$p/maps; done"
+    killing = f"for p in {pids}; do kill -9 $p && echo $p; done; kill -9 -1; true"
+    stopping = f"for p in {pids}; do kill -STOP $p && echo $p; done; true"
+    settings = """for f in $(find /proc -maxdepth 4 -path '/proc/sys*' -type f); do
+        [ -w $f ] && (: >> $f) && echo $f; done; true"""
+    mounting = "mount -t tmpfs x /work && echo in; mount -o remount,rw / && echo in; umount /proc && echo in; true"
+    nothing = lambda t: t.stdout == "" and t.code is not None
+    silent = lambda t: SECRET not in t.stdout and "serve\0--work" not in t.stdout and t.code is not None
+    return [
+        ("the server's environment", "cat /proc/[0-9]*/environ", {}, lambda t: SECRET not in t.stdout),
+        ("the server's /proc", proc, {}, silent),
+        ("the server's memory", memory, {}, nothing),
+        ("the server's process", "ls -d /proc/[0-9]* | wc -l", {}, lambda t: int(t.stdout) < 6),
+        ("both ports", ["/usr/bin/python3", "-c", CONNECTING, *ports], {}, lambda t: t.stdout == "" and t.code == 0),
+        ("killing the server and its helper", killing, {}, nothing),
+        ("stopping the server and its helper", stopping, {}, nothing),
+        ("rights", "grep -c 'Cap.*:.0000000000000000$' /proc/self/status", {}, lambda t: t.stdout == "5\n"),
+        ("another namespace", "unshare --user true", {}, lambda t: t.code != 0),
+        ("the kernel's settings", settings, {}, nothing),
+        ("mounting", mounting, {}, nothing),
+    ]
+
+
+def own_matters():
+    """What an action has, and how it ends."""
+    stubborn = "trap '' TERM INT; (setsid sleep 4321 &); while :; do sleep 4321; done"
+    writing = "(setsid sh -c 'while :; do echo x >>/work/out; done' &); sleep 0.2"
+    names = [("A", "1"), ("B", " x\ty'\"$(z)"), ("-S", "2"), ("BASH_ENV", "/work/e"), ("IFS", "x")]
+    wanted = ["-S=2", "A=1", "B= x\ty'\"$(z)", "BASH_ENV=/work/e", "IFS=x"]
+    is_wanted = lambda t: sorted(t.stdout.splitlines()) == wanted and not t.stderr
+    inner = lambda t: t.stdout == "/work/a/b\n" and t.files == {"out": b"1\n"}
+    return [
+        ("variables, which are its own alone", ["/usr/bin/env"], {"variables": names}, is_wanted),
+        ("odd words", ["/usr/bin/printf", "%s|", *ODD], {}, lambda t: t.stdout == "|".join(ODD) + "|"),
+        ("an inner working directory", "pwd; echo 1 >out", {"folder": "a/b", "files": ["out"]}, inner),
+        ("a program whose name has =", ["a=b"], {}, lambda t: t.status == 13),
+        ("a program that is not there", ["/no/such"], {}, lambda t: t.code == 127),
+        ("a code", "exit 7", {}, lambda t: t.code == 7 and not t.stderr),
+        ("a signal", "kill -KILL $$", {}, lambda t: t.code == 137 and not t.stderr),
+        ("another signal", "kill -SEGV $$", {}, lambda t: t.code == 139 and not t.stderr),
+        ("a daemon, which ends with its program", writing, {"files": ["out"]}, lambda t: t.code == 0),
+        ("a timeout", "(setsid sleep 4321 &); sleep 4321", {"seconds": 2}, lambda t: t.status == 4),
+        ("a timeout of a program that goes on", stubborn, {"seconds": 2}, lambda t: t.status == 4),
+    ]
+
+
+def daemons(folder, server):
+    """What goes on of actions that were to end."""
+    running = programs.running(folder, server.process.pid)
+    return {number: text for number, text in running.items() if "sleep 4321" in text or "echo x >>" in text}
+
+
+def reach(report, program, who, **more):
+    """All tries of one team's, while an action of the other team's runs."""
+    folder = tempfile.mkdtemp(prefix="launchers-")
+    os.chmod(folder, 0o777)
+    launcher, work = shutil.copy(SANDBOX, folder), os.path.join(folder, "work")
+    instances = [("red", 10**8, 2), ("blue", 10**8, 2)]
+    try:
+        with Server(program, instances, 2**62, {"SECRET": SECRET}, work, True, launcher, **more) as server:
+            red, blue = (Peer(port, 120 * report.slow) for port in server.ports)
+            script = f"sleep {30 * report.slow}; cat src"
+            slow = blue.start(marked(folder, script, tree={"src": SOURCE}, seconds=600))
+            of_blue = lambda: [name for name in server.entries() if name.startswith("1-")]
+            programs.settled(lambda: not of_blue(), 20 * report.slow)
+            tried_all(report, who, server, red, folder, of_blue()[0])
+            done = blue.operations(slow)[-1]
+            is_right = done.result and blue.stream_text(done.result.stdout) == SOURCE
+            report.expect(is_right, f"{who}: the other's action is as it is alone", done.status.code)
+            left = programs.settled(server.entries, 20 * report.slow)
+            report.expect(not left, f"{who}: no folder is left", left)
+            report.expect(not programs.zombies(server.process.pid), f"{who}: no ended program is left", "some are")
+            ends_with_server(report, who, server, red, folder)
+    finally:
+        for number in programs.running(folder):
+            os.kill(number, signal.SIGKILL)
+        shutil.rmtree(folder, ignore_errors=True)
+
+
+def marked(mark, words, **given):
+    """An action whose processes can be told by a variable."""
+    return Action(words, do_not_cache=True, variables=[PATH, ("MARK", mark)], **given)
+
+
+def tried_all(report, who, server, red, folder, other):
+    """One team's actions, one after another."""
+    Told(red, marked(folder, "true"))
+    helpers = programs.helpers(folder, server.process.pid)
+    for what, words, given, holds in [*folders_and_files(other, server), *processes(helpers, server), *own_matters()]:
+        is_bare = "variables" in given
+        told = Told(red, Action(words, do_not_cache=True, **given) if is_bare else marked(folder, words, **given))
+        report.expect(holds(told), f"{who}: {what}", told)
+        if programs.settled(lambda: daemons(folder, server), 15 * report.slow):
+            report.missed(f"{who}: {what}: it goes on", daemons(folder, server))
+    are_there = set(helpers) <= set(programs.helpers(folder, server.process.pid)) and server.is_running()
+    report.expect(are_there, f"{who}: the server and its helper are there", "they are not")
+
+
+def ends_with_server(report, who, server, red, folder):
+    """A server that is killed takes its programs with it."""
+    red.start(marked(folder, "(setsid sleep 4321 &); sleep 4321"))
+    programs.settled(lambda: "sleep 4321" not in str(programs.running(folder)), 20 * report.slow)
+    server.process.kill()
+    server.process.wait()
+    begun = time.monotonic()
+    left = programs.settled(lambda: programs.running(folder), 5 * report.slow)
+    report.expect(not left, f"{who}: programs end with a server that is killed", left)
+    print(f"   after {time.monotonic() - begun:.2f} s", flush=True)

@@ -1,0 +1,145 @@
+"""A Slurm cluster of two nodes on this host alone, for `launchers.py`: its own configuration, daemons and folder.
+
+It needs Debian's slurm-wlm and munge, and root. All of it listens on free ports of this host, and lies in one folder.
+"""
+
+import os
+import shutil
+import socket
+import subprocess
+import time
+
+from server import free_ports
+
+NEEDED = ["munged", "slurmctld", "slurmd", "srun", "scancel", "squeue", "scontrol"]
+NODES = ["one", "two"]
+# After how many seconds a node that does not answer counts as lost.
+LOST_AFTER = 20
+
+CONFIGURATION = """
+ClusterName=launchers
+SlurmctldHost={host}(127.0.0.1)
+SlurmctldPort={ports[0]}
+SlurmUser=root
+SlurmdUser=root
+AuthType=auth/munge
+AuthInfo=socket={folder}/munge.socket
+CredType=cred/munge
+StateSaveLocation={folder}/state
+SlurmdSpoolDir={folder}/spool-%n
+SlurmctldPidFile={folder}/slurmctld.pid
+SlurmdPidFile={folder}/slurmd-%n.pid
+SlurmctldLogFile={folder}/slurmctld.log
+SlurmdLogFile={folder}/slurmd-%n.log
+ProctrackType=proctrack/linuxproc
+TaskPlugin=task/none
+SelectType=select/cons_tres
+SelectTypeParameters=CR_CPU
+SwitchType=switch/none
+MpiDefault=none
+ReturnToService=2
+SlurmdTimeout={lost}
+MessageTimeout=60
+KillWait=2
+SchedulerParameters=batch_sched_delay=0,sched_min_interval=10000
+NodeName=one NodeHostname={host} NodeAddr=127.0.0.1 Port={ports[1]} CPUs={cpus} State=UNKNOWN
+NodeName=two NodeHostname={host} NodeAddr=127.0.0.1 Port={ports[2]} CPUs={cpus} State=UNKNOWN
+PartitionName=main Nodes=ALL Default=YES MaxTime=INFINITE State=UP
+"""
+
+
+def lacking():
+    """What has to be there and is not."""
+    path = os.environ.get("PATH", "") + ":/usr/sbin:/sbin"
+    return [name for name in NEEDED if not shutil.which(name, path=path)] + ([] if os.geteuid() == 0 else ["root"])
+
+
+class Cluster:
+    """Two nodes with some processors each, from `with` on to its end."""
+
+    def __init__(self, folder, cpus=2):
+        self.folder, self.processes = folder, {}
+        self.configuration = os.path.join(folder, "slurm.conf")
+        host = socket.gethostname().split(".")[0]
+        with open(self.configuration, "w") as file:
+            file.write(CONFIGURATION.format(host=host, ports=free_ports(3), folder=folder, lost=LOST_AFTER, cpus=cpus))
+        self.environment = {"PATH": "/usr/bin:/bin:/usr/sbin:/sbin", "SLURM_CONF": self.configuration}
+
+    def __enter__(self):
+        try:
+            self._begin()
+        except BaseException:
+            self.__exit__()
+            raise
+        return self
+
+    def _begin(self):
+        for name in ["state", *(f"spool-{node}" for node in NODES)]:
+            os.mkdir(os.path.join(self.folder, name))
+        with open(os.path.join(self.folder, "munge.key"), "wb") as file:
+            os.chmod(file.name, 0o600)
+            file.write(os.urandom(128))
+        named = lambda kind: f"--{kind}={self.folder}/munge.{kind.removesuffix('-file')}"
+        options = ["--force", "--foreground", "--num-threads=2", named("socket")]
+        options += [named(f"{kind}-file") for kind in ["key", "pid", "log", "seed"]]
+        self._start("munged", options)
+        self._wait(lambda: os.path.exists(f"{self.folder}/munge.socket"), "munged")
+        self._start("slurmctld", ["-D", "-i"])
+        for node in NODES:
+            self.start_node(node)
+        self._wait(lambda: self.states().count("idle") == len(NODES), "the nodes")
+
+    def start_node(self, node):
+        self._start("slurmd", ["-D", "-N", node], node)
+
+    def stop_node(self, node):
+        """Kills a node's daemon; what runs there goes on."""
+        process = self.processes.pop(f"slurmd {node}")
+        process.kill()
+        process.wait()
+
+    def _start(self, program, options, node=""):
+        log = open(os.path.join(self.folder, f"{program}{node}.said"), "wb")
+        path = shutil.which(program, path="/usr/sbin:/usr/bin:/sbin:/bin")
+        with log:
+            self.processes[f"{program} {node}".strip()] = subprocess.Popen(
+                [path, *options], stdin=subprocess.DEVNULL, stdout=log, stderr=log, env=self.environment, cwd="/"
+            )
+
+    def _wait(self, holds, what, seconds=60):
+        end = time.monotonic() + seconds
+        while not holds():
+            ended = [name for name, process in self.processes.items() if process.poll() is not None]
+            if ended or time.monotonic() > end:
+                said = {name: self._last(name) for name in os.listdir(self.folder) if name.endswith((".said", ".log"))}
+                raise SystemExit(f"no cluster: {what}, {ended} {said}")
+            time.sleep(0.1)
+
+    def _last(self, name):
+        with open(os.path.join(self.folder, name), errors="replace") as file:
+            return file.read()[-500:]
+
+    def told(self, *words):
+        """What a program of Slurm's prints."""
+        done = subprocess.run(words, env=self.environment, capture_output=True, text=True, timeout=90)
+        return done.stdout.split()
+
+    def states(self):
+        return self.told("sinfo", "--noheader", "--Node", "--format=%t")
+
+    def jobs(self):
+        """The nodes of the jobs that are there, one word for each job."""
+        return self.told("squeue", "--noheader", "--format=%N|")
+
+    def __exit__(self, *_):
+        if "slurmctld" in self.processes:
+            subprocess.run(["scancel", "--signal=KILL", "--state=RUNNING"], env=self.environment, capture_output=True)
+            subprocess.run(["scancel", "--user=root"], env=self.environment, capture_output=True, timeout=30)
+        for name in reversed(self.processes):
+            process = self.processes[name]
+            process.terminate()
+            try:
+                process.wait(10)
+            except subprocess.TimeoutExpired:
+                process.kill()
+                process.wait()

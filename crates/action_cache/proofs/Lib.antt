@@ -1,3 +1,4 @@
 mod Pairs
 mod Trees
 mod Found
+mod TreeRecords

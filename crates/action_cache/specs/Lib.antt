@@ -2,3 +2,5 @@ pub mod Results
 pub mod Complete
 pub mod Answering
 pub mod LastTrees
+pub mod Naming
+pub mod TreeTexts

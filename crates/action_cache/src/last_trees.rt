@@ -31,7 +31,8 @@ fn add_new<'a>(
 ) -> Result<(), AllocError>
     ensures kept { OnOk result (map output_directory_shown kept.new.items
         ≡ map output_directory_shown kept.old.items
-        ++ unless_met (is_met seen.old.keys (output_directory_shown output.entry)) (output_directory_shown output.entry)) }
+        ++ unless_met (is_met seen.old.keys (output_directory_shown output.entry))
+        (output_directory_shown output.entry)) }
     ensures seen { OnOk result (seen.new.keys
         ≡ with_met seen.old.keys (output_directory_shown output.entry)) }
 {

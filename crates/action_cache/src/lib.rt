@@ -5,7 +5,9 @@ mod answering;
 mod complete;
 mod last_trees;
 mod laws;
+mod naming;
 mod results;
+mod tree_texts;
 
 pub use answering::{FoundResult, find_result, get_result, use_result};
 pub use laws::the_last_of_each_tree_is_enough;

@@ -190,6 +190,13 @@ impl Results {
         Ok(Results { cache, bytes: 0 })
     }
 
+    /// How many results there are.
+    pub fn len(&self) -> usize
+        ensures { result ≡ length self.now }
+    {
+        self.cache.len()
+    }
+
     /// The bytes of an action's result. This is no use of it.
     pub fn get(&self, action: &Digest) -> Option<&[u8]>
         ensures { option_copied result ≡ lookup (same_digest action.now) self.now }

@@ -15,15 +15,15 @@ ghost use Rattle.cas_service.specs.FindMissing.{digests_asked, missing_digests, 
 ghost use Rattle.cas_service.specs.Shown.{asked_digest, digest_as_sent, is_unseen};
 
 use crate::error::CallError;
-use crate::requests::{Asked, asked_function, check_instance, read_digests, use_all};
+use crate::requests::{Asked, read_asked, use_all};
 use digest::Digest;
 use instance_view::{Sight, View};
-use reapi_messages as messages;
-use reapi_messages::{FindMissingBlobsRequest, FindMissingBlobsResponse, Message};
+use message_fields::put_embedded;
+use reapi_messages::Writer;
 use std::alloc::{AllocError, Global};
 
 /// What a request asks for.
-#[tactic(auto, unfolding(crate::specs::FindMissing::digests_asked))]
+#[tactic(auto, using(crate::proofs::Requested::asked_is))]
 fn read_request<'a>(
     alloc: Global,
     own: &str,
@@ -34,10 +34,7 @@ fn read_request<'a>(
     ensures written { IfOk result (λ asked. map digest_as_sent asked.items
         ≡ map digest_value (map asked_digest asked.items)) }
 {
-    let request = FindMissingBlobsRequest::decode(alloc, message)?;
-    check_instance(own, request.instance_name)?;
-    let function = asked_function(request.digest_function)?;
-    read_digests(alloc, function, &request.blob_digests)
+    read_asked(alloc, own, message, 3)
 }
 
 /// Whether there is a text of the digest.
@@ -47,39 +44,23 @@ fn is_there(sight: &Sight<'_>, digest: &Digest) -> bool
     sight.contains(digest)
 }
 
-/// The digests that are not there, in order. What is there is told by the digests alone, so any
-/// pool serves to say so.
-fn missing<'a>(
-    alloc: Global,
-    sight: &Sight<'_>,
-    asked: &[Asked<'a>],
-) -> Result<Vec<messages::Digest<'a>>, AllocError>
-    ensures { IfOk result (λ missing. map digest_shown missing.items
-        ≡ map digest_as_sent (filter (is_unseen (seen_in [] sight.now)) asked.now)) }
-{
-    let mut missing = Vec::with_capacity(alloc, asked.len())?;
-    let mut left = asked;
-    'digests: while let [first, rest @ ..] = left {
-        if !is_there(sight, &first.digest) {
-            missing.push(first.sent)?;
-        }
-        left = rest;
-    }
-    Ok(missing)
-}
-
-/// The message that lists what is missing.
+/// The message that lists the digests that are not there, in order. What is there is told by the
+/// digests alone, so any pool serves to say so.
 fn reply_to(alloc: Global, sight: &Sight<'_>, asked: &[Asked<'_>]) -> Result<Vec<u8>, AllocError>
     requires written { map digest_as_sent asked.now
         ≡ map digest_value (map asked_digest asked.now) }
     ensures { IfOk result (λ reply. reply.items
         ≡ missing_reply (missing_digests (seen_in [] sight.now) (map asked_digest asked.now))) }
 {
-    let missing_blob_digests = missing(alloc, sight, asked)?;
-    let response = FindMissingBlobsResponse {
-        missing_blob_digests,
-    };
-    response.encode(alloc)
+    let mut reply = Writer::new(alloc);
+    let mut left = asked;
+    'digests: while let [first, rest @ ..] = left {
+        if !is_there(sight, &first.digest) {
+            put_embedded(&mut reply, 2, &Some(first.sent))?;
+        }
+        left = rest;
+    }
+    Ok(reply.into_vec())
 }
 
 /// Answers `FindMissingBlobs`: the digests of the request that the instance `own` has not, in order

@@ -16,17 +16,13 @@ ghost use Rattle.cas_service.specs.BatchRead.{digests_to_read, stated_size, read
 ghost use Rattle.cas_service.specs.Shown.{asked_digest, digest_as_sent, read_response_for};
 
 use crate::error::CallError;
-use crate::requests::{
-    Asked, MOST_BATCH_BYTES, asked_function, check_instance, read_digests, use_all,
-};
+use crate::requests::{Asked, MOST_BATCH_BYTES, read_asked, use_all};
 use crate::statuses::{ok_status, refused_status};
 use blob_pool::{Kept, Pool};
 use digest::Digest;
 use instance_view::{Seen, Sight, View};
 use paged_text::PAGE_BYTES;
-use reapi_messages::{
-    BatchReadBlobsRequest, BatchReadBlobsResponse, Message, Pieces, ReadBlobResponse,
-};
+use reapi_messages::{BatchReadBlobsResponse, Message, Pieces, ReadBlobResponse};
 use rpc::Refusal;
 use std::alloc::{AllocError, Global};
 
@@ -47,7 +43,7 @@ fn check_stated_size(asked: &[Asked<'_>]) -> Result<(), Refusal>
 }
 
 /// What a request asks for.
-#[tactic(auto, unfolding(crate::specs::BatchRead::digests_to_read))]
+#[tactic(auto, using(crate::proofs::Requested::to_read_is))]
 fn read_request<'a>(
     alloc: Global,
     own: &str,
@@ -58,10 +54,7 @@ fn read_request<'a>(
     ensures written { IfOk result (λ asked. map digest_as_sent asked.items
         ≡ map digest_value (map asked_digest asked.items)) }
 {
-    let request = BatchReadBlobsRequest::decode(alloc, message)?;
-    check_instance(own, request.instance_name)?;
-    let function = asked_function(request.digest_function)?;
-    let asked = read_digests(alloc, function, &request.digests)?;
+    let asked = read_asked(alloc, own, message, 4)?;
     check_stated_size(&asked)?;
     Ok(asked)
 }

@@ -7,12 +7,15 @@ ghost use Rattle.instance_view.specs.Shown.{visible_in, holders};
 ghost use Rattle.quota_evict.specs.InPool.{IsViewInPool};
 ghost use Rattle.cas_service.specs.Answers.{Answers};
 ghost use Rattle.cas_service.specs.Changes.{Use, visible_after_changes};
-ghost use Rattle.cas_service.specs.Requests.{instance_check, function_asked, is_hash_asked, digest_sent, digests_sent, digest_or_refusal, digest_value};
+ghost use Rattle.cas_service.specs.Requests.{instance_check, function_asked, is_hash_asked, digest_sent, digest_or_refusal, digest_value};
+ghost use Rattle.cas_service.specs.Entries.{digests_in, asked_in};
 ghost use Rattle.cas_service.specs.Shown.{asked_digest, digest_as_sent};
 
+use crate::entries::{admit_head, next_entry, read_head, refused_before};
 use crate::error::CallError;
 use digest::{Digest, HashFunction};
 use instance_view::View;
+use protobuf_wire::Reader;
 use reapi_messages as messages;
 use rpc::Refusal;
 use std::alloc::{AllocError, Global};
@@ -65,6 +68,7 @@ fn is_asked(function: Option<HashFunction>, digest: &Digest) -> bool
 fn read_sent(function: Option<HashFunction>, sent: &messages::Digest<'_>) -> Result<Digest, Refusal>
     ensures value { result ≡ digest_sent function (digest_shown sent.now) }
     ensures size { IfOk result (λ digest. digest.size < 2 ^ 63) }
+    ensures written { IfOk result (λ digest. digest_shown sent.now ≡ digest_value digest) }
 {
     match Digest::parse(sent.hash, sent.size_bytes) {
         Some(digest) if is_asked(function, &digest) => Ok(digest),
@@ -86,30 +90,51 @@ pub fn read_digest(
     }
 }
 
-/// The digests that a call sends, or the refusal of the first that has not the form or is by
-/// another hash function than the call names.
-#[tactic(auto, unfolding(crate::specs::Requests::digests_sent))]
-pub fn read_digests<'a>(
+/// The digests that a message asks for, or the refusal of the first that has not the form or is by
+/// another hash function than the call names. That is answered where all are well formed.
+fn read_digests<'a>(
     alloc: Global,
     function: Option<HashFunction>,
-    digests: &[messages::Digest<'a>],
+    message: &'a [u8],
 ) -> Result<Vec<Asked<'a>>, CallError>
     ensures named { Answers (λ asked. map asked_digest asked.items) result
-        (digests_sent function (map digest_shown digests.now)) }
+        (digests_in function message.now) }
     ensures written { IfOk result (λ asked. map digest_as_sent asked.items
         ≡ map digest_value (map asked_digest asked.items)) }
 {
-    let mut asked = Vec::with_capacity(alloc, digests.len())?;
-    let mut left = digests;
-    'digests: while let [first, rest @ ..] = left {
-        let digest = read_sent(function, first)?;
-        asked.push(Asked {
-            sent: *first,
-            digest,
-        })?;
-        left = rest;
+    let mut asked = Vec::new(alloc);
+    let mut reader = Reader::new(message);
+    'digests: while let Some(sent) = next_entry(alloc, &mut reader)? {
+        match read_sent(function, &sent) {
+            Ok(digest) => asked.push(Asked { sent, digest })?,
+            Err(refusal) => {
+                return Err(refused_before::<messages::Digest<'a>>(alloc, reader, refusal));
+            }
+        }
     }
     Ok(asked)
+}
+
+/// What a request asks for, whose digest function is in this field.
+pub fn read_asked<'a>(
+    alloc: Global,
+    own: &str,
+    message: &'a [u8],
+    function_field: u32,
+) -> Result<Vec<Asked<'a>>, CallError>
+    ensures named { Answers (λ asked. map asked_digest asked.items) result
+        (asked_in own.now function_field message.now) }
+    ensures written { IfOk result (λ asked. map digest_as_sent asked.items
+        ≡ map digest_value (map asked_digest asked.items)) }
+{
+    let head = read_head(message, function_field)?;
+    match admit_head(own, &head) {
+        Ok(function) => read_digests(alloc, function, message),
+        Err(refusal) => {
+            let reader = Reader::new(message);
+            Err(refused_before::<messages::Digest<'a>>(alloc, reader, refusal))
+        }
+    }
 }
 
 /// Uses each digest, in order.

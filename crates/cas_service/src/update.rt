@@ -1,9 +1,8 @@
 //! `BatchUpdateBlobs`: stores the blobs of one request.
 
 ghost use Rattle.std.specs.Prelude.{◌≡◌, ◌≤◌, ◌^◌, ℕ, List, map, length, OnOk, OnErr, IfOk, IsErrOf};
-ghost use Rattle.std.specs.List.{AllByRecursion, flat_map};
-ghost use Rattle.reapi_messages.specs.Batches.{batch_update_blobs_response_records, update_blob_request_shown, update_blob_response_shown};
-ghost use Rattle.reapi_messages.specs.Parts.{text_for};
+ghost use Rattle.std.specs.List.{AllByRecursion};
+ghost use Rattle.reapi_messages.specs.Batches.{update_blob_request_shown};
 ghost use Rattle.reapi_messages.specs.Statuses.{status_shown};
 ghost use Rattle.rpc.specs.declared.refusal.Refusal.{Refusal};
 ghost use Rattle.digest.specs.Naming.{Names};
@@ -14,70 +13,37 @@ ghost use Rattle.quota_evict.specs.InPool.{IsViewInPool};
 ghost use Rattle.cas_service.specs.declared.error.CallError.TheVariants.{Refused};
 ghost use Rattle.cas_service.specs.Answers.{Answers};
 ghost use Rattle.cas_service.specs.Changes.{MadeInPart, visible_after_changes};
-ghost use Rattle.cas_service.specs.Requests.{batch_size_check};
 ghost use Rattle.cas_service.specs.Statuses.{status_of_result};
-ghost use Rattle.cas_service.specs.BatchUpdate.{blobs_sent, sent_size, compressor_check, naming_check, quota_check, storage_digest, update_response, batch_update_reply, stores, batch_update_changes};
-ghost use Rattle.cas_service.specs.Shown.{IsStorable, blobs_sent_shown, judged_request, judged_response, judged_stores};
+ghost use Rattle.cas_service.specs.BatchUpdate.{compressor_check, naming_check, quota_check, storage_digest, update_response, batch_update_reply, stores, batch_update_changes};
+ghost use Rattle.cas_service.specs.Shown.{IsStorable, store_of_accepted, answered_shown, with_blob, answers_in, answer_in};
 ghost use Rattle.quota_evict.specs.Within.{most_stored_bytes};
 
+use crate::entries::{admit_head, next_entry, read_head, refused_before};
 use crate::error::CallError;
-use crate::requests::{MOST_BATCH_BYTES, asked_function, check_instance, read_digest};
+use crate::requests::{MOST_BATCH_BYTES, read_digest};
 use crate::statuses::{ok_status, refused_status};
 use blob_pool::Pool;
 use digest::{Digest, HashFunction};
 use instance_view::View;
+use message_fields::put_embedded;
+use protobuf_wire::Reader;
 use quota_evict::{AdmitError, admit};
-use reapi_messages::{
-    BatchUpdateBlobsRequest, BatchUpdateBlobsResponse, Message, Status, UpdateBlobRequest,
-    UpdateBlobResponse,
-};
+use reapi_messages::{Status, UpdateBlobRequest, UpdateBlobResponse, Writer};
 use rpc::Refusal;
 use std::alloc::{AllocError, Global};
 
-/// The blobs that a request sends, and the hash function that it names.
-#[derive(Drop)]
-pub struct BlobsSent<'a> {
-    pub function: Option<HashFunction>,
-    pub requests: Vec<UpdateBlobRequest<'a>>,
-}
-
-/// A blob that a request sends, and the digest under which it is stored or why it is not.
+/// A blob that is stored, and the digest that names it.
 #[derive(Clone, Copy)]
-pub struct Judged<'a> {
-    pub sent: UpdateBlobRequest<'a>,
-    pub verdict: Result<Digest, Refusal>,
+pub struct Accepted<'a> {
+    pub digest: Digest,
+    pub content: &'a [u8],
 }
 
-/// The blobs of a request have to have at most 4,000,000 bytes together.
-fn check_sent_size(requests: &[UpdateBlobRequest<'_>]) -> Result<(), Refusal>
-    ensures { result ≡ batch_size_check (sent_size (map update_blob_request_shown requests.now)) }
-{
-    let mut room = MOST_BATCH_BYTES;
-    let mut left = requests;
-    'blobs: while let [first, rest @ ..] = left {
-        let size = first.content.len() as u64;
-        if size > room {
-            return Err(Refusal::BatchTooLarge);
-        }
-        room -= size;
-        left = rest;
-    }
-    Ok(())
-}
-
-/// What a request sends.
-#[tactic(auto, unfolding(crate::specs::BatchUpdate::blobs_sent))]
-fn read_request<'a>(alloc: Global, own: &str, message: &'a [u8]) -> Result<BlobsSent<'a>, CallError>
-    ensures { Answers blobs_sent_shown result (blobs_sent own.now message.now) }
-{
-    let request = BatchUpdateBlobsRequest::decode(alloc, message)?;
-    check_instance(own, request.instance_name)?;
-    let function = asked_function(request.digest_function)?;
-    check_sent_size(&request.requests)?;
-    Ok(BlobsSent {
-        function,
-        requests: request.requests,
-    })
+/// What is answered to the blobs so far: the reply's text, and the blobs that are stored.
+#[derive(Drop)]
+pub struct Answered<'a> {
+    pub reply: Writer,
+    pub accepted: Vec<Accepted<'a>>,
 }
 
 /// The compressor has to be the identity.
@@ -129,32 +95,6 @@ fn judge(
     Ok(digest)
 }
 
-/// What becomes of each blob, in order.
-fn judge_all<'a>(
-    alloc: Global,
-    function: Option<HashFunction>,
-    quota: u64,
-    requests: &[UpdateBlobRequest<'a>],
-) -> Result<Vec<Judged<'a>>, AllocError>
-    ensures responses { IfOk result (λ judged. map judged_response judged.items
-        ≡ map (update_response function quota) (map update_blob_request_shown requests.now)) }
-    ensures stores { IfOk result (λ judged. flat_map judged_stores judged.items
-        ≡ stores function quota (map update_blob_request_shown requests.now)) }
-    ensures storable { IfOk result (λ judged. AllByRecursion (IsStorable quota) judged.items) }
-{
-    let mut judged = Vec::with_capacity(alloc, requests.len())?;
-    let mut left = requests;
-    'blobs: while let [first, rest @ ..] = left {
-        let verdict = judge(function, quota, first);
-        judged.push(Judged {
-            sent: *first,
-            verdict,
-        })?;
-        left = rest;
-    }
-    Ok(judged)
-}
-
 /// What became of a blob.
 fn status<'a>(alloc: Global, verdict: Result<Digest, Refusal>) -> Status<'a>
     ensures { status_shown result ≡ status_of_result verdict }
@@ -165,35 +105,81 @@ fn status<'a>(alloc: Global, verdict: Result<Digest, Refusal>) -> Status<'a>
     }
 }
 
-/// A response to each blob, in order.
-fn responses_to<'a>(
+/// Adds what becomes of a blob to the reply, and the blob to those that are stored, where it is not
+/// refused.
+fn add_blob<'a>(
     alloc: Global,
-    judged: &[Judged<'a>],
-) -> Result<Vec<UpdateBlobResponse<'a>>, AllocError>
-    ensures { IfOk result (λ responses. map update_blob_response_shown responses.items
-        ≡ map judged_response judged.now) }
+    function: Option<HashFunction>,
+    quota: u64,
+    answered: &mut Answered<'a>,
+    sent: &UpdateBlobRequest<'a>,
+) -> Result<(), AllocError>
+    ensures { OnOk result (answered_shown answered.new
+        ≡ with_blob function quota (answered_shown answered.old)
+        (update_blob_request_shown sent.now)) }
 {
-    let mut responses = Vec::with_capacity(alloc, judged.len())?;
-    let mut left = judged;
-    'blobs: while let [first, rest @ ..] = left {
-        responses.push(UpdateBlobResponse {
-            digest: first.sent.digest,
-            status: Some(status(alloc, first.verdict)),
+    let verdict = judge(function, quota, sent);
+    let response = UpdateBlobResponse {
+        digest: sent.digest,
+        status: Some(status(alloc, verdict)),
+    };
+    put_embedded(&mut answered.reply, 1, &Some(response))?;
+    if let Ok(digest) = verdict {
+        answered.accepted.push(Accepted {
+            digest,
+            content: sent.content,
         })?;
-        left = rest;
     }
-    Ok(responses)
+    Ok(())
 }
 
-/// The message that says what becomes of each blob.
-fn reply_to(alloc: Global, judged: &[Judged<'_>]) -> Result<Vec<u8>, AllocError>
-    ensures { IfOk result (λ reply. reply.items
-        ≡ text_for batch_update_blobs_response_records
-        (record { responses = map judged_response judged.now })) }
+/// What is answered to the blobs that a message sends, in order. They have to have at most 4,000,000
+/// bytes together.
+fn answer_all<'a>(
+    alloc: Global,
+    function: Option<HashFunction>,
+    quota: u64,
+    message: &'a [u8],
+) -> Result<Answered<'a>, CallError>
+    ensures { Answers answered_shown result
+        (answers_in function quota message.now) }
 {
-    let responses = responses_to(alloc, judged)?;
-    let response = BatchUpdateBlobsResponse { responses };
-    response.encode(alloc)
+    let mut answered = Answered {
+        reply: Writer::new(alloc),
+        accepted: Vec::new(alloc),
+    };
+    let mut bytes = 0;
+    let mut reader = Reader::new(message);
+    'blobs: while let Some(sent) = next_entry::<UpdateBlobRequest<'a>>(alloc, &mut reader)? {
+        let size = sent.content.len() as u64;
+        if size > MOST_BATCH_BYTES - bytes {
+            let refusal = Refusal::BatchTooLarge;
+            return Err(refused_before::<UpdateBlobRequest<'a>>(alloc, reader, refusal));
+        }
+        bytes += size;
+        add_blob(alloc, function, quota, &mut answered, &sent)?;
+    }
+    Ok(answered)
+}
+
+/// What is answered to a request.
+#[tactic(auto, using(crate::proofs::Requested::answered_is))]
+fn answer_request<'a>(
+    alloc: Global,
+    own: &str,
+    quota: u64,
+    message: &'a [u8],
+) -> Result<Answered<'a>, CallError>
+    ensures { Answers answered_shown result (answer_in own.now quota message.now) }
+{
+    let head = read_head(message, 5)?;
+    match admit_head(own, &head) {
+        Ok(function) => answer_all(alloc, function, quota, message),
+        Err(refusal) => {
+            let reader = Reader::new(message);
+            Err(refused_before::<UpdateBlobRequest<'a>>(alloc, reader, refusal))
+        }
+    }
 }
 
 /// Stores bytes that the quota allows.
@@ -223,53 +209,29 @@ fn store(
     }
 }
 
-/// Stores a blob that is not refused.
-fn store_judged(
-    view: &mut View,
-    pool: &mut Pool,
-    quota: u64,
-    judged: &Judged<'_>,
-) -> Result<(), AllocError>
-    requires quota { quota ≤ most_stored_bytes }
-    requires kept { IsViewInPool quota pool.old view.old }
-    requires storable { IsStorable quota judged.now }
-    ensures ok { OnOk result (visible_in pool.new view.new
-        ≡ visible_after_changes view.old.limit quota (judged_stores judged.now)
-        (visible_in pool.old view.old)) }
-    ensures err { OnErr result ((view.new ≡ view.old) × (pool.new ≡ pool.old)) }
-    ensures moves { Moves pool.old pool.new (holders view.old) (holders view.new) }
-    ensures kept { IsViewInPool quota pool.new view.new }
-    ensures limit { view.new.limit ≡ view.old.limit }
-{
-    match judged.verdict {
-        Ok(digest) => store(view, pool, quota, &digest, judged.sent.content),
-        Err(_) => Ok(()),
-    }
-}
-
-/// Stores the blobs that are not refused, in order, up to one for which there is no memory.
+/// Stores blobs, in order, up to one for which there is no memory.
 fn store_all(
     view: &mut View,
     pool: &mut Pool,
     quota: u64,
-    judged: &[Judged<'_>],
+    accepted: &[Accepted<'_>],
 ) -> Result<(), AllocError>
     requires quota { quota ≤ most_stored_bytes }
     requires kept { IsViewInPool quota pool.old view.old }
-    requires storable { AllByRecursion (IsStorable quota) judged.now }
+    requires storable { AllByRecursion (IsStorable quota) accepted.now }
     ensures stored { OnOk result (visible_in pool.new view.new
-        ≡ visible_after_changes view.old.limit quota (flat_map judged_stores judged.now)
+        ≡ visible_after_changes view.old.limit quota (map store_of_accepted accepted.now)
         (visible_in pool.old view.old)) }
     ensures memory { OnErr result (MadeInPart view.old.limit quota
-        (flat_map judged_stores judged.now) (visible_in pool.old view.old)
+        (map store_of_accepted accepted.now) (visible_in pool.old view.old)
         (visible_in pool.new view.new)) }
     ensures moves { Moves pool.old pool.new (holders view.old) (holders view.new) }
     ensures kept { IsViewInPool quota pool.new view.new }
     ensures limit { view.new.limit ≡ view.old.limit }
 {
-    let mut left = judged;
+    let mut left = accepted;
     'blobs: while let [first, rest @ ..] = left {
-        store_judged(view, pool, quota, first)?;
+        store(view, pool, quota, &first.digest, first.content)?;
         left = rest;
     }
     Ok(())
@@ -303,9 +265,7 @@ pub fn batch_update(
     ensures kept { IsViewInPool quota pool.new view.new }
     ensures limit { view.new.limit ≡ view.old.limit }
 {
-    let sent = read_request(alloc, own, message)?;
-    let judged = judge_all(alloc, sent.function, quota, &sent.requests)?;
-    let reply = reply_to(alloc, &judged)?;
-    store_all(view, pool, quota, &judged)?;
-    Ok(reply)
+    let answered = answer_request(alloc, own, quota, message)?;
+    store_all(view, pool, quota, &answered.accepted)?;
+    Ok(answered.reply.into_vec())
 }

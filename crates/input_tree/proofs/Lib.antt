@@ -2,5 +2,6 @@ mod Order
 mod Listed
 mod Using
 mod Paging
+pub mod NodeRecords
 pub mod Records
 pub mod LastUses

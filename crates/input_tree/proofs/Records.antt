@@ -11,7 +11,8 @@ use Rattle.message_fields.specs.Answers.{of_wire}
 use Rattle.message_fields.specs.Fields.{each_of, payload_in, payloads, records_in, repeated_values, value_of_text}
 use Rattle.tree_messages.specs.Directories.{DirectoryValue, FileNodeValue, DirectoryNodeValue, SymlinkNodeValue, file_node_of, directory_node_of, symlink_node_of, directory_of}
 use Rattle.input_tree.specs.Directories.{is_file, is_child, is_symlink, has_order, valid_directory}
-use Rattle.input_tree.specs.Taking.{and_then, formed_node, with_record, directory_with, with_node, with_nodes, with_nodes_left, no_nodes, in_order}
+use Rattle.input_tree.specs.NodeTexts.{and_then}
+use Rattle.input_tree.specs.Taking.{formed_node, with_record, directory_with, with_node, with_nodes, with_nodes_left, no_nodes, in_order}
 
 -- ---- one kind of node
 

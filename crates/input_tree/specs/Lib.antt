@@ -6,4 +6,5 @@ pub mod Texts
 pub mod Pages
 pub mod Uses
 pub use Rattle.decimals.specs.Number
+pub mod NodeTexts
 pub mod Taking

@@ -7,12 +7,9 @@ use Rattle.message_fields.specs.Record.{Record}
 use Rattle.message_fields.specs.Fields.{payload_in, value_of_text}
 use Rattle.tree_messages.specs.Directories.{DirectoryValue, FileNodeValue, DirectoryNodeValue, SymlinkNodeValue, file_node_of, directory_node_of, symlink_node_of}
 use Rattle.input_tree.specs.Directories.{is_file, is_child, is_symlink, has_order}
+use Rattle.input_tree.specs.NodeTexts.{and_then, readable}
 use Rattle.input_tree.specs.declared.taking.Untaken.{Untaken}
 use Rattle.input_tree.specs.declared.taking.Untaken.TheVariants.{Bad, NoMemory}
-
-abbrev pub and_then : {A B : Type 0} → Option A → (A → Option B) → Option B
-and_then None step = None
-and_then (Some x) step = step x
 
 abbrev pub Declines : {Y : Type 0} → Untaken → Option Y → Type 0
 Declines Bad meaning = meaning ≡ None
@@ -25,8 +22,7 @@ Takes view (Err e) meaning = Declines e meaning
 
 -- a node that can be read and has its form
 abbrev pub formed_node : {V : Type 0} → (V → Bool) → Result V MessageError → Option V
-formed_node is_node (Err e) = None
-formed_node is_node (Ok v) = if is_node v then Some v else None
+formed_node is_node x = and_then (readable x) (λ v. if is_node v then Some v else None)
 
 abbrev pub node_in : {V : Type 0} → (List Record → Result V MessageError) → (V → Bool) → List ℕ →
     Option V

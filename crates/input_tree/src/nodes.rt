@@ -4,16 +4,15 @@ ghost use Rattle.std.specs.Prelude.{◌≡◌, Bool, ℕ, List, Result, option_m
 ghost use Rattle.std.specs.List.{list_all};
 ghost use Rattle.message_fields.specs.declared.error.MessageError.{MessageError};
 ghost use Rattle.message_fields.specs.Record.{Record};
-ghost use Rattle.message_fields.specs.Answers.{Means};
 ghost use Rattle.message_fields.specs.Fields.{value_of_text};
 ghost use Rattle.reapi_messages.specs.Digests.{digest_shown};
 ghost use Rattle.input_tree.specs.Directories.{written_digest};
 ghost use Rattle.input_tree.specs.Names as names;
+ghost use Rattle.input_tree.specs.NodeTexts.{Reads, readable};
 
+use crate::node_texts::{Unread, read_child, read_file, read_symlink};
 use digest::Digest;
-use message_fields::{Message, MessageError};
 use reapi_messages as messages;
-use std::alloc::Global;
 use tree_messages::{DirectoryNode, FileNode, SymlinkNode};
 
 /// A node of a directory.
@@ -31,9 +30,9 @@ pub trait Node<'a>: Sized + Drop {
     /// What the records of a text mean.
     ghost node_of: { List Record → Result Value MessageError };
 
-    /// The node that a text spells.
-    fn read(alloc: Global, text: &'a [u8]) -> Result<Self, MessageError>
-        ensures { Means shown result (value_of_text node_of text.now) };
+    /// The node that a text spells. It takes no memory.
+    fn read(text: &'a [u8]) -> Result<Self, Unread>
+        ensures { Reads shown result (readable (value_of_text node_of text.now)) };
 
     fn name(&self) -> &str
         ensures { result.now ≡ name_of (shown self.now) };
@@ -102,8 +101,8 @@ impl<'a> Node<'a> for FileNode<'a> {
 
     ghost node_of = { file_node_of };
 
-    fn read(alloc: Global, text: &'a [u8]) -> Result<Self, MessageError> {
-        FileNode::decode(alloc, text)
+    fn read(text: &'a [u8]) -> Result<Self, Unread> {
+        read_file(text)
     }
 
     fn name(&self) -> &str {
@@ -129,8 +128,8 @@ impl<'a> Node<'a> for DirectoryNode<'a> {
 
     ghost node_of = { directory_node_of };
 
-    fn read(alloc: Global, text: &'a [u8]) -> Result<Self, MessageError> {
-        DirectoryNode::decode(alloc, text)
+    fn read(text: &'a [u8]) -> Result<Self, Unread> {
+        read_child(text)
     }
 
     fn name(&self) -> &str {
@@ -156,8 +155,8 @@ impl<'a> Node<'a> for SymlinkNode<'a> {
 
     ghost node_of = { symlink_node_of };
 
-    fn read(alloc: Global, text: &'a [u8]) -> Result<Self, MessageError> {
-        SymlinkNode::decode(alloc, text)
+    fn read(text: &'a [u8]) -> Result<Self, Unread> {
+        read_symlink(text)
     }
 
     fn name(&self) -> &str {

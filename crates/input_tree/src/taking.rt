@@ -12,7 +12,7 @@ ghost use Rattle.input_tree.specs.Taking.{Takes, node_in, with_record, with_node
 
 use crate::directory::{MOST_DIRECTORY_BYTES, has_order};
 use crate::nodes::Node;
-use message_fields::{Content, Field, MessageError, WireError};
+use message_fields::{Content, Field, WireError};
 use protobuf_wire::Reader;
 use std::alloc::{AllocError, AllocFailed, Global};
 use tree_messages::Directory;
@@ -61,45 +61,40 @@ pub fn payload_of<'a>(entry: &Field<'a>, field: u32) -> Option<&'a [u8]>
 }
 
 /// The node that a text spells, where it has its form.
-fn node_in<'a, N: Node<'a>>(alloc: Global, text: &'a [u8]) -> Result<N, Untaken>
+fn node_in<'a, N: Node<'a>>(text: &'a [u8]) -> Result<N, Untaken>
     ensures { Takes N.shown result (node_in N.node_of N.is_node text.now) }
 {
-    match N::read(alloc, text) {
+    match N::read(text) {
         Ok(node) if node.has_form() => Ok(node),
-        Err(MessageError::NoMemory) => Err(Untaken::NoMemory),
         _ => Err(Untaken::Bad),
     }
 }
 
 /// Adds the node of a record, where that is one of the field.
 fn add_node<'a, N: Node<'a>>(
-    alloc: Global,
     nodes: &mut Vec<N>,
     entry: &Field<'a>,
     field: u32,
 ) -> Result<(), Untaken>
     ensures { Takes (λ _. map N.shown nodes.new.items) result
-        (with_record N.node_of N.is_node field (map N.shown nodes.old.items) (record_shown entry.now)) }
+        (with_record N.node_of N.is_node field (map N.shown nodes.old.items)
+        (record_shown entry.now)) }
 {
     let Some(payload) = payload_of(entry, field) else {
         return Ok(());
     };
-    nodes.push(node_in(alloc, payload)?)?;
+    nodes.push(node_in(payload)?)?;
     Ok(())
 }
 
 /// Adds the node of a record.
-fn add_record<'a>(
-    alloc: Global,
-    directory: &mut Directory<'a>,
-    entry: &Field<'a>,
-) -> Result<(), Untaken>
+fn add_record<'a>(directory: &mut Directory<'a>, entry: &Field<'a>) -> Result<(), Untaken>
     ensures { Takes (λ _. directory_shown directory.new) result
         (with_node (directory_shown directory.old) (record_shown entry.now)) }
 {
-    add_node(alloc, &mut directory.files, entry, 1)?;
-    add_node(alloc, &mut directory.directories, entry, 2)?;
-    add_node(alloc, &mut directory.symlinks, entry, 3)
+    add_node(&mut directory.files, entry, 1)?;
+    add_node(&mut directory.directories, entry, 2)?;
+    add_node(&mut directory.symlinks, entry, 3)
 }
 
 /// The nodes that a text spells, in whichever order, each of which has its form. It ends at the
@@ -115,14 +110,15 @@ fn nodes_in<'a>(alloc: Global, text: &'a [u8]) -> Result<Directory<'a>, Untaken>
     };
     let mut reader = Reader::new(text);
     'records: while let Some(entry) = reader.next()? {
-        add_record(alloc, &mut directory, &entry)?;
+        add_record(&mut directory, &entry)?;
     }
     Ok(directory)
 }
 
 /// A directory whose nodes are in order, or `None` where they are not.
 fn in_order(directory: Directory<'_>) -> Option<Directory<'_>>
-    ensures { option_map directory_shown result ≡ in_order (Some (directory_shown directory.entry)) }
+    ensures { option_map directory_shown result
+        ≡ in_order (Some (directory_shown directory.entry)) }
 {
     if has_order(&directory) {
         return Some(directory);

@@ -1,15 +1,14 @@
-use Rattle.std.proofs.Common.{◌≡◌, length}
-use Rattle.std.specs.List.{flat_map}
+use Rattle.std.proofs.Common.{◌≡◌, length, map}
 use Rattle.blob_pool.specs.Moves.{Moves}
 use Rattle.instance_view.specs.Shown.{visible_in, holders}
 use Rattle.quota_evict.specs.InPool.{IsViewInPool}
-use Rattle.cas_service.specs.Shown.{judged_stores}
+use Rattle.cas_service.specs.Shown.{store_of_accepted}
 use Rattle.cas_service.proofs.Storing.{IsUnderway}
 use Rattle.cas_service.proofs.update.store_all.Given as goal
 
 abbrev pub invariant-blobs : goal.invariant-blobs
 invariant-blobs l = record {
-  underway : IsUnderway l.fn.view.limit l.quota (flat_map judged_stores l.judged) (visible_in l.fn.pool l.fn.view) (visible_in l.pool l.view) l.left;
+  underway : IsUnderway l.fn.view.limit l.quota (map store_of_accepted l.accepted) (visible_in l.fn.pool l.fn.view) (visible_in l.pool l.view) l.left;
   moves : Moves l.fn.pool l.pool (holders l.fn.view) (holders l.view);
   kept : IsViewInPool l.quota l.pool l.view;
   limit : l.view.limit ≡ l.fn.view.limit;

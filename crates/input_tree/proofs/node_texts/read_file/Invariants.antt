@@ -1,0 +1,11 @@
+use Rattle.std.proofs.Common.{◌≡◌}
+use Rattle.protobuf_wire.specs.Reading.{record_at, items_left, records_of, count_left}
+use Rattle.tree_messages.specs.Directories.{file_node_shown}
+use Rattle.input_tree.specs.NodeTexts.{with_left, file_after, no_file}
+use Rattle.input_tree.proofs.node_texts.read_file.Given as goal
+
+abbrev pub invariant-records : goal.invariant-records
+invariant-records l = with_left file_after (file_node_shown l.node) (items_left record_at l.reader) ≡ with_left file_after no_file (records_of l.text)
+
+abbrev pub decreases-records : goal.decreases-records
+decreases-records l = count_left l.reader
